@@ -1,0 +1,11 @@
+pub mod Runs
+pub mod Words
+pub mod Fronts
+pub mod Lexes
+pub mod Readings
+pub mod Shortest
+pub mod Again
+pub mod Masks
+pub mod Dominance
+pub mod Tables
+pub mod TableFaults

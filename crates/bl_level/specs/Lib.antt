@@ -1,0 +1,11 @@
+pub mod Token
+pub mod Lexing
+pub mod Name
+pub mod FrontView
+pub mod Cutting
+pub mod Canonical
+pub mod Level
+pub mod Table
+pub mod TableFault
+pub mod Scheme
+pub mod SchemeFault

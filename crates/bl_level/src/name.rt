@@ -1,0 +1,100 @@
+//! A name: a word of 1 to 32 bytes that is not reserved.
+ghost use Rattle.std.specs.Prelude.{◌≡◌, ℕ, ◌↔◌, IsTrue, IsSome, IfSome, List, length, ◌≤◌};
+ghost use Rattle.std.specs.List.{list_all};
+ghost use Rattle.bl_level.specs.Lexing.{is_in as is_in_word};
+ghost use Rattle.bl_level.specs.Name.{IsName, IsWord, begins_with_letter};
+
+use crate::lexer::{Class, is_in, keyword_of};
+use arrayvec::ArrayVec;
+use std::marker::Model;
+
+/// A name, which contracts see as its bytes.
+#[derive(PartialEq, Eq, Hash, Debug, Drop)]
+pub struct Name {
+    bytes: ArrayVec<u8, 32>,
+}
+
+impl Model for Name {
+    ghost Value = { List ℕ };
+
+    ghost view = { λ n. n.bytes.items };
+
+    ghost invariant = { λ n. IsName n.bytes.items };
+
+    ghost inverse = { λ bs. record { bytes = record { items = bs } } };
+}
+
+impl Name {
+    /// The name of these bytes. None exactly where they are no word of 1 to 32 bytes, or a reserved one.
+    pub fn new(bytes: &[u8]) -> Option<Name>
+        ensures some { IsSome result ↔ IsName bytes.now }
+        ensures value { IfSome result (λ name. name ≡ bytes.now) }
+    {
+        if !is_word(bytes) {
+            return None;
+        }
+        match keyword_of(bytes) {
+            Some(_) => None,
+            None => Some(Name { bytes: kept(bytes) }),
+        }
+    }
+
+    /// The bytes of the name.
+    pub fn bytes(&self) -> &[u8]
+        ensures value { result.now ≡ self.now }
+        ensures name { IsName self.now }
+    {
+        self.bytes.as_slice()
+    }
+
+    /// The same name again. It takes no memory.
+    pub fn copy(&self) -> Name
+        ensures { result ≡ self.now }
+    {
+        Name {
+            bytes: kept(self.bytes.as_slice()),
+        }
+    }
+}
+
+/// Whether the bytes begin with a letter.
+fn begins_with_letter(bytes: &[u8]) -> bool
+    ensures { result ≡ begins_with_letter bytes.now }
+{
+    match bytes {
+        [] => false,
+        [first, _rest @ ..] => first.is_ascii_lowercase(),
+    }
+}
+
+/// Whether each byte may stand in a word.
+fn are_word_bytes(bytes: &[u8]) -> bool
+    ensures { result ≡ list_all (is_in_word Class.Word) bytes.now }
+{
+    bytes.iter().all(|byte| is_in(Class::Word, *byte))
+}
+
+/// Whether the bytes are a word, reserved or not.
+fn is_word(bytes: &[u8]) -> bool
+    ensures { IsTrue result ↔ IsWord bytes.now }
+{
+    if !begins_with_letter(bytes) {
+        return false;
+    }
+    if bytes.len() > 32 {
+        return false;
+    }
+    are_word_bytes(bytes)
+}
+
+/// At most 32 bytes, in an array.
+fn kept(bytes: &[u8]) -> ArrayVec<u8, 32>
+    requires { length bytes.now ≤ 32 }
+    ensures { result.items ≡ bytes.now }
+{
+    let mut kept = ArrayVec::new();
+    for byte in bytes {
+        kept.push(*byte);
+    }
+    kept
+}

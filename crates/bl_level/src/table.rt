@@ -1,0 +1,108 @@
+//! Names in the order in which they were added, none twice.
+ghost use Rattle.std.specs.Prelude.{◌≡◌, ◌==◌, ℕ, ◌↔◌, ◌<◌, ◌++◌, ◌∷◌, [], List, OnOk, OnErr, IfOk, IfErr, IfSome, IsSome, IsErrOf, Contains, slice_get, length, Some};
+ghost use Rattle.bl_level.specs.Table.{IsTable, place_of};
+ghost use Rattle.bl_level.specs.TableFault.{IsTableFault};
+
+use crate::name::Name;
+use indexmap::IndexSet;
+use std::alloc::{AllocError, Global};
+use std::marker::Model;
+
+/// A table of names, which contracts see as their list. No name stands twice in it.
+#[derive(Drop)]
+pub struct NameTable {
+    names: IndexSet<Name>,
+}
+
+impl Model for NameTable {
+    ghost Value = { List (List ℕ) };
+
+    ghost view = { λ t. t.names.keys };
+
+    ghost invariant = { λ t. IsTable t.names.keys };
+}
+
+/// Why a name was not added.
+#[derive(Debug, PartialEq, Eq, Drop)]
+pub enum TableFault {
+    /// The name is in the table already.
+    Repeated(Name),
+    /// A growth was refused.
+    Memory,
+}
+
+impl NameTable {
+    /// A table without names, which takes no memory yet.
+    pub fn new(alloc: Global) -> NameTable
+        ensures empty { result ≡ [] }
+        ensures table { IsTable result }
+    {
+        NameTable {
+            names: IndexSet::new(alloc),
+        }
+    }
+
+    /// How many names there are.
+    pub fn len(&self) -> usize
+        ensures value { result ≡ length self.now }
+        ensures table { IsTable self.now }
+    {
+        self.names.len()
+    }
+
+    /// Whether there is no name.
+    pub fn is_empty(&self) -> bool
+        ensures { result ≡ (length self.now == 0) }
+    {
+        self.names.is_empty()
+    }
+
+    /// The name at a place.
+    pub fn get(&self, place: usize) -> Option<&Name>
+        ensures found { IsSome result ↔ (place < length self.now) }
+        ensures value { IfSome result (λ name. slice_get self.now place ≡ Some name.now) }
+    {
+        self.names.get_index(place)
+    }
+
+    /// The place of a name, where it is there.
+    pub fn position(&self, name: &Name) -> Option<usize>
+        ensures value { result ≡ place_of name.now self.now }
+        ensures found { IsSome result ↔ Contains self.now name.now }
+        ensures place { IfSome result (λ i. slice_get self.now i ≡ Some name.now) }
+    {
+        self.names.get_index_of(name)
+    }
+
+    /// Adds a name behind the others. A fault leaves the table as it was.
+    pub fn add(&mut self, name: Name) -> Result<(), TableFault>
+        ensures ok { OnOk result (self.new ≡ self.old ++ name ∷ []) }
+        ensures repeated { IsErrOf result (TableFault.Repeated name) ↔ Contains self.old name }
+        ensures which { (other : List ℕ) → IsErrOf result (TableFault.Repeated other) → other ≡ name }
+        ensures err { OnErr result (self.new ≡ self.old) }
+        ensures table { IsTable self.new }
+    {
+        let _ = name.bytes();
+        if self.names.contains(&name) {
+            return Err(TableFault::Repeated(name));
+        }
+        match self.names.insert(name) {
+            Ok(_) => Ok(()),
+            Err(_) => Err(TableFault::Memory),
+        }
+    }
+}
+
+/// The table of these names in their order, or the first of them that stood before.
+pub fn table_of(alloc: Global, names: &[Name]) -> Result<NameTable, TableFault>
+    ensures ok { IfOk result (λ table. (table ≡ names.now) × IsTable names.now) }
+    ensures err { IfErr result (IsTableFault names.now) }
+{
+    let mut table = NameTable::new(alloc);
+    for name in names {
+        if let Err(fault) = table.add(name.copy()) {
+            return Err(fault);
+        }
+    }
+    Ok(table)
+}
