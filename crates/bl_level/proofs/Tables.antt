@@ -1,5 +1,5 @@
 -- Tables of names, compared byte by byte.
-use Rattle.std.proofs.Common.{◌≡◌, ℕ, ◌<◌, List, [], ◌∷◌, Bool, true, false, nat_eq, Contains, refl, sym, ap, subst, ◌∙◌, length, slice_get, Some, get_or, ◌++◌, ◌≢◌, true≢false}
+use Rattle.std.proofs.Common.{◌≡◌, ℕ, ◌<◌, List, [], ◌∷◌, Bool, true, false, nat_eq, Contains, refl, sym, ap, subst, ◌∙◌, length, slice_get, Option, Some, None, get_or, ◌++◌, ◌≢◌, true≢false}
 use Rattle.std.specs.List.{list_any, position}
 use Rattle.std.specs.Cmp.Lexicographic.{pointwise}
 use Rattle.std.specs.Bool.{Decides}
@@ -39,3 +39,15 @@ IsTable-push names name table proper new = record {
   proper = All-push IsName names name table.proper proper;
   distinct = all_pairs_push (λ a b. a ≢ b) names name table.distinct (λ k d h e. new (subst (Contains names) e (Contains-get_or names k d h)));
 }
+
+-- what stands nowhere has no place
+pub no_place : (q : List ℕ) (ks : List (List ℕ)) → (Contains ks q → ⊥) → position (same q) ks ≡ None
+no_place q ks absent = go (position (same q) ks) refl
+  where
+    go : (o : Option ℕ) → position (same q) ks ≡ o → o ≡ None
+    go None e = refl
+    go (Some i) e = let at = position-Some (same q) ks i q e in absurd (absent (i, at.0, sym ((same-Decides q (get_or ks i q)).0 at.1)))
+
+-- what is in a table is a name
+pub in_table : (q : List ℕ) (ks : List (List ℕ)) → IsTable ks → Contains ks q → IsName q
+in_table q ks table h = subst IsName h.2 (table.proper h.0 q h.1)

@@ -9,3 +9,5 @@ pub mod Table
 pub mod TableFault
 pub mod Scheme
 pub mod SchemeFault
+pub mod LevelText
+pub mod LevelFault

@@ -46,6 +46,19 @@ pub enum SchemeFault {
     Memory,
 }
 
+/// Why a text is no level of a scheme. Where several hold, the first is answered.
+#[derive(Clone, Copy, Debug, PartialEq, Eq)]
+pub enum LevelFault {
+    /// The text is not spelled as a level.
+    Syntax,
+    /// The scheme has no such rank.
+    UnknownRank,
+    /// The first category at fault from the left is not of the scheme.
+    UnknownCategory,
+    /// The first category at fault from the left stood before.
+    RepeatedCategory,
+}
+
 impl From<TableFault> for SchemeFault {
     ghost use Rattle.bl_level.specs.SchemeFault.{IsFromTable};
 

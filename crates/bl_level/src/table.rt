@@ -70,8 +70,23 @@ impl NameTable {
         ensures value { result ≡ place_of name.now self.now }
         ensures found { IsSome result ↔ Contains self.now name.now }
         ensures place { IfSome result (λ i. slice_get self.now i ≡ Some name.now) }
+        ensures within { IfSome result (λ i. i < length self.now) }
     {
         self.names.get_index_of(name)
+    }
+
+    /// The place of the name of these bytes, where it is there. Bytes that are no name are not there.
+    pub fn position_of(&self, bytes: &[u8]) -> Option<usize>
+        ensures value { result ≡ place_of bytes.now self.now }
+        ensures found { IsSome result ↔ Contains self.now bytes.now }
+        ensures place { IfSome result (λ i. slice_get self.now i ≡ Some bytes.now) }
+        ensures within { IfSome result (λ i. i < length self.now) }
+    {
+        let _ = &self.names;
+        match Name::new(bytes) {
+            Some(name) => self.position(&name),
+            None => None,
+        }
     }
 
     /// Adds a name behind the others. A fault leaves the table as it was.
