@@ -42,6 +42,16 @@ impl NameTable {
         }
     }
 
+    /// A table without names, in which this many find room with no further growth.
+    pub fn with_room(alloc: Global, room: usize) -> Result<NameTable, AllocError>
+        ensures empty { IfOk result (λ table. table ≡ []) }
+        ensures table { IfOk result IsTable }
+    {
+        Ok(NameTable {
+            names: IndexSet::with_capacity(alloc, room)?,
+        })
+    }
+
     /// How many names there are.
     pub fn len(&self) -> usize
         ensures value { result ≡ length self.now }
