@@ -9,3 +9,5 @@ pub mod Masks
 pub mod Dominance
 pub mod Tables
 pub mod TableFaults
+pub mod LevelTexts
+pub mod ReadingLevels

@@ -1,8 +1,9 @@
 -- A number as the set of the places of its bits.
-use Rattle.std.proofs.Common.{◌≡◌, ℕ, zero, suc, ◌<◌, ◌≤◌, ◌^◌, ◌/◌, min, max, sym, ◌∙◌, ap, arith, inl, inr, ◌⊎◌}
+use Rattle.std.proofs.Common.{◌≡◌, ℕ, zero, suc, ◌<◌, ◌≤◌, ◌^◌, ◌/◌, min, max, sym, ◌∙◌, ap, arith, inl, inr, ◌⊎◌, ◌≢◌}
 use Rattle.std.specs.Prelude.{bit_and, bit_or, ◌↔◌}
 use Rattle.std.specs.Int.{bit_at}
-use Rattle.std.proofs.lemmas.Nat.Bits.{bit_at_and, bit_at_or, bit_at-lt, bit_at_above, bit_at-zero, bit_at-suc, same_from_bits}
+use Rattle.std.proofs.lemmas.Bool.{cases_eq}
+use Rattle.std.proofs.lemmas.Nat.Bits.{bit_at-pow_same, bit_at-pow_other, bit_at_and, bit_at_or, bit_at-lt, bit_at_above, bit_at-zero, bit_at-suc, same_from_bits}
 use Rattle.std.proofs.Math.Nat.{pow-suc}
 
 -- a bit is 0 or 1
@@ -78,3 +79,22 @@ below-members x (suc n) each =
 -- a number is below 2 ^ n just where each of its members is below n
 pub below-bits : (x n : ℕ) → (x < 2 ^ n) ↔ ((k : ℕ) → bit_at x k ≡ 1 → k < n)
 below-bits x n = (member-below x n, below-members x n)
+
+-- the mask of one category has no other member
+pub one-member : (k j : ℕ) → (bit_at (2 ^ k) j ≡ 1) ↔ (j ≡ k)
+one-member k j = ((λ h. there h (cases_eq j k)), (λ e. ap (λ i. bit_at (2 ^ k) i) e ∙ bit_at-pow_same k))
+  where
+    there : bit_at (2 ^ k) j ≡ 1 → (j ≡ k) ⊎ (j ≢ k) → j ≡ k
+    there h (inl e) = e
+    there h (inr other) = absurd (omega (arith, sym h ∙ bit_at-pow_other k j other))
+
+-- a mask into which one category was put
+pub put-member : (mask k bit : ℕ) → bit ≡ 2 ^ k → (j : ℕ) → (bit_at (bit_or mask bit) j ≡ 1) ↔ ((bit_at mask j ≡ 1) ⊎ (j ≡ k))
+put-member mask k bit is j = (λ h. there ((or-member mask bit j).0 h), λ h. (or-member mask bit j).1 (back h))
+  where
+    there : (bit_at mask j ≡ 1) ⊎ (bit_at bit j ≡ 1) → (bit_at mask j ≡ 1) ⊎ (j ≡ k)
+    there (inl m) = inl m
+    there (inr b) = inr ((one-member k j).0 (ap (λ n. bit_at n j) (sym is) ∙ b))
+    back : (bit_at mask j ≡ 1) ⊎ (j ≡ k) → (bit_at mask j ≡ 1) ⊎ (bit_at bit j ≡ 1)
+    back (inl m) = inl m
+    back (inr e) = inr (ap (λ n. bit_at n j) is ∙ (one-member k j).1 e)

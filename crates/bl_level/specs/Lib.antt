@@ -11,3 +11,4 @@ pub mod Scheme
 pub mod SchemeFault
 pub mod LevelText
 pub mod LevelFault
+pub mod LevelFronts

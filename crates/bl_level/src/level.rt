@@ -59,6 +59,26 @@ impl Level {
         self.categories
     }
 
+    /// Whether category `k`, below 32, is a member.
+    pub fn has_category(&self, k: u32) -> bool
+        requires { k < 32 }
+        ensures { IsTrue result ↔ HasCategory self.now k }
+    {
+        self.categories >> k & 1 == 1
+    }
+
+    /// The level of the same rank with the same categories and category `k`, below 32.
+    pub fn with_category(&self, k: u32) -> Level
+        requires { k < 32 }
+        ensures rank { result.rank ≡ self.now.rank }
+        ensures categories { (j : ℕ) → HasCategory result j ↔ (HasCategory self.now j ⊎ (j ≡ k)) }
+    {
+        Level {
+            rank: self.rank,
+            categories: self.categories | 1 << k,
+        }
+    }
+
     /// Whether this level dominates the other: its rank is at least the other's, and it has each of the
     /// other's categories (Bell and La Padula 1976, dominance).
     pub fn dominates(&self, other: &Level) -> bool

@@ -3,6 +3,7 @@
 
 pub mod laws;
 pub mod level;
+pub mod level_text;
 pub mod lexer;
 pub mod name;
 pub mod scheme;

@@ -1,0 +1,154 @@
+//! The text of a level, both ways: `secret` or `secret{nato,crypto}`.
+ghost use Rattle.std.specs.Prelude.{◌≡◌, ◌↔◌, ℕ, List, [], ◌∷◌, ◌++◌, map, IsTrue, IfOk, IfSome, IfNone, Err};
+ghost use Rattle.bl_level.specs.Lexing.{past};
+ghost use Rattle.bl_level.specs.Token.{name as name_token, sign as sign_token};
+ghost use Rattle.bl_level.specs.LevelText.{LevelText, ReadsAsLevel};
+ghost use Rattle.bl_level.specs.LevelFault.{Reads};
+ghost use Rattle.bl_level.specs.LevelFronts.{StandsFirst, Closes, with_name, ReadsOn};
+
+use crate::level::Level;
+use crate::lexer::{Class, Front, next_token};
+use crate::scheme::{LevelFault, Scheme};
+use crate::token::{Sign, Token};
+
+/// The name at the front, and what is behind it.
+fn name_at<'a>(bytes: &'a [u8]) -> Option<(&'a [u8], &'a [u8])>
+    ensures some { IfSome result (λ found. StandsFirst bytes.now (name_token found.0.now) found.1.now) }
+    ensures none { IfNone result ((word rest : List ℕ) → StandsFirst bytes.now (name_token word) rest → ⊥) }
+{
+    match next_token(bytes) {
+        Front::Token(Token::Name(word), behind) => Some((word, behind)),
+        _ => None,
+    }
+}
+
+/// What is behind the sign, where it stands at the front.
+fn after_sign<'a>(bytes: &'a [u8], sign: Sign) -> Option<&'a [u8]>
+    ensures some { IfSome result (λ rest. StandsFirst bytes.now (sign_token sign) rest.now) }
+    ensures none { IfNone result ((rest : List ℕ) → StandsFirst bytes.now (sign_token sign) rest → ⊥) }
+{
+    match next_token(bytes) {
+        Front::Token(Token::Sign(found), behind) => {
+            if found == sign {
+                Some(behind)
+            } else {
+                None
+            }
+        }
+        _ => None,
+    }
+}
+
+/// Whether nothing but blanks is left.
+fn is_at_end(bytes: &[u8]) -> bool
+    ensures { IsTrue result ↔ ([] ≡ past Class.Blank bytes.now) }
+{
+    match next_token(bytes) {
+        Front::Nothing => true,
+        _ => false,
+    }
+}
+
+/// Whether the closing brace stands at the front, and nothing but blanks behind it.
+fn closes(bytes: &[u8]) -> bool
+    ensures { IsTrue result ↔ Closes bytes.now }
+{
+    match after_sign(bytes, Sign::Close) {
+        Some(rest) => is_at_end(rest),
+        None => false,
+    }
+}
+
+impl Scheme {
+    /// What was read of a level, and one more category.
+    fn with_category(
+        &self,
+        so_far: Result<Level, LevelFault>,
+        category: &[u8],
+    ) -> Result<Level, LevelFault>
+        ensures { (text : LevelText) → Reads self.now text so_far → Reads self.now (with_name text category.now) result }
+    {
+        let level = match so_far {
+            Ok(level) => level,
+            Err(fault) => return Err(fault),
+        };
+        match self.categories().position_of(category) {
+            None => Err(LevelFault::UnknownCategory),
+            Some(place) => {
+                let k = place as u32;
+                if level.has_category(k) {
+                    return Err(LevelFault::RepeatedCategory);
+                }
+                Ok(level.with_category(k))
+            }
+        }
+    }
+
+    /// The level of this rank without a category.
+    fn ranked(&self, rank: &[u8]) -> Result<Level, LevelFault>
+        ensures { Reads self.now (record { rank = rank.now; categories = [] }) result }
+    {
+        match self.ranks().position_of(rank) {
+            None => Err(LevelFault::UnknownRank),
+            Some(place) => Ok(Level::new(place as u8, 0).unwrap()),
+        }
+    }
+
+    /// The level of a rank and categories that were read, or the first fault: `UnknownRank`, and then for the first
+    /// category at fault from the left `UnknownCategory` or `RepeatedCategory`. It takes no memory.
+    pub fn level(&self, rank: &[u8], categories: &[&[u8]]) -> Result<Level, LevelFault>
+        ensures { Reads self.now (record { rank = rank.now; categories = map (λ c. c.now) categories.now }) result }
+    {
+        let mut so_far = self.ranked(rank);
+        for category in categories {
+            so_far = self.with_category(so_far, category);
+        }
+        so_far
+    }
+
+    /// The categories that the bytes list up to the closing brace, behind what was read so far.
+    fn read_categories(
+        &self,
+        so_far: Result<Level, LevelFault>,
+        bytes: &[u8],
+    ) -> Result<Level, LevelFault>
+        ensures { ReadsOn self.now so_far bytes.now result }
+    {
+        let mut so_far = so_far;
+        let mut rest = bytes;
+        'categories: loop {
+            let Some((category, behind)) = name_at(rest) else {
+                return Err(LevelFault::Syntax);
+            };
+            so_far = self.with_category(so_far, category);
+            match after_sign(behind, Sign::Comma) {
+                Some(more) => rest = more,
+                None => {
+                    if closes(behind) {
+                        return so_far;
+                    }
+                    return Err(LevelFault::Syntax);
+                }
+            }
+        }
+    }
+
+    /// The level that the bytes mean. Where they are not spelled as a level the answer is `Syntax`; otherwise the first
+    /// fault, as of `level`. It takes no memory.
+    pub fn read_level(&self, bytes: &[u8]) -> Result<Level, LevelFault>
+        ensures reads { (text : LevelText) → ReadsAsLevel bytes.now text → Reads self.now text result }
+        ensures syntax { ((text : LevelText) → ReadsAsLevel bytes.now text → ⊥) → result ≡ Err LevelFault.Syntax }
+    {
+        let Some((rank, behind)) = name_at(bytes) else {
+            return Err(LevelFault::Syntax);
+        };
+        let so_far = self.ranked(rank);
+        if is_at_end(behind) {
+            return so_far;
+        }
+        match after_sign(behind, Sign::Open) {
+            Some(categories) => self.read_categories(so_far, categories),
+            None => Err(LevelFault::Syntax),
+        }
+    }
+}
