@@ -65,9 +65,10 @@ named scheme text level category k means at has =
 
 pub repeated : (scheme : SchemeNames) (text : LevelText) (level : SecurityLevel) (category : List ℕ) (k : ℕ) → Means scheme text level →
     place_of category scheme.categories ≡ Some k → HasCategory level k → IsLevelFault scheme (with_name text category) RepeatedCategory
-repeated scheme text level category k means at has =
-    ( placed text.rank scheme.ranks level.rank means.rank
-    , (text.categories, category, stands_last scheme text level category means, named scheme text level category k means at has) )
+repeated scheme text level category k means at has = (
+  placed text.rank scheme.ranks level.rank means.rank,
+  (text.categories, category, stands_last scheme text level category means, named scheme text level category k means at has),
+)
 
 module _ (scheme : SchemeNames) (text : LevelText) (category : List ℕ) where
   more_named : (j : ℕ) → IsNamed scheme text j → IsNamed scheme (with_name text category) j
@@ -96,9 +97,11 @@ taken scheme text level more category k means at new rank members = record {
   where
     fresh : Contains text.categories category → ⊥
     fresh h = new ((means.categories k).1 (category, h, at))
+
     there : (j : ℕ) → HasCategory level j ⊎ (j ≡ k) → IsNamed scheme (with_name text category) j
     there j (inl has) = more_named scheme text category j ((means.categories j).0 has)
     there j (inr e) = subst (IsNamed scheme (with_name text category)) (sym e) (last_named scheme text category k at)
+
     back : (j : ℕ) → IsNamed scheme text j ⊎ (j ≡ k) → HasCategory level j ⊎ (j ≡ k)
     back j (inl by) = inl ((means.categories j).1 by)
     back j (inr e) = inr e

@@ -11,3 +11,4 @@ pub mod Tables
 pub mod TableFaults
 pub mod LevelTexts
 pub mod ReadingLevels
+pub mod WritingLevels

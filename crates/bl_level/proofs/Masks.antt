@@ -95,6 +95,7 @@ put-member mask k bit is j = (λ h. there ((or-member mask bit j).0 h), λ h. (o
     there : (bit_at mask j ≡ 1) ⊎ (bit_at bit j ≡ 1) → (bit_at mask j ≡ 1) ⊎ (j ≡ k)
     there (inl m) = inl m
     there (inr b) = inr ((one-member k j).0 (ap (λ n. bit_at n j) (sym is) ∙ b))
+
     back : (bit_at mask j ≡ 1) ⊎ (j ≡ k) → (bit_at mask j ≡ 1) ⊎ (bit_at bit j ≡ 1)
     back (inl m) = inl m
     back (inr e) = inr (ap (λ n. bit_at n j) is ∙ (one-member k j).1 e)

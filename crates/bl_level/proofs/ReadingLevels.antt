@@ -52,6 +52,7 @@ module _ (scheme : SchemeNames) (so_far next : Result Level LevelFault) (rest be
       listed : (names : List (List ℕ)) → Lists more names → Lists rest (category ∷ names)
       listed [] lists = absurd lists
       listed (n ∷ names) lists = (behind, at, (more, comma, lists))
+
       go : (text : LevelText) (names : List (List ℕ)) → Reads scheme text so_far →
           ((others : List (List ℕ)) × (names ≡ category ∷ others) × More behind others) →
           Reads scheme (record { rank = text.rank; categories = text.categories ++ names }) result
@@ -61,7 +62,7 @@ module _ (scheme : SchemeNames) (so_far next : Result Level LevelFault) (rest be
           let q = same_first behind (sign Comma) (sign Comma) r more sep comma in
           let read = on.reads (with_name text category) others (takes text reads) (subst (λ bytes. Lists bytes others) q.1 lists) in
           subst (λ cs. Reads scheme (record { rank = text.rank; categories = cs }) result)
-            (append_assoc text.categories (category ∷ []) others ∙ ap (λ ns. text.categories ++ ns) (sym e)) read
+          (append_assoc text.categories (category ∷ []) others ∙ ap (λ ns. text.categories ++ ns) (sym e)) read
 
   pub step_close : StandsFirst rest (name category) behind → StandsFirst behind (sign Close) more → [] ≡ past class.Blank more →
       ((text : LevelText) → Reads scheme text so_far → Reads scheme (with_name text category) next) → ReadsOn scheme so_far rest next
@@ -75,7 +76,7 @@ module _ (scheme : SchemeNames) (so_far next : Result Level LevelFault) (rest be
           Reads scheme (record { rank = text.rank; categories = text.categories ++ names }) next
       go text names reads (others, e, ends r here done none) =
           subst (λ cs. Reads scheme (record { rank = text.rank; categories = cs }) next)
-            (ap (λ ns. text.categories ++ ns) (ap (λ ns. category ∷ ns) (sym none) ∙ sym e)) (takes text reads)
+          (ap (λ ns. text.categories ++ ns) (ap (λ ns. category ∷ ns) (sym none) ∙ sym e)) (takes text reads)
       go text names reads (others, e, goes_on r comma lists) =
           absurd (go_apart (sym (same_first behind (sign Comma) (sign Close) r more comma close).0))
 
@@ -140,6 +141,7 @@ reads_braces scheme bytes behind listed rank so_far result at more brace read on
   where
     first_is : text.rank ≡ rank
     first_is = (rank_first bytes behind rank text at reads).0
+
     go : (names : List (List ℕ)) → text.categories ≡ names → Begins behind (spell_categories names) [] → Reads scheme text result
     go [] e begins = absurd (more begins)
     go (n ∷ names) e begins =

@@ -1,5 +1,5 @@
 -- What stands at the front of a level's text.
-use Rattle.std.specs.Prelude.{◌≡◌, ◌↔◌, ℕ, List, [], ◌∷◌, ◌++◌, Option, Result, IfSome, IfNone, Err}
+use Rattle.std.specs.Prelude.{◌≡◌, ◌↔◌, ℕ, Bool, true, if◌then◌else◌, List, [], ◌∷◌, ◌++◌, Option, Result, IfSome, IfNone, Err}
 use Rattle.bl_level.specs.declared.lexer.Class.TheVariants as class
 use Rattle.bl_level.specs.declared.token.Sign.{Sign}
 use Rattle.bl_level.specs.declared.level.Level.{Level}
@@ -34,3 +34,8 @@ pub record ReadsOn (scheme : SchemeNames) (so_far : Result Level LevelFault) (by
   pub reads : (text : LevelText) (categories : List (List ℕ)) → Reads scheme text so_far → Lists bytes categories
       → Reads scheme (record { rank = text.rank; categories = text.categories ++ categories }) result
   pub syntax : ((categories : List (List ℕ)) → Lists bytes categories → ⊥) → result ≡ Err Syntax
+
+-- what is still to be written of a level's text: these categories, and the closing brace where one was opened
+abbrev pub tail_of : Bool → List (List ℕ) → List ℕ
+tail_of opened [] = if opened then 125 ∷ [] else []
+tail_of opened (category ∷ categories) = ((if opened then 44 else 123) ∷ category) ++ tail_of true categories

@@ -1,11 +1,13 @@
 -- The text of a level, and which level it means in a scheme.
-use Rattle.std.specs.Prelude.{◌≡◌, ◌↔◌, ℕ, List, [], ◌∷◌, ◌++◌, All, Contains, Some, slice_get, take, Result, MatchResult}
+use Rattle.std.specs.Prelude.{◌≡◌, ◌↔◌, ◌==◌, ℕ, suc, if◌then◌else◌, slice_index_or, List, [], ◌∷◌, ◌++◌, All, Contains, Some, slice_get, take, Result, MatchResult}
 use Rattle.bl_level.specs.declared.token.Sign.TheVariants.{Comma, Open, Close}
 use Rattle.bl_level.specs.Token.{Tok, name, sign}
 use Rattle.bl_level.specs.Lexing.{Begins}
 use Rattle.bl_level.specs.Level.{SecurityLevel, HasCategory}
 use Rattle.bl_level.specs.Table.{AreDistinct, place_of}
 use Rattle.bl_level.specs.Scheme.{SchemeNames}
+use Rattle.bl_level.specs.Canonical.{canonical}
+use Rattle.std.specs.Int.{bit_at}
 
 -- own choice: a level is written as the name of its rank and those of its categories
 pub record LevelText : Type 0 where
@@ -48,3 +50,17 @@ pub record StandsBehind (scheme : SchemeNames) (text : LevelText) (before : List
   pub split : text.categories ≡ before ++ category ∷ after
   pub known : All (Contains scheme.categories) before
   pub distinct : AreDistinct before
+
+-- the names of the level's categories, in the order of these names, of which the first is that of category k
+abbrev pub held_names : SecurityLevel → ℕ → List (List ℕ) → List (List ℕ)
+held_names level k [] = []
+held_names level k (category ∷ categories) =
+    if bit_at level.categories k == 1 then category ∷ held_names level (suc k) categories else held_names level (suc k) categories
+
+-- own choice: the canonical text of a level names its categories in the scheme's order
+abbrev pub text_of : SchemeNames → SecurityLevel → LevelText
+text_of scheme level = record { rank = slice_index_or scheme.ranks level.rank []; categories = held_names level 0 scheme.categories }
+
+-- the bytes of it
+abbrev pub canonical_level : SchemeNames → SecurityLevel → List ℕ
+canonical_level scheme level = canonical (spell_level (text_of scheme level))

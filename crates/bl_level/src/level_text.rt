@@ -1,15 +1,18 @@
 //! The text of a level, both ways: `secret` or `secret{nato,crypto}`.
-ghost use Rattle.std.specs.Prelude.{◌≡◌, ◌↔◌, ℕ, List, [], ◌∷◌, ◌++◌, map, IsTrue, IfOk, IfSome, IfNone, Err};
+ghost use Rattle.std.specs.Prelude.{◌≡◌, ◌↔◌, ℕ, List, [], ◌∷◌, ◌++◌, map, if◌then◌else◌, false, IsTrue, OnOk, IfOk, IfSome, IfNone, Ok, Err, Result};
 ghost use Rattle.bl_level.specs.Lexing.{past};
 ghost use Rattle.bl_level.specs.Token.{name as name_token, sign as sign_token};
-ghost use Rattle.bl_level.specs.LevelText.{LevelText, ReadsAsLevel};
-ghost use Rattle.bl_level.specs.LevelFault.{Reads};
-ghost use Rattle.bl_level.specs.LevelFronts.{StandsFirst, Closes, with_name, ReadsOn};
+ghost use Rattle.bl_level.specs.Scheme.{Holds};
+ghost use Rattle.bl_level.specs.LevelText.{LevelText, ReadsAsLevel, canonical_level, held_names};
+ghost use Rattle.bl_level.specs.LevelFault.{Reads, IsReadBack};
+ghost use Rattle.bl_level.specs.LevelFronts.{StandsFirst, Closes, with_name, ReadsOn, tail_of};
 
 use crate::level::Level;
 use crate::lexer::{Class, Front, next_token};
+use crate::name::Name;
 use crate::scheme::{LevelFault, Scheme};
 use crate::token::{Sign, Token};
+use std::alloc::AllocError;
 
 /// The name at the front, and what is behind it.
 fn name_at<'a>(bytes: &'a [u8]) -> Option<(&'a [u8], &'a [u8])>
@@ -29,11 +32,7 @@ fn after_sign<'a>(bytes: &'a [u8], sign: Sign) -> Option<&'a [u8]>
 {
     match next_token(bytes) {
         Front::Token(Token::Sign(found), behind) => {
-            if found == sign {
-                Some(behind)
-            } else {
-                None
-            }
+            if found == sign { Some(behind) } else { None }
         }
         _ => None,
     }
@@ -151,4 +150,44 @@ impl Scheme {
             None => Err(LevelFault::Syntax),
         }
     }
+
+    /// The canonical text of a level that the scheme holds: no blank, the categories in the scheme's order, and no
+    /// braces where there is none.
+    pub fn write_level(&self, level: &Level) -> Result<Vec<u8>, AllocError>
+        requires { Holds self.now level.now }
+        ensures text { IfOk result (λ text. text.items ≡ canonical_level self.now level.now) }
+        ensures again { IfOk result (λ text. IsReadBack self.now level.now text.items) }
+    {
+        let mut text = Vec::new(self.ranks().allocator());
+        let rank = self.ranks().get(usize::from(level.rank())).unwrap();
+        text.extend_from_slice(rank.bytes())?;
+        self.write_categories(level, &mut text)?;
+        Ok(text)
+    }
+
+    /// Writes the categories of a level behind its rank.
+    fn write_categories(&self, level: &Level, text: &mut Vec<u8>) -> Result<(), AllocError>
+        ensures { OnOk result (text.new.items ≡ text.old.items ++ tail_of false (held_names level.now 0 self.now.categories)) }
+    {
+        let categories = self.categories();
+        let mut opened = false;
+        for place in 0..categories.len() {
+            if level.has_category(place as u32) {
+                write_category(text, opened, categories.get(place).unwrap())?;
+                opened = true;
+            }
+        }
+        if opened {
+            text.push(b'}')?;
+        }
+        Ok(())
+    }
+}
+
+/// Writes a category behind the opening brace, or behind a comma where one was opened.
+fn write_category(text: &mut Vec<u8>, opened: bool, category: &Name) -> Result<(), AllocError>
+    ensures { OnOk result (text.new.items ≡ text.old.items ++ ((if opened then 44 else 123) ∷ category.now)) }
+{
+    text.push(if opened { b',' } else { b'{' })?;
+    text.extend_from_slice(category.bytes())
 }

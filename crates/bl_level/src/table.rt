@@ -52,6 +52,11 @@ impl NameTable {
         })
     }
 
+    /// The allocator that the table keeps.
+    pub fn allocator(&self) -> Global {
+        *self.names.allocator()
+    }
+
     /// How many names there are.
     pub fn len(&self) -> usize
         ensures value { result ≡ length self.now }

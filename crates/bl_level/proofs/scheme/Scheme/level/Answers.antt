@@ -9,8 +9,8 @@ pub loop-category-preserved : goal.loop-category-preserved
 loop-category-preserved c =
     let i = c.loop-category.category-index in
     subst (λ (names : List (List ℕ)). Reads c.args.self.now (record { rank = c.args.rank.now; categories = names }) c.with_category-so_far.result)
-        (sym (names_more c.args.categories.now i _ c.loop-category-test.true))
-        (c.with_category-so_far.ensures (record { rank = c.args.rank.now; categories = map (λ n. n.now) (take i c.args.categories.now) }) c.loop-category.invariant)
+    (sym (names_more c.args.categories.now i _ c.loop-category-test.true))
+    (c.with_category-so_far.ensures (record { rank = c.args.rank.now; categories = map (λ n. n.now) (take i c.args.categories.now) }) c.loop-category.invariant)
 
 pub returns : goal.returns
 returns c =

@@ -15,7 +15,7 @@ returns-in-None c =
     let scheme = c.args.self.now in
     let category = c.args.category.now in
     let absent : Contains scheme.categories category → ⊥ =
-        λ h. false≢true (c.in-None.ensures.found.1 (subst (λ names. Contains names category) (sym c.categories.ensures.value) h)) in
+    λ h. false≢true (c.in-None.ensures.found.1 (subst (λ names. Contains names category) (sym c.categories.ensures.value) h)) in
     λ text reads. unknown scheme text c.in-Ok.level category (subst (Reads scheme text) c.in-Ok.is reads) absent
 
 pub returns-then-has_category : goal.returns-then-has_category
@@ -23,17 +23,17 @@ returns-then-has_category c =
     let scheme = c.args.self.now in
     let category = c.args.category.now in
     let at : place_of category scheme.categories ≡ Some c.in-Some.place =
-        sym (c.in-Some.ensures.value ∙ ap (λ names. place_of category names) c.categories.ensures.value) in
+    sym (c.in-Some.ensures.value ∙ ap (λ names. place_of category names) c.categories.ensures.value) in
     λ text reads. repeated scheme text c.in-Ok.level category c.in-Some.place (subst (Reads scheme text) c.in-Ok.is reads) at
-        (c.has_category.ensures.0 c.if-has_category.true)
+    (c.has_category.ensures.0 c.if-has_category.true)
 
 pub returns-else-has_category : goal.returns-else-has_category
 returns-else-has_category c =
     let scheme = c.args.self.now in
     let category = c.args.category.now in
     let at : place_of category scheme.categories ≡ Some c.in-Some.place =
-        sym (c.in-Some.ensures.value ∙ ap (λ names. place_of category names) c.categories.ensures.value) in
+    sym (c.in-Some.ensures.value ∙ ap (λ names. place_of category names) c.categories.ensures.value) in
     let new : HasCategory c.in-Ok.level c.in-Some.place → ⊥ =
-        λ h. true≢false (sym (c.has_category.ensures.1 h) ∙ c.if-has_category.false) in
+    λ h. true≢false (sym (c.has_category.ensures.1 h) ∙ c.if-has_category.false) in
     λ text reads. taken scheme text c.in-Ok.level c.with_category.result category c.in-Some.place (subst (Reads scheme text) c.in-Ok.is reads) at new
-        c.with_category.ensures.rank c.with_category.ensures.categories
+    c.with_category.ensures.rank c.with_category.ensures.categories
