@@ -1,5 +1,5 @@
 -- The loop that cuts a text into tokens.
-use Rattle.std.proofs.Common.{◌≡◌, ℕ, ◌+◌, ◌<◌, ◌≤◌, List, [], ◌∷◌, ◌++◌, length, refl, sym, ap, append_assoc, Option, arith}
+use Rattle.std.proofs.Common.{◌≡◌, ℕ, ◌+◌, ◌<◌, ◌≤◌, List, [], ◌∷◌, ◌++◌, length, refl, sym, ap, append_assoc, Option, None, arith}
 use Rattle.std.proofs.lemmas.List.{append-nil}
 use Rattle.bl_level.specs.declared.lexer.Class.TheVariants as class
 use Rattle.bl_level.specs.declared.lexer.Front.{Front}
@@ -7,11 +7,11 @@ use Rattle.bl_level.specs.declared.lexer.Front.TheVariants as source
 use Rattle.bl_level.specs.declared.token.Token.{Token}
 use Rattle.bl_level.specs.Token.{Tok, tok, toks}
 use Rattle.bl_level.specs.Lexing as spec
-use Rattle.bl_level.specs.Lexing.{token, front, past}
+use Rattle.bl_level.specs.Lexing.{token, front, past, Begins}
 use Rattle.bl_level.specs.Name.{AreProper}
 use Rattle.bl_level.specs.FrontView.{front_view, IsSound}
 use Rattle.bl_level.specs.Cutting.{Cut, EndsAs}
-use Rattle.bl_level.proofs.Fronts.{front_splits, front_shorter, broken_within}
+use Rattle.bl_level.proofs.Fronts.{front_splits, front_shorter, broken_within, front_nothing}
 
 -- what the rest is cut into goes behind what there is
 abbrev pub Joins : ℕ → List ℕ → List ℕ → List Tok → List ℕ → Type 0
@@ -50,3 +50,13 @@ sound (source.Broken from) bytes total within e = less (broken_within bytes from
   where
     less : length from.now ≤ length bytes → length from.now ≤ total
     less h = omega arith
+
+ends_nothing : (total : ℕ) (f : spec.Front) (place : Option ℕ) → place ≡ None → EndsAs total f place → f ≡ spec.nothing
+ends_nothing total spec.nothing place is e = refl
+ends_nothing total (spec.broken from) place is (k, some, at) = absurd (cc)
+ends_nothing total (token t more) place is e = absurd e
+
+-- a text that is cut without a fault reads as its tokens
+pub cut_whole : (total : ℕ) (bytes : List ℕ) (ts : List Tok) (ks : List ℕ) (place : Option ℕ) → Cut total bytes ts ks place → place ≡ None → Begins bytes ts []
+cut_whole total bytes [] ks place (none, ends) is = sym (front_nothing (past class.Blank bytes) (ends_nothing total (front (past class.Blank bytes)) place is ends))
+cut_whole total bytes (t ∷ ts) ks place (more, k, ks', e, f, at, cut) is = (more, f, cut_whole total more ts ks' place cut is)

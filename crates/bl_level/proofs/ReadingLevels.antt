@@ -7,7 +7,7 @@ use Rattle.bl_level.specs.declared.level.Level.{Level}
 use Rattle.bl_level.specs.declared.scheme.LevelFault.{LevelFault}
 use Rattle.bl_level.specs.declared.scheme.LevelFault.TheVariants.{Syntax}
 use Rattle.bl_level.specs.Token.{Tok, name, sign}
-use Rattle.bl_level.specs.Lexing.{Front, nothing, token, front, past, Begins}
+use Rattle.bl_level.specs.Lexing.{Front, nothing, token, front, past_blanks, Begins}
 use Rattle.bl_level.specs.Scheme.{SchemeNames}
 use Rattle.bl_level.specs.LevelText.{LevelText, spell_more, spell_categories, ReadsAsLevel}
 use Rattle.bl_level.specs.LevelFault.{Reads}
@@ -17,7 +17,7 @@ use Rattle.bl_level.proofs.Runs.{past_le}
 
 -- further categories, or the closing brace and nothing behind it
 data More (bytes : List ℕ) (names : List (List ℕ)) : Type 0 where
-  ends : (rest : List ℕ) → StandsFirst bytes (sign Close) rest → [] ≡ past class.Blank rest → names ≡ [] → More bytes names
+  ends : (rest : List ℕ) → StandsFirst bytes (sign Close) rest → [] ≡ past_blanks rest → names ≡ [] → More bytes names
   goes_on : (rest : List ℕ) → StandsFirst bytes (sign Comma) rest → Lists rest names → More bytes names
 
 more_of : (bytes : List ℕ) (names : List (List ℕ)) → Begins bytes (spell_more names) [] → More bytes names
@@ -64,7 +64,7 @@ module _ (scheme : SchemeNames) (so_far next : Result Level LevelFault) (rest be
           subst (λ cs. Reads scheme (record { rank = text.rank; categories = cs }) result)
           (append_assoc text.categories (category ∷ []) others ∙ ap (λ ns. text.categories ++ ns) (sym e)) read
 
-  pub step_close : StandsFirst rest (name category) behind → StandsFirst behind (sign Close) more → [] ≡ past class.Blank more →
+  pub step_close : StandsFirst rest (name category) behind → StandsFirst behind (sign Close) more → [] ≡ past_blanks more →
       ((text : LevelText) → Reads scheme text so_far → Reads scheme (with_name text category) next) → ReadsOn scheme so_far rest next
   step_close at close done takes = record {
     reads = λ text names reads lists. go text names reads (first_of names at lists);
@@ -91,7 +91,7 @@ no_name rest none (n ∷ names) lists = none n lists.0 lists.1
 
 -- behind a category neither a comma nor the end
 pub no_more : (rest behind category : List ℕ) → StandsFirst rest (name category) behind →
-    ((more : List ℕ) → StandsFirst behind (sign Comma) more → ⊥) → ((more : List ℕ) → StandsFirst behind (sign Close) more → [] ≡ past class.Blank more → ⊥) →
+    ((more : List ℕ) → StandsFirst behind (sign Comma) more → ⊥) → ((more : List ℕ) → StandsFirst behind (sign Close) more → [] ≡ past_blanks more → ⊥) →
     (names : List (List ℕ)) → Lists rest names → ⊥
 no_more rest behind category at no_comma no_close names lists =
     go (first_of (record { ranks = []; categories = [] }) (Err Syntax) (Err Syntax) rest behind [] category names at lists)
@@ -102,7 +102,7 @@ no_more rest behind category at no_comma no_close names lists =
 
 -- what stands first takes bytes
 pub shorter : (bytes : List ℕ) (t : Tok) (rest : List ℕ) → StandsFirst bytes t rest → length rest < length bytes
-shorter bytes t rest at = omega (arith, front_shorter (past class.Blank bytes) t rest at, past_le class.Blank bytes)
+shorter bytes t rest at = omega (arith, front_shorter (past_blanks bytes) t rest at, past_le class.Blank bytes)
 
 -- ---- the whole text of a level
 
@@ -118,14 +118,14 @@ rank_first bytes behind rank text at reads =
     let same : text.rank ≡ rank = cc (q.0) in
     (same, subst (λ b. Begins b (spell_categories text.categories) []) q.1 reads.2)
 
-at_end : (behind : List ℕ) (names : List (List ℕ)) → [] ≡ past class.Blank behind → Begins behind (spell_categories names) [] → names ≡ []
+at_end : (behind : List ℕ) (names : List (List ℕ)) → [] ≡ past_blanks behind → Begins behind (spell_categories names) [] → names ≡ []
 at_end behind [] done begins = refl
 at_end behind (n ∷ names) done begins =
     let q : front [] ≡ token (sign Open) begins.0 = ap front done ∙ begins.1 in
     absurd (cc)
 
 pub reads_rank : (scheme : SchemeNames) (bytes behind rank : List ℕ) (result : Result Level LevelFault) → StandsFirst bytes (name rank) behind →
-    [] ≡ past class.Blank behind → Reads scheme (record { rank = rank; categories = [] }) result →
+    [] ≡ past_blanks behind → Reads scheme (record { rank = rank; categories = [] }) result →
     (text : LevelText) → ReadsAsLevel bytes text → Reads scheme text result
 reads_rank scheme bytes behind rank result at done read text reads =
     let first = rank_first bytes behind rank text at reads in
@@ -133,7 +133,7 @@ reads_rank scheme bytes behind rank result at done read text reads =
     subst (λ t. Reads scheme t result) (sym (same_text text rank [] first.0 none)) read
 
 pub reads_braces : (scheme : SchemeNames) (bytes behind listed rank : List ℕ) (so_far result : Result Level LevelFault) → StandsFirst bytes (name rank) behind →
-    ([] ≡ past class.Blank behind → ⊥) → StandsFirst behind (sign Open) listed → Reads scheme (record { rank = rank; categories = [] }) so_far →
+    ([] ≡ past_blanks behind → ⊥) → StandsFirst behind (sign Open) listed → Reads scheme (record { rank = rank; categories = [] }) so_far →
     ReadsOn scheme so_far listed result → (text : LevelText) → ReadsAsLevel bytes text → Reads scheme text result
 reads_braces scheme bytes behind listed rank so_far result at more brace read on text reads =
     let first = rank_first bytes behind rank text at reads in

@@ -1,24 +1,23 @@
 -- What stands at the front of a level's text.
 use Rattle.std.specs.Prelude.{◌≡◌, ◌↔◌, ℕ, Bool, true, if◌then◌else◌, List, [], ◌∷◌, ◌++◌, Option, Result, IfSome, IfNone, Err}
-use Rattle.bl_level.specs.declared.lexer.Class.TheVariants as class
 use Rattle.bl_level.specs.declared.token.Sign.{Sign}
 use Rattle.bl_level.specs.declared.level.Level.{Level}
 use Rattle.bl_level.specs.declared.scheme.LevelFault.{LevelFault}
 use Rattle.bl_level.specs.declared.scheme.LevelFault.TheVariants.{Syntax}
 use Rattle.bl_level.specs.declared.token.Sign.TheVariants.{Close}
 use Rattle.bl_level.specs.Token.{Tok, name, sign}
-use Rattle.bl_level.specs.Lexing.{Front, token, front, past, Begins}
+use Rattle.bl_level.specs.Lexing.{Front, token, front, past_blanks, Begins}
 use Rattle.bl_level.specs.Scheme.{SchemeNames}
 use Rattle.bl_level.specs.LevelText.{LevelText, spell_more}
 use Rattle.bl_level.specs.LevelFault.{Reads}
 
 -- behind any blanks the token stands, and then comes the rest
 abbrev pub StandsFirst : List ℕ → Tok → List ℕ → Type 0
-StandsFirst bytes t rest = front (past class.Blank bytes) ≡ token t rest
+StandsFirst bytes t rest = front (past_blanks bytes) ≡ token t rest
 
 -- behind any blanks the closing brace stands, and nothing but blanks behind it
 abbrev pub Closes : List ℕ → Type 0
-Closes bytes = (rest : List ℕ) × StandsFirst bytes (sign Close) rest × ([] ≡ past class.Blank rest)
+Closes bytes = (rest : List ℕ) × StandsFirst bytes (sign Close) rest × ([] ≡ past_blanks rest)
 
 -- the text with one more category
 abbrev pub with_name : LevelText → List ℕ → LevelText

@@ -16,6 +16,12 @@ is_in class.Blank b = b == 32 || b == 9
 is_in class.Word b = (nat_le 97 b && nat_le b 122) || (nat_le 48 b && nat_le b 57) || b == 95
 is_in class.Text b = nat_le 32 b && nat_le b 126 && not (b == 34) && not (b == 92)
 
+abbrev pub is_word_byte : ℕ → Bool
+is_word_byte = is_in class.Word
+
+abbrev pub is_text_byte : ℕ → Bool
+is_text_byte = is_in class.Text
+
 -- a lower-case letter, which begins a word
 abbrev pub is_letter : ℕ → Bool
 is_letter b = nat_le 97 b && nat_le b 122
@@ -27,6 +33,9 @@ run_len c bytes = prefix_len (is_in c) bytes
 -- what stands behind that run
 abbrev pub past : Class → List ℕ → List ℕ
 past c bytes = drop (run_len c bytes) bytes
+
+abbrev pub past_blanks : List ℕ → List ℕ
+past_blanks = past class.Blank
 
 -- the bytes of a reserved word
 abbrev pub word_text : Keyword → List ℕ
@@ -126,5 +135,5 @@ front (b ∷ bytes) =
 
 -- the bytes begin with these tokens, with any blanks before them and behind them, and then come the rest
 abbrev pub Begins : List ℕ → List Tok → List ℕ → Type 0
-Begins bytes [] rest = rest ≡ past class.Blank bytes
-Begins bytes (t ∷ ts) rest = (more : List ℕ) × (front (past class.Blank bytes) ≡ token t more) × Begins more ts rest
+Begins bytes [] rest = rest ≡ past_blanks bytes
+Begins bytes (t ∷ ts) rest = (more : List ℕ) × (front (past_blanks bytes) ≡ token t more) × Begins more ts rest

@@ -2,9 +2,8 @@
 use Rattle.std.specs.Prelude.{◌≢◌, ℕ, ◌≤◌, List, [], ◌∷◌, length, Bool, false, IsTrue}
 use Rattle.std.specs.List.{list_all}
 use Rattle.bl_level.specs.declared.token.Keyword.{Keyword}
-use Rattle.bl_level.specs.declared.lexer.Class.TheVariants as class
 use Rattle.bl_level.specs.Token.{Tok, reserved, name, text, sign}
-use Rattle.bl_level.specs.Lexing.{is_in, is_letter, word_text}
+use Rattle.bl_level.specs.Lexing.{is_word_byte, is_text_byte, is_letter, word_text}
 
 -- the first byte is a lower-case letter
 abbrev pub begins_with_letter : List ℕ → Bool
@@ -14,7 +13,7 @@ begins_with_letter (b ∷ bytes) = is_letter b
 -- own choice: a word begins with a lower-case letter, is of lower-case letters, digits and `_`, and has at most 32 bytes
 abbrev pub IsWord : List ℕ → Type 0
 IsWord [] = ⊥
-IsWord (b ∷ bytes) = IsTrue (is_letter b) × IsTrue (list_all (is_in class.Word) (b ∷ bytes)) × (length (b ∷ bytes) ≤ 32)
+IsWord (b ∷ bytes) = IsTrue (is_letter b) × IsTrue (list_all is_word_byte (b ∷ bytes)) × (length (b ∷ bytes) ≤ 32)
 
 -- a name is a word that is not reserved
 abbrev pub IsName : List ℕ → Type 0
@@ -24,7 +23,7 @@ IsName bytes = IsWord bytes × ((k : Keyword) → word_text k ≢ bytes)
 abbrev pub IsProper : Tok → Type 0
 IsProper (reserved k) = Unit {0}
 IsProper (name bytes) = IsName bytes
-IsProper (text bytes) = IsTrue (list_all (is_in class.Text) bytes)
+IsProper (text bytes) = IsTrue (list_all is_text_byte bytes)
 IsProper (sign s) = Unit {0}
 
 abbrev pub AreProper : List Tok → Type 0

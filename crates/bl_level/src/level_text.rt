@@ -1,6 +1,6 @@
 //! The text of a level, both ways: `secret` or `secret{nato,crypto}`.
 ghost use Rattle.std.specs.Prelude.{◌≡◌, ◌↔◌, ℕ, List, [], ◌∷◌, ◌++◌, map, if◌then◌else◌, false, IsTrue, OnOk, IfOk, IfSome, IfNone, Ok, Err, Result};
-ghost use Rattle.bl_level.specs.Lexing.{past};
+ghost use Rattle.bl_level.specs.Lexing.{past_blanks};
 ghost use Rattle.bl_level.specs.Token.{name as name_token, sign as sign_token};
 ghost use Rattle.bl_level.specs.Scheme.{Holds};
 ghost use Rattle.bl_level.specs.LevelText.{LevelText, ReadsAsLevel, canonical_level, held_names};
@@ -40,7 +40,7 @@ fn after_sign<'a>(bytes: &'a [u8], sign: Sign) -> Option<&'a [u8]>
 
 /// Whether nothing but blanks is left.
 fn is_at_end(bytes: &[u8]) -> bool
-    ensures { IsTrue result ↔ ([] ≡ past Class.Blank bytes.now) }
+    ensures { IsTrue result ↔ ([] ≡ past_blanks bytes.now) }
 {
     match next_token(bytes) {
         Front::Nothing => true,
@@ -190,4 +190,59 @@ fn write_category(text: &mut Vec<u8>, opened: bool, category: &Name) -> Result<(
 {
     text.push(if opened { b',' } else { b'{' })?;
     text.extend_from_slice(category.bytes())
+}
+
+#[cfg(test)]
+mod tests {
+    use super::*;
+    use crate::scheme::SchemeFault;
+    use std::alloc::Global;
+    use std::test::Fail;
+
+    /// The scheme of the base setup.
+    fn base(alloc: Global) -> Result<Scheme, Fail> {
+        let ranks = [
+            Name::new(b"u").ok_or("u")?,
+            Name::new(b"c").ok_or("c")?,
+            Name::new(b"s").ok_or("s")?,
+            Name::new(b"t").ok_or("t")?,
+        ];
+        let categories = [
+            Name::new(b"nato").ok_or("nato")?,
+            Name::new(b"crypto").ok_or("crypto")?,
+        ];
+        Ok(Scheme::new(alloc, &ranks, &categories)?)
+    }
+
+    #[test]
+    fn level_text(rt: HostRuntime) -> Result<(), Fail> {
+        let scheme = base(rt.alloc())?;
+        let both = Level::new(3, 0b11).ok_or("both")?;
+        assert_eq!(rt; scheme.read_level(b"t{crypto,nato}"), Ok(both));
+        assert_eq!(rt; scheme.read_level(b" t { crypto ,\tnato } "), Ok(both));
+        assert_eq!(rt;
+            scheme.read_level(b"t{nato,nato}"),
+            Err(LevelFault::RepeatedCategory)
+        );
+        assert_eq!(rt; scheme.read_level(b"x"), Err(LevelFault::UnknownRank));
+        assert_eq!(rt; scheme.read_level(b"s{}"), Err(LevelFault::Syntax));
+        assert_eq!(rt; scheme.read_level(b"x{nato,zed"), Err(LevelFault::Syntax));
+        assert!(rt; scheme.holds(&both));
+        assert!(rt; scheme.write_level(&both)?.as_slice() == b"t{nato,crypto}".as_slice());
+        assert_eq!(rt; scheme.level(b"t", &[b"nato", b"crypto"]), Ok(both));
+        Ok(())
+    }
+
+    #[test]
+    fn faults_of_a_scheme(rt: HostRuntime) -> Result<(), Fail> {
+        let name = Name::new(b"u").ok_or("u")?;
+        let once = [name.copy()];
+        let twice = [name.copy(), name.copy()];
+        assert!(rt; Scheme::new(rt.alloc(), &[], &once).err() == Some(SchemeFault::Empty));
+        assert!(rt;
+            Scheme::new(rt.alloc(), &twice, &twice).err() == Some(SchemeFault::Repeated(name))
+        );
+        assert!(rt; Scheme::new(rt.alloc(), &once, &once)?.categories().len() == 1);
+        Ok(())
+    }
 }

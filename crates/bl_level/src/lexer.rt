@@ -1,9 +1,10 @@
 // From bytes to tokens. A token is the longest that its first byte can begin, and blanks stand between tokens.
 
-ghost use Rattle.std.specs.Prelude.{◌≡◌, ◌≢◌, ◌≤◌, ◌<◌, ◌∷◌, [], length, drop, take, Some, IfSome, IfNone, IfOk};
+ghost use Rattle.std.specs.Prelude.{◌≡◌, ◌≢◌, ℕ, ◌≤◌, ◌<◌, List, ◌∷◌, [], length, drop, take, Some, None, IfSome, IfNone, IfOk};
 ghost use Rattle.bl_level.specs.declared.token.Keyword.{Keyword};
 ghost use Rattle.bl_level.specs.Token.{tok, toks};
 ghost use Rattle.bl_level.specs.Lexing as spec;
+ghost use Rattle.bl_level.specs.Lexing.{Begins};
 ghost use Rattle.bl_level.specs.Name.{AreProper};
 ghost use Rattle.bl_level.specs.FrontView.{front_view, IsSound};
 ghost use Rattle.bl_level.specs.Cutting.{Cut};
@@ -44,44 +45,48 @@ fn run_len(class: Class, bytes: &[u8]) -> usize
     end
 }
 
-const WORDS: [Keyword; 36] = [
-    Keyword::Hello,
-    Keyword::Wait,
-    Keyword::Give,
-    Keyword::Rescind,
-    Keyword::Current,
-    Keyword::Classify,
-    Keyword::When,
-    Keyword::Read,
-    Keyword::Append,
-    Keyword::Write,
-    Keyword::Do,
-    Keyword::End,
-    Keyword::Show,
-    Keyword::Say,
-    Keyword::Add,
-    Keyword::Set,
-    Keyword::Copy,
-    Keyword::Pour,
-    Keyword::To,
-    Keyword::If,
-    Keyword::Is,
-    Keyword::Has,
-    Keyword::Then,
-    Keyword::Else,
-    Keyword::Spawn,
-    Keyword::Ranks,
-    Keyword::Categories,
-    Keyword::Subject,
-    Keyword::Greatest,
-    Keyword::Document,
-    Keyword::Allow,
-    Keyword::Trusted,
-    Keyword::Admin,
-    Keyword::Create,
-    Keyword::Delete,
-    Keyword::Reserve,
-];
+/// The reserved words that begin with this byte.
+fn words_from(first: u8) -> &'static [Keyword]
+    ensures { (rest : List ℕ) → spec.keyword_among result.now (first ∷ rest) ≡ spec.keyword_among spec.words (first ∷ rest) }
+{
+    match first {
+        b'a' => &[
+            Keyword::Append,
+            Keyword::Add,
+            Keyword::Allow,
+            Keyword::Admin,
+        ],
+        b'c' => &[
+            Keyword::Current,
+            Keyword::Classify,
+            Keyword::Copy,
+            Keyword::Categories,
+            Keyword::Create,
+        ],
+        b'd' => &[Keyword::Do, Keyword::Document, Keyword::Delete],
+        b'e' => &[Keyword::End, Keyword::Else],
+        b'g' => &[Keyword::Give, Keyword::Greatest],
+        b'h' => &[Keyword::Hello, Keyword::Has],
+        b'i' => &[Keyword::If, Keyword::Is],
+        b'p' => &[Keyword::Pour],
+        b'r' => &[
+            Keyword::Rescind,
+            Keyword::Read,
+            Keyword::Ranks,
+            Keyword::Reserve,
+        ],
+        b's' => &[
+            Keyword::Show,
+            Keyword::Say,
+            Keyword::Set,
+            Keyword::Spawn,
+            Keyword::Subject,
+        ],
+        b't' => &[Keyword::To, Keyword::Then, Keyword::Trusted],
+        b'w' => &[Keyword::Wait, Keyword::When, Keyword::Write],
+        _ => &[],
+    }
+}
 
 /// Which of these reserved words the bytes are.
 fn among(mut words: &[Keyword], word: &[u8]) -> Option<Keyword>
@@ -99,7 +104,10 @@ fn among(mut words: &[Keyword], word: &[u8]) -> Option<Keyword>
 fn reserved(word: &[u8]) -> Option<Keyword>
     ensures { result ≡ spec.keyword_among spec.words word.now }
 {
-    among(&WORDS, word)
+    match word {
+        [first, ..] => among(words_from(*first), word),
+        [] => None,
+    }
 }
 
 /// The reserved word that the bytes are, or None where they are none.
@@ -185,7 +193,7 @@ fn front_of<'a>(bytes: &'a [u8]) -> Front<'a>
 }
 
 fn past_blanks<'a>(bytes: &'a [u8]) -> &'a [u8]
-    ensures value { result.now ≡ spec.past Class.Blank bytes.now }
+    ensures value { result.now ≡ spec.past_blanks bytes.now }
     ensures within { length result.now ≤ length bytes.now }
 {
     &bytes[run_len(Class::Blank, bytes)..]
@@ -193,7 +201,7 @@ fn past_blanks<'a>(bytes: &'a [u8]) -> &'a [u8]
 
 /// The token at the front, behind any blanks. It takes no memory.
 pub fn next_token<'a>(bytes: &'a [u8]) -> Front<'a>
-    ensures front { front_view result ≡ spec.front (spec.past Class.Blank bytes.now) }
+    ensures front { front_view result ≡ spec.front (spec.past_blanks bytes.now) }
     // A token that was read is proper, and takes at least a byte.
     ensures sound { IsSound (length bytes.now) result }
 {
@@ -213,6 +221,8 @@ pub struct Lexed<'a> {
 pub fn lex<'a>(alloc: Global, bytes: &'a [u8]) -> Result<Lexed<'a>, AllocError>
     ensures cut { IfOk result (λ x. Cut (length bytes.now) bytes.now (toks x.tokens.items) x.places.items x.broken) }
     ensures proper { IfOk result (λ x. AreProper (toks x.tokens.items)) }
+    // Without a fault the whole text reads as these tokens.
+    ensures whole { IfOk result (λ x. x.broken ≡ None → Begins bytes.now (toks x.tokens.items) []) }
 {
     let mut tokens = Vec::new(alloc);
     let mut places = Vec::new(alloc);
@@ -238,5 +248,72 @@ pub fn lex<'a>(alloc: Global, bytes: &'a [u8]) -> Result<Lexed<'a>, AllocError>
                 rest = more;
             }
         }
+    }
+}
+
+#[cfg(test)]
+mod tests {
+    use super::*;
+    use std::test::Fail;
+
+    #[test]
+    fn cuts_a_line_into_its_tokens(rt: HostRuntime) -> Result<(), Fail> {
+        let lexed = lex(rt.alloc(), b" when\tread a_1,b do{say\"a }b\";}end ")?;
+        let tokens = [
+            (Token::Reserved(Keyword::When), 1),
+            (Token::Reserved(Keyword::Read), 6),
+            (Token::Name(b"a_1"), 11),
+            (Token::Sign(Sign::Comma), 14),
+            (Token::Name(b"b"), 15),
+            (Token::Reserved(Keyword::Do), 17),
+            (Token::Sign(Sign::Open), 19),
+            (Token::Reserved(Keyword::Say), 20),
+            (Token::Text(b"a }b"), 23),
+            (Token::Sign(Sign::Semicolon), 29),
+            (Token::Sign(Sign::Close), 30),
+            (Token::Reserved(Keyword::End), 31),
+        ];
+        assert_eq!(rt; lexed.tokens.len(), tokens.len());
+        for (i, (token, place)) in tokens.iter().enumerate() {
+            assert!(rt; lexed.tokens.get(i) == Some(token), "token {i}");
+            assert!(rt; lexed.places.get(i) == Some(place), "place {i}");
+        }
+        assert_eq!(rt; lexed.broken, None);
+        Ok(())
+    }
+
+    #[test]
+    fn places_each_lexical_fault(rt: HostRuntime) -> Result<(), Fail> {
+        let faults: [(&[u8], usize, usize); 6] = [
+            // A byte that begins no token, a byte that no text holds, and a text that is not closed.
+            (b"wait A", 1, 5),
+            (b"say \"a\\b\"", 1, 6),
+            (b"say \"ab", 1, 7),
+            (b"3", 0, 0),
+            // A word of 32 bytes, and one of 33.
+            (b"a2345678901234567890123456789012!", 1, 32),
+            (b" a23456789012345678901234567890123", 0, 1),
+        ];
+        for (line, tokens, place) in faults {
+            let lexed = lex(rt.alloc(), line)?;
+            assert_eq!(rt; lexed.tokens.len(), tokens, "at {place}");
+            assert_eq!(rt; lexed.broken, Some(place));
+        }
+        Ok(())
+    }
+
+    #[test]
+    fn knows_its_words(rt: HostRuntime) {
+        let longest = keyword_of(b"categories");
+        assert_eq!(rt; longest, Some(Keyword::Categories));
+        assert_eq!(rt; keyword_of(b"category"), None);
+        assert_eq!(rt; keyword_of(b""), None);
+        assert!(rt;
+            matches!(
+                next_token(b"\t reserve"),
+                Front::Token(Token::Reserved(Keyword::Reserve), b"")
+            )
+        );
+        assert!(rt; matches!(next_token(b" \t"), Front::Nothing));
     }
 }

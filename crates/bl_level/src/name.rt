@@ -1,7 +1,7 @@
 //! A name: a word of 1 to 32 bytes that is not reserved.
 ghost use Rattle.std.specs.Prelude.{◌≡◌, ℕ, ◌↔◌, IsTrue, IsSome, IfSome, List, length, ◌≤◌};
 ghost use Rattle.std.specs.List.{list_all};
-ghost use Rattle.bl_level.specs.Lexing.{is_in as is_in_word};
+ghost use Rattle.bl_level.specs.Lexing.{is_word_byte};
 ghost use Rattle.bl_level.specs.Name.{IsName, IsWord, begins_with_letter};
 
 use crate::lexer::{Class, is_in, keyword_of};
@@ -69,7 +69,7 @@ fn begins_with_letter(bytes: &[u8]) -> bool
 
 /// Whether each byte may stand in a word.
 fn are_word_bytes(bytes: &[u8]) -> bool
-    ensures { result ≡ list_all (is_in_word Class.Word) bytes.now }
+    ensures { result ≡ list_all is_word_byte bytes.now }
 {
     bytes.iter().all(|byte| is_in(Class::Word, *byte))
 }

@@ -32,16 +32,6 @@ pub enum TableFault {
 }
 
 impl NameTable {
-    /// A table without names, which takes no memory yet.
-    pub fn new(alloc: Global) -> NameTable
-        ensures empty { result ≡ [] }
-        ensures table { IsTable result }
-    {
-        NameTable {
-            names: IndexSet::new(alloc),
-        }
-    }
-
     /// A table without names, in which this many find room with no further growth.
     pub fn with_room(alloc: Global, room: usize) -> Result<NameTable, AllocError>
         ensures empty { IfOk result (λ table. table ≡ []) }
@@ -53,7 +43,7 @@ impl NameTable {
     }
 
     /// The allocator that the table keeps.
-    pub fn allocator(&self) -> Global {
+    pub(crate) fn allocator(&self) -> Global {
         *self.names.allocator()
     }
 
@@ -128,11 +118,41 @@ pub fn table_of(alloc: Global, names: &[Name]) -> Result<NameTable, TableFault>
     ensures ok { IfOk result (λ table. (table ≡ names.now) × IsTable names.now) }
     ensures err { IfErr result (IsTableFault names.now) }
 {
-    let mut table = NameTable::new(alloc);
+    let mut table = match NameTable::with_room(alloc, names.len()) {
+        Ok(table) => table,
+        Err(_) => return Err(TableFault::Memory),
+    };
     for name in names {
         if let Err(fault) = table.add(name.copy()) {
             return Err(fault);
         }
     }
     Ok(table)
+}
+
+#[cfg(test)]
+mod tests {
+    use super::*;
+    use std::test::Fail;
+
+    #[test]
+    fn names_are_added_once(rt: HostRuntime) -> Result<(), Fail> {
+        let memo = Name::new(b"memo").ok_or("memo")?;
+        let mut table = NameTable::with_room(rt.alloc(), 1)?;
+        assert!(rt; table.is_empty());
+        assert!(rt; table.add(memo.copy()).is_ok());
+        assert_eq!(rt;
+            table.add(memo.copy()),
+            Err(TableFault::Repeated(memo.copy()))
+        );
+        assert!(rt; table.add(Name::new(b"note").ok_or("note")?).is_ok());
+        assert_eq!(rt; table.len(), 2);
+        assert_eq!(rt; table.position(&memo), Some(0));
+        assert_eq!(rt; table.position_of(b"note"), Some(1));
+        assert_eq!(rt; table.position_of(b"Note"), None);
+        assert!(rt; table.get(1).ok_or("get")?.bytes() == b"note".as_slice());
+        let names = [memo.copy(), memo.copy()];
+        assert!(rt; table_of(rt.alloc(), &names).err() == Some(TableFault::Repeated(memo)));
+        Ok(())
+    }
 }

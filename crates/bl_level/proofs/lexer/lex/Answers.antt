@@ -2,13 +2,13 @@ use Rattle.std.proofs.Common.{◌≡◌, ℕ, ◌≤◌, ◌+◌, ◌-◌, lengt
 use Rattle.bl_level.specs.Lexing.{front, nothing, broken}
 use Rattle.bl_level.specs.Token.{tok}
 use Rattle.bl_level.proofs.Fronts.{front_shorter, broken_within}
-use Rattle.bl_level.proofs.Lexes.{joins_end, joins_more, toks_push, cut_proper}
+use Rattle.bl_level.proofs.Lexes.{joins_end, joins_more, toks_push, cut_proper, cut_whole}
 use Rattle.bl_level.proofs.lexer.lex.Goals as goal
 
 pub returns-in-Nothing : goal.returns-in-Nothing
 returns-in-Nothing c =
     let cut = joins_end (length c.args.bytes.now) _ c.loop-tokens.rest.now _ _ None nothing c.loop-tokens.invariant.joins (c.in-Nothing.ensures ∙ ap front c.past_blanks-rest.ensures.value) refl in
-    record { cut = cut; proper = cut_proper _ _ _ _ _ cut }
+    record { cut = cut; proper = cut_proper _ _ _ _ _ cut; whole = cut_whole _ _ _ _ _ cut }
 
 pub returns-in-Broken : goal.returns-in-Broken
 returns-in-Broken c =
@@ -20,7 +20,7 @@ returns-in-Broken c =
     joins_end total _ c.loop-tokens.rest.now _ _ (Some (total - length from)) (broken from) c.loop-tokens.invariant.joins (c.in-Broken.ensures ∙ ap front c.past_blanks-rest.ensures.value)
     (_, refl, fits)
     in
-    record { cut = cut; proper = cut_proper _ _ _ _ _ cut }
+    record { cut = cut; proper = cut_proper _ _ _ _ _ cut; whole = cut_whole _ _ _ _ _ cut }
 
 pub loop-tokens-smaller : goal.loop-tokens-smaller
 loop-tokens-smaller c = omega (arith, front_shorter c.past_blanks-rest.result.now (tok c.in-Token.token) c.in-Token.more.now (sym c.in-Token.ensures))
