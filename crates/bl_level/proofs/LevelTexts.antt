@@ -1,17 +1,14 @@
 -- What one more category makes of what was read of a level.
-use Rattle.std.proofs.Common.{◌≡◌, ◌≢◌, ◌↔◌, ◌⊎◌, ℕ, List, [], ◌∷◌, ◌++◌, Contains, Option, Some, None, Result, Ok, Err, refl, sym, ap, subst, ◌∙◌, append_assoc, inl, inr, slice_get, take, length, get_or, map, Bor, ◌<◌, ◌+◌}
-use Rattle.std.specs.Prelude.{All}
-use Rattle.std.specs.List.{position}
+use Rattle.std.proofs.Common.{◌≡◌, ◌≢◌, ◌↔◌, ◌⊎◌, ℕ, List, [], ◌∷◌, ◌++◌, Contains, Some, refl, sym, ap, subst, ◌∙◌, append_assoc, inl, inr, take, length, get_or, map, Bor, ◌<◌, ◌+◌}
 use Rattle.std.proofs.lemmas.List.{take_more, map-append}
 use Rattle.std.proofs.lemmas.List.Elements.{All-push, Contains-push, Contains-push_cases, Contains-append_left, Contains-get_or}
 use Rattle.std.proofs.lemmas.List.Quantifiers.{all_pairs_push, position-Some}
 use Rattle.bl_level.specs.Level.{SecurityLevel, HasCategory}
-use Rattle.bl_level.specs.Table.{AreDistinct, place_of}
+use Rattle.bl_level.specs.Table.{place_of}
 use Rattle.bl_level.specs.Scheme.{SchemeNames}
 use Rattle.bl_level.specs.LevelText.{LevelText, Means, StandsBehind, IsNamed}
-use Rattle.bl_level.specs.LevelFault.{IsLevelFault, Reads}
+use Rattle.bl_level.specs.LevelFault.{IsLevelFault}
 use Rattle.bl_level.specs.LevelFronts.{with_name}
-use Rattle.bl_level.specs.declared.level.Level.{Level}
 use Rattle.bl_level.specs.declared.scheme.LevelFault.{LevelFault}
 use Rattle.bl_level.specs.declared.scheme.LevelFault.TheVariants.{Syntax, UnknownRank, UnknownCategory, RepeatedCategory}
 use Rattle.bl_level.proofs.Tables.{same, same-Decides}

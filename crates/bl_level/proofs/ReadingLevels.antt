@@ -1,13 +1,12 @@
 -- Reading the categories of a level from the left.
-use Rattle.std.proofs.Common.{◌≡◌, ℕ, List, [], ◌∷◌, ◌++◌, Result, Ok, Err, refl, sym, ap, subst, ◌∙◌, append_assoc, arith, length, ◌<◌}
+use Rattle.std.proofs.Common.{◌≡◌, ℕ, List, [], ◌∷◌, ◌++◌, Result, Err, refl, sym, ap, subst, ◌∙◌, append_assoc, arith, length, ◌<◌}
 use Rattle.bl_level.specs.declared.lexer.Class.TheVariants as class
-use Rattle.bl_level.specs.declared.token.Sign.{Sign}
-use Rattle.bl_level.specs.declared.token.Sign.TheVariants.{Comma, Semicolon, Open, Close}
+use Rattle.bl_level.specs.declared.token.Sign.TheVariants.{Comma, Open, Close}
 use Rattle.bl_level.specs.declared.level.Level.{Level}
 use Rattle.bl_level.specs.declared.scheme.LevelFault.{LevelFault}
 use Rattle.bl_level.specs.declared.scheme.LevelFault.TheVariants.{Syntax}
 use Rattle.bl_level.specs.Token.{Tok, name, sign}
-use Rattle.bl_level.specs.Lexing.{Front, nothing, token, front, past_blanks, Begins}
+use Rattle.bl_level.specs.Lexing.{token, front, past_blanks, Begins}
 use Rattle.bl_level.specs.Scheme.{SchemeNames}
 use Rattle.bl_level.specs.LevelText.{LevelText, spell_more, spell_categories, ReadsAsLevel}
 use Rattle.bl_level.specs.LevelFault.{Reads}

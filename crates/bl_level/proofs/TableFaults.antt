@@ -1,5 +1,5 @@
 -- The first name that stood before.
-use Rattle.std.proofs.Common.{◌≡◌, ◌↔◌, ℕ, ◌<◌, List, Contains, refl, sym, ap, subst, ◌∙◌, take, slice_get, Some, Err, Result, length, get_or}
+use Rattle.std.proofs.Common.{◌≡◌, ◌↔◌, ℕ, List, Contains, refl, sym, ap, subst, take, slice_get, Some, Err}
 use Rattle.std.specs.Prelude.{IsErrOf}
 use Rattle.bl_level.specs.Table.{IsTable, IsFirstRepeated}
 use Rattle.bl_level.specs.TableFault.{IsTableFault}

@@ -1,5 +1,5 @@
 -- Tables of names, compared byte by byte.
-use Rattle.std.proofs.Common.{◌≡◌, ℕ, ◌<◌, List, [], ◌∷◌, Bool, true, false, nat_eq, Contains, refl, sym, ap, subst, ◌∙◌, length, slice_get, Option, Some, None, get_or, ◌++◌, ◌≢◌, true≢false}
+use Rattle.std.proofs.Common.{◌≡◌, ℕ, List, [], ◌∷◌, Bool, true, false, nat_eq, Contains, refl, sym, ap, subst, ◌∙◌, slice_get, Option, Some, None, get_or, ◌++◌, ◌≢◌, true≢false}
 use Rattle.std.specs.List.{list_any, position}
 use Rattle.std.specs.Cmp.Lexicographic.{pointwise}
 use Rattle.std.specs.Bool.{Decides}
@@ -11,7 +11,7 @@ use Rattle.std.proofs.lemmas.List.Quantifiers.{position-Some, all_pairs_push}
 use Rattle.std.proofs.lemmas.Option.{slice_get-get_or}
 use Rattle.std.proofs.lemmas.List.Elements.{All-push, Contains-get_or}
 use Rattle.bl_level.specs.Name.{IsName}
-use Rattle.bl_level.specs.Table.{IsTable, AreDistinct}
+use Rattle.bl_level.specs.Table.{IsTable}
 
 abbrev pub same : List ℕ → List ℕ → Bool
 same = pointwise nat_eq

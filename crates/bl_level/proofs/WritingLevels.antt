@@ -1,26 +1,26 @@
 -- The canonical text of a level, and that it reads as the level.
-use Rattle.std.proofs.Common.{◌≡◌, ◌≢◌, ◌↔◌, ◌⊎◌, ◌<◌, ◌≤◌, ◌+◌, ℕ, zero, suc, Bool, true, false, eqb, ltb, not, cond, List, [], ◌∷◌, ◌++◌, Contains, Option, Some, None, Result, Ok, Err, refl, sym, ap, subst, ◌∙◌, inl, inr, length, get_or, arith, drop, append_assoc, add-one, drop-cons}
-use Rattle.std.specs.Prelude.{All, AllPairs}
+use Rattle.std.proofs.Common.{◌≡◌, ◌≢◌, ◌⊎◌, ◌<◌, ◌+◌, ℕ, zero, suc, Bool, true, false, eqb, ltb, not, cond, List, [], ◌∷◌, ◌++◌, Contains, Option, Some, None, Result, Ok, Err, refl, sym, ap, subst, ◌∙◌, inl, inr, length, get_or, arith, drop, append_assoc, add-one, drop-cons}
+use Rattle.std.specs.Prelude.{All}
 use Rattle.std.specs.List.{position, position_or_len, AllByRecursion}
 use Rattle.std.specs.Int.{bit_at}
 use Rattle.std.proofs.lemmas.Bool.{cases_order, eqb-true, eq-eqb, ne_eqb, ltb-false, false≢true}
-use Rattle.std.proofs.lemmas.List.{length-append, get_or-append_right}
-use Rattle.std.proofs.lemmas.List.Elements.{Contains-append_left, Contains-append_right, Contains-append_cases, Contains-get_or}
+use Rattle.std.proofs.lemmas.List.{length-append}
+use Rattle.std.proofs.lemmas.List.Elements.{Contains-append_right, Contains-append_cases, Contains-get_or}
 use Rattle.std.proofs.lemmas.List.Quantifiers.{position-Some}
 use Rattle.std.proofs.lemmas.List.Sums.{prefix_len_passes}
 use Rattle.bl_level.specs.Canonical.{canonical, gap}
-use Rattle.bl_level.specs.Token.{Tok, name, sign}
+use Rattle.bl_level.specs.Token.{name}
 use Rattle.bl_level.specs.Name.{IsName, AreProper}
 use Rattle.bl_level.specs.Level.{SecurityLevel, HasCategory}
-use Rattle.bl_level.specs.Table.{AreDistinct, IsTable, place_of}
+use Rattle.bl_level.specs.Table.{AreDistinct, place_of}
 use Rattle.bl_level.specs.Scheme.{SchemeNames, IsScheme, Holds}
-use Rattle.bl_level.specs.LevelText.{LevelText, Means, StandsBehind, IsNamed, ReadsAsLevel, spell_level, spell_more, spell_categories, held_names, text_of, canonical_level}
+use Rattle.bl_level.specs.LevelText.{LevelText, Means, IsNamed, ReadsAsLevel, spell_level, spell_more, spell_categories, held_names, text_of, canonical_level}
 use Rattle.bl_level.specs.LevelFault.{IsLevelFault, Reads, IsReadBack}
 use Rattle.bl_level.specs.LevelFronts.{tail_of}
 use Rattle.bl_level.specs.declared.level.Level.{Level}
 use Rattle.bl_level.specs.declared.scheme.LevelFault.{LevelFault}
 use Rattle.bl_level.specs.declared.scheme.LevelFault.TheVariants.{Syntax, UnknownRank, UnknownCategory, RepeatedCategory}
-use Rattle.bl_level.proofs.Tables.{same, same-Decides, no_place}
+use Rattle.bl_level.proofs.Tables.{same, same-Decides}
 use Rattle.bl_level.proofs.LevelTexts.{placed}
 use Rattle.bl_level.proofs.Masks.{same_members}
 use Rattle.bl_level.proofs.Again.{canonical_begins}

@@ -1,12 +1,11 @@
 -- What stands at the front of a level's text.
-use Rattle.std.specs.Prelude.{◌≡◌, ◌↔◌, ℕ, Bool, true, if◌then◌else◌, List, [], ◌∷◌, ◌++◌, Option, Result, IfSome, IfNone, Err}
-use Rattle.bl_level.specs.declared.token.Sign.{Sign}
+use Rattle.std.specs.Prelude.{◌≡◌, ℕ, Bool, true, if◌then◌else◌, List, [], ◌∷◌, ◌++◌, Result, Err}
 use Rattle.bl_level.specs.declared.level.Level.{Level}
 use Rattle.bl_level.specs.declared.scheme.LevelFault.{LevelFault}
 use Rattle.bl_level.specs.declared.scheme.LevelFault.TheVariants.{Syntax}
 use Rattle.bl_level.specs.declared.token.Sign.TheVariants.{Close}
 use Rattle.bl_level.specs.Token.{Tok, name, sign}
-use Rattle.bl_level.specs.Lexing.{Front, token, front, past_blanks, Begins}
+use Rattle.bl_level.specs.Lexing.{token, front, past_blanks, Begins}
 use Rattle.bl_level.specs.Scheme.{SchemeNames}
 use Rattle.bl_level.specs.LevelText.{LevelText, spell_more}
 use Rattle.bl_level.specs.LevelFault.{Reads}

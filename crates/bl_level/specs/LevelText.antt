@@ -1,5 +1,5 @@
 -- The text of a level, and which level it means in a scheme.
-use Rattle.std.specs.Prelude.{◌≡◌, ◌↔◌, ◌==◌, ℕ, suc, if◌then◌else◌, slice_index_or, List, [], ◌∷◌, ◌++◌, All, Contains, Some, slice_get, take, Result, MatchResult}
+use Rattle.std.specs.Prelude.{◌≡◌, ◌↔◌, ◌==◌, ℕ, suc, if◌then◌else◌, slice_index_or, List, [], ◌∷◌, ◌++◌, All, Contains, Some}
 use Rattle.bl_level.specs.declared.token.Sign.TheVariants.{Comma, Open, Close}
 use Rattle.bl_level.specs.Token.{Tok, name, sign}
 use Rattle.bl_level.specs.Lexing.{Begins}

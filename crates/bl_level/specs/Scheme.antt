@@ -1,5 +1,5 @@
 -- A scheme: the names of the ranks, lowest first, and of the categories.
-use Rattle.std.specs.Prelude.{◌≡◌, ℕ, ◌<◌, ◌≤◌, List, length}
+use Rattle.std.specs.Prelude.{ℕ, ◌<◌, ◌≤◌, List, length}
 use Rattle.bl_level.specs.Level.{SecurityLevel, HasCategory}
 use Rattle.bl_level.specs.Table.{IsTable}
 

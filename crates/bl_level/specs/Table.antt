@@ -1,5 +1,5 @@
 -- Names in an order, as a table keeps them.
-use Rattle.std.specs.Prelude.{◌≡◌, ◌≢◌, ℕ, ◌<◌, List, length, All, AllPairs, Contains, Option, position, take, slice_get, Some}
+use Rattle.std.specs.Prelude.{◌≡◌, ◌≢◌, ℕ, List, All, AllPairs, Contains, Option, position, take, slice_get, Some}
 use Rattle.std.specs.Str.{bytes_eq}
 use Rattle.bl_level.specs.Name.{IsName}
 

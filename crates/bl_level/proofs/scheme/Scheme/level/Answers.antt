@@ -1,4 +1,4 @@
-use Rattle.std.proofs.Common.{◌≡◌, ℕ, List, take, map, sym, subst, ap, Bor}
+use Rattle.std.proofs.Common.{◌≡◌, ℕ, List, take, map, sym, subst, Bor}
 use Rattle.std.proofs.Common.{arith}
 use Rattle.std.proofs.lemmas.Grind.{common_steps}
 use Rattle.bl_level.specs.LevelFault.{Reads}

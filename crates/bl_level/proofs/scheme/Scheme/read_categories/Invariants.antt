@@ -1,4 +1,4 @@
-use Rattle.std.proofs.Common.{ℕ, List, length, Result}
+use Rattle.std.proofs.Common.{length, Result}
 use Rattle.bl_level.specs.declared.level.Level.{Level}
 use Rattle.bl_level.specs.declared.scheme.LevelFault.{LevelFault}
 use Rattle.bl_level.specs.LevelFronts.{ReadsOn}

@@ -1,5 +1,5 @@
-use Rattle.std.proofs.Common.{◌≡◌, ℕ, List, [], sym, true, true≢false, ◌∙◌}
-use Rattle.bl_level.proofs.ReadingLevels.{reads_rank, reads_braces, braces_syntax}
+use Rattle.std.proofs.Common.{[], sym, true≢false, ◌∙◌}
+use Rattle.bl_level.proofs.ReadingLevels.{reads_braces, braces_syntax}
 use Rattle.bl_level.proofs.scheme.Scheme.read_level.Goals as goal
 
 pub returns-then-is_at_end-clause-syntax : goal.returns-then-is_at_end-clause-syntax

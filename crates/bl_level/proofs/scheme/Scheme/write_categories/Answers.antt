@@ -1,4 +1,4 @@
-use Rattle.std.proofs.Common.{◌≡◌, ◌+◌, ◌<◌, ◌++◌, ◌∷◌, [], ℕ, List, Bool, true, false, cond, drop, length, get_or, sym, ap, ◌∙◌, subst, Some, slice_get, true≢false, IfSome}
+use Rattle.std.proofs.Common.{◌≡◌, ◌+◌, ◌<◌, ◌++◌, ◌∷◌, [], ℕ, List, false, cond, drop, length, get_or, sym, ap, ◌∙◌, subst, Some, slice_get, true≢false, IfSome}
 use Rattle.std.proofs.lemmas.Option.{get_or_from_slice_get}
 use Rattle.bl_level.specs.Level.{HasCategory}
 use Rattle.bl_level.specs.LevelText.{held_names}

@@ -1,6 +1,6 @@
 use Rattle.std.proofs.Common.{◌≡◌, ◌++◌, ℕ, List, [], get_or, sym, ap, ◌∙◌, subst, false, IfSome, Some, slice_get}
 use Rattle.std.proofs.lemmas.Option.{get_or_from_slice_get}
-use Rattle.bl_level.specs.LevelText.{held_names, canonical_level}
+use Rattle.bl_level.specs.LevelText.{held_names}
 use Rattle.bl_level.specs.LevelFronts.{tail_of}
 use Rattle.bl_level.proofs.WritingLevels.{level_bytes, level_reads_back}
 use Rattle.bl_level.proofs.scheme.Scheme.write_level.Goals as goal

@@ -1,4 +1,4 @@
-use Rattle.std.proofs.Common.{rules, ◌≡◌, is_some, true, false, sym, ap, ◌∙◌, Contains, true≢false, false, cond, subst, List, ℕ, ◌++◌, ◌∷◌, []}
+use Rattle.std.proofs.Common.{rules, ◌≡◌, true, false, sym, ap, ◌∙◌, true≢false, false, cond, subst, ◌++◌, ◌∷◌, []}
 use Rattle.std.specs.List.{list_any}
 use Rattle.bl_level.proofs.Tables.{found, same, IsTable-push, absent}
 use Rattle.bl_level.proofs.table.NameTable.add.Goals.{in-Ok, in-Err}

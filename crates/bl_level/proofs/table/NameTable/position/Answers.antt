@@ -1,4 +1,4 @@
-use Rattle.std.proofs.Common.{rules, ◌≡◌, is_some, true, sym, ap, ◌∙◌}
+use Rattle.std.proofs.Common.{rules, ◌≡◌, is_some, sym, ◌∙◌}
 use Rattle.std.specs.List.{list_any, position}
 use Rattle.bl_level.proofs.Tables.{found, place, same}
 use Rattle.bl_level.proofs.table.NameTable.position.Goals as goal

@@ -1,6 +1,6 @@
-use Rattle.std.proofs.Common.{◌≡◌, sym, subst, Contains, Option, Some, None, refl}
+use Rattle.std.proofs.Common.{sym, subst, Contains}
 use Rattle.std.proofs.lemmas.Bool.{false≢true}
-use Rattle.bl_level.specs.Table.{place_of, IsTable}
+use Rattle.bl_level.specs.Table.{IsTable}
 use Rattle.bl_level.proofs.Tables.{no_place, in_table}
 use Rattle.bl_level.proofs.table.NameTable.position_of.Goals as goal
 

@@ -1,0 +1,145 @@
+-- The tests against the properties. What the test of dominance means is taken as a fact.
+use Rattle.std.proofs.Common.{◌≡◌, ℕ, ◌<◌, zero, suc, Bool, true, false, ◌&&◌, ◌||◌, ◌==◌, refl, sym, ◌∙◌, ap, subst, arith, List, [], ◌∷◌, Option, Some, None, inl, inr, ◌⊎◌, true≢false, All}
+use Rattle.std.specs.Prelude.{IsTrue, ◌↔◌, slice_get, unwrap_or, if◌then◌else◌}
+use Rattle.std.proofs.lemmas.Bool.Decides.{nat_tests}
+use Rattle.std.proofs.lemmas.List.Elements.{All-cons}
+use Rattle.bl_level.specs.Level.{SecurityLevel, dominates, Dominates}
+use Rattle.bl_policy.specs.declared.access.Mode.{Mode}
+use Rattle.bl_policy.specs.declared.access.Mode.TheVariants.{Read, Append, Write}
+use Rattle.bl_policy.specs.declared.access.Access.{Access}
+use Rattle.bl_policy.specs.declared.denial.Clause.{Clause}
+use Rattle.bl_policy.specs.declared.denial.Clause.TheVariants as failing
+use Rattle.bl_policy.specs.declared.denial.Denial.{Denial}
+use Rattle.bl_policy.specs.Policy.{SecurityPolicy, greatest_of, current_of, level_of, is_trusted}
+use Rattle.bl_policy.specs.Properties.{Observes, Flows, observes, flows, Simple, Star, IsSecure, is_simple, is_star, is_discretionary}
+use Rattle.bl_policy.specs.FirstFault.{denied, fault_of, fault_or, first_fault, FailsFirst, IsFirstFault}
+
+abbrev pub Means : Type 0
+Means = (a b : SecurityLevel) → IsTrue (dominates a b) ↔ Dominates a b
+
+both : (a b c d : ℕ) → ((a == b) && (c == d)) ≡ true → (a ≡ b) × (c ≡ d)
+both a b c d h = grind (arith, nat_tests)
+
+both_back : (a b c d : ℕ) → a ≡ b → c ≡ d → ((a == b) && (c == d)) ≡ true
+both_back a b c d e f = grind (arith, nat_tests)
+
+pub same_level : (a b : SecurityLevel) → IsTrue ((a.rank == b.rank) && (a.categories == b.categories)) ↔ (a ≡ b)
+same_level a b = (
+  (λ h. let e : (a.rank ≡ b.rank) × (a.categories ≡ b.categories) = both a.rank b.rank a.categories b.categories h in λ i. record { rank = e.0 i; categories = e.1 i }),
+  (λ e. both_back a.rank b.rank a.categories b.categories (ap (λ l. l.rank) e) (ap (λ l. l.categories) e)),
+)
+
+module _ (means : Means) where
+  observes-means : (greatest level : SecurityLevel) (m : Mode) → IsTrue (observes greatest level m) ↔ Observes greatest level m
+  observes-means greatest level Read = means greatest level
+  observes-means greatest level Append = ((λ h. tt), (λ h. refl))
+  observes-means greatest level Write = means greatest level
+
+  flows-means : (current level : SecurityLevel) (m : Mode) → IsTrue (flows current level m) ↔ Flows current level m
+  flows-means current level Read = means current level
+  flows-means current level Append = means level current
+  flows-means current level Write = same_level current level
+
+  pub simple-means : (p : SecurityPolicy) (s o : ℕ) (m : Mode) → IsTrue (is_simple p s o m) ↔ Simple p s o m
+  simple-means p s o m = observes-means (greatest_of p s) (level_of p o) m
+
+  either : (b f : Bool) (F : Type 0) → IsTrue f ↔ F → IsTrue (b || f) ↔ (IsTrue b ⊎ F)
+  either true f F is = ((λ h. inl refl), (λ h. refl))
+  either false f F is = ((λ h. inr (is.0 h)), (λ h. elim h [ inl t ↦ absurd (true≢false (sym t)) | inr x ↦ is.1 x ]))
+
+  pub star-means : (p : SecurityPolicy) (s o : ℕ) (m : Mode) → IsTrue (is_star p s o m) ↔ Star p s o m
+  star-means p s o m = either (is_trusted p s) (flows (current_of p s) (level_of p o) m) _ (flows-means (current_of p s) (level_of p o) m)
+
+  -- ---- one access
+
+  abbrev chain : Bool → Bool → Bool → ℕ → ℕ → Option Denial
+  chain x y z s o = if x then (if y then (if z then None else denied failing.Discretionary s o) else denied failing.Star s o) else denied failing.Simple s o
+
+  chain_none : (x y z : Bool) (s o : ℕ) → chain x y z s o ≡ None → (x ≡ true) × (y ≡ true) × (z ≡ true)
+  chain_none true true true s o e = (refl, refl, refl)
+  chain_none true true false s o e = absurd (cc)
+  chain_none true false z s o e = absurd (cc)
+  chain_none false y z s o e = absurd (cc)
+
+  pub secure-of_none : (p : SecurityPolicy) (s : ℕ) (a : Access) → fault_of p s a ≡ None → IsSecure p s a.doc a.mode
+  secure-of_none p s a e =
+      let t = chain_none (is_simple p s a.doc a.mode) (is_star p s a.doc a.mode) (is_discretionary p s a.doc a.mode) s a.doc e in
+      record { simple = (simple-means p s a.doc a.mode).0 t.0; star = (star-means p s a.doc a.mode).0 t.1; discretionary = t.2 }
+
+  pub none-of_secure : (p : SecurityPolicy) (s : ℕ) (a : Access) → IsSecure p s a.doc a.mode → fault_of p s a ≡ None
+  none-of_secure p s a h = λ i. chain ((simple-means p s a.doc a.mode).1 h.simple i) ((star-means p s a.doc a.mode).1 h.star i) (h.discretionary i) s a.doc
+
+  abbrev FailsTests : Clause → Bool → Bool → Bool → Type 0
+  FailsTests failing.Simple x y z = x ≡ false
+  FailsTests failing.Star x y z = (x ≡ true) × (y ≡ false)
+  FailsTests failing.Discretionary x y z = (x ≡ true) × (y ≡ true) × (z ≡ false)
+
+  some_is : {X : Type 0} (x y : X) → Some x ≡ Some y → x ≡ y
+  some_is x y e = ap (λ o. unwrap_or o x) e
+
+  abbrev Told : Bool → Bool → Bool → ℕ → ℕ → Denial → Type 0
+  Told x y z s o d = FailsTests d.clause x y z × (d.subject ≡ s) × (d.object ≡ Some o)
+
+  chain_some : (x y z : Bool) (s o : ℕ) (d : Denial) → chain x y z s o ≡ Some d → Told x y z s o d
+  chain_some true true true s o d e = absurd (cc)
+  chain_some true true false s o d e = subst (Told true true false s o) (some_is _ d e) ((refl, refl, refl), refl, refl)
+  chain_some true false z s o d e = subst (Told true false z s o) (some_is _ d e) ((refl, refl), refl, refl)
+  chain_some false y z s o d e = subst (Told false y z s o) (some_is _ d e) (refl, refl, refl)
+
+  fails-tests : (clause : Clause) (p : SecurityPolicy) (s o : ℕ) (m : Mode) → FailsTests clause (is_simple p s o m) (is_star p s o m) (is_discretionary p s o m) → FailsFirst clause p s o m
+  fails-tests failing.Simple p s o m t = λ h. true≢false (sym ((simple-means p s o m).1 h) ∙ t)
+  fails-tests failing.Star p s o m t = ((simple-means p s o m).0 t.0, λ h. true≢false (sym ((star-means p s o m).1 h) ∙ t.1))
+  fails-tests failing.Discretionary p s o m t = ((simple-means p s o m).0 t.0, (star-means p s o m).0 t.1, λ h. true≢false (sym h ∙ t.2))
+
+  -- ---- a list of accesses
+
+  fault_or_none : (x y : Option Denial) → fault_or x y ≡ None → (x ≡ None) × (y ≡ None)
+  fault_or_none None y e = (refl, e)
+  fault_or_none (Some d) y e = absurd (cc)
+
+  pub all-of_none : (p : SecurityPolicy) (s : ℕ) (accesses : List Access) → first_fault p s accesses ≡ None → All (λ access. IsSecure p s access.doc access.mode) accesses
+  all-of_none p s [] e = λ k d h. absurd (omega arith)
+  all-of_none p s (a ∷ rest) e =
+      let parts = fault_or_none (fault_of p s a) (first_fault p s rest) e in
+      All-cons (λ access. IsSecure p s access.doc access.mode) a rest (secure-of_none p s a parts.0) (all-of_none p s rest parts.1)
+
+  pub none-of_all : (p : SecurityPolicy) (s : ℕ) (accesses : List Access) → All (λ access. IsSecure p s access.doc access.mode) accesses → first_fault p s accesses ≡ None
+  none-of_all p s [] each = refl
+  none-of_all p s (a ∷ rest) each =
+      ap (λ f. fault_or f (first_fault p s rest)) (none-of_secure p s a (each 0 a (omega arith)))
+      ∙ none-of_all p s rest (λ k d h. each (suc k) d (omega arith))
+
+  secure_earlier : (p : SecurityPolicy) (s : ℕ) (a : Access) (rest : List Access) (n : ℕ) → IsSecure p s a.doc a.mode → ((k : ℕ) (earlier : Access) → k < n → slice_get rest k ≡ Some earlier → IsSecure p s earlier.doc earlier.mode)
+      → (k : ℕ) (earlier : Access) → k < suc n → slice_get (a ∷ rest) k ≡ Some earlier → IsSecure p s earlier.doc earlier.mode
+  secure_earlier p s a rest n first later zero earlier h at = subst (λ (access : Access). IsSecure p s access.doc access.mode) (some_is a earlier at) first
+  secure_earlier p s a rest n first later (suc k) earlier h at = later k earlier (omega arith) at
+
+  some_cons : (p : SecurityPolicy) (s : ℕ) (a : Access) (rest : List Access) (denial : Denial) (f : Option Denial) → fault_of p s a ≡ f
+      → (first_fault p s rest ≡ Some denial → IsFirstFault p s rest denial) → fault_or f (first_fault p s rest) ≡ Some denial → IsFirstFault p s (a ∷ rest) denial
+  some_cons p s a rest denial None is later e =
+      let r = later e in
+      record {
+        place = suc r.place;
+        access = r.access;
+        at = r.at;
+        secure_before = secure_earlier p s a rest r.place (secure-of_none p s a is) r.secure_before;
+        fails = r.fails;
+        subject = r.subject;
+        object = r.object;
+      }
+  some_cons p s a rest denial (Some d) is later e =
+      let told = chain_some (is_simple p s a.doc a.mode) (is_star p s a.doc a.mode) (is_discretionary p s a.doc a.mode) s a.doc denial (is ∙ e) in
+      record {
+        place = 0;
+        access = a;
+        at = refl;
+        secure_before = λ k earlier h at. absurd (omega arith);
+        fails = fails-tests denial.clause p s a.doc a.mode told.0;
+        subject = told.1;
+        object = told.2;
+      }
+
+  -- the first fault is that of the first access that is not secure
+  pub first-of_some : (p : SecurityPolicy) (s : ℕ) (accesses : List Access) (denial : Denial) → first_fault p s accesses ≡ Some denial → IsFirstFault p s accesses denial
+  first-of_some p s [] denial e = absurd (cc)
+  first-of_some p s (a ∷ rest) denial e = some_cons p s a rest denial (fault_of p s a) refl (λ later. first-of_some p s rest denial later) e

@@ -1,0 +1,8 @@
+use Rattle.bl_policy.proofs.Properties.{simple-means, star-means}
+use Rattle.bl_policy.proofs.laws.tests_are_the_properties.Goals as goal
+
+pub returns-clause-simple : goal.returns-clause-simple
+returns-clause-simple c = simple-means c.dominates_means_dominance.ensures
+
+pub returns-clause-star : goal.returns-clause-star
+returns-clause-star c = star-means c.dominates_means_dominance.ensures

@@ -1,0 +1,39 @@
+-- Codes of the matrix, by which a proof tells two of them apart.
+use Rattle.std.specs.Prelude.{◌≡◌, ℕ, zero, suc, T, List, refl}
+use Rattle.std.specs.Coded.{Coded, code_by, coded×, coded_ℕ, coded_list}
+use base.Stored.{coded_via, coded_unit}
+use mathlib.Core.HLevel.{Σ_prop_path}
+use lib.Dec.{T_prop}
+use Rattle.std.specs.FinMap.Entries.{is_sorted}
+use Rattle.bl_policy.specs.declared.access.Mode.{Mode}
+use Rattle.bl_policy.specs.declared.access.Mode.TheVariants.{Read, Append, Write}
+use Rattle.bl_policy.specs.Mode.{place_of}
+use Rattle.bl_policy.specs.Matrix.{Triple, Matrix, triple_cmp}
+
+-- the mode whose bit this is
+abbrev pub mode_at : ℕ → Mode
+mode_at zero = Read
+mode_at (suc zero) = Append
+mode_at (suc (suc n)) = Write
+
+pub mode_at-place_of : (m : Mode) → mode_at (place_of m) ≡ m
+mode_at-place_of Read = refl
+mode_at-place_of Append = refl
+mode_at-place_of Write = refl
+
+-- a triple is stored as its three numbers
+abbrev pub triple_code : Coded Triple
+triple_code =
+    code_by (ℕ × (ℕ × ℕ)) (coded× coded_ℕ (coded× coded_ℕ coded_ℕ)) (λ t. (t.subject, (t.document, place_of t.mode)))
+    (λ n. record { subject = n.0; document = n.1.0; mode = mode_at n.1.1 })
+    (λ t i. record { subject = t.subject; document = t.document; mode = mode_at-place_of t.mode i })
+
+-- two sets with the same triples in order are one
+pub same_triples : (a b : Matrix) → a.triples ≡ b.triples → a ≡ b
+same_triples a b e =
+    let pairs : ◌≡◌ {A = (ts : List (Triple × Unit {0})) × T (is_sorted triple_cmp ts)} (a.triples, a.in_order) (b.triples, b.in_order) = Σ_prop_path (λ ts. T_prop _) e in
+    λ i. record { triples = (pairs i).0; in_order = (pairs i).1 }
+
+-- a set is stored as the list of its triples
+abbrev pub matrix_code : Coded Matrix
+matrix_code = coded_via (coded_list (coded× triple_code coded_unit)) (λ m. m.triples) same_triples

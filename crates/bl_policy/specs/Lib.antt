@@ -1,0 +1,9 @@
+pub mod Mode
+pub mod Matrix
+pub mod Policy
+pub mod Properties
+pub mod Denial
+pub mod FirstFault
+pub mod Cells
+pub mod Codes
+pub mod Fields

@@ -1,0 +1,68 @@
+use Rattle.std.specs.Prelude.{ℕ, Bool, false, List, [], ◌∷◌, ◌++◌, slice_index_or}
+use Rattle.bl_level.specs.Level.{SecurityLevel}
+use Rattle.bl_policy.specs.declared.access.Mode.{Mode}
+use Rattle.bl_policy.specs.declared.access.ModeSet.{ModeSet}
+use Rattle.bl_policy.specs.Matrix.{Matrix, triple, is_in, put_modes, no_triple}
+
+-- what a policy has of one subject: its levels, and whether it is in the sets of trusted subjects and of administrators
+pub record Clearance : Type 0 where
+  pub greatest : SecurityLevel
+  pub current : SecurityLevel
+  pub trusted : Bool
+  pub admin : Bool
+
+-- the finite maps from subjects and from documents, by position, and the matrix
+pub record SecurityPolicy : Type 0 where
+  pub subjects : List Clearance
+  pub documents : List SecurityLevel
+  pub matrix : Matrix
+
+-- what stands where there is no such subject or document
+abbrev pub lowest : SecurityLevel
+lowest = record { rank = 0; categories = 0 }
+
+abbrev pub nobody : Clearance
+nobody = record { greatest = lowest; current = lowest; trusted = false; admin = false }
+
+-- the policy with no subject, no document and no triple
+abbrev pub no_policy : SecurityPolicy
+no_policy = record { subjects = []; documents = []; matrix = no_triple }
+
+abbrev pub clearance_of : SecurityPolicy → ℕ → Clearance
+clearance_of p s = slice_index_or p.subjects s nobody
+
+-- the greatest level of subject s
+abbrev pub greatest_of : SecurityPolicy → ℕ → SecurityLevel
+greatest_of p s = (clearance_of p s).greatest
+
+-- the current level of subject s
+abbrev pub current_of : SecurityPolicy → ℕ → SecurityLevel
+current_of p s = (clearance_of p s).current
+
+-- the level of document o
+abbrev pub level_of : SecurityPolicy → ℕ → SecurityLevel
+level_of p o = slice_index_or p.documents o lowest
+
+-- subject s is trusted
+abbrev pub is_trusted : SecurityPolicy → ℕ → Bool
+is_trusted p s = (clearance_of p s).trusted
+
+-- subject s is an administrator
+abbrev pub is_admin : SecurityPolicy → ℕ → Bool
+is_admin p s = (clearance_of p s).admin
+
+-- the triple of subject s, document o and mode m is in the matrix
+abbrev pub allows : SecurityPolicy → ℕ → ℕ → Mode → Bool
+allows p s o m = is_in p.matrix (triple s o m)
+
+-- the policy with one more subject
+abbrev pub with_subject : SecurityPolicy → Clearance → SecurityPolicy
+with_subject p clearance = record p { subjects = p.subjects ++ clearance ∷ [] }
+
+-- the policy with one more document
+abbrev pub with_document : SecurityPolicy → SecurityLevel → SecurityPolicy
+with_document p level = record p { documents = p.documents ++ level ∷ [] }
+
+-- the policy whose matrix also has the triples of subject s, document o and these modes
+abbrev pub with_modes : SecurityPolicy → ℕ → ℕ → ModeSet → SecurityPolicy
+with_modes p s o modes = record p { matrix = put_modes p.matrix s o modes }

@@ -1,0 +1,330 @@
+// The policy of the report: a greatest and a current level for each subject, a level for each document,
+// the trusted subjects, the administrators, and the matrix; and what it decides.
+//
+// All memory is taken when a policy is made, for the most subjects and documents that there may be. The
+// matrix is kept as one row of cells after another, so a decision reads one cell.
+ghost use Rattle.std.specs.Prelude.{◌≡◌, ◌==◌, ◌&&◌, ◌||◌, ◌≢◌, ℕ, ◌+◌, ◌*◌, ◌<◌, ◌≤◌, ◌↔◌, All, length, IfOk, OnOk, OnErr, IfNone, IsTrue};
+ghost use Rattle.bl_level.specs.Level.{Dominates};
+ghost use Rattle.bl_policy.specs.Cells.{matrix_of};
+ghost use Rattle.bl_policy.specs.Matrix.{no_triple};
+ghost use Rattle.bl_policy.specs.Mode.{has_mode};
+ghost use Rattle.bl_policy.specs.declared.access.Mode.{Mode};
+ghost use Rattle.bl_policy.specs.Properties.{observes, Observes, flows, Flows, is_simple, Simple, is_star, Star, is_discretionary, Discretionary, IsSecure};
+ghost use Rattle.bl_policy.specs.FirstFault.{fault_of, first_fault};
+ghost use Rattle.bl_policy.specs.Policy.{no_policy, greatest_of, current_of, level_of, is_trusted, is_admin, allows, with_subject, with_document, with_modes};
+
+use crate::access::{Access, Mode, ModeSet};
+use crate::denial::{Clause, Denial};
+use crate::id::{DocId, SubjectId};
+use bitflags::Flags;
+use bl_level::level::Level;
+use std::alloc::{AllocError, Global};
+use std::marker::Model;
+
+/// How many subjects a policy has at most.
+pub const SUBJECT_LIMIT: usize = 256;
+
+/// How many documents a policy has at most.
+pub const DOCUMENT_LIMIT: usize = 1024;
+
+/// Why a subject or a document is not added.
+#[derive(Clone, Copy, PartialEq, Eq, Debug)]
+pub enum AddFault {
+    /// There are as many as there may be.
+    TooMany,
+    /// The greatest level does not dominate the current one.
+    CurrentAboveGreatest,
+}
+
+/// What a policy has of one subject.
+#[derive(Clone, Copy)]
+struct Subject {
+    greatest: Level,
+    current: Level,
+    trusted: bool,
+    admin: bool,
+}
+
+/// Levels of subjects and documents, trusted subjects, administrators and the matrix.
+#[derive(Drop)]
+pub struct Policy {
+    subjects: Vec<Subject>,
+    documents: Vec<Level>,
+    cells: Vec<ModeSet>,
+}
+
+impl Model for Policy {
+    ghost use Rattle.std.specs.Coded.{codes};
+    ghost use Rattle.bl_policy.specs.Codes.{matrix_code};
+    ghost use Rattle.bl_policy.specs.Policy.{SecurityPolicy};
+
+    ghost Value = { SecurityPolicy };
+
+    ghost coded = { Prim.hlevel (codes, matrix_code) };
+
+    ghost use Rattle.bl_policy.specs.Fields.{policy_of, IsSound};
+
+    ghost view = { policy_of };
+
+    ghost invariant = { IsSound };
+}
+
+/// Whether the greatest level dominates what an access observes.
+fn may_observe(greatest: &Level, level: &Level, mode: Mode) -> bool
+    ensures test { result ≡ observes greatest.now level.now mode }
+    ensures property { IsTrue result ↔ Observes greatest.now level.now mode }
+{
+    match mode {
+        Mode::Read | Mode::Write => greatest.dominates(level),
+        Mode::Append => true,
+    }
+}
+
+/// Whether an access keeps to the current level: it observes nothing from above and alters nothing below.
+fn may_flow(current: &Level, level: &Level, mode: Mode) -> bool
+    ensures test { result ≡ flows current.now level.now mode }
+    ensures property { IsTrue result ↔ Flows current.now level.now mode }
+{
+    match mode {
+        Mode::Read => current.dominates(level),
+        Mode::Append => level.dominates(current),
+        Mode::Write => *current == *level,
+    }
+}
+
+/// The place of a cell among all of them.
+fn cell_place(subject: SubjectId, doc: DocId) -> usize
+    ensures { result ≡ subject * 1024 + doc }
+{
+    subject.position() as usize * DOCUMENT_LIMIT + doc.position() as usize
+}
+
+/// Cells with no mode.
+fn empty_cells(alloc: Global, count: usize) -> Result<Vec<ModeSet>, AllocError>
+    ensures len { IfOk result (λ cells. length cells.items ≡ count) }
+    ensures empty { IfOk result (λ cells. matrix_of cells.items ≡ no_triple) }
+    ensures modes_only { IfOk result (λ cells. All (λ cell. cell.0 < 8) cells.items) }
+{
+    vec![in alloc; ModeSet::empty(); count]
+}
+
+impl Policy {
+    /// No subject, no document and an empty matrix. Memory for as many as there may be is taken here, and
+    /// no later call takes any.
+    pub fn new(alloc: Global) -> Result<Policy, AllocError>
+        ensures { IfOk result (λ policy. policy ≡ no_policy) }
+    {
+        Ok(Policy {
+            subjects: Vec::with_capacity(alloc, SUBJECT_LIMIT)?,
+            documents: Vec::with_capacity(alloc, DOCUMENT_LIMIT)?,
+            cells: empty_cells(alloc, SUBJECT_LIMIT * DOCUMENT_LIMIT)?,
+        })
+    }
+
+    /// Adds a subject, and answers its position, which is the number of subjects before. The first that
+    /// holds is named: `TooMany` where there are 256 subjects, `CurrentAboveGreatest` where the greatest
+    /// level does not dominate the current one. Then the policy is unchanged.
+    pub fn add_subject(
+        &mut self,
+        greatest: Level,
+        current: Level,
+        trusted: bool,
+        admin: bool,
+    ) -> Result<SubjectId, AddFault>
+        ensures ok { IfOk result (λ id. (id ≡ length self.old.subjects)
+            × (self.new ≡ with_subject self.old (record { greatest = greatest; current = current; trusted = trusted; admin = admin }))) }
+        ensures too_many { (result ≡ Err AddFault.TooMany) ↔ (256 ≤ length self.old.subjects) }
+        ensures above { (result ≡ Err AddFault.CurrentAboveGreatest) ↔ ((length self.old.subjects < 256) × ¬ Dominates greatest current) }
+        ensures err { OnErr result (self.new ≡ self.old) }
+    {
+        if self.subjects.len() == SUBJECT_LIMIT {
+            return Err(AddFault::TooMany);
+        }
+        if !greatest.dominates(&current) {
+            return Err(AddFault::CurrentAboveGreatest);
+        }
+        let position = self.subjects.len() as u16;
+        self.subjects.push_reserved(Subject {
+            greatest,
+            current,
+            trusted,
+            admin,
+        });
+        Ok(SubjectId::new(position))
+    }
+
+    /// Adds a document, and answers its position, which is the number of documents before. `TooMany` where
+    /// there are 1,024 documents; then the policy is unchanged.
+    pub fn add_document(&mut self, level: Level) -> Result<DocId, AddFault>
+        ensures ok { IfOk result (λ id. (id ≡ length self.old.documents) × (self.new ≡ with_document self.old level)) }
+        ensures too_many { (result ≡ Err AddFault.TooMany) ↔ (1024 ≤ length self.old.documents) }
+        ensures too_many_alone { result ≢ Err AddFault.CurrentAboveGreatest }
+        ensures err { OnErr result (self.new ≡ self.old) }
+    {
+        if self.documents.len() == DOCUMENT_LIMIT {
+            return Err(AddFault::TooMany);
+        }
+        let position = self.documents.len() as u16;
+        self.documents.push_reserved(level);
+        Ok(DocId::new(position))
+    }
+
+    /// Adds modes to those in which the subject may use the document. Bits that are no mode add nothing.
+    pub fn allow(&mut self, subject: SubjectId, doc: DocId, modes: ModeSet)
+        requires known { subject < length self.old.subjects }
+        requires there { doc < length self.old.documents }
+        ensures policy { self.new ≡ with_modes self.old subject doc modes }
+        ensures members { (s o : ℕ) (m : Mode) → allows self.new s o m
+            ≡ (((s == subject) && (o == doc)) && has_mode modes m || allows self.old s o m) }
+    {
+        let place = cell_place(subject, doc);
+        let added = modes.intersection(ModeSet::all());
+        self.cells[place].insert(added);
+    }
+
+    /// Whether the access has the simple-security property.
+    fn is_simple(&self, subject: SubjectId, access: &Access) -> bool
+        requires known { subject < length self.now.subjects }
+        requires there { access.now.doc < length self.now.documents }
+        ensures test { result ≡ is_simple self.now subject access.now.doc access.now.mode }
+        ensures property { IsTrue result ↔ Simple self.now subject access.now.doc access.now.mode }
+    {
+        let clearance = &self.subjects[subject.position() as usize];
+        let level = &self.documents[access.doc.position() as usize];
+        may_observe(&clearance.greatest, level, access.mode)
+    }
+
+    /// Whether the access has the star property.
+    fn is_star(&self, subject: SubjectId, access: &Access) -> bool
+        requires known { subject < length self.now.subjects }
+        requires there { access.now.doc < length self.now.documents }
+        ensures test { result ≡ is_star self.now subject access.now.doc access.now.mode }
+        ensures property { IsTrue result ↔ Star self.now subject access.now.doc access.now.mode }
+    {
+        let clearance = &self.subjects[subject.position() as usize];
+        let level = &self.documents[access.doc.position() as usize];
+        clearance.trusted || may_flow(&clearance.current, level, access.mode)
+    }
+
+    /// Whether the access has the discretionary property.
+    fn is_discretionary(&self, subject: SubjectId, access: &Access) -> bool
+        requires known { subject < length self.now.subjects }
+        requires there { access.now.doc < length self.now.documents }
+        ensures { result ≡ is_discretionary self.now subject access.now.doc access.now.mode }
+    {
+        self.cell(subject, access.doc)
+            .contains(ModeSet::from(access.mode))
+    }
+
+    /// What the access fails first: simple security, then the star property, then the discretionary one.
+    fn fault(&self, subject: SubjectId, access: &Access) -> Option<Denial>
+        requires known { subject < length self.now.subjects }
+        requires there { access.now.doc < length self.now.documents }
+        ensures first { result ≡ fault_of self.now subject access.now }
+        ensures secure { IfNone result (IsSecure self.now subject access.now.doc access.now.mode) }
+    {
+        let clause = if !self.is_simple(subject, access) {
+            Clause::Simple
+        } else if !self.is_star(subject, access) {
+            Clause::Star
+        } else if !self.is_discretionary(subject, access) {
+            Clause::Discretionary
+        } else {
+            return None;
+        };
+        Some(Denial {
+            clause,
+            subject,
+            object: Some(access.doc),
+        })
+    }
+
+    /// The first access, in the order given, that fails a property, with the first that it fails in the
+    /// order simple-security, star, discretionary (Bell and La Padula 1976, the three properties). None
+    /// where every access meets all three.
+    pub fn decide(&self, subject: SubjectId, accesses: &[Access]) -> Option<Denial>
+        requires known { subject < length self.now.subjects }
+        requires there { All (λ access. access.doc < length self.now.documents) accesses.now }
+        ensures first { result ≡ first_fault self.now subject accesses.now }
+        ensures secure { IfNone result (All (λ access. IsSecure self.now subject access.doc access.mode) accesses.now) }
+    {
+        for access in accesses {
+            let found = self.fault(subject, access);
+            if found.is_some() {
+                return found;
+            }
+        }
+        None
+    }
+
+    /// The greatest level of a subject.
+    pub fn greatest(&self, subject: SubjectId) -> Level
+        requires { subject < length self.now.subjects }
+        ensures value { result ≡ greatest_of self.now subject }
+        ensures dominates_current { Dominates result (current_of self.now subject) }
+    {
+        self.subjects[subject.position() as usize].greatest
+    }
+
+    /// The current level of a subject, which its greatest level dominates.
+    pub fn current(&self, subject: SubjectId) -> Level
+        requires { subject < length self.now.subjects }
+        ensures value { result ≡ current_of self.now subject }
+        ensures below_greatest { Dominates (greatest_of self.now subject) result }
+    {
+        self.subjects[subject.position() as usize].current
+    }
+
+    /// Whether a subject is trusted: the star property does not bind it.
+    pub fn is_trusted(&self, subject: SubjectId) -> bool
+        requires { subject < length self.now.subjects }
+        ensures { result ≡ is_trusted self.now subject }
+    {
+        self.subjects[subject.position() as usize].trusted
+    }
+
+    /// Whether a subject is an administrator.
+    pub fn is_admin(&self, subject: SubjectId) -> bool
+        requires { subject < length self.now.subjects }
+        ensures { result ≡ is_admin self.now subject }
+    {
+        self.subjects[subject.position() as usize].admin
+    }
+
+    /// The level of a document.
+    pub fn level(&self, doc: DocId) -> Level
+        requires { doc < length self.now.documents }
+        ensures { result ≡ level_of self.now doc }
+    {
+        self.documents[doc.position() as usize]
+    }
+
+    /// The modes in which the matrix has this subject and document.
+    pub fn cell(&self, subject: SubjectId, doc: DocId) -> ModeSet
+        requires known { subject < length self.now.subjects }
+        requires there { doc < length self.now.documents }
+        ensures modes { (mode : Mode) → has_mode result mode ≡ allows self.now subject doc mode }
+        ensures modes_only { result.0 < 8 }
+    {
+        self.cells[cell_place(subject, doc)]
+    }
+
+    /// How many subjects there are.
+    pub fn subjects(&self) -> usize
+        ensures value { result ≡ length self.now.subjects }
+        ensures within { result ≤ 256 }
+    {
+        self.subjects.len()
+    }
+
+    /// How many documents there are.
+    pub fn documents(&self) -> usize
+        ensures value { result ≡ length self.now.documents }
+        ensures within { result ≤ 1024 }
+    {
+        self.documents.len()
+    }
+}
+
+#[cfg(test)]
+mod tests;

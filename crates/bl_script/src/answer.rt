@@ -1,0 +1,75 @@
+//! What an entry is answered.
+ghost use Rattle.std.specs.Prelude.{◌≡◌, IfOk};
+
+use crate::document::Document;
+use bl_policy::denial::Denial;
+use std::alloc::{AllocError, Global};
+use std::marker::Model;
+use std::sync::Arc;
+
+/// The texts that a behaviour showed, in order.
+#[derive(Drop)]
+pub struct Outputs {
+    texts: Arc<Vec<Document>, Global>,
+}
+
+impl Model for Outputs {
+    ghost use Rattle.std.specs.Prelude.{List, ℕ};
+    ghost use Rattle.std.specs.Arc.{arc_value};
+
+    ghost Value = { List (List ℕ) };
+
+    ghost view = { λ o. (arc_value o.texts).items };
+}
+
+impl Outputs {
+    /// Outputs of these texts.
+    pub fn new(alloc: Global, texts: Vec<Document>) -> Result<Outputs, AllocError>
+        ensures { IfOk result (λ o. o ≡ texts.items) }
+    {
+        match Arc::new(alloc, texts) {
+            Ok(texts) => Ok(Outputs { texts }),
+            Err(_) => Err(AllocError),
+        }
+    }
+
+    /// One more owner of the same texts.
+    pub fn share(&self) -> Result<Outputs, AllocError>
+        ensures { IfOk result (λ o. o ≡ self.now) }
+    {
+        Ok(Outputs {
+            texts: Arc::try_clone(&self.texts)?,
+        })
+    }
+
+    /// The texts, in the order in which they were shown.
+    pub fn texts(&self) -> &[Document]
+        ensures { result.now ≡ self.now }
+    {
+        self.texts.as_slice()
+    }
+}
+
+/// The answer of an entry.
+#[derive(Drop)]
+pub enum Answer {
+    /// The behaviour ran, and showed these texts.
+    Done(Outputs),
+    /// The policy denied it, and nothing was changed.
+    Denied(Denial),
+    /// It was lost to want of memory, and nothing was changed.
+    Lost,
+}
+
+impl Answer {
+    /// An equal answer.
+    pub fn share(&self) -> Result<Answer, AllocError>
+        ensures { IfOk result (λ a. a ≡ self.now) }
+    {
+        match self {
+            Answer::Done(outputs) => Ok(Answer::Done(outputs.share()?)),
+            Answer::Denied(denial) => Ok(Answer::Denied(*denial)),
+            Answer::Lost => Ok(Answer::Lost),
+        }
+    }
+}

@@ -1,0 +1,15 @@
+//! What is said in a session: the lines of a session, scripts with the texts they hold, and what an entry is answered.
+#![tactic(auto)]
+
+pub mod answer;
+pub mod document;
+pub mod laws;
+pub mod line;
+pub mod names;
+pub mod parse;
+pub mod raw;
+pub mod read;
+pub mod script;
+#[cfg(test)]
+mod tests;
+pub mod work;

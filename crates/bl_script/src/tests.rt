@@ -1,0 +1,43 @@
+//! Each call that grows, once with ample memory.
+use crate::answer::{Answer, Outputs};
+use crate::document::Document;
+use crate::script::{Script, Stmt};
+use crate::work::Work;
+use bl_policy::access::Mode;
+use bl_policy::id::DocId;
+use std::test::Fail;
+
+#[test]
+fn shares_a_document(rt: HostRuntime) -> Result<(), Fail> {
+    let document = Document::new(rt.alloc(), b"m1")?;
+    let shared = document.share()?;
+    assert!(rt; shared == document);
+    let other = Document::new(rt.alloc(), b"")?;
+    assert!(rt; other != document);
+    Ok(())
+}
+
+#[test]
+fn shares_a_work_of_one_read(rt: HostRuntime) -> Result<(), Fail> {
+    let memo = DocId::new(3);
+    let work = Work::Behaviour(Script::one_read(rt.alloc(), memo)?);
+    let Work::Behaviour(script) = work.share()?;
+    assert_eq!(rt; script.weight(), 1);
+    assert_eq!(rt; script.accesses(0).len(), 1);
+    assert_eq!(rt; script.accesses(0)[0].mode, Mode::Read);
+    assert!(rt; matches!(script.body(0), [Stmt::Show(doc)] if *doc == memo));
+    Ok(())
+}
+
+#[test]
+fn shares_an_answer(rt: HostRuntime) -> Result<(), Fail> {
+    let mut texts = Vec::new(rt.alloc());
+    texts.push(Document::new(rt.alloc(), b"n1")?)?;
+    let answer = Answer::Done(Outputs::new(rt.alloc(), texts)?);
+    let shared = answer.share()?;
+    let Answer::Done(outputs) = shared else {
+        return Err(Fail::new("not done"));
+    };
+    assert_eq!(rt; outputs.texts().len(), 1);
+    Ok(())
+}

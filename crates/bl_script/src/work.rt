@@ -1,0 +1,23 @@
+//! What a line asks the server to do.
+ghost use Rattle.std.specs.Prelude.{◌≡◌, IfOk};
+
+use crate::script::Script;
+use std::alloc::AllocError;
+
+/// The work of a line.
+#[derive(Drop)]
+pub enum Work {
+    /// A behaviour with all that it spawns.
+    Behaviour(Script),
+}
+
+impl Work {
+    /// An equal work.
+    pub fn share(&self) -> Result<Work, AllocError>
+        ensures { IfOk result (λ w. w ≡ self.now) }
+    {
+        match self {
+            Work::Behaviour(script) => Ok(Work::Behaviour(script.share()?)),
+        }
+    }
+}
