@@ -1,0 +1,58 @@
+-- What is said of places, in the words of their answers, contents and children.
+use Rattle.std.specs.Prelude.{◌≡◌, ℕ, ◌-◌, ◌<◌, ◌≤◌, Bool, true, false, ◌&&◌, List, [], ◌++◌, length, slice_index_or, Option, Some, None}
+use Rattle.bl_policy.specs.declared.denial.Denial.{Denial}
+use Rattle.bl_script.specs.Effects.{after, children}
+use Rattle.bl_script.specs.declared.answer.Answer.TheVariants.{Denied, Lost}
+use Rattle.bl_setup.specs.Order.{Setup, Entry, is_rule, is_altered, accesses_of}
+use Rattle.bl_setup.specs.Past.{place, policy_before, content_before, is_done, child_task, deeds, fault_of_task, granted}
+
+-- the places of an order keep their records where more entries come
+abbrev pub KeepsPlaces : Setup → (ℕ → Bool) → List Entry → List Entry → Type 0
+KeepsPlaces setup lost order more = (n : ℕ) → n < length order → place setup lost (order ++ more) n ≡ place setup lost order n
+
+-- what is said of a place is the same for two sets of lost places that agree up to it
+abbrev pub RestsOnLossesBefore : Setup → List Entry → ℕ → Type 0
+RestsOnLossesBefore setup order n =
+    (lost others : ℕ → Bool) → ((k : ℕ) → k ≤ n → lost k ≡ others k) → place setup lost order n ≡ place setup others order n
+
+module _ (setup : Setup) (lost : ℕ → Bool) (order : List Entry) where
+  -- what the policy at a place has against what it does
+  abbrev pub fault_at : ℕ → Option Denial
+  fault_at n = fault_of_task (policy_before setup lost order n) (place setup lost order n).subject (place setup lost order n).task
+
+  -- the place ran, and it declares the document append or write
+  abbrev pub wrote : ℕ → ℕ → Bool
+  wrote doc n = is_done (place setup lost order n).answer && is_altered (accesses_of (place setup lost order n).task) doc
+
+-- A lost place answers so; another is denied with what the policy at its place has against it, or granted where that is
+-- nothing. What ran did its deeds on the contents at its place, and what did not run did nothing.
+pub record IsAnswered (setup : Setup) (lost : ℕ → Bool) (order : List Entry) (n : ℕ) : Type 0 where
+  pub gone : lost n ≡ true → (place setup lost order n).answer ≡ Lost
+  pub refused : (denial : Denial) → lost n ≡ false → fault_at setup lost order n ≡ Some denial
+      → (place setup lost order n).answer ≡ Denied denial
+  pub let_run : lost n ≡ false → fault_at setup lost order n ≡ None
+      → (place setup lost order n).answer
+      ≡ granted (place setup lost order n).task (deeds (place setup lost order n).task (λ doc. content_before setup lost order doc n))
+  pub deeds_done : is_done (place setup lost order n).answer ≡ true
+      → (place setup lost order n).effects ≡ deeds (place setup lost order n).task (λ doc. content_before setup lost order doc n)
+  pub nothing_done : is_done (place setup lost order n).answer ≡ false → (place setup lost order n).effects ≡ []
+
+-- The content at a place is the setup's where no place before it wrote the document; otherwise the last place that did has
+-- changed what stood there at its own place.
+pub record LooksBack (setup : Setup) (lost : ℕ → Bool) (order : List Entry) (doc n : ℕ) : Type 0 where
+  pub untouched : ((k : ℕ) → k < n → wrote setup lost order doc k ≡ false)
+      → content_before setup lost order doc n ≡ slice_index_or setup.contents doc []
+  pub last : (m : ℕ) → m < n → wrote setup lost order doc m ≡ true → ((k : ℕ) → m < k → k < n → wrote setup lost order doc k ≡ false)
+      → content_before setup lost order doc n
+      ≡ after (content_before setup lost order doc m) (place setup lost order m).effects doc
+
+-- where no rule stands before a place, the policy there is the setup's
+abbrev pub LeavesThePolicy : Setup → (ℕ → Bool) → List Entry → ℕ → Type 0
+LeavesThePolicy setup lost order n =
+    ((k : ℕ) → k < n → is_rule (place setup lost order k).task ≡ false) → policy_before setup lost order n ≡ setup.policy
+
+-- a child speaks for its parent's subject, and runs the behaviour that its parent's spawn of its number named
+pub record FollowsItsParent (setup : Setup) (lost : ℕ → Bool) (order : List Entry) (n parent which : ℕ) : Type 0 where
+  pub subject : (place setup lost order n).subject ≡ (place setup lost order parent).subject
+  pub task : (place setup lost order n).task
+      ≡ child_task (place setup lost order parent).task (slice_index_or (children (place setup lost order parent).effects) (which - 1) 0)
