@@ -8,5 +8,6 @@ abbrev pub matrix_from : ℕ → List ModeSet → Matrix
 matrix_from k [] = no_triple
 matrix_from k (cell ∷ rest) = put_modes (matrix_from (suc k) rest) (k / 1024) (k % 1024) cell
 
+-- the triples of all the cells
 abbrev pub matrix_of : List ModeSet → Matrix
 matrix_of cells = matrix_from 0 cells

@@ -2,7 +2,7 @@ use Rattle.std.specs.Prelude.{ℕ, List, codes}
 use Rattle.bl_policy.specs.declared.denial.Clause.{Clause}
 use Rattle.bl_policy.specs.declared.denial.Clause.TheVariants.{Simple, Star, Discretionary}
 
--- the word of a property in a reply
+-- the word of a clause in a reply
 abbrev pub word_of : Clause → List ℕ
 word_of Simple = codes "simple"
 word_of Star = codes "star"

@@ -1,4 +1,4 @@
--- The matrix of the report, as a finite set of triples.
+-- The access matrix of Bell and La Padula 1976, as a finite set of triples.
 use Rattle.std.specs.Prelude.{ℕ, Bool, not, T, List, [], is_some, if◌then◌else◌}
 use Rattle.std.specs.Ordering.{nat_cmp, on, then_cmp, eq_by_cmp}
 use Rattle.std.specs.declared.cmp.Ordering.{Ordering}
@@ -15,6 +15,7 @@ pub record Triple : Type 0 where
   pub document : ℕ
   pub mode : Mode
 
+-- the triple of this subject, document and mode
 abbrev pub triple : ℕ → ℕ → Mode → Triple
 triple s o m = record { subject = s; document = o; mode = m }
 
@@ -22,6 +23,7 @@ triple s o m = record { subject = s; document = o; mode = m }
 abbrev pub triple_cmp : Triple → Triple → Ordering
 triple_cmp = then_cmp (on (λ t. t.subject) nat_cmp) (then_cmp (on (λ t. t.document) nat_cmp) (on (λ t. place_of t.mode) nat_cmp))
 
+-- that order is total
 pub triple_cmp_total : IsTotalOrder triple_cmp
 triple_cmp_total = then_total (on_total (λ t. t.subject) nat_cmp_total) (then_total (on_total (λ t. t.document) nat_cmp_total) (on_total (λ t. place_of t.mode) nat_cmp_total))
 
@@ -50,6 +52,7 @@ take_out matrix t =
       in_order = is_sorted-where_key triple_cmp (λ u. not (eq_by_cmp triple_cmp t u)) matrix.triples matrix.in_order;
     }
 
+-- the set with this triple, where the test holds
 abbrev pub put_where : Bool → Triple → Matrix → Matrix
 put_where b t matrix = if b then put_in matrix t else matrix
 

@@ -17,10 +17,11 @@ pub record SecurityPolicy : Type 0 where
   pub documents : List SecurityLevel
   pub matrix : Matrix
 
--- what stands where there is no such subject or document
+-- own choice: what stands for the level of a document that is not there
 abbrev pub lowest : SecurityLevel
 lowest = record { rank = 0; categories = 0 }
 
+-- own choice: what stands for a subject that is not there
 abbrev pub nobody : Clearance
 nobody = record { greatest = lowest; current = lowest; trusted = false; admin = false }
 
@@ -28,6 +29,7 @@ nobody = record { greatest = lowest; current = lowest; trusted = false; admin = 
 abbrev pub no_policy : SecurityPolicy
 no_policy = record { subjects = []; documents = []; matrix = no_triple }
 
+-- what the policy has of subject s
 abbrev pub clearance_of : SecurityPolicy → ℕ → Clearance
 clearance_of p s = slice_index_or p.subjects s nobody
 

@@ -1,4 +1,4 @@
--- The three properties of the report, of a policy, a subject, a document and a mode, and their tests.
+-- The three properties of Bell and La Padula 1976, of a policy, a subject, a document and a mode, and their tests.
 use Rattle.std.specs.Prelude.{◌≡◌, ◌⊎◌, ℕ, Bool, true, ◌&&◌, ◌||◌, ◌==◌, IsTrue}
 use Rattle.bl_level.specs.Level.{SecurityLevel, dominates, Dominates}
 use Rattle.bl_policy.specs.declared.access.Mode.{Mode}
@@ -11,13 +11,13 @@ Observes greatest level Read = Dominates greatest level
 Observes greatest level Append = Unit {0}
 Observes greatest level Write = Dominates greatest level
 
--- nothing is observed from above the current level, and nothing is altered below it
+-- what is observed is dominated by the current level, and what is altered dominates it: so a write needs the same level
 abbrev pub Flows : SecurityLevel → SecurityLevel → Mode → Type 0
 Flows current level Read = Dominates current level
 Flows current level Append = Dominates level current
 Flows current level Write = current ≡ level
 
--- the simple-security property
+-- the simple-security property: what is observed is dominated by the greatest level
 abbrev pub Simple : SecurityPolicy → ℕ → ℕ → Mode → Type 0
 Simple p s o m = Observes (greatest_of p s) (level_of p o) m
 
@@ -35,23 +35,26 @@ pub record IsSecure (p : SecurityPolicy) (s o : ℕ) (m : Mode) : Type 0 where
   pub star : Star p s o m
   pub discretionary : Discretionary p s o m
 
--- the tests of them
-
+-- whether what is observed is dominated by the greatest level
 abbrev pub observes : SecurityLevel → SecurityLevel → Mode → Bool
 observes greatest level Read = dominates greatest level
 observes greatest level Append = true
 observes greatest level Write = dominates greatest level
 
+-- whether what is observed is dominated by the current level, and what is altered dominates it
 abbrev pub flows : SecurityLevel → SecurityLevel → Mode → Bool
 flows current level Read = dominates current level
 flows current level Append = dominates level current
 flows current level Write = (current.rank == level.rank) && (current.categories == level.categories)
 
+-- the test of the simple-security property
 abbrev pub is_simple : SecurityPolicy → ℕ → ℕ → Mode → Bool
 is_simple p s o m = observes (greatest_of p s) (level_of p o) m
 
+-- the test of the star property
 abbrev pub is_star : SecurityPolicy → ℕ → ℕ → Mode → Bool
 is_star p s o m = is_trusted p s || flows (current_of p s) (level_of p o) m
 
+-- the test of the discretionary property
 abbrev pub is_discretionary : SecurityPolicy → ℕ → ℕ → Mode → Bool
 is_discretionary p s o m = allows p s o m

@@ -1,4 +1,4 @@
-// The policy of the report: a greatest and a current level for each subject, a level for each document,
+// The policy (Bell and La Padula 1976): a greatest and a current level for each subject, a level for each document,
 // the trusted subjects, the administrators, and the matrix; and what it decides.
 //
 // All memory is taken when a policy is made, for the most subjects and documents that there may be. The
