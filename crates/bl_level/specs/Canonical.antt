@@ -31,6 +31,7 @@ abbrev pub gap : Tok → List Tok → List ℕ
 gap t [] = []
 gap t (u ∷ us) = if is_word t && is_word u then 32 ∷ [] else []
 
+-- the bytes of tokens, one behind the other, with their gaps
 abbrev pub canonical : List Tok → List ℕ
 canonical [] = []
 canonical (t ∷ ts) = spelled t ++ (gap t ts ++ canonical ts)

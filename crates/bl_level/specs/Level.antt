@@ -1,7 +1,7 @@
 use Rattle.std.specs.Prelude.{◌≡◌, ℕ, ◌≤◌, Bool, ◌&&◌, nat_le, ◌==◌, bit_and, bit_or, max}
 use Rattle.std.specs.Int.{bit_at}
 
--- a level: a rank, and the set of the categories whose bits are set
+-- a level (Bell and La Padula 1976): a rank, and the set of the categories whose bits are set
 pub record SecurityLevel : Type 0 where
   pub rank : ℕ
   pub categories : ℕ
@@ -10,7 +10,7 @@ pub record SecurityLevel : Type 0 where
 abbrev pub HasCategory : SecurityLevel → ℕ → Type 0
 HasCategory level k = bit_at level.categories k ≡ 1
 
--- a dominates b: its rank is at least b's, and each category of b is one of a
+-- a dominates b (Bell and La Padula 1976): its rank is at least b's, and each category of b is one of a
 pub record Dominates (a b : SecurityLevel) : Type 0 where
   pub rank : b.rank ≤ a.rank
   pub categories : (k : ℕ) → HasCategory b k → HasCategory a k

@@ -7,7 +7,8 @@ use Rattle.bl_level.specs.declared.level.Level.{Level}
 use Rattle.bl_level.specs.declared.scheme.LevelFault.{LevelFault}
 use Rattle.bl_level.specs.declared.scheme.LevelFault.TheVariants.{Syntax, UnknownRank, UnknownCategory, RepeatedCategory}
 
--- The first fault of a text that is spelled as a level: the rank is asked before the categories, and these from the left.
+-- The first fault of a text that is spelled as a level (own choice): the rank is asked before the categories, and each category,
+-- from the left, whether it is known and whether it stood before.
 abbrev pub IsLevelFault : SchemeNames → LevelText → LevelFault → Type 0
 IsLevelFault scheme text Syntax = ⊥
 IsLevelFault scheme text UnknownRank = Contains scheme.ranks text.rank → ⊥

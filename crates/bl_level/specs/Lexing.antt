@@ -126,6 +126,7 @@ abbrev pub sign_front : Option Sign → ℕ → List ℕ → Front
 sign_front (Some s) b bytes = token (sign s) bytes
 sign_front None b bytes = broken (b ∷ bytes)
 
+-- what stands at the front: a word where a letter stands, a text where a quote stands, a sign, or a fault
 abbrev pub front : List ℕ → Front
 front [] = nothing
 front (b ∷ bytes) =

@@ -12,7 +12,7 @@ pub record Fits (ranks categories : List (List ℕ)) : Type 0 where
   pub ranks_fit : length ranks ≤ 16
   pub categories_fit : length categories ≤ 32
 
--- The first fault of these ranks and categories: none is asked after before all before it were.
+-- The first fault of these ranks and categories: each is asked only where no earlier one holds.
 abbrev pub IsSchemeFault : List (List ℕ) → List (List ℕ) → SchemeFault → Type 0
 IsSchemeFault ranks categories Empty = length ranks ≡ 0
 IsSchemeFault ranks categories TooMany = (0 < length ranks) × ((16 < length ranks) ⊎ (32 < length categories))

@@ -9,3 +9,7 @@ pub mod Places
 pub mod Whole
 pub mod OneFault
 pub mod Meanings
+pub mod OneAnswer
+pub mod Contents
+pub mod Altered
+mod Rows

@@ -1,10 +1,11 @@
 -- A line has one first fault.
 use Rattle.std.proofs.Common.{◌≡◌, ℕ, List, [], ◌∷◌, ◌++◌, ◌⊎◌, inl, inr, refl, sym, ap, subst, ◌∙◌, append_assoc, arith}
+use Rattle.std.proofs.lemmas.List.{append-nil}
 use Rattle.bl_level.specs.Token.{Tok}
 use Rattle.bl_level.specs.Lexing.{Front, nothing, token, broken, front, Begins}
 use Rattle.bl_level.specs.Name.{AreProper}
-use Rattle.bl_script.specs.Grammar.{CanGoOn}
-use Rattle.bl_script.specs.Fault.{FaultAt, SyntaxFault}
+use Rattle.bl_script.specs.Grammar.{SpelledLine, spell, CanGoOn}
+use Rattle.bl_script.specs.Fault.{ReadsAs, FaultAt, SyntaxFault}
 use Rattle.bl_script.proofs.Lists.{proper_behind, proper_append}
 
 -- the one goes on where the other stops
@@ -54,3 +55,15 @@ one_fault proper bytes k k' a b = go (compare a.before b.before bytes a.rest b.r
         omega (arith, same_left (front b.rest) b.before b.rest a.left b.left same b.fault, a.place_is, b.place_is)
     go (inr (inl longer)) = absurd (blocked a.before b.before a.rest a.left (proper bytes b.rest b.before b.begins) a.fault longer b.goes_on)
     go (inr (inr longer)) = absurd (blocked b.before a.before b.rest b.left (proper bytes a.rest a.before a.begins) b.fault longer a.goes_on)
+
+-- what reads as a line has no fault
+pub reads_no_fault : ((bytes rest : List ℕ) (ts : List Tok) → Begins bytes ts rest → AreProper ts) → (bytes : List ℕ) (l : SpelledLine) (k : ℕ) → ReadsAs bytes l → SyntaxFault bytes k → ⊥
+reads_no_fault proper bytes l k reads a = go (compare a.before (spell l) bytes a.rest [] a.begins reads)
+  where
+    ends : (f : Front) → f ≡ nothing → FaultAt a.before a.rest f a.left → a.before ≡ spell l → ⊥
+    ends f is fault same = (rw is at fault).1 l (sym same)
+
+    go : Compared a.before a.rest (spell l) [] → ⊥
+    go (inl p) = ends (front a.rest) (ap front p.1) a.fault p.0
+    go (inr (inl longer)) = blocked a.before (spell l) a.rest a.left (proper bytes [] (spell l) reads) a.fault longer (l, [], sym (append-nil (spell l)), tt)
+    go (inr (inr (t, more, m, e, f))) = cc

@@ -5,6 +5,7 @@ pub mod Effects
 pub mod Modes
 pub mod Nesting
 pub mod Script
+pub mod Laws
 pub mod Codes
 pub mod Body
 pub mod BodyFalls

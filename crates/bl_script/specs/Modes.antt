@@ -4,6 +4,7 @@ use Rattle.std.specs.List.{list_any}
 use Rattle.bl_policy.specs.declared.access.Access.{Access}
 use Rattle.bl_policy.specs.declared.access.Mode.{Mode}
 use Rattle.bl_policy.specs.declared.access.Mode.TheVariants.{Read, Append, Write}
+use Rattle.bl_policy.specs.Mode.{is_exclusive}
 use Rattle.bl_script.specs.Statements.{Statements, Nothing, Show, Say, Add, Set, Copy, Pour, If, Spawn}
 
 -- Bell and La Padula 1976: read observes and does not alter, append alters and does not observe, write does both
@@ -12,10 +13,9 @@ observes Read = true
 observes Append = false
 observes Write = true
 
+-- what alters is what is held exclusively
 abbrev pub alters : Mode → Bool
-alters Read = false
-alters Append = true
-alters Write = true
+alters = is_exclusive
 
 abbrev pub is_write : Mode → Bool
 is_write Read = false

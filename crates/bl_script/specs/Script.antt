@@ -1,8 +1,7 @@
 -- Which lists of behaviours are scripts.
-use Rattle.std.specs.Prelude.{◌≢◌, ℕ, ◌<◌, ◌≤◌, length, All, AllPairs, List, IsTrue}
-use Rattle.std.specs.List.{list_all}
+use Rattle.std.specs.Prelude.{◌≢◌, ℕ, ◌<◌, ◌≤◌, length, All, AllPairs, List}
 use Rattle.bl_policy.specs.declared.access.Access.{Access}
-use Rattle.bl_script.specs.Content.{is_content_byte}
+use Rattle.bl_script.specs.Content.{IsContent}
 use Rattle.bl_script.specs.Statements.{Statements, Nothing, Show, Say, Add, Set, Copy, Pour, If, Spawn, Part}
 use Rattle.bl_script.specs.Modes.{KeepsModes}
 use Rattle.bl_script.specs.Nesting.{IsPreorder, depth_at}
@@ -17,18 +16,18 @@ most_accesses = 8
 abbrev pub most_depth : ℕ
 most_depth = 8
 
--- each text in the statements is of content bytes
-abbrev pub HasPlainTexts : Statements → Type 0
-HasPlainTexts Nothing = Unit {0}
-HasPlainTexts (Show doc rest) = HasPlainTexts rest
-HasPlainTexts (Say text rest) = IsTrue (list_all is_content_byte text) × HasPlainTexts rest
-HasPlainTexts (Add doc text rest) = IsTrue (list_all is_content_byte text) × HasPlainTexts rest
-HasPlainTexts (Set doc text rest) = IsTrue (list_all is_content_byte text) × HasPlainTexts rest
-HasPlainTexts (Copy from to rest) = HasPlainTexts rest
-HasPlainTexts (Pour from to rest) = HasPlainTexts rest
-HasPlainTexts (If doc asks text then_body else_body rest) =
-    IsTrue (list_all is_content_byte text) × HasPlainTexts then_body × HasPlainTexts else_body × HasPlainTexts rest
-HasPlainTexts (Spawn behaviour rest) = HasPlainTexts rest
+-- each text in the statements is a content
+abbrev pub HasContents : Statements → Type 0
+HasContents Nothing = Unit {0}
+HasContents (Show doc rest) = HasContents rest
+HasContents (Say text rest) = IsContent text × HasContents rest
+HasContents (Add doc text rest) = IsContent text × HasContents rest
+HasContents (Set doc text rest) = IsContent text × HasContents rest
+HasContents (Copy from to rest) = HasContents rest
+HasContents (Pour from to rest) = HasContents rest
+HasContents (If doc asks text then_body else_body rest) =
+    IsContent text × HasContents then_body × HasContents else_body × HasContents rest
+HasContents (Spawn behaviour rest) = HasContents rest
 
 -- no two of the accesses declare the same document
 abbrev pub AreApart : List Access → Type 0
@@ -40,7 +39,7 @@ pub record IsBehaviour (part : Part) : Type 0 where
   pub few : length part.accesses ≤ most_accesses
   pub apart : AreApart part.accesses
   pub modes : KeepsModes part.accesses part.body
-  pub texts : HasPlainTexts part.body
+  pub texts : HasContents part.body
 
 -- a script: not too many behaviours, in pre-order, not too deep, and each one right
 pub record IsScript (script : List Part) : Type 0 where

@@ -1,16 +1,38 @@
 //! What holds of scripts and their effects, whoever runs them.
 ghost use Rattle.std.specs.Prelude.{◌≡◌, ◌↔◌, ℕ, List, [], IsTrue};
 ghost use Rattle.bl_policy.specs.declared.access.Access.{Access};
-ghost use Rattle.bl_script.specs.declared.script.Condition.TheVariants.{Is, Has};
-ghost use Rattle.bl_script.specs.Statements.{Statements};
-ghost use Rattle.bl_script.specs.Modes.{declares, observes, KeepsModes};
+ghost use Rattle.bl_script.specs.Content.{IsContent};
 ghost use Rattle.bl_script.specs.Effects.{effects_of, holds_of};
+ghost use Rattle.bl_script.specs.Laws.{AltersOnlyDeclared, IsAdded, LookAlike, StaysContent};
+ghost use Rattle.bl_script.specs.Modes.{KeepsModes};
 ghost use Rattle.bl_script.specs.Piece.{StandsIn};
+ghost use Rattle.bl_script.specs.Script.{HasContents};
+ghost use Rattle.bl_script.specs.Statements.{Statements};
+ghost use Rattle.bl_script.specs.declared.script.Condition.TheVariants.{Is, Has};
 
 /// A blind append sees nothing: on contents that differ only where the accesses do not let the body look, a body that
 /// keeps to its accesses has the same effects.
 pub fn blind_append()
-    ensures { (accesses : List Access) (c d : ℕ → List ℕ) (body : Statements) → ((o : ℕ) → IsTrue (declares observes accesses o) → c o ≡ d o) → KeepsModes accesses body → effects_of c body ≡ effects_of d body }
+    ensures { (accesses : List Access) (contents others : ℕ → List ℕ) (body : Statements) →
+        LookAlike accesses contents others → KeepsModes accesses body →
+        effects_of contents body ≡ effects_of others body }
+{}
+
+/// A body that keeps to its accesses alters no document but those that it declares append or write.
+pub fn only_declared_documents_change()
+    ensures { (accesses : List Access) (contents : ℕ → List ℕ) (body : Statements) →
+        KeepsModes accesses body → AltersOnlyDeclared accesses contents body }
+{}
+
+/// From contents and texts a body makes contents.
+pub fn contents_stay_contents()
+    ensures { (contents : ℕ → List ℕ) (body : Statements) →
+        ((doc : ℕ) → IsContent (contents doc)) → HasContents body → StaysContent contents body }
+{}
+
+/// An addition is cut only where the content is full.
+pub fn additions_are_cut()
+    ensures { (content text : List ℕ) → IsAdded content text }
 {}
 
 /// A condition `is` holds of the text itself alone, and a condition `has` of each content in which the text stands

@@ -11,3 +11,4 @@ pub mod Lawful
 pub mod Secure
 pub mod HeadlineProof
 pub mod PlaceLaws
+pub mod Present

@@ -2,13 +2,15 @@
 use Rattle.std.proofs.Common.{◌≡◌, ℕ, zero, suc, ◌-◌, ◌<◌, ◌≤◌, Bool, true, false, cond, ◌&&◌, ◌||◌, not, List, [], ◌∷◌, length, refl, sym, ◌∙◌, ap, inl, inr, arith, ◌⊎◌, true≢false, get_or}
 use Rattle.std.specs.Prelude.{Some, slice_get, slice_index_or, nat_lt}
 use Rattle.bl_script.specs.Effects.{Effect, after, children}
-use Rattle.bl_setup.specs.Order.{Setup, Entry, Child, Task, is_rule, conflict, is_altered, accesses_of}
+use Rattle.bl_setup.specs.Order.{Setup, Entry, Child, Task, is_rule, conflict, is_altered, accesses_of, Line}
 use Rattle.bl_setup.specs.Past.{earlier, place, past_of, no_entry, policy_of, content_of, is_done, subject_of, task_of, child_task, deeds, answer_of}
-use Rattle.bl_setup.specs.Laws.{IsAnswered, fault_at}
+use Rattle.bl_setup.specs.Laws.{IsAnswered, IsClosed, fault_at}
 use Rattle.bl_setup.specs.Machine.{State, past_at, has_ended, phase_at, MayStart, may_start, is_clear, is_waiting}
 use Rattle.std.proofs.lemmas.Bool.Decides.{nat_tests}
 use Rattle.bl_setup.proofs.Places.{at_place-earlier, less_or_equal}
 use Rattle.bl_setup.proofs.StateLaws.{changed-skips}
+use Rattle.bl_setup.proofs.Sound.{HasParent}
+use Rattle.bl_setup.proofs.Frame.{place-alike}
 
 -- ---- answers
 
@@ -146,3 +148,20 @@ may_start-is x n = (to, from)
         both_and (nat_lt n (length x.order) && is_waiting (phase_at x n)) (is_clear x (past_at x n).task n)
         (both_and (nat_lt n (length x.order)) (is_waiting (phase_at x n)) (less_test n (length x.order) may.there) may.waits)
         (clear-from x (past_at x n).task n may.clear)
+
+-- ---- ended places
+
+get-within : (order : List Entry) (n : ℕ) → n < length order → slice_get order n ≡ Some (get_or order n no_entry)
+get-within [] n lt = absurd (omega arith)
+get-within (x ∷ xs) zero lt = refl
+get-within (x ∷ xs) (suc n) lt = get-within xs n (omega arith)
+
+parent-closed : (setup : Setup) (lost ended : ℕ → Bool) (order : List Entry) → IsClosed setup lost order ended → (n : ℕ) (e : Entry) → slice_get order n ≡ Some e → HasParent ended n e
+parent-closed setup lost ended order closed n (Line session ordinal subject work) h = tt
+parent-closed setup lost ended order closed n (Child parent which) h = closed.parents n parent which h
+
+pub rests_on_ended : (setup : Setup) (lost others ended : ℕ → Bool) (order : List Entry) → IsClosed setup lost order ended → ((k : ℕ) → ended k ≡ true → lost k ≡ others k)
+    → (n : ℕ) → n < length order → ended n ≡ true → place setup lost order n ≡ place setup others order n
+rests_on_ended setup lost others ended order closed same n lt over =
+    (place-alike setup order lost others ended same closed.conflicts
+    (λ m at. parent-closed setup lost ended order closed m (get_or order m no_entry) (get-within order m at)) n lt).all over

@@ -1,4 +1,5 @@
 -- The worked examples, computed from the definitions alone.
+use Rattle.std.proofs.Common.{lit<, lit≤}
 use Rattle.std.specs.Prelude.{◌≡◌, Bool, true, false, List, [], ◌∷◌, ◌++◌, map, refl}
 use Rattle.bl_policy.specs.declared.access.Mode.TheVariants.{Read, Append, Write}
 use Rattle.bl_policy.specs.declared.denial.Clause.TheVariants.{Simple, Star, Discretionary}
@@ -9,8 +10,9 @@ use Rattle.bl_script.specs.declared.work.Work.TheVariants as work
 use Rattle.bl_script.specs.declared.answer.Answer.{Answer}
 use Rattle.bl_script.specs.declared.answer.Answer.TheVariants.{Done, Lost}
 use Rattle.bl_setup.specs.Order.{Entry, Child}
-use Rattle.bl_setup.specs.Machine.{State, Event, Opens, Admits, Starts, Ends, Loses, start, state_after, may_start, past_at, has_ended, held}
+use Rattle.bl_setup.specs.Machine.{State, Event, IsTrail, Opens, Admits, Starts, Ends, Loses, start, state_after, may_start, past_at, has_ended, held}
 use Rattle.bl_setup.specs.Now.{content_now}
+use Rattle.bl_setup.proofs.PlaceLaws.{may_start-is}
 use Rattle.bl_setup.proofs.Base.{base, ann, bob, cat, root, memo, note, log, m1, n1, access, behaves, when, reads, lines, answer_at, denied_for}
 
 -- ---- decisions on accesses
@@ -139,3 +141,17 @@ two-sessions-read-together-may = refl
 denied-ends-at-its-start : map (λ (x : State). has_ended x 0) (after_all (Opens bob ∷ Admits 0 1 (reads memo) ∷ Starts 0 ∷ []) ∷ after_all (Opens ann ∷ Admits 0 1 (reads memo) ∷ Starts 0 ∷ []) ∷ []) ≡ true ∷ false ∷ []
 unfolding after_all
 denied-ends-at-its-start = refl
+
+-- the events of the first example of children are a trail, so a state is reached in which a child has run
+one_worker-is-a-trail : IsTrail (λ w. true) (start base 10000) one_worker
+unfolding adds_a adds_b one_worker
+one_worker-is-a-trail = (
+  (lit< tt, lit< tt),
+  (
+    (lit< tt, refl, lit< tt, lit< tt, lit≤ tt),
+    (
+      (lit< tt, refl, lit< tt, lit< tt, lit≤ tt),
+      ((may_start-is _ 0).0 refl, (refl, ((may_start-is _ 1).0 refl, (refl, ((may_start-is _ 2).0 refl, (refl, tt)))))),
+    ),
+  ),
+)

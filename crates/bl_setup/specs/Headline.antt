@@ -1,9 +1,11 @@
 -- What holds of every state that a trail leads to.
-use Rattle.std.specs.Prelude.{◌≡◌, ℕ, ◌<◌, ◌≤◌, Bool, false, IsTrue, ◌⊎◌, List, length, All}
+use Rattle.std.specs.Prelude.{◌≡◌, ℕ, ◌<◌, ◌≤◌, Bool, false, IsTrue, ◌⊎◌, List, length, All, if◌then◌else◌}
 use Rattle.bl_policy.specs.Properties.{IsSecure}
 use Rattle.bl_script.specs.declared.work.Work.{Work}
-use Rattle.bl_setup.specs.Order.{Setup, accesses_of, is_declared}
-use Rattle.bl_setup.specs.Machine.{State, Event, Hold, past_at, is_lost, has_ended, runs, MayStart, Needs, IsTrail, change, start, state_after, held}
+use Rattle.bl_script.specs.Effects.{after}
+use Rattle.bl_setup.specs.Order.{Setup, accesses_of, is_altered, is_declared}
+use Rattle.bl_setup.specs.Past.{changed}
+use Rattle.bl_setup.specs.Machine.{State, Event, Opens, Admits, Starts, Ends, Loses, Hold, past_at, is_lost, has_ended, runs, MayStart, Needs, IsTrail, change, start, state_after, held}
 use Rattle.bl_setup.specs.Now.{policy_at, policy_now, content_at, content_now, IsFirstToAlter}
 use Rattle.bl_setup.specs.Legal.{IsLegal}
 
@@ -15,7 +17,8 @@ pub record IsReached (knows : Work → Bool) (x : State) : Type 0 where
   pub trail : IsTrail knows (start setup limit) events
   pub leads : x ≡ state_after (start setup limit) events
 
--- the headline
+-- The headline, of a state: what is held is secure, places find the policy and the contents of their place, nothing is stuck, and
+-- what has ended stays as it is.
 pub record Holds (knows : Work → Bool) (x : State) : Type 0 where
   -- Bell and La Padula 1976: every access that is held has the three properties, under the policy now
   pub secure : All (λ (h : Hold). IsSecure (policy_now x) h.subject h.doc h.mode) (held x)
@@ -34,3 +37,27 @@ pub record Holds (knows : Work → Bool) (x : State) : Type 0 where
       → past_at (change x event) n ≡ past_at x n
   -- the order is legal
   pub legal : IsLegal x.setup (is_lost x) x.order
+
+-- how the policy and the contents now move with each event
+pub record MovesOn (knows : Work → Bool) (x : State) : Type 0 where
+  -- a start changes the policy as its place's answer says, and no content
+  pub start_policy : (n : ℕ) → MayStart x n
+      → policy_now (change x (Starts n)) ≡ changed (past_at x n).answer (past_at x n).task (past_at x n).subject (policy_now x)
+  pub start_content : (n doc : ℕ) → MayStart x n → content_now (change x (Starts n)) doc ≡ content_now x doc
+  -- an end changes no policy, and by the place's effects each document that it declares append or write
+  pub end_policy : (n : ℕ) → IsTrue (runs x n) → policy_now (change x (Ends n)) ≡ policy_now x
+  pub end_content : (n doc : ℕ) → IsTrue (runs x n)
+      → content_now (change x (Ends n)) doc
+      ≡ (if is_altered (accesses_of (past_at x n).task) doc
+      then after (content_now x doc) (past_at x n).effects doc
+      else content_now x doc)
+  -- a loss, a line and an opening change neither
+  pub loss_policy : (n : ℕ) → Needs knows x (Loses n) → policy_now (change x (Loses n)) ≡ policy_now x
+  pub loss_content : (n doc : ℕ) → Needs knows x (Loses n) → content_now (change x (Loses n)) doc ≡ content_now x doc
+  pub line_policy : (session ordinal : ℕ) (work : Work) → Needs knows x (Admits session ordinal work)
+      → policy_now (change x (Admits session ordinal work)) ≡ policy_now x
+  pub line_content : (session ordinal : ℕ) (work : Work) (doc : ℕ) → Needs knows x (Admits session ordinal work)
+      → content_now (change x (Admits session ordinal work)) doc ≡ content_now x doc
+  pub opening_policy : (subject : ℕ) → Needs knows x (Opens subject) → policy_now (change x (Opens subject)) ≡ policy_now x
+  pub opening_content : (subject doc : ℕ) → Needs knows x (Opens subject)
+      → content_now (change x (Opens subject)) doc ≡ content_now x doc

@@ -1,9 +1,9 @@
 -- What is said of places, in the words of their answers, contents and children.
-use Rattle.std.specs.Prelude.{◌≡◌, ℕ, ◌-◌, ◌<◌, ◌≤◌, Bool, true, false, ◌&&◌, List, [], ◌++◌, length, slice_index_or, Option, Some, None}
+use Rattle.std.specs.Prelude.{◌≡◌, ℕ, ◌-◌, ◌<◌, ◌≤◌, Bool, true, false, ◌&&◌, List, [], ◌++◌, length, slice_index_or, Option, Some, None, slice_get}
 use Rattle.bl_policy.specs.declared.denial.Denial.{Denial}
 use Rattle.bl_script.specs.Effects.{after, children}
 use Rattle.bl_script.specs.declared.answer.Answer.TheVariants.{Denied, Lost}
-use Rattle.bl_setup.specs.Order.{Setup, Entry, is_rule, is_altered, accesses_of}
+use Rattle.bl_setup.specs.Order.{Setup, Entry, is_rule, is_altered, accesses_of, conflict, Child}
 use Rattle.bl_setup.specs.Past.{place, policy_before, content_before, is_done, child_task, deeds, fault_of_task, granted}
 
 -- the places of an order keep their records where more entries come
@@ -56,3 +56,16 @@ pub record FollowsItsParent (setup : Setup) (lost : ℕ → Bool) (order : List 
   pub subject : (place setup lost order n).subject ≡ (place setup lost order parent).subject
   pub task : (place setup lost order n).task
       ≡ child_task (place setup lost order parent).task (slice_index_or (children (place setup lost order parent).effects) (which - 1) 0)
+
+-- A set of ended places is closed: where a place has ended, so has each earlier one that it conflicts with, and each child
+-- stands behind its parent, which has ended.
+pub record IsClosed (setup : Setup) (lost : ℕ → Bool) (order : List Entry) (ended : ℕ → Bool) : Type 0 where
+  pub conflicts : (m n : ℕ) → m < n → n < length order → ended n ≡ true
+      → conflict (place setup lost order m).task (place setup lost order n).task ≡ true → ended m ≡ true
+  pub parents : (n parent which : ℕ) → slice_get order n ≡ Some (Child parent which) → (parent < n) × (ended parent ≡ true)
+
+-- what is said of ended places rests on which of them are lost, and not on what becomes of the others
+abbrev pub RestsOnEnded : Setup → List Entry → (ℕ → Bool) → (ℕ → Bool) → Type 0
+RestsOnEnded setup order ended lost =
+    (others : ℕ → Bool) → ((k : ℕ) → ended k ≡ true → lost k ≡ others k)
+    → (n : ℕ) → n < length order → ended n ≡ true → place setup lost order n ≡ place setup others order n

@@ -92,7 +92,7 @@ is_clear x task (suc m) = (not (conflict (past_at x m).task task) || has_ended x
 abbrev pub may_start : State → ℕ → Bool
 may_start x n = nat_lt n (length x.order) && is_waiting (phase_at x n) && is_clear x (past_at x n).task n
 
--- own choice: a line weighs as much as the behaviours of its script
+-- own choice: a line weighs one for each `when` in it
 abbrev pub weight_of : Work → ℕ
 weight_of (work.Behaviour script) = length script
 
@@ -166,7 +166,7 @@ module _ (knows : Work → Bool) where
   IsTrail x [] = Unit {0}
   IsTrail x (event ∷ events) = Needs knows x event × IsTrail (change x event) events
 
--- an access that is held: whose it is, of what, and how
+-- Bell and La Padula 1976, current access: an access that is held, whose it is, of what, and how
 pub record Hold : Type 0 where
   pub subject : ℕ
   pub doc : ℕ

@@ -14,8 +14,9 @@ pub record Setup : Type 0 where
   pub policy : SecurityPolicy
   pub contents : List (List ℕ)
 
--- AdmissionOrder (Cheeseman et al. 2023: a behaviour spawned earlier stands earlier): an entry is a line of a session, or the
--- which-th child of an earlier place, counted from 1. A place is a position in the order, from 0.
+-- AdmissionOrder (Cheeseman et al. 2023: of two behaviours that share a cown the one spawned earlier runs first; own choice: a
+-- child enters at its parent's end): an entry is a line of a session, or the which-th child of an earlier place, counted from 1.
+-- A place is a position in the order, from 0.
 pub data Entry : Type 0 where
   Line : (session ordinal subject : ℕ) → (work : Work) → Entry
   Child : (parent which : ℕ) → Entry

@@ -38,13 +38,13 @@ is_done Lost = false
 abbrev pub changed : Answer → Task → ℕ → SecurityPolicy → SecurityPolicy
 changed answer (Runs script index) subject policy = policy
 
--- PolicyAt: the setup's policy, changed by these places in order
+-- the policy that these records make: the setup's, changed by them in order
 abbrev pub policy_of : Setup → List Past → SecurityPolicy
 policy_of setup [] = setup.policy
 policy_of setup (past ∷ earlier) = changed past.answer past.task past.subject (policy_of setup earlier)
 
--- ContentAt: the last of these places that ran and declares the document append or write has changed what stood there
--- before; without such a place it is the setup's content
+-- The content that these records make: the last of these places that ran and declares the document append or write has changed
+-- what stood there before; without such a place it is the setup's content.
 abbrev pub content_of : Setup → List Past → ℕ → List ℕ
 content_of setup [] doc = slice_index_or setup.contents doc []
 content_of setup (past ∷ earlier) doc =
@@ -79,7 +79,7 @@ lent accesses contents doc = if is_declared accesses doc then contents doc else 
 abbrev pub deeds : Task → (ℕ → List ℕ) → List Effect
 deeds task contents = effects_of (lent (accesses_of task) contents) (body_of task)
 
--- Bell and La Padula 1976: what the policy has against a task. Of a behaviour it is the first access at fault.
+-- What the policy has against a task: of a behaviour the first access at fault (own choice: the order in which faults are named).
 abbrev pub fault_of_task : SecurityPolicy → ℕ → Task → Option Denial
 fault_of_task policy subject (Runs script index) = first_fault policy subject (accesses_of (Runs script index))
 

@@ -1,8 +1,8 @@
 //! What holds of the admission order and of the machine over it, whoever runs it.
 ghost use Rattle.std.specs.Prelude.{◌≡◌, ◌↔◌, ℕ, ◌<◌, Bool, IsTrue, List, slice_get, Some};
 ghost use Rattle.bl_script.specs.declared.work.Work.{Work};
-ghost use Rattle.bl_setup.specs.Headline.{Holds, IsReached};
-ghost use Rattle.bl_setup.specs.Laws.{FollowsItsParent, IsAnswered, KeepsPlaces, LeavesThePolicy, LooksBack, RestsOnLossesBefore};
+ghost use Rattle.bl_setup.specs.Headline.{Holds, IsReached, MovesOn};
+ghost use Rattle.bl_setup.specs.Laws.{FollowsItsParent, IsAnswered, IsClosed, KeepsPlaces, LeavesThePolicy, LooksBack, RestsOnEnded, RestsOnLossesBefore};
 ghost use Rattle.bl_setup.specs.Machine.{MayStart, State, may_start};
 ghost use Rattle.bl_setup.specs.Order.{Child, Entry, Setup};
 
@@ -18,6 +18,13 @@ pub fn places_rest_on_the_past()
         KeepsPlaces setup lost order more }
     ensures losses { (setup : Setup) (order : List Entry) (n : ℕ) →
         RestsOnLossesBefore setup order n }
+{}
+
+/// What is said of a place that has ended rests on ended places alone, where each has those before it that it conflicts
+/// with, and its parent, among them.
+pub fn ended_places_rest_on_ended_places()
+    ensures { (setup : Setup) (lost ended : ℕ → Bool) (order : List Entry) →
+        IsClosed setup lost order ended → RestsOnEnded setup order ended lost }
 {}
 
 /// The content at a place is what the last place before it that wrote the document left there.
@@ -49,4 +56,9 @@ pub fn may_start_is_tested()
 /// sessions may send.
 pub fn headline()
     ensures { (knows : Work → Bool) (x : State) → IsReached knows x → Holds knows x }
+{}
+
+/// The policy and the contents now move with each event, and the rest of the machine leaves them alone.
+pub fn events_move_the_present()
+    ensures { (knows : Work → Bool) (x : State) → IsReached knows x → MovesOn knows x }
 {}
