@@ -7,7 +7,8 @@ use Rattle.bl_policy.specs.declared.access.Mode.{Mode}
 use Rattle.bl_policy.specs.declared.access.Mode.TheVariants.{Read, Append, Write}
 use Rattle.bl_script.specs.Statements as statement
 use Rattle.bl_script.specs.Statements.{Statements}
-use Rattle.bl_script.specs.Effects.{Effect, Out, Put, Add, Child, added, after, holds_of, effects_from, effects_of, seen}
+use Rattle.bl_script.specs.Content.{added}
+use Rattle.bl_script.specs.Effects.{Effect, Out, Put, Add, Child, after, holds_of, effects_from, effects_of, seen}
 use Rattle.bl_script.specs.Modes.{alters, declares, is_write, KeepsModes}
 
 after-append : (content : List ℕ) (xs ys : List Effect) (o : ℕ) → after content (xs ++ ys) o ≡ after (after content xs o) ys o

@@ -5,10 +5,10 @@ use Rattle.std.specs.List.{list_all, AllByRecursion}
 use Rattle.std.proofs.lemmas.List.{length-take}
 use Rattle.std.proofs.lemmas.List.Elements.{All-from_recursion}
 use Rattle.std.proofs.lemmas.List.Folds.{list_all-append}
-use Rattle.bl_script.specs.Content.{is_content_byte, most_bytes, IsContent}
+use Rattle.bl_script.specs.Content.{is_content_byte, most_bytes, IsContent, added}
 use Rattle.bl_script.specs.Statements as statement
 use Rattle.bl_script.specs.Statements.{Statements}
-use Rattle.bl_script.specs.Effects.{Effect, Out, Put, Add, Child, added, after, holds_of, effects_from, effects_of, seen, outputs}
+use Rattle.bl_script.specs.Effects.{Effect, Out, Put, Add, Child, after, holds_of, effects_from, effects_of, seen, outputs}
 use Rattle.bl_script.specs.Script.{HasContents}
 use Rattle.bl_script.specs.Laws.{IsAdded, StaysContent}
 
@@ -29,6 +29,7 @@ take_short : (n : ℕ) (xs : List ℕ) → length (take n xs) ≤ n
 take_short n xs = omega (arith, length-take n xs)
 
 pub is_added : (content text : List ℕ) → IsAdded content text
+unfolding added
 is_added content text = record {
   cut = drop most_bytes (content ++ text);
   split = take_and_drop most_bytes (content ++ text);
@@ -54,6 +55,7 @@ all_take p (suc n) (x ∷ xs) h =
     both_and (p x) (list_all p (take n xs)) b.0 (all_take p n xs b.1)
 
 added-content : (content text : List ℕ) → IsContent content → IsContent text → IsContent (added content text)
+unfolding added
 added-content content text c t = record {
   short = take_short most_bytes (content ++ text);
   plain = all_take is_content_byte most_bytes (content ++ text)

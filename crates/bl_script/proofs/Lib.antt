@@ -13,3 +13,4 @@ pub mod OneAnswer
 pub mod Contents
 pub mod Altered
 mod Rows
+pub mod Additions

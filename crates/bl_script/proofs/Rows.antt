@@ -4,6 +4,7 @@ use Rattle.std.specs.Prelude.{◌≡◌, ℕ, zero, suc, ◌+◌, ◌<◌, if◌
 use Rattle.bl_policy.specs.declared.access.Mode.TheVariants.{Read}
 use Rattle.bl_script.specs.declared.script.Condition.TheVariants.{Is, Has}
 use Rattle.bl_script.specs.Statements.{Statements, Nothing, Show, Say, Set, Pour, If, Spawn, Part, no_part}
+use Rattle.bl_script.specs.Content.{added}
 use Rattle.bl_script.specs.Effects.{effects_of, after, outputs}
 use Rattle.bl_script.specs.Nesting.{size_at, depth_at, spawned, AreNumbered, IsPreorder}
 
@@ -57,7 +58,7 @@ unfolding with_log pours
 blind-append-pours = refl
 
 blind-append-pours-log : map (λ text. after text (effects_of (with_log text) pours) 1) ([] ∷ codes "zz" ∷ []) ≡ codes "n1" ∷ codes "zzn1" ∷ []
-unfolding with_log pours
+unfolding added with_log pours
 blind-append-pours-log = refl
 
 -- note is document 0, memo is document 1
@@ -68,9 +69,10 @@ chooses : Statements
 chooses = If 0 Is (codes "n1") (Pour 0 1 Nothing) (Set 1 (codes "no") Nothing) (Show 1 (If 1 Has (codes "1n") (Say (codes "yes") Nothing) Nothing Nothing))
 
 choose-and-pour : map (λ text. outputs (effects_of (with_note text) chooses)) (codes "n1" ∷ codes "n2" ∷ []) ≡ (codes "m1n1" ∷ codes "yes" ∷ []) ∷ (codes "no" ∷ []) ∷ []
-unfolding with_note chooses
+unfolding added with_note chooses
 choose-and-pour = refl
 
 -- a document poured onto itself is doubled
 doubles : after (codes "m1") (effects_of (λ doc. codes "m1") (Pour 0 0 Nothing)) 0 ≡ codes "m1m1"
+unfolding added
 doubles = refl

@@ -1,5 +1,5 @@
 -- What a document may hold.
-use Rattle.std.specs.Prelude.{ℕ, ◌≤◌, Bool, ◌&&◌, not, ◌==◌, nat_le, List, length, IsTrue}
+use Rattle.std.specs.Prelude.{ℕ, ◌≤◌, Bool, ◌&&◌, not, ◌==◌, nat_le, List, ◌++◌, take, length, IsTrue}
 use Rattle.std.specs.List.{list_all}
 
 -- own choice: a printable ASCII byte other than `"` and `\`
@@ -14,3 +14,7 @@ most_bytes = 65536
 pub record IsContent (bytes : List ℕ) : Type 0 where
   pub short : length bytes ≤ most_bytes
   pub plain : IsTrue (list_all is_content_byte bytes)
+
+-- own choice: a content with an addition at its end, cut at the greatest length, so that who adds learns nothing of it
+unfoldable pub added : List ℕ → List ℕ → List ℕ
+added content text = take most_bytes (content ++ text)

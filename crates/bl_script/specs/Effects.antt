@@ -1,9 +1,9 @@
 -- What a body does on given contents.
-use Rattle.std.specs.Prelude.{ℕ, Bool, if◌then◌else◌, ◌==◌, List, [], ◌∷◌, ◌++◌, take}
+use Rattle.std.specs.Prelude.{ℕ, Bool, if◌then◌else◌, ◌==◌, List, [], ◌∷◌, ◌++◌}
 use Rattle.std.specs.Str.{bytes_eq}
 use Rattle.bl_script.specs.declared.script.Condition.{Condition}
 use Rattle.bl_script.specs.declared.script.Condition.TheVariants.{Is, Has}
-use Rattle.bl_script.specs.Content.{most_bytes}
+use Rattle.bl_script.specs.Content.{added}
 use Rattle.bl_script.specs.Piece.{has_piece}
 use Rattle.bl_script.specs.Statements as statement
 use Rattle.bl_script.specs.Statements.{Statements}
@@ -14,10 +14,6 @@ pub data Effect : Type 0 where
   Put : (doc : ℕ) → (text : List ℕ) → Effect
   Add : (doc : ℕ) → (text : List ℕ) → Effect
   Child : (behaviour : ℕ) → Effect
-
--- own choice: a content with an addition at its end, cut at the greatest length, so that who adds learns nothing of it
-abbrev pub added : List ℕ → List ℕ → List ℕ
-added content text = take most_bytes (content ++ text)
 
 -- After: a document's content after the effects on it, in order
 abbrev pub after : List ℕ → List Effect → ℕ → List ℕ

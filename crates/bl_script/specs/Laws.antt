@@ -1,9 +1,9 @@
 -- What is said of effects, whoever runs the body.
 use Rattle.std.specs.Prelude.{◌≡◌, ℕ, ◌<◌, ◌≤◌, false, IsTrue, All, List, ◌++◌, length}
 use Rattle.bl_policy.specs.declared.access.Access.{Access}
-use Rattle.bl_script.specs.Content.{IsContent, most_bytes}
+use Rattle.bl_script.specs.Content.{IsContent, most_bytes, added}
 use Rattle.bl_script.specs.Statements.{Statements}
-use Rattle.bl_script.specs.Effects.{added, after, effects_of, outputs}
+use Rattle.bl_script.specs.Effects.{after, effects_of, outputs}
 use Rattle.bl_script.specs.Modes.{alters, declares, observes}
 
 -- the contents are the same wherever the accesses let a body look

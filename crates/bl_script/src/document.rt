@@ -1,6 +1,8 @@
 //! Shared bytes of a content. Who looks at a content holds one more owner of the same bytes, and nobody copies them.
-ghost use Rattle.std.specs.Prelude.{◌≡◌, IfOk};
-ghost use Rattle.bl_script.specs.Content.{IsContent};
+ghost use Rattle.std.specs.Prelude.{◌≡◌, ◌+◌, ◌^◌, ◌<◌, ◌++◌, length, IfOk, OnOk, OnErr, IsTrue};
+ghost use Rattle.std.specs.Arc.{arc_value};
+ghost use Rattle.std.specs.List.{list_all};
+ghost use Rattle.bl_script.specs.Content.{IsContent, is_content_byte, added};
 
 use std::alloc::{AllocError, Global};
 use std::marker::Model;
@@ -50,12 +52,42 @@ impl Document {
         })
     }
 
+    /// Adds the text at the end, cut at 65,536 bytes. The bytes are written in place where this is their only owner, and
+    /// otherwise copied first, so that other owners keep what they have. After an error the document is as before.
+    pub fn add(&mut self, alloc: Global, text: &[u8]) -> Result<(), AllocError>
+        requires { IsTrue (list_all is_content_byte text.now) }
+        ensures ok { OnOk result (self.new ≡ added self.old text.now) }
+        ensures err { OnErr result (self.new ≡ self.old) }
+    {
+        let room = MOST_BYTES - self.bytes.len();
+        let kept = &text[..room.min(text.len())];
+        if let Some(bytes) = Arc::get_mut(&mut self.bytes) {
+            return bytes.extend_from_slice(kept);
+        }
+        self.bytes = joined(alloc, self.bytes.as_slice(), kept)?;
+        Ok(())
+    }
+
     /// The bytes.
     pub fn bytes(&self) -> &[u8]
         ensures value { result.now ≡ self.now }
         ensures content { IsContent self.now }
     {
         self.bytes.as_slice()
+    }
+}
+
+/// New shared bytes: those of the front, and then those of the back.
+fn joined(alloc: Global, front: &[u8], back: &[u8]) -> Result<Arc<Vec<u8>, Global>, AllocError>
+    requires { length front.now + length back.now < 2 ^ 64 }
+    ensures { IfOk result (λ bytes. (arc_value bytes).items ≡ front.now ++ back.now) }
+{
+    let mut bytes = Vec::with_capacity(alloc, front.len() + back.len())?;
+    bytes.extend_from_slice(front)?;
+    bytes.extend_from_slice(back)?;
+    match Arc::new(alloc, bytes) {
+        Ok(bytes) => Ok(bytes),
+        Err(_) => Err(AllocError),
     }
 }
 

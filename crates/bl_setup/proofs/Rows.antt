@@ -4,6 +4,7 @@ use Rattle.std.specs.Prelude.{◌≡◌, Bool, true, false, List, [], ◌∷◌,
 use Rattle.bl_policy.specs.declared.access.Mode.TheVariants.{Read, Append, Write}
 use Rattle.bl_policy.specs.declared.denial.Clause.TheVariants.{Simple, Star, Discretionary}
 use Rattle.bl_script.specs.declared.script.Condition.TheVariants.{Is, Has}
+use Rattle.bl_script.specs.Content.{added}
 use Rattle.bl_script.specs.Statements.{Nothing, Show, Say, Add, Set, Pour, If, Spawn}
 use Rattle.bl_script.specs.declared.work.Work.{Work}
 use Rattle.bl_script.specs.declared.work.Work.TheVariants as work
@@ -45,7 +46,7 @@ answers order = map (answer_at order) (0 ∷ 1 ∷ [])
 denial-changes-nothing :
     answers (lines ann (when (access Write memo ∷ access Write note ∷ []) (Set memo (122 ∷ []) Nothing) ∷ reads memo ∷ []))
     ≡ denied_for Star ann note ∷ Done (m1 ∷ []) ∷ []
-unfolding answers
+unfolding added answers
 denial-changes-nothing = refl
 
 -- ---- scripts and contents, on the machine
@@ -57,7 +58,7 @@ after_all events = state_after (start base 10000) events
 append-upward :
     content_now (after_all (Opens ann ∷ Admits 0 1 (when (access Append log ∷ []) (Add log (120 ∷ []) Nothing)) ∷ Starts 0 ∷ Ends 0 ∷ [])) log
     ≡ 120 ∷ []
-unfolding after_all
+unfolding added after_all
 append-upward = refl
 
 chooses : Work
@@ -67,7 +68,7 @@ chooses =
     (Show memo (If memo Has (49 ∷ 110 ∷ []) (Say (121 ∷ 101 ∷ 115 ∷ []) Nothing) Nothing Nothing)))
 
 choose-and-pour : answer_at (lines ann (chooses ∷ [])) 0 ≡ Done ((m1 ++ n1) ∷ (121 ∷ 101 ∷ 115 ∷ []) ∷ [])
-unfolding chooses
+unfolding added chooses
 choose-and-pour = refl
 
 -- ---- children, and who may start
@@ -85,13 +86,13 @@ one_worker : List Event
 one_worker = Opens ann ∷ Admits 0 1 adds_a ∷ Admits 0 2 adds_b ∷ Starts 0 ∷ Ends 0 ∷ Starts 1 ∷ Ends 1 ∷ Starts 2 ∷ Ends 2 ∷ []
 
 child-enters-after-admitted-line : (after_all one_worker).order ≡ lines ann (adds_a ∷ adds_b ∷ []) ++ Child 0 1 ∷ []
-unfolding adds_a adds_b one_worker after_all
+unfolding added adds_a adds_b one_worker after_all
 child-enters-after-admitted-line = refl
 
 child-enters-after-admitted-line-answers :
     map (λ n. (past_at (after_all one_worker) n).answer) (0 ∷ 1 ∷ 2 ∷ [])
     ≡ Done [] ∷ Done [] ∷ Done ((m1 ++ 97 ∷ 98 ∷ []) ∷ []) ∷ []
-unfolding adds_a adds_b one_worker after_all
+unfolding added adds_a adds_b one_worker after_all
 child-enters-after-admitted-line-answers = refl
 
 -- ann reads memo, writes memo, reads memo, reads note
@@ -104,29 +105,29 @@ may : List Event → List Bool
 may events = map (may_start (after_all (four_lines ++ events))) (0 ∷ 1 ∷ 2 ∷ 3 ∷ [])
 
 who-may-start : may [] ≡ true ∷ false ∷ false ∷ true ∷ []
-unfolding may four_lines after_all
+unfolding added may four_lines after_all
 who-may-start = refl
 
 who-may-start-after-0 : may (Starts 0 ∷ Ends 0 ∷ []) ≡ false ∷ true ∷ false ∷ true ∷ []
-unfolding may four_lines after_all
+unfolding added may four_lines after_all
 who-may-start-after-0 = refl
 
 who-may-start-after-1-and-3 : may (Starts 0 ∷ Ends 0 ∷ Starts 1 ∷ Starts 3 ∷ Ends 3 ∷ Ends 1 ∷ []) ≡ false ∷ false ∷ true ∷ false ∷ []
-unfolding may four_lines after_all
+unfolding added may four_lines after_all
 who-may-start-after-1-and-3 = refl
 
 -- two readers of one document run together, and each access is held once
 two-sessions-read-together :
     held (after_all (Opens ann ∷ Opens ann ∷ Admits 0 1 (reads memo) ∷ Admits 1 1 (reads memo) ∷ Starts 0 ∷ Starts 1 ∷ []))
     ≡ record { subject = ann; doc = memo; mode = Read } ∷ record { subject = ann; doc = memo; mode = Read } ∷ []
-unfolding after_all
+unfolding added after_all
 two-sessions-read-together = refl
 
 -- a lost place answers so, and changes nothing
 starved-and-lost :
     map (λ n. (past_at (after_all (Opens ann ∷ Admits 0 1 adds_a ∷ Admits 0 2 (reads memo) ∷ Starts 0 ∷ Loses 0 ∷ Starts 1 ∷ Ends 1 ∷ [])) n).answer) (0 ∷ 1 ∷ [])
     ≡ Lost ∷ Done (m1 ∷ []) ∷ []
-unfolding adds_a after_all
+unfolding added adds_a after_all
 starved-and-lost = refl
 
 -- a reader may start beside a running one, and a writer may not
@@ -134,12 +135,12 @@ beside : Work → Bool
 beside w = may_start (after_all (Opens ann ∷ Opens ann ∷ Admits 0 1 (reads memo) ∷ Admits 1 1 w ∷ Starts 0 ∷ [])) 1
 
 two-sessions-read-together-may : map beside (reads memo ∷ when (access Write memo ∷ []) Nothing ∷ when (access Append memo ∷ []) Nothing ∷ []) ≡ true ∷ false ∷ false ∷ []
-unfolding beside after_all
+unfolding added beside after_all
 two-sessions-read-together-may = refl
 
 -- what is denied ends at its start
 denied-ends-at-its-start : map (λ (x : State). has_ended x 0) (after_all (Opens bob ∷ Admits 0 1 (reads memo) ∷ Starts 0 ∷ []) ∷ after_all (Opens ann ∷ Admits 0 1 (reads memo) ∷ Starts 0 ∷ []) ∷ []) ≡ true ∷ false ∷ []
-unfolding after_all
+unfolding added after_all
 denied-ends-at-its-start = refl
 
 -- the events of the first example of children are a trail, so a state is reached in which a child has run
