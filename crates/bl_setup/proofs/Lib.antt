@@ -12,3 +12,13 @@ pub mod Secure
 pub mod HeadlineProof
 pub mod PlaceLaws
 pub mod Present
+pub mod Parts
+pub mod Spelling
+pub mod CutLemmas
+pub mod LineLemmas
+pub mod MeaningLemmas
+pub mod ModeLemmas
+pub mod AddLemmas
+pub mod WholeLemmas
+pub mod HeadLemmas
+pub mod FileLemmas

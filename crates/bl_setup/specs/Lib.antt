@@ -5,3 +5,13 @@ pub mod Laws
 pub mod Now
 pub mod Legal
 pub mod Headline
+pub mod Lines
+pub mod Declaration
+pub mod Agreement
+pub mod Grammar
+pub mod Reading
+pub mod Faults
+pub mod Words
+pub mod Parsing
+pub mod Draft
+pub mod Heads

@@ -1,4 +1,21 @@
-//! The setup: what a run begins with, and what the machine over it does.
+//! The setup file, and the definitions that everything above speaks in: the admission order and the machine over it.
+//!
+//!     reader        from the bytes of a setup file to a setup
+//!     setup         names, policy and contents, as they are at the start
+//!     fault         why a file is refused
+//!     laws          what holds of the order and of the machine
+//!     lines, line   the lines that are read, and the declaration of each
+//!     parser, declaration   from tokens to a declaration
+//!     head, draft   the scheme, and a setup while it is read
 #![tactic(auto)]
 
+mod declaration;
+mod draft;
+pub mod fault;
+mod head;
 pub mod laws;
+mod line;
+mod lines;
+mod parser;
+pub mod reader;
+pub mod setup;

@@ -1,0 +1,17 @@
+use Rattle.std.proofs.Common.{length}
+use Rattle.bl_setup.specs.Order as order
+use Rattle.bl_setup.specs.Agreement.{Agree}
+use Rattle.bl_setup.specs.Draft.{setup_of}
+use Rattle.bl_setup.specs.Heads.{Remain}
+use Rattle.bl_setup.specs.Lines.{lines_read}
+use Rattle.bl_setup.proofs.lines.Lines.read_into.Given as goal
+
+abbrev pub invariant-loop-line : goal.invariant-loop-line
+invariant-loop-line l = record {
+  agree : Agree (setup_of l.draft);
+  there : (after : order.Setup) → Remain (lines_read l.self.rest.now) (setup_of l.draft) after → Remain (lines_read l.fn.self.rest.now) (setup_of l.fn.draft) after;
+  back : (after : order.Setup) → Remain (lines_read l.fn.self.rest.now) (setup_of l.fn.draft) after → Remain (lines_read l.self.rest.now) (setup_of l.draft) after;
+}
+
+abbrev pub decreases-loop-line : goal.decreases-loop-line
+decreases-loop-line l = length l.self.rest.now

@@ -1,0 +1,15 @@
+-- That a setup is one whole, and the setup that a scheme alone is.
+use Rattle.std.specs.Prelude.{◌≡◌, [], length}
+use Rattle.bl_level.specs.Scheme.{SchemeNames}
+use Rattle.bl_setup.specs.Order.{Setup}
+use Rattle.bl_policy.specs.Policy.{no_policy}
+
+-- the policy and the contents are of the subjects and documents that have names
+pub record Agree (setup : Setup) : Type 0 where
+  pub subjects : length setup.names.subjects ≡ length setup.policy.subjects
+  pub documents : length setup.names.documents ≡ length setup.policy.documents
+  pub contents : length setup.names.documents ≡ length setup.contents
+
+-- a setup that has a scheme alone
+abbrev pub of_scheme : SchemeNames → Setup
+of_scheme scheme = record { names = record { scheme = scheme; subjects = []; documents = [] }; policy = no_policy; contents = [] }

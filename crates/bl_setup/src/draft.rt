@@ -1,0 +1,166 @@
+//! A setup while it is read: what the lines so far declare.
+ghost use Rattle.std.specs.Prelude.{◌≡◌, ◌↔◌, ◌∷◌, ℕ, List, IsTrue, Contains, MatchResult, OnOk, IfOk, IfErr};
+ghost use Rattle.std.specs.List.{list_all};
+ghost use Rattle.bl_level.specs.Level.{SecurityLevel};
+ghost use Rattle.bl_level.specs.Name.{IsName, AreProper};
+ghost use Rattle.bl_level.specs.LevelText.{Means};
+ghost use Rattle.bl_policy.specs.declared.access.Mode.{Mode};
+ghost use Rattle.bl_policy.specs.Mode.{has_mode};
+ghost use Rattle.bl_script.specs.Content.{is_content_byte};
+ghost use Rattle.bl_setup.specs.Declaration.{spell_declaration};
+ghost use Rattle.bl_setup.specs.Grammar.{Adds, AddsSubject, AddsDocument, AddsModes, LineAdds};
+ghost use Rattle.bl_setup.specs.Faults.{UnlessMemory};
+ghost use Rattle.bl_setup.specs.Order.{Setup};
+ghost use Rattle.bl_setup.specs.Agreement.{Agree, of_scheme};
+ghost use Rattle.bl_setup.specs.Words.{level_text, subject_text, document_text, allow_text, declaration_of};
+ghost use Rattle.bl_setup.specs.Draft.{setup_of};
+
+use crate::declaration::{AllowWords, DocumentWords, LevelWords, SubjectWords, Words};
+use crate::fault::SetupFaultKind;
+use crate::line::words_of;
+use bitflags::Flags;
+use bl_level::level::Level;
+use bl_level::name::Name;
+use bl_level::scheme::Scheme;
+use bl_policy::access::{Mode, ModeSet};
+use bl_policy::policy::Policy;
+use bl_script::document::{Document, MOST_BYTES};
+use bl_script::names::{MOST_DOCUMENTS, MOST_SUBJECTS, Names};
+use std::alloc::{AllocError, Global};
+
+/// Names, a policy over their places, and the contents of the documents.
+#[derive(Drop)]
+pub struct Draft {
+    pub names: Names,
+    pub policy: Policy,
+    pub contents: Vec<Document>,
+}
+
+/// The level that a text means.
+fn level_of(scheme: &Scheme, words: &LevelWords<'_>) -> Result<Level, SetupFaultKind>
+    ensures { MatchResult result (Means scheme.now (level_text words.now))
+        (λ _. (level : SecurityLevel) → Means scheme.now (level_text words.now) level → ⊥) }
+{
+    Ok(scheme.level(words.rank, words.categories.as_slice())?)
+}
+
+/// The set of these modes.
+fn set_of(mode: Mode, modes: &[Mode]) -> ModeSet
+    ensures { (m : Mode) → IsTrue (has_mode result m) ↔ Contains (mode ∷ modes.now) m }
+{
+    let mut set = ModeSet::from(mode);
+    for mode in modes {
+        set.insert(ModeSet::from(*mode));
+    }
+    set
+}
+
+impl Draft {
+    /// A scheme, without a subject or a document.
+    pub fn new(alloc: Global, scheme: Scheme) -> Result<Draft, AllocError>
+        ensures value { IfOk result (λ draft. setup_of draft ≡ of_scheme scheme) }
+        ensures agree { IfOk result (λ draft. Agree (setup_of draft)) }
+    {
+        Ok(Draft {
+            names: Names::new(alloc, scheme)?,
+            policy: Policy::new(alloc)?,
+            contents: Vec::with_capacity(alloc, MOST_DOCUMENTS)?,
+        })
+    }
+
+    /// Adds a subject.
+    fn add_subject(&mut self, subject: &SubjectWords<'_>) -> Result<(), SetupFaultKind>
+        requires name { IsName subject.now.name.now }
+        requires agree { Agree (setup_of self.old) }
+        ensures ok { OnOk result (AddsSubject (setup_of self.old) (subject_text subject.now) (setup_of self.new)) }
+        ensures agree { OnOk result (Agree (setup_of self.new)) }
+        ensures fault { IfErr result (λ kind. UnlessMemory kind ((after : Setup) → AddsSubject (setup_of self.old) (subject_text subject.now) after → ⊥)) }
+    {
+        if self.names.subjects() >= MOST_SUBJECTS {
+            return Err(SetupFaultKind::TooMany);
+        }
+        if self.names.subject(subject.name).is_some() {
+            return Err(SetupFaultKind::Repeated);
+        }
+        let greatest = level_of(self.names.scheme(), &subject.greatest)?;
+        let current = level_of(self.names.scheme(), &subject.current)?;
+        self.policy
+            .add_subject(greatest, current, subject.trusted, subject.admin)?;
+        self.names.add_subject(Name::new(subject.name).unwrap())?;
+        Ok(())
+    }
+
+    /// Adds a document.
+    fn add_document(
+        &mut self,
+        alloc: Global,
+        document: &DocumentWords<'_>,
+    ) -> Result<(), SetupFaultKind>
+        requires name { IsName document.now.name.now }
+        requires plain { IsTrue (list_all is_content_byte document.now.content.now) }
+        requires agree { Agree (setup_of self.old) }
+        ensures ok { OnOk result (AddsDocument (setup_of self.old) (document_text document.now) (setup_of self.new)) }
+        ensures agree { OnOk result (Agree (setup_of self.new)) }
+        ensures fault { IfErr result (λ kind. UnlessMemory kind ((after : Setup) → AddsDocument (setup_of self.old) (document_text document.now) after → ⊥)) }
+    {
+        if self.names.documents() >= MOST_DOCUMENTS {
+            return Err(SetupFaultKind::TooMany);
+        }
+        if document.content.len() > MOST_BYTES {
+            return Err(SetupFaultKind::TooMany);
+        }
+        if self.names.document(document.name).is_some() {
+            return Err(SetupFaultKind::Repeated);
+        }
+        let level = level_of(self.names.scheme(), &document.level)?;
+        self.policy.add_document(level)?;
+        self.contents.push(Document::new(alloc, document.content)?)?;
+        self.names.add_document(Name::new(document.name).unwrap())?;
+        Ok(())
+    }
+
+    /// Adds modes to a cell.
+    fn add_modes(&mut self, allow: &AllowWords<'_>) -> Result<(), SetupFaultKind>
+        requires { Agree (setup_of self.old) }
+        ensures ok { OnOk result (AddsModes (setup_of self.old) (allow_text allow.now) (setup_of self.new)) }
+        ensures agree { OnOk result (Agree (setup_of self.new)) }
+        ensures fault { IfErr result (λ kind. UnlessMemory kind ((after : Setup) → AddsModes (setup_of self.old) (allow_text allow.now) after → ⊥)) }
+    {
+        let Some(subject) = self.names.subject(allow.subject) else {
+            return Err(SetupFaultKind::Unknown);
+        };
+        let Some(document) = self.names.document(allow.document) else {
+            return Err(SetupFaultKind::Unknown);
+        };
+        let modes = set_of(allow.mode, allow.modes.as_slice());
+        self.policy.allow(subject, document, modes);
+        Ok(())
+    }
+
+    /// Adds what a line declares that stands behind the first two.
+    fn add(&mut self, alloc: Global, words: &Words<'_>) -> Result<(), SetupFaultKind>
+        requires proper { AreProper (spell_declaration (declaration_of words.now)) }
+        requires agree { Agree (setup_of self.old) }
+        ensures ok { OnOk result (Adds (setup_of self.old) (declaration_of words.now) (setup_of self.new)) }
+        ensures agree { OnOk result (Agree (setup_of self.new)) }
+        ensures fault { IfErr result (λ kind. UnlessMemory kind ((after : Setup) → Adds (setup_of self.old) (declaration_of words.now) after → ⊥)) }
+    {
+        match words {
+            Words::Ranks(_, _) | Words::Categories(_) => Err(SetupFaultKind::Syntax),
+            Words::Subject(subject) => self.add_subject(subject),
+            Words::Document(document) => self.add_document(alloc, document),
+            Words::Allow(allow) => self.add_modes(allow),
+        }
+    }
+
+    /// Adds what a line behind the first two declares.
+    pub fn add_line(&mut self, alloc: Global, line: &[u8]) -> Result<(), SetupFaultKind>
+        requires { Agree (setup_of self.old) }
+        ensures ok { OnOk result (LineAdds (setup_of self.old) line.now (setup_of self.new)) }
+        ensures agree { OnOk result (Agree (setup_of self.new)) }
+        ensures fault { IfErr result (λ kind. UnlessMemory kind ((after : Setup) → LineAdds (setup_of self.old) line.now after → ⊥)) }
+    {
+        let words = words_of(alloc, line)?;
+        self.add(alloc, &words)
+    }
+}

@@ -1,0 +1,112 @@
+//! Reads a setup file, line by line.
+ghost use Rattle.std.specs.Prelude.{◌≡◌, ◌<◌, ◌∷◌, [], ℕ, List, MatchResult, OnOk, IfOk, IfErr};
+ghost use Rattle.bl_level.specs.Scheme.{SchemeNames};
+ghost use Rattle.bl_setup.specs.Order as order;
+ghost use Rattle.bl_setup.specs.Agreement.{Agree, of_scheme};
+ghost use Rattle.bl_setup.specs.Draft.{setup_of};
+ghost use Rattle.bl_setup.specs.Faults.{UnlessMemory};
+ghost use Rattle.bl_setup.specs.Grammar.{IsSetup};
+ghost use Rattle.bl_setup.specs.Heads.{BeginsWith, Remain};
+ghost use Rattle.bl_setup.specs.Lines.{lines_read};
+
+use crate::draft::Draft;
+use crate::fault::{SetupFault, SetupFaultKind};
+use crate::head::{ranks_of, scheme_of};
+use crate::lines::{Lines, MOST_BYTES};
+use crate::setup::Setup;
+use bl_level::scheme::Scheme;
+use std::alloc::Global;
+
+impl<'a> Lines<'a> {
+    /// The fault of the line that was taken last.
+    fn fault(&self, kind: SetupFaultKind) -> SetupFault
+        ensures { result.kind ≡ kind }
+    {
+        SetupFault {
+            line: self.number,
+            kind,
+        }
+    }
+
+    /// The next line that is not skipped; without one, the file ends too early.
+    fn due(&mut self) -> Result<&'a [u8], SetupFault>
+        ensures { MatchResult result (λ line. lines_read self.old.rest.now ≡ line.now ∷ lines_read self.new.rest.now)
+            (λ _. lines_read self.old.rest.now ≡ []) }
+    {
+        match self.next_read() {
+            Some(line) => Ok(line),
+            None => Err(SetupFault {
+                line: self.number + 1,
+                kind: SetupFaultKind::Syntax,
+            }),
+        }
+    }
+
+    /// The scheme that the first two lines declare.
+    fn scheme(&mut self, alloc: Global) -> Result<Scheme, SetupFault>
+        ensures ok { IfOk result (BeginsWith (lines_read self.old.rest.now) (lines_read self.new.rest.now)) }
+        ensures fault { IfErr result (λ fault. UnlessMemory fault.kind
+            ((rest : List (List ℕ)) (scheme : SchemeNames) → BeginsWith (lines_read self.old.rest.now) rest scheme → ⊥)) }
+    {
+        let first = self.due()?;
+        let ranks = match ranks_of(alloc, first) {
+            Ok(ranks) => ranks,
+            Err(kind) => return Err(self.fault(kind)),
+        };
+        let second = self.due()?;
+        match scheme_of(alloc, ranks.as_slice(), second) {
+            Ok(scheme) => Ok(scheme),
+            Err(kind) => Err(self.fault(kind)),
+        }
+    }
+
+    /// Adds what the lines that are left declare.
+    fn read_into(&mut self, alloc: Global, draft: &mut Draft) -> Result<(), SetupFault>
+        requires { Agree (setup_of draft.old) }
+        ensures ok { OnOk result (Remain (lines_read self.old.rest.now) (setup_of draft.old) (setup_of draft.new)) }
+        ensures only { OnOk result ((after : order.Setup) → Remain (lines_read self.old.rest.now) (setup_of draft.old) after → after ≡ setup_of draft.new) }
+        ensures agree { OnOk result (Agree (setup_of draft.new)) }
+        ensures fault { IfErr result (λ fault. UnlessMemory fault.kind
+            ((after : order.Setup) → Remain (lines_read self.old.rest.now) (setup_of draft.old) after → ⊥)) }
+    {
+        while let Some(line) = self.next_read() {
+            match draft.add_line(alloc, line) {
+                Ok(()) => {}
+                Err(kind) => return Err(self.fault(kind)),
+            }
+        }
+        Ok(())
+    }
+}
+
+/// The setup that the text of a setup file is.
+///
+/// The first line at fault is answered: `Syntax`, where it is not spelled as a declaration or another one is due;
+/// `TooMany`, where there are more names than there may be or a content is too long; then, for the first word at fault
+/// from the left, `Repeated` or `Unknown`; then `CurrentAboveGreatest`. A file of more than 16,777,216 bytes is line 0,
+/// `TooMany`, and one that ends before its categories is `Syntax` at the number of its lines and one. `Memory` comes
+/// with the line that was being read.
+pub fn read_setup(alloc: Global, bytes: &[u8]) -> Result<Setup, SetupFault>
+    ensures setup { IfOk result (IsSetup bytes.now) }
+    ensures only { IfOk result (λ setup. (other : order.Setup) → IsSetup bytes.now other → other ≡ setup) }
+    // Any fault but want of memory means that the text is no setup.
+    ensures fault { IfErr result (λ fault. UnlessMemory fault.kind ((setup : order.Setup) → IsSetup bytes.now setup → ⊥)) }
+{
+    if bytes.len() > MOST_BYTES {
+        return Err(SetupFault {
+            line: 0,
+            kind: SetupFaultKind::TooMany,
+        });
+    }
+    let mut lines = Lines {
+        rest: bytes,
+        number: 0,
+    };
+    let scheme = lines.scheme(alloc)?;
+    let mut draft = match Draft::new(alloc, scheme) {
+        Ok(draft) => draft,
+        Err(_) => return Err(lines.fault(SetupFaultKind::Memory)),
+    };
+    lines.read_into(alloc, &mut draft)?;
+    Ok(Setup::new(draft))
+}

@@ -1,0 +1,77 @@
+//! A setup: who and what there is, at which levels, and who may use what.
+ghost use Rattle.std.specs.Prelude.{◌≡◌};
+ghost use Rattle.bl_setup.specs.Agreement.{Agree};
+
+use crate::draft::Draft;
+use bl_policy::policy::Policy;
+use bl_script::document::Document;
+use bl_script::names::Names;
+use std::marker::Model;
+
+/// The names of subjects and documents with the scheme of their levels, the policy over their positions, and the content
+/// of each document.
+#[derive(Drop)]
+pub struct Setup {
+    names: Names,
+    policy: Policy,
+    contents: Vec<Document>,
+}
+
+impl Model for Setup {
+    ghost use Rattle.std.specs.Coded.{codes};
+    ghost use Rattle.bl_policy.specs.Codes.{matrix_code};
+    ghost use Rattle.bl_setup.specs.Order as order;
+
+    ghost Value = { order.Setup };
+
+    ghost coded = { Prim.hlevel (codes, matrix_code) };
+
+    ghost use Rattle.bl_setup.specs.Agreement.{Agree};
+
+    ghost view = { λ s. record { names = s.names; policy = s.policy; contents = s.contents.items } };
+
+    ghost invariant = { λ s. Agree (record { names = s.names; policy = s.policy; contents = s.contents.items }) };
+}
+
+impl Setup {
+    ghost use Rattle.std.specs.Prelude.{◌≡◌};
+    ghost use Rattle.bl_setup.specs.Agreement.{Agree};
+    ghost use Rattle.bl_setup.specs.Draft.{setup_of};
+
+    /// The setup that was read.
+    pub(crate) fn new(draft: Draft) -> Setup
+        requires { Agree (setup_of draft) }
+        ensures { result ≡ setup_of draft }
+    {
+        Setup {
+            names: draft.names,
+            policy: draft.policy,
+            contents: draft.contents,
+        }
+    }
+
+    /// The scheme, and the names of subjects and documents in the order in which they were declared.
+    pub fn names(&self) -> &Names
+        ensures value { result.now ≡ self.now.names }
+        // The policy and the contents are of just these subjects and documents.
+        ensures agree { Agree self.now }
+    {
+        &self.names
+    }
+
+    /// The policy: a subject's or a document's position is that of its name.
+    pub fn policy(&self) -> &Policy
+        ensures value { result.now ≡ self.now.policy }
+        ensures agree { Agree self.now }
+    {
+        &self.policy
+    }
+
+    /// The content of each document, in the order of their names.
+    pub fn contents(&self) -> &[Document]
+        ensures value { result.now ≡ self.now.contents }
+        ensures agree { Agree self.now }
+    {
+        self.contents.as_slice()
+    }
+}
