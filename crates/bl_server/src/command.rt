@@ -1,0 +1,117 @@
+//! The command line.
+ghost use Rattle.std.specs.Prelude.{◌≡◌, ◌≤◌, ◌⊎◌, IfOk, IfErr, IfSome};
+ghost use Rattle.bl_server.specs.Words.{IsInRange};
+
+use clap::error::ErrorKind;
+use clap::{Arg, ArgAction, ArgMatches, Command as Parser, Error, value_parser};
+use std::alloc::{AllocError, Global};
+
+/// A command of the program, with its options.
+#[derive(Debug, Drop)]
+pub enum Command<'a> {
+    /// One session on standard input and output.
+    Alone {
+        /// The name of the setup file.
+        setup: &'a str,
+        /// The weight of the lines that are admitted at most, 1 to 100,000.
+        limit: u32,
+    },
+}
+
+/// The weight of the lines that may be admitted in one run, at most.
+const MOST_LIMIT: u32 = 100_000;
+
+fn setup_option<'a>(alloc: Global) -> Arg<'a> {
+    Arg::new(alloc, "setup")
+        .long("setup")
+        .required(true)
+        .action(ArgAction::Set)
+        .help("The setup file")
+}
+
+fn limit_option<'a>(alloc: Global) -> Arg<'a> {
+    Arg::new(alloc, "limit")
+        .long("limit")
+        .action(ArgAction::Set)
+        .value_parser(value_parser!(u32).range(1..=100_000))
+        .default_value("10000")
+        .help("The weight of the lines that are admitted, 1 to 100000")
+}
+
+fn alone_parser<'a>(alloc: Global) -> Result<Parser<'a>, AllocError> {
+    Parser::new(alloc, "alone")
+        .about("One session on standard input and output")
+        .arg(setup_option(alloc))?
+        .arg(limit_option(alloc))
+}
+
+fn parser<'a>(alloc: Global) -> Result<Parser<'a>, AllocError> {
+    Parser::new(alloc, "bl_server")
+        .about("A document server that enforces Bell and La Padula")
+        .subcommand_required(true)
+        .subcommand(alone_parser(alloc)?)
+}
+
+/// The number of an option, where it is 1 to `most`.
+fn number(found: &ArgMatches<'_>, name: &str, most: u32) -> Option<u32>
+    ensures { IfSome result (λ n. (1 ≤ n) × (n ≤ most)) }
+{
+    let number = found.get_one::<u32>(name)?;
+    if number < 1 || number > most {
+        return None;
+    }
+    Some(number)
+}
+
+/// The command that the matches name, where they are matches of `parser`.
+fn command_of<'a>(found: &ArgMatches<'a>) -> Option<Command<'a>>
+    ensures { IfSome result IsInRange }
+{
+    let (name, options) = found.subcommand()?;
+    match name {
+        "alone" => {
+            let setup = options.get_str("setup")?;
+            let limit = number(options, "limit", MOST_LIMIT)?;
+            Some(Command::Alone { setup, limit })
+        }
+        _ => None,
+    }
+}
+
+/// Reads the words of a command line, of which the first is the program's name. The error's text
+/// is for whoever gave the words; a call for help is an error too.
+pub fn parse_words<'a>(alloc: Global, words: &'a [String]) -> Result<Command<'a>, Error>
+    ensures { IfOk result IsInRange }
+{
+    let matches = parser(alloc)?.try_get_matches_from(words)?;
+    match command_of(&matches) {
+        Some(command) => Ok(command),
+        None => Err(parser(alloc)?.error(ErrorKind::InvalidValue, "no such command")?),
+    }
+}
+
+/// The status of a run that ends with this error: 4 for want of memory, 0 for a call for help, and
+/// 2 for anything else.
+pub fn status_of(error: &Error) -> u8
+    ensures { (result ≡ 0) ⊎ ((result ≡ 2) ⊎ (result ≡ 4)) }
+{
+    if error.kind() == ErrorKind::OutOfMemory {
+        4
+    } else if error.exit_code() == 0 {
+        0
+    } else {
+        2
+    }
+}
+
+/// Reads the words of a command line, of which the first is the program's name, or gives the
+/// status of the run.
+pub fn read_words<'a>(alloc: Global, words: &'a [String]) -> Result<Command<'a>, u8>
+    ensures ok { IfOk result IsInRange }
+    ensures err { IfErr result (λ status. (status ≡ 0) ⊎ ((status ≡ 2) ⊎ (status ≡ 4))) }
+{
+    match parse_words(alloc, words) {
+        Ok(command) => Ok(command),
+        Err(error) => Err(status_of(&error)),
+    }
+}

@@ -1,0 +1,97 @@
+//! What the program says, and the status that it ends with.
+use crate::command::{Command, read_words};
+use crate::run::alone_on;
+use bl_session::watched::Watched;
+use std::alloc::{AllocError, Global};
+use std::test::Fail;
+
+const ONE_SUBJECT: &str = "ranks u\ncategories\nsubject ann greatest u current u\n";
+
+fn words(alloc: Global, given: &[&str]) -> Result<Vec<String>, AllocError> {
+    let mut words = Vec::new(alloc);
+    for word in given {
+        words.push(String::from_str(alloc, *word)?)?;
+    }
+    Ok(words)
+}
+
+#[test]
+fn reads_alone(rt: HostRuntime) -> Result<(), Fail> {
+    let alloc = rt.alloc();
+    let given = words(
+        alloc,
+        ["bl_server", "alone", "--setup", "base.txt"].as_slice(),
+    )?;
+    match read_words(alloc, given.as_slice()) {
+        Ok(Command::Alone { setup, limit }) => {
+            assert_eq!(rt; setup, "base.txt");
+            assert_eq!(rt; limit, 10_000);
+        }
+        Err(_) => assert!(rt; false),
+    }
+    Ok(())
+}
+
+#[test]
+fn refuses_a_limit_out_of_range(rt: HostRuntime) -> Result<(), Fail> {
+    let alloc = rt.alloc();
+    for limit in ["0", "100001"] {
+        let given = words(
+            alloc,
+            [
+                "bl_server",
+                "alone",
+                "--setup",
+                "base.txt",
+                "--limit",
+                limit,
+            ]
+            .as_slice(),
+        )?;
+        match read_words(alloc, given.as_slice()) {
+            Ok(_) => assert!(rt; false),
+            Err(status) => assert_eq!(rt; status, 2),
+        }
+    }
+    Ok(())
+}
+
+#[test]
+fn serves_a_session(rt: HostRuntime) -> Result<(), Fail> {
+    let alloc = rt.alloc();
+    let mut reader = Watched::new(&b"hello ann\n"[..]);
+    let mut writer = Watched::new(Vec::new(alloc));
+    let mut errors = Vec::new(alloc);
+    let status = alone_on(
+        alloc,
+        ONE_SUBJECT.as_bytes(),
+        10_000,
+        &mut reader,
+        &mut writer,
+        &mut errors,
+    );
+    assert_eq!(rt; status, 0);
+    assert!(rt; writer.inner.as_slice() == b"ok\nbye\n".as_slice());
+    assert!(rt; errors.is_empty());
+    Ok(())
+}
+
+#[test]
+fn names_a_fault_of_the_setup(rt: HostRuntime) -> Result<(), Fail> {
+    let alloc = rt.alloc();
+    let mut reader = Watched::new(&b"hello ann\n"[..]);
+    let mut writer = Watched::new(Vec::new(alloc));
+    let mut errors = Vec::new(alloc);
+    let status = alone_on(
+        alloc,
+        b"rank u\n",
+        10_000,
+        &mut reader,
+        &mut writer,
+        &mut errors,
+    );
+    assert_eq!(rt; status, 3);
+    assert!(rt; writer.inner.is_empty());
+    assert!(rt; errors.as_slice() == b"setup 1: syntax\n".as_slice());
+    Ok(())
+}

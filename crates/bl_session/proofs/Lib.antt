@@ -1,0 +1,12 @@
+pub mod LineLaws
+pub mod Parts
+pub mod HeldLines
+pub mod TurnLaws
+pub mod Texts
+pub mod Steps
+pub mod Cuttings
+pub mod Stages
+pub mod Outcomes
+pub mod BookLaws
+pub mod OneLaws
+pub mod ToldLaws

@@ -1,0 +1,396 @@
+-- How a session goes on, from its first byte.
+use Rattle.std.proofs.Common.{◌≡◌, ℕ, ◌+◌, Bool, true, false, ◌⊎◌, inl, inr, List, [], ◌∷◌, ◌++◌, length, refl, sym, ap, subst, ◌∙◌, append_assoc, append-nil, arith, Option, Some, None, OnSome, take, drop, take-append-drop, replicate}
+use Rattle.std.specs.Io.KnownBytes.{Appends, IsAtEnd}
+use Rattle.std.proofs.KnownBytes.{Appends-trans, Appends-nil}
+use Rattle.bl_script.specs.Names.{KnownNames}
+use Rattle.bl_session.specs.Lines.{lines_of, AreLines}
+use Rattle.bl_session.specs.declared.fault.SessionFault.{SessionFault}
+use Rattle.bl_session.specs.declared.fault.SessionFault.TheVariants.{Read, Write, TooLong, Memory, Clash}
+use Rattle.bl_session.specs.declared.turn.Turn.{Turn}
+use Rattle.bl_session.specs.declared.turn.Turn.TheVariants.{Skip, Wait, Greets, Bad, Ask}
+use Rattle.bl_session.specs.declared.turn.Pending.{Pending}
+use Rattle.bl_session.specs.Turns.{AreSkips, IsOpening, IsRefusal, is_skip, greeted}
+use Rattle.bl_session.specs.Told.{Told, Opens, Settles, told_of, told_by, SameUpTo}
+use Rattle.bl_session.specs.Texts.{text_of, session_text, ok_line, bye_line, refused_hello}
+use Rattle.bl_session.specs.Spoken.{Begins, BlockFailed, IsOwnFault, TakesTurn, FailsTurn, block_text}
+use Rattle.bl_session.specs.Stages.{Cutting, Unheard, Stage, Finished, Broken, Stopped}
+use Rattle.bl_session.proofs.Steps.{whole, block_part, stands}
+use Rattle.bl_session.proofs.Cuttings.{cut-now, now_are, broken_after}
+
+-- what opens a session is skipped lines and a greeting
+pub opened_text : (r : ℕ → List ℕ) (subject : ℕ) (head turns : List Turn) → IsOpening subject head → session_text r (head ++ turns) ≡ ok_line ++ (text_of r 0 turns ++ bye_line)
+opened_text r subject [] turns opens = absurd opens
+opened_text r subject (Skip ∷ head) turns opens = opened_text r subject head turns opens
+opened_text r subject (Greets named ∷ head) turns opens = ap (λ l. ok_line ++ (text_of r 0 (l ++ turns) ++ bye_line)) opens.1
+opened_text r subject (Wait ∷ head) turns opens = absurd opens
+opened_text r subject (Bad fault ∷ head) turns opens = absurd opens
+opened_text r subject (Ask work ∷ head) turns opens = absurd opens
+
+pub opened_told : (subject : ℕ) (head turns : List Turn) → IsOpening subject head → told_by (head ++ turns) ≡ Opens subject ∷ (told_of 0 turns ++ Settles ∷ [])
+opened_told subject [] turns opens = absurd opens
+opened_told subject (Skip ∷ head) turns opens = opened_told subject head turns opens
+opened_told subject (Greets named ∷ head) turns opens = ap (λ s. Opens s ∷ (told_of 0 (head ++ turns) ++ Settles ∷ [])) opens.0 ∙ ap (λ l. Opens subject ∷ (told_of 0 (l ++ turns) ++ Settles ∷ [])) opens.1
+opened_told subject (Wait ∷ head) turns opens = absurd opens
+opened_told subject (Bad fault ∷ head) turns opens = absurd opens
+opened_told subject (Ask work ∷ head) turns opens = absurd opens
+
+pub opens_after : (subject : ℕ) (skips : List Turn) (t : Turn) → AreSkips skips → greeted t ≡ Some subject → IsOpening subject (skips ++ t ∷ [])
+opens_after subject [] Skip quiet greets = cc
+opens_after subject [] Wait quiet greets = cc
+opens_after subject [] (Greets named) quiet greets = (cc, refl)
+opens_after subject [] (Bad fault) quiet greets = cc
+opens_after subject [] (Ask work) quiet greets = cc
+opens_after subject (Skip ∷ skips) t quiet greets = opens_after subject skips t quiet greets
+opens_after subject (Wait ∷ skips) t quiet greets = absurd quiet
+opens_after subject (Greets named ∷ skips) t quiet greets = absurd quiet
+opens_after subject (Bad fault ∷ skips) t quiet greets = absurd quiet
+opens_after subject (Ask work ∷ skips) t quiet greets = absurd quiet
+
+-- lines that are skipped are answered by nothing, and tell nothing
+pub skipped_text : (r : ℕ → List ℕ) (skips : List Turn) → AreSkips skips → session_text r skips ≡ bye_line
+skipped_text r [] quiet = refl
+skipped_text r (Skip ∷ skips) quiet = skipped_text r skips quiet
+skipped_text r (Wait ∷ skips) quiet = absurd quiet
+skipped_text r (Greets named ∷ skips) quiet = absurd quiet
+skipped_text r (Bad fault ∷ skips) quiet = absurd quiet
+skipped_text r (Ask work ∷ skips) quiet = absurd quiet
+
+pub skipped_told : (skips : List Turn) → AreSkips skips → told_by skips ≡ []
+skipped_told [] quiet = refl
+skipped_told (Skip ∷ skips) quiet = skipped_told skips quiet
+skipped_told (Wait ∷ skips) quiet = absurd quiet
+skipped_told (Greets named ∷ skips) quiet = absurd quiet
+skipped_told (Bad fault ∷ skips) quiet = absurd quiet
+skipped_told (Ask work ∷ skips) quiet = absurd quiet
+
+-- a first line that is no greeting is refused
+pub record Refuses (turns : List Turn) : Type 0 where
+  pub text : (r : ℕ → List ℕ) → session_text r turns ≡ refused_hello ++ bye_line
+  pub told : told_by turns ≡ []
+  pub last : IsRefusal turns
+
+pub refuses_after : (skips : List Turn) (t : Turn) → AreSkips skips → is_skip t ≡ false → greeted t ≡ None → Refuses (skips ++ t ∷ [])
+refuses_after [] Skip quiet some none' = cc
+refuses_after [] Wait quiet some none' = record { text = λ r. refl; told = refl; last = refl }
+refuses_after [] (Greets named) quiet some none' = cc
+refuses_after [] (Bad fault) quiet some none' = record { text = λ r. refl; told = refl; last = refl }
+refuses_after [] (Ask work) quiet some none' = record { text = λ r. refl; told = refl; last = refl }
+refuses_after (Skip ∷ skips) t quiet some none' =
+    let rest = refuses_after skips t quiet some none' in record { text = rest.text; told = rest.told; last = rest.last }
+refuses_after (Wait ∷ skips) t quiet some none' = absurd quiet
+refuses_after (Greets named ∷ skips) t quiet some none' = absurd quiet
+refuses_after (Bad fault ∷ skips) t quiet some none' = absurd quiet
+refuses_after (Ask work ∷ skips) t quiet some none' = absurd quiet
+
+skips-more : (skips : List Turn) (t : Turn) → AreSkips skips → is_skip t ≡ true → AreSkips (skips ++ t ∷ [])
+skips-more [] Skip quiet skip = tt
+skips-more [] Wait quiet skip = cc
+skips-more [] (Greets named) quiet skip = cc
+skips-more [] (Bad fault) quiet skip = cc
+skips-more [] (Ask work) quiet skip = cc
+skips-more (Skip ∷ skips) t quiet skip = skips-more skips t quiet skip
+skips-more (Wait ∷ skips) t quiet skip = absurd quiet
+skips-more (Greets named ∷ skips) t quiet skip = absurd quiet
+skips-more (Bad fault ∷ skips) t quiet skip = absurd quiet
+skips-more (Ask work ∷ skips) t quiet skip = absurd quiet
+
+-- one more line that is skipped
+pub unheard_more : (b c : Bool) (names : KnownNames) (start rest : Option (List ℕ)) (left : ℕ) (skips : List Turn) (t : Turn) → AreSkips skips → is_skip t ≡ true → b ≡ c
+    → Cutting b names start rest left (skips ++ t ∷ []) → Unheard c names start rest left
+unheard_more b c names start rest left skips t quiet skip is read =
+    record { turns = skips ++ t ∷ []; read = subst (λ x. Cutting x names start rest left (skips ++ t ∷ [])) is read; quiet = skips-more skips t quiet skip }
+
+not_own : (w : Bool) (e : SessionFault) → IsOwnFault w e → (e ≡ Read) ⊎ (e ≡ TooLong) → ⊥
+not_own w Read own which = own
+not_own w TooLong own which = own
+not_own w Clash own which = own
+not_own w Write own (inl is) = cc
+not_own w Write own (inr is) = cc
+not_own w Memory own (inl is) = cc
+not_own w Memory own (inr is) = cc
+
+-- from a beginning of the text after the greeting to one of the whole
+begins_opened : (r : ℕ → List ℕ) (subject : ℕ) (head turns : List Turn) (ws : List ℕ) → IsOpening subject head → Begins ws (text_of r 0 turns ++ bye_line) → Begins (ok_line ++ ws) (session_text r (head ++ turns))
+begins_opened r subject head turns ws opens begins =
+    (begins.0, opened_text r subject head turns opens ∙ ap (λ l. ok_line ++ l) begins.1 ∙ sym (append_assoc ok_line ws begins.0))
+
+begins-append : (a b c : List ℕ) → Begins a b → Begins a (b ++ c)
+begins-append a b c begins = (begins.0 ++ c, ap (λ l. l ++ c) begins.1 ∙ append_assoc a begins.0 c)
+
+heard_opened : (head heard turns : List Turn) → Begins heard turns → Begins (head ++ heard) (head ++ turns)
+heard_opened head heard turns begins = (begins.0, ap (λ l. head ++ l) begins.1 ∙ sym (append_assoc head heard begins.0))
+
+module _ (names : KnownNames) (start r first w : Option (List ℕ)) (f : ℕ → List ℕ) (Settled : ℕ → Type 0) (Came : List Told → Type 0) (after : ℕ) (pending : List Pending) where
+  module _ (again : Bool) (left : ℕ) (st : Stage again names start r first w left f Settled Came after pending) where
+    -- the text of the open block is due
+    due : (later : ℕ → List ℕ) → SameUpTo after f later → Begins (ok_line ++ st.written) (session_text later (st.head ++ st.turns))
+    due later kept = begins_opened later st.subject st.head st.turns st.written st.opened (
+      block_text later after pending ++ bye_line,
+      ap (λ l. l ++ bye_line) (whole f later Settled Came st.subject after pending st.turns st.written st.spoken kept)
+          ∙ append_assoc st.written (block_text later after pending) bye_line,
+    )
+
+    -- reading stopped
+    pub stopped_reading : (r' : Option (List ℕ)) (fault : SessionFault) (read_failed write_failed : Bool) → Broken fault names start r' read_failed write_failed (st.head ++ st.turns)
+        → Stopped fault names start r' first w read_failed write_failed f Settled Came
+    stopped_reading r' fault read_failed write_failed broken = record {
+      turns = st.head ++ st.turns;
+      read = broken;
+      written = ok_line ++ st.written;
+      put = st.put;
+      upto = after;
+      settled = st.spoken.settled;
+      told = Opens st.subject ∷ told_of 0 st.turns;
+      came = st.spoken.came;
+      heard = st.head ++ st.turns;
+      heard_is = ([], sym (append-nil (st.head ++ st.turns)));
+      settles = 1;
+      told_is = opened_told st.subject st.head st.turns st.opened;
+      begins = due;
+      closed = λ which later kept. inr (record {
+        subject = st.subject;
+        head = st.head;
+        done = st.spoken.done;
+        open_turns = st.spoken.open_turns;
+        split = ap (λ l. st.head ++ l) st.spoken.split;
+        opened = st.opened;
+        in_block = st.spoken.in_block;
+        text = ap (λ l. ok_line ++ l) (stands f later Settled Came st.subject after pending st.turns st.written st.spoken kept);
+      });
+    }
+
+    module _ (r' w' : Option (List ℕ)) (left' : ℕ) (t : Turn) (next : Bool) (g : ℕ → List ℕ) (Settled' : ℕ → Type 0) (Came' : List Told → Type 0)
+        (read : Cutting next names start r' left' ((st.head ++ st.turns) ++ t ∷ [])) where
+      read_on : Cutting next names start r' left' (st.head ++ (st.turns ++ t ∷ []))
+      read_on = subst (Cutting next names start r' left') (append_assoc st.head st.turns (t ∷ [])) read
+
+      -- a line was taken
+      pub stage_line : (after' : ℕ) (pending' : List Pending) → TakesTurn f g Settled Settled' Came Came' after after' pending pending' w w' t
+          → Stage next names start r' first w' left' g Settled' Came' after' pending'
+      stage_line after' pending' takes =
+          let step = takes st.subject st.turns st.written st.spoken in
+          record {
+            subject = st.subject;
+            head = st.head;
+            turns = st.turns ++ t ∷ [];
+            written = st.written ++ step.0;
+            opened = st.opened;
+            read = read_on;
+            put = subst (Appends first w') (append_assoc ok_line st.written step.0) (Appends-trans first w w' (ok_line ++ st.written) step.0 st.put step.1);
+            spoken = step.2;
+          }
+
+      -- a line was read, and taking it failed
+      pub stopped_turn : (fault : SessionFault) (read_failed write_failed : Bool) → IsOwnFault write_failed fault → FailsTurn f g Settled Settled' Came Came' after pending w w' t
+          → Stopped fault names start r' first w' read_failed write_failed g Settled' Came'
+      stopped_turn fault read_failed write_failed own fails =
+          let step = fails st.subject st.turns st.written st.spoken in
+          let failed = step.2 in
+          let turns = st.turns ++ t ∷ [] in
+          record {
+            turns = st.head ++ turns;
+            read = broken_after next names start r' left' (st.head ++ turns) read_on fault read_failed write_failed own;
+            written = ok_line ++ (st.written ++ step.0);
+            put = subst (Appends first w') (append_assoc ok_line st.written step.0) (Appends-trans first w w' (ok_line ++ st.written) step.0 st.put step.1);
+            upto = failed.upto;
+            settled = failed.settled;
+            told = failed.told;
+            came = failed.came;
+            heard = st.head ++ failed.heard;
+            heard_is = heard_opened st.head failed.heard turns failed.heard_is;
+            settles = failed.settles;
+            told_is = opened_told st.subject st.head failed.heard st.opened ∙ failed.told_is;
+            begins = λ later kept. begins_opened later st.subject st.head failed.heard (st.written ++ step.0) st.opened
+                (begins-append (st.written ++ step.0) (text_of later 0 failed.heard) bye_line (failed.begins later kept));
+            closed = λ which. absurd (not_own write_failed fault own which);
+          }
+
+  module _ (left : ℕ) (st : Stage false names start r first w left f Settled Came after pending) (w' : Option (List ℕ)) (g : ℕ → List ℕ) (Settled' : ℕ → Type 0) (Came' : List Told → Type 0) (same : SameUpTo after f g) where
+    -- the last block is written
+    pub stage_done : Appends w w' (block_text g after pending ++ bye_line) → ((told : List Told) → Came told → Came' (told ++ Settles ∷ []))
+        → (ordinal : ℕ) → Settled' ordinal → Finished names start r first w' g Settled' Came'
+    stage_done put came ordinal settled =
+        let turns = st.head ++ st.turns in
+        record {
+          bytes = st.read.bytes;
+          turns = turns;
+          took = st.read.took;
+          within = omega (arith, st.read.count);
+          whole = inl st.read.cut.1;
+          are = now_are false names start r left turns st.read;
+          put = subst (Appends first w') (sym
+              (opened_text g st.subject st.head st.turns st.opened
+              ∙ ap (λ l. ok_line ++ (l ++ bye_line)) (whole f g Settled Came st.subject after pending st.turns st.written st.spoken same)
+              ∙ ap (λ l. ok_line ++ l) (append_assoc st.written (block_text g after pending) bye_line)
+              ∙ sym (append_assoc ok_line st.written (block_text g after pending ++ bye_line))))
+              (Appends-trans first w w' (ok_line ++ st.written) (block_text g after pending ++ bye_line) st.put put);
+          came = subst Came' (sym (opened_told st.subject st.head st.turns st.opened)) (came (Opens st.subject ∷ told_of 0 st.turns) st.spoken.came);
+          upto = ordinal;
+          settled = settled;
+        }
+
+    -- part of the last block is written
+    pub stage_failed : (fault : SessionFault) (read_failed write_failed : Bool) → IsOwnFault write_failed fault → (ordinal : ℕ) → ordinal ≡ after + length pending → Settled' after
+        → BlockFailed Settled' w w' ordinal (block_text g after pending ++ bye_line)
+        → ((told : List Told) → Came told → Came' told ⊎ Came' (told ++ Settles ∷ []))
+        → Stopped fault names start r first w' read_failed write_failed g Settled' Came'
+    stage_failed fault read_failed write_failed own ordinal count settled failed came =
+        elim (came (Opens st.subject ∷ told_of 0 st.turns) st.spoken.came) [
+          | inl before ↦ made (Opens st.subject ∷ told_of 0 st.turns) before 1 (opened_told st.subject st.head st.turns st.opened)
+          | inr settles ↦ made ((Opens st.subject ∷ told_of 0 st.turns) ++ Settles ∷ []) settles 0
+              (opened_told st.subject st.head st.turns st.opened ∙ sym (append-nil ((Opens st.subject ∷ told_of 0 st.turns) ++ Settles ∷ [])))
+        ]
+      where
+        turns : List Turn
+        turns = st.head ++ st.turns
+
+        made : (told : List Told) → Came' told → (settles : ℕ) → told_by (st.head ++ st.turns) ≡ told ++ replicate settles Settles → Stopped fault names start r first w' read_failed write_failed g Settled' Came'
+        made told came settles is =
+            let part = block_part f g Settled Settled' Came st.subject after pending st.turns st.written st.spoken same bye_line w w' ordinal count settled failed in
+            let text = take failed.much (block_text g after pending ++ bye_line) in
+            record {
+              turns = st.head ++ st.turns;
+              read = broken_after false names start r left (st.head ++ st.turns) st.read fault read_failed write_failed own;
+              written = ok_line ++ (st.written ++ text);
+              put = subst (Appends first w') (append_assoc ok_line st.written text) (Appends-trans first w w' (ok_line ++ st.written) text st.put failed.put);
+              upto = part.upto;
+              settled = part.settled;
+              told = told;
+              came = came;
+              heard = st.head ++ st.turns;
+              heard_is = ([], sym (append-nil (st.head ++ st.turns)));
+              settles = settles;
+              told_is = is;
+              begins = λ later kept. begins_opened later st.subject st.head st.turns (st.written ++ text) st.opened (part.begins later kept);
+              closed = λ which. absurd (not_own write_failed fault own which);
+            }
+
+-- all lines were read
+pub stage_end : (b : Bool) (names : KnownNames) (start r first w : Option (List ℕ)) (left : ℕ) (f : ℕ → List ℕ) (Settled : ℕ → Type 0) (Came : List Told → Type 0) (after : ℕ) (pending : List Pending)
+    → b ≡ false → Stage b names start r first w left f Settled Came after pending → Stage false names start r first w left f Settled Came after pending
+stage_end b names start r first w left f Settled Came after pending is st = subst (λ x. Stage x names start r first w left f Settled Came after pending) is st
+
+-- Before the session is open.
+module _ (names : KnownNames) (start r first : Option (List ℕ)) (Settled : ℕ → Type 0) (f : ℕ → List ℕ) (Came : List Told → Type 0) (settled : Settled 0) (came : Came []) where
+  -- nothing was heard, and reading failed
+  pub stopped_unheard : (fault : SessionFault) (read_failed write_failed : Bool) → (turns : List Turn) × AreSkips turns × Broken fault names start r read_failed write_failed turns
+      → Stopped fault names start r first first read_failed write_failed f Settled Came
+  stopped_unheard fault read_failed write_failed unheard = record {
+    turns = unheard.0;
+    read = unheard.2;
+    written = [];
+    put = Appends-nil first;
+    upto = 0;
+    settled = settled;
+    told = [];
+    came = came;
+    heard = unheard.0;
+    heard_is = ([], sym (append-nil unheard.0));
+    settles = 0;
+    told_is = skipped_told unheard.0 unheard.1;
+    begins = λ later kept. (session_text later unheard.0, refl);
+    closed = λ which later kept. inl (unheard.1, refl);
+  }
+
+  -- a session that is never opened ends with fixed words
+  module _ (again : Bool) (left : ℕ) (turns : List Turn) (read : Cutting again names start r left turns) (w' : Option (List ℕ)) (text : List ℕ)
+      (text_is : (later : ℕ → List ℕ) → session_text later turns ≡ text) (told_is : told_by turns ≡ []) where
+    pub closed_done : OnSome start (IsAtEnd r) ⊎ (AreLines read.bytes (lines_of read.bytes) × IsRefusal turns) → Appends first w' text → Finished names start r first w' f Settled Came
+    closed_done heard put = record {
+      bytes = read.bytes;
+      turns = turns;
+      took = read.took;
+      within = omega (arith, read.count);
+      whole = heard;
+      are = now_are again names start r left turns read;
+      put = subst (Appends first w') (sym (text_is f)) put;
+      came = subst Came (sym told_is) came;
+      upto = 0;
+      settled = settled;
+    }
+
+    pub closed_failed : (fault : SessionFault) (read_failed write_failed : Bool) → IsOwnFault write_failed fault → (much : ℕ) → Appends first w' (take much text)
+        → Stopped fault names start r first w' read_failed write_failed f Settled Came
+    closed_failed fault read_failed write_failed own much put = record {
+      turns = turns;
+      read = broken_after again names start r left turns read fault read_failed write_failed own;
+      written = take much text;
+      put = put;
+      upto = 0;
+      settled = settled;
+      told = [];
+      came = came;
+      heard = turns;
+      heard_is = ([], sym (append-nil turns));
+      settles = 0;
+      told_is = told_is;
+      begins = λ later kept. (drop much text, text_is later ∙ sym (take-append-drop much text));
+      closed = λ which. absurd (not_own write_failed fault own which);
+    }
+
+-- the whole input was read, or the refused line was read to its end
+pub heard_whole : (again : Bool) (names : KnownNames) (start r : Option (List ℕ)) (left : ℕ) (turns : List Turn) → (read : Cutting again names start r left turns) → IsRefusal turns
+    → OnSome start (IsAtEnd r) ⊎ (AreLines read.bytes (lines_of read.bytes) × IsRefusal turns)
+heard_whole false names start r left turns read refused = inl read.cut.1
+heard_whole true names start r left turns read refused = inr (subst (AreLines read.bytes) (sym (cut-now true read.bytes read.lines start r read.cut)) read.cut, refused)
+
+-- The first line greets.
+module _ (again : Bool) (names : KnownNames) (start r first : Option (List ℕ)) (left subject : ℕ) (skips : List Turn) (t : Turn) (quiet : AreSkips skips) (greets : greeted t ≡ Some subject)
+    (read : Cutting again names start r left (skips ++ t ∷ [])) where
+  opens : IsOpening subject (skips ++ t ∷ [])
+  opens = opens_after subject skips t quiet greets
+
+  -- the session is open
+  pub stage_start : (w : Option (List ℕ)) (f : ℕ → List ℕ) (Settled : ℕ → Type 0) (Came : List Told → Type 0) → Appends first w ok_line → Settled 0 → Came (Opens subject ∷ [])
+      → Stage again names start r first w left f Settled Came 0 []
+  stage_start w f Settled Came put settled came = record {
+    subject = subject;
+    head = skips ++ t ∷ [];
+    turns = [];
+    written = [];
+    opened = opens;
+    read = subst (Cutting again names start r left) (sym (append-nil (skips ++ t ∷ []))) read;
+    put = subst (Appends first w) (sym (append-nil ok_line)) put;
+    spoken = record { done = []; open_turns = []; split = refl; block = refl; in_block = tt; text = refl; settled = settled; count = refl; came = came };
+  }
+
+  -- the session couldn't be opened, or its first reply couldn't be written
+  pub stopped_greeting : (w : Option (List ℕ)) (f : ℕ → List ℕ) (Settled : ℕ → Type 0) (Came : List Told → Type 0) → (fault : SessionFault) (read_failed write_failed : Bool) → IsOwnFault write_failed fault
+      → Settled 0 → (Came [] × Appends first w []) ⊎ (Came (Opens subject ∷ []) × ((much : ℕ) × Appends first w (take much ok_line)))
+      → Stopped fault names start r first w read_failed write_failed f Settled Came
+  stopped_greeting w f Settled Came fault read_failed write_failed own settled (inl before) = record {
+    turns = skips ++ t ∷ [];
+    read = broken_after again names start r left (skips ++ t ∷ []) read fault read_failed write_failed own;
+    written = [];
+    put = before.1;
+    upto = 0;
+    settled = settled;
+    told = [];
+    came = before.0;
+    heard = skips;
+    heard_is = (t ∷ [], refl);
+    settles = 0;
+    told_is = skipped_told skips quiet;
+    begins = λ later kept. (session_text later skips, refl);
+    closed = λ which. absurd (not_own write_failed fault own which);
+  }
+  stopped_greeting w f Settled Came fault read_failed write_failed own settled (inr after) = record {
+    turns = skips ++ t ∷ [];
+    read = broken_after again names start r left (skips ++ t ∷ []) read fault read_failed write_failed own;
+    written = take after.1.0 ok_line;
+    put = after.1.1;
+    upto = 0;
+    settled = settled;
+    told = Opens subject ∷ [];
+    came = after.0;
+    heard = skips ++ t ∷ [];
+    heard_is = ([], sym (append-nil (skips ++ t ∷ [])));
+    settles = 1;
+    told_is = ap told_by (sym (append-nil (skips ++ t ∷ []))) ∙ opened_told subject (skips ++ t ∷ []) [] opens;
+    begins = λ later kept. (
+      drop after.1.0 ok_line ++ bye_line,
+      ap (session_text later) (sym (append-nil (skips ++ t ∷ []))) ∙ opened_text later subject (skips ++ t ∷ []) [] opens
+          ∙ ap (λ l. l ++ bye_line) (sym (take-append-drop after.1.0 ok_line)) ∙ append_assoc (take after.1.0 ok_line) (drop after.1.0 ok_line) bye_line,
+    );
+    closed = λ which. absurd (not_own write_failed fault own which);
+  }

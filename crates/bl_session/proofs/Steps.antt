@@ -1,0 +1,231 @@
+-- What one line does to how far a session has come.
+use Rattle.std.proofs.Common.{◌≡◌, ℕ, zero, suc, ◌+◌, ◌<◌, ◌⊎◌, inl, inr, List, [], ◌∷◌, ◌++◌, length, refl, sym, ap, subst, ◌∙◌, append_assoc, append-nil, arith, take, drop, take-append-drop, Option, Result, Ok, Err, OnErr, replicate}
+use Rattle.std.specs.Io.KnownBytes.{Appends}
+use Rattle.std.proofs.KnownBytes.{Appends-nil}
+use Rattle.bl_script.specs.declared.work.Work.{Work}
+use Rattle.bl_session.specs.declared.turn.Turn.{Turn}
+use Rattle.bl_session.specs.declared.turn.Turn.TheVariants.{Wait, Ask}
+use Rattle.bl_session.specs.declared.turn.Pending.{Pending}
+use Rattle.bl_session.specs.Told.{Told, Opens, Admits, Settles, told_of, SameUpTo}
+use Rattle.bl_session.specs.Texts.{text_of, ordinal_after, ok_line}
+use Rattle.bl_session.specs.Turns.{HasNoWait}
+use Rattle.bl_session.specs.Spoken.{Spoken, pending_of, block_text, Begins, TurnFailed, BlockFailed, FailsTurn}
+use Rattle.bl_session.proofs.Texts.{text-append, ordinal-append, told-append, text-same, text-block, ordinal-block, pending-append, no_wait-append, block-same, same_trans}
+
+pub on_err : {A E : Type 0} (r : Result A E) (P : Type 0) → P → OnErr r P
+on_err (Ok x) P p = tt
+on_err (Err e) P p = p
+
+-- what is told of one turn more
+told-more : (subject : ℕ) (turns : List Turn) (t : Turn) → (Opens subject ∷ told_of 0 (turns ++ t ∷ [])) ≡ (Opens subject ∷ told_of 0 turns) ++ told_of (ordinal_after 0 turns) (t ∷ [])
+told-more subject turns t = ap (λ l. Opens subject ∷ l) (told-append 0 turns (t ∷ []))
+
+module _ (f g : ℕ → List ℕ) (Settled : ℕ → Type 0) (Came : List Told → Type 0) (subject after : ℕ) (pending : List Pending) (turns : List Turn) (ws : List ℕ)
+    (was : Spoken f Settled Came subject after pending turns ws) (same : SameUpTo after f g) where
+  -- the last ordinal
+  pub last_ordinal : ordinal_after 0 turns ≡ after + length pending
+  last_ordinal =
+      ap (ordinal_after 0) was.split ∙ ordinal-append 0 was.done was.open_turns ∙ ordinal-block (ordinal_after 0 was.done) was.open_turns
+      ∙ ap (λ k. k + length (pending_of was.open_turns)) (sym was.count) ∙ ap (λ p. after + length p) (sym was.block)
+
+  -- what was written still stands
+  pub stands : ws ≡ text_of g 0 was.done
+  stands = was.text ∙ sym (text-same after f g same 0 was.done (omega (arith, was.count)))
+
+  -- the text of all turns is what was written and the open block
+  pub whole : text_of g 0 turns ≡ ws ++ block_text g after pending
+  whole =
+      ap (text_of g 0) was.split ∙ text-append g 0 was.done was.open_turns
+      ∙ ap (λ l. l ++ text_of g (ordinal_after 0 was.done) was.open_turns) (sym stands)
+      ∙ ap (λ l. ws ++ l) (text-block g (ordinal_after 0 was.done) was.open_turns was.in_block
+      ∙ ap (λ k. block_text g k (pending_of was.open_turns)) (sym was.count) ∙ ap (block_text g after) (sym was.block))
+
+  -- the text of one turn more
+  pub whole-more : (t : Turn) → text_of g 0 (turns ++ t ∷ []) ≡ ws ++ (block_text g after pending ++ text_of g (ordinal_after 0 turns) (t ∷ []))
+  whole-more t =
+      text-append g 0 turns (t ∷ []) ∙ ap (λ l. l ++ text_of g (ordinal_after 0 turns) (t ∷ [])) whole
+      ∙ append_assoc ws (block_text g after pending) (text_of g (ordinal_after 0 turns) (t ∷ []))
+
+  -- what is told at a line that asks nothing
+  pub told-same : (t : Turn) → told_of (ordinal_after 0 turns) (t ∷ []) ≡ [] → Came (Opens subject ∷ told_of 0 (turns ++ t ∷ []))
+  told-same t none = subst Came (sym (told-more subject turns t ∙ ap (λ l. (Opens subject ∷ told_of 0 turns) ++ l) none ∙ append-nil (Opens subject ∷ told_of 0 turns))) was.came
+
+  pub told-ask : (Came' : List Told → Type 0) (ordinal : ℕ) (w : Work) → ordinal ≡ after + length pending → ((told : List Told) → Came told → Came' (told ++ Admits (ordinal + 1) w ∷ []))
+      → Came' (Opens subject ∷ told_of 0 (turns ++ Ask w ∷ []))
+  told-ask Came' ordinal w count came =
+      subst Came' (ap (λ k. (Opens subject ∷ told_of 0 turns) ++ Admits (k + 1) w ∷ []) (count ∙ sym last_ordinal) ∙ sym (told-more subject turns (Ask w)))
+      (came (Opens subject ∷ told_of 0 turns) was.came)
+
+  -- a line at which nothing is written
+  pub quiet : (Settled' : ℕ → Type 0) (Came' : List Told → Type 0) (a : Option (List ℕ)) (t u : Turn) → u ≡ t → HasNoWait (t ∷ []) → Came' (Opens subject ∷ told_of 0 (turns ++ t ∷ [])) → Settled' after
+      → (after' : ℕ) (pending' : List Pending) → after' ≡ after → pending' ≡ pending ++ pending_of (t ∷ [])
+      → (more : List ℕ) × Appends a a more × Spoken g Settled' Came' subject after' pending' (turns ++ u ∷ []) (ws ++ more)
+  quiet Settled' Came' a t u is plain came settled after' pending' after_is pending_is = (
+    [],
+    Appends-nil a,
+    record {
+      done = was.done;
+      open_turns = was.open_turns ++ t ∷ [];
+      split = ap (λ x. turns ++ x ∷ []) is ∙ ap (λ l. l ++ t ∷ []) was.split ∙ append_assoc was.done was.open_turns (t ∷ []);
+      block = pending_is ∙ ap (λ p. p ++ pending_of (t ∷ [])) was.block ∙ sym (pending-append was.open_turns (t ∷ []));
+      in_block = no_wait-append was.open_turns (t ∷ []) was.in_block plain;
+      text = append-nil ws ∙ stands;
+      settled = subst Settled' (sym after_is) settled;
+      count = after_is ∙ was.count;
+      came = subst (λ x. Came' (Opens subject ∷ told_of 0 (turns ++ x ∷ []))) (sym is) came;
+    },
+  )
+
+  -- a `wait`
+  pub waited : (Settled' : ℕ → Type 0) (Came' : List Told → Type 0) (a b : Option (List ℕ)) (u : Turn) → u ≡ Wait → (ordinal after' : ℕ) (pending' : List Pending)
+      → Appends a b (block_text g after pending ++ ok_line) → ordinal ≡ after + length pending → Settled' ordinal → after' ≡ ordinal → pending' ≡ []
+      → ((told : List Told) → Came told → Came' (told ++ Settles ∷ []))
+      → (more : List ℕ) × Appends a b more × Spoken g Settled' Came' subject after' pending' (turns ++ u ∷ []) (ws ++ more)
+  waited Settled' Came' a b u is ordinal after' pending' put count settled after_is pending_is came = (
+    block_text g after pending ++ ok_line,
+    put,
+    record {
+      done = turns ++ Wait ∷ [];
+      open_turns = [];
+      split = ap (λ x. turns ++ x ∷ []) is ∙ sym (append-nil (turns ++ Wait ∷ []));
+      block = pending_is;
+      in_block = tt;
+      text = sym (whole-more Wait);
+      settled = subst Settled' (sym after_is) settled;
+      count = after_is ∙ count ∙ sym last_ordinal ∙ sym (ordinal-append 0 turns (Wait ∷ []));
+      came = subst (λ x. Came' (Opens subject ∷ told_of 0 (turns ++ x ∷ []))) (sym is)
+          (subst Came' (sym (told-more subject turns Wait)) (came (Opens subject ∷ told_of 0 turns) was.came));
+    },
+  )
+
+-- so much of the block's text and the closing line is written, and the text of the turns and the closing line begins so
+module _ (f g : ℕ → List ℕ) (Settled Settled' : ℕ → Type 0) (Came : List Told → Type 0) (subject after : ℕ) (pending : List Pending) (turns : List Turn) (ws : List ℕ)
+    (was : Spoken f Settled Came subject after pending turns ws) (same : SameUpTo after f g) where
+  pub record Part (closing : List ℕ) (much : ℕ) : Type 0 where
+    pub upto : ℕ
+    pub settled : Settled' upto
+    pub begins : (later : ℕ → List ℕ) → SameUpTo upto g later → Begins (ws ++ take much (block_text g after pending ++ closing)) (text_of later 0 turns ++ closing)
+
+  part_of : (closing : List ℕ) (much ordinal : ℕ) → ordinal ≡ after + length pending → Settled' after → (0 < much → Settled' ordinal) → Part closing much
+  part_of closing zero ordinal count settled some = record {
+    upto = after;
+    settled = settled;
+    begins = λ later kept. (
+      block_text later after pending ++ closing,
+      ap (λ l. l ++ closing) (whole f later Settled Came subject after pending turns ws was (same_trans after f g later same kept))
+          ∙ append_assoc ws (block_text later after pending) closing
+          ∙ ap (λ l. l ++ (block_text later after pending ++ closing)) (sym (append-nil ws)),
+    );
+  }
+  part_of closing (suc k) ordinal count settled some = record {
+    upto = ordinal;
+    settled = some (omega arith);
+    begins = λ later kept.
+        let all = block_text g after pending ++ closing in (
+          drop (suc k) all,
+          ap (λ l. l ++ closing) (whole f later Settled Came subject after pending turns ws was (λ n le. kept n (omega (arith, le, count)) ∙ same n le))
+              ∙ append_assoc ws (block_text later after pending) closing
+              ∙ ap (λ l. ws ++ (l ++ closing)) (block-same ordinal g later kept after pending (omega (arith, count)))
+              ∙ ap (λ l. ws ++ l) (sym (take-append-drop (suc k) all)) ∙ sym (append_assoc ws (take (suc k) all) (drop (suc k) all)),
+        );
+  }
+
+  pub block_part : (closing : List ℕ) (a b : Option (List ℕ)) (ordinal : ℕ) → ordinal ≡ after + length pending → Settled' after
+      → (failed : BlockFailed Settled' a b ordinal (block_text g after pending ++ closing)) → Part closing failed.much
+  block_part closing a b ordinal count settled failed = part_of closing failed.much ordinal count settled failed.some
+
+  module _ (Came' : List Told → Type 0) (a b : Option (List ℕ)) (u : Turn) where
+    -- nothing was written, and the turn was not taken
+    pub not_taken : Settled' after → ((told : List Told) → Came told → Came' told)
+        → (more : List ℕ) × Appends a a more × TurnFailed g Settled' Came' subject (turns ++ u ∷ []) (ws ++ more)
+    not_taken settled came = (
+      [],
+      Appends-nil a,
+      record {
+        upto = after;
+        settled = settled;
+        told = Opens subject ∷ told_of 0 turns;
+        came = came (Opens subject ∷ told_of 0 turns) was.came;
+        heard = turns;
+        heard_is = (u ∷ [], refl);
+        settles = 1;
+        told_is = refl;
+        begins = λ later kept. (
+          block_text later after pending,
+          whole f later Settled Came subject after pending turns ws was (same_trans after f g later same kept)
+              ∙ ap (λ l. l ++ block_text later after pending) (sym (append-nil ws)),
+        );
+      },
+    )
+
+    -- nothing was written, and the turn was told
+    pub not_kept : Settled' after → (w : Work) → u ≡ Ask w → Came' (Opens subject ∷ told_of 0 (turns ++ Ask w ∷ []))
+        → (more : List ℕ) × Appends a a more × TurnFailed g Settled' Came' subject (turns ++ u ∷ []) (ws ++ more)
+    not_kept settled w is came = (
+      [],
+      Appends-nil a,
+      record {
+        upto = after;
+        settled = settled;
+        told = Opens subject ∷ told_of 0 (turns ++ Ask w ∷ []);
+        came = came;
+        heard = turns ++ Ask w ∷ [];
+        heard_is = ([], ap (λ x. turns ++ x ∷ []) is ∙ sym (append-nil (turns ++ Ask w ∷ [])));
+        settles = 1;
+        told_is = refl;
+        begins = λ later kept. (
+          block_text later after pending ++ text_of later (ordinal_after 0 turns) (Ask w ∷ []),
+          whole-more f later Settled Came subject after pending turns ws was (same_trans after f g later same kept) (Ask w)
+              ∙ ap (λ l. l ++ (block_text later after pending ++ text_of later (ordinal_after 0 turns) (Ask w ∷ []))) (sym (append-nil ws)),
+        );
+      },
+    )
+
+    -- part of the replies at a `wait` was written
+    pub wait_failed : u ≡ Wait → (ordinal : ℕ) → ordinal ≡ after + length pending → Settled' after
+        → BlockFailed Settled' a b ordinal (block_text g after pending ++ ok_line)
+        → ((told : List Told) → Came told → Came' told ⊎ Came' (told ++ Settles ∷ []))
+        → (more : List ℕ) × Appends a b more × TurnFailed g Settled' Came' subject (turns ++ u ∷ []) (ws ++ more)
+    wait_failed is ordinal count settled failed came =
+        let part = block_part ok_line a b ordinal count settled failed in (
+          take failed.much (block_text g after pending ++ ok_line),
+          failed.put,
+          subst (λ x. TurnFailed g Settled' Came' subject (turns ++ x ∷ []) (ws ++ take failed.much (block_text g after pending ++ ok_line))) (sym is)
+              (elim (came (Opens subject ∷ told_of 0 turns) was.came) [
+                | inl before ↦ made part (Opens subject ∷ told_of 0 turns) before 2 (ap (λ l. l ++ Settles ∷ []) (told-more subject turns Wait) ∙ append_assoc (Opens subject ∷ told_of 0 turns) (Settles ∷ []) (Settles ∷ []))
+                | inr settles ↦ made part ((Opens subject ∷ told_of 0 turns) ++ Settles ∷ []) settles 1 (ap (λ l. l ++ Settles ∷ []) (told-more subject turns Wait))
+              ]),
+        )
+      where
+        made : {much : ℕ} → Part ok_line much → (told : List Told) → Came' told → (settles : ℕ) → (Opens subject ∷ (told_of 0 (turns ++ Wait ∷ []) ++ Settles ∷ [])) ≡ told ++ replicate settles Settles
+            → TurnFailed g Settled' Came' subject (turns ++ Wait ∷ []) (ws ++ take much (block_text g after pending ++ ok_line))
+        made part told came settles is = record {
+          upto = part.upto;
+          settled = part.settled;
+          told = told;
+          came = came;
+          heard = turns ++ Wait ∷ [];
+          heard_is = ([], sym (append-nil (turns ++ Wait ∷ [])));
+          settles = settles;
+          told_is = is;
+          begins = λ later kept. let b = part.begins later kept in (b.0, text-append later 0 turns (Wait ∷ []) ∙ ap (λ l. text_of later 0 turns ++ l) (append-nil ok_line) ∙ b.1);
+        }
+
+-- the same as clauses
+module _ {A E : Type 0} (r : Result A E) (f g : ℕ → List ℕ) (Settled Settled' : ℕ → Type 0) (Came Came' : List Told → Type 0) (after : ℕ) (pending : List Pending) (a : Option (List ℕ)) (u : Turn) (same : SameUpTo after f g) (settled : Settled' after) where
+  pub all_not_taken : ((told : List Told) → Came told → Came' told) → OnErr r (FailsTurn f g Settled Settled' Came Came' after pending a a u)
+  all_not_taken came = on_err r (FailsTurn f g Settled Settled' Came Came' after pending a a u)
+      (λ subject turns ws was. not_taken f g Settled Settled' Came subject after pending turns ws was same Came' a a u settled came)
+
+  pub all_not_kept : (ordinal : ℕ) (w : Work) → u ≡ Ask w → ordinal ≡ after + length pending → ((told : List Told) → Came told → Came' (told ++ Admits (ordinal + 1) w ∷ []))
+      → OnErr r (FailsTurn f g Settled Settled' Came Came' after pending a a u)
+  all_not_kept ordinal w is count came = on_err r (FailsTurn f g Settled Settled' Came Came' after pending a a u)
+      (λ subject turns ws was. not_kept f g Settled Settled' Came subject after pending turns ws was same Came' a a u settled w is
+      (told-ask f g Settled Came subject after pending turns ws was same Came' ordinal w count came))
+
+  pub all_wait_failed : (b : Option (List ℕ)) → u ≡ Wait → (ordinal : ℕ) → ordinal ≡ after + length pending
+      → BlockFailed Settled' a b ordinal (block_text g after pending ++ ok_line)
+      → ((told : List Told) → Came told → Came' told ⊎ Came' (told ++ Settles ∷ []))
+      → FailsTurn f g Settled Settled' Came Came' after pending a b u
+  all_wait_failed b is ordinal count failed came subject turns ws was =
+      wait_failed f g Settled Settled' Came subject after pending turns ws was same Came' a b u is ordinal count settled failed came

@@ -1,0 +1,36 @@
+use Rattle.std.proofs.Common.{rules, ◌≡◌, None}
+use Rattle.bl_session.specs.Turns.{greeted}
+use Rattle.bl_session.proofs.Outcomes.{on_ok-map, if_err-map}
+use Rattle.bl_session.proofs.Stages.{stage_start, stopped_greeting, refuses_after, closed_done, closed_failed, heard_whole}
+use Rattle.bl_session.proofs.session.answer_first.Goals as goal
+
+pub returns-in-Ok-clause-ok : goal.returns-in-Ok-clause-ok
+returns-in-Ok-clause-ok g c = on_ok-map c.listen.result
+    (λ done start heard. done start _ (stage_start _ _ start _ _ _ _ heard.turns _ heard.quiet (search rules) heard.read _ _ _ _ c.in-Ok.ensures.ok c.greet.ensures.settled c.in-Ok.ensures.came))
+    c.listen.ensures.ok
+
+pub returns-in-Ok-clause-err : goal.returns-in-Ok-clause-err
+returns-in-Ok-clause-err g c = if_err-map c.listen.result
+    (λ fault stopped start heard. stopped start _ (stage_start _ _ start _ _ _ _ heard.turns _ heard.quiet (search rules) heard.read _ _ _ _ c.in-Ok.ensures.ok c.greet.ensures.settled c.in-Ok.ensures.came))
+    c.listen.ensures.err
+
+pub returns-in-Some-clause-err : goal.returns-in-Some-clause-err
+returns-in-Some-clause-err g c start heard =
+    stopped_greeting _ _ start _ _ _ c.in-Some.subject heard.turns _ heard.quiet (search rules) heard.read _ _ _ _ c.in-Err.fault _ _ c.in-Err.ensures.fault
+    c.greet.ensures.settled c.in-Err.ensures.told
+
+pub returns-clause-ok : goal.returns-clause-ok
+returns-clause-ok g c = on_ok-map c.say.result
+    (λ put start heard.
+    let none_greets : greeted c.args.turn ≡ None = search rules in
+    let refused = refuses_after heard.turns c.args.turn heard.quiet c.requires.spoken none_greets in
+    closed_done _ start _ _ (g.B.Behind.settled c.args.behind.now c.args.state.now) _ _ c.requires.settled c.requires.came _ _ _ heard.read _ _ refused.text refused.told (heard_whole _ _ start _ _ _ heard.read refused.last) put)
+    c.say.ensures.ok
+
+pub returns-clause-err : goal.returns-clause-err
+returns-clause-err g c = if_err-map c.say.result
+    (λ fault own start heard.
+    let none_greets : greeted c.args.turn ≡ None = search rules in
+    let refused = refuses_after heard.turns c.args.turn heard.quiet c.requires.spoken none_greets in
+    closed_failed _ start _ _ _ _ _ c.requires.settled c.requires.came _ _ _ heard.read _ _ refused.text refused.told fault _ _ own c.say.ensures.part.0 c.say.ensures.part.1)
+    c.say.ensures.fault

@@ -1,0 +1,43 @@
+use Rattle.std.proofs.Common.{inl, true, refl, []}
+use Rattle.bl_session.proofs.Outcomes.{on_ok-map, if_err-map}
+use Rattle.bl_session.proofs.Cuttings.{cutting_start, broken_after}
+use Rattle.bl_session.proofs.Stages.{stopped_unheard, closed_done, closed_failed, skipped_text, skipped_told}
+use Rattle.bl_session.proofs.session.converse.Goals as goal
+
+pub returns-in-Err-clause-err : goal.returns-in-Err-clause-err
+returns-in-Err-clause-err g c =
+    stopped_unheard _ _ _ _ _ _ _ c.requires.settled c.requires.came _ _ _
+    ([], tt, broken_after true _ _ _ 16777216 [] (cutting_start c.args.names.now (g.R.Read.remaining c.args.reader.now.inner) 16777216 refl) _ _ _ tt)
+
+pub answer_first-requires-clause-spoken : goal.answer_first-requires-clause-spoken
+answer_first-requires-clause-spoken g c =
+    ((rw c.in-Ok-Some.field-0-is at c.in-Ok-Some.ensures).ok (g.R.Read.remaining c.args.reader.now.inner) (record { turns = []; read = cutting_start _ _ _ refl; quiet = tt })).1
+
+pub returns-in-Ok-Some-clause-ok : goal.returns-in-Ok-Some-clause-ok
+returns-in-Ok-Some-clause-ok g c =
+    let heard = (rw c.in-Ok-Some.field-0-is at c.in-Ok-Some.ensures).ok (g.R.Read.remaining c.args.reader.now.inner) (record { turns = []; read = cutting_start _ _ _ refl; quiet = tt }) in
+    on_ok-map c.answer_first.result (λ done. done _ heard.0) c.answer_first.ensures.ok
+
+pub returns-in-Ok-Some-clause-err : goal.returns-in-Ok-Some-clause-err
+returns-in-Ok-Some-clause-err g c =
+    let heard = (rw c.in-Ok-Some.field-0-is at c.in-Ok-Some.ensures).ok (g.R.Read.remaining c.args.reader.now.inner) (record { turns = []; read = cutting_start _ _ _ refl; quiet = tt }) in
+    if_err-map c.answer_first.result (λ fault stopped. stopped _ heard.0) c.answer_first.ensures.err
+
+pub returns-in-Ok-None-clause-ok : goal.returns-in-Ok-None-clause-ok
+returns-in-Ok-None-clause-ok g c =
+    let unheard = (rw c.in-Ok-None.field-0-is at c.in-Ok-None.ensures).ok (g.R.Read.remaining c.args.reader.now.inner) (record { turns = []; read = cutting_start _ _ _ refl; quiet = tt }) in
+    on_ok-map c.say.result
+    (λ put. closed_done _ _ _ _ (g.B.Behind.settled c.args.behind.now c.args.state.now) _ _ c.requires.settled c.requires.came _ _ _ unheard.read _ _ (λ later. skipped_text later unheard.turns unheard.quiet) (skipped_told unheard.turns unheard.quiet) (inl unheard.read.cut.1) put)
+    c.say.ensures.ok
+
+pub returns-in-Ok-None-clause-err : goal.returns-in-Ok-None-clause-err
+returns-in-Ok-None-clause-err g c =
+    let unheard = (rw c.in-Ok-None.field-0-is at c.in-Ok-None.ensures).ok (g.R.Read.remaining c.args.reader.now.inner) (record { turns = []; read = cutting_start _ _ _ refl; quiet = tt }) in
+    if_err-map c.say.result
+    (λ fault own. closed_failed _ _ _ _ _ _ _ c.requires.settled c.requires.came _ _ _ unheard.read _ _ (λ later. skipped_text later unheard.turns unheard.quiet) (skipped_told unheard.turns unheard.quiet) fault _ _ own c.say.ensures.part.0 c.say.ensures.part.1)
+    c.say.ensures.fault
+
+pub returns-clause-err : goal.returns-clause-err
+returns-clause-err g c =
+    stopped_unheard _ _ _ _ _ _ _ c.requires.settled c.requires.came _ _ _
+    (c.in-Err-first_turn.ensures.err (g.R.Read.remaining c.args.reader.now.inner) _ (record { turns = []; read = cutting_start _ _ _ refl; quiet = tt }))

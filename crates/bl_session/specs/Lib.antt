@@ -1,0 +1,15 @@
+pub mod Lines
+pub mod Look
+pub mod Holds
+pub mod Reads
+pub mod Turns
+pub mod Told
+pub mod Texts
+pub mod Spoken
+pub mod Stages
+pub mod Replies
+pub mod One
+pub mod Transcript
+pub mod Book
+pub mod BookView
+pub mod Outcome

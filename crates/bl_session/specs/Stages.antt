@@ -1,0 +1,134 @@
+-- How far a session has come, from its first byte on.
+use Rattle.std.specs.Prelude.{◌≡◌, ℕ, ◌+◌, ◌≤◌, ◌<◌, Bool, true, false, List, [], ◌∷◌, ◌++◌, length, ⊤, Option, Some, None, OnSome, ◌⊎◌, replicate}
+use Rattle.std.specs.Io.KnownBytes.{Consumes, Appends, IsAtEnd}
+use Rattle.bl_script.specs.Names.{KnownNames}
+use Rattle.bl_session.specs.Lines.{lines_of, AreLines, HasNoLf}
+use Rattle.bl_session.specs.Reads.{HasMore}
+use Rattle.bl_session.specs.declared.fault.SessionFault.{SessionFault}
+use Rattle.bl_session.specs.declared.fault.SessionFault.TheVariants.{Read, Write, TooLong, Memory, Clash}
+use Rattle.bl_session.specs.declared.turn.Turn.{Turn}
+use Rattle.bl_session.specs.declared.turn.Pending.{Pending}
+use Rattle.bl_session.specs.Turns.{AreTurns, AreSkips, IsOpening, IsRefusal, HasNoWait, is_skip}
+use Rattle.bl_session.specs.Told.{Told, Settles, told_by, SameUpTo}
+use Rattle.bl_session.specs.Texts.{text_of, session_text, ok_line}
+use Rattle.bl_session.specs.Spoken.{Spoken, Begins}
+
+-- the lines that were consumed: more may come, or these are all
+abbrev pub IsCut : Bool → List ℕ → List (List ℕ) → Option (List ℕ) → Option (List ℕ) → Type 0
+IsCut true bytes lines before after = AreLines bytes lines
+IsCut false bytes lines before after = (lines_of bytes ≡ lines) × OnSome before (IsAtEnd after)
+
+-- these turns were read, and so many bytes may still be read
+pub record Cutting (again : Bool) (names : KnownNames) (start rest : Option (List ℕ)) (left : ℕ) (turns : List Turn) : Type 0 where
+  pub bytes : List ℕ
+  pub lines : List (List ℕ)
+  pub cut : IsCut again bytes lines start rest
+  pub took : Consumes start rest bytes
+  pub count : left + length bytes ≡ 16777216
+  pub are : AreTurns names lines turns
+
+-- reading one line more: there was none, or it is this turn
+abbrev pub ReadsOn : Option (Turn × Bool) → KnownNames → Option (List ℕ) → Option (List ℕ) → ℕ → List Turn → Type 0
+ReadsOn None names start rest left turns = Cutting false names start rest left turns
+ReadsOn (Some found) names start rest left turns = Cutting found.1 names start rest left (turns ++ found.0 ∷ [])
+
+-- a line that ended by its LF took a byte
+abbrev pub IsNearer : Option (Turn × Bool) → ℕ → ℕ → Type 0
+IsNearer None was left = left ≤ was
+IsNearer (Some found) was left = (left ≤ was) × (found.1 ≡ true → left < was)
+
+-- only lines that are skipped were read
+pub record Unheard (again : Bool) (names : KnownNames) (start rest : Option (List ℕ)) (left : ℕ) : Type 0 where
+  pub turns : List Turn
+  pub read : Cutting again names start rest left turns
+  pub quiet : AreSkips turns
+
+-- this is the first line that isn't skipped
+pub record Heard (turn : Turn) (again : Bool) (names : KnownNames) (start rest : Option (List ℕ)) (left : ℕ) : Type 0 where
+  pub turns : List Turn
+  pub read : Cutting again names start rest left (turns ++ turn ∷ [])
+  pub quiet : AreSkips turns
+
+-- all lines are skipped, or this is the first one that isn't
+abbrev pub IsFirst : Option (Turn × Bool) → KnownNames → Option (List ℕ) → Option (List ℕ) → ℕ → Type 0
+IsFirst None names start rest left = Unheard false names start rest left
+IsFirst (Some found) names start rest left = Heard found.0 found.1 names start rest left × (is_skip found.0 ≡ false)
+
+-- between two lines of a session that is open
+pub record Stage (again : Bool) (names : KnownNames) (start rest first kept : Option (List ℕ)) (left : ℕ) (replies : ℕ → List ℕ) (Settled : ℕ → Type 0) (Came : List Told → Type 0) (after : ℕ) (pending : List Pending) : Type 0 where
+  pub subject : ℕ
+  pub head : List Turn
+  pub turns : List Turn
+  pub written : List ℕ
+  pub opened : IsOpening subject head
+  pub read : Cutting again names start rest left (head ++ turns)
+  pub put : Appends first kept (ok_line ++ written)
+  pub spoken : Spoken replies Settled Came subject after pending turns written
+
+-- The input was read to its end, or to the end of a first line that was refused, and its transcript is written.
+pub record Finished (names : KnownNames) (start rest first kept : Option (List ℕ)) (replies : ℕ → List ℕ) (Settled : ℕ → Type 0) (Came : List Told → Type 0) : Type 0 where
+  pub bytes : List ℕ
+  pub turns : List Turn
+  pub took : Consumes start rest bytes
+  pub within : length bytes ≤ 16777216
+  pub whole : OnSome start (IsAtEnd rest) ⊎ (AreLines bytes (lines_of bytes) × IsRefusal turns)
+  pub are : AreTurns names (lines_of bytes) turns
+  pub put : Appends first kept (session_text replies turns)
+  pub came : Came (told_by turns)
+  pub upto : ℕ
+  pub settled : Settled upto
+
+-- why a session ended early, by how its ends stand and how many bytes it took
+abbrev pub IsCause : SessionFault → Option (List ℕ) → Option (List ℕ) → Bool → Bool → ℕ → Type 0
+IsCause Read start rest read_failed write_failed taken = read_failed ≡ true
+IsCause Write start rest read_failed write_failed taken = write_failed ≡ true
+IsCause TooLong start rest read_failed write_failed taken = (taken ≡ 16777216) × OnSome start (HasMore rest)
+IsCause Memory start rest read_failed write_failed taken = ⊤
+IsCause Clash start rest read_failed write_failed taken = ⊥
+
+-- a begun line, or at want of memory a line that wasn't understood
+abbrev pub IsDropped : SessionFault → List ℕ → Type 0
+IsDropped fault part = HasNoLf part ⊎ ((fault ≡ Memory) × ((line : List ℕ) × HasNoLf line × (part ≡ line ++ 10 ∷ [])))
+
+-- these turns were read whole, and then a part that is dropped
+pub record Broken (fault : SessionFault) (names : KnownNames) (start rest : Option (List ℕ)) (read_failed write_failed : Bool) (turns : List Turn) : Type 0 where
+  pub bytes : List ℕ
+  pub part : List ℕ
+  pub took : Consumes start rest (bytes ++ part)
+  pub within : length (bytes ++ part) ≤ 16777216
+  pub dropped : IsDropped fault part
+  pub are : AreTurns names (lines_of bytes) turns
+  pub why : IsCause fault start rest read_failed write_failed (length (bytes ++ part))
+
+-- each block whose `wait` came is written whole, and nothing else
+pub record AreBlocks (replies : ℕ → List ℕ) (turns : List Turn) (written : List ℕ) : Type 0 where
+  pub subject : ℕ
+  pub head : List Turn
+  pub done : List Turn
+  pub open_turns : List Turn
+  pub split : turns ≡ head ++ (done ++ open_turns)
+  pub opened : IsOpening subject head
+  pub in_block : HasNoWait open_turns
+  pub text : written ≡ ok_line ++ text_of replies 0 done
+
+-- nothing is written yet, or the blocks are
+abbrev pub AreWhole : (ℕ → List ℕ) → List Turn → List ℕ → Type 0
+AreWhole replies turns written = (AreSkips turns × (written ≡ [])) ⊎ AreBlocks replies turns written
+
+-- The session ended early. What is written begins the transcript of the lines that were heard, which are those that were
+-- read but perhaps the last, whatever is answered later. What was told is what these lines tell, but for settling.
+pub record Stopped (fault : SessionFault) (names : KnownNames) (start rest first kept : Option (List ℕ)) (read_failed write_failed : Bool) (replies : ℕ → List ℕ) (Settled : ℕ → Type 0) (Came : List Told → Type 0) : Type 0 where
+  pub turns : List Turn
+  pub read : Broken fault names start rest read_failed write_failed turns
+  pub written : List ℕ
+  pub put : Appends first kept written
+  pub upto : ℕ
+  pub settled : Settled upto
+  pub told : List Told
+  pub came : Came told
+  pub heard : List Turn
+  pub heard_is : Begins heard turns
+  pub settles : ℕ
+  pub told_is : told_by heard ≡ told ++ replicate settles Settles
+  pub begins : (later : ℕ → List ℕ) → SameUpTo upto replies later → Begins written (session_text later heard)
+  pub closed : (fault ≡ Read) ⊎ (fault ≡ TooLong) → (later : ℕ → List ℕ) → SameUpTo upto replies later → AreWhole later turns written

@@ -1,0 +1,11 @@
+-- Transcript: what a session writes for its input.
+use Rattle.std.specs.Prelude.{ℕ, List}
+use Rattle.bl_setup.specs.Order.{Setup}
+use Rattle.bl_session.specs.declared.turn.Turn.{Turn}
+use Rattle.bl_session.specs.Texts.{session_text}
+use Rattle.bl_session.specs.Replies.{line_text}
+use Rattle.bl_session.specs.One.{one_state}
+
+-- the transcript of these lines by the trail of one session and one worker
+abbrev pub transcript : Setup → ℕ → List Turn → List ℕ
+transcript setup limit turns = session_text (line_text (one_state setup limit turns) 0) turns

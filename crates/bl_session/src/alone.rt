@@ -1,0 +1,52 @@
+//! A session with one worker, in one thread: lines are admitted without being run, and at each
+//! `wait` and at the end of the input they are answered in admission order.
+ghost use Rattle.std.specs.Prelude.{◌≡◌, ◌≢◌, false, OnOk, IfErr};
+ghost use Rattle.bl_session.specs.Outcome.{IsServed, IsCutShort};
+ghost use Rattle.bl_session.specs.declared.fault.SessionFault.TheVariants.{Clash};
+
+use crate::entries::{Alone, Pages};
+use crate::fault::SessionFault;
+use crate::session::converse;
+use crate::watched::Watched;
+use bl_setup::setup::Setup;
+use std::alloc::Global;
+use std::io::{BufRead, Write};
+
+/// Serves one session over a reader and a writer, of which at most `limit` lines are admitted.
+///
+/// At `Ok` the input was read to its end, or to the end of a first line that was refused, and its
+/// transcript is written. `Read` and `Write` come only where that end failed, `TooLong` only where
+/// 16,777,216 bytes were read and another one is there, and `Clash` never. After a fault what is
+/// written begins a transcript, nothing more is written, and what was not consumed stays unread.
+pub fn serve_alone<R: BufRead, W: Write>(
+    alloc: Global,
+    setup: Setup,
+    limit: u32,
+    reader: &mut Watched<R>,
+    writer: &mut Watched<W>,
+) -> Result<(), SessionFault>
+    requires reader { reader.old.failed ≡ false }
+    requires writer { writer.old.failed ≡ false }
+    ensures ok { OnOk result (IsServed setup limit (R.remaining reader.old.inner) (R.remaining reader.new.inner) (W.contents writer.old.inner) (W.contents writer.new.inner)) }
+    ensures fine { OnOk result ((reader.new.failed ≡ false) × (writer.new.failed ≡ false)) }
+    ensures err { IfErr result (λ fault. IsCutShort setup limit fault (R.remaining reader.old.inner) (R.remaining reader.new.inner) (W.contents writer.old.inner) (W.contents writer.new.inner)
+        reader.new.failed writer.new.failed) }
+    ensures never { IfErr result (λ fault. fault ≢ Clash) }
+{
+    let behind = Alone { setup, limit };
+    let mut pages = Pages {
+        subject: None,
+        lines: Vec::new(alloc),
+    };
+    match converse(
+        alloc,
+        behind.setup.names(),
+        &behind,
+        &mut pages,
+        reader,
+        writer,
+    ) {
+        Ok(()) => Ok(()),
+        Err(fault) => Err(fault),
+    }
+}

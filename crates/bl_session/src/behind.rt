@@ -1,0 +1,89 @@
+//! What stands behind a session: a machine that admits works and answers them.
+ghost use Rattle.std.specs.Prelude.{◌≡◌, ◌≤◌, ◌<◌, ◌++◌, ◌∷◌, [], ◌⊎◌, List, ℕ, OnOk, OnErr, IfOk};
+ghost use Rattle.bl_script.specs.declared.work.Work.{Work};
+ghost use Rattle.bl_session.specs.Told.{Told, Opens, Admits, Settles, SameUpTo};
+
+use bl_policy::id::SubjectId;
+use bl_script::work::Work;
+use std::alloc::AllocError;
+
+/// A machine that admits the works of one session, has them answered, and gives the texts of the
+/// replies. A call is refused only for want of memory.
+pub trait Behind {
+    /// What changes as the session goes on.
+    type State;
+
+    /// The replies of one block, of which the next one is taken from the front.
+    type Block: Drop;
+
+    // the subjects for whom a session may be opened, and the works that may be asked for
+    ghost serves: { Self → ℕ → Type 0 };
+
+    ghost takes: { Self → Work → Type 0 };
+
+    // the text of the replies to the work of an ordinal, as things stand
+    ghost replies: { Self → Self.State → ℕ → List ℕ };
+
+    // the replies to the works up to this ordinal stand for good
+    ghost settled: { Self → Self.State → ℕ → Type 0 };
+
+    // what was told brought the state here
+    ghost came: { Self → Self.State → List Told → Type 0 };
+
+    // the session's last ordinal, or 0
+    ghost last: { Self → Self.State → ℕ };
+
+    // the replies above this ordinal are still to be taken from the block
+    ghost gives: { Self → Self.State → Self.Block → ℕ → Type 0 };
+
+    /// Opens the session for a subject.
+    fn open(&self, state: &mut Self::State, subject: SubjectId) -> Result<(), AllocError>
+        requires serves { serves self.now subject }
+        requires came { came self.now state.old [] }
+        requires settled { settled self.now state.old 0 }
+        ensures came { OnOk result (came self.now state.new (Opens subject ∷ [])) }
+        ensures err { OnErr result (came self.now state.new []) }
+        ensures last { OnOk result (last self.now state.new ≡ 0) }
+        ensures settled { settled self.now state.new 0 };
+
+    /// Admits a work, or finds no room for it.
+    fn ask(&self, state: &mut Self::State, ordinal: u32, work: Work) -> Result<(), AllocError>
+        requires takes { takes self.now work }
+        requires last { last self.now state.old < ordinal }
+        requires settled { (n : ℕ) × (n < ordinal) × settled self.now state.old n }
+        ensures came { OnOk result ((told : List Told) → came self.now state.old told → came self.now state.new (told ++ Admits ordinal work ∷ [])) }
+        ensures err { OnErr result ((told : List Told) → came self.now state.old told → came self.now state.new told) }
+        ensures last { last self.now state.new ≤ ordinal }
+        ensures settled { (n : ℕ) → n < ordinal → settled self.now state.old n →
+            settled self.now state.new n × SameUpTo n (replies self.now state.old) (replies self.now state.new) };
+
+    /// Has each work answered. The block has the replies of those above `after`.
+    fn settle(
+        &self,
+        state: &mut Self::State,
+        after: u32,
+        ordinal: u32,
+    ) -> Result<Self::Block, AllocError>
+        requires last { last self.now state.old ≤ ordinal }
+        requires settled { settled self.now state.old after }
+        ensures came { OnOk result ((told : List Told) → came self.now state.old told → came self.now state.new (told ++ Settles ∷ [])) }
+        ensures err { OnErr result ((told : List Told) → came self.now state.old told → came self.now state.new told ⊎ came self.now state.new (told ++ Settles ∷ [])) }
+        ensures last { last self.now state.new ≤ ordinal }
+        ensures block { IfOk result (λ block. gives self.now state.new block after) }
+        ensures done { OnOk result (settled self.now state.new ordinal) }
+        ensures settled { (n : ℕ) → settled self.now state.old n →
+            settled self.now state.new n × SameUpTo n (replies self.now state.old) (replies self.now state.new) };
+
+    /// Adds the replies to the work of an ordinal.
+    fn answer(
+        &self,
+        state: &Self::State,
+        block: &mut Self::Block,
+        ordinal: u32,
+        out: &mut Vec<u8>,
+    ) -> Result<(), AllocError>
+        requires settled { (n : ℕ) × (ordinal ≤ n) × settled self.now state.now n }
+        requires gives { (n : ℕ) × (n < ordinal) × gives self.now state.now block.old n }
+        ensures text { OnOk result (out.new.items ≡ out.old.items ++ replies self.now state.now ordinal) }
+        ensures gives { OnOk result (gives self.now state.now block.new ordinal) };
+}

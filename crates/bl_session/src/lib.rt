@@ -1,0 +1,28 @@
+//! Sessions: the lines that a client sends, and what is written back to it.
+//!
+//!     watched    readers and writers that remember whether they failed
+//!     fault      why a session ends early
+//!     alone      a session with one worker
+//!     lines      cuts a reader's bytes into lines
+//!     held       a line while it comes
+//!     turn       what a line is to a session
+//!     session    the engine: reads lines, has them answered, writes the replies
+//!     behind     what stands behind a session
+//!     entries    the list of entries that stands behind one
+//!     reply      the texts of replies
+//!     put        writes the whole of some bytes
+#![tactic(auto)]
+
+pub mod alone;
+mod behind;
+mod entries;
+pub mod fault;
+mod held;
+mod lines;
+mod put;
+mod reply;
+mod session;
+#[cfg(test)]
+mod tests;
+mod turn;
+pub mod watched;

@@ -1,0 +1,403 @@
+//! The engine of a session: it reads lines, has them admitted and answered by the machine behind
+//! it, and writes the replies of a block at each `wait` and at the end of the input.
+ghost use Rattle.std.specs.Prelude.{◌≡◌, take, ◌≤◌, ◌<◌, ◌+◌, ◌^◌, ◌++◌, ◌∷◌, [], ◌⊎◌, List, ℕ, Bool, true, false, Option, OnOk, OnErr, IfOk, IfErr, IfSome, OnSome, length};
+ghost use Rattle.std.specs.Io.KnownBytes.{Consumes, Appends, IsAtEnd};
+ghost use Rattle.bl_session.specs.Turns.{AreSkips, is_skip, IsServed, AreServed, StandsIn};
+ghost use Rattle.bl_session.specs.declared.turn.Turn.{Turn};
+ghost use Rattle.bl_session.specs.Told.{Told, Opens, Settles, SameUpTo};
+ghost use Rattle.bl_session.specs.Texts.{ok_line};
+ghost use Rattle.bl_session.specs.Spoken.{block_text, IsOwnFault, BlockFailed, TakesTurn, FailsTurn};
+ghost use Rattle.bl_session.specs.Stages.{Cutting, ReadsOn, IsNearer, Unheard, IsFirst, Heard, Stage, Finished, Broken, Stopped};
+
+use crate::behind::Behind;
+use crate::fault::SessionFault;
+use crate::held::Held;
+use crate::lines::{Next, next_line};
+use crate::put::put_out;
+use crate::reply::text_block;
+use crate::turn::{Pending, Turn, turn_held};
+use crate::watched::Watched;
+use bl_policy::id::SubjectId;
+use bl_script::names::Names;
+use std::alloc::{AllocError, Global};
+use std::io::{BufRead, Write};
+
+/// How many bytes a session may read.
+const MOST: usize = 16777216;
+
+/// How far a session has come: its last ordinal, the last one before the open block, and that
+/// block's lines.
+#[derive(Drop)]
+struct Talk {
+    ordinal: u32,
+    after: u32,
+    pending: Vec<Pending>,
+}
+
+/// Has the open block answered, writes its replies and the closing line, and begins the next
+/// block.
+fn end_block<B: Behind, W: Write>(
+    alloc: Global,
+    behind: &B,
+    state: &mut B::State,
+    writer: &mut Watched<W>,
+    talk: &mut Talk,
+    closing: &[u8],
+) -> Result<(), SessionFault>
+    requires count { talk.old.ordinal ≡ talk.old.after + length talk.old.pending.items }
+    requires last { B.last behind.now state.old ≤ talk.old.ordinal }
+    requires settled { B.settled behind.now state.old talk.old.after }
+    ensures settled { (n : ℕ) → B.settled behind.now state.old n →
+        B.settled behind.now state.new n × SameUpTo n (B.replies behind.now state.old) (B.replies behind.now state.new) }
+    ensures last { B.last behind.now state.new ≤ talk.old.ordinal }
+
+    ensures text { OnOk result (Appends (W.contents writer.old.inner) (W.contents writer.new.inner)
+        (block_text (B.replies behind.now state.new) talk.old.after talk.old.pending.items ++ closing.now)) }
+    ensures done { OnOk result (B.settled behind.now state.new talk.old.ordinal) }
+    ensures came { OnOk result ((told : List Told) → B.came behind.now state.old told → B.came behind.now state.new (told ++ Settles ∷ [])) }
+    ensures talk { OnOk result ((talk.new.ordinal ≡ talk.old.ordinal) × (talk.new.after ≡ talk.old.ordinal) × (talk.new.pending.items ≡ [])) }
+    ensures same { OnOk result (writer.new.failed ≡ writer.old.failed) }
+
+    ensures fault { IfErr result (IsOwnFault writer.new.failed) }
+    ensures part { OnErr result (BlockFailed (B.settled behind.now state.new) (W.contents writer.old.inner) (W.contents writer.new.inner)
+        talk.old.ordinal (block_text (B.replies behind.now state.new) talk.old.after talk.old.pending.items ++ closing.now)) }
+    ensures told { OnErr result ((told : List Told) → B.came behind.now state.old told → B.came behind.now state.new told ⊎ B.came behind.now state.new (told ++ Settles ∷ [])) }
+{
+    let mut block = behind.settle(state, talk.after, talk.ordinal)?;
+    let mut text = text_block(alloc, behind, state, &mut block, talk.after, &talk.pending)?;
+    text.extend_from_slice(closing)?;
+    if !put_out(writer, &text) {
+        return Err(SessionFault::Write);
+    }
+    talk.after = talk.ordinal;
+    talk.pending.clear();
+    Ok(())
+}
+
+/// Keeps a line of the open block.
+fn keep(talk: &mut Talk, line: Pending) -> Result<(), AllocError>
+    requires { talk.old.ordinal + 1 < 2 ^ 32 }
+    ensures ordinal { OnOk result (talk.new.ordinal ≡ talk.old.ordinal + 1) }
+    ensures after { talk.new.after ≡ talk.old.after }
+    ensures pending { OnOk result (talk.new.pending.items ≡ talk.old.pending.items ++ line ∷ []) }
+{
+    talk.pending.push(line)?;
+    talk.ordinal += 1;
+    Ok(())
+}
+
+/// Takes one line.
+fn take_turn<B: Behind, W: Write>(
+    alloc: Global,
+    behind: &B,
+    state: &mut B::State,
+    writer: &mut Watched<W>,
+    talk: &mut Talk,
+    turn: Turn,
+) -> Result<(), SessionFault>
+    requires count { talk.old.ordinal ≡ talk.old.after + length talk.old.pending.items }
+    requires settled { B.settled behind.now state.old talk.old.after }
+    requires last { B.last behind.now state.old ≤ talk.old.ordinal }
+    requires small { talk.old.ordinal + 1 < 2 ^ 32 }
+    requires served { IsServed (B.serves behind.now) (B.takes behind.now) turn }
+    ensures ok { OnOk result (TakesTurn (B.replies behind.now state.old) (B.replies behind.now state.new)
+        (B.settled behind.now state.old) (B.settled behind.now state.new) (B.came behind.now state.old) (B.came behind.now state.new)
+        talk.old.after talk.new.after talk.old.pending.items talk.new.pending.items (W.contents writer.old.inner) (W.contents writer.new.inner) turn) }
+    ensures same { OnOk result (writer.new.failed ≡ writer.old.failed) }
+    ensures count { OnOk result (talk.new.ordinal ≡ talk.new.after + length talk.new.pending.items) }
+    ensures settled { OnOk result (B.settled behind.now state.new talk.new.after) }
+    ensures last { OnOk result (B.last behind.now state.new ≤ talk.new.ordinal) }
+    ensures small { OnOk result (talk.new.ordinal ≤ talk.old.ordinal + 1) }
+
+    ensures fault { IfErr result (IsOwnFault writer.new.failed) }
+    ensures err { OnErr result (FailsTurn (B.replies behind.now state.old) (B.replies behind.now state.new)
+        (B.settled behind.now state.old) (B.settled behind.now state.new) (B.came behind.now state.old) (B.came behind.now state.new)
+        talk.old.after talk.old.pending.items (W.contents writer.old.inner) (W.contents writer.new.inner) turn) }
+{
+    match turn {
+        Turn::Skip => Ok(()),
+        Turn::Wait => match end_block(alloc, behind, state, writer, talk, b"ok\n") {
+            Ok(()) => Ok(()),
+            Err(fault) => Err(fault),
+        },
+        Turn::Greets(_) => {
+            keep(talk, Pending::Again)?;
+            Ok(())
+        }
+        Turn::Bad(fault) => {
+            keep(talk, Pending::Refused(fault))?;
+            Ok(())
+        }
+        Turn::Ask(work) => {
+            behind.ask(state, talk.ordinal + 1, work)?;
+            keep(talk, Pending::Asked)?;
+            Ok(())
+        }
+    }
+}
+
+/// Reads one line and what it is; none at the end of the input. Says whether there may be more.
+fn next_turn<R: BufRead>(
+    alloc: Global,
+    names: &Names,
+    reader: &mut Watched<R>,
+    held: &mut Held,
+    left: &mut usize,
+) -> Result<Option<(Turn, bool)>, SessionFault>
+    ensures ok { IfOk result (λ found. (start : Option (List ℕ)) (turns : List Turn) →
+        Cutting true names.now start (R.remaining reader.old.inner) left.old turns →
+        ReadsOn found names.now start (R.remaining reader.new.inner) left.new turns) }
+    ensures said { IfOk result (λ found. IfSome found (λ f. StandsIn names.now f.0)) }
+    ensures nearer { IfOk result (λ found. IsNearer found left.old left.new) }
+    ensures same { OnOk result (reader.new.failed ≡ reader.old.failed) }
+    ensures err { IfErr result (λ fault. (start : Option (List ℕ)) (turns : List Turn) (write_failed : Bool) →
+        Cutting true names.now start (R.remaining reader.old.inner) left.old turns →
+        Broken fault names.now start (R.remaining reader.new.inner) reader.new.failed write_failed turns) }
+{
+    let next = match next_line(reader, held, left) {
+        Ok(next) => next,
+        Err(fault) => return Err(fault),
+    };
+    let more = match next {
+        Next::End => return Ok(None),
+        Next::Last => false,
+        Next::Whole => true,
+    };
+    match turn_held(alloc, names, held) {
+        Ok(turn) => Ok(Some((turn, more))),
+        Err(_) => Err(SessionFault::Memory),
+    }
+}
+
+/// Reads one line and takes it. Says whether there may be more.
+fn one_line<R: BufRead, B: Behind, W: Write>(
+    alloc: Global,
+    names: &Names,
+    behind: &B,
+    state: &mut B::State,
+    reader: &mut Watched<R>,
+    writer: &mut Watched<W>,
+    held: &mut Held,
+    left: &mut usize,
+    talk: &mut Talk,
+) -> Result<bool, SessionFault>
+    requires count { talk.old.ordinal ≡ talk.old.after + length talk.old.pending.items }
+    requires settled { B.settled behind.now state.old talk.old.after }
+    requires last { B.last behind.now state.old ≤ talk.old.ordinal }
+    requires small { talk.old.ordinal + left.old + 1 < 2 ^ 32 }
+    requires served { AreServed names.now (B.serves behind.now) (B.takes behind.now) }
+    ensures ok { IfOk result (λ again. (start first : Option (List ℕ)) →
+        Stage true names.now start (R.remaining reader.old.inner) first (W.contents writer.old.inner) left.old (B.replies behind.now state.old) (B.settled behind.now state.old) (B.came behind.now state.old) talk.old.after talk.old.pending.items →
+        Stage again names.now start (R.remaining reader.new.inner) first (W.contents writer.new.inner) left.new (B.replies behind.now state.new) (B.settled behind.now state.new) (B.came behind.now state.new) talk.new.after talk.new.pending.items) }
+    ensures same { OnOk result ((reader.new.failed ≡ reader.old.failed) × (writer.new.failed ≡ writer.old.failed)) }
+    ensures count { OnOk result (talk.new.ordinal ≡ talk.new.after + length talk.new.pending.items) }
+    ensures settled { OnOk result (B.settled behind.now state.new talk.new.after) }
+    ensures last { OnOk result (B.last behind.now state.new ≤ talk.new.ordinal) }
+    ensures small { IfOk result (λ again. again ≡ true → talk.new.ordinal + left.new ≤ talk.old.ordinal + left.old) }
+    ensures fits { OnOk result ((talk.new.ordinal ≤ talk.old.ordinal + 1) × (left.new ≤ left.old)) }
+    ensures nearer { IfOk result (λ again. again ≡ true → left.new < left.old) }
+
+    ensures err { IfErr result (λ fault. (start first : Option (List ℕ)) →
+        Stage true names.now start (R.remaining reader.old.inner) first (W.contents writer.old.inner) left.old (B.replies behind.now state.old) (B.settled behind.now state.old) (B.came behind.now state.old) talk.old.after talk.old.pending.items →
+        Stopped fault names.now start (R.remaining reader.new.inner) first (W.contents writer.new.inner) reader.new.failed writer.new.failed (B.replies behind.now state.new) (B.settled behind.now state.new) (B.came behind.now state.new)) }
+{
+    let (turn, more) = match next_turn(alloc, names, reader, held, left) {
+        Ok(Some(found)) => found,
+        Ok(None) => return Ok(false),
+        Err(fault) => return Err(fault),
+    };
+    match take_turn(alloc, behind, state, writer, talk, turn) {
+        Ok(()) => Ok(more),
+        Err(fault) => Err(fault),
+    }
+}
+
+/// Reads up to the first line that isn't skipped, and what it is; none where there is no such
+/// line. Says whether more lines may come.
+fn first_turn<R: BufRead>(
+    alloc: Global,
+    names: &Names,
+    reader: &mut Watched<R>,
+    held: &mut Held,
+    left: &mut usize,
+) -> Result<Option<(Turn, bool)>, SessionFault>
+    ensures ok { IfOk result (λ found. (start : Option (List ℕ)) →
+        Unheard true names.now start (R.remaining reader.old.inner) left.old →
+        IsFirst found names.now start (R.remaining reader.new.inner) left.new) }
+    ensures said { IfOk result (λ found. IfSome found (λ f. StandsIn names.now f.0)) }
+    ensures fewer { OnOk result (left.new ≤ left.old) }
+    ensures same { OnOk result (reader.new.failed ≡ reader.old.failed) }
+    ensures err { IfErr result (λ fault. (start : Option (List ℕ)) (write_failed : Bool) →
+        Unheard true names.now start (R.remaining reader.old.inner) left.old →
+        (turns : List Turn) × AreSkips turns × Broken fault names.now start (R.remaining reader.new.inner) reader.new.failed write_failed turns) }
+{
+    'lines: loop {
+        let (turn, more) = match next_turn(alloc, names, reader, held, left) {
+            Ok(Some(found)) => found,
+            Ok(None) => return Ok(None),
+            Err(fault) => return Err(fault),
+        };
+        if !turn.is_skip() {
+            return Ok(Some((turn, more)));
+        }
+        if !more {
+            return Ok(None);
+        }
+    }
+}
+
+/// Takes the lines after the first one, until the input ends.
+fn listen<R: BufRead, B: Behind, W: Write>(
+    alloc: Global,
+    names: &Names,
+    behind: &B,
+    state: &mut B::State,
+    reader: &mut Watched<R>,
+    writer: &mut Watched<W>,
+    held: &mut Held,
+    left: &mut usize,
+    more: bool,
+) -> Result<(), SessionFault>
+    requires settled { B.settled behind.now state.old 0 }
+    requires served { AreServed names.now (B.serves behind.now) (B.takes behind.now) }
+    requires last { B.last behind.now state.old ≡ 0 }
+    requires small { left.old ≤ 16777216 }
+    ensures ok { OnOk result ((start first : Option (List ℕ)) →
+        Stage more names.now start (R.remaining reader.old.inner) first (W.contents writer.old.inner) left.old (B.replies behind.now state.old) (B.settled behind.now state.old) (B.came behind.now state.old) 0 [] →
+        Finished names.now start (R.remaining reader.new.inner) first (W.contents writer.new.inner) (B.replies behind.now state.new) (B.settled behind.now state.new) (B.came behind.now state.new)) }
+    ensures same { OnOk result ((reader.new.failed ≡ reader.old.failed) × (writer.new.failed ≡ writer.old.failed)) }
+    ensures err { IfErr result (λ fault. (start first : Option (List ℕ)) →
+        Stage more names.now start (R.remaining reader.old.inner) first (W.contents writer.old.inner) left.old (B.replies behind.now state.old) (B.settled behind.now state.old) (B.came behind.now state.old) 0 [] →
+        Stopped fault names.now start (R.remaining reader.new.inner) first (W.contents writer.new.inner) reader.new.failed writer.new.failed (B.replies behind.now state.new) (B.settled behind.now state.new) (B.came behind.now state.new)) }
+{
+    let mut talk = Talk {
+        ordinal: 0,
+        after: 0,
+        pending: Vec::new(alloc),
+    };
+    let mut again = more;
+    'lines: while again {
+        match one_line(
+            alloc, names, behind, state, reader, writer, held, left, &mut talk,
+        ) {
+            Ok(next) => again = next,
+            Err(fault) => return Err(fault),
+        }
+    }
+    match end_block(alloc, behind, state, writer, &mut talk, b"bye\n") {
+        Ok(()) => Ok(()),
+        Err(fault) => Err(fault),
+    }
+}
+
+/// Writes words.
+fn say<W: Write>(writer: &mut Watched<W>, words: &[u8]) -> Result<(), SessionFault>
+    ensures ok { OnOk result (Appends (W.contents writer.old.inner) (W.contents writer.new.inner) words.now) }
+    ensures same { OnOk result (writer.new.failed ≡ writer.old.failed) }
+    ensures fault { IfErr result (IsOwnFault writer.new.failed) }
+    ensures part { (much : ℕ) × Appends (W.contents writer.old.inner) (W.contents writer.new.inner) (take much words.now) }
+{
+    if put_out(writer, words) {
+        Ok(())
+    } else {
+        Err(SessionFault::Write)
+    }
+}
+
+/// Opens the session for a subject and says so.
+fn greet<B: Behind, W: Write>(
+    behind: &B,
+    state: &mut B::State,
+    writer: &mut Watched<W>,
+    subject: SubjectId,
+) -> Result<(), SessionFault>
+    requires serves { B.serves behind.now subject }
+    requires came { B.came behind.now state.old [] }
+    requires settled { B.settled behind.now state.old 0 }
+    ensures settled { B.settled behind.now state.new 0 }
+    ensures ok { OnOk result (Appends (W.contents writer.old.inner) (W.contents writer.new.inner) ok_line) }
+    ensures same { OnOk result (writer.new.failed ≡ writer.old.failed) }
+    ensures came { OnOk result (B.came behind.now state.new (Opens subject ∷ [])) }
+    ensures last { OnOk result (B.last behind.now state.new ≡ 0) }
+    ensures fault { IfErr result (IsOwnFault writer.new.failed) }
+    ensures told { OnErr result ((B.came behind.now state.new [] × Appends (W.contents writer.old.inner) (W.contents writer.new.inner) [])
+        ⊎ (B.came behind.now state.new (Opens subject ∷ []) × ((much : ℕ) × Appends (W.contents writer.old.inner) (W.contents writer.new.inner) (take much ok_line)))) }
+{
+    match behind.open(state, subject) {
+        Ok(()) => {}
+        Err(_) => return Err(SessionFault::Memory),
+    }
+    match say(writer, b"ok\n") {
+        Ok(()) => Ok(()),
+        Err(fault) => Err(fault),
+    }
+}
+
+/// Answers the first line that isn't skipped, and takes the others.
+fn answer_first<R: BufRead, B: Behind, W: Write>(
+    alloc: Global,
+    names: &Names,
+    behind: &B,
+    state: &mut B::State,
+    reader: &mut Watched<R>,
+    writer: &mut Watched<W>,
+    held: &mut Held,
+    left: &mut usize,
+    turn: Turn,
+    more: bool,
+) -> Result<(), SessionFault>
+    requires came { B.came behind.now state.old [] }
+    requires settled { B.settled behind.now state.old 0 }
+    requires small { left.old ≤ 16777216 }
+    requires spoken { is_skip turn ≡ false }
+    requires first { IsServed (B.serves behind.now) (B.takes behind.now) turn }
+    requires served { AreServed names.now (B.serves behind.now) (B.takes behind.now) }
+    ensures ok { OnOk result ((start : Option (List ℕ)) → Heard turn more names.now start (R.remaining reader.old.inner) left.old →
+        Finished names.now start (R.remaining reader.new.inner) (W.contents writer.old.inner) (W.contents writer.new.inner) (B.replies behind.now state.new) (B.settled behind.now state.new) (B.came behind.now state.new)) }
+    ensures same { OnOk result ((reader.new.failed ≡ reader.old.failed) × (writer.new.failed ≡ writer.old.failed)) }
+    ensures err { IfErr result (λ fault. (start : Option (List ℕ)) → Heard turn more names.now start (R.remaining reader.old.inner) left.old →
+        Stopped fault names.now start (R.remaining reader.new.inner) (W.contents writer.old.inner) (W.contents writer.new.inner) reader.new.failed writer.new.failed (B.replies behind.now state.new) (B.settled behind.now state.new) (B.came behind.now state.new)) }
+{
+    match turn.greeted() {
+        Some(subject) => match greet(behind, state, writer, subject) {
+            Ok(()) => listen(
+                alloc, names, behind, state, reader, writer, held, left, more,
+            ),
+            Err(fault) => Err(fault),
+        },
+        None => say(writer, b"refused hello\nbye\n"),
+    }
+}
+
+/// A whole session: the first line that isn't skipped opens it, and the others are taken until the
+/// input ends. A first line that opens no session ends it, and the rest stays unread.
+pub fn converse<R: BufRead, B: Behind, W: Write>(
+    alloc: Global,
+    names: &Names,
+    behind: &B,
+    state: &mut B::State,
+    reader: &mut Watched<R>,
+    writer: &mut Watched<W>,
+) -> Result<(), SessionFault>
+    requires came { B.came behind.now state.old [] }
+    requires settled { B.settled behind.now state.old 0 }
+    requires served { AreServed names.now (B.serves behind.now) (B.takes behind.now) }
+    ensures ok { OnOk result (Finished names.now (R.remaining reader.old.inner) (R.remaining reader.new.inner) (W.contents writer.old.inner) (W.contents writer.new.inner)
+        (B.replies behind.now state.new) (B.settled behind.now state.new) (B.came behind.now state.new)) }
+    ensures same { OnOk result ((reader.new.failed ≡ reader.old.failed) × (writer.new.failed ≡ writer.old.failed)) }
+    ensures err { IfErr result (λ fault. Stopped fault names.now (R.remaining reader.old.inner) (R.remaining reader.new.inner) (W.contents writer.old.inner) (W.contents writer.new.inner)
+        reader.new.failed writer.new.failed (B.replies behind.now state.new) (B.settled behind.now state.new) (B.came behind.now state.new)) }
+{
+    let mut held = match Held::new(alloc) {
+        Ok(held) => held,
+        Err(_) => return Err(SessionFault::Memory),
+    };
+    let mut left = MOST;
+    match first_turn(alloc, names, reader, &mut held, &mut left) {
+        Ok(Some((turn, more))) => answer_first(
+            alloc, names, behind, state, reader, writer, &mut held, &mut left, turn, more,
+        ),
+        Ok(None) => say(writer, b"bye\n"),
+        Err(fault) => Err(fault),
+    }
+}
