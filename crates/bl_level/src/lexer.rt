@@ -208,6 +208,9 @@ pub fn next_token<'a>(bytes: &'a [u8]) -> Front<'a>
     front_of(past_blanks(bytes))
 }
 
+/// How many bytes a token and its blanks take, as a guess at the room for the tokens of a text.
+const BYTES_A_TOKEN: usize = 4;
+
 /// The tokens of a text up to its first lexical fault, each with its place, which counts the bytes before it.
 #[derive(Drop, Debug)]
 pub struct Lexed<'a> {
@@ -224,8 +227,9 @@ pub fn lex<'a>(alloc: Global, bytes: &'a [u8]) -> Result<Lexed<'a>, AllocError>
     // Without a fault the whole text reads as these tokens.
     ensures whole { IfOk result (λ x. x.broken ≡ None → Begins bytes.now (toks x.tokens.items) []) }
 {
-    let mut tokens = Vec::new(alloc);
-    let mut places = Vec::new(alloc);
+    let room = bytes.len() / BYTES_A_TOKEN + 1;
+    let mut tokens = Vec::with_capacity(alloc, room)?;
+    let mut places = Vec::with_capacity(alloc, room)?;
     let mut rest = bytes;
     loop {
         rest = past_blanks(rest);

@@ -14,3 +14,4 @@ pub mod Contents
 pub mod Altered
 mod Rows
 pub mod Additions
+pub mod Same

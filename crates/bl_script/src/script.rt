@@ -1,5 +1,5 @@
 //! Scripts: the behaviours of one line, each with the accesses that it declares and the statements that it runs.
-ghost use Rattle.std.specs.Prelude.{◌≡◌, IfOk};
+ghost use Rattle.std.specs.Prelude.{◌≡◌, ◌↔◌, IsTrue};
 ghost use Rattle.bl_policy.specs.declared.access.Access.{Access};
 
 use crate::document::Document;
@@ -133,8 +133,89 @@ impl Body {
     }
 }
 
+impl Body {
+    ghost use Rattle.std.specs.Prelude.{◌≡◌, ◌↔◌, IsTrue};
+
+    /// Whether these are the same statements.
+    #[cycle(same)]
+    fn is_same(&self, other: &Body) -> bool
+        ensures { IsTrue result ↔ (self.now ≡ other.now) }
+    {
+        if self.statements.len() != other.statements.len() {
+            return false;
+        }
+        for (i, statement) in self.statements.iter().enumerate() {
+            if !statement.is_same(&other.statements[i]) {
+                return false;
+            }
+        }
+        true
+    }
+}
+
+impl Stmt {
+    ghost use Rattle.std.specs.Prelude.{◌≡◌, ◌↔◌, [], ◌∷◌, IsTrue};
+    ghost use Rattle.bl_script.specs.Body.{statements_of};
+
+    /// Whether this is the same statement.
+    #[cycle(same)]
+    fn is_same(&self, other: &Stmt) -> bool
+        ensures { IsTrue result ↔ (statements_of (self.now ∷ []) ≡ statements_of (other.now ∷ [])) }
+    {
+        match (self, other) {
+            (Stmt::Show(doc), Stmt::Show(others)) => doc == others,
+            (Stmt::Say(text), Stmt::Say(others)) => text == others,
+            (Stmt::Add(doc, text), Stmt::Add(others, its_text)) => doc == others
+                && text == its_text,
+            (Stmt::Set(doc, text), Stmt::Set(others, its_text)) => doc == others
+                && text == its_text,
+            (Stmt::Copy(from, to), Stmt::Copy(others, its_to)) => from == others && to == its_to,
+            (Stmt::Pour(from, to), Stmt::Pour(others, its_to)) => from == others && to == its_to,
+            (
+                Stmt::If {
+                    doc,
+                    test,
+                    text,
+                    then_body,
+                    else_body,
+                },
+                Stmt::If {
+                    doc: others,
+                    test: its_test,
+                    text: its_text,
+                    then_body: its_then,
+                    else_body: its_else,
+                },
+            ) => {
+                doc == others
+                    && test == its_test
+                    && text == its_text
+                    && then_body.is_same(its_then)
+                    && else_body.is_same(its_else)
+            }
+            (Stmt::Spawn(behaviour), Stmt::Spawn(others)) => behaviour == others,
+            _ => false,
+        }
+    }
+}
+
+/// Whether these are the same accesses.
+fn are_same(accesses: &[Access], others: &[Access]) -> bool
+    ensures { IsTrue result ↔ (accesses.now ≡ others.now) }
+{
+    if accesses.len() != others.len() {
+        return false;
+    }
+    for (i, access) in accesses.iter().enumerate() {
+        if *access != others[i] {
+            return false;
+        }
+    }
+    true
+}
+
 impl Behaviour {
-    ghost use Rattle.std.specs.Prelude.{◌≡◌};
+    ghost use Rattle.std.specs.Prelude.{◌≡◌, ◌↔◌, IsTrue};
 
     /// A behaviour that declares these accesses, in this order, and runs this body.
     pub fn new(accesses: Vec<Access>, body: Body) -> Behaviour
@@ -142,14 +223,21 @@ impl Behaviour {
     {
         Behaviour { accesses, body }
     }
+
+    /// Whether this is the same behaviour.
+    fn is_same(&self, other: &Behaviour) -> bool
+        ensures { IsTrue result ↔ (self.now ≡ other.now) }
+    {
+        are_same(&self.accesses, &other.accesses) && self.body.is_same(&other.body)
+    }
 }
 
 impl Script {
-    ghost use Rattle.std.specs.Prelude.{◌≡◌, ◌<◌, length, slice_index_or, IfOk, [], ◌∷◌};
+    ghost use Rattle.std.specs.Prelude.{◌≡◌, ◌<◌, ◌↔◌, length, slice_index_or, IfOk, IsTrue, [], ◌∷◌};
     ghost use Rattle.bl_policy.specs.declared.access.Mode.TheVariants.{Read};
     ghost use Rattle.bl_script.specs.Statements.{no_part, Nothing, Show};
     ghost use Rattle.bl_script.specs.Body.{statements_of};
-    ghost use Rattle.bl_script.specs.Script.{IsScript};
+    ghost use Rattle.bl_script.specs.Script.{IsScript, IsBehaviour};
 
     /// A script of these behaviours, in pre-order.
     pub fn new(alloc: Global, behaviours: Vec<Behaviour>) -> Result<Script, AllocError>
@@ -166,14 +254,14 @@ impl Script {
     pub fn one_read(alloc: Global, shown: DocId) -> Result<Script, AllocError>
         ensures { IfOk result (λ s. s ≡ record { accesses = record { mode = Read; doc = shown } ∷ []; body = Show shown Nothing } ∷ []) }
     {
-        let mut accesses = Vec::new(alloc);
+        let mut accesses = Vec::with_capacity(alloc, 1)?;
         accesses.push(Access {
             mode: Mode::Read,
             doc: shown,
         })?;
-        let mut statements = Vec::new(alloc);
+        let mut statements = Vec::with_capacity(alloc, 1)?;
         statements.push(Stmt::Show(shown))?;
-        let mut behaviours = Vec::new(alloc);
+        let mut behaviours = Vec::with_capacity(alloc, 1)?;
         behaviours.push(Behaviour::new(accesses, Body::new(statements)))?;
         Script::new(alloc, behaviours)
     }
@@ -195,6 +283,21 @@ impl Script {
         })
     }
 
+    /// Whether these are the same behaviours.
+    pub fn is_same(&self, other: &Script) -> bool
+        ensures { IsTrue result ↔ (self.now ≡ other.now) }
+    {
+        if self.behaviours.len() != other.behaviours.len() {
+            return false;
+        }
+        for (i, behaviour) in self.behaviours.iter().enumerate() {
+            if !behaviour.is_same(&other.behaviours[i]) {
+                return false;
+            }
+        }
+        true
+    }
+
     /// The accesses that a behaviour declares, in order.
     pub fn accesses(&self, index: usize) -> &[Access]
         requires { index < length self.now }
@@ -207,7 +310,8 @@ impl Script {
     /// The statements of a behaviour, in the order in which they run.
     pub fn body(&self, index: usize) -> &[Stmt]
         requires { index < length self.now }
-        ensures { statements_of result.now ≡ (slice_index_or self.now index no_part).body }
+        ensures value { statements_of result.now ≡ (slice_index_or self.now index no_part).body }
+        ensures behaviour { IsBehaviour (slice_index_or self.now index no_part) }
     {
         let behaviour = &self.behaviours[index];
         behaviour.body.statements()

@@ -1,5 +1,8 @@
 //! A run of the program, from its words to its status.
-ghost use Rattle.std.specs.Prelude.{◌≡◌, ◌≤◌, ◌<◌, ◌^◌, ◌⊎◌, false};
+ghost use Rattle.std.specs.Prelude.{◌≡◌, ◌<◌, ◌^◌, ◌⊎◌, false, OnOk};
+ghost use Rattle.bl_setup.specs.Order.{Setup};
+ghost use Rattle.bl_setup.specs.Grammar.{IsSetup};
+ghost use Rattle.bl_session.specs.Outcome.{IsServed};
 
 use crate::command::{Command, parse_words, status_of};
 use crate::fault::{ProgramFault, of_session, of_setup};
@@ -24,6 +27,8 @@ fn serve_setup<R: BufRead, W: Write>(
 ) -> Result<(), ProgramFault>
     requires reader { reader.old.failed ≡ false }
     requires writer { writer.old.failed ≡ false }
+    ensures { OnOk result ((begun : Setup) × IsSetup setup.now begun
+        × IsServed begun limit (R.remaining reader.old.inner) (R.remaining reader.new.inner) (W.contents writer.old.inner) (W.contents writer.new.inner)) }
 {
     let setup = match read_setup(alloc, setup) {
         Ok(setup) => setup,
@@ -47,7 +52,9 @@ pub fn alone_on<R: BufRead, W: Write, E: Write>(
 ) -> u8
     requires reader { reader.old.failed ≡ false }
     requires writer { writer.old.failed ≡ false }
-    ensures { (result ≡ 0) ⊎ ((result ≡ 3) ⊎ (result ≡ 4)) }
+    ensures status { (result ≡ 0) ⊎ ((result ≡ 3) ⊎ (result ≡ 4)) }
+    ensures served { result ≡ 0 → (begun : Setup) × IsSetup setup.now begun
+        × IsServed begun limit (R.remaining reader.old.inner) (R.remaining reader.new.inner) (W.contents writer.old.inner) (W.contents writer.new.inner) }
 {
     match serve_setup(alloc, setup, limit, reader, writer) {
         Ok(()) => 0,

@@ -22,3 +22,4 @@ pub mod AddLemmas
 pub mod WholeLemmas
 pub mod HeadLemmas
 pub mod FileLemmas
+pub mod DeclaredLemmas

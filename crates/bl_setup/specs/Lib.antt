@@ -15,3 +15,4 @@ pub mod Words
 pub mod Parsing
 pub mod Draft
 pub mod Heads
+pub mod WholeLists

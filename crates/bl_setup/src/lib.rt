@@ -2,6 +2,7 @@
 //!
 //!     reader        from the bytes of a setup file to a setup
 //!     setup         names, policy and contents, as they are at the start
+//!     declared      what a setup file declares, as whole lists
 //!     fault         why a file is refused
 //!     laws          what holds of the order and of the machine
 //!     lines, line   the lines that are read, and the declaration of each
@@ -10,6 +11,7 @@
 #![tactic(auto)]
 
 mod declaration;
+pub mod declared;
 mod draft;
 pub mod fault;
 mod head;
@@ -19,3 +21,5 @@ mod lines;
 mod parser;
 pub mod reader;
 pub mod setup;
+#[cfg(test)]
+mod tests;

@@ -1,0 +1,4 @@
+pub mod Loan
+pub mod Told
+pub mod Lending
+pub mod Performed

@@ -1,0 +1,88 @@
+//! The evaluation of one behaviour.
+ghost use Rattle.std.specs.Prelude.{◌≡◌, [], List, map, IsTrue, IfOk, MatchResult};
+ghost use Rattle.bl_script.specs.Modes.{KeepsModes};
+ghost use Rattle.bl_script.specs.Script.{AreApart, HasPlainTexts};
+ghost use Rattle.bl_script.specs.Body.{statements_of};
+ghost use Rattle.bl_grant.specs.Loaned.{Loaned, as_lent};
+ghost use Rattle.bl_grant.specs.Loans.{accesses_of, lent_of};
+ghost use Rattle.bl_eval.specs.Performed.{HasPerformed};
+
+use crate::lent::{Done, Lent, Unrun};
+use crate::told::Told;
+use bl_grant::grants::Grants;
+use bl_script::answer::Outputs;
+use bl_script::document::Document;
+use bl_script::script::Stmt;
+use std::alloc::{AllocError, Global};
+
+/// What a whole body was lent, showed and spawned.
+#[derive(Drop)]
+struct Performed {
+    inputs: Vec<Document>,
+    outputs: Outputs,
+    spawned: Vec<u8>,
+}
+
+/// Runs a whole body over grants as they were lent. After an error the grants may have changed, but are still of what was lent.
+fn perform(alloc: Global, grants: &mut Grants, statements: &[Stmt]) -> Result<Performed, AllocError>
+    requires lent { map as_lent grants.old ≡ grants.old }
+    requires apart { AreApart (accesses_of grants.old) }
+    requires modes { KeepsModes (accesses_of grants.old) (statements_of statements.now) }
+    requires texts { HasPlainTexts (statements_of statements.now) }
+    ensures kept { map as_lent grants.new ≡ grants.old }
+    ensures done { IfOk result (HasPerformed (statements_of statements.now) grants.old grants.new) }
+{
+    let inputs = grants.lent(alloc)?;
+    let mut told = Told {
+        shown: Vec::new(alloc),
+        spawned: Vec::new(alloc),
+    };
+    told.run(alloc, grants, statements)?;
+    let Told { shown, spawned } = told;
+    Ok(Performed {
+        inputs,
+        outputs: Outputs::new(alloc, shown)?,
+        spawned,
+    })
+}
+
+/// Runs a behaviour. It waits for nobody, and its answer rests on what was lent alone: at `Ok` on what the behaviour does on
+/// that, and an `Unrun`, which comes only for want of memory, has what was lent.
+pub fn eval(alloc: Global, lent: Lent) -> Result<Done, Unrun>
+    ensures { MatchResult result (λ done. done ≡ lent) (λ unrun. unrun ≡ lent) }
+{
+    let Lent {
+        entry,
+        script,
+        index,
+        grants,
+    } = lent;
+    let mut grants = grants;
+    match perform(alloc, &mut grants, script.body(usize::from(index))) {
+        Ok(performed) => {
+            let Performed {
+                inputs,
+                outputs,
+                spawned,
+            } = performed;
+            Ok(Done {
+                entry,
+                script,
+                index,
+                inputs,
+                outputs,
+                spawned,
+                returned: grants.close(),
+            })
+        }
+        Err(_) => {
+            grants.reset();
+            Err(Unrun {
+                entry,
+                script,
+                index,
+                grants,
+            })
+        }
+    }
+}

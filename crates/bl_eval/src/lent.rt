@@ -1,0 +1,256 @@
+//! A behaviour that was lent its grants, one that was done, and one that want of memory left undone.
+//!
+//! None of these types has `Drop`: each is taken apart.
+ghost use Rattle.std.specs.Prelude.{◌≡◌, ◌<◌, ◌↔◌, length, slice_index_or, IsTrue};
+ghost use Rattle.bl_script.specs.Statements.{no_part};
+ghost use Rattle.bl_script.specs.Effects.{outputs, children};
+ghost use Rattle.bl_grant.specs.Loans.{loans, lent_of, entry_of};
+ghost use Rattle.bl_eval.specs.Loan.{part_of, effects_on, backs, AreFor};
+
+use bl_grant::grant::Returned;
+use bl_grant::grants::Grants;
+use bl_script::answer::Outputs;
+use bl_script::document::Document;
+use bl_script::script::Script;
+use std::marker::Model;
+
+/// A behaviour with its grants. Its value is what was lent, and to whom.
+pub struct Lent {
+    pub(crate) entry: u32,
+    pub(crate) script: Script,
+    pub(crate) index: u8,
+    pub(crate) grants: Grants,
+}
+
+impl Model for Lent {
+    ghost use Rattle.std.specs.Coded.{codes};
+    ghost use Rattle.bl_script.specs.Codes.{coded_part};
+    ghost use Rattle.bl_eval.specs.Loan.{Loan};
+
+    ghost Value = { Loan };
+
+    ghost coded = { Prim.hlevel (codes, coded_part) };
+
+    ghost use Rattle.bl_eval.specs.Lending.{lent_view, IsLent};
+
+    ghost view = { lent_view };
+
+    ghost invariant = { IsLent };
+}
+
+/// What a behaviour has done with what it was lent. Its value is what was lent, and to whom: what was done follows from it.
+pub struct Done {
+    pub(crate) entry: u32,
+    pub(crate) script: Script,
+    pub(crate) index: u8,
+    pub(crate) inputs: Vec<Document>,
+    pub(crate) outputs: Outputs,
+    pub(crate) spawned: Vec<u8>,
+    pub(crate) returned: Vec<Returned>,
+}
+
+impl Model for Done {
+    ghost use Rattle.std.specs.Coded.{codes};
+    ghost use Rattle.bl_script.specs.Codes.{coded_part};
+    ghost use Rattle.bl_eval.specs.Loan.{Loan};
+
+    ghost Value = { Loan };
+
+    ghost coded = { Prim.hlevel (codes, coded_part) };
+
+    ghost use Rattle.bl_eval.specs.Lending.{done_view, IsDone};
+
+    ghost view = { done_view };
+
+    ghost invariant = { IsDone };
+}
+
+/// A behaviour that want of memory left undone, with its grants as they were lent. Its value is what was lent, and to whom.
+pub struct Unrun {
+    pub(crate) entry: u32,
+    pub(crate) script: Script,
+    pub(crate) index: u8,
+    pub(crate) grants: Grants,
+}
+
+impl Model for Unrun {
+    ghost use Rattle.std.specs.Coded.{codes};
+    ghost use Rattle.bl_script.specs.Codes.{coded_part};
+    ghost use Rattle.bl_eval.specs.Loan.{Loan};
+
+    ghost Value = { Loan };
+
+    ghost coded = { Prim.hlevel (codes, coded_part) };
+
+    ghost use Rattle.bl_eval.specs.Lending.{unrun_view, IsUnrun};
+
+    ghost view = { unrun_view };
+
+    ghost invariant = { IsUnrun };
+}
+
+/// The parts of a `Done`.
+pub struct DoneParts {
+    /// The number of the entry.
+    pub entry: u32,
+    /// The script, of which one behaviour ran.
+    pub script: Script,
+    /// The number of that behaviour in the script.
+    pub index: u8,
+    /// The contents that were lent, in declared order.
+    pub inputs: Vec<Document>,
+    /// What was shown.
+    pub outputs: Outputs,
+    /// The numbers of the behaviours that were spawned, in order.
+    pub spawned: Vec<u8>,
+    /// What the grants gave back, in declared order.
+    pub returned: Vec<Returned>,
+}
+
+/// The parts of an `Unrun`.
+pub struct UnrunParts {
+    /// The number of the entry.
+    pub entry: u32,
+    /// The script.
+    pub script: Script,
+    /// The number of the behaviour in the script.
+    pub index: u8,
+    /// The grants as they were lent, in declared order.
+    pub grants: Grants,
+}
+
+/// Whether these are the same contents, in order.
+fn are_same(documents: &[Document], others: &[Document]) -> bool
+    ensures { IsTrue result ↔ (documents.now ≡ others.now) }
+{
+    if documents.len() != others.len() {
+        return false;
+    }
+    for (i, document) in documents.iter().enumerate() {
+        if document != &others[i] {
+            return false;
+        }
+    }
+    true
+}
+
+impl Lent {
+    /// A behaviour of the script, with a grant for each of its accesses, in order, as they were lent to one entry.
+    pub fn new(script: Script, index: u8, grants: Grants) -> Lent
+        requires there { index < length script }
+        requires some { 0 < length grants }
+        requires grants { AreFor (entry_of grants) (slice_index_or script index no_part).accesses grants }
+        ensures { result ≡ record { entry = entry_of grants; script = script; index = index; inputs = lent_of grants } }
+    {
+        Lent {
+            entry: grants.entry(),
+            script,
+            index,
+            grants,
+        }
+    }
+
+    /// The number of the entry.
+    pub fn entry(&self) -> u32
+        ensures { result ≡ self.now.entry }
+    {
+        self.entry
+    }
+}
+
+impl Done {
+    /// The number of the entry.
+    pub fn entry(&self) -> u32
+        ensures { result ≡ self.now.entry }
+    {
+        self.entry
+    }
+
+    /// Whether this is what a behaviour did that was lent these contents: its number, script, index and inputs are these.
+    pub fn is_of(&self, entry: u32, script: &Script, index: u8, contents: &[Document]) -> bool
+        ensures { IsTrue result ↔ (self.now ≡ record { entry = entry; script = script.now; index = index; inputs = contents.now }) }
+    {
+        if self.entry != entry {
+            return false;
+        }
+        if self.index != index {
+            return false;
+        }
+        if !self.script.is_same(script) {
+            return false;
+        }
+        are_same(&self.inputs, contents)
+    }
+
+    /// Gives the parts: what was lent, and what the behaviour does on it.
+    pub fn into_parts(self) -> DoneParts
+        ensures loan { self ≡ record { entry = result.entry; script = result.script; index = result.index; inputs = result.inputs.items } }
+        ensures outputs { result.outputs ≡ outputs (effects_on self) }
+        ensures spawned { result.spawned.items ≡ children (effects_on self) }
+        ensures returned { result.returned.items ≡ backs self.entry (part_of self).accesses self.inputs (effects_on self) }
+    {
+        let Done {
+            entry,
+            script,
+            index,
+            inputs,
+            outputs,
+            spawned,
+            returned,
+        } = self;
+        DoneParts {
+            entry,
+            script,
+            index,
+            inputs,
+            outputs,
+            spawned,
+            returned,
+        }
+    }
+}
+
+impl Unrun {
+    /// The number of the entry.
+    pub fn entry(&self) -> u32
+        ensures { result ≡ self.now.entry }
+    {
+        self.entry
+    }
+
+    /// Whether this is a behaviour that was lent these contents: its number, script, index and inputs are these.
+    pub fn is_of(&self, entry: u32, script: &Script, index: u8, contents: &[Document]) -> bool
+        ensures { IsTrue result ↔ (self.now ≡ record { entry = entry; script = script.now; index = index; inputs = contents.now }) }
+    {
+        if self.entry != entry {
+            return false;
+        }
+        if self.index != index {
+            return false;
+        }
+        if !self.script.is_same(script) {
+            return false;
+        }
+        self.grants
+            .were_lent(entry, self.script.accesses(usize::from(index)), contents)
+    }
+
+    /// Gives the parts, with the grants as they were lent.
+    pub fn into_parts(self) -> UnrunParts
+        ensures loan { self ≡ record { entry = result.entry; script = result.script; index = result.index; inputs = lent_of result.grants } }
+        ensures grants { result.grants ≡ loans self.entry (part_of self).accesses self.inputs }
+    {
+        let Unrun {
+            entry,
+            script,
+            index,
+            grants,
+        } = self;
+        UnrunParts {
+            entry,
+            script,
+            index,
+            grants,
+        }
+    }
+}

@@ -1,0 +1,4 @@
+pub mod Loaned
+pub mod Loans
+pub mod Granted
+pub mod Rooms

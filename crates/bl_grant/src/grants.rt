@@ -1,0 +1,196 @@
+//! The grants of one behaviour: one for each access that it declares, in order.
+ghost use Rattle.std.specs.Prelude.{◌≡◌, ◌+◌, ◌<◌, ◌≤◌, ◌↔◌, ◌==◌, length, map, IsTrue, IfOk, OnOk, OnErr, vec_len};
+ghost use Rattle.std.specs.List.{list_all, list_any};
+ghost use Rattle.std.specs.Vec.{vec_capacity};
+ghost use Rattle.bl_policy.specs.declared.access.Access.{Access};
+ghost use Rattle.bl_script.specs.Content.{IsContent, is_content_byte, added};
+ghost use Rattle.bl_script.specs.Modes.{declares, observes, alters, is_write};
+ghost use Rattle.bl_script.specs.Script.{AreApart, most_accesses};
+ghost use Rattle.bl_grant.specs.Loaned.{Loaned, as_lent, back_of};
+ghost use Rattle.bl_grant.specs.Loans.{loans, accesses_of, lent_of, entry_of, content_of, changed, IsPlace};
+ghost use Rattle.bl_grant.specs.Granted.{loaned_of};
+
+use crate::grant::{Grant, Returned};
+use bl_policy::access::Access;
+use bl_policy::id::DocId;
+use bl_script::document::Document;
+use std::alloc::{AllocError, Global};
+use std::marker::Model;
+
+/// The grants of a behaviour, in the order of its accesses: at most 8. They have room for what they give back, so that closing
+/// them takes no memory.
+pub struct Grants {
+    grants: Vec<Grant>,
+    room: Vec<Returned>,
+}
+
+impl Model for Grants {
+    ghost use Rattle.std.specs.Prelude.{List, map};
+    ghost use Rattle.bl_grant.specs.Loaned.{Loaned};
+    ghost use Rattle.bl_grant.specs.Granted.{loaned_of};
+
+    ghost Value = { List Loaned };
+
+    ghost use Rattle.bl_grant.specs.Rooms.{HasRoom};
+
+    ghost view = { λ g. map loaned_of g.grants.items };
+
+    ghost invariant = { HasRoom };
+}
+
+/// The place of the first grant of the document.
+fn place(grants: &[Grant], doc: DocId) -> usize
+    requires { IsTrue (list_any (λ (a : Access). a.doc == doc) (accesses_of (map loaned_of grants.now))) }
+    ensures { IsPlace (map loaned_of grants.now) doc result }
+{
+    for (place, grant) in grants.iter().enumerate() {
+        if grant.access().doc == doc {
+            return place;
+        }
+    }
+    unreachable!()
+}
+
+/// Gives up grants.
+fn abandon(grants: Vec<Grant>) {
+    let mut grants = grants;
+    while let Some(grant) = grants.pop() {
+        let _content = grant.close().into_content();
+    }
+    grants.destroy_empty();
+}
+
+impl Grants {
+    /// Grants of these documents for these accesses, in order. The documents are shared, and their bytes are not copied.
+    pub fn lend(
+        alloc: Global,
+        entry: u32,
+        accesses: &[Access],
+        documents: &[Document],
+    ) -> Result<Grants, AllocError>
+        requires few { length accesses.now ≤ most_accesses }
+        requires each { length documents.now ≡ length accesses.now }
+        ensures { IfOk result (λ g. g ≡ loans entry accesses.now documents.now) }
+    {
+        let mut grants = Vec::with_capacity(alloc, accesses.len())?;
+        for i in 0..accesses.len() {
+            match Grant::lend(entry, accesses[i], &documents[i]) {
+                Ok(grant) => grants.push_reserved(grant),
+                Err(e) => {
+                    abandon(grants);
+                    return Err(e);
+                }
+            }
+        }
+        match Vec::with_capacity(alloc, accesses.len()) {
+            Ok(room) => Ok(Grants { grants, room }),
+            Err(e) => {
+                abandon(grants);
+                Err(e)
+            }
+        }
+    }
+
+    /// Whether these are the grants that `lend` makes of these, whatever was done with them since.
+    pub fn were_lent(&self, entry: u32, accesses: &[Access], documents: &[Document]) -> bool
+        ensures { IsTrue result ↔ ((length documents.now ≡ length accesses.now) × (map as_lent self.now ≡ loans entry accesses.now documents.now)) }
+    {
+        if documents.len() != accesses.len() {
+            return false;
+        }
+        if self.grants.len() != accesses.len() {
+            return false;
+        }
+        for i in 0..accesses.len() {
+            if !self.grants[i].was_lent(entry, accesses[i], &documents[i]) {
+                return false;
+            }
+        }
+        true
+    }
+
+    /// The number of the entry that they were lent to.
+    pub fn entry(&self) -> u32
+        requires { 0 < length self.now }
+        ensures { result ≡ entry_of self.now }
+    {
+        self.grants[0].entry()
+    }
+
+    /// The contents that were lent, in order.
+    pub fn lent(&self, alloc: Global) -> Result<Vec<Document>, AllocError>
+        ensures { IfOk result (λ documents. documents.items ≡ lent_of self.now) }
+    {
+        let mut documents = Vec::with_capacity(alloc, self.grants.len())?;
+        for grant in &self.grants {
+            documents.push(grant.lent().share()?)?;
+        }
+        Ok(documents)
+    }
+
+    /// The content, as it is now, of a document that may be looked at.
+    pub fn content(&self, doc: DocId) -> &Document
+        requires apart { AreApart (accesses_of self.now) }
+        requires observes { IsTrue (declares observes (accesses_of self.now) doc) }
+        ensures { result.now ≡ content_of self.now doc }
+    {
+        let place = place(&self.grants, doc);
+        self.grants[place].now()
+    }
+
+    /// Adds the text to the end of the content of a document that may be altered, cut at 65,536 bytes. After an error nothing
+    /// is added.
+    pub fn add(&mut self, alloc: Global, doc: DocId, text: &[u8]) -> Result<(), AllocError>
+        requires apart { AreApart (accesses_of self.old) }
+        requires alters { IsTrue (declares alters (accesses_of self.old) doc) }
+        requires text { IsTrue (list_all is_content_byte text.now) }
+        ensures ok { OnOk result (self.new ≡ changed (λ content. added content text.now) doc self.old) }
+        ensures err { OnErr result (self.new ≡ self.old) }
+    {
+        let place = place(&self.grants, doc);
+        self.grants[place].add(alloc, text)
+    }
+
+    /// Makes the document the content of one that may be replaced, without copying it.
+    pub fn put(&mut self, doc: DocId, content: Document)
+        requires apart { AreApart (accesses_of self.old) }
+        requires replaces { IsTrue (declares is_write (accesses_of self.old) doc) }
+        ensures { self.new ≡ changed (λ _. content) doc self.old }
+    {
+        let place = place(&self.grants, doc);
+        self.grants[place].put(content);
+    }
+
+    /// Makes each content the lent one again.
+    pub fn reset(&mut self)
+        ensures { self.new ≡ map as_lent self.old }
+    {
+        for grant in self.grants.iter_mut() {
+            grant.reset();
+        }
+    }
+
+    /// Closes each grant, and gives back what the calls since the last reset made of the contents, in order.
+    pub fn close(self) -> Vec<Returned>
+        ensures { result.items ≡ map back_of self }
+    {
+        let Grants { grants, room } = self;
+        let mut grants = grants;
+        let mut returned = room;
+        grants.reverse();
+        while let Some(grant) = grants.pop() {
+            returned.push_reserved(grant.close());
+        }
+        grants.destroy_empty();
+        returned
+    }
+
+    /// The grants one by one, in order.
+    pub fn into_grants(self) -> Vec<Grant>
+        ensures { map loaned_of result.items ≡ self }
+    {
+        let Grants { grants, room } = self;
+        room.destroy_empty();
+        grants
+    }
+}

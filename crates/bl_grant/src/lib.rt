@@ -1,0 +1,6 @@
+//! What a behaviour holds of the documents that it declares: for each access one grant, which is used in its mode alone and
+//! has to be closed or given back.
+#![tactic(auto)]
+
+pub mod grant;
+pub mod grants;
