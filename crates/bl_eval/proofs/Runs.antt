@@ -2,7 +2,7 @@
 use Rattle.std.proofs.Common.{◌≡◌, ℕ, zero, suc, ◌+◌, ◌<◌, ◌≤◌, Bool, true, false, cond, List, [], ◌∷◌, ◌++◌, length, get_or, take, refl, ap, sym, ◌∙◌, subst, arith, add-one, append-nil}
 use Rattle.bl_policy.specs.declared.access.Access.{Access}
 use Rattle.bl_script.specs.Modes.{declares, observes, KeepsModes}
-use Rattle.bl_script.specs.Script.{AreApart, HasPlainTexts}
+use Rattle.bl_script.specs.Script.{AreApart, HasContents}
 use Rattle.bl_script.specs.Content.{added}
 use Rattle.bl_script.specs.Statements as statement
 use Rattle.bl_script.specs.Statements.{Statements}
@@ -183,7 +183,7 @@ modes-at accesses (y ∷ xs) zero x lt at h = subst (λ (s : Stmt). KeepsModes a
 modes-at accesses (y ∷ xs) (suc i) x lt at h = modes-at accesses xs i x (omega arith) at (modes-cons accesses y xs h).1
 
 -- and has content bytes in its texts
-texts-cons : (x : Stmt) (xs : List Stmt) → HasPlainTexts (statements_of (x ∷ xs)) → HasPlainTexts (statements_of (x ∷ [])) × HasPlainTexts (statements_of xs)
+texts-cons : (x : Stmt) (xs : List Stmt) → HasContents (statements_of (x ∷ xs)) → HasContents (statements_of (x ∷ [])) × HasContents (statements_of xs)
 texts-cons (Show doc) xs h = (tt, h)
 texts-cons (Say text) xs h = ((h.0, tt), h.1)
 texts-cons (Add doc text) xs h = ((h.0, tt), h.1)
@@ -193,9 +193,9 @@ texts-cons (Pour from to) xs h = (tt, h)
 texts-cons (If doc asks text taken left_out) xs h = ((h.0, h.1, h.2, tt), h.3)
 texts-cons (Spawn k) xs h = (tt, h)
 
-pub texts-at : (xs : List Stmt) (i : ℕ) (x : Stmt) → i < length xs → x ≡ get_or xs i x → HasPlainTexts (statements_of xs) → HasPlainTexts (statements_of (x ∷ []))
+pub texts-at : (xs : List Stmt) (i : ℕ) (x : Stmt) → i < length xs → x ≡ get_or xs i x → HasContents (statements_of xs) → HasContents (statements_of (x ∷ []))
 texts-at [] i x lt at h = absurd (omega arith)
-texts-at (y ∷ xs) zero x lt at h = subst (λ (s : Stmt). HasPlainTexts (statements_of (s ∷ []))) (sym at) (texts-cons y xs h).0
+texts-at (y ∷ xs) zero x lt at h = subst (λ (s : Stmt). HasContents (statements_of (s ∷ []))) (sym at) (texts-cons y xs h).0
 texts-at (y ∷ xs) (suc i) x lt at h = texts-at xs i x (omega arith) at (texts-cons y xs h).1
 
 -- no statement has more `if` in one another than the statements that it stands among

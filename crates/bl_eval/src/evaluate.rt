@@ -1,7 +1,7 @@
 //! The evaluation of one behaviour.
 ghost use Rattle.std.specs.Prelude.{◌≡◌, [], List, map, IsTrue, IfOk, MatchResult};
 ghost use Rattle.bl_script.specs.Modes.{KeepsModes};
-ghost use Rattle.bl_script.specs.Script.{AreApart, HasPlainTexts};
+ghost use Rattle.bl_script.specs.Script.{AreApart, HasContents};
 ghost use Rattle.bl_script.specs.Body.{statements_of};
 ghost use Rattle.bl_grant.specs.Loaned.{Loaned, as_lent};
 ghost use Rattle.bl_grant.specs.Loans.{accesses_of, lent_of};
@@ -28,7 +28,7 @@ fn perform(alloc: Global, grants: &mut Grants, statements: &[Stmt]) -> Result<Pe
     requires lent { map as_lent grants.old ≡ grants.old }
     requires apart { AreApart (accesses_of grants.old) }
     requires modes { KeepsModes (accesses_of grants.old) (statements_of statements.now) }
-    requires texts { HasPlainTexts (statements_of statements.now) }
+    requires texts { HasContents (statements_of statements.now) }
     ensures kept { map as_lent grants.new ≡ grants.old }
     ensures done { IfOk result (HasPerformed (statements_of statements.now) grants.old grants.new) }
 {

@@ -1,7 +1,7 @@
 //! A body's statements, run one after another over the grants of its behaviour.
 ghost use Rattle.std.specs.Prelude.{◌≡◌, [], ◌∷◌, List, map, IsTrue, OnOk};
 ghost use Rattle.bl_script.specs.Modes.{declares, observes, alters, is_write, KeepsModes};
-ghost use Rattle.bl_script.specs.Script.{AreApart, HasPlainTexts};
+ghost use Rattle.bl_script.specs.Script.{AreApart, HasContents};
 ghost use Rattle.bl_script.specs.Statements as statement;
 ghost use Rattle.bl_script.specs.Effects.{holds_of};
 ghost use Rattle.bl_script.specs.declared.script.Condition.TheVariants.{Has};
@@ -135,7 +135,7 @@ impl Told {
     ) -> Result<(), AllocError>
         requires apart { AreApart (accesses_of grants.old) }
         requires modes { KeepsModes (accesses_of grants.old) (statements_of (statement.now ∷ [])) }
-        requires texts { HasPlainTexts (statements_of (statement.now ∷ [])) }
+        requires texts { HasContents (statements_of (statement.now ∷ [])) }
         ensures kept { map as_lent grants.new ≡ map as_lent grants.old }
         ensures ran { OnOk result (HasRun (statements_of (statement.now ∷ [])) grants.old self.old grants.new self.new) }
     {
@@ -173,7 +173,7 @@ impl Told {
     ) -> Result<(), AllocError>
         requires apart { AreApart (accesses_of grants.old) }
         requires modes { KeepsModes (accesses_of grants.old) (statements_of statements.now) }
-        requires texts { HasPlainTexts (statements_of statements.now) }
+        requires texts { HasContents (statements_of statements.now) }
         ensures kept { map as_lent grants.new ≡ map as_lent grants.old }
         ensures ran { OnOk result (HasRun (statements_of statements.now) grants.old self.old grants.new self.new) }
     {

@@ -3,7 +3,7 @@ use Rattle.std.specs.Prelude.{List}
 use Rattle.std.proofs.lemmas.Result.{on_ok_weaker}
 use Rattle.bl_policy.specs.declared.access.Access.{Access}
 use Rattle.bl_script.specs.Modes.{KeepsModes}
-use Rattle.bl_script.specs.Script.{AreApart, HasPlainTexts}
+use Rattle.bl_script.specs.Script.{AreApart, HasContents}
 use Rattle.bl_script.specs.Statements.{Statements}
 use Rattle.bl_script.specs.Body.{statements_of, depth}
 use Rattle.bl_script.specs.declared.script.Stmt.{Stmt}
@@ -38,7 +38,7 @@ run-loop-statement-preserved t c = (
 pub step-run-requires : goal.step-run-requires
 step-run-requires t c =
     let modes = subst (λ (s : Stmt). KeepsModes (accesses_of c.args.grants.now) (statements_of (s ∷ []))) c.in-If.is c.requires.modes in
-    let texts = subst (λ (s : Stmt). HasPlainTexts (statements_of (s ∷ []))) c.in-If.is c.requires.texts in
+    let texts = subst (λ (s : Stmt). HasContents (statements_of (s ∷ []))) c.in-If.is c.requires.texts in
     let outer = ap (λ (s : Stmt). depth (statements_of (s ∷ []))) c.in-If.is in
     let inner = ap depth c.statements.ensures in (
       omega (arith, c.decreases, outer, inner),
@@ -46,7 +46,7 @@ step-run-requires t c =
         c.requires.apart,
         (
           subst (λ (b : Statements). KeepsModes (accesses_of c.args.grants.now) b) (sym c.statements.ensures) modes.1,
-          subst (λ (b : Statements). HasPlainTexts b) (sym c.statements.ensures) texts.1,
+          subst (λ (b : Statements). HasContents b) (sym c.statements.ensures) texts.1,
         ),
       ),
     )
