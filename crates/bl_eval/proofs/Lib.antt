@@ -2,3 +2,4 @@ pub mod Steps
 pub mod Runs
 pub mod Pieces
 pub mod Loans
+pub mod Handmade

@@ -48,7 +48,7 @@ accesses-for e xs gs for = ap accesses_of for.lent ∙ loans-accesses e xs (lent
 pub lent-for : (e : ℕ) (xs : List Access) (gs : List Loaned) → AreFor e xs gs → map as_lent gs ≡ gs
 lent-for e xs gs for = ap (map as_lent) for.lent ∙ loans-lent e xs (lent_of gs) ∙ sym for.lent
 
-lent-contents : (e : ℕ) (xs : List Access) (cs : List (List ℕ)) → length cs ≡ length xs → lent_of (loans e xs cs) ≡ cs
+pub lent-contents : (e : ℕ) (xs : List Access) (cs : List (List ℕ)) → length cs ≡ length xs → lent_of (loans e xs cs) ≡ cs
 lent-contents e [] [] h = refl
 lent-contents e [] (c ∷ cs) h = absurd (omega (arith, h))
 lent-contents e (x ∷ xs) [] h = absurd (omega (arith, h))

@@ -1,0 +1,21 @@
+use Rattle.std.proofs.Common.{◌<◌, List, length, ap, sym, ◌∙◌, subst, arith}
+use Rattle.std.specs.Prelude.{slice_index_or}
+use Rattle.bl_policy.specs.declared.access.Access.{Access}
+use Rattle.bl_script.specs.Statements.{Part, no_part}
+use Rattle.bl_grant.specs.Loaned.{Loaned}
+use Rattle.bl_grant.specs.Loans.{entry_of}
+use Rattle.bl_eval.specs.Loan.{AreFor}
+use Rattle.bl_eval.proofs.Handmade.{for-loans}
+use Rattle.bl_eval.proofs.tests.evaluated.Goals as goal
+
+pub new-lent-requires-clause-some : goal.new-lent-requires-clause-some
+new-lent-requires-clause-some g c =
+    let f = for-loans 7 c.accesses-accesses.result.now c.args.documents.now (omega arith) (omega arith) in
+    subst (λ (gs : List Loaned). 0 < length gs) (sym c.in_ok-grants.ensures) f.0
+
+pub new-lent-requires-clause-grants : goal.new-lent-requires-clause-grants
+new-lent-requires-clause-grants g c =
+    let f = for-loans 7 c.accesses-accesses.result.now c.args.documents.now (omega arith) (omega arith) in
+    let e = c.accesses-accesses.ensures ∙ ap (λ (s : List Part). (slice_index_or s 0 no_part).accesses) c.in_ok-again.ensures in
+    subst (λ (xs : List Access). AreFor (entry_of c.in_ok-grants.grants) xs c.in_ok-grants.grants) e
+    (subst (λ (gs : List Loaned). AreFor (entry_of gs) c.accesses-accesses.result.now gs) (sym c.in_ok-grants.ensures) f.1)
