@@ -1,0 +1,224 @@
+-- A monitor stays sound by one entry more, and answers it as the definitions of the order say.
+use Rattle.std.proofs.Common.{◌≡◌, ℕ, zero, suc, ◌<◌, Bool, true, false, cond, List, [], ◌∷◌, ◌++◌, length, get_or, refl, sym, ◌∙◌, ap, subst, arith, ◌⊎◌, inl, inr, length-append, add-one}
+use Rattle.std.specs.Prelude.{◌==◌, ◌&&◌, ◌||◌, All, map, slice_index_or}
+use mathlib.Core.Path.{fun_ext}
+use Rattle.std.proofs.Math.ListN.{get_or-append}
+use Rattle.std.proofs.lemmas.Bool.Decides.{eqb_tells}
+use Rattle.std.proofs.lemmas.List.{map-append}
+use Rattle.std.proofs.lemmas.List.Elements.{All-head, All-tail, All-get_or}
+use Rattle.bl_policy.specs.Policy.{SecurityPolicy}
+use Rattle.bl_policy.specs.declared.access.Access.{Access}
+use Rattle.bl_script.specs.Effects.{Effect, after, effects_of}
+use Rattle.bl_script.specs.Statements.{Part, no_part}
+use Rattle.bl_script.specs.declared.answer.Answer.{Answer}
+use Rattle.bl_setup.specs.Order.{Setup, Entry, Task, Runs, accesses_of, is_declared, is_altered}
+use Rattle.bl_setup.specs.Past.{Past, at_place, changed, policy_of, content_of, earlier, place, past_of, judged, deeds, lent, is_done, subject_of, task_of, no_entry}
+use Rattle.bl_setup.proofs.Places.{earlier-grown}
+use Rattle.bl_setup.proofs.PlaceLaws.{earlier-lost}
+use Rattle.bl_monitor.specs.declared.place.Admitted.{Admitted}
+use Rattle.bl_monitor.specs.declared.place.Place.{Place}
+use Rattle.bl_monitor.specs.declared.judge.Judged.{Judged}
+use Rattle.bl_monitor.specs.Heard.{Heard, is_lost}
+use Rattle.bl_monitor.specs.Judging.{AreBelow, content_at, record_of, IsJudged}
+use Rattle.bl_monitor.specs.Places as kept
+use Rattle.bl_monitor.specs.Places.{no_place}
+use Rattle.bl_monitor.specs.Sound.{heard_of, pasts_of, IsRight, Tells, IsSound}
+use Rattle.bl_monitor.specs.Texts.{applied}
+use Rattle.bl_monitor.proofs.Spawns.{Spawns, spawns, no_spawns}
+use Rattle.bl_monitor.proofs.Changes.{length-applied}
+
+-- behaviours leave the policy as it was
+changed_same : (a : Answer) (t : Task) (s : ℕ) (p : SecurityPolicy) → changed a t s p ≡ p
+changed_same a (Runs script index) s p = refl
+
+pub policy_same : (setup : Setup) (pasts : List Past) → policy_of setup pasts ≡ setup.policy
+policy_same setup [] = refl
+policy_same setup (p ∷ pasts) = changed_same p.answer p.task p.subject (policy_of setup pasts) ∙ policy_same setup pasts
+
+pub length-pasts : (setup : Setup) (lost : ℕ → Bool) (order : List Entry) (n : ℕ) → length (earlier setup lost order n) ≡ n
+length-pasts setup lost order zero = refl
+length-pasts setup lost order (suc n) = ap suc (length-pasts setup lost order n)
+
+pub length-mapped : {X Y : Type 0} (f : X → Y) (xs : List X) → length (map f xs) ≡ length xs
+length-mapped f [] = refl
+length-mapped f (x ∷ xs) = ap suc (length-mapped f xs)
+
+last : {X : Type 0} (xs : List X) (x d : X) → get_or (xs ++ x ∷ []) (length xs) d ≡ x
+last [] x d = refl
+last (y ∷ xs) x d = last xs x d
+
+-- what is lent is the same of contents that agree where documents are
+same_lent : (count : ℕ) (accesses : List Access) (f g : ℕ → List ℕ) → All (λ (a : Access). a.doc < count) accesses
+    → ((doc : ℕ) → doc < count → f doc ≡ g doc) → (doc : ℕ) → lent accesses f doc ≡ lent accesses g doc
+same_lent count accesses f g all same doc = go (is_declared accesses doc) (below accesses all)
+  where
+    below : (xs : List Access) → All (λ (a : Access). a.doc < count) xs → is_declared xs doc ≡ true → doc < count
+    below [] h e = cc
+    below (a ∷ xs) h e = one (eqb_tells a.doc doc) (below xs (All-tail (λ (x : Access). x.doc < count) a xs h)) (All-head (λ (a : Access). a.doc < count) a xs h) e
+      where
+        one : (((a.doc == doc) ≡ true) × (a.doc ≡ doc)) ⊎ (((a.doc == doc) ≡ false) × (a.doc ≡ doc → ⊥)) → (is_declared xs doc ≡ true → doc < count)
+            → a.doc < count → is_declared (a ∷ xs) doc ≡ true → doc < count
+        one (inl p) rest lt e = omega (arith, p.1)
+        one (inr p) rest lt e = rest (sym (ap (λ b. b || is_declared xs doc) p.0) ∙ e)
+
+    go : (b : Bool) → (b ≡ true → doc < count) → cond b (f doc) [] ≡ cond b (g doc) []
+    go false h = refl
+    go true h = same doc (h refl)
+
+module _ (setup : Setup) (places : List Place) (p : Place) where
+  abbrev heard : Heard
+  heard = heard_of setup places
+
+  abbrev more : List Place
+  more = places ++ p ∷ []
+
+  abbrev pasts : List Past
+  pasts = pasts_of setup places
+
+  abbrev next_past : Past
+  next_past = past_of setup p.admitted.lost pasts (kept.entry_of p.admitted)
+
+  -- the places before the new one keep their records
+  pub pasts_more : pasts_of setup more ≡ next_past ∷ pasts
+  pasts_more =
+      ap (λ n. earlier setup lost' order' n) (length-append places (p ∷ []) ∙ add-one (length places))
+      ∙ ap (λ h. past_of setup (lost' (length places)) h (get_or order' (length places) no_entry) ∷ h) before
+      ∙ ap (λ b. past_of setup b pasts (get_or order' (length places) no_entry) ∷ pasts) lost_here
+      ∙ ap (λ e. past_of setup p.admitted.lost pasts e ∷ pasts) entry_here
+    where
+      lost' : ℕ → Bool
+      lost' = is_lost (heard_of setup more)
+
+      order' : List Entry
+      order' = (heard_of setup more).order
+
+      order_grows : order' ≡ heard.order ++ kept.entry_of p.admitted ∷ []
+      order_grows = map-append (λ (q : Place). kept.entry_of q.admitted) places (p ∷ [])
+
+      lost_grows : (heard_of setup more).lost ≡ heard.lost ++ p.admitted.lost ∷ []
+      lost_grows = map-append (λ (q : Place). q.admitted.lost) places (p ∷ [])
+
+      lost_before : (k : ℕ) → k < length places → lost' k ≡ is_lost heard k
+      lost_before k lt =
+          ap (λ l. get_or l k false) lost_grows
+          ∙ get_or-append heard.lost (p.admitted.lost ∷ []) false k (omega (arith, length-mapped (λ (q : Place). q.admitted.lost) places))
+
+      before : earlier setup lost' order' (length places) ≡ pasts
+      before =
+          earlier-lost setup lost' (is_lost heard) order' (length places) lost_before
+          ∙ ap (λ o. earlier setup (is_lost heard) o (length places)) order_grows
+          ∙ earlier-grown setup (is_lost heard) heard.order (kept.entry_of p.admitted ∷ []) (length places)
+          (omega (arith, length-mapped (λ (q : Place). kept.entry_of q.admitted) places))
+
+      lost_here : lost' (length places) ≡ p.admitted.lost
+      lost_here =
+          ap (λ l. get_or l (length places) false) lost_grows
+          ∙ ap (λ n. get_or (heard.lost ++ p.admitted.lost ∷ []) n false) (sym (length-mapped (λ (q : Place). q.admitted.lost) places))
+          ∙ last heard.lost p.admitted.lost false
+
+      entry_here : get_or order' (length places) no_entry ≡ kept.entry_of p.admitted
+      entry_here =
+          ap (λ o. get_or o (length places) no_entry) order_grows
+          ∙ ap (λ n. get_or (heard.order ++ kept.entry_of p.admitted ∷ []) n no_entry) (sym (length-mapped (λ (q : Place). kept.entry_of q.admitted) places))
+          ∙ last heard.order (kept.entry_of p.admitted) no_entry
+
+  -- what is said of the new place
+  pub place_more : place setup (is_lost (heard_of setup more)) (heard_of setup more).order (length places) ≡ next_past
+  place_more = ap (λ h. head_of h) all
+    where
+      head_of : List Past → Past
+      head_of [] = next_past
+      head_of (q ∷ qs) = q
+
+      all : earlier setup (is_lost (heard_of setup more)) (heard_of setup more).order (suc (length places)) ≡ next_past ∷ pasts
+      all = ap (λ n. earlier setup (is_lost (heard_of setup more)) (heard_of setup more).order n) (sym (length-append places (p ∷ []) ∙ add-one (length places))) ∙ pasts_more
+
+-- the accesses of an entry's behaviour
+declared : (count : ℕ) (script : List Part) (index : ℕ) → AreBelow count script → index < length script
+    → All (λ (a : Access). a.doc < count) (slice_index_or script index no_part).accesses
+declared count script index all lt = All-get_or (λ (part : Part). All (λ (a : Access). a.doc < count) part.accesses) script index no_part lt all
+
+-- the record of an entry, by what is kept
+pub same_past : (setup : Setup) (contents : List (List ℕ)) (pasts : List Past) (a : Admitted) → IsRight setup a
+    → length setup.policy.documents ≡ length contents
+    → ((doc : ℕ) → doc < length contents → content_at contents doc ≡ content_of setup pasts doc)
+    → subject_of pasts (kept.entry_of a) ≡ a.subject → task_of pasts (kept.entry_of a) ≡ kept.task_of a
+    → past_of setup a.lost pasts (kept.entry_of a) ≡ record_of setup.policy contents a
+same_past setup contents pasts a right many same subject task =
+    ap (λ t. judged a.lost (policy_of setup pasts) (deeds t (content_of setup pasts)) (subject_of pasts (kept.entry_of a)) t) task
+    ∙ ap (λ s. judged a.lost (policy_of setup pasts) (deeds (kept.task_of a) (content_of setup pasts)) s (kept.task_of a)) subject
+    ∙ ap (λ p. judged a.lost p (deeds (kept.task_of a) (content_of setup pasts)) a.subject (kept.task_of a)) (policy_same setup pasts)
+    ∙ ap (λ f. judged a.lost setup.policy (effects_of f (slice_index_or a.script a.index no_part).body) a.subject (kept.task_of a))
+    (fun_ext (same_lent (length setup.policy.documents) (slice_index_or a.script a.index no_part).accesses (content_of setup pasts) (content_at contents)
+    (declared (length setup.policy.documents) a.script a.index right.documents right.index)
+    (λ doc lt. sym (same doc (omega arith)))))
+
+-- what ran or did not spawns behaviours of its script
+record_spawns : (b : Bool) (effects : List Effect) (script : List Part) → Spawns script effects → Spawns script (cond b effects [])
+record_spawns true effects script s = s
+record_spawns false effects script s = no_spawns script
+
+module _ (setup : Setup) (contents : List (List ℕ)) (places : List Place) (a : Admitted) (j : Judged) (sound : IsSound setup contents places) (right : IsRight setup a)
+    (subject : subject_of (pasts_of setup places) (kept.entry_of a) ≡ a.subject)
+    (task : task_of (pasts_of setup places) (kept.entry_of a) ≡ kept.task_of a)
+    (is : IsJudged setup.policy contents a j) where
+  abbrev added_place : Place
+  added_place = record { admitted = a; fault = j.fault; children = j.children }
+
+  many : length setup.policy.documents ≡ length contents
+  many = sym sound.agree.documents ∙ sound.agree.contents ∙ sym sound.as_many
+
+  next_is : past_of setup a.lost (pasts_of setup places) (kept.entry_of a) ≡ record_of setup.policy contents a
+  next_is = same_past setup contents (pasts_of setup places) a right many sound.current subject task
+
+  pasts_are : pasts_of setup (places ++ added_place ∷ []) ≡ record_of setup.policy contents a ∷ pasts_of setup places
+  pasts_are = pasts_more setup places added_place ∙ ap (λ q. q ∷ pasts_of setup places) next_is
+
+  -- the answer
+  pub answer_more : j.answer ≡ (place setup (is_lost (heard_of setup (places ++ added_place ∷ []))) (heard_of setup (places ++ added_place ∷ [])).order (length places)).answer
+  answer_more = is.answer ∙ ap (λ (q : Past). q.answer) (sym (place_more setup places added_place ∙ next_is))
+
+  here : Tells setup added_place (record_of setup.policy contents a)
+  here =
+      let s : Spawns a.script (children_effects) = record_spawns (is_done (record_of setup.policy contents a).answer) (deeds (kept.task_of a) (content_at contents)) a.script (spawns a.script a.index _ right.script right.index) in
+      record {
+        right = right;
+        subject = refl;
+        task = refl;
+        fault = is.fault;
+        ran = is.ran;
+        spawned = is.spawned;
+        each = s.each;
+        few = s.few;
+      }
+    where
+      children_effects : List Effect
+      children_effects = (record_of setup.policy contents a).effects
+
+  pub sound_more : IsSound setup (applied contents j.changes.items) (places ++ added_place ∷ [])
+  sound_more = record {
+    agree = sound.agree;
+    as_many = length-applied contents j.changes.items ∙ sound.as_many;
+    current = λ doc lt.
+        is.changes.left doc (omega (arith, length-applied contents j.changes.items))
+        ∙ ap (λ t. cond (is_done (record_of setup.policy contents a).answer && is_altered (accesses_of (kept.task_of a)) doc) (after t (record_of setup.policy contents a).effects doc) t)
+        (sound.current doc (omega (arith, length-applied contents j.changes.items)))
+        ∙ ap (λ h. content_of setup h doc) (sym pasts_are);
+    told = λ k lt. go k lt (eqb_tells k (length (pasts_of setup places)));
+  }
+    where
+      count : length (pasts_of setup places) ≡ length places
+      count = length-pasts setup (is_lost (heard_of setup places)) (heard_of setup places).order (length places)
+
+      go : (k : ℕ) → k < length (places ++ added_place ∷ []) → (((k == length (pasts_of setup places)) ≡ true) × (k ≡ length (pasts_of setup places))) ⊎ (((k == length (pasts_of setup places)) ≡ false) × (k ≡ length (pasts_of setup places) → ⊥))
+          → Tells setup (get_or (places ++ added_place ∷ []) k no_place) (at_place (pasts_of setup (places ++ added_place ∷ [])) k)
+      go k lt (inl e) =
+          subst (λ h. Tells setup (get_or (places ++ added_place ∷ []) k no_place) (at_place h k)) (sym pasts_are)
+          (subst (λ b. Tells setup (get_or (places ++ added_place ∷ []) k no_place) (cond b (record_of setup.policy contents a) (at_place (pasts_of setup places) k))) (sym e.0)
+          (subst (λ n. Tells setup (get_or (places ++ added_place ∷ []) n no_place) (record_of setup.policy contents a)) (sym (e.1 ∙ count))
+          (subst (λ q. Tells setup q (record_of setup.policy contents a)) (sym (last places added_place no_place)) here)))
+      go k lt (inr e) =
+          let before : k < length places = omega (arith, e.1, count, length-append places (added_place ∷ [])) in
+          subst (λ h. Tells setup (get_or (places ++ added_place ∷ []) k no_place) (at_place h k)) (sym pasts_are)
+          (subst (λ b. Tells setup (get_or (places ++ added_place ∷ []) k no_place) (cond b (record_of setup.policy contents a) (at_place (pasts_of setup places) k))) (sym e.0)
+          (subst (λ q. Tells setup q (at_place (pasts_of setup places) k)) (sym (get_or-append places (added_place ∷ []) no_place k before)) (sound.told k before)))

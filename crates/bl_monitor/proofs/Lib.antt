@@ -1,0 +1,9 @@
+pub mod Looks
+pub mod Runs
+pub mod Pieces
+pub mod Lists
+pub mod Changes
+pub mod Spawns
+pub mod Keeps
+pub mod Coming
+pub mod Errors

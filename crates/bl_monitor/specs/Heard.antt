@@ -1,0 +1,77 @@
+-- What a monitor has been told, and what the definitions of the order say of it.
+use Rattle.std.specs.Prelude.{◌≡◌, ℕ, ◌<◌, ◌≤◌, Bool, true, false, ◌&&◌, if◌then◌else◌, nat_lt, List, [], ◌∷◌, ◌++◌, length, slice_index_or, Option, Some, None}
+use Rattle.bl_policy.specs.declared.denial.Denial.{Denial}
+use Rattle.bl_script.specs.declared.answer.Answer.{Answer}
+use Rattle.bl_script.specs.declared.work.Work.{Work}
+use Rattle.bl_script.specs.declared.work.Work.TheVariants as work
+use Rattle.bl_setup.specs.Order as order
+use Rattle.bl_setup.specs.Order.{Setup}
+use Rattle.bl_setup.specs.Past.{Past, place, is_done}
+use Rattle.bl_setup.specs.Laws.{fault_at}
+use Rattle.bl_setup.specs.Legal.{child_count}
+use Rattle.bl_monitor.specs.Judging.{AreBelow}
+use Rattle.bl_monitor.specs.declared.monitor.Entry.{Entry}
+use Rattle.bl_monitor.specs.declared.monitor.Entry.TheVariants as entry
+
+-- the setup, the entries in order, and of each whether it is lost
+pub record Heard : Type 0 where
+  pub setup : Setup
+  pub order : List order.Entry
+  pub lost : List Bool
+
+-- the places that are lost
+abbrev pub is_lost : Heard → ℕ → Bool
+is_lost heard n = slice_index_or heard.lost n false
+
+-- the record of a place, by the definitions of the order
+abbrev pub place_at : Heard → ℕ → Past
+place_at heard n = place heard.setup (is_lost heard) heard.order n
+
+-- Answer, of the place of an entry
+abbrev pub answer_at : Heard → ℕ → Answer
+answer_at heard n = (place_at heard n).answer
+
+-- own choice: the session and the ordinal of a line bear on no answer, and are seen as 0
+abbrev pub entry_of : Entry → order.Entry
+entry_of (entry.Line subject work lost) = order.Line 0 0 subject work
+entry_of (entry.Child parent which lost) = order.Child parent which
+
+abbrev pub lost_of : Entry → Bool
+lost_of (entry.Line subject work lost) = lost
+lost_of (entry.Child parent which lost) = lost
+
+-- one entry more
+abbrev pub with_entry : Heard → Entry → Heard
+with_entry heard e = record heard { order = heard.order ++ entry_of e ∷ []; lost = heard.lost ++ lost_of e ∷ [] }
+
+-- the ids of a work are in the setup
+abbrev pub KnowsWork : Setup → Work → Type 0
+KnowsWork setup (work.Behaviour script) = AreBelow (length setup.policy.documents) script
+
+-- the ids of an entry are in the setup
+abbrev pub Knows : Setup → Entry → Type 0
+Knows setup (entry.Line subject work lost) = (subject < length setup.policy.subjects) × KnowsWork setup work
+Knows setup (entry.Child parent which lost) = Unit {0}
+
+-- the parent is an earlier entry that was done with so many children at least
+pub record IsChild (heard : Heard) (parent which : ℕ) : Type 0 where
+  pub from_one : 0 < which
+  pub behind : parent < length heard.order
+  pub done : is_done (answer_at heard parent) ≡ true
+  pub spawned : which ≤ child_count heard.setup (is_lost heard) heard.order parent
+
+-- an entry may come next: a line always, a child where its parent spawned it
+abbrev pub MayCome : Heard → Entry → Type 0
+MayCome heard (entry.Line subject work lost) = Unit {0}
+MayCome heard (entry.Child parent which lost) = IsChild heard parent which
+
+-- the number of children of an entry that was done
+abbrev pub children_of : Heard → ℕ → Option ℕ
+children_of heard n =
+    if nat_lt n (length heard.order) && is_done (answer_at heard n)
+    then Some (child_count heard.setup (is_lost heard) heard.order n)
+    else None
+
+-- what the policy had against an entry at its place
+abbrev pub fault_of : Heard → ℕ → Option Denial
+fault_of heard n = if nat_lt n (length heard.order) then fault_at heard.setup (is_lost heard) heard.order n else None

@@ -1,0 +1,68 @@
+-- What comes of an entry.
+use Rattle.std.specs.Prelude.{◌≡◌, ℕ, ◌<◌, ◌&&◌, if◌then◌else◌, List, [], length, All, Option, None, is_some, true, slice_index_or}
+use Rattle.bl_policy.specs.Policy.{SecurityPolicy}
+use Rattle.bl_policy.specs.declared.access.Access.{Access}
+use Rattle.bl_policy.specs.declared.denial.Denial.{Denial}
+use Rattle.bl_script.specs.Effects.{Effect, effects_of, after, outputs, children}
+use Rattle.bl_script.specs.Statements.{Statements, Part}
+use Rattle.bl_script.specs.declared.answer.Answer.{Answer}
+use Rattle.bl_script.specs.declared.answer.Answer.TheVariants as answer
+use Rattle.bl_setup.specs.Order.{accesses_of, is_altered}
+use Rattle.bl_setup.specs.Past.{Past, judged, deeds, lent, fault_of_task, is_done}
+use Rattle.bl_monitor.specs.Kept.{spawned_of}
+use Rattle.bl_monitor.specs.Places.{task_of}
+use Rattle.bl_monitor.specs.Texts.{applied}
+use Rattle.bl_monitor.specs.declared.run.Text.{Text}
+use Rattle.bl_monitor.specs.declared.place.Admitted.{Admitted}
+use Rattle.bl_monitor.specs.declared.judge.Judged.{Judged}
+
+-- each document that the script declares is below this count
+abbrev pub AreBelow : ℕ → List Part → Type 0
+AreBelow documents script = All (λ (part : Part). All (λ (access : Access). access.doc < documents) part.accesses) script
+
+-- the ids of an entry are there, and its script has the behaviour
+pub record IsKnown (policy : SecurityPolicy) (contents : List (List ℕ)) (admitted : Admitted) : Type 0 where
+  pub subject : admitted.subject < length policy.subjects
+  pub documents : AreBelow (length policy.documents) admitted.script
+  pub as_many : length policy.documents ≡ length contents
+  pub index : admitted.index < length admitted.script
+
+-- a list as a content of each document
+abbrev pub content_at : List (List ℕ) → ℕ → List ℕ
+content_at contents doc = slice_index_or contents doc []
+
+-- the texts, once they are contents, make of each document what is said
+pub record Changes (contents : List (List ℕ)) (after_it : ℕ → List ℕ) (changes : List Text) : Type 0 where
+  pub within : All (λ (t : Text). t.doc < length contents) changes
+  pub left : (doc : ℕ) → doc < length contents → content_at (applied contents changes) doc ≡ after_it doc
+
+abbrev pub effects_on : List (List ℕ) → List Access → Statements → List Effect
+effects_on contents accesses body = effects_of (lent accesses (content_at contents)) body
+
+-- a behaviour with these accesses and this body ran on these contents
+pub record IsDone (contents : List (List ℕ)) (accesses : List Access) (body : Statements) (j : Judged) : Type 0 where
+  pub answer : j.answer ≡ answer.Done (outputs (effects_on contents accesses body))
+  pub fault : j.fault ≡ None
+  pub ran : is_some j.children ≡ true
+  pub spawned : spawned_of j.children ≡ children (effects_on contents accesses body)
+  pub changes : Changes contents (λ doc. if is_altered accesses doc then after (content_at contents doc) (effects_on contents accesses body) doc else content_at contents doc) j.changes.items
+
+-- nothing ran
+pub record IsIdle (given : Answer) (found : Option Denial) (j : Judged) : Type 0 where
+  pub answer : j.answer ≡ given
+  pub fault : j.fault ≡ found
+  pub ran : j.children ≡ None
+  pub changes : j.changes.items ≡ []
+
+-- the record of an entry under a policy and contents
+abbrev pub record_of : SecurityPolicy → List (List ℕ) → Admitted → Past
+record_of policy contents admitted =
+    judged admitted.lost policy (deeds (task_of admitted) (content_at contents)) admitted.subject (task_of admitted)
+
+-- what comes of the entry is what its record says
+pub record IsJudged (policy : SecurityPolicy) (contents : List (List ℕ)) (admitted : Admitted) (j : Judged) : Type 0 where
+  pub answer : j.answer ≡ (record_of policy contents admitted).answer
+  pub fault : j.fault ≡ fault_of_task policy admitted.subject (task_of admitted)
+  pub ran : is_some j.children ≡ is_done (record_of policy contents admitted).answer
+  pub spawned : spawned_of j.children ≡ children (record_of policy contents admitted).effects
+  pub changes : Changes contents (λ doc. if is_done (record_of policy contents admitted).answer && is_altered (accesses_of (task_of admitted)) doc then after (content_at contents doc) (record_of policy contents admitted).effects doc else content_at contents doc) j.changes.items

@@ -1,0 +1,9 @@
+pub mod Texts
+pub mod Running
+pub mod Kept
+pub mod Places
+pub mod Judging
+pub mod Heard
+pub mod HeardCodes
+pub mod Sound
+pub mod Faults

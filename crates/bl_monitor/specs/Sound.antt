@@ -1,0 +1,73 @@
+-- What a monitor keeps.
+use Rattle.std.specs.Prelude.{◌≡◌, ℕ, ◌-◌, ◌<◌, ◌≤◌, List, length, map, slice_index_or, is_some, All}
+use Rattle.bl_script.specs.Effects.{children}
+use Rattle.bl_script.specs.Script.{IsScript}
+use Rattle.bl_setup.specs.Agreement.{Agree}
+use Rattle.bl_setup.specs.Order.{Setup}
+use Rattle.bl_setup.specs.Past.{Past, earlier, at_place, content_of, fault_of_task, is_done}
+use Rattle.bl_monitor.specs.Heard.{Heard, is_lost}
+use Rattle.bl_monitor.specs.Judging.{AreBelow, content_at}
+use Rattle.bl_monitor.specs.Kept.{spawned_of}
+use Rattle.bl_monitor.specs.Places.{no_place, entry_of, task_of, HasChild}
+use Rattle.bl_script.specs.declared.work.Work.TheVariants as work
+use Rattle.bl_monitor.specs.declared.monitor.Entry.{Entry}
+use Rattle.bl_monitor.specs.declared.monitor.Entry.TheVariants as entry
+use Rattle.bl_monitor.specs.declared.place.Origin.TheVariants as origin
+use Rattle.bl_monitor.specs.declared.place.Admitted.{Admitted}
+use Rattle.bl_monitor.specs.declared.place.Place.{Place}
+
+-- what the kept places were told
+abbrev pub heard_of : Setup → List Place → Heard
+heard_of setup places = record {
+  setup = setup;
+  order = map (λ (p : Place). entry_of p.admitted) places;
+  lost = map (λ (p : Place). p.admitted.lost) places;
+}
+
+-- the records of the kept places, newest first
+abbrev pub pasts_of : Setup → List Place → List Past
+pasts_of setup places = earlier setup (is_lost (heard_of setup places)) (heard_of setup places).order (length places)
+
+-- an entry's ids are in the setup, and its behaviour is one of its script
+pub record IsRight (setup : Setup) (admitted : Admitted) : Type 0 where
+  pub subject : admitted.subject < length setup.policy.subjects
+  pub documents : AreBelow (length setup.policy.documents) admitted.script
+  pub script : IsScript admitted.script
+  pub index : admitted.index < length admitted.script
+
+-- what is kept of a place tells its record
+pub record Tells (setup : Setup) (place : Place) (past : Past) : Type 0 where
+  pub right : IsRight setup place.admitted
+  pub subject : past.subject ≡ place.admitted.subject
+  pub task : past.task ≡ task_of place.admitted
+  pub fault : place.fault ≡ fault_of_task setup.policy place.admitted.subject (task_of place.admitted)
+  pub ran : is_some place.children ≡ is_done past.answer
+  pub spawned : spawned_of place.children ≡ children past.effects
+  pub each : All (λ behaviour. behaviour < length place.admitted.script) (children past.effects)
+  pub few : length (children past.effects) ≤ length place.admitted.script
+
+-- one content of each document, and what is kept of each place, are as looking back finds them
+pub record IsSound (setup : Setup) (contents : List (List ℕ)) (places : List Place) : Type 0 where
+  pub agree : Agree setup
+  pub as_many : length contents ≡ length setup.contents
+  pub current : (doc : ℕ) → doc < length contents → content_at contents doc ≡ content_of setup (pasts_of setup places) doc
+  pub told : (k : ℕ) → k < length places → Tells setup (slice_index_or places k no_place) (at_place (pasts_of setup places) k)
+
+-- an entry may come behind these places
+abbrev pub CanCome : List Place → Entry → Type 0
+CanCome places (entry.Line subject work lost) = Unit {0}
+CanCome places (entry.Child parent which lost) = HasChild places parent which
+
+-- what is to run for an entry behind these places
+abbrev pub IsAdmitted : List Place → Entry → Admitted → Type 0
+IsAdmitted places (entry.Line subject (work.Behaviour script) lost) a =
+    a ≡ record { origin = origin.Line; lost = lost; subject = subject; script = script; index = 0 }
+IsAdmitted places (entry.Child parent which lost) a =
+    HasChild places parent which
+    × (a ≡ record {
+      origin = origin.Child parent which;
+      lost = lost;
+      subject = (slice_index_or places parent no_place).admitted.subject;
+      script = (slice_index_or places parent no_place).admitted.script;
+      index = slice_index_or (spawned_of (slice_index_or places parent no_place).children) (which - 1) 0;
+    })

@@ -1,0 +1,225 @@
+//! The monitor and its entries.
+//!
+//! For each place it keeps what looking back would find there, and for each document one current content. So no step
+//! takes longer because more entries came before.
+ghost use Rattle.std.specs.Prelude.{◌≡◌, ◌↔◌, ◌<◌, All, length, IfOk, IsErrOf};
+ghost use Rattle.bl_monitor.specs.Places.{HasChild};
+ghost use Rattle.bl_monitor.specs.Sound.{CanCome, IsAdmitted};
+ghost use Rattle.bl_monitor.specs.declared.monitor.MonitorFault.TheVariants as faults;
+ghost use Rattle.bl_monitor.specs.Texts.{applied};
+
+use crate::judge::{Judged, judge};
+use crate::place::{Admitted, Origin, Place, child_index};
+use crate::run::Text;
+use bl_policy::denial::Denial;
+use bl_policy::id::SubjectId;
+use bl_script::answer::Answer;
+use bl_script::document::Document;
+use bl_script::work::Work;
+use bl_setup::setup::Setup;
+use std::alloc::{AllocError, Global};
+use std::marker::Model;
+
+/// An entry of the admission order, with whether it is lost to want of memory.
+#[derive(Drop)]
+pub enum Entry {
+    /// A line of a session that speaks for the subject.
+    Line {
+        subject: SubjectId,
+        work: Work,
+        lost: bool,
+    },
+    /// The behaviour that an earlier entry, the parent, spawned as its which-th, counted from 1.
+    Child {
+        parent: u32,
+        which: u32,
+        lost: bool,
+    },
+}
+
+/// Why an entry was not answered.
+#[derive(Clone, Copy, Debug, PartialEq, Eq)]
+pub enum MonitorFault {
+    /// No entry spawned such a child: `which` is 0, or the parent is no earlier entry that was done with so many children.
+    NoChild,
+    /// A growth was refused.
+    Memory,
+}
+
+impl From<AllocError> for MonitorFault {
+    ghost use Rattle.bl_monitor.specs.Faults.{IsMemory};
+
+    ghost from_gives = { IsMemory };
+
+    fn from(_: AllocError) -> MonitorFault {
+        MonitorFault::Memory
+    }
+}
+
+/// The answers of an admission order, one entry after another.
+#[derive(Drop)]
+pub struct Monitor {
+    alloc: Global,
+    setup: Setup,
+    contents: Vec<Document>,
+    places: Vec<Place>,
+}
+
+impl Model for Monitor {
+    ghost use Rattle.std.specs.Coded.{codes, coded_list};
+    ghost use Rattle.bl_policy.specs.Codes.{matrix_code};
+    ghost use Rattle.bl_monitor.specs.Heard.{Heard};
+    ghost use Rattle.bl_monitor.specs.HeardCodes.{coded_entry};
+
+    ghost Value = { Heard };
+
+    ghost coded = { Prim.hlevel (codes, matrix_code, coded_entry) };
+
+    ghost use Rattle.bl_monitor.specs.Sound.{heard_of, IsSound};
+
+    ghost view = { λ m. heard_of m.setup m.places.items };
+
+    ghost invariant = { λ m. IsSound m.setup m.contents.items m.places.items };
+}
+
+/// The contents that every entry of the order finds first.
+fn shared(alloc: Global, contents: &[Document]) -> Result<Vec<Document>, AllocError>
+    ensures { IfOk result (λ shared. shared.items ≡ contents.now) }
+{
+    let mut shared = Vec::new(alloc);
+    for content in contents {
+        shared.push(content.share()?)?;
+    }
+    Ok(shared)
+}
+
+/// Makes these texts the documents' contents.
+fn keep(contents: &mut [Document], changes: Vec<Text>)
+    requires { All (λ change. change.doc < length contents.old) changes.items }
+    ensures { contents.new ≡ applied contents.old changes.items }
+{
+    let mut changes = changes;
+    while let Some(change) = changes.pop() {
+        contents[change.doc.position() as usize] = change.content;
+    }
+}
+
+/// Who speaks and what is to run for an entry behind these places.
+fn admit(places: &[Place], entry: Entry) -> Result<Admitted, MonitorFault>
+    ensures ok { IfOk result (IsAdmitted places.now entry) }
+    ensures no_child { IsErrOf result faults.NoChild ↔ (¬ CanCome places.now entry) }
+{
+    match entry {
+        Entry::Line {
+            subject,
+            work,
+            lost,
+        } => {
+            let Work::Behaviour(script) = work;
+            Ok(Admitted {
+                origin: Origin::Line,
+                lost,
+                subject,
+                script,
+                index: 0,
+            })
+        }
+        Entry::Child {
+            parent,
+            which,
+            lost,
+        } => child(places, parent, which, lost),
+    }
+}
+
+/// The same for a child.
+fn child(places: &[Place], parent: u32, which: u32, lost: bool) -> Result<Admitted, MonitorFault>
+    ensures ok { IfOk result (IsAdmitted places.now (Entry.Child parent which lost)) }
+    ensures no_child { IsErrOf result faults.NoChild ↔ (¬ HasChild places.now parent which) }
+{
+    match child_index(places, parent, which) {
+        Some(index) => {
+            let place = &places[parent as usize];
+            Ok(Admitted {
+                origin: Origin::Child { parent, which },
+                lost,
+                subject: place.admitted.subject,
+                script: place.admitted.script.share()?,
+                index,
+            })
+        }
+        None => Err(MonitorFault::NoChild),
+    }
+}
+
+impl Monitor {
+    ghost use Rattle.std.specs.Prelude.{◌≡◌, ◌↔◌, length, [], IfOk, OnOk, OnErr, IsErrOf};
+    ghost use Rattle.bl_monitor.specs.Heard.{Knows, MayCome, with_entry, answer_at, children_of, fault_of};
+    ghost use Rattle.bl_monitor.specs.declared.monitor.MonitorFault.TheVariants as faults;
+
+    /// A monitor of an empty order over this setup.
+    pub fn new(alloc: Global, setup: Setup) -> Result<Monitor, AllocError>
+        ensures { IfOk result (λ m. m ≡ record { setup = setup; order = []; lost = [] }) }
+    {
+        let contents = shared(alloc, setup.contents())?;
+        Ok(Monitor {
+            alloc,
+            setup,
+            contents,
+            places: Vec::new(alloc),
+        })
+    }
+
+    /// Answers the entry at the next place of the order. After an error the order is as it was.
+    pub fn next(&mut self, entry: Entry) -> Result<Answer, MonitorFault>
+        // The ids of a line are in the setup.
+        requires { Knows self.old.setup entry }
+        ensures answer { IfOk result (λ answer. answer ≡ answer_at self.new (length self.old.order)) }
+        ensures order { OnOk result (self.new ≡ with_entry self.old entry) }
+        ensures came { OnOk result (MayCome self.old entry) }
+        ensures no_child { IsErrOf result faults.NoChild ↔ (¬ MayCome self.old entry) }
+        ensures err { OnErr result (self.new ≡ self.old) }
+    {
+        let admitted = admit(&self.places, entry)?;
+        let _weight = admitted.script.weight();
+        let judged = judge(self.alloc, self.setup.policy(), &self.contents, &admitted)?;
+        self.places.reserve(1)?;
+        let Judged {
+            answer,
+            fault,
+            children,
+            changes,
+        } = judged;
+        keep(&mut self.contents, changes);
+        self.places.push_reserved(Place {
+            admitted,
+            fault,
+            children,
+        });
+        Ok(answer)
+    }
+
+    /// How many children an entry spawned; `None` for a number that is no entry's, or an entry's that was not done.
+    pub fn children(&self, n: u32) -> Option<u32>
+        ensures { result ≡ children_of self.now n }
+    {
+        if n as usize >= self.places.len() {
+            return None;
+        }
+        match &self.places[n as usize].children {
+            Some(children) => Some(children.len() as u32),
+            None => None,
+        }
+    }
+
+    /// What the policy had against an entry at its place, lost or not; `None` where that is nothing, and for a number
+    /// that is no entry's.
+    pub fn fault(&self, n: u32) -> Option<Denial>
+        ensures { result ≡ fault_of self.now n }
+    {
+        if n as usize >= self.places.len() {
+            return None;
+        }
+        self.places[n as usize].fault
+    }
+}

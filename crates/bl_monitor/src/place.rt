@@ -1,0 +1,48 @@
+//! What is kept of each place of the order, in place of looking back over it.
+ghost use Rattle.std.specs.Prelude.{◌≡◌, ◌-◌, IfOk, IsErrOf, MatchOption, slice_index_or};
+ghost use Rattle.bl_monitor.specs.Kept.{spawned_of};
+ghost use Rattle.bl_monitor.specs.Places.{no_place, HasChild};
+
+use bl_policy::denial::Denial;
+use bl_policy::id::SubjectId;
+use bl_script::script::Script;
+
+/// Where an entry comes from.
+#[derive(Clone, Copy)]
+pub(crate) enum Origin {
+    Line,
+    Child { parent: u32, which: u32 },
+}
+
+/// An entry with who speaks and the behaviour that is to run.
+#[derive(Drop)]
+pub(crate) struct Admitted {
+    pub(crate) origin: Origin,
+    pub(crate) lost: bool,
+    pub(crate) subject: SubjectId,
+    pub(crate) script: Script,
+    pub(crate) index: u8,
+}
+
+/// An answered entry: what the policy had against it at its place, and the behaviours that it spawned if it was done.
+#[derive(Drop)]
+pub(crate) struct Place {
+    pub(crate) admitted: Admitted,
+    pub(crate) fault: Option<Denial>,
+    pub(crate) children: Option<Vec<u8>>,
+}
+
+/// The number of the behaviour that an entry spawned as its which-th, counted from 1.
+pub(crate) fn child_index(places: &[Place], parent: u32, which: u32) -> Option<u8>
+    ensures { MatchOption result (¬ HasChild places.now parent which)
+        (λ index. HasChild places.now parent which
+        × (index ≡ slice_index_or (spawned_of (slice_index_or places.now parent no_place).children) (which - 1) 0)) }
+{
+    let place = places.get(parent as usize)?;
+    match &place.children {
+        Some(children) if which > 0 && which as usize <= children.len() => {
+            Some(children[which as usize - 1])
+        }
+        _ => None,
+    }
+}

@@ -1,0 +1,28 @@
+//! What a condition asks of a plain text.
+ghost use Rattle.std.specs.Prelude.{◌≡◌};
+ghost use Rattle.bl_script.specs.Effects.{holds_of};
+ghost use Rattle.bl_script.specs.Piece.{has_piece};
+
+use bl_script::script::Condition;
+
+/// Whether the piece stands somewhere in the content.
+fn contains(content: &[u8], piece: &[u8]) -> bool
+    ensures { result ≡ has_piece content.now piece.now }
+{
+    for start in 0..content.len() {
+        if content[start..].starts_with(piece) {
+            return true;
+        }
+    }
+    piece.is_empty()
+}
+
+/// Whether a condition holds of a content.
+pub(crate) fn holds(test: Condition, content: &[u8], text: &[u8]) -> bool
+    ensures { result ≡ holds_of test content.now text.now }
+{
+    match test {
+        Condition::Is => content == text,
+        Condition::Has => contains(content, text),
+    }
+}
