@@ -1,5 +1,6 @@
 //! What the program says on standard error, and the status that it then ends with.
 ghost use Rattle.std.specs.Prelude.{◌≡◌, ◌≢◌};
+ghost use Rattle.bl_server.specs.Failure.{IsOfSetup, IsOfSession};
 ghost use Rattle.bl_server.specs.Status.{status_of};
 ghost use Rattle.bl_session.specs.declared.fault.SessionFault.TheVariants as failing;
 
@@ -7,19 +8,30 @@ use bl_session::fault::SessionFault;
 use bl_setup::fault::{SetupFault, SetupFaultKind};
 use thiserror::Error;
 
-/// A fault that ends a run.
+/// A fault that ends a run. Its display is what the run says on standard error.
 #[derive(Debug, PartialEq, Eq, Drop, Error)]
 pub enum ProgramFault {
+    /// The setup file cannot be opened or read.
     #[error("cannot read setup")]
     CannotReadSetup,
+    /// The text of the setup file is no setup.
     #[error("setup {line}: {kind}")]
-    Setup { line: u32, kind: &'static str },
+    Setup {
+        /// The line at fault, from 1; line 0 stands for the file as a whole.
+        line: u32,
+        /// The words for what is wrong with it.
+        kind: &'static str,
+    },
+    /// The session's input failed.
     #[error("read fault")]
     Read,
+    /// The session's output failed.
     #[error("write fault")]
     Write,
+    /// The session's input has more bytes than a session may read.
     #[error("too long")]
     TooLong,
+    /// A growth was refused.
     #[error("no memory")]
     NoMemory,
 }
@@ -40,8 +52,11 @@ impl ProgramFault {
     }
 }
 
-/// What a fault of the setup file is to the program.
-pub fn of_setup(fault: SetupFault) -> ProgramFault {
+/// What a fault of the setup file is to the program: want of memory is `NoMemory`, and any other
+/// fault is told with its line and the words for its kind.
+pub fn of_setup(fault: SetupFault) -> ProgramFault
+    ensures { IsOfSetup fault result }
+{
     let kind = match fault.kind {
         SetupFaultKind::Syntax => "syntax",
         SetupFaultKind::Unknown => "unknown",
@@ -56,9 +71,10 @@ pub fn of_setup(fault: SetupFault) -> ProgramFault {
     }
 }
 
-/// What a fault of a session with one worker is to the program.
+/// What a fault of a session with one worker is to the program, which never answers `Clash`.
 pub fn of_session(fault: SessionFault) -> ProgramFault
     requires { fault ≢ failing.Clash }
+    ensures { IsOfSession fault result }
 {
     match fault {
         SessionFault::Read => ProgramFault::Read,

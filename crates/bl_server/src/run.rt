@@ -1,8 +1,11 @@
 //! A run of the program, from its words to its status.
-ghost use Rattle.std.specs.Prelude.{◌≡◌, ◌<◌, ◌^◌, ◌⊎◌, false, OnOk};
+ghost use Rattle.std.specs.Prelude.{◌≡◌, ◌≢◌, ◌<◌, ◌^◌, ◌⊎◌, false, OnOk, IfErr};
 ghost use Rattle.bl_setup.specs.Order.{Setup};
 ghost use Rattle.bl_setup.specs.Grammar.{IsSetup};
 ghost use Rattle.bl_session.specs.Outcome.{IsServed};
+ghost use Rattle.bl_server.specs.Failure.{HasFailed};
+ghost use Rattle.bl_server.specs.Status as ending;
+ghost use Rattle.bl_server.specs.declared.fault.ProgramFault as program;
 
 use crate::command::{Command, parse_words, status_of};
 use crate::fault::{ProgramFault, of_session, of_setup};
@@ -27,8 +30,11 @@ fn serve_setup<R: BufRead, W: Write>(
 ) -> Result<(), ProgramFault>
     requires reader { reader.old.failed ≡ false }
     requires writer { writer.old.failed ≡ false }
-    ensures { OnOk result ((begun : Setup) × IsSetup setup.now begun
+    ensures served { OnOk result ((begun : Setup) × IsSetup setup.now begun
         × IsServed begun limit (R.remaining reader.old.inner) (R.remaining reader.new.inner) (W.contents writer.old.inner) (W.contents writer.new.inner)) }
+    ensures fine { OnOk result ((reader.new.failed ≡ false) × (writer.new.failed ≡ false)) }
+    ensures failed { IfErr result (λ fault. HasFailed setup.now limit fault (R.remaining reader.old.inner) (R.remaining reader.new.inner)
+        (W.contents writer.old.inner) (W.contents writer.new.inner) reader.new.failed writer.new.failed) }
 {
     let setup = match read_setup(alloc, setup) {
         Ok(setup) => setup,
@@ -41,7 +47,11 @@ fn serve_setup<R: BufRead, W: Write>(
 }
 
 /// One session over a reader and a writer, after the setup of these bytes: the command `alone`.
-/// The words of a fault go to `errors`. The result is the status of the run.
+///
+/// The result is the status of the run: 0 where the session was served, 3 for a fault of the setup
+/// or of the session, and 4 for want of memory. The words of a fault go to `errors`. Where the bytes
+/// are no setup nothing is read or written; after a fault of the session what was written begins a
+/// transcript.
 pub fn alone_on<R: BufRead, W: Write, E: Write>(
     alloc: Global,
     setup: &[u8],
@@ -55,6 +65,10 @@ pub fn alone_on<R: BufRead, W: Write, E: Write>(
     ensures status { (result ≡ 0) ⊎ ((result ≡ 3) ⊎ (result ≡ 4)) }
     ensures served { result ≡ 0 → (begun : Setup) × IsSetup setup.now begun
         × IsServed begun limit (R.remaining reader.old.inner) (R.remaining reader.new.inner) (W.contents writer.old.inner) (W.contents writer.new.inner) }
+    ensures fine { result ≡ 0 → (reader.new.failed ≡ false) × (writer.new.failed ≡ false) }
+    ensures failed { result ≢ 0 → (fault : program.ProgramFault) × (result ≡ ending.status_of fault)
+        × HasFailed setup.now limit fault (R.remaining reader.old.inner) (R.remaining reader.new.inner)
+        (W.contents writer.old.inner) (W.contents writer.new.inner) reader.new.failed writer.new.failed }
 {
     match serve_setup(alloc, setup, limit, reader, writer) {
         Ok(()) => 0,
@@ -89,7 +103,9 @@ impl<R: Eprint> Write for StandardError<'_, R> {
 }
 
 /// Says a fault on standard error, and gives its status.
-fn end_with<R: Eprint>(rt: &R, fault: ProgramFault) -> u8 {
+fn end_with<R: Eprint>(rt: &R, fault: ProgramFault) -> u8
+    ensures { result ≡ ending.status_of fault }
+{
     let status = fault.status();
     let _ = eprintln!(rt; "{fault}");
     status
@@ -112,7 +128,9 @@ fn read_file<R: AllocGlobal + Files>(rt: &R, path: &str, most: u64) -> io::Resul
 }
 
 /// The command `alone`.
-fn alone<R: AllocGlobal + Files + Print + Eprint + Input>(rt: &R, setup: &str, limit: u32) -> u8 {
+fn alone<R: AllocGlobal + Files + Print + Eprint + Input>(rt: &R, setup: &str, limit: u32) -> u8
+    ensures { (result ≡ 0) ⊎ ((result ≡ 3) ⊎ (result ≡ 4)) }
+{
     let alloc = rt.alloc();
     let bytes = match read_file(rt, setup, MOST_SETUP) {
         Ok(bytes) => bytes,
@@ -140,9 +158,11 @@ fn alone<R: AllocGlobal + Files + Print + Eprint + Input>(rt: &R, setup: &str, l
     )
 }
 
-/// A run of the program. The result is its status: 0 where all was done, 2 for bad arguments, 3
-/// for a fault of the setup or of the session, and 4 for want of memory.
-pub fn run<R: AllocGlobal + Env + Files + Print + Eprint + Input>(rt: &R) -> u8 {
+/// A run of the program. The result is its status: 0 where all was done or help was asked for, 2
+/// for bad arguments, 3 for a fault of the setup or of the session, and 4 for want of memory.
+pub fn run<R: AllocGlobal + Env + Files + Print + Eprint + Input>(rt: &R) -> u8
+    ensures { (result ≡ 0) ⊎ ((result ≡ 2) ⊎ ((result ≡ 3) ⊎ (result ≡ 4))) }
+{
     let words = match words_of(rt) {
         Ok(words) => words,
         Err(error) if error.kind() == io::ErrorKind::OutOfMemory => return end_with(

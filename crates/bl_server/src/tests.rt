@@ -1,8 +1,12 @@
 //! What the program says, and the status that it ends with.
 use crate::command::{Command, read_words};
+use crate::fault::{ProgramFault, of_setup};
 use crate::run::alone_on;
 use bl_session::watched::Watched;
+use bl_setup::fault::{SetupFault, SetupFaultKind};
 use std::alloc::{AllocError, Global};
+use std::io;
+use std::io::Write;
 use std::test::Fail;
 
 const ONE_SUBJECT: &str = "ranks u\ncategories\nsubject ann greatest u current u\n";
@@ -93,5 +97,73 @@ fn names_a_fault_of_the_setup(rt: HostRuntime) -> Result<(), Fail> {
     assert_eq!(rt; status, 3);
     assert!(rt; writer.inner.is_empty());
     assert!(rt; errors.as_slice() == b"setup 1: syntax\n".as_slice());
+    Ok(())
+}
+
+/// Takes no byte.
+#[derive(Drop)]
+struct TakesNothing {}
+
+impl Write for TakesNothing {
+    fn write(&mut self, _: &[u8]) -> io::Result<usize> {
+        Ok(0)
+    }
+
+    fn flush(&mut self) -> io::Result<()> {
+        Ok(())
+    }
+}
+
+#[test]
+fn names_a_fault_of_the_output(rt: HostRuntime) -> Result<(), Fail> {
+    let alloc = rt.alloc();
+    let mut reader = Watched::new(&b"hello ann\n"[..]);
+    let mut writer = Watched::new(TakesNothing {});
+    let mut errors = Vec::new(alloc);
+    let status = alone_on(
+        alloc,
+        ONE_SUBJECT.as_bytes(),
+        10_000,
+        &mut reader,
+        &mut writer,
+        &mut errors,
+    );
+    assert_eq!(rt; status, 3);
+    assert!(rt; errors.as_slice() == b"write fault\n".as_slice());
+    Ok(())
+}
+
+#[test]
+fn tells_each_fault(rt: HostRuntime) -> Result<(), Fail> {
+    let faults = [
+        (ProgramFault::CannotReadSetup, "cannot read setup"),
+        (ProgramFault::Read, "read fault"),
+        (ProgramFault::Write, "write fault"),
+        (ProgramFault::TooLong, "too long"),
+        (ProgramFault::NoMemory, "no memory"),
+    ];
+    for (fault, words) in faults {
+        assert!(rt; format!(in rt.alloc(); "{fault}")?.as_str() == words);
+    }
+    Ok(())
+}
+
+#[test]
+fn tells_each_fault_of_a_setup(rt: HostRuntime) -> Result<(), Fail> {
+    let kinds = [
+        (SetupFaultKind::Syntax, "setup 12: syntax"),
+        (SetupFaultKind::Unknown, "setup 12: unknown"),
+        (SetupFaultKind::Repeated, "setup 12: repeated"),
+        (
+            SetupFaultKind::CurrentAboveGreatest,
+            "setup 12: current above greatest",
+        ),
+        (SetupFaultKind::TooMany, "setup 12: too many"),
+        (SetupFaultKind::Memory, "no memory"),
+    ];
+    for (kind, words) in kinds {
+        let fault = of_setup(SetupFault { line: 12, kind });
+        assert!(rt; format!(in rt.alloc(); "{fault}")?.as_str() == words);
+    }
     Ok(())
 }
