@@ -6,16 +6,15 @@ ghost use Rattle.bl_session.specs.declared.fault.SessionFault.TheVariants as fai
 
 use bl_session::fault::SessionFault;
 use bl_setup::fault::{SetupFault, SetupFaultKind};
+use std::fmt;
 use thiserror::Error;
 
-/// A fault that ends a run. Its display is what the run says on standard error.
+/// A fault that ends a run. Its display is what the run says of it on standard error.
 #[derive(Debug, PartialEq, Eq, Drop, Error)]
 pub enum ProgramFault {
     /// The setup file cannot be opened or read.
-    #[error("cannot read setup")]
     CannotReadSetup,
     /// The text of the setup file is no setup.
-    #[error("setup {line}: {kind}")]
     Setup {
         /// The line at fault, from 1; line 0 stands for the file as a whole.
         line: u32,
@@ -23,17 +22,31 @@ pub enum ProgramFault {
         kind: &'static str,
     },
     /// The session's input failed.
-    #[error("read fault")]
     Read,
     /// The session's output failed.
-    #[error("write fault")]
     Write,
     /// The session's input has more bytes than a session may read.
-    #[error("too long")]
     TooLong,
     /// A growth was refused.
-    #[error("no memory")]
     NoMemory,
+}
+
+impl fmt::Display for ProgramFault {
+    ghost use Rattle.std.specs.Prelude.{Some};
+    ghost use Rattle.bl_server.specs.Message.{message_of};
+
+    ghost output = { λ fault. Some (message_of fault) };
+
+    fn fmt<W: fmt::Write>(&self, f: &mut fmt::Formatter<W>) -> fmt::Result {
+        match self {
+            ProgramFault::CannotReadSetup => write!(f, "cannot read setup"),
+            ProgramFault::Setup { line, kind } => write!(f, "setup {line}: {kind}"),
+            ProgramFault::Read => write!(f, "read fault"),
+            ProgramFault::Write => write!(f, "write fault"),
+            ProgramFault::TooLong => write!(f, "too long"),
+            ProgramFault::NoMemory => write!(f, "no memory"),
+        }
+    }
 }
 
 impl ProgramFault {

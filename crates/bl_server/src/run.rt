@@ -1,9 +1,11 @@
 //! A run of the program, from its words to its status.
-ghost use Rattle.std.specs.Prelude.{◌≡◌, ◌≢◌, ◌<◌, ◌^◌, ◌⊎◌, false, OnOk, IfErr};
+ghost use Rattle.std.specs.Prelude.{◌≡◌, ◌≢◌, ◌<◌, ◌^◌, ◌⊎◌, ◌++◌, ◌∷◌, [], false, OnOk, IfErr};
+ghost use Rattle.std.specs.Io.KnownBytes.{Keeps, Appends};
 ghost use Rattle.bl_setup.specs.Order.{Setup};
 ghost use Rattle.bl_setup.specs.Grammar.{IsSetup};
 ghost use Rattle.bl_session.specs.Outcome.{IsServed};
 ghost use Rattle.bl_server.specs.Failure.{HasFailed};
+ghost use Rattle.bl_server.specs.Message.{message_of};
 ghost use Rattle.bl_server.specs.Status as ending;
 ghost use Rattle.bl_server.specs.declared.fault.ProgramFault as program;
 
@@ -46,19 +48,29 @@ fn serve_setup<R: BufRead, W: Write>(
     }
 }
 
+/// Says a fault, with a line end. Nothing is known of what was said where the writer failed or took
+/// nothing, and then it is marked.
+fn say<E: Write>(errors: &mut Watched<E>, fault: &ProgramFault)
+    ensures { errors.new.failed ≡ false → Appends (E.contents errors.old.inner) (E.contents errors.new.inner) (message_of fault.now ++ 10 ∷ []) }
+{
+    if writeln!(errors, "{fault}").is_err() {
+        errors.failed = true;
+    }
+}
+
 /// One session over a reader and a writer, after the setup of these bytes: the command `alone`.
 ///
 /// The result is the status of the run: 0 where the session was served, 3 for a fault of the setup
-/// or of the session, and 4 for want of memory. The words of a fault go to `errors`. Where the bytes
-/// are no setup nothing is read or written; after a fault of the session what was written begins a
-/// transcript.
+/// or of the session, and 4 for want of memory. The words of a fault go to `errors` and nothing else
+/// does. Where the bytes are no setup nothing is read or written; after a fault of the session what
+/// was written begins a transcript.
 pub fn alone_on<R: BufRead, W: Write, E: Write>(
     alloc: Global,
     setup: &[u8],
     limit: u32,
     reader: &mut Watched<R>,
     writer: &mut Watched<W>,
-    errors: &mut E,
+    errors: &mut Watched<E>,
 ) -> u8
     requires reader { reader.old.failed ≡ false }
     requires writer { writer.old.failed ≡ false }
@@ -66,7 +78,9 @@ pub fn alone_on<R: BufRead, W: Write, E: Write>(
     ensures served { result ≡ 0 → (begun : Setup) × IsSetup setup.now begun
         × IsServed begun limit (R.remaining reader.old.inner) (R.remaining reader.new.inner) (W.contents writer.old.inner) (W.contents writer.new.inner) }
     ensures fine { result ≡ 0 → (reader.new.failed ≡ false) × (writer.new.failed ≡ false) }
+    ensures quiet { result ≡ 0 → Keeps (E.contents errors.old.inner) (E.contents errors.new.inner) }
     ensures failed { result ≢ 0 → (fault : program.ProgramFault) × (result ≡ ending.status_of fault)
+        × (errors.new.failed ≡ false → Appends (E.contents errors.old.inner) (E.contents errors.new.inner) (message_of fault ++ 10 ∷ []))
         × HasFailed setup.now limit fault (R.remaining reader.old.inner) (R.remaining reader.new.inner)
         (W.contents writer.old.inner) (W.contents writer.new.inner) reader.new.failed writer.new.failed }
 {
@@ -74,7 +88,7 @@ pub fn alone_on<R: BufRead, W: Write, E: Write>(
         Ok(()) => 0,
         Err(fault) => {
             let status = fault.status();
-            let _ = writeln!(errors, "{fault}");
+            say(errors, &fault);
             status
         }
     }
@@ -106,9 +120,8 @@ impl<R: Eprint> Write for StandardError<'_, R> {
 fn end_with<R: Eprint>(rt: &R, fault: ProgramFault) -> u8
     ensures { result ≡ ending.status_of fault }
 {
-    let status = fault.status();
-    let _ = eprintln!(rt; "{fault}");
-    status
+    say(&mut Watched::new(StandardError { rt }), &fault);
+    fault.status()
 }
 
 /// The words of the command line.
@@ -154,7 +167,7 @@ fn alone<R: AllocGlobal + Files + Print + Eprint + Input>(rt: &R, setup: &str, l
         limit,
         &mut reader,
         &mut writer,
-        &mut StandardError { rt },
+        &mut Watched::new(StandardError { rt }),
     )
 }
 

@@ -65,7 +65,7 @@ fn serves_a_session(rt: HostRuntime) -> Result<(), Fail> {
     let alloc = rt.alloc();
     let mut reader = Watched::new(&b"hello ann\n"[..]);
     let mut writer = Watched::new(Vec::new(alloc));
-    let mut errors = Vec::new(alloc);
+    let mut errors = Watched::new(Vec::new(alloc));
     let status = alone_on(
         alloc,
         ONE_SUBJECT.as_bytes(),
@@ -76,7 +76,7 @@ fn serves_a_session(rt: HostRuntime) -> Result<(), Fail> {
     );
     assert_eq!(rt; status, 0);
     assert!(rt; writer.inner.as_slice() == b"ok\nbye\n".as_slice());
-    assert!(rt; errors.is_empty());
+    assert!(rt; errors.inner.is_empty());
     Ok(())
 }
 
@@ -85,7 +85,7 @@ fn names_a_fault_of_the_setup(rt: HostRuntime) -> Result<(), Fail> {
     let alloc = rt.alloc();
     let mut reader = Watched::new(&b"hello ann\n"[..]);
     let mut writer = Watched::new(Vec::new(alloc));
-    let mut errors = Vec::new(alloc);
+    let mut errors = Watched::new(Vec::new(alloc));
     let status = alone_on(
         alloc,
         b"rank u\n",
@@ -96,7 +96,7 @@ fn names_a_fault_of_the_setup(rt: HostRuntime) -> Result<(), Fail> {
     );
     assert_eq!(rt; status, 3);
     assert!(rt; writer.inner.is_empty());
-    assert!(rt; errors.as_slice() == b"setup 1: syntax\n".as_slice());
+    assert!(rt; errors.inner.as_slice() == b"setup 1: syntax\n".as_slice());
     Ok(())
 }
 
@@ -119,7 +119,7 @@ fn names_a_fault_of_the_output(rt: HostRuntime) -> Result<(), Fail> {
     let alloc = rt.alloc();
     let mut reader = Watched::new(&b"hello ann\n"[..]);
     let mut writer = Watched::new(TakesNothing {});
-    let mut errors = Vec::new(alloc);
+    let mut errors = Watched::new(Vec::new(alloc));
     let status = alone_on(
         alloc,
         ONE_SUBJECT.as_bytes(),
@@ -129,7 +129,7 @@ fn names_a_fault_of_the_output(rt: HostRuntime) -> Result<(), Fail> {
         &mut errors,
     );
     assert_eq!(rt; status, 3);
-    assert!(rt; errors.as_slice() == b"write fault\n".as_slice());
+    assert!(rt; errors.inner.as_slice() == b"write fault\n".as_slice());
     Ok(())
 }
 
