@@ -1,5 +1,6 @@
 //! The command line.
-ghost use Rattle.std.specs.Prelude.{◌≡◌, ◌≤◌, ◌⊎◌, IfOk, IfErr, IfSome};
+ghost use Rattle.std.specs.Prelude.{◌≡◌, ◌≢◌, ◌≤◌, ◌⊎◌, IfOk, IfErr, IfSome};
+ghost use Rattle.clap.specs.Values.{kind_of};
 ghost use Rattle.bl_server.specs.Words.{IsInRange};
 
 use clap::error::ErrorKind;
@@ -90,17 +91,20 @@ pub fn parse_words<'a>(alloc: Global, words: &'a [String]) -> Result<Command<'a>
     }
 }
 
-/// The status of a run that ends with this error: 4 for want of memory, 0 for a call for help, and
+/// The status of a run that ends with this error: 4 for want of memory, 0 for a call for help or for the
+/// version, and
 /// 2 for anything else.
 pub fn status_of(error: &Error) -> u8
-    ensures { (result ≡ 0) ⊎ ((result ≡ 2) ⊎ (result ≡ 4)) }
+    ensures status { (result ≡ 0) ⊎ ((result ≡ 2) ⊎ (result ≡ 4)) }
+    ensures memory { kind_of error.now ≡ ErrorKind.OutOfMemory → result ≡ 4 }
+    ensures help { (kind_of error.now ≡ ErrorKind.DisplayHelp) ⊎ (kind_of error.now ≡ ErrorKind.DisplayVersion) → result ≡ 0 }
+    ensures bad { kind_of error.now ≢ ErrorKind.OutOfMemory → kind_of error.now ≢ ErrorKind.DisplayHelp →
+        kind_of error.now ≢ ErrorKind.DisplayVersion → result ≡ 2 }
 {
-    if error.kind() == ErrorKind::OutOfMemory {
-        4
-    } else if error.exit_code() == 0 {
-        0
-    } else {
-        2
+    match error.kind() {
+        ErrorKind::OutOfMemory => 4,
+        ErrorKind::DisplayHelp | ErrorKind::DisplayVersion => 0,
+        _ => 2,
     }
 }
 
