@@ -91,9 +91,8 @@ pub fn parse_words<'a>(alloc: Global, words: &'a [String]) -> Result<Command<'a>
     }
 }
 
-/// The status of a run that ends with this error: 4 for want of memory, 0 for a call for help or for the
-/// version, and
-/// 2 for anything else.
+/// The status of a run that ends with this error: 4 for want of memory, 0 for a call for help or for
+/// the version, and 2 for anything else.
 pub fn status_of(error: &Error) -> u8
     ensures status { (result ≡ 0) ⊎ ((result ≡ 2) ⊎ (result ≡ 4)) }
     ensures memory { kind_of error.now ≡ ErrorKind.OutOfMemory → result ≡ 4 }
