@@ -23,3 +23,5 @@ pub mod WholeLemmas
 pub mod HeadLemmas
 pub mod FileLemmas
 pub mod DeclaredLemmas
+pub mod FaultLemmas
+pub mod FirstLemmas

@@ -15,4 +15,5 @@ pub mod Words
 pub mod Parsing
 pub mod Draft
 pub mod Heads
+pub mod FirstFault
 pub mod WholeLists
