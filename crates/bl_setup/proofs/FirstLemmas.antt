@@ -6,7 +6,7 @@ use Rattle.bl_level.specs.Scheme.{SchemeNames, IsScheme}
 use Rattle.bl_level.specs.Table.{AreDistinct}
 use Rattle.bl_setup.specs.Agreement.{of_scheme}
 use Rattle.bl_setup.specs.Declaration.{Declaration, SubjectText, DocumentText, AllowText, ranks, categories, subject, document, allow, spell_declaration}
-use Rattle.bl_setup.specs.FirstFault.{SoFar, nothing, ranked, declared, IsDue, Declares, Passes, LeadTo, asked, asked_of_level, AllHold, IsTooMuch, IsAbove, DeclarationFault, LineFault, FaultNext, LeadOn, StopsAt, FirstFault}
+use Rattle.bl_setup.specs.FirstFault.{SoFar, nothing, ranked, declared, IsDue, Declares, Passes, LeadTo, asked, asked_of_level, AllHold, IsTooMuch, IsAbove, DeclarationFault, LineFault, FaultNext, LeadOn, StopsAt, FirstFault, HasOneAnswer}
 use Rattle.bl_setup.specs.Grammar.{IsSetup, Adds, AddsSubject, AddsDocument, AddsModes, LineAdds, Leads, Spells}
 use Rattle.bl_setup.specs.Heads.{DeclaresRanks, DeclaresCategories, BeginsWith, Remain}
 use Rattle.bl_setup.specs.Lines.{is_skipped, kept, lines_read, file_lines}
@@ -262,3 +262,17 @@ one_fault bytes fault other (inr (size, f)) (inr (size', g)) =
     let c = f.is in
     let d = g.is in
     same_fault fault other (omega arith) p.1
+
+lead_one : (before : SoFar) (lines : List (List ℕ)) (a b : SoFar) → LeadTo before lines a → LeadTo before lines b → b ≡ a
+lead_one before [] a b l m = m ∙ sym l
+lead_one before (line ∷ lines) a b (next, p, l) (next', p', m) = lead_one next lines a b l (subst (λ x. LeadTo x lines b) (passes_one before line next next' p p') m)
+
+-- a text is one setup
+one_setup : (bytes : List ℕ) (setup other : Setup) → IsSetup bytes setup → IsSetup bytes other → other ≡ setup
+one_setup bytes setup other s t =
+    let e : declared other ≡ declared setup = lead_one nothing (file_lines bytes) (declared setup) (declared other) (setup_leads bytes setup s) (setup_leads bytes other t) in
+    cc
+
+-- a text has one answer
+pub one_answer : (bytes : List ℕ) → HasOneAnswer bytes
+one_answer bytes = record { setups = one_setup bytes; faults = one_fault bytes; never_both = fault_is_no_setup bytes }

@@ -25,3 +25,6 @@ pub mod FileLemmas
 pub mod DeclaredLemmas
 pub mod FaultLemmas
 pub mod FirstLemmas
+pub mod TakingLemmas
+pub mod HeadFaults
+pub mod DraftFaults

@@ -16,4 +16,5 @@ pub mod Parsing
 pub mod Draft
 pub mod Heads
 pub mod FirstFault
+pub mod Taking
 pub mod WholeLists
