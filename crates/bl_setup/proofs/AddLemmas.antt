@@ -1,17 +1,13 @@
 -- What a declaration adds, and that it adds nothing else.
-use Rattle.std.proofs.Common.{◌≡◌, ◌↔◌, ℕ, ◌<◌, ◌≤◌, Bool, true, false, List, Option, Result, Ok, Err, refl, sym, subst, ◌∙◌, arith}
+use Rattle.std.proofs.Common.{◌≡◌, ◌↔◌, ℕ, ◌<◌, ◌≤◌, Bool, true, false, List, Option, Result, Ok, Err, refl, sym, ◌∙◌, arith}
 use Rattle.std.specs.Prelude.{IsSome, is_some}
 use Rattle.bl_level.specs.Level.{SecurityLevel, Dominates, dominates}
 use Rattle.bl_level.proofs.Dominance.{dominates-sets}
-use Rattle.bl_level.specs.LevelText.{Means}
 use Rattle.bl_policy.specs.declared.policy.AddFault.{AddFault}
 use Rattle.bl_policy.specs.declared.policy.AddFault.TheVariants as add
 use Rattle.bl_script.specs.Names.{KnownNames}
 use Rattle.bl_policy.specs.Policy.{SecurityPolicy}
-use Rattle.bl_setup.specs.Declaration.{SubjectText}
 use Rattle.bl_setup.specs.Order.{Setup}
-use Rattle.bl_setup.specs.Grammar.{AddsSubject}
-use Rattle.bl_setup.proofs.MeaningLemmas.{one_level}
 
 pub same_setup : {n n' : KnownNames} {p p' : SecurityPolicy} {c c' : List (List ℕ)} → n ≡ n' → p ≡ p' → c ≡ c'
     → ◌≡◌ {A = Setup} (record { names = n; policy = p; contents = c }) (record { names = n'; policy = p'; contents = c' })

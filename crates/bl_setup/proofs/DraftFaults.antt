@@ -10,7 +10,6 @@ use Rattle.bl_setup.specs.Faults.{UnlessMemory, kind_of_add}
 use Rattle.bl_setup.specs.FirstFault.{declared, DeclarationFault, IsTooMuch, FirstFails, asked_of_level}
 use Rattle.bl_setup.specs.Order.{Setup}
 use Rattle.bl_setup.specs.declared.fault.SetupFaultKind.{SetupFaultKind}
-use Rattle.bl_setup.specs.declared.fault.SetupFaultKind.TheVariants.{CurrentAboveGreatest}
 use Rattle.bl_setup.proofs.FaultLemmas.{fails_left, fails_right, hold_both, level_holds}
 
 subject_fits : (b : Setup) (s : SubjectText) → length b.names.subjects < 256 → IsTooMuch (declared b) (subject s) → ⊥
@@ -53,7 +52,7 @@ subject_above b s g c add.CurrentAboveGreatest n room new mg mc few many above =
         (
           new,
           hold_both (asked_of_level b.names.scheme s.greatest) (asked_of_level b.names.scheme s.current) (level_holds b.names.scheme s.greatest g mg)
-          (level_holds b.names.scheme s.current c mc),
+              (level_holds b.names.scheme s.current c mc),
         ),
         refl,
         (g, c, mg, mc, (above.0 refl).1),

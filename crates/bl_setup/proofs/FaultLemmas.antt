@@ -1,20 +1,20 @@
 -- What is asked of the words of a line: what holds of a line that is right, and which fault is the first.
-use Rattle.std.proofs.Common.{◌≡◌, ◌⊎◌, ℕ, zero, suc, ◌<◌, List, [], ◌∷◌, ◌++◌, length, take, Some, refl, sym, subst, ◌∙◌, inl, inr, arith}
+use Rattle.std.proofs.Common.{◌≡◌, ◌⊎◌, ℕ, zero, suc, List, [], ◌∷◌, ◌++◌, take, Some, refl, sym, subst, ◌∙◌, inl, inr, arith}
 use Rattle.std.specs.Prelude.{slice_get, Contains}
 use Rattle.std.specs.List.{All}
 use Rattle.std.proofs.lemmas.List.{append-nil, append_assoc}
 use Rattle.std.proofs.lemmas.List.Elements.{All-contains}
-use Rattle.bl_level.specs.Level.{SecurityLevel, Dominates}
+use Rattle.bl_level.specs.Level.{SecurityLevel}
 use Rattle.bl_level.specs.LevelFault.{IsLevelFault}
 use Rattle.bl_level.specs.LevelText.{LevelText, Means, StandsBehind}
 use Rattle.bl_level.specs.Scheme.{SchemeNames}
 use Rattle.bl_level.specs.Table.{AreDistinct, IsFirstRepeated}
 use Rattle.bl_level.specs.declared.scheme.LevelFault.{LevelFault}
 use Rattle.bl_level.specs.declared.scheme.LevelFault.TheVariants as levels
-use Rattle.bl_setup.specs.FirstFault.{Question, is_new, is_known, Holds, kind_of, AllHold, FirstFails, asked_of_names, asked_of_categories, asked_of_level}
+use Rattle.bl_setup.specs.FirstFault.{Question, is_new, is_known, AllHold, FirstFails, asked_of_names, asked_of_categories, asked_of_level}
 use Rattle.bl_setup.specs.Faults.{kind_of_level}
 use Rattle.bl_setup.specs.declared.fault.SetupFaultKind.{SetupFaultKind}
-use Rattle.bl_setup.specs.declared.fault.SetupFaultKind.TheVariants.{Syntax, Unknown, Repeated, CurrentAboveGreatest, TooMany, Memory}
+use Rattle.bl_setup.specs.declared.fault.SetupFaultKind.TheVariants.{Unknown, Repeated}
 use Rattle.bl_setup.proofs.MeaningLemmas.{contains_from_place, stands_twice}
 
 -- where all hold, none is the first to fail
@@ -79,14 +79,13 @@ first_repeated_fails names n r = repeated_fails [] names n r.place r.is r.before
 pub categories_hold : (scheme : SchemeNames) (before names : List (List ℕ)) → All (Contains scheme.categories) names → AreDistinct (before ++ names)
     → AllHold (asked_of_categories scheme before names)
 categories_hold scheme before [] known d = tt
-categories_hold scheme before (n ∷ names) known d =
-    (
-      known 0 n (omega arith),
-      (
-        λ b. stands_twice before names n b d,
-        categories_hold scheme (before ++ n ∷ []) names (λ k o within. known (suc k) o (omega arith)) (subst AreDistinct (sym (append_assoc before (n ∷ []) names)) d),
-      ),
-    )
+categories_hold scheme before (n ∷ names) known d = (
+  known 0 n (omega arith),
+  (
+    λ b. stands_twice before names n b d,
+    categories_hold scheme (before ++ n ∷ []) names (λ k o within. known (suc k) o (omega arith)) (subst AreDistinct (sym (append_assoc before (n ∷ []) names)) d),
+  ),
+)
 
 -- a category behind others that are right
 pub behind_categories : (scheme : SchemeNames) (before names after : List (List ℕ)) (kind : SetupFaultKind) → All (Contains scheme.categories) names → AreDistinct (before ++ names)
@@ -100,7 +99,7 @@ behind_categories scheme before (n ∷ names) after kind known d f =
       inr (
         λ b. stands_twice before names n b d,
         behind_categories scheme (before ++ n ∷ []) names after kind (λ k o within. known (suc k) o (omega arith)) (subst AreDistinct e d)
-        (subst (λ xs. FirstFails (asked_of_categories scheme xs after) kind) e f),
+            (subst (λ xs. FirstFails (asked_of_categories scheme xs after) kind) e f),
       ),
     )
 

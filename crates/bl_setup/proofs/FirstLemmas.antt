@@ -1,19 +1,18 @@
 -- A line is right or has one fault, and a text has one first fault or is a setup.
-use Rattle.std.proofs.Common.{◌≡◌, ◌⊎◌, ℕ, zero, suc, ◌+◌, ◌<◌, ◌≤◌, Bool, true, false, not, if◌then◌else◌, List, [], ◌∷◌, ◌++◌, length, refl, sym, ap, subst, ◌∙◌, inl, inr, arith}
-use Rattle.bl_level.specs.Level.{SecurityLevel, Dominates}
+use Rattle.std.proofs.Common.{◌≡◌, ℕ, suc, ◌≤◌, Bool, true, false, not, if◌then◌else◌, List, [], ◌∷◌, ◌++◌, length, refl, sym, ap, subst, ◌∙◌, inl, inr, arith}
+use Rattle.bl_level.specs.Level.{Dominates}
 use Rattle.bl_level.specs.Lexing.{Begins}
 use Rattle.bl_level.specs.Scheme.{SchemeNames, IsScheme}
 use Rattle.bl_level.specs.Table.{AreDistinct}
 use Rattle.bl_setup.specs.Agreement.{of_scheme}
 use Rattle.bl_setup.specs.Declaration.{Declaration, SubjectText, DocumentText, AllowText, ranks, categories, subject, document, allow, spell_declaration}
-use Rattle.bl_setup.specs.FirstFault.{SoFar, nothing, ranked, declared, IsDue, Declares, Passes, LeadTo, asked, asked_of_level, AllHold, IsTooMuch, IsAbove, DeclarationFault, LineFault, FaultNext, LeadOn, StopsAt, FirstFault, HasOneAnswer}
-use Rattle.bl_setup.specs.Grammar.{IsSetup, Adds, AddsSubject, AddsDocument, AddsModes, LineAdds, Leads, Spells}
-use Rattle.bl_setup.specs.Heads.{DeclaresRanks, DeclaresCategories, BeginsWith, Remain}
+use Rattle.bl_setup.specs.FirstFault.{SoFar, nothing, ranked, declared, IsDue, Declares, Passes, LeadTo, asked, asked_of_level, AllHold, IsTooMuch, IsAbove, DeclarationFault, LineFault, FaultNext, FirstFault, HasOneAnswer}
+use Rattle.bl_setup.specs.Grammar.{IsSetup, Adds, AddsSubject, AddsDocument, AddsModes, Leads, Spells}
+use Rattle.bl_setup.specs.Heads.{DeclaresRanks, DeclaresCategories}
 use Rattle.bl_setup.specs.Lines.{is_skipped, kept, lines_read, file_lines}
 use Rattle.bl_setup.specs.Order.{Setup}
 use Rattle.bl_setup.specs.declared.fault.SetupFault.{SetupFault}
 use Rattle.bl_setup.specs.declared.fault.SetupFaultKind.{SetupFaultKind}
-use Rattle.bl_setup.specs.declared.fault.SetupFaultKind.TheVariants.{Syntax, Unknown, Repeated, CurrentAboveGreatest, TooMany, Memory}
 use Rattle.bl_setup.proofs.FaultLemmas.{fails_not, fails_one, hold_both, distinct_hold, level_holds}
 use Rattle.bl_setup.proofs.FileLemmas.{Parts, parts_of}
 use Rattle.bl_setup.proofs.HeadLemmas.{ranks_are, categories_are}
@@ -40,7 +39,7 @@ subject_right b s next a = record {
   hold = (
     a.is_new,
     hold_both (asked_of_level b.names.scheme s.greatest) (asked_of_level b.names.scheme s.current) (level_holds b.names.scheme s.greatest a.greatest a.means_greatest)
-    (level_holds b.names.scheme s.current a.current a.means_current),
+        (level_holds b.names.scheme s.current a.current a.means_current),
   );
   below = not_above b s next a;
 }
@@ -210,8 +209,7 @@ declarations_lead b [] (d ∷ ds) after s l = absurd (cc)
 declarations_lead b (line ∷ lines) [] after (d, rest, e, spelled, s) l = absurd (cc)
 declarations_lead b (line ∷ lines) (d' ∷ ds) after (d, rest, e, spelled, s) (next, adds, l) =
     let same : d ≡ d' = cc in
-    let same' : rest ≡ ds = cc in
-    (
+    let same' : rest ≡ ds = cc in (
       declared next,
       (next, (d', subst (λ x. Begins line (spell_declaration x) []) same spelled, adds), refl),
       declarations_lead next lines ds after (subst (Spells lines) same' s) l,

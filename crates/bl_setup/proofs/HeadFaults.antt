@@ -1,5 +1,5 @@
 -- What is wrong with one of the first two lines.
-use Rattle.std.proofs.Common.{◌≡◌, ◌⊎◌, ℕ, suc, ◌<◌, ◌≤◌, List, [], ◌∷◌, length, refl, sym, ap, subst, ◌∙◌, inl, inr, arith}
+use Rattle.std.proofs.Common.{◌≡◌, ◌⊎◌, ℕ, ◌<◌, ◌≤◌, List, [], ◌∷◌, length, refl, subst, inl, inr, arith}
 use Rattle.bl_level.specs.Lexing.{Begins}
 use Rattle.bl_level.specs.Table.{IsTable, IsFirstRepeated}
 use Rattle.bl_level.specs.TableFault.{IsTableFault}

@@ -1,5 +1,5 @@
 -- What the first two lines declare, and why they declare nothing.
-use Rattle.std.proofs.Common.{◌≡◌, ◌⊎◌, ℕ, zero, suc, ◌<◌, ◌≤◌, min, List, [], ◌∷◌, length, get_or, refl, sym, ap, subst, ◌∙◌, inl, inr, arith}
+use Rattle.std.proofs.Common.{◌≡◌, ℕ, zero, suc, ◌<◌, min, List, [], ◌∷◌, length, get_or, sym, subst, ◌∙◌, arith}
 use Rattle.std.specs.List.{All}
 use Rattle.std.specs.Borrow.{Bor}
 use Rattle.std.proofs.lemmas.List.{length-take, get_or-take, length-map, get_or-map}
@@ -7,17 +7,9 @@ use Rattle.std.proofs.lemmas.Option.{get_or_from_slice_get, slice_get_within}
 use Rattle.bl_level.specs.Lexing.{Begins}
 use Rattle.bl_level.specs.Name.{IsName, AreProper}
 use Rattle.bl_level.specs.Table.{IsTable, IsFirstRepeated}
-use Rattle.bl_level.specs.TableFault.{IsTableFault}
-use Rattle.bl_level.specs.declared.table.TableFault.{TableFault}
-use Rattle.bl_level.specs.declared.table.TableFault.TheVariants as tables
-use Rattle.bl_level.specs.Scheme.{SchemeNames, IsScheme}
-use Rattle.bl_level.specs.SchemeFault.{IsSchemeFault}
-use Rattle.bl_level.specs.declared.scheme.SchemeFault.{SchemeFault}
-use Rattle.bl_level.specs.declared.scheme.SchemeFault.TheVariants as schemes
-use Rattle.bl_setup.specs.declared.fault.SetupFaultKind.{SetupFaultKind}
-use Rattle.bl_setup.specs.Declaration.{Declaration, ranks, categories, spell_names, spell_declaration}
-use Rattle.bl_setup.specs.Faults.{UnlessMemory, OfSyntax, kind_of_table, kind_of_scheme}
-use Rattle.bl_setup.specs.Heads.{AreRanks, DeclaresRanks, DeclaresCategories}
+use Rattle.bl_level.specs.Scheme.{SchemeNames}
+use Rattle.bl_setup.specs.Declaration.{ranks, categories, spell_names, spell_declaration}
+use Rattle.bl_setup.specs.Heads.{DeclaresRanks, DeclaresCategories}
 use Rattle.bl_setup.specs.Words.{names_of}
 use Rattle.bl_setup.proofs.WholeLemmas.{one_spelled}
 

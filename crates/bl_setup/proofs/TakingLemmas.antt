@@ -1,17 +1,17 @@
 -- Lines that are taken one after the other, and where reading stops.
-use Rattle.std.proofs.Common.{◌≡◌, ◌⊎◌, ℕ, suc, ◌+◌, ◌<◌, ◌≤◌, true, false, List, [], ◌∷◌, ◌++◌, length, map, refl, sym, ap, subst, ◌∙◌, inl, inr, arith}
-use Rattle.std.proofs.lemmas.List.{append_assoc, append-nil, length-append}
+use Rattle.std.proofs.Common.{◌≡◌, ◌⊎◌, ℕ, ◌+◌, ◌≤◌, true, false, List, [], ◌∷◌, ◌++◌, length, map, refl, sym, ap, subst, ◌∙◌, inl, inr, arith}
+use Rattle.std.proofs.lemmas.List.{append_assoc, length-append}
 use Rattle.bl_level.specs.Lexing.{Begins}
 use Rattle.bl_setup.specs.Declaration.{Declaration, spell_declaration}
 use Rattle.bl_setup.specs.Faults.{UnlessMemory, OfSyntax}
-use Rattle.bl_setup.specs.FirstFault.{SoFar, nothing, IsDue, IsBegun, Declares, LeadTo, DeclarationFault, LineFault, FaultNext, ReadsNext, LeadOn, StopsAt, FirstFault, IsReadAt, asked}
+use Rattle.bl_setup.specs.FirstFault.{SoFar, nothing, IsDue, IsBegun, Declares, LeadTo, LineFault, FaultNext, ReadsNext, LeadOn, StopsAt, FirstFault, IsReadAt, asked}
 use Rattle.bl_setup.specs.Grammar.{IsSetup}
 use Rattle.bl_setup.specs.Lines.{is_skipped, file_lines, lines_of, lines_read, kept, without_cr}
 use Rattle.bl_setup.specs.Order.{Setup}
 use Rattle.bl_setup.specs.Taking.{AreSkipped, Skips, Takes, EndsEarly, Stops, Refuses}
 use Rattle.bl_setup.specs.declared.fault.SetupFault.{SetupFault}
 use Rattle.bl_setup.specs.declared.fault.SetupFaultKind.{SetupFaultKind}
-use Rattle.bl_setup.specs.declared.fault.SetupFaultKind.TheVariants.{Syntax, Unknown, Repeated, CurrentAboveGreatest, TooMany, Memory}
+use Rattle.bl_setup.specs.declared.fault.SetupFaultKind.TheVariants.{Syntax, Unknown, Repeated, Memory}
 use Rattle.bl_setup.proofs.FaultLemmas.{fails_in_time}
 use Rattle.bl_setup.proofs.FirstLemmas.{fault_is_no_setup}
 use Rattle.bl_setup.proofs.WholeLemmas.{one_spelled}

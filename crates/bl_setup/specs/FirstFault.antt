@@ -12,7 +12,7 @@ use Rattle.bl_setup.specs.Lines.{is_skipped, file_lines}
 use Rattle.bl_setup.specs.Order.{Setup}
 use Rattle.bl_setup.specs.declared.fault.SetupFault.{SetupFault}
 use Rattle.bl_setup.specs.declared.fault.SetupFaultKind.{SetupFaultKind}
-use Rattle.bl_setup.specs.declared.fault.SetupFaultKind.TheVariants.{Syntax, Unknown, Repeated, CurrentAboveGreatest, TooMany, Memory}
+use Rattle.bl_setup.specs.declared.fault.SetupFaultKind.TheVariants.{Syntax, Unknown, Repeated, CurrentAboveGreatest, TooMany}
 
 -- what the lines so far have declared: nothing, the ranks alone, or a setup
 pub data SoFar : Type 0 where

@@ -169,7 +169,10 @@ fn lines_are_counted(rt: HostRuntime) -> Result<(), Fail> {
     let at = |line: u32, kind: SetupFaultKind| Some(SetupFault { line, kind });
     // Comments, blank lines and lines with a CR before the LF count, and the last line may lack its LF.
     assert_eq!(rt;
-        fault_of(alloc, &[b"# who\r\n\r\n \t\nranks u\r\n#\ncategories\nranks u"])?,
+        fault_of(
+            alloc,
+            &[b"# who\r\n\r\n \t\nranks u\r\n#\ncategories\nranks u"]
+        )?,
         at(7, SetupFaultKind::Syntax)
     );
     assert_eq!(rt;
@@ -202,14 +205,23 @@ fn order_within_a_line(rt: HostRuntime) -> Result<(), Fail> {
     let unknown = at(SetupFaultKind::Unknown);
     let repeated = at(SetupFaultKind::Repeated);
     // Words are asked from the left, and a category first whether it is there.
-    assert_eq!(rt; fault_of(alloc, &[FRONT, b"document d x{nato,nato} \"\"\n"])?, unknown);
-    assert_eq!(rt; fault_of(alloc, &[FRONT, b"document d s{zed,zed} \"\"\n"])?, unknown);
+    assert_eq!(rt;
+        fault_of(alloc, &[FRONT, b"document d x{nato,nato} \"\"\n"])?,
+        unknown
+    );
+    assert_eq!(rt;
+        fault_of(alloc, &[FRONT, b"document d s{zed,zed} \"\"\n"])?,
+        unknown
+    );
     assert_eq!(rt;
         fault_of(alloc, &[FRONT, b"document d s{nato,nato,zed} \"\"\n"])?,
         repeated
     );
     assert_eq!(rt;
-        fault_of(alloc, &[FRONT, b"subject bob greatest u{nato,nato} current x\n"])?,
+        fault_of(
+            alloc,
+            &[FRONT, b"subject bob greatest u{nato,nato} current x\n"]
+        )?,
         repeated
     );
     assert_eq!(rt;
@@ -223,11 +235,17 @@ fn order_within_a_line(rt: HostRuntime) -> Result<(), Fail> {
     // A content that is too long comes before the words, and a fault of syntax before both.
     let long = vec![in alloc; b'x'; 65_537]?;
     assert_eq!(rt;
-        fault_of(alloc, &[FRONT, b"document d x \"", long.as_slice(), b"\"\n"])?,
+        fault_of(
+            alloc,
+            &[FRONT, b"document d x \"", long.as_slice(), b"\"\n"]
+        )?,
         at(SetupFaultKind::TooMany)
     );
     assert_eq!(rt;
-        fault_of(alloc, &[FRONT, b"document d x \"", long.as_slice(), b"\" d\n"])?,
+        fault_of(
+            alloc,
+            &[FRONT, b"document d x \"", long.as_slice(), b"\" d\n"]
+        )?,
         at(SetupFaultKind::Syntax)
     );
     let twice: &[u8] = b"document d u \"\"\nallow ann d r r\n";

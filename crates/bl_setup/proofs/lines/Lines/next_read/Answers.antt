@@ -1,4 +1,4 @@
-use Rattle.std.proofs.Common.{◌≡◌, ℕ, length, sym, ◌∙◌, arith, eqb-true}
+use Rattle.std.proofs.Common.{◌≡◌, length, sym, ◌∙◌, arith, eqb-true}
 use Rattle.bl_setup.proofs.TakingLemmas.{next_read_on, next_skipped, next_taken, none_taken}
 use Rattle.bl_setup.proofs.lines.Lines.next_read.Goals as goal
 
