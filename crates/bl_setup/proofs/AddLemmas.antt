@@ -1,17 +1,13 @@
 -- What a declaration adds, and that it adds nothing else.
-use Rattle.std.proofs.Common.{◌≡◌, ◌↔◌, ℕ, ◌<◌, ◌≤◌, Bool, true, false, List, Option, Result, Ok, Err, refl, sym, subst, ◌∙◌, arith}
+use Rattle.std.proofs.Common.{◌≡◌, ◌↔◌, ℕ, ◌<◌, ◌≤◌, Bool, true, false, List, Option, Result, Ok, Err, refl, sym, ◌∙◌, arith}
 use Rattle.std.specs.Prelude.{IsSome, is_some}
 use Rattle.bl_level.specs.Level.{SecurityLevel, Dominates, dominates}
 use Rattle.bl_level.proofs.Dominance.{dominates-sets}
-use Rattle.bl_level.specs.LevelText.{Means}
 use Rattle.bl_policy.specs.declared.policy.AddFault.{AddFault}
 use Rattle.bl_policy.specs.declared.policy.AddFault.TheVariants as add
 use Rattle.bl_script.specs.Names.{KnownNames}
 use Rattle.bl_policy.specs.Policy.{SecurityPolicy}
-use Rattle.bl_setup.specs.Declaration.{SubjectText}
 use Rattle.bl_setup.specs.Order.{Setup}
-use Rattle.bl_setup.specs.Grammar.{AddsSubject}
-use Rattle.bl_setup.proofs.MeaningLemmas.{one_level}
 
 pub same_setup : {n n' : KnownNames} {p p' : SecurityPolicy} {c c' : List (List ℕ)} → n ≡ n' → p ≡ p' → c ≡ c'
     → ◌≡◌ {A = Setup} (record { names = n; policy = p; contents = c }) (record { names = n'; policy = p'; contents = c' })
@@ -20,20 +16,6 @@ same_setup a b c = λ i. record { names = a i; policy = b i; contents = c i }
 -- what was looked up and not found is not there
 pub not_there : {P : Type 0} (o : Option ℕ) (b : Bool) → b ≡ is_some o → b ≡ false → (IsSome o ↔ P) → P → ⊥
 not_there o b is missing found p = let t = found.1 p in let e : true ≡ false = sym t ∙ sym is ∙ missing in cc
-
--- where there is room, the fault is that the greatest level does not dominate
-pub is_above : {I : Type 0} {D : Type 0} (f : AddFault) (n : ℕ) → n < 256
-    → ((◌≡◌ {A = Result I AddFault} (Err f) (Err add.TooMany)) ↔ (256 ≤ n))
-    → ((◌≡◌ {A = Result I AddFault} (Err f) (Err add.CurrentAboveGreatest)) ↔ ((n < 256) × (D → ⊥))) → D → ⊥
-is_above add.TooMany n room many above d = let h : 256 ≤ n = many.0 refl in absurd (omega arith)
-is_above add.CurrentAboveGreatest n room many above d = (above.0 refl).1 d
-
--- the levels that are meant do not dominate, so no subject is added
-pub not_above : (before : Setup) (s : SubjectText) (g c : SecurityLevel) → Means before.names.scheme s.greatest g → Means before.names.scheme s.current c
-    → (Dominates g c → ⊥) → (after : Setup) → AddsSubject before s after → ⊥
-not_above before s g c mg mc above after a =
-    above (subst (λ x. Dominates x c) (one_level before.names.scheme s.greatest a.greatest g a.means_greatest mg)
-    (subst (λ x. Dominates a.greatest x) (one_level before.names.scheme s.current a.current c a.means_current mc) a.dominates))
 
 -- levels whose dominance cannot be denied dominate
 pub above_from_not : (g c : SecurityLevel) → ((Dominates g c → ⊥) → ⊥) → Dominates g c

@@ -10,27 +10,9 @@ use Rattle.bl_setup.specs.Heads.{DeclaresRanks, DeclaresCategories, BeginsWith, 
 use Rattle.bl_setup.specs.Lines.{lines_read}
 use Rattle.bl_setup.proofs.HeadLemmas.{ranks_are, categories_are}
 
--- where the first line declares no ranks, the lines declare no scheme
-pub no_ranks : (lines behind : List (List ℕ)) (line : List ℕ) → lines ≡ line ∷ behind → ((names : List (List ℕ)) → DeclaresRanks line names → ⊥)
-    → (rest : List (List ℕ)) (scheme : SchemeNames) → BeginsWith lines rest scheme → ⊥
-no_ranks lines behind line e none rest scheme b =
-    let s = b.split in
-    let same : b.first ≡ line = cc in
-    none b.names (subst (λ x. DeclaresRanks x b.names) same b.ranks)
-
 -- two lines declare the same ranks
 same_ranks : (line : List ℕ) (names others : List (List ℕ)) → DeclaresRanks line names → DeclaresRanks line others → others ≡ names
 same_ranks line names others r s = ranks_are line r.lowest r.higher r.spelled others s ∙ sym r.is
-
--- nor where the second line declares no categories
-pub no_categories : (lines behind more : List (List ℕ)) (line second : List ℕ) (names : List (List ℕ)) → lines ≡ line ∷ behind → behind ≡ second ∷ more → DeclaresRanks line names
-    → ((scheme : SchemeNames) → DeclaresCategories second names scheme → ⊥) → (rest : List (List ℕ)) (scheme : SchemeNames) → BeginsWith lines rest scheme → ⊥
-no_categories lines behind more line second names e f r none rest scheme b =
-    let s = b.split in
-    let same : b.first ≡ line = cc in
-    let same' : b.second ≡ second = cc in
-    let n = same_ranks line names b.names r (subst (λ x. DeclaresRanks x b.names) same b.ranks) in
-    none scheme (subst (λ x. DeclaresCategories x names scheme) same' (subst (λ x. DeclaresCategories b.second x scheme) n b.categories))
 
 -- lines that spell ranks, categories and more
 record Heads (lines : List (List ℕ)) (lowest : List ℕ) (higher names : List (List ℕ)) (ds : List Declaration) : Type 0 where

@@ -23,3 +23,8 @@ pub mod WholeLemmas
 pub mod HeadLemmas
 pub mod FileLemmas
 pub mod DeclaredLemmas
+pub mod FaultLemmas
+pub mod FirstLemmas
+pub mod TakingLemmas
+pub mod HeadFaults
+pub mod DraftFaults

@@ -26,7 +26,7 @@ contains_middle : (before after : List (List ℕ)) (x : List ℕ) → Contains (
 contains_middle before after x = Contains-append_right before (x ∷ after) x (0, omega arith, refl)
 
 -- an element that stood before stands twice
-stands_twice : (before after : List (List ℕ)) (x : List ℕ) → Contains before x → AreDistinct (before ++ x ∷ after) → ⊥
+pub stands_twice : (before after : List (List ℕ)) (x : List ℕ) → Contains before x → AreDistinct (before ++ x ∷ after) → ⊥
 stands_twice before after x (k, within, is) distinct =
     let n = length before in
     let first : get_or (before ++ x ∷ after) k x ≡ x = get_or_append_left before (x ∷ after) x k within ∙ is in

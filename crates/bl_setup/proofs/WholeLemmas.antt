@@ -109,8 +109,3 @@ content_proper d p = (proper_behind (spell_level d.level) (text d.content ∷ []
 pub unless : {P Q : Type 0} {e : SetupFaultKind} → (P → Q) → UnlessMemory e P → UnlessMemory e Q
 unless f (inl m) = inl m
 unless f (inr p) = inr (f p)
-
--- where the declaration of a line adds nothing, the line adds nothing
-pub line_refused : (b : Setup) (line : List ℕ) (d : Declaration) → Begins line (spell_declaration d) [] → ((after : Setup) → Adds b d after → ⊥)
-    → (after : Setup) → LineAdds b line after → ⊥
-line_refused b line d spells none after (e, t, adds) = none after (subst (λ z. Adds b z after) (one_spelled line e d t spells) adds)

@@ -15,4 +15,6 @@ pub mod Words
 pub mod Parsing
 pub mod Draft
 pub mod Heads
+pub mod FirstFault
+pub mod Taking
 pub mod WholeLists

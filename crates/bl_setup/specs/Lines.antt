@@ -31,10 +31,14 @@ is_comment (b ∷ line) = b == 35
 abbrev pub is_skipped : List ℕ → Bool
 is_skipped line = is_comment line || is_blank line
 
+-- the lines of a file, in order, without their line ends
+abbrev pub file_lines : List ℕ → List (List ℕ)
+file_lines bytes = map without_cr (lines_of bytes)
+
 -- the lines that are not skipped
 abbrev pub kept : List (List ℕ) → List (List ℕ)
 kept lines = filter (λ line. not (is_skipped line)) lines
 
--- the lines that are read, in order, without their line ends
+-- those of them that are read
 abbrev pub lines_read : List ℕ → List (List ℕ)
-lines_read bytes = kept (map without_cr (lines_of bytes))
+lines_read bytes = kept (file_lines bytes)

@@ -1,5 +1,6 @@
-//! What a setup file declares, as whole lists.
+//! What a setup file declares, as whole lists; and that its text has one answer.
 ghost use Rattle.std.specs.Prelude.{ℕ, List};
+ghost use Rattle.bl_setup.specs.FirstFault.{HasOneAnswer};
 ghost use Rattle.bl_setup.specs.Order as order;
 ghost use Rattle.bl_setup.specs.Grammar.{IsSetup};
 ghost use Rattle.bl_setup.specs.WholeLists.{IsDeclared};
@@ -8,4 +9,9 @@ ghost use Rattle.bl_setup.specs.WholeLists.{IsDeclared};
 /// lines.
 pub fn a_setup_is_declared()
     ensures { (bytes : List ℕ) (setup : order.Setup) → IsSetup bytes setup → IsDeclared bytes setup }
+{}
+
+/// A text has at most one answer: no two setups, no two first faults, and not both.
+pub fn a_text_has_one_answer()
+    ensures { (bytes : List ℕ) → HasOneAnswer bytes }
 {}

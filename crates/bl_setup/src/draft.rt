@@ -1,7 +1,6 @@
 //! A setup while it is read: what the lines so far declare.
 ghost use Rattle.std.specs.Prelude.{◌≡◌, ◌↔◌, ◌∷◌, ℕ, List, IsTrue, Contains, MatchResult, OnOk, IfOk, IfErr};
 ghost use Rattle.std.specs.List.{list_all};
-ghost use Rattle.bl_level.specs.Level.{SecurityLevel};
 ghost use Rattle.bl_level.specs.Name.{IsName, AreProper};
 ghost use Rattle.bl_level.specs.LevelText.{Means};
 ghost use Rattle.bl_policy.specs.declared.access.Mode.{Mode};
@@ -10,7 +9,10 @@ ghost use Rattle.bl_script.specs.Content.{is_content_byte};
 ghost use Rattle.bl_setup.specs.Declaration.{spell_declaration};
 ghost use Rattle.bl_setup.specs.Grammar.{Adds, AddsSubject, AddsDocument, AddsModes, LineAdds};
 ghost use Rattle.bl_setup.specs.Faults.{UnlessMemory};
-ghost use Rattle.bl_setup.specs.Order.{Setup};
+ghost use Rattle.bl_setup.specs.FirstFault as first;
+ghost use Rattle.bl_setup.specs.FirstFault.{DeclarationFault, LineFault, FirstFails, asked_of_level};
+ghost use Rattle.bl_setup.specs.Taking.{Refuses};
+ghost use Rattle.bl_setup.specs.Declaration as text;
 ghost use Rattle.bl_setup.specs.Agreement.{Agree, of_scheme};
 ghost use Rattle.bl_setup.specs.Words.{level_text, subject_text, document_text, allow_text, declaration_of};
 ghost use Rattle.bl_setup.specs.Draft.{setup_of};
@@ -39,7 +41,7 @@ pub struct Draft {
 /// The level that a text means.
 fn level_of(scheme: &Scheme, words: &LevelWords<'_>) -> Result<Level, SetupFaultKind>
     ensures { MatchResult result (Means scheme.now (level_text words.now))
-        (λ _. (level : SecurityLevel) → Means scheme.now (level_text words.now) level → ⊥) }
+        (FirstFails (asked_of_level scheme.now (level_text words.now))) }
 {
     Ok(scheme.level(words.rank, words.categories.as_slice())?)
 }
@@ -74,7 +76,7 @@ impl Draft {
         requires agree { Agree (setup_of self.old) }
         ensures ok { OnOk result (AddsSubject (setup_of self.old) (subject_text subject.now) (setup_of self.new)) }
         ensures agree { OnOk result (Agree (setup_of self.new)) }
-        ensures fault { IfErr result (λ kind. UnlessMemory kind ((after : Setup) → AddsSubject (setup_of self.old) (subject_text subject.now) after → ⊥)) }
+        ensures fault { IfErr result (λ kind. UnlessMemory kind (DeclarationFault (first.declared (setup_of self.old)) (text.subject (subject_text subject.now)) kind)) }
     {
         if self.names.subjects() >= MOST_SUBJECTS {
             return Err(SetupFaultKind::TooMany);
@@ -101,7 +103,7 @@ impl Draft {
         requires agree { Agree (setup_of self.old) }
         ensures ok { OnOk result (AddsDocument (setup_of self.old) (document_text document.now) (setup_of self.new)) }
         ensures agree { OnOk result (Agree (setup_of self.new)) }
-        ensures fault { IfErr result (λ kind. UnlessMemory kind ((after : Setup) → AddsDocument (setup_of self.old) (document_text document.now) after → ⊥)) }
+        ensures fault { IfErr result (λ kind. UnlessMemory kind (DeclarationFault (first.declared (setup_of self.old)) (text.document (document_text document.now)) kind)) }
     {
         if self.names.documents() >= MOST_DOCUMENTS {
             return Err(SetupFaultKind::TooMany);
@@ -124,7 +126,7 @@ impl Draft {
         requires { Agree (setup_of self.old) }
         ensures ok { OnOk result (AddsModes (setup_of self.old) (allow_text allow.now) (setup_of self.new)) }
         ensures agree { OnOk result (Agree (setup_of self.new)) }
-        ensures fault { IfErr result (λ kind. UnlessMemory kind ((after : Setup) → AddsModes (setup_of self.old) (allow_text allow.now) after → ⊥)) }
+        ensures fault { IfErr result (λ kind. UnlessMemory kind (DeclarationFault (first.declared (setup_of self.old)) (text.allow (allow_text allow.now)) kind)) }
     {
         let Some(subject) = self.names.subject(allow.subject) else {
             return Err(SetupFaultKind::Unknown);
@@ -143,7 +145,7 @@ impl Draft {
         requires agree { Agree (setup_of self.old) }
         ensures ok { OnOk result (Adds (setup_of self.old) (declaration_of words.now) (setup_of self.new)) }
         ensures agree { OnOk result (Agree (setup_of self.new)) }
-        ensures fault { IfErr result (λ kind. UnlessMemory kind ((after : Setup) → Adds (setup_of self.old) (declaration_of words.now) after → ⊥)) }
+        ensures fault { IfErr result (λ kind. UnlessMemory kind (Refuses (first.declared (setup_of self.old)) (declaration_of words.now) kind)) }
     {
         match words {
             Words::Ranks(_, _) | Words::Categories(_) => Err(SetupFaultKind::Syntax),
@@ -158,7 +160,7 @@ impl Draft {
         requires { Agree (setup_of self.old) }
         ensures ok { OnOk result (LineAdds (setup_of self.old) line.now (setup_of self.new)) }
         ensures agree { OnOk result (Agree (setup_of self.new)) }
-        ensures fault { IfErr result (λ kind. UnlessMemory kind ((after : Setup) → LineAdds (setup_of self.old) line.now after → ⊥)) }
+        ensures fault { IfErr result (λ kind. UnlessMemory kind (LineFault (first.declared (setup_of self.old)) line.now kind)) }
     {
         let words = words_of(alloc, line)?;
         self.add(alloc, &words)

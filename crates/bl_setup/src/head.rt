@@ -1,8 +1,9 @@
 //! The first two lines of a file: the ranks, and then the categories.
-ghost use Rattle.std.specs.Prelude.{◌≡◌, ◌++◌, [], ℕ, List, All, MatchResult, OnOk, IfOk, IfErr};
+ghost use Rattle.std.specs.Prelude.{◌≡◌, ◌++◌, All, MatchResult, OnOk, IfOk, IfErr};
 ghost use Rattle.bl_level.specs.Name.{IsName};
-ghost use Rattle.bl_level.specs.Scheme.{SchemeNames};
 ghost use Rattle.bl_setup.specs.Faults.{UnlessMemory};
+ghost use Rattle.bl_setup.specs.FirstFault as first;
+ghost use Rattle.bl_setup.specs.FirstFault.{LineFault};
 ghost use Rattle.bl_setup.specs.Heads.{AreRanks, DeclaresRanks, DeclaresCategories};
 ghost use Rattle.bl_setup.specs.Words.{names_of};
 
@@ -28,7 +29,7 @@ fn add_names(names: &mut Vec<Name>, words: &[&[u8]]) -> Result<(), AllocError>
 /// The ranks that a line declares.
 pub fn ranks_of(alloc: Global, line: &[u8]) -> Result<Vec<Name>, SetupFaultKind>
     ensures ok { IfOk result (λ names. DeclaresRanks line.now names.items) }
-    ensures fault { IfErr result (λ kind. UnlessMemory kind ((names : List (List ℕ)) → DeclaresRanks line.now names → ⊥)) }
+    ensures fault { IfErr result (λ kind. UnlessMemory kind (LineFault first.nothing line.now kind)) }
 {
     let Words::Ranks(lowest, higher) = words_of(alloc, line)? else {
         return Err(SetupFaultKind::Syntax);
@@ -47,7 +48,7 @@ pub fn ranks_of(alloc: Global, line: &[u8]) -> Result<Vec<Name>, SetupFaultKind>
 pub fn scheme_of(alloc: Global, ranks: &[Name], line: &[u8]) -> Result<Scheme, SetupFaultKind>
     requires { AreRanks ranks.now }
     ensures ok { IfOk result (λ scheme. DeclaresCategories line.now ranks.now scheme) }
-    ensures fault { IfErr result (λ kind. UnlessMemory kind ((scheme : SchemeNames) → DeclaresCategories line.now ranks.now scheme → ⊥)) }
+    ensures fault { IfErr result (λ kind. UnlessMemory kind (LineFault (first.ranked ranks.now) line.now kind)) }
 {
     let Words::Categories(words) = words_of(alloc, line)? else {
         return Err(SetupFaultKind::Syntax);

@@ -1,6 +1,7 @@
 //! The lines of a file that are read, one after the other.
 ghost use Rattle.std.specs.Prelude.{◌≡◌, ◌+◌, ◌<◌, ◌≤◌, ◌∷◌, [], length, MatchOption, IfSome};
-ghost use Rattle.bl_setup.specs.Lines.{lines_of, without_cr, is_comment, is_blank, is_skipped, lines_read};
+ghost use Rattle.bl_setup.specs.Lines.{lines_of, without_cr, is_comment, is_blank, is_skipped, lines_read, file_lines};
+ghost use Rattle.bl_setup.specs.Taking.{Skips, Takes};
 
 use bstr::ByteSlice;
 
@@ -67,6 +68,9 @@ impl<'a> Lines<'a> {
         ensures line { MatchOption result (lines_read self.old.rest.now ≡ [])
             (λ line. lines_read self.old.rest.now ≡ line.now ∷ lines_read self.new.rest.now) }
         ensures fewer { IfSome result (λ _. length self.new.rest.now < length self.old.rest.now) }
+        // Each line counts, those that are skipped too.
+        ensures taken { MatchOption result (Skips self.old.number (file_lines self.old.rest.now) self.new.number [])
+            (λ line. Takes self.old.number (file_lines self.old.rest.now) line.now self.new.number (file_lines self.new.rest.now)) }
     {
         while !self.rest.is_empty() {
             let (line, rest) = split_line(self.rest);

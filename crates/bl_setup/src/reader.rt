@@ -1,13 +1,16 @@
 //! Reads a setup file, line by line.
-ghost use Rattle.std.specs.Prelude.{◌≡◌, ◌<◌, ◌∷◌, [], ℕ, List, MatchResult, OnOk, IfOk, IfErr};
-ghost use Rattle.bl_level.specs.Scheme.{SchemeNames};
+ghost use Rattle.std.specs.Prelude.{◌≡◌, ◌<◌, ◌∷◌, [], MatchResult, OnOk, IfOk, IfErr};
 ghost use Rattle.bl_setup.specs.Order as order;
 ghost use Rattle.bl_setup.specs.Agreement.{Agree, of_scheme};
 ghost use Rattle.bl_setup.specs.Draft.{setup_of};
 ghost use Rattle.bl_setup.specs.Faults.{UnlessMemory};
 ghost use Rattle.bl_setup.specs.Grammar.{IsSetup};
 ghost use Rattle.bl_setup.specs.Heads.{BeginsWith, Remain};
-ghost use Rattle.bl_setup.specs.Lines.{lines_read};
+ghost use Rattle.bl_setup.specs.FirstFault as first;
+ghost use Rattle.bl_setup.specs.FirstFault.{LeadOn, StopsAt, FirstFault, IsReadAt};
+ghost use Rattle.bl_setup.specs.Lines.{lines_read, file_lines};
+ghost use Rattle.bl_setup.specs.Taking.{Takes, EndsEarly, Stops};
+ghost use Rattle.bl_setup.specs.declared.fault.SetupFaultKind.TheVariants.{Memory};
 
 use crate::draft::Draft;
 use crate::fault::{SetupFault, SetupFaultKind};
@@ -20,7 +23,8 @@ use std::alloc::Global;
 impl<'a> Lines<'a> {
     /// The fault of the line that was taken last.
     fn fault(&self, kind: SetupFaultKind) -> SetupFault
-        ensures { result.kind ≡ kind }
+        ensures kind { result.kind ≡ kind }
+        ensures line { result.line ≡ self.now.number }
     {
         SetupFault {
             line: self.number,
@@ -30,8 +34,10 @@ impl<'a> Lines<'a> {
 
     /// The next line that is not skipped; without one, the file ends too early.
     fn due(&mut self) -> Result<&'a [u8], SetupFault>
-        ensures { MatchResult result (λ line. lines_read self.old.rest.now ≡ line.now ∷ lines_read self.new.rest.now)
+        ensures line { MatchResult result (λ line. lines_read self.old.rest.now ≡ line.now ∷ lines_read self.new.rest.now)
             (λ _. lines_read self.old.rest.now ≡ []) }
+        ensures taken { MatchResult result (λ line. Takes self.old.number (file_lines self.old.rest.now) line.now self.new.number (file_lines self.new.rest.now))
+            (EndsEarly self.old.number (file_lines self.old.rest.now)) }
     {
         match self.next_read() {
             Some(line) => Ok(line),
@@ -45,8 +51,10 @@ impl<'a> Lines<'a> {
     /// The scheme that the first two lines declare.
     fn scheme(&mut self, alloc: Global) -> Result<Scheme, SetupFault>
         ensures ok { IfOk result (BeginsWith (lines_read self.old.rest.now) (lines_read self.new.rest.now)) }
-        ensures fault { IfErr result (λ fault. UnlessMemory fault.kind
-            ((rest : List (List ℕ)) (scheme : SchemeNames) → BeginsWith (lines_read self.old.rest.now) rest scheme → ⊥)) }
+        ensures leads { IfOk result (λ scheme. LeadOn first.nothing self.old.number (file_lines self.old.rest.now)
+            (first.declared (of_scheme scheme)) self.new.number (file_lines self.new.rest.now)) }
+        ensures reads { IfOk result (λ _. StopsAt first.ReadsNext first.nothing self.old.number (file_lines self.old.rest.now) self.new.number) }
+        ensures fault { IfErr result (λ fault. StopsAt (Stops fault.kind) first.nothing self.old.number (file_lines self.old.rest.now) fault.line) }
     {
         let first = self.due()?;
         let ranks = match ranks_of(alloc, first) {
@@ -66,8 +74,7 @@ impl<'a> Lines<'a> {
         ensures ok { OnOk result (Remain (lines_read self.old.rest.now) (setup_of draft.old) (setup_of draft.new)) }
         ensures only { OnOk result ((after : order.Setup) → Remain (lines_read self.old.rest.now) (setup_of draft.old) after → after ≡ setup_of draft.new) }
         ensures agree { OnOk result (Agree (setup_of draft.new)) }
-        ensures fault { IfErr result (λ fault. UnlessMemory fault.kind
-            ((after : order.Setup) → Remain (lines_read self.old.rest.now) (setup_of draft.old) after → ⊥)) }
+        ensures fault { IfErr result (λ fault. StopsAt (Stops fault.kind) (first.declared (setup_of draft.old)) self.old.number (file_lines self.old.rest.now) fault.line) }
     {
         while let Some(line) = self.next_read() {
             match draft.add_line(alloc, line) {
@@ -89,6 +96,10 @@ impl<'a> Lines<'a> {
 pub fn read_setup(alloc: Global, bytes: &[u8]) -> Result<Setup, SetupFault>
     ensures setup { IfOk result (IsSetup bytes.now) }
     ensures only { IfOk result (λ setup. (other : order.Setup) → IsSetup bytes.now other → other ≡ setup) }
+    // Any fault but want of memory is the first of the text.
+    ensures first { IfErr result (λ fault. UnlessMemory fault.kind (FirstFault bytes.now fault)) }
+    // Want of memory names a line that is read, and the lines before it are right.
+    ensures memory { IfErr result (λ fault. fault.kind ≡ Memory → IsReadAt bytes.now fault.line) }
     // Any fault but want of memory means that the text is no setup.
     ensures fault { IfErr result (λ fault. UnlessMemory fault.kind ((setup : order.Setup) → IsSetup bytes.now setup → ⊥)) }
 {

@@ -162,3 +162,93 @@ fn more_faults(rt: HostRuntime) -> Result<(), Fail> {
     );
     Ok(())
 }
+
+#[test]
+fn lines_are_counted(rt: HostRuntime) -> Result<(), Fail> {
+    let alloc = rt.alloc();
+    let at = |line: u32, kind: SetupFaultKind| Some(SetupFault { line, kind });
+    // Comments, blank lines and lines with a CR before the LF count, and the last line may lack its LF.
+    assert_eq!(rt;
+        fault_of(
+            alloc,
+            &[b"# who\r\n\r\n \t\nranks u\r\n#\ncategories\nranks u"]
+        )?,
+        at(7, SetupFaultKind::Syntax)
+    );
+    assert_eq!(rt;
+        fault_of(alloc, &[b"ranks u\n# no LF"])?,
+        at(3, SetupFaultKind::Syntax)
+    );
+    assert_eq!(rt; fault_of(alloc, &[b"\n\n"])?, at(3, SetupFaultKind::Syntax));
+    // Of two lines at fault the first is answered, and what is behind it is not read.
+    assert_eq!(rt;
+        fault_of(alloc, &[FRONT, b"allow zed memo r\nranks u\n"])?,
+        at(4, SetupFaultKind::Unknown)
+    );
+    // A name is known only behind the line that declares it.
+    assert_eq!(rt;
+        fault_of(alloc, &[FRONT, b"allow ann note r\ndocument note u \"\"\n"])?,
+        at(4, SetupFaultKind::Unknown)
+    );
+    let large = vec![in alloc; b'#'; 16_777_217]?;
+    assert_eq!(rt;
+        fault_of(alloc, &[large.as_slice()])?,
+        at(0, SetupFaultKind::TooMany)
+    );
+    Ok(())
+}
+
+#[test]
+fn order_within_a_line(rt: HostRuntime) -> Result<(), Fail> {
+    let alloc = rt.alloc();
+    let at = |kind: SetupFaultKind| Some(SetupFault { line: 4, kind });
+    let unknown = at(SetupFaultKind::Unknown);
+    let repeated = at(SetupFaultKind::Repeated);
+    // Words are asked from the left, and a category first whether it is there.
+    assert_eq!(rt;
+        fault_of(alloc, &[FRONT, b"document d x{nato,nato} \"\"\n"])?,
+        unknown
+    );
+    assert_eq!(rt;
+        fault_of(alloc, &[FRONT, b"document d s{zed,zed} \"\"\n"])?,
+        unknown
+    );
+    assert_eq!(rt;
+        fault_of(alloc, &[FRONT, b"document d s{nato,nato,zed} \"\"\n"])?,
+        repeated
+    );
+    assert_eq!(rt;
+        fault_of(
+            alloc,
+            &[FRONT, b"subject bob greatest u{nato,nato} current x\n"]
+        )?,
+        repeated
+    );
+    assert_eq!(rt;
+        fault_of(alloc, &[FRONT, b"subject bob greatest u current s{zed}\n"])?,
+        unknown
+    );
+    assert_eq!(rt;
+        fault_of(alloc, &[FRONT, b"subject ann greatest u current s\n"])?,
+        repeated
+    );
+    // A content that is too long comes before the words, and a fault of syntax before both.
+    let long = vec![in alloc; b'x'; 65_537]?;
+    assert_eq!(rt;
+        fault_of(
+            alloc,
+            &[FRONT, b"document d x \"", long.as_slice(), b"\"\n"]
+        )?,
+        at(SetupFaultKind::TooMany)
+    );
+    assert_eq!(rt;
+        fault_of(
+            alloc,
+            &[FRONT, b"document d x \"", long.as_slice(), b"\" d\n"]
+        )?,
+        at(SetupFaultKind::Syntax)
+    );
+    let twice: &[u8] = b"document d u \"\"\nallow ann d r r\n";
+    assert_eq!(rt; fault_of(alloc, &[FRONT, twice])?, None);
+    Ok(())
+}

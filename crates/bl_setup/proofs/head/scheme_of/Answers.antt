@@ -1,12 +1,15 @@
 use Rattle.std.proofs.Common.{refl, ◌∙◌}
+use Rattle.bl_setup.specs.FirstFault.{ranked}
 use Rattle.bl_setup.specs.Words.{names_of}
 use Rattle.bl_setup.proofs.Parts.{exits}
-use Rattle.bl_setup.proofs.HeadLemmas.{from_syntax, categories_none, names_proper, categories_refused}
+use Rattle.bl_setup.proofs.HeadFaults.{categories_refused}
+use Rattle.bl_setup.proofs.HeadLemmas.{names_proper}
+use Rattle.bl_setup.proofs.TakingLemmas.{spells_nothing}
 use Rattle.bl_setup.proofs.head.scheme_of.Goals as goal
 
 pub returns-in_err-words-clause-fault : goal.returns-in_err-words-clause-fault
 returns-in_err-words-clause-fault c =
-    exits _ _ _ _ c.from_residual.ensures.1 (from_syntax (categories_none c.args.line.now c.args.ranks.now) c.in_err-words.ensures.fault)
+    exits _ _ _ _ c.from_residual.ensures.1 (spells_nothing (ranked c.args.ranks.now) c.args.line.now _ c.in_err-words.ensures.fault)
 
 pub add_names-requires : goal.add_names-requires
 add_names-requires c = rw c.as_slice.ensures.value (names_proper (names_of c.in-Categories.words.items) (rw c.in-Categories.is at c.in_ok-words.ensures.proper).1)

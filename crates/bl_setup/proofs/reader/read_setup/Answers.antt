@@ -1,18 +1,39 @@
-use Rattle.std.proofs.Common.{sym, ◌∙◌}
+use Rattle.std.proofs.Common.{sym, ◌∙◌, arith}
+use Rattle.bl_setup.specs.Taking.{Stops}
 use Rattle.bl_setup.proofs.Parts.{exits}
-use Rattle.bl_setup.proofs.WholeLemmas.{unless}
-use Rattle.bl_setup.proofs.FileLemmas.{parts_of, remain_of}
+use Rattle.bl_setup.proofs.FileLemmas.{remain_of}
+use Rattle.bl_setup.proofs.TakingLemmas.{stopped_first, stopped_memory, stopped_refuses, stops_behind}
 use Rattle.bl_setup.proofs.reader.read_setup.Goals as goal
+
+pub returns-in_err-scheme-clause-first : goal.returns-in_err-scheme-clause-first
+returns-in_err-scheme-clause-first c =
+    exits _ _ _ _ c.from_residual.ensures.1 (stopped_first c.args.bytes.now _ (omega arith) c.in_err-scheme.ensures.fault)
+
+pub returns-in_err-scheme-clause-memory : goal.returns-in_err-scheme-clause-memory
+returns-in_err-scheme-clause-memory c =
+    exits _ _ _ _ c.from_residual.ensures.1 (stopped_memory c.args.bytes.now _ (omega arith) c.in_err-scheme.ensures.fault)
 
 pub returns-in_err-scheme-clause-fault : goal.returns-in_err-scheme-clause-fault
 returns-in_err-scheme-clause-fault c =
-    exits _ _ _ _ c.from_residual.ensures.1
-    (unless (λ none setup s. let p = parts_of c.args.bytes.now setup s in none p.rest p.scheme p.begins) c.in_err-scheme.ensures.fault)
+    exits _ _ _ _ c.from_residual.ensures.1 (stopped_refuses c.args.bytes.now _ (stopped_first c.args.bytes.now _ (omega arith) c.in_err-scheme.ensures.fault))
+
+pub returns-in_err-read_into-clause-first : goal.returns-in_err-read_into-clause-first
+returns-in_err-read_into-clause-first c =
+    exits _ _ _ _ c.from_residual-in_err-read_into.ensures.1
+    (stopped_first c.args.bytes.now _ (omega arith)
+    (stops_behind (Stops c.in_err-read_into.field-0.0.kind) _ _ _ _ _ _ _ c.in_ok-scheme.ensures.leads (rw c.in-Ok.ensures.value at c.in_err-read_into.ensures.fault)))
+
+pub returns-in_err-read_into-clause-memory : goal.returns-in_err-read_into-clause-memory
+returns-in_err-read_into-clause-memory c =
+    exits _ _ _ _ c.from_residual-in_err-read_into.ensures.1
+    (stopped_memory c.args.bytes.now _ (omega arith)
+    (stops_behind (Stops c.in_err-read_into.field-0.0.kind) _ _ _ _ _ _ _ c.in_ok-scheme.ensures.leads (rw c.in-Ok.ensures.value at c.in_err-read_into.ensures.fault)))
 
 pub returns-in_err-read_into-clause-fault : goal.returns-in_err-read_into-clause-fault
 returns-in_err-read_into-clause-fault c =
     exits _ _ _ _ c.from_residual-in_err-read_into.ensures.1
-    (unless (λ none setup s. none setup (rw c.in-Ok.ensures.value (remain_of c.args.bytes.now _ _ setup c.in_ok-scheme.ensures.ok s))) c.in_err-read_into.ensures.fault)
+    (stopped_refuses c.args.bytes.now _ (stopped_first c.args.bytes.now _ (omega arith)
+    (stops_behind (Stops c.in_err-read_into.field-0.0.kind) _ _ _ _ _ _ _ c.in_ok-scheme.ensures.leads (rw c.in-Ok.ensures.value at c.in_err-read_into.ensures.fault))))
 
 pub returns-clause-only : goal.returns-clause-only
 returns-clause-only c = λ other s.

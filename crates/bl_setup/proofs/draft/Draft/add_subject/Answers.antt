@@ -1,18 +1,31 @@
-use Rattle.std.proofs.Common.{refl, arith, inr}
+use Rattle.std.proofs.Common.{refl, arith}
 use Rattle.bl_setup.specs.Words.{subject_text}
 use Rattle.bl_setup.specs.Draft.{setup_of}
 use Rattle.bl_setup.proofs.Parts.{exits}
-use Rattle.bl_setup.proofs.AddLemmas.{same_setup, not_there, is_above, not_above, above_from_not, ok_not_err}
+use Rattle.bl_setup.proofs.AddLemmas.{same_setup, not_there, above_from_not, ok_not_err}
+use Rattle.bl_setup.proofs.DraftFaults.{same_scheme, subject_greatest, subject_current, subject_above}
 use Rattle.bl_setup.proofs.draft.Draft.add_subject.Goals as goal
+
+pub returns-in_err-greatest-clause-fault : goal.returns-in_err-greatest-clause-fault
+returns-in_err-greatest-clause-fault c =
+    exits _ _ _ _ c.from_residual.ensures.1
+    (subject_greatest (setup_of c.args.self.now) (subject_text c.args.subject.now) _ (omega arith) (not_there _ _ c.is_some.ensures c.if-is_some.false c.subject.ensures.found)
+    (same_scheme _ _ (subject_text c.args.subject.now).greatest _ c.scheme.ensures.value c.in_err-greatest.ensures))
+
+pub returns-in_err-current-clause-fault : goal.returns-in_err-current-clause-fault
+returns-in_err-current-clause-fault c =
+    exits _ _ _ _ c.from_residual-in_err-current.ensures.1
+    (subject_current (setup_of c.args.self.now) (subject_text c.args.subject.now) c.in_ok-greatest.greatest _ (omega arith)
+    (not_there _ _ c.is_some.ensures c.if-is_some.false c.subject.ensures.found) (rw c.scheme.ensures.value at c.in_ok-greatest.ensures)
+    (same_scheme _ _ (subject_text c.args.subject.now).current _ c.scheme-2.ensures.value c.in_err-current.ensures))
 
 pub returns-in_err-add_subject-clause-fault : goal.returns-in_err-add_subject-clause-fault
 returns-in_err-add_subject-clause-fault c =
     let h = c.in_err-add_subject.ensures in
-    let mg = rw c.scheme.ensures.value at c.in_ok-greatest.ensures in
-    let mc = rw c.scheme-2.ensures.value at c.in_ok-current.ensures in
     exits _ _ _ _ c.from_residual-in_err-add_subject.ensures.1
-    (inr (not_above (setup_of c.args.self.now) (subject_text c.args.subject.now) c.in_ok-greatest.greatest c.in_ok-current.current mg mc
-    (is_above c.in_err-add_subject.field-0.0 _ (omega arith) h.too_many h.above)))
+    (subject_above (setup_of c.args.self.now) (subject_text c.args.subject.now) c.in_ok-greatest.greatest c.in_ok-current.current c.in_err-add_subject.field-0.0 _ (omega arith)
+    (not_there _ _ c.is_some.ensures c.if-is_some.false c.subject.ensures.found) (rw c.scheme.ensures.value at c.in_ok-greatest.ensures)
+    (rw c.scheme-2.ensures.value at c.in_ok-current.ensures) (omega arith) h.too_many h.above)
 
 pub returns-clause-ok : goal.returns-clause-ok
 returns-clause-ok c =
