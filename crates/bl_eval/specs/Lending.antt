@@ -25,8 +25,9 @@ pub record IsUnrun (u : unrun.Inside) : Type 0 where
   pub there : u.index < length u.script
   pub grants : AreFor u.entry (part_of (unrun_view u)).accesses u.grants
 
--- what was done is what the behaviour does on what was lent
+-- the behaviour is there, and what was done is what it does on what was lent
 pub record IsDone (d : done.Inside) : Type 0 where
+  pub there : d.index < length d.script
   pub outputs : d.outputs ≡ outputs (effects_on (done_view d))
   pub spawned : d.spawned.items ≡ children (effects_on (done_view d))
   pub returned : d.returned.items ≡ backs d.entry (part_of (done_view d)).accesses d.inputs.items (effects_on (done_view d))

@@ -135,13 +135,15 @@ fn are_same(documents: &[Document], others: &[Document]) -> bool
 }
 
 impl Lent {
-    /// A behaviour of the script, with a grant for each of its accesses, in order, as they were lent to one entry.
+    /// A behaviour of the script, with a grant for each of its accesses, in order, as they were lent to one entry. It takes no
+    /// memory.
     pub fn new(script: Script, index: u8, grants: Grants) -> Lent
         requires there { index < length script }
-        requires some { 0 < length grants }
         requires grants { AreFor (entry_of grants) (slice_index_or script index no_part).accesses grants }
         ensures { result ≡ record { entry = entry_of grants; script = script; index = index; inputs = lent_of grants } }
     {
+        // every behaviour declares an access, so there is a grant that names the entry
+        let _statements = script.body(usize::from(index));
         Lent {
             entry: grants.entry(),
             script,
@@ -185,6 +187,7 @@ impl Done {
     /// Gives the parts: what was lent, and what the behaviour does on it.
     pub fn into_parts(self) -> DoneParts
         ensures loan { self ≡ record { entry = result.entry; script = result.script; index = result.index; inputs = result.inputs.items } }
+        ensures there { result.index < length result.script }
         ensures outputs { result.outputs ≡ outputs (effects_on self) }
         ensures spawned { result.spawned.items ≡ children (effects_on self) }
         ensures returned { result.returned.items ≡ backs self.entry (part_of self).accesses self.inputs (effects_on self) }
@@ -238,7 +241,8 @@ impl Unrun {
     /// Gives the parts, with the grants as they were lent.
     pub fn into_parts(self) -> UnrunParts
         ensures loan { self ≡ record { entry = result.entry; script = result.script; index = result.index; inputs = lent_of result.grants } }
-        ensures grants { result.grants ≡ loans self.entry (part_of self).accesses self.inputs }
+        ensures there { result.index < length result.script }
+        ensures grants { AreFor result.entry (part_of self).accesses result.grants }
     {
         let Unrun {
             entry,

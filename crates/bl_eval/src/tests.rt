@@ -163,7 +163,8 @@ fn choose_script(alloc: Global) -> Result<Script, AllocError> {
     one(alloc, accesses, body)
 }
 
-/// What comes of a script's one behaviour on these contents.
+/// What comes of a script's one behaviour on these contents. Where a growth is refused in the evaluation, the grants come back as
+/// they were lent.
 fn evaluated(
     rt: &impl Abort,
     alloc: Global,
@@ -181,16 +182,32 @@ fn evaluated(
     match eval(alloc, lent) {
         Ok(done) => Ok(done.into_parts()),
         Err(unrun) => {
+            assert!(rt; unrun.is_of(7, &again, 0, documents));
             let UnrunParts {
                 entry: _,
                 script: _,
                 index: _,
                 grants,
             } = unrun.into_parts();
-            let _content = back_of(grants.close(), DocId::new(0));
+            assert!(rt; are_back(grants.close(), documents));
             Err(AllocError)
         }
     }
+}
+
+/// Whether just these contents came back, in order.
+fn are_back(returned: Vec<Returned>, documents: &[Document]) -> bool {
+    let mut returned = returned;
+    let mut same = returned.len() == documents.len();
+    while let Some(back) = returned.pop() {
+        let content = back.into_content();
+        let place = returned.len();
+        if place >= documents.len() || documents[place] != content {
+            same = false;
+        }
+    }
+    returned.destroy_empty();
+    same
 }
 
 /// What came back of a document.
@@ -206,6 +223,14 @@ fn back_of(returned: Vec<Returned>, doc: DocId) -> Option<Document> {
     }
     returned.destroy_empty();
     found
+}
+
+/// What comes of `choose-and-pour` where note is `n1` and memo `m1`.
+fn chosen(rt: &impl Abort, alloc: Global) -> Result<DoneParts, AllocError> {
+    let mut documents = Vec::new(alloc);
+    documents.push(Document::new(alloc, b"n1")?)?;
+    documents.push(Document::new(alloc, b"m1")?)?;
+    evaluated(rt, alloc, choose_script(alloc)?, &documents)
 }
 
 /// Expects these texts, no child, and this content to come back of the document.
@@ -248,12 +273,18 @@ fn blind_append_pours(rt: HostRuntime) -> Result<(), Fail> {
 
 #[test]
 fn choose_and_pour(rt: HostRuntime) -> Result<(), Fail> {
-    let alloc = rt.alloc();
-    let mut documents = Vec::new(alloc);
-    documents.push(Document::new(alloc, b"n1")?)?;
-    documents.push(Document::new(alloc, b"m1")?)?;
-    let parts = evaluated(&rt, alloc, choose_script(alloc)?, &documents)?;
+    let parts = chosen(&rt, rt.alloc())?;
     expect(&rt, parts, &[b"m1n1", b"yes"], 0, b"m1n1");
+    Ok(())
+}
+
+/// It passes with each of its growths refused, one in each run (`rt try --test --fail-alloc N`): either nothing was run, with
+/// the grants as they were lent, or what comes is what comes with ample memory.
+#[test]
+fn a_refused_growth_changes_nothing(rt: HostRuntime) -> Result<(), Fail> {
+    if let Ok(parts) = chosen(&rt, rt.alloc()) {
+        expect(&rt, parts, &[b"m1n1", b"yes"], 0, b"m1n1");
+    }
     Ok(())
 }
 

@@ -87,7 +87,7 @@ impl Held {
     }
 }
 
-/// A document lent for reading.
+/// A document lent for reading. Reading observes and does not alter (Bell and La Padula 1976).
 pub struct ReadGrant {
     entry: u32,
     doc: DocId,
@@ -103,7 +103,8 @@ impl Model for ReadGrant {
     ghost view = { λ g. loan g.entry (record { mode = Read; doc = g.doc }) g.content };
 }
 
-/// A document lent for appending. No call shows its bytes, nor how many there are.
+/// A document lent for appending. Appending alters and does not observe (Bell and La Padula 1976): no call shows its bytes, nor
+/// how many there are.
 pub struct AppendGrant {
     entry: u32,
     doc: DocId,
@@ -119,7 +120,7 @@ impl Model for AppendGrant {
     ghost view = { λ g. record { entry = g.entry; access = record { mode = Append; doc = g.doc }; lent = g.held.0; now = g.held.1 } };
 }
 
-/// A document lent for reading and altering.
+/// A document lent for writing, which observes and alters (Bell and La Padula 1976).
 pub struct WriteGrant {
     entry: u32,
     doc: DocId,
@@ -216,7 +217,8 @@ impl AppendGrant {
         }
     }
 
-    /// Adds the text to the content's end, cut at 65,536 bytes, without a word on the cut. After an error nothing is added.
+    /// Adds the text to the content's end, cut at 65,536 bytes, without a word on the cut. An error comes only where a growth is
+    /// refused, and then nothing is added.
     pub fn add(&mut self, alloc: Global, text: &[u8]) -> Result<(), AllocError>
         requires { IsTrue (list_all is_content_byte text.now) }
         ensures ok { OnOk result (self.new ≡ holding self.old (added self.old.now text.now)) }
@@ -225,14 +227,14 @@ impl AppendGrant {
         self.held.add(alloc, text)
     }
 
-    /// Makes the content the lent one again.
+    /// Makes the content the lent one again. It takes no memory.
     pub fn reset(&mut self)
         ensures { self.new ≡ as_lent self.old }
     {
         self.held.reset();
     }
 
-    /// Gives back what the additions since the last reset made of the content.
+    /// Gives back what the additions since the last reset made of the content. It takes no memory.
     pub fn close(self) -> Returned
         ensures { result ≡ back_of self }
     {
@@ -277,7 +279,8 @@ impl WriteGrant {
         self.held.now().bytes()
     }
 
-    /// Adds the text to the content's end, cut at 65,536 bytes. After an error nothing is added.
+    /// Adds the text to the content's end, cut at 65,536 bytes. An error comes only where a growth is refused, and then nothing
+    /// is added.
     pub fn add(&mut self, alloc: Global, text: &[u8]) -> Result<(), AllocError>
         requires { IsTrue (list_all is_content_byte text.now) }
         ensures ok { OnOk result (self.new ≡ holding self.old (added self.old.now text.now)) }
@@ -286,7 +289,7 @@ impl WriteGrant {
         self.held.add(alloc, text)
     }
 
-    /// Makes the text the content. After an error the content is as before.
+    /// Makes the text the content. An error comes only where a growth is refused, and then the content is as before.
     pub fn set(&mut self, alloc: Global, text: &[u8]) -> Result<(), AllocError>
         requires { IsContent text.now }
         ensures ok { OnOk result (self.new ≡ holding self.old text.now) }
@@ -304,14 +307,14 @@ impl WriteGrant {
         self.held.put(content);
     }
 
-    /// Makes the content the lent one again.
+    /// Makes the content the lent one again. It takes no memory.
     pub fn reset(&mut self)
         ensures { self.new ≡ as_lent self.old }
     {
         self.held.reset();
     }
 
-    /// Gives back what the calls since the last reset made of the content.
+    /// Gives back what the calls since the last reset made of the content. It takes no memory.
     pub fn close(self) -> Returned
         ensures { result ≡ back_of self }
     {
@@ -359,8 +362,11 @@ impl Returned {
 
 /// One of the three.
 pub enum Grant {
+    /// Lent for reading.
     Read(ReadGrant),
+    /// Lent for appending.
     Append(AppendGrant),
+    /// Lent for writing.
     Write(WriteGrant),
 }
 

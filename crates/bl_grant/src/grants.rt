@@ -61,7 +61,8 @@ fn abandon(grants: Vec<Grant>) {
 }
 
 impl Grants {
-    /// Grants of these documents for these accesses, in order. The documents are shared, and their bytes are not copied.
+    /// Grants of these documents for these accesses, in order, to this entry: 0 to 8 of them. The documents are shared, and
+    /// their bytes are not copied. An error comes only where a growth is refused, and then nothing is lent.
     pub fn lend(
         alloc: Global,
         entry: u32,
@@ -91,7 +92,7 @@ impl Grants {
         }
     }
 
-    /// Whether these are the grants that `lend` makes of these, whatever was done with them since.
+    /// Whether these are the grants that `lend` makes of these, whatever was done with them since. It takes no memory.
     pub fn were_lent(&self, entry: u32, accesses: &[Access], documents: &[Document]) -> bool
         ensures { IsTrue result ↔ ((length documents.now ≡ length accesses.now) × (map as_lent self.now ≡ loans entry accesses.now documents.now)) }
     {
@@ -117,7 +118,8 @@ impl Grants {
         self.grants[0].entry()
     }
 
-    /// The contents that were lent, in order.
+    /// The contents that were lent, in order, for who lent them: they tell nothing of what was done with the grants. An error
+    /// comes only where a growth is refused.
     pub fn lent(&self, alloc: Global) -> Result<Vec<Document>, AllocError>
         ensures { IfOk result (λ documents. documents.items ≡ lent_of self.now) }
     {
@@ -138,8 +140,8 @@ impl Grants {
         self.grants[place].now()
     }
 
-    /// Adds the text to the end of the content of a document that may be altered, cut at 65,536 bytes. After an error nothing
-    /// is added.
+    /// Adds the text to the end of the content of a document that may be altered, cut at 65,536 bytes. An error comes only
+    /// where a growth is refused, and then nothing is added.
     pub fn add(&mut self, alloc: Global, doc: DocId, text: &[u8]) -> Result<(), AllocError>
         requires apart { AreApart (accesses_of self.old) }
         requires alters { IsTrue (declares alters (accesses_of self.old) doc) }
@@ -161,7 +163,7 @@ impl Grants {
         self.grants[place].put(content);
     }
 
-    /// Makes each content the lent one again.
+    /// Makes each content the lent one again. It takes no memory.
     pub fn reset(&mut self)
         ensures { self.new ≡ map as_lent self.old }
     {
@@ -170,7 +172,8 @@ impl Grants {
         }
     }
 
-    /// Closes each grant, and gives back what the calls since the last reset made of the contents, in order.
+    /// Closes each grant, and gives back what the calls since the last reset made of the contents, in order. It takes no
+    /// memory.
     pub fn close(self) -> Vec<Returned>
         ensures { result.items ≡ map back_of self }
     {

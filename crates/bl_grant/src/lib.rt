@@ -4,3 +4,5 @@
 
 pub mod grant;
 pub mod grants;
+#[cfg(test)]
+mod tests;

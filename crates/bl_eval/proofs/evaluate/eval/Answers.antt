@@ -43,6 +43,7 @@ invariant_of-result c =
     ap (λ f. effects_of f body) (ap content_of c.lent.invariant.grants.lent ∙ contents-lent entry part.accesses (lent_of gs) ∙ ap (input_at part.accesses) (sym did.inputs))
     ∙ ap (effects_of (input_at part.accesses inputs)) (c.body.ensures.value ∙ ap (λ (i : ℕ). (slice_index_or c.lent.inside.script i no_part).body) c.from.ensures) in
     record {
+      there = c.lent.invariant.there;
       outputs = did.outputs ∙ ap outputs same;
       spawned = did.spawned ∙ ap children same;
       returned =

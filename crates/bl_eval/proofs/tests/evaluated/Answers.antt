@@ -8,11 +8,6 @@ use Rattle.bl_eval.specs.Loan.{AreFor}
 use Rattle.bl_eval.proofs.Handmade.{for-loans}
 use Rattle.bl_eval.proofs.tests.evaluated.Goals as goal
 
-pub new-lent-requires-clause-some : goal.new-lent-requires-clause-some
-new-lent-requires-clause-some g c =
-    let f = for-loans 7 c.accesses-accesses.result.now c.args.documents.now (omega arith) (omega arith) in
-    subst (λ (gs : List Loaned). 0 < length gs) (sym c.in_ok-grants.ensures) f.0
-
 pub new-lent-requires-clause-grants : goal.new-lent-requires-clause-grants
 new-lent-requires-clause-grants g c =
     let f = for-loans 7 c.accesses-accesses.result.now c.args.documents.now (omega arith) (omega arith) in
