@@ -5,3 +5,4 @@ pub mod FieldLemmas
 pub mod Decisions
 pub mod Rows
 pub mod Properties
+pub mod Rules
