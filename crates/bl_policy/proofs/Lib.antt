@@ -6,3 +6,4 @@ pub mod Decisions
 pub mod Rows
 pub mod Properties
 pub mod Rules
+pub mod RuleRows
