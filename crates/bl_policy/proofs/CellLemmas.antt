@@ -1,13 +1,15 @@
 -- The cells against the set of triples that they stand for.
-use Rattle.std.proofs.Common.{◌≡◌, ◌≢◌, ℕ, zero, suc, ◌+◌, ◌*◌, ◌/◌, ◌%◌, ◌<◌, Bool, true, false, ◌&&◌, ◌||◌, ◌==◌, refl, sym, ◌∙◌, ap, arith, List, [], ◌∷◌, length, get_or, set, replicate}
+use Rattle.std.proofs.Common.{◌≡◌, ◌≢◌, ◌⊎◌, inl, inr, ℕ, zero, suc, ◌+◌, ◌*◌, ◌/◌, ◌%◌, ◌<◌, ◌≤◌, Bool, true, false, not, ◌&&◌, ◌||◌, ◌==◌, refl, sym, ◌∙◌, ap, arith, List, [], ◌∷◌, length, get_or, set, replicate}
+use Rattle.std.proofs.lemmas.Bool.{cases_eq, cases_lt}
 use Rattle.std.proofs.lemmas.Bool.Decides.{nat_tests}
+use Rattle.std.proofs.lemmas.List.{get_or-set_same, get_or-set_other}
 use Rattle.bl_policy.specs.declared.access.Mode.{Mode}
 use Rattle.bl_policy.specs.declared.access.Mode.TheVariants.{Read, Append, Write}
 use Rattle.bl_policy.specs.declared.access.ModeSet.{ModeSet}
-use Rattle.bl_policy.specs.Mode.{has_mode}
-use Rattle.bl_policy.specs.Matrix.{Triple, triple, no_triple, is_in, put_modes}
+use Rattle.bl_policy.specs.Mode.{place_of, has_mode}
+use Rattle.bl_policy.specs.Matrix.{Triple, triple, no_triple, is_in, take_out, put_modes}
 use Rattle.bl_policy.specs.Cells.{matrix_from, matrix_of}
-use Rattle.bl_policy.proofs.Triples.{is_at, is_in-put_modes, same_members_set}
+use Rattle.bl_policy.proofs.Triples.{is_at, three, same_triple, is_in-put_modes, is_in-take_out, same_members_set}
 
 abbrev pub no_mode : ModeSet
 no_mode = record { 0 = 0 }
@@ -130,3 +132,58 @@ matrix_of-set cells s o cell modes h within adds =
 pub matrix_from-replicate : (n k : ℕ) → matrix_from k (replicate n no_mode) ≡ no_triple
 matrix_from-replicate zero k = refl
 matrix_from-replicate (suc n) k = matrix_from-replicate n (suc k)
+
+-- ---- taking a mode out of a cell
+
+and-false : (b : Bool) → (b && false) ≡ false
+and-false true = refl
+and-false false = refl
+
+-- no cell is one of a document past the last column
+outside : (k : ℕ) (cells : List ModeSet) (t : Triple) → 1024 ≤ t.document → in_cells k cells t ≡ false
+outside k [] t h = refl
+outside k (cell ∷ rest) t h =
+    let apart : is_at t (k / 1024) (k % 1024) ≡ false = no_true (is_at t (k / 1024) (k % 1024)) (λ e. let column = (both t.subject (k / 1024) t.document (k % 1024) e).1 in absurd (omega (arith, column, h))) in
+    ap (λ b. (b && has_mode cell t.mode) || in_cells (suc k) rest t) apart ∙ outside (suc k) rest t h
+
+-- of two triples, whether they are one
+same_here : (s o s' o' n : ℕ) (k : ℕ) → s ≡ s' → o ≡ o' → ((s == s') && ((o == o') && (n == k))) ≡ (n == k)
+same_here s o s' o' n k e f = grind (arith, nat_tests)
+
+not_same : (s o s' o' n k : ℕ) → s' * 1024 + o' ≢ s * 1024 + o → ((s == s') && ((o == o') && (n == k))) ≡ false
+not_same s o s' o' n k apart = no_true ((s == s') && ((o == o') && (n == k))) (λ h. let e = three s s' o o' n k h in apart (omega (arith, e.0, e.1.0)))
+
+-- the cell at this place loses a mode, and no other
+abbrev pub Loses : List ModeSet → ℕ → ModeSet → Mode → Type 0
+Loses cells place cell m = (n : Mode) → has_mode cell n ≡ (not (place_of m == place_of n) && has_mode (get_or cells place no_mode) n)
+
+in_cells-lost : (cells : List ModeSet) (s o : ℕ) (cell : ModeSet) (m : Mode) (t : Triple) → o < 1024 → s * 1024 + o < length cells → Loses cells (s * 1024 + o) cell m
+    → (t.document < 1024) ⊎ (1024 ≤ t.document) → (t.subject * 1024 + t.document ≡ s * 1024 + o) ⊎ (t.subject * 1024 + t.document ≢ s * 1024 + o)
+    → is_in (matrix_of (set cells (s * 1024 + o) cell)) t ≡ (not (same_triple (triple s o m) t) && is_in (matrix_of cells) t)
+in_cells-lost cells s o cell m t h within loses (inr past_last) place =
+    is_in-matrix_from 0 (set cells (s * 1024 + o) cell) t
+    ∙ outside 0 (set cells (s * 1024 + o) cell) t past_last
+    ∙ sym (and-false (not (same_triple (triple s o m) t)))
+    ∙ ap (λ b. not (same_triple (triple s o m) t) && b) (sym (is_in-matrix_from 0 cells t ∙ outside 0 cells t past_last))
+in_cells-lost cells s o cell m t h within loses (inl column) (inl at) =
+    let row : s ≡ t.subject = omega (arith, at, h, column) in
+    let same_column : o ≡ t.document = omega (arith, at, h, column) in
+    is_in-matrix_of (set cells (s * 1024 + o) cell) t.subject t.document t.mode column
+    ∙ ap (λ c. has_mode c t.mode) (ap (λ k. get_or (set cells (s * 1024 + o) cell) k no_mode) at ∙ get_or-set_same cells (s * 1024 + o) cell no_mode within)
+    ∙ loses t.mode
+    ∙ ap (λ b. not b && has_mode (get_or cells (s * 1024 + o) no_mode) t.mode) (sym (same_here s o t.subject t.document (place_of m) (place_of t.mode) row same_column))
+    ∙ ap (λ k. not (same_triple (triple s o m) t) && has_mode (get_or cells k no_mode) t.mode) (sym at)
+    ∙ ap (λ b. not (same_triple (triple s o m) t) && b) (sym (is_in-matrix_of cells t.subject t.document t.mode column))
+in_cells-lost cells s o cell m t h within loses (inl column) (inr apart) =
+    is_in-matrix_of (set cells (s * 1024 + o) cell) t.subject t.document t.mode column
+    ∙ ap (λ c. has_mode c t.mode) (get_or-set_other cells (s * 1024 + o) (t.subject * 1024 + t.document) cell no_mode apart)
+    ∙ sym (is_in-matrix_of cells t.subject t.document t.mode column)
+    ∙ ap (λ b. not b && is_in (matrix_of cells) t) (sym (not_same s o t.subject t.document (place_of m) (place_of t.mode) apart))
+
+-- a cell that loses a mode stands for the set without its triple
+pub matrix_of-lost : (cells : List ModeSet) (s o : ℕ) (cell : ModeSet) (m : Mode) → o < 1024 → s * 1024 + o < length cells → Loses cells (s * 1024 + o) cell m
+    → matrix_of (set cells (s * 1024 + o) cell) ≡ take_out (matrix_of cells) (triple s o m)
+matrix_of-lost cells s o cell m h within loses =
+    same_members_set (matrix_of (set cells (s * 1024 + o) cell)) (take_out (matrix_of cells) (triple s o m))
+    (λ t. in_cells-lost cells s o cell m t h within loses (cases_lt t.document 1024) (cases_eq (t.subject * 1024 + t.document) (s * 1024 + o))
+    ∙ sym (is_in-take_out (matrix_of cells) (triple s o m) t))

@@ -5,3 +5,5 @@ pub mod FieldLemmas
 pub mod Decisions
 pub mod Rows
 pub mod Properties
+pub mod Rules
+pub mod RuleRows

@@ -1,9 +1,10 @@
 -- Sets of modes as numbers.
-use Rattle.std.proofs.Common.{◌≡◌, ℕ, ◌*◌, ◌<◌, ◌||◌, ◌==◌, min, max, refl, sym, ◌∙◌, ap, arith, inl, inr, ◌⊎◌}
+use Rattle.std.proofs.Common.{◌≡◌, ℕ, ◌*◌, ◌-◌, ◌^◌, ◌<◌, Bool, true, false, not, ◌&&◌, ◌||◌, ◌==◌, cond, min, max, refl, sym, ◌∙◌, ap, arith, inl, inr, ◌⊎◌}
 use Rattle.std.specs.Prelude.{bit_and, bit_or}
 use Rattle.std.specs.Int.{bit_at}
 use Rattle.std.proofs.lemmas.Nat.Bits.{bit_at_and, bit_at_or, bit_at-lt, and_pow}
-use Rattle.std.proofs.lemmas.Nat.{or_lt, and_le_r}
+use Rattle.std.proofs.lemmas.Nat.{or_lt, and_le_l, and_le_r}
+use Rattle.bitflags.specs.Sets.{without}
 use Rattle.bl_policy.specs.declared.access.Mode.{Mode}
 use Rattle.bl_policy.specs.declared.access.Mode.TheVariants.{Read, Append, Write}
 use Rattle.bl_policy.specs.declared.access.ModeSet.{ModeSet}
@@ -46,3 +47,30 @@ has_mode-or a b m =
 -- no bit but those of the three modes is added
 pub or-small : (a b : ℕ) → a < 8 → bit_or a (bit_and b 7) < 8
 or-small a b h = let l : bit_and b 7 < 8 = omega (arith, and_le_r b 7) in or_lt 3 a (bit_and b 7) h l
+
+kept : (m n : Mode) → bit_at (2 ^ 8 - 1 - flag_of m) (place_of n) ≡ cond (place_of m == place_of n) 0 1
+kept Read Read = refl
+kept Read Append = refl
+kept Read Write = refl
+kept Append Read = refl
+kept Append Append = refl
+kept Append Write = refl
+kept Write Read = refl
+kept Write Append = refl
+kept Write Write = refl
+
+bit_without : (x : ℕ) (b : Bool) → (x ≡ 0) ⊎ (x ≡ 1) → (min x (cond b 0 1) == 1) ≡ (not b && (x == 1))
+bit_without x true (inl e) = ap (λ v. min v 0 == 1) e
+bit_without x true (inr e) = ap (λ v. min v 0 == 1) e
+bit_without x false (inl e) = ap (λ v. min v 1 == 1) e ∙ sym (ap (λ v. v == 1) e)
+bit_without x false (inr e) = ap (λ v. min v 1 == 1) e ∙ sym (ap (λ v. v == 1) e)
+
+-- the modes of a set from which one is taken
+pub has_mode-without : (a : ℕ) (m n : Mode) → has_mode (record { 0 = without 8 a (flag_of m) }) n ≡ (not (place_of m == place_of n) && has_mode (record { 0 = a }) n)
+has_mode-without a m n =
+    ap (λ v. v == 1) (bit_at_and a (2 ^ 8 - 1 - flag_of m) (place_of n) ∙ ap (λ v. min (bit_at a (place_of n)) v) (kept m n))
+    ∙ bit_without (bit_at a (place_of n)) (place_of m == place_of n) (bit_cases a (place_of n))
+
+-- no bit is added
+pub without-small : (a b : ℕ) → a < 8 → without 8 a b < 8
+without-small a b h = omega (arith, and_le_l a (2 ^ 8 - 1 - b), h)

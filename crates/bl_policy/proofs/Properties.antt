@@ -73,6 +73,9 @@ module _ (means : Means) where
   FailsTests failing.Simple x y z = x ≡ false
   FailsTests failing.Star x y z = (x ≡ true) × (y ≡ false)
   FailsTests failing.Discretionary x y z = (x ≡ true) × (y ≡ true) × (z ≡ false)
+  FailsTests failing.Admin x y z = ⊥
+  FailsTests failing.Trusted x y z = ⊥
+  FailsTests failing.Greatest x y z = ⊥
 
   some_is : {X : Type 0} (x y : X) → Some x ≡ Some y → x ≡ y
   some_is x y e = ap (λ o. unwrap_or o x) e
@@ -90,6 +93,9 @@ module _ (means : Means) where
   fails-tests failing.Simple p s o m t = λ h. true≢false (sym ((simple-means p s o m).1 h) ∙ t)
   fails-tests failing.Star p s o m t = ((simple-means p s o m).0 t.0, λ h. true≢false (sym ((star-means p s o m).1 h) ∙ t.1))
   fails-tests failing.Discretionary p s o m t = ((simple-means p s o m).0 t.0, (star-means p s o m).0 t.1, λ h. true≢false (sym h ∙ t.2))
+  fails-tests failing.Admin p s o m t = t
+  fails-tests failing.Trusted p s o m t = t
+  fails-tests failing.Greatest p s o m t = t
 
   -- ---- a list of accesses
 

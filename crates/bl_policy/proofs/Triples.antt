@@ -23,7 +23,7 @@ tied-same t u =
     (unsigned_ties t.subject u.subject)
     (both_tied (t.document == u.document) (place_of t.mode == place_of u.mode) (nat_cmp t.document u.document) (nat_cmp (place_of t.mode) (place_of u.mode)) (unsigned_ties t.document u.document) (unsigned_ties (place_of t.mode) (place_of u.mode))))
 
-three : (a b c d e f : ℕ) → ((a == b) && ((c == d) && (e == f))) ≡ true → (a ≡ b) × ((c ≡ d) × (e ≡ f))
+pub three : (a b c d e f : ℕ) → ((a == b) && ((c == d) && (e == f))) ≡ true → (a ≡ b) × ((c ≡ d) × (e ≡ f))
 three a b c d e f h = grind (arith, nat_tests)
 
 pub one-of_same : (t u : Triple) → same_triple t u ≡ true → t ≡ u

@@ -31,11 +31,14 @@ abbrev pub first_fault : SecurityPolicy → ℕ → List Access → Option Denia
 first_fault p s [] = None
 first_fault p s (access ∷ rest) = fault_or (fault_of p s access) (first_fault p s rest)
 
--- this is the first property that the access fails
+-- this is the first property that the access fails; the conditions of rules are none of its properties
 abbrev pub FailsFirst : Clause → SecurityPolicy → ℕ → ℕ → Mode → Type 0
 FailsFirst failing.Simple p s o m = ¬ Simple p s o m
 FailsFirst failing.Star p s o m = Simple p s o m × ¬ Star p s o m
 FailsFirst failing.Discretionary p s o m = Simple p s o m × Star p s o m × ¬ Discretionary p s o m
+FailsFirst failing.Admin p s o m = ⊥
+FailsFirst failing.Trusted p s o m = ⊥
+FailsFirst failing.Greatest p s o m = ⊥
 
 -- the refusal names subject s, the document of an access before which each is secure, and the first property that this access fails
 pub record IsFirstFault (p : SecurityPolicy) (s : ℕ) (accesses : List Access) (denial : Denial) : Type 0 where

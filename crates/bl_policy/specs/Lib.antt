@@ -4,6 +4,7 @@ pub mod Policy
 pub mod Properties
 pub mod Denial
 pub mod FirstFault
+pub mod RuleEffect
 pub mod Cells
 pub mod Codes
 pub mod Fields

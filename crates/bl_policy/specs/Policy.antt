@@ -1,8 +1,8 @@
-use Rattle.std.specs.Prelude.{ℕ, Bool, false, List, [], ◌∷◌, ◌++◌, slice_index_or}
-use Rattle.bl_level.specs.Level.{SecurityLevel}
+use Rattle.std.specs.Prelude.{ℕ, Bool, false, List, [], ◌∷◌, ◌++◌, slice_index_or, slice_set, All}
+use Rattle.bl_level.specs.Level.{SecurityLevel, Dominates}
 use Rattle.bl_policy.specs.declared.access.Mode.{Mode}
 use Rattle.bl_policy.specs.declared.access.ModeSet.{ModeSet}
-use Rattle.bl_policy.specs.Matrix.{Matrix, triple, is_in, put_modes, no_triple}
+use Rattle.bl_policy.specs.Matrix.{Matrix, Triple, triple, is_in, put_in, take_out, put_modes, no_triple}
 
 -- what a policy has of one subject: its levels, and whether it is in the sets of trusted subjects and of administrators
 pub record Clearance : Type 0 where
@@ -68,3 +68,23 @@ with_document p level = record p { documents = p.documents ++ level ∷ [] }
 -- the policy whose matrix also has the triples of subject s, document o and these modes
 abbrev pub with_modes : SecurityPolicy → ℕ → ℕ → ModeSet → SecurityPolicy
 with_modes p s o modes = record p { matrix = put_modes p.matrix s o modes }
+
+-- the policy whose matrix also has this triple
+abbrev pub with_triple : SecurityPolicy → Triple → SecurityPolicy
+with_triple p t = record p { matrix = put_in p.matrix t }
+
+-- the policy whose matrix does not have this triple
+abbrev pub without_triple : SecurityPolicy → Triple → SecurityPolicy
+without_triple p t = record p { matrix = take_out p.matrix t }
+
+-- the policy in which this is the current level of subject s
+abbrev pub with_current : SecurityPolicy → ℕ → SecurityLevel → SecurityPolicy
+with_current p s level = record p { subjects = slice_set p.subjects s (record (clearance_of p s) { current = level }) }
+
+-- the policy in which this is the level of document o
+abbrev pub with_level : SecurityPolicy → ℕ → SecurityLevel → SecurityPolicy
+with_level p o level = record p { documents = slice_set p.documents o level }
+
+-- the greatest level of every subject dominates its current one (Bell and La Padula 1976)
+abbrev pub CurrentBelowGreatest : SecurityPolicy → Type 0
+CurrentBelowGreatest p = All (λ clearance. Dominates clearance.greatest clearance.current) p.subjects

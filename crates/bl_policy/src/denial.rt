@@ -1,10 +1,10 @@
-// What a refusal says: the property that failed first, whose access it was, and of which document.
+// What a refusal says: the property or condition that failed first, who spoke, and of which document.
 ghost use Rattle.std.specs.Prelude.{◌≡◌};
 ghost use Rattle.bl_policy.specs.Denial.{word_of};
 
 use crate::id::{DocId, SubjectId};
 
-/// The property that an access fails.
+/// The property that an access fails, or the condition that a rule fails.
 #[derive(Clone, Copy, PartialEq, Eq, Debug)]
 pub enum Clause {
     /// The simple-security property: the subject's greatest level does not dominate the document's.
@@ -13,10 +13,16 @@ pub enum Clause {
     Star,
     /// The discretionary property: the mode is not in the matrix for this subject and document.
     Discretionary,
+    /// The rule needs an administrator, and the speaker is none.
+    Admin,
+    /// The rule needs a trusted subject, and the speaker is none.
+    Trusted,
+    /// The speaker's greatest level does not dominate the current level that the rule asks for.
+    Greatest,
 }
 
 impl Clause {
-    /// The property's name in a reply.
+    /// The name of the property or condition in a reply.
     pub fn word(self) -> &'static str
         ensures { result.now ≡ word_of self }
     {
@@ -24,11 +30,15 @@ impl Clause {
             Clause::Simple => "simple",
             Clause::Star => "star",
             Clause::Discretionary => "discretionary",
+            Clause::Admin => "admin",
+            Clause::Trusted => "trusted",
+            Clause::Greatest => "greatest",
         }
     }
 }
 
-/// A refusal: the first property that failed, the subject that spoke, and the document, where there is one.
+/// A refusal: the first property or condition that failed, the subject that spoke, and the document of the
+/// access or rule. A rule that changes the current level has no document.
 #[derive(Clone, Copy, PartialEq, Eq, Debug)]
 pub struct Denial {
     pub clause: Clause,

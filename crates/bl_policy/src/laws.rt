@@ -1,14 +1,17 @@
 // Laws: what the words of the definitions mean, for every policy, whether or not some code keeps it.
 //
 // Each function does nothing, and its contract is the law.
-ghost use Rattle.std.specs.Prelude.{◌≡◌, ◌≢◌, ◌⊎◌, ◌↔◌, ℕ, IsTrue, Some, None, List, All};
+ghost use Rattle.std.specs.Prelude.{◌≡◌, ◌≢◌, ◌⊎◌, ◌↔◌, ℕ, IsTrue, Some, None, List, length, All};
 ghost use Rattle.bl_policy.specs.declared.access.Mode.{Mode};
 ghost use Rattle.bl_policy.specs.declared.access.Access.{Access};
 ghost use Rattle.bl_policy.specs.declared.denial.Denial.{Denial};
 ghost use Rattle.bl_policy.specs.Matrix.{Triple, Matrix, no_triple, is_in, put_in, take_out};
-ghost use Rattle.bl_policy.specs.Policy.{SecurityPolicy};
+ghost use Rattle.bl_policy.specs.Policy.{SecurityPolicy, clearance_of, greatest_of, is_trusted, is_admin, allows, CurrentBelowGreatest};
 ghost use Rattle.bl_policy.specs.Properties.{Simple, Star, Discretionary, IsSecure, is_simple, is_star, is_discretionary};
 ghost use Rattle.bl_policy.specs.FirstFault.{first_fault, IsFirstFault};
+ghost use Rattle.bl_policy.specs.declared.rule.Rule.{Rule};
+ghost use Rattle.bl_policy.specs.declared.rule.Rule.TheVariants.{Give, Rescind};
+ghost use Rattle.bl_policy.specs.RuleEffect.{Permits, rule_fault, rule_makes, after_rule, IsRuleFault};
 
 use bl_level::level::dominates_means_dominance;
 
@@ -38,3 +41,30 @@ pub fn first_fault_is_the_first()
 {
     dominates_means_dominance();
 }
+
+/// A rule is refused just where its speaker fails a condition, and the refusal names the first that fails.
+pub fn rule_fault_is_the_first()
+    ensures none { (p : SecurityPolicy) (s : ℕ) (rule : Rule) → (rule_fault p s rule ≡ None) ↔ Permits (clearance_of p s) rule }
+    ensures some { (p : SecurityPolicy) (s : ℕ) (rule : Rule) (denial : Denial) → rule_fault p s rule ≡ Some denial → IsRuleFault p s rule denial }
+{
+    dominates_means_dominance();
+}
+
+/// No rule adds or drops a subject or a document, changes a greatest level, or makes a subject trusted or
+/// an administrator; and each greatest level dominates the current one after it, where it did before.
+pub fn rules_keep_rights()
+    ensures subjects { (p : SecurityPolicy) (s : ℕ) (rule : Rule) → length (after_rule p s rule).subjects ≡ length p.subjects }
+    ensures documents { (p : SecurityPolicy) (s : ℕ) (rule : Rule) → length (after_rule p s rule).documents ≡ length p.documents }
+    ensures greatest { (p : SecurityPolicy) (s u : ℕ) (rule : Rule) → greatest_of (after_rule p s rule) u ≡ greatest_of p u }
+    ensures trusted { (p : SecurityPolicy) (s u : ℕ) (rule : Rule) → is_trusted (after_rule p s rule) u ≡ is_trusted p u }
+    ensures admin { (p : SecurityPolicy) (s u : ℕ) (rule : Rule) → is_admin (after_rule p s rule) u ≡ is_admin p u }
+    ensures below { (p : SecurityPolicy) (s : ℕ) (rule : Rule) → CurrentBelowGreatest p → CurrentBelowGreatest (after_rule p s rule) }
+{
+    dominates_means_dominance();
+}
+
+/// To give a mode that is there, or to rescind one that is not, changes nothing.
+pub fn old_news_changes_nothing()
+    ensures give { (p : SecurityPolicy) (s t o : ℕ) (m : Mode) → IsTrue (allows p t o m) → rule_makes p s (Give t o m) ≡ p }
+    ensures rescind { (p : SecurityPolicy) (s t o : ℕ) (m : Mode) → ¬ IsTrue (allows p t o m) → rule_makes p s (Rescind t o m) ≡ p }
+{}

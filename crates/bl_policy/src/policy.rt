@@ -3,7 +3,7 @@
 //
 // All memory is taken when a policy is made, for the most subjects and documents that there may be. The
 // matrix is kept as one row of cells after another, so a decision reads one cell.
-ghost use Rattle.std.specs.Prelude.{◌≡◌, ◌==◌, ◌&&◌, ◌||◌, ◌≢◌, ℕ, ◌+◌, ◌*◌, ◌<◌, ◌≤◌, ◌↔◌, All, length, IfOk, OnOk, OnErr, IfNone, IsTrue};
+ghost use Rattle.std.specs.Prelude.{◌≡◌, ◌==◌, ◌&&◌, ◌||◌, ◌≢◌, ℕ, ◌+◌, ◌*◌, ◌<◌, ◌≤◌, ◌↔◌, All, length, vec_capacity, IfOk, OnOk, OnErr, IfNone, IsTrue};
 ghost use Rattle.bl_level.specs.Level.{Dominates};
 ghost use Rattle.bl_policy.specs.Cells.{matrix_of};
 ghost use Rattle.bl_policy.specs.Matrix.{no_triple};
@@ -108,6 +108,16 @@ fn empty_cells(alloc: Global, count: usize) -> Result<Vec<ModeSet>, AllocError>
     vec![in alloc; ModeSet::empty(); count]
 }
 
+/// These items, with room for more.
+fn with_room<T: Copy>(alloc: Global, room: usize, items: &[T]) -> Result<Vec<T>, AllocError>
+    ensures items { IfOk result (λ copy. copy.items ≡ items.now) }
+    ensures room { IfOk result (λ copy. room ≤ vec_capacity copy) }
+{
+    let mut copy = Vec::with_capacity(alloc, room)?;
+    copy.extend_from_slice(items)?;
+    Ok(copy)
+}
+
 impl Policy {
     /// No subject, no document and an empty matrix. Memory for as many as there may be is taken here, and
     /// no later call takes any.
@@ -118,6 +128,18 @@ impl Policy {
             subjects: Vec::with_capacity(alloc, SUBJECT_LIMIT)?,
             documents: Vec::with_capacity(alloc, DOCUMENT_LIMIT)?,
             cells: empty_cells(alloc, SUBJECT_LIMIT * DOCUMENT_LIMIT)?,
+        })
+    }
+
+    /// An equal policy, with memory of its own for as many subjects and documents as there may be.
+    pub fn copy(&self) -> Result<Policy, AllocError>
+        ensures { IfOk result (λ policy. policy ≡ self.now) }
+    {
+        let alloc = *self.cells.allocator();
+        Ok(Policy {
+            subjects: with_room(alloc, SUBJECT_LIMIT, &self.subjects)?,
+            documents: with_room(alloc, DOCUMENT_LIMIT, &self.documents)?,
+            cells: Vec::from_slice(alloc, &self.cells)?,
         })
     }
 
@@ -326,5 +348,6 @@ impl Policy {
     }
 }
 
+mod apply;
 #[cfg(test)]
 mod tests;

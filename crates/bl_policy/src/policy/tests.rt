@@ -5,6 +5,8 @@ use super::*;
 use std::process::Abort;
 use std::test::Fail;
 
+mod rules;
+
 const NATO: u32 = 1;
 
 const CRYPTO: u32 = 2;
@@ -248,4 +250,7 @@ fn words(rt: HostRuntime) {
     assert_eq!(rt; Clause::Simple.word(), "simple");
     assert_eq!(rt; Clause::Star.word(), "star");
     assert_eq!(rt; Clause::Discretionary.word(), "discretionary");
+    assert_eq!(rt; Clause::Admin.word(), "admin");
+    assert_eq!(rt; Clause::Trusted.word(), "trusted");
+    assert_eq!(rt; Clause::Greatest.word(), "greatest");
 }

@@ -1,0 +1,106 @@
+// What a rule makes of the policy (Bell and La Padula 1976, rules).
+//
+// A rule writes one place: a cell of the matrix, a current level, or the level of a document.
+ghost use Rattle.std.specs.Prelude.{◌≡◌, ◌<◌, length, IfNone, OnSome};
+ghost use Rattle.bl_level.specs.Level.{Dominates};
+ghost use Rattle.bl_policy.specs.Matrix.{triple};
+ghost use Rattle.bl_policy.specs.Fields.{clearance_from};
+ghost use Rattle.bl_policy.specs.Policy.{clearance_of, greatest_of, without_triple, with_current, with_level, CurrentBelowGreatest};
+ghost use Rattle.bl_policy.specs.RuleEffect.{IsRuleOf, Permits, failed_condition, rule_fault, rule_makes, after_rule};
+
+use super::{Policy, Subject, cell_place};
+use crate::access::{Mode, ModeSet};
+use crate::denial::{Clause, Denial};
+use crate::id::{DocId, SubjectId};
+use crate::rule::Rule;
+use bitflags::Flags;
+use bl_level::level::Level;
+
+impl Subject {
+    /// The first condition that a rule of this speaker fails.
+    fn failed_condition(&self, rule: &Rule) -> Option<Clause>
+        ensures first { result ≡ failed_condition (clearance_from self.now) rule.now }
+        ensures permitted { IfNone result (Permits (clearance_from self.now) rule.now) }
+    {
+        match rule {
+            Rule::Give { .. } | Rule::Rescind { .. } if !self.admin => Some(Clause::Admin),
+            Rule::Current { level } if !self.greatest.dominates(level) => Some(Clause::Greatest),
+            Rule::Classify { .. } if !self.admin => Some(Clause::Admin),
+            Rule::Classify { .. } if !self.trusted => Some(Clause::Trusted),
+            _ => None,
+        }
+    }
+}
+
+impl Policy {
+    /// Applies a rule for the subject that asks for it, the speaker, and answers None; or changes nothing
+    /// and answers the first condition that the rule fails. `Give` and `Rescind` need an administrator
+    /// (`Admin`), `Current` a level that the speaker's greatest level dominates (`Greatest`), and
+    /// `Classify` an administrator (`Admin`) who is also trusted (`Trusted`). The denial names the speaker
+    /// and the rule's document, which `Current` has none of. To give a mode that is there, or to rescind
+    /// one that is not, succeeds and changes nothing. No memory is taken.
+    ///
+    /// `decide` says of the policy after any rules what it says of any policy: its first fault.
+    pub fn apply(&mut self, subject: SubjectId, rule: &Rule) -> Option<Denial>
+        requires known { subject < length self.old.subjects }
+        requires there { IsRuleOf self.old rule.now }
+        ensures fault { result ≡ rule_fault self.old subject rule.now }
+        ensures policy { self.new ≡ after_rule self.old subject rule.now }
+        ensures permitted { IfNone result (Permits (clearance_of self.old subject) rule.now) }
+        ensures denied { OnSome result (self.new ≡ self.old) }
+        ensures below { CurrentBelowGreatest self.new }
+        ensures same_ids { (length self.new.subjects ≡ length self.old.subjects) × (length self.new.documents ≡ length self.old.documents) }
+    {
+        let speaker = &self.subjects[subject.position() as usize];
+        if let Some(clause) = speaker.failed_condition(rule) {
+            return Some(Denial {
+                clause,
+                subject,
+                object: rule.doc(),
+            });
+        }
+        self.change(subject, rule);
+        None
+    }
+
+    /// Makes the change of a rule that its speaker may ask for.
+    fn change(&mut self, subject: SubjectId, rule: &Rule)
+        requires known { subject < length self.old.subjects }
+        requires there { IsRuleOf self.old rule.now }
+        requires permitted { Permits (clearance_of self.old subject) rule.now }
+        ensures { self.new ≡ rule_makes self.old subject rule.now }
+    {
+        match *rule {
+            Rule::Give { subject, doc, mode } => self.allow(subject, doc, ModeSet::from(mode)),
+            Rule::Rescind { subject, doc, mode } => self.withdraw(subject, doc, mode),
+            Rule::Current { level } => self.set_current(subject, level),
+            Rule::Classify { doc, level } => self.set_level(doc, level),
+        }
+    }
+
+    /// Takes a mode out of a cell, which keeps the others.
+    fn withdraw(&mut self, subject: SubjectId, doc: DocId, mode: Mode)
+        requires known { subject < length self.old.subjects }
+        requires there { doc < length self.old.documents }
+        ensures { self.new ≡ without_triple self.old (triple subject doc mode) }
+    {
+        self.cells[cell_place(subject, doc)].remove(ModeSet::from(mode));
+    }
+
+    /// Gives a subject a current level, which its greatest level has to dominate.
+    fn set_current(&mut self, subject: SubjectId, level: Level)
+        requires known { subject < length self.old.subjects }
+        requires below { Dominates (greatest_of self.old subject) level }
+        ensures { self.new ≡ with_current self.old subject level }
+    {
+        self.subjects[subject.position() as usize].current = level;
+    }
+
+    /// Gives a document a level.
+    fn set_level(&mut self, doc: DocId, level: Level)
+        requires { doc < length self.old.documents }
+        ensures { self.new ≡ with_level self.old doc level }
+    {
+        self.documents[doc.position() as usize] = level;
+    }
+}
