@@ -15,3 +15,5 @@ pub mod Altered
 mod Rows
 pub mod Additions
 pub mod Same
+pub mod Numbering
+pub mod Behaviours
