@@ -94,28 +94,32 @@ module _ (names : KnownNames) where
     keeps (set d w rest) next h =
         (declared_doc is_write list d (All-head IsDeclared (used is_write d) (uses_in list rest) h), keeps rest next (All-tail IsDeclared (used is_write d) (uses_in list rest) h))
     keeps (copy d e rest) next h =
-        let tail = All-tail IsDeclared (used observes d) (used is_write e ∷ uses_in list rest) h in
-        (declared_doc observes list d (All-head IsDeclared (used observes d) (used is_write e ∷ uses_in list rest) h),
-         declared_doc is_write list e (All-head IsDeclared (used is_write e) (uses_in list rest) tail),
-         keeps rest next (All-tail IsDeclared (used is_write e) (uses_in list rest) tail))
+        let tail = All-tail IsDeclared (used observes d) (used is_write e ∷ uses_in list rest) h in (
+          declared_doc observes list d (All-head IsDeclared (used observes d) (used is_write e ∷ uses_in list rest) h),
+          declared_doc is_write list e (All-head IsDeclared (used is_write e) (uses_in list rest) tail),
+          keeps rest next (All-tail IsDeclared (used is_write e) (uses_in list rest) tail),
+        )
     keeps (pour d e rest) next h =
-        let tail = All-tail IsDeclared (used observes d) (used alters e ∷ uses_in list rest) h in
-        (declared_doc observes list d (All-head IsDeclared (used observes d) (used alters e ∷ uses_in list rest) h),
-         declared_doc alters list e (All-head IsDeclared (used alters e) (uses_in list rest) tail),
-         keeps rest next (All-tail IsDeclared (used alters e) (uses_in list rest) tail))
+        let tail = All-tail IsDeclared (used observes d) (used alters e ∷ uses_in list rest) h in (
+          declared_doc observes list d (All-head IsDeclared (used observes d) (used alters e ∷ uses_in list rest) h),
+          declared_doc alters list e (All-head IsDeclared (used alters e) (uses_in list rest) tail),
+          keeps rest next (All-tail IsDeclared (used alters e) (uses_in list rest) tail),
+        )
     keeps (if_then d a w t rest) next h =
-        let tail = All-tail IsDeclared (used observes d) (uses_in list t ++ uses_in list rest) h in
-        (declared_doc observes list d (All-head IsDeclared (used observes d) (uses_in list t ++ uses_in list rest) h),
-         keeps t next (all_left IsDeclared (uses_in list t) (uses_in list rest) tail),
-         tt,
-         keeps rest (next + whens t) (all_right IsDeclared (uses_in list t) (uses_in list rest) tail))
+        let tail = All-tail IsDeclared (used observes d) (uses_in list t ++ uses_in list rest) h in (
+          declared_doc observes list d (All-head IsDeclared (used observes d) (uses_in list t ++ uses_in list rest) h),
+          keeps t next (all_left IsDeclared (uses_in list t) (uses_in list rest) tail),
+          tt,
+          keeps rest (next + whens t) (all_right IsDeclared (uses_in list t) (uses_in list rest) tail),
+        )
     keeps (if_else d a w t e rest) next h =
         let tail = All-tail IsDeclared (used observes d) (uses_in list t ++ (uses_in list e ++ uses_in list rest)) h in
-        let later = all_right IsDeclared (uses_in list t) (uses_in list e ++ uses_in list rest) tail in
-        (declared_doc observes list d (All-head IsDeclared (used observes d) (uses_in list t ++ (uses_in list e ++ uses_in list rest)) h),
-         keeps t next (all_left IsDeclared (uses_in list t) (uses_in list e ++ uses_in list rest) tail),
-         keeps e (next + whens t) (all_left IsDeclared (uses_in list e) (uses_in list rest) later),
-         keeps rest (next + whens t + whens e) (all_right IsDeclared (uses_in list e) (uses_in list rest) later))
+        let later = all_right IsDeclared (uses_in list t) (uses_in list e ++ uses_in list rest) tail in (
+          declared_doc observes list d (All-head IsDeclared (used observes d) (uses_in list t ++ (uses_in list e ++ uses_in list rest)) h),
+          keeps t next (all_left IsDeclared (uses_in list t) (uses_in list e ++ uses_in list rest) tail),
+          keeps e (next + whens t) (all_left IsDeclared (uses_in list e) (uses_in list rest) later),
+          keeps rest (next + whens t + whens e) (all_right IsDeclared (uses_in list e) (uses_in list rest) later),
+        )
     keeps (spawn f m b rest) next h =
         keeps rest (next + 1 + whens b) (all_right IsDeclared (uses_in (f ∷ m) b) (uses_in list rest) h)
 
@@ -138,7 +142,7 @@ module _ (documents : List (List ℕ)) where
       let itself : bytes_eq a a ≡ true = let d = bytes_eq-Decides a a in grind (arith, d) in
       let within = first_within (bytes_eq a) documents k a lt (ap (bytes_eq a) at ∙ itself) in
       let place : place_of a documents ≡ Some (position_or_len (bytes_eq a) documents) =
-          ap (λ b. cond b (Some (position_or_len (bytes_eq a) documents)) None) (lt-ltb _ _ within) in
+      ap (λ b. cond b (Some (position_or_len (bytes_eq a) documents)) None) (lt-ltb _ _ within) in
       let found = position-Some (bytes_eq a) documents (position_or_len (bytes_eq a) documents) [] place in
       ap (λ o. get_or documents (unwrap_or o 0) []) place ∙ sym (same_bytes a _ found.1)
 
@@ -176,7 +180,7 @@ module _ (names : KnownNames) where
       let others = All-tail (Contains names.documents) a.document (documents_in list) known in
       AllPairs-cons (λ (x y : Access). x.doc ≢ y.doc) (access_of names a) (map (access_of names) list)
       (others_apart a list (All-head (Contains names.documents) a.document (documents_in list) known) others
-       (later_once list (a.document ∷ earlier) a.document (0, omega arith, refl) later))
+      (later_once list (a.document ∷ earlier) a.document (0, omega arith, refl) later))
       (accesses_apart list (a.document ∷ earlier) others later)
 
   -- ---- the behaviours
@@ -201,7 +205,7 @@ module _ (names : KnownNames) where
     few = omega (arith, length-map more (access_of names), short);
     apart = accesses_apart (first ∷ more) [] known once;
     modes = keeps names (first ∷ more) b next right.declared;
-    texts = contents_numbered names b next right.texts
+    texts = contents_numbered names b next right.texts;
   }
 
   -- each behaviour that a body spawns is one
@@ -209,44 +213,63 @@ module _ (names : KnownNames) where
   spawned_are list empty next r = All-nil IsBehaviour
   spawned_are list (show d rest) next r =
       spawned_are list rest next (record {
-        short = r.short; known = All-tail (Contains names.documents) d (names_in rest) r.known; once = r.once;
-        declared = All-tail IsDeclared (used names list observes d) (uses_in list rest) r.declared; texts = r.texts
+        short = r.short;
+        known = All-tail (Contains names.documents) d (names_in rest) r.known;
+        once = r.once;
+        declared = All-tail IsDeclared (used names list observes d) (uses_in list rest) r.declared;
+        texts = r.texts;
       })
   spawned_are list (say w rest) next r =
       spawned_are list rest next (record { short = r.short; known = r.known; once = r.once; declared = r.declared; texts = r.texts.1 })
   spawned_are list (add d w rest) next r =
       spawned_are list rest next (record {
-        short = r.short; known = All-tail (Contains names.documents) d (names_in rest) r.known; once = r.once;
-        declared = All-tail IsDeclared (used names list alters d) (uses_in list rest) r.declared; texts = r.texts.1
+        short = r.short;
+        known = All-tail (Contains names.documents) d (names_in rest) r.known;
+        once = r.once;
+        declared = All-tail IsDeclared (used names list alters d) (uses_in list rest) r.declared;
+        texts = r.texts.1;
       })
   spawned_are list (set d w rest) next r =
       spawned_are list rest next (record {
-        short = r.short; known = All-tail (Contains names.documents) d (names_in rest) r.known; once = r.once;
-        declared = All-tail IsDeclared (used names list is_write d) (uses_in list rest) r.declared; texts = r.texts.1
+        short = r.short;
+        known = All-tail (Contains names.documents) d (names_in rest) r.known;
+        once = r.once;
+        declared = All-tail IsDeclared (used names list is_write d) (uses_in list rest) r.declared;
+        texts = r.texts.1;
       })
   spawned_are list (copy d e rest) next r =
       spawned_are list rest next (record {
-        short = r.short; known = all_right (Contains names.documents) (d ∷ e ∷ []) (names_in rest) r.known; once = r.once;
-        declared = all_right IsDeclared (used names list observes d ∷ used names list is_write e ∷ []) (uses_in list rest) r.declared; texts = r.texts
+        short = r.short;
+        known = all_right (Contains names.documents) (d ∷ e ∷ []) (names_in rest) r.known;
+        once = r.once;
+        declared = all_right IsDeclared (used names list observes d ∷ used names list is_write e ∷ []) (uses_in list rest) r.declared;
+        texts = r.texts;
       })
   spawned_are list (pour d e rest) next r =
       spawned_are list rest next (record {
-        short = r.short; known = all_right (Contains names.documents) (d ∷ e ∷ []) (names_in rest) r.known; once = r.once;
-        declared = all_right IsDeclared (used names list observes d ∷ used names list alters e ∷ []) (uses_in list rest) r.declared; texts = r.texts
+        short = r.short;
+        known = all_right (Contains names.documents) (d ∷ e ∷ []) (names_in rest) r.known;
+        once = r.once;
+        declared = all_right IsDeclared (used names list observes d ∷ used names list alters e ∷ []) (uses_in list rest) r.declared;
+        texts = r.texts;
       })
   spawned_are list (if_then d a w t rest) next r =
       let known = All-tail (Contains names.documents) d (names_in t ++ names_in rest) r.known in
       let declared = All-tail IsDeclared (used names list observes d) (uses_in list t ++ uses_in list rest) r.declared in
       All-append IsBehaviour (spawned_from names next t) (spawned_from names (next + whens t) rest)
       (spawned_are list t next (record {
-        short = all_left IsShort (lists_in t) (lists_in rest) r.short; known = all_left (Contains names.documents) (names_in t) (names_in rest) known;
-        once = all_left IsOnce (declarations_in t) (declarations_in rest) r.once; declared = all_left IsDeclared (uses_in list t) (uses_in list rest) declared;
-        texts = r.texts.1.0
+        short = all_left IsShort (lists_in t) (lists_in rest) r.short;
+        known = all_left (Contains names.documents) (names_in t) (names_in rest) known;
+        once = all_left IsOnce (declarations_in t) (declarations_in rest) r.once;
+        declared = all_left IsDeclared (uses_in list t) (uses_in list rest) declared;
+        texts = r.texts.1.0;
       }))
       (spawned_are list rest (next + whens t) (record {
-        short = all_right IsShort (lists_in t) (lists_in rest) r.short; known = all_right (Contains names.documents) (names_in t) (names_in rest) known;
-        once = all_right IsOnce (declarations_in t) (declarations_in rest) r.once; declared = all_right IsDeclared (uses_in list t) (uses_in list rest) declared;
-        texts = r.texts.1.1
+        short = all_right IsShort (lists_in t) (lists_in rest) r.short;
+        known = all_right (Contains names.documents) (names_in t) (names_in rest) known;
+        once = all_right IsOnce (declarations_in t) (declarations_in rest) r.once;
+        declared = all_right IsDeclared (uses_in list t) (uses_in list rest) declared;
+        texts = r.texts.1.1;
       }))
   spawned_are list (if_else d a w t e rest) next r =
       let short = all_right IsShort (lists_in t) (lists_in e ++ lists_in rest) r.short in
@@ -261,39 +284,47 @@ module _ (names : KnownNames) where
         known = all_left (Contains names.documents) (names_in t) (names_in e ++ names_in rest) known;
         once = all_left IsOnce (declarations_in t) (declarations_in e ++ declarations_in rest) r.once;
         declared = all_left IsDeclared (uses_in list t) (uses_in list e ++ uses_in list rest) declared;
-        texts = r.texts.1.0
+        texts = r.texts.1.0;
       }))
       (All-append IsBehaviour (spawned_from names (next + whens t) e) (spawned_from names (next + whens t + whens e) rest)
       (spawned_are list e (next + whens t) (record {
-        short = all_left IsShort (lists_in e) (lists_in rest) short; known = all_left (Contains names.documents) (names_in e) (names_in rest) known_later;
-        once = all_left IsOnce (declarations_in e) (declarations_in rest) once; declared = all_left IsDeclared (uses_in list e) (uses_in list rest) declared_later;
-        texts = r.texts.1.1.0
+        short = all_left IsShort (lists_in e) (lists_in rest) short;
+        known = all_left (Contains names.documents) (names_in e) (names_in rest) known_later;
+        once = all_left IsOnce (declarations_in e) (declarations_in rest) once;
+        declared = all_left IsDeclared (uses_in list e) (uses_in list rest) declared_later;
+        texts = r.texts.1.1.0;
       }))
       (spawned_are list rest (next + whens t + whens e) (record {
-        short = all_right IsShort (lists_in e) (lists_in rest) short; known = all_right (Contains names.documents) (names_in e) (names_in rest) known_later;
-        once = all_right IsOnce (declarations_in e) (declarations_in rest) once; declared = all_right IsDeclared (uses_in list e) (uses_in list rest) declared_later;
-        texts = r.texts.1.1.1
+        short = all_right IsShort (lists_in e) (lists_in rest) short;
+        known = all_right (Contains names.documents) (names_in e) (names_in rest) known_later;
+        once = all_right IsOnce (declarations_in e) (declarations_in rest) once;
+        declared = all_right IsDeclared (uses_in list e) (uses_in list rest) declared_later;
+        texts = r.texts.1.1.1;
       })))
   spawned_are list (spawn f m b rest) next r =
       let short = All-tail IsShort (f ∷ m) (lists_in b ++ lists_in rest) r.short in
       let known = all_right (Contains names.documents) (documents_in (f ∷ m)) (names_in b ++ names_in rest) r.known in
       let once = all_right IsOnce (declarations_behind [] (f ∷ m)) (declarations_in b ++ declarations_in rest) r.once in
       let inner : IsRight (f ∷ m) b = record {
-        short = all_left IsShort (lists_in b) (lists_in rest) short; known = all_left (Contains names.documents) (names_in b) (names_in rest) known;
-        once = all_left IsOnce (declarations_in b) (declarations_in rest) once; declared = all_left IsDeclared (uses_in (f ∷ m) b) (uses_in list rest) r.declared;
-        texts = r.texts.0
+        short = all_left IsShort (lists_in b) (lists_in rest) short;
+        known = all_left (Contains names.documents) (names_in b) (names_in rest) known;
+        once = all_left IsOnce (declarations_in b) (declarations_in rest) once;
+        declared = all_left IsDeclared (uses_in (f ∷ m) b) (uses_in list rest) r.declared;
+        texts = r.texts.0;
       } in
       All-cons IsBehaviour (record { accesses = map (access_of names) (f ∷ m); body = numbered names (next + 1) b })
       (spawned_from names (next + 1) b ++ spawned_from names (next + 1 + whens b) rest)
       (behaviour_is f m b (next + 1) (All-head IsShort (f ∷ m) (lists_in b ++ lists_in rest) r.short)
-       (all_left (Contains names.documents) (documents_in (f ∷ m)) (names_in b ++ names_in rest) r.known)
-       (all_left IsOnce (declarations_behind [] (f ∷ m)) (declarations_in b ++ declarations_in rest) r.once) inner)
+      (all_left (Contains names.documents) (documents_in (f ∷ m)) (names_in b ++ names_in rest) r.known)
+      (all_left IsOnce (declarations_behind [] (f ∷ m)) (declarations_in b ++ declarations_in rest) r.once) inner)
       (All-append IsBehaviour (spawned_from names (next + 1) b) (spawned_from names (next + 1 + whens b) rest)
       (spawned_are (f ∷ m) b (next + 1) inner)
       (spawned_are list rest (next + 1 + whens b) (record {
-        short = all_right IsShort (lists_in b) (lists_in rest) short; known = all_right (Contains names.documents) (names_in b) (names_in rest) known;
-        once = all_right IsOnce (declarations_in b) (declarations_in rest) once; declared = all_right IsDeclared (uses_in (f ∷ m) b) (uses_in list rest) r.declared;
-        texts = r.texts.1
+        short = all_right IsShort (lists_in b) (lists_in rest) short;
+        known = all_right (Contains names.documents) (names_in b) (names_in rest) known;
+        once = all_right IsOnce (declarations_in b) (declarations_in rest) once;
+        declared = all_right IsDeclared (uses_in (f ∷ m) b) (uses_in list rest) r.declared;
+        texts = r.texts.1;
       })))
 
   -- a faultless `when` whose texts are contents stands for a script
@@ -305,7 +336,7 @@ module _ (names : KnownNames) where
         known = all_right (Contains names.documents) (documents_in (first ∷ more)) (names_in body) faultless.known;
         once = all_right IsOnce (declarations_behind [] (first ∷ more)) (declarations_in body) faultless.once;
         declared = faultless.declared;
-        texts = texts
+        texts = texts;
       } in
       record {
         few = omega (arith, script_long names first more body, faultless.few.whens);
@@ -313,7 +344,7 @@ module _ (names : KnownNames) where
         shallow = omega (arith, script_depth names first more body, faultless.shallow);
         each = All-cons IsBehaviour (record { accesses = map (access_of names) (first ∷ more); body = numbered names 1 body }) (spawned_from names 1 body)
             (behaviour_is first more body 1 (All-head IsShort (first ∷ more) (lists_in body) faultless.few.accesses)
-             (all_left (Contains names.documents) (documents_in (first ∷ more)) (names_in body) faultless.known)
-             (all_left IsOnce (declarations_behind [] (first ∷ more)) (declarations_in body) faultless.once) right)
-            (spawned_are (first ∷ more) body 1 right)
+            (all_left (Contains names.documents) (documents_in (first ∷ more)) (names_in body) faultless.known)
+            (all_left IsOnce (declarations_behind [] (first ∷ more)) (declarations_in body) faultless.once) right)
+            (spawned_are (first ∷ more) body 1 right);
       }

@@ -17,3 +17,5 @@ pub mod Additions
 pub mod Same
 pub mod Numbering
 pub mod Behaviours
+pub mod RawLists
+pub mod Built

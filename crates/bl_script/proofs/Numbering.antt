@@ -23,9 +23,14 @@ module _ (names : KnownNames) where
   spawned_long (if_then d a w t rest) next =
       omega (arith, length-append (spawned_from names next t) (spawned_from names (next + whens t) rest), spawned_long t next, spawned_long rest (next + whens t))
   spawned_long (if_else d a w t e rest) next =
-      omega (arith, length-append (spawned_from names next t) (spawned_from names (next + whens t) e ++ spawned_from names (next + whens t + whens e) rest),
-      length-append (spawned_from names (next + whens t) e) (spawned_from names (next + whens t + whens e) rest),
-      spawned_long t next, spawned_long e (next + whens t), spawned_long rest (next + whens t + whens e))
+      omega (
+        arith,
+        length-append (spawned_from names next t) (spawned_from names (next + whens t) e ++ spawned_from names (next + whens t + whens e) rest),
+        length-append (spawned_from names (next + whens t) e) (spawned_from names (next + whens t + whens e) rest),
+        spawned_long t next,
+        spawned_long e (next + whens t),
+        spawned_long rest (next + whens t + whens e),
+      )
   spawned_long (spawn f m b rest) next =
       omega (arith, length-append (spawned_from names (next + 1) b) (spawned_from names (next + 1 + whens b) rest), spawned_long b (next + 1), spawned_long rest (next + 1 + whens b))
 
@@ -82,28 +87,31 @@ module _ (value : SpelledBody → ℕ) where
   has_at (copy d e rest) list before behind base next at is = has_at rest list before behind base next at is
   has_at (pour d e rest) list before behind base next at is = has_at rest list before behind base next at is
   has_at (if_then d a w t rest) list before behind base next at is =
-      let split = is ∙ ap (λ l. before ++ l) (append_assoc (values_in t) (values_in rest) behind) in
-      (has_at t list before (values_in rest ++ behind) base next at split,
-       has_at rest list (before ++ values_in t) behind base (next + whens t) (omega (arith, length-append before (values_in t), values_long t))
-       (split ∙ sym (append_assoc before (values_in t) (values_in rest ++ behind))))
+      let split = is ∙ ap (λ l. before ++ l) (append_assoc (values_in t) (values_in rest) behind) in (
+        has_at t list before (values_in rest ++ behind) base next at split,
+        has_at rest list (before ++ values_in t) behind base (next + whens t) (omega (arith, length-append before (values_in t), values_long t))
+            (split ∙ sym (append_assoc before (values_in t) (values_in rest ++ behind))),
+      )
   has_at (if_else d a w t e rest) list before behind base next at is =
       let split = is ∙ ap (λ l. before ++ l) (append_assoc (values_in t) (values_in e ++ values_in rest) behind
-          ∙ ap (λ l. values_in t ++ l) (append_assoc (values_in e) (values_in rest) behind)) in
-      let second = split ∙ sym (append_assoc before (values_in t) (values_in e ++ (values_in rest ++ behind))) in
-      (has_at t list before (values_in e ++ (values_in rest ++ behind)) base next at split,
-       has_at e list (before ++ values_in t) (values_in rest ++ behind) base (next + whens t) (omega (arith, length-append before (values_in t), values_long t)) second,
-       has_at rest list ((before ++ values_in t) ++ values_in e) behind base (next + whens t + whens e)
-       (omega (arith, length-append (before ++ values_in t) (values_in e), length-append before (values_in t), values_long t, values_long e))
-       (second ∙ sym (append_assoc (before ++ values_in t) (values_in e) (values_in rest ++ behind))))
+      ∙ ap (λ l. values_in t ++ l) (append_assoc (values_in e) (values_in rest) behind)) in
+      let second = split ∙ sym (append_assoc before (values_in t) (values_in e ++ (values_in rest ++ behind))) in (
+        has_at t list before (values_in e ++ (values_in rest ++ behind)) base next at split,
+        has_at e list (before ++ values_in t) (values_in rest ++ behind) base (next + whens t) (omega (arith, length-append before (values_in t), values_long t)) second,
+        has_at rest list ((before ++ values_in t) ++ values_in e) behind base (next + whens t + whens e)
+            (omega (arith, length-append (before ++ values_in t) (values_in e), length-append before (values_in t), values_long t, values_long e))
+            (second ∙ sym (append_assoc (before ++ values_in t) (values_in e) (values_in rest ++ behind))),
+      )
   has_at (spawn f m b rest) list before behind base next at is =
       let split = is ∙ ap (λ l. before ++ (value b ∷ l)) (append_assoc (values_in b) (values_in rest) behind) in
-      let place : length before ≡ next - base = omega arith in
-      (ap (λ l. get_or l (next - base) 0) is ∙ get_or_at before (value b) _ 0 (next - base) place,
-       has_at b list (before ++ value b ∷ []) (values_in rest ++ behind) base (next + 1) (omega (arith, length-append before (value b ∷ [])))
-       (split ∙ sym (append_assoc before (value b ∷ []) (values_in b ++ (values_in rest ++ behind)))),
-       has_at rest list (before ++ value b ∷ values_in b) behind base (next + 1 + whens b)
-       (omega (arith, length-append before (value b ∷ values_in b), values_long b))
-       (split ∙ sym (append_assoc before (value b ∷ values_in b) (values_in rest ++ behind))))
+      let place : length before ≡ next - base = omega arith in (
+        ap (λ l. get_or l (next - base) 0) is ∙ get_or_at before (value b) _ 0 (next - base) place,
+        has_at b list (before ++ value b ∷ []) (values_in rest ++ behind) base (next + 1) (omega (arith, length-append before (value b ∷ [])))
+            (split ∙ sym (append_assoc before (value b ∷ []) (values_in b ++ (values_in rest ++ behind)))),
+        has_at rest list (before ++ value b ∷ values_in b) behind base (next + 1 + whens b)
+            (omega (arith, length-append before (value b ∷ values_in b), values_long b))
+            (split ∙ sym (append_assoc before (value b ∷ values_in b) (values_in rest ++ behind))),
+      )
 
 -- A number for each behaviour of a script, which is one more than what its statements have by the numbers of the later ones.
 module _ (names : KnownNames) (measure : SpelledBody → ℕ) (table : ℕ → List Part → List ℕ) (total : (ℕ → ℕ) → Statements → ℕ)
@@ -142,13 +150,13 @@ module _ (names : KnownNames) (measure : SpelledBody → ℕ) (table : ℕ → L
       let r = spawned_from names (next + 1 + whens b) rest in
       let later = (spawned_from names (next + 1) b ++ r) ++ behind in
       let is : table (next + 1) later ≡ v b ++ (v rest ++ table (next + (1 + (whens b + whens rest))) behind) =
-          ap (table (next + 1)) (append_assoc (spawned_from names (next + 1) b) r behind)
-          ∙ table_is b (next + 1) (r ++ behind)
-          ∙ ap (λ l. v b ++ l) (table_is rest (next + 1 + whens b) behind)
-          ∙ ap (λ n. v b ++ (v rest ++ table n behind)) same in
+      ap (table (next + 1)) (append_assoc (spawned_from names (next + 1) b) r behind)
+      ∙ table_is b (next + 1) (r ++ behind)
+      ∙ ap (λ l. v b ++ l) (table_is rest (next + 1 + whens b) behind)
+      ∙ ap (λ n. v b ++ (v rest ++ table n behind)) same in
       let place : next + 1 ≡ next + 1 + 0 = omega arith in
       let sum = meets b (λ j. get_or (table (next + 1) later) (j - (next + 1)) 0) (next + 1)
-          (has_at (λ c. 1 + measure c) b (table (next + 1) later) [] (v rest ++ table (next + (1 + (whens b + whens rest))) behind) (next + 1) (next + 1) place is) in
+      (has_at (λ c. 1 + measure c) b (table (next + 1) later) [] (v rest ++ table (next + (1 + (whens b + whens rest))) behind) (next + 1) (next + 1) place is) in
       one next _ later
       ∙ ap (λ n. (1 + n) ∷ table (next + 1) later) sum
       ∙ ap (λ l. (1 + measure b) ∷ l) (is ∙ sym (append_assoc (v b) (v rest) _))
@@ -239,7 +247,7 @@ module _ (names : KnownNames) (script : List Part) where
       let split : x ++ (z ++ more) ≡ (x ++ []) ++ z ++ more = sym (append_assoc x z more) ∙ ap (λ l. l ++ z ++ more) (sym (append-nil x)) in
       subst (λ l. AreNumbered script next l) split
       (numbered_on t next (z ++ more) h (omega arith)
-       (numbered_on rest (next + whens t) more i (omega arith) (subst (λ n. AreNumbered script n more) same behind)))
+      (numbered_on rest (next + whens t) more i (omega arith) (subst (λ n. AreNumbered script n more) same behind)))
   numbered_on (if_else d a w t e rest) next more (h, i, j) within behind =
       let x = spawned (numbered names next t) in
       let y = spawned (numbered names (next + whens t) e) in
@@ -248,14 +256,16 @@ module _ (names : KnownNames) (script : List Part) where
       let split : x ++ (y ++ (z ++ more)) ≡ (x ++ y) ++ z ++ more = sym (append_assoc x y (z ++ more)) ∙ sym (append_assoc (x ++ y) z more) in
       subst (λ l. AreNumbered script next l) split
       (numbered_on t next (y ++ (z ++ more)) h (omega arith)
-       (numbered_on e (next + whens t) (z ++ more) i (omega arith)
-        (numbered_on rest (next + whens t + whens e) more j (omega arith) (subst (λ n. AreNumbered script n more) same behind))))
+      (numbered_on e (next + whens t) (z ++ more) i (omega arith)
+      (numbered_on rest (next + whens t + whens e) more j (omega arith) (subst (λ n. AreNumbered script n more) same behind))))
   numbered_on (spawn f m b rest) next more (h, i, j) within behind =
       let same : next + (1 + (whens b + whens rest)) ≡ next + 1 + whens b + whens rest = omega arith in
-      let past : next + 1 + whens b ≡ next + size_at script next = omega (arith, h) in
-      (refl, omega arith,
-       subst (λ n. AreNumbered script n (spawned (numbered names (next + 1 + whens b) rest) ++ more)) past
-       (numbered_on rest (next + 1 + whens b) more j (omega arith) (subst (λ n. AreNumbered script n more) same behind)))
+      let past : next + 1 + whens b ≡ next + size_at script next = omega (arith, h) in (
+        refl,
+        omega arith,
+        subst (λ n. AreNumbered script n (spawned (numbered names (next + 1 + whens b) rest) ++ more)) past
+            (numbered_on rest (next + 1 + whens b) more j (omega arith) (subst (λ n. AreNumbered script n more) same behind)),
+      )
 
   -- and so are those that each behaviour in it names
   numbered_each : (b : SpelledBody) (next : ℕ) (behind : List Part) → Fits next b → next + whens b ≤ length script
@@ -271,24 +281,25 @@ module _ (names : KnownNames) (script : List Part) where
       let same : next + (whens t + whens rest) ≡ next + whens t + whens rest = omega arith in
       subst (λ l. EachFrom (IsNumbered script) next l) (sym (append_assoc (spawned_from names next t) (spawned_from names (next + whens t) rest) behind))
       (numbered_each t next (spawned_from names (next + whens t) rest ++ behind) h (omega arith)
-       (numbered_each rest (next + whens t) behind i (omega arith) (subst (λ n. EachFrom (IsNumbered script) n behind) same more)))
+      (numbered_each rest (next + whens t) behind i (omega arith) (subst (λ n. EachFrom (IsNumbered script) n behind) same more)))
   numbered_each (if_else d a w t e rest) next behind (h, i, j) within more =
       let same : next + (whens t + (whens e + whens rest)) ≡ next + whens t + whens e + whens rest = omega arith in
       let s = spawned_from names (next + whens t) e in
       let r = spawned_from names (next + whens t + whens e) rest in
       let split : spawned_from names next t ++ (s ++ (r ++ behind)) ≡ spawned_from names next t ++ (s ++ r) ++ behind =
-          ap (λ l. spawned_from names next t ++ l) (sym (append_assoc s r behind)) ∙ sym (append_assoc (spawned_from names next t) (s ++ r) behind) in
+      ap (λ l. spawned_from names next t ++ l) (sym (append_assoc s r behind)) ∙ sym (append_assoc (spawned_from names next t) (s ++ r) behind) in
       subst (λ l. EachFrom (IsNumbered script) next l) split
       (numbered_each t next (s ++ (r ++ behind)) h (omega arith)
-       (numbered_each e (next + whens t) (r ++ behind) i (omega arith)
-        (numbered_each rest (next + whens t + whens e) behind j (omega arith) (subst (λ n. EachFrom (IsNumbered script) n behind) same more))))
+      (numbered_each e (next + whens t) (r ++ behind) i (omega arith)
+      (numbered_each rest (next + whens t + whens e) behind j (omega arith) (subst (λ n. EachFrom (IsNumbered script) n behind) same more))))
   numbered_each (spawn f m b rest) next behind (h, i, j) within more =
       let same : next + (1 + (whens b + whens rest)) ≡ next + 1 + whens b + whens rest = omega arith in
-      let own = numbered_on b (next + 1) [] i (omega arith) tt in
-      (subst (λ l. AreNumbered script (next + 1) l) (append-nil (spawned (numbered names (next + 1) b))) own,
-       subst (λ l. EachFrom (IsNumbered script) (next + 1) l) (sym (append_assoc (spawned_from names (next + 1) b) (spawned_from names (next + 1 + whens b) rest) behind))
-       (numbered_each b (next + 1) (spawned_from names (next + 1 + whens b) rest ++ behind) i (omega arith)
-        (numbered_each rest (next + 1 + whens b) behind j (omega arith) (subst (λ n. EachFrom (IsNumbered script) n behind) same more))))
+      let own = numbered_on b (next + 1) [] i (omega arith) tt in (
+        subst (λ l. AreNumbered script (next + 1) l) (append-nil (spawned (numbered names (next + 1) b))) own,
+        subst (λ l. EachFrom (IsNumbered script) (next + 1) l) (sym (append_assoc (spawned_from names (next + 1) b) (spawned_from names (next + 1 + whens b) rest) behind))
+            (numbered_each b (next + 1) (spawned_from names (next + 1 + whens b) rest ++ behind) i (omega arith)
+            (numbered_each rest (next + 1 + whens b) behind j (omega arith) (subst (λ n. EachFrom (IsNumbered script) n behind) same more))),
+      )
 
 module _ (names : KnownNames) (first : SpelledAccess) (more : List SpelledAccess) (body : SpelledBody) where
   abbrev whole : List Part
@@ -322,14 +333,15 @@ module _ (names : KnownNames) (first : SpelledAccess) (more : List SpelledAccess
 
   each_numbered : EachFrom (IsNumbered whole) 0 whole
   each_numbered =
-      let within : 1 + whens body ≤ length whole = omega (arith, script_long) in
-      (subst (λ l. AreNumbered whole 1 l) (append-nil (spawned (numbered names 1 body))) (numbered_on names whole body 1 [] fits_whole within tt),
-       subst (λ l. EachFrom (IsNumbered whole) 1 l) (append-nil (spawned_from names 1 body)) (numbered_each names whole body 1 [] fits_whole within tt))
+      let within : 1 + whens body ≤ length whole = omega (arith, script_long) in (
+        subst (λ l. AreNumbered whole 1 l) (append-nil (spawned (numbered names 1 body))) (numbered_on names whole body 1 [] fits_whole within tt),
+        subst (λ l. EachFrom (IsNumbered whole) 1 l) (append-nil (spawned_from names 1 body)) (numbered_each names whole body 1 [] fits_whole within tt),
+      )
 
   -- the script of a `when` is in pre-order
   pub script_preorder : IsPreorder whole
   script_preorder = record {
     some = omega arith;
     whole = size_of_whole ∙ sym script_long;
-    numbered = λ k lt. subst (λ n. IsNumbered whole n (get_or whole k no_part)) (zero-add k) (each_at (IsNumbered whole) whole 0 k no_part each_numbered lt)
+    numbered = λ k lt. subst (λ n. IsNumbered whole n (get_or whole k no_part)) (zero-add k) (each_at (IsNumbered whole) whole 0 k no_part each_numbered lt);
   }

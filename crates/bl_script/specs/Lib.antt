@@ -25,3 +25,4 @@ pub mod Parsing
 pub mod Reading
 pub mod LineGrammar
 pub mod LineFaults
+pub mod Building
