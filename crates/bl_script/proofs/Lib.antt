@@ -15,3 +15,7 @@ pub mod Altered
 mod Rows
 pub mod Additions
 pub mod Same
+pub mod Numbering
+pub mod Behaviours
+pub mod RawLists
+pub mod Built

@@ -10,34 +10,34 @@ use Rattle.bl_script.specs.declared.script.Condition.{Condition}
 use Rattle.bl_script.specs.declared.script.Condition.TheVariants.{Is, Has}
 use Rattle.bl_script.specs.Statements.{Statements, Nothing, Show, Say, Add, Set, Copy, Pour, If, Spawn, Part}
 
-abbrev left : Gv → Gv
+abbrev pub left : Gv → Gv
 left gnil = gnil
 left (gnum n) = gnil
 left (gcons a b) = a
 
-abbrev right : Gv → Gv
+abbrev pub right : Gv → Gv
 right gnil = gnil
 right (gnum n) = gnil
 right (gcons a b) = b
 
-abbrev text_code : List ℕ → Gv
+abbrev pub text_code : List ℕ → Gv
 text_code [] = gnil
 text_code (x ∷ xs) = gcons (gnum x) (text_code xs)
 
-abbrev text_back : Gv → List ℕ
+abbrev pub text_back : Gv → List ℕ
 text_back gnil = []
 text_back (gnum n) = []
 text_back (gcons a b) = num a ∷ text_back b
 
-text_again : (t : List ℕ) → text_back (text_code t) ≡ t
+pub text_again : (t : List ℕ) → text_back (text_code t) ≡ t
 text_again [] = refl
 text_again (x ∷ xs) = ap (λ t. x ∷ t) (text_again xs)
 
-abbrev asks_code : Condition → Gv
+abbrev pub asks_code : Condition → Gv
 asks_code Is = gnil
 asks_code Has = gnum 0
 
-abbrev asks_back : Gv → Condition
+abbrev pub asks_back : Gv → Condition
 asks_back gnil = Is
 asks_back (gnum n) = Has
 asks_back (gcons a b) = Has
@@ -74,7 +74,7 @@ back (gcons kind (gcons has (gcons (gcons then_body else_body) rest))) =
     build (num kind) has (back then_body) (back else_body) (back rest)
 back _ = Nothing
 
-asks_again : (asks : Condition) → asks_back (asks_code asks) ≡ asks
+pub asks_again : (asks : Condition) → asks_back (asks_code asks) ≡ asks
 asks_again Is = refl
 asks_again Has = refl
 
@@ -93,12 +93,12 @@ again (Spawn behaviour rest) = λ i. Spawn behaviour (again rest i)
 abbrev pub coded_statements : Coded Statements
 coded_statements = record { code = code; inj = λ x y p. sym (again x) ∙ ap back p ∙ again y }
 
-abbrev mode_code : Mode → ℕ
+abbrev pub mode_code : Mode → ℕ
 mode_code Read = 0
 mode_code Append = 1
 mode_code Write = 2
 
-abbrev mode_back : ℕ → Mode
+abbrev pub mode_back : ℕ → Mode
 mode_back n = if n == 0 then Read else (if n == 1 then Append else Write)
 
 pub mode_again : (mode : Mode) → mode_back (mode_code mode) ≡ mode

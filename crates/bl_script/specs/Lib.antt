@@ -7,6 +7,12 @@ pub mod Nesting
 pub mod Script
 pub mod Laws
 pub mod Codes
+pub mod Spelled
+pub mod SpelledCodes
+pub mod Meaning
+pub mod WhenFaults
+pub mod RawBodies
+pub mod RawFalls
 pub mod Body
 pub mod BodyFalls
 pub mod Names
@@ -19,3 +25,4 @@ pub mod Parsing
 pub mod Reading
 pub mod LineGrammar
 pub mod LineFaults
+pub mod Building

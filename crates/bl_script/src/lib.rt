@@ -2,6 +2,7 @@
 #![tactic(auto)]
 
 pub mod answer;
+pub mod build;
 pub mod document;
 pub mod laws;
 pub mod line;

@@ -224,6 +224,13 @@ impl Behaviour {
         Behaviour { accesses, body }
     }
 
+    /// Runs this body from now on.
+    pub(crate) fn set_body(&mut self, body: Body)
+        ensures { self.new ≡ record self.old { body = body } }
+    {
+        self.body = body;
+    }
+
     /// Whether this is the same behaviour.
     fn is_same(&self, other: &Behaviour) -> bool
         ensures { IsTrue result ↔ (self.now ≡ other.now) }
