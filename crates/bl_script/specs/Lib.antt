@@ -23,5 +23,3 @@ pub mod RawView
 pub mod Machine
 pub mod Parsing
 pub mod Reading
-pub mod LineGrammar
-pub mod LineFaults

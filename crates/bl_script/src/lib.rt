@@ -4,7 +4,6 @@
 pub mod answer;
 pub mod document;
 pub mod laws;
-pub mod line;
 pub mod names;
 pub mod parse;
 pub mod raw;
