@@ -10,10 +10,12 @@ use Rattle.bl_script.specs.Fault.{FirstFault}
 use Rattle.bl_script.specs.Machine.{a_line}
 use Rattle.bl_script.specs.Parsing.{Faults, IsFirstFault}
 use Rattle.bl_script.specs.declared.parse.Stop.{Stop}
+use Rattle.bl_script.specs.declared.parse.Stop.TheVariants.{Memory, At}
 use Rattle.bl_script.proofs.Theory.{run_line, first_fault, fault_at}
 
 pub is_first_fault : (tokens : List Tok) (e : Stop) → Faults (a_line ∷ []) tokens e → IsFirstFault tokens e
-is_first_fault tokens e f = first_fault tokens e.left f
+is_first_fault tokens Memory f = f
+is_first_fault tokens (At left) f = first_fault tokens left f
 
 pub exits_line : {X : Type 0} (P : X → Type 0) (tokens : List Tok) (r : Result X Stop) (e : Stop) → IsErrAnd r (λ y. y ≡ e) → Faults (a_line ∷ []) tokens e → MatchResult r P (λ e. IsFirstFault tokens e)
 exits_line P tokens r e is f = let p = err_from_is_err_and r is in rw (p.1, p.2) (is_first_fault tokens e f)

@@ -7,12 +7,18 @@ use Rattle.bl_level.specs.contracts.token.Sign as a_mark
 use Rattle.bl_level.specs.declared.token.Keyword.{Keyword}
 use Rattle.bl_level.specs.declared.token.Keyword.TheVariants.{Hello, Wait, Give, Rescind, Current, Classify, When, Read, Append, Write, Do, End, Show, Say, Add, Set, Copy, Pour, To, If, Is, Has, Then, Else, Spawn, Ranks, Categories, Subject, Greatest, Document, Allow, Trusted, Admin, Create, Delete, Reserve}
 use Rattle.bl_level.specs.declared.token.Sign.{Sign}
-use Rattle.bl_level.specs.Token.{Tok, reserved, name, sign}
+use Rattle.bl_level.specs.declared.token.Sign.TheVariants.{Comma, Semicolon}
+use Rattle.bl_level.specs.Token.{Tok, reserved, name, text, sign}
 use Rattle.bl_level.specs.Lexing.{word_text}
 use Rattle.bl_level.specs.Name.{IsName, AreProper}
+use Rattle.bl_policy.specs.declared.access.Mode.{Mode}
+use Rattle.bl_policy.specs.declared.access.Mode.TheVariants as mode
+use Rattle.bl_script.specs.declared.script.Condition.{Condition}
+use Rattle.bl_script.specs.declared.script.Condition.TheVariants as asks
+use Rattle.bl_script.specs.Spelled.{SpelledAccess, SpelledBody, empty, show, say, add, set, copy, pour, if_then, if_else, spawn, mode_word, asks_word, spell_access, spell_more, spell_body, spell_when}
 use Rattle.bl_script.specs.Grammar.{SpelledLine, hello, wait, when, spell, CanGoOn}
 use Rattle.bl_script.specs.Fault.{Blocks, FirstFault}
-use Rattle.bl_script.specs.Machine.{Due, word, a_sign, a_name, a_line, when_due, step, run, ends, Refuses, Stops, word_due, sign_due, name_due, line_due}
+use Rattle.bl_script.specs.Machine.{Due, word, a_sign, a_name, a_text, a_mode, is_or_has, more_accesses, a_body, rest_of_if, a_line, access_due, when_due, if_due, statement_due, body_due, more_due, rest_due, mode_due, asks_due, step, run, ends, Refuses, Stops, word_due, sign_due, name_due, text_due, line_due}
 
 pub run_none : (ts : List Tok) → run None ts ≡ None
 run_none [] = refl
@@ -23,11 +29,84 @@ run_append due [] ys = refl
 run_append None (x ∷ xs) ys = sym (run_none ys)
 run_append (Some due) (x ∷ xs) ys = run_append (step due x) xs ys
 
--- what is spelled is taken
+-- ---- what is spelled is taken
+
+-- the tokens behind further accesses are part of their tokens
+pub more_append : (accesses : List SpelledAccess) (xs ys : List Tok) → spell_more accesses xs ++ ys ≡ spell_more accesses (xs ++ ys)
+more_append [] xs ys = refl
+more_append (access ∷ accesses) xs ys = ap (λ ts. sign Comma ∷ spell_access access ts) (more_append accesses xs ys)
+
+pub run_mode : (m : Mode) (due : List Due) (ts : List Tok) → run (Some (a_mode ∷ due)) (reserved (mode_word m) ∷ ts) ≡ run (Some due) ts
+run_mode mode.Read due ts = refl
+run_mode mode.Append due ts = refl
+run_mode mode.Write due ts = refl
+
+pub run_asks : (c : Condition) (due : List Due) (ts : List Tok) → run (Some (is_or_has ∷ due)) (reserved (asks_word c) ∷ ts) ≡ run (Some due) ts
+run_asks asks.Is due ts = refl
+run_asks asks.Has due ts = refl
+
+pub run_access : (access : SpelledAccess) (due : List Due) (ts : List Tok) → run (Some (access_due due)) (spell_access access ts) ≡ run (Some due) ts
+run_access access due ts = run_mode access.mode (a_name ∷ due) (name access.document ∷ ts)
+
+pub run_more : (accesses : List SpelledAccess) (due : List Due) (ts : List Tok) → run (Some (more_accesses ∷ due)) (spell_more accesses ts) ≡ run (Some (more_accesses ∷ due)) ts
+run_more [] due ts = refl
+run_more (access ∷ accesses) due ts = run_access access (more_accesses ∷ due) (spell_more accesses ts) ∙ run_more accesses due ts
+
+-- all that a `when` has before its body
+pub run_accesses : (first : SpelledAccess) (more : List SpelledAccess) (due : List Due) (ts : List Tok)
+    → run (Some (when_due due)) (spell_access first (spell_more more (reserved Do ∷ ts))) ≡ run (Some (a_body ∷ word End ∷ due)) ts
+run_accesses first more due ts = run_access first _ (spell_more more (reserved Do ∷ ts)) ∙ run_more more _ (reserved Do ∷ ts)
+
+-- all that an `if` has before its first body
+pub run_test : (document : List ℕ) (c : Condition) (words : List ℕ) (due : List Due) (ts : List Tok)
+    → run (Some (if_due due)) (name document ∷ reserved (asks_word c) ∷ text words ∷ reserved Then ∷ ts) ≡ run (Some due) ts
+run_test document c words due ts = run_asks c (a_text ∷ word Then ∷ due) (text words ∷ reserved Then ∷ ts)
+
+pub run_body : (b : SpelledBody) (due : List Due) (ts : List Tok) → run (Some (a_body ∷ due)) (spell_body b ++ ts) ≡ run (Some (a_body ∷ due)) ts
+run_body empty due ts = refl
+run_body (show document rest) due ts = run_body rest due ts
+run_body (say words rest) due ts = run_body rest due ts
+run_body (add document words rest) due ts = run_body rest due ts
+run_body (set document words rest) due ts = run_body rest due ts
+run_body (copy from to rest) due ts = run_body rest due ts
+run_body (pour from to rest) due ts = run_body rest due ts
+run_body (if_then document c words then_body rest) due ts =
+    run_test document c words (a_body ∷ rest_of_if ∷ a_sign Semicolon ∷ a_body ∷ due) _
+    ∙ ap (run (Some (a_body ∷ rest_of_if ∷ a_sign Semicolon ∷ a_body ∷ due))) (append_assoc (spell_body then_body) (reserved End ∷ sign Semicolon ∷ spell_body rest) ts)
+    ∙ run_body then_body (rest_of_if ∷ a_sign Semicolon ∷ a_body ∷ due) (reserved End ∷ sign Semicolon ∷ spell_body rest ++ ts)
+    ∙ run_body rest due ts
+run_body (if_else document c words then_body else_body rest) due ts =
+    run_test document c words (a_body ∷ rest_of_if ∷ a_sign Semicolon ∷ a_body ∷ due) _
+    ∙ ap (run (Some (a_body ∷ rest_of_if ∷ a_sign Semicolon ∷ a_body ∷ due)))
+    (append_assoc (spell_body then_body) (reserved Else ∷ (spell_body else_body ++ reserved End ∷ sign Semicolon ∷ spell_body rest)) ts)
+    ∙ run_body then_body (rest_of_if ∷ a_sign Semicolon ∷ a_body ∷ due) (reserved Else ∷ ((spell_body else_body ++ reserved End ∷ sign Semicolon ∷ spell_body rest) ++ ts))
+    ∙ ap (run (Some (a_body ∷ word End ∷ a_sign Semicolon ∷ a_body ∷ due))) (append_assoc (spell_body else_body) (reserved End ∷ sign Semicolon ∷ spell_body rest) ts)
+    ∙ run_body else_body (word End ∷ a_sign Semicolon ∷ a_body ∷ due) (reserved End ∷ sign Semicolon ∷ spell_body rest ++ ts)
+    ∙ run_body rest due ts
+run_body (spawn first more body rest) due ts =
+    ap (run (Some (a_body ∷ due)))
+    (ap (λ x. reserved Spawn ∷ reserved When ∷ spell_access first x) (more_append more (reserved Do ∷ (spell_body body ++ reserved End ∷ sign Semicolon ∷ spell_body rest)) ts))
+    ∙ run_accesses first more (a_sign Semicolon ∷ a_body ∷ due) ((spell_body body ++ reserved End ∷ sign Semicolon ∷ spell_body rest) ++ ts)
+    ∙ ap (run (Some (a_body ∷ word End ∷ a_sign Semicolon ∷ a_body ∷ due))) (append_assoc (spell_body body) (reserved End ∷ sign Semicolon ∷ spell_body rest) ts)
+    ∙ run_body body (word End ∷ a_sign Semicolon ∷ a_body ∷ due) (reserved End ∷ sign Semicolon ∷ spell_body rest ++ ts)
+    ∙ run_body rest due ts
+
 pub run_line : (l : SpelledLine) (due : List Due) → run (Some (a_line ∷ due)) (spell l) ≡ Some due
 run_line (hello n) due = refl
 run_line wait due = refl
-run_line (when n m) due = refl
+run_line (when first more body) due =
+    run_accesses first more due (spell_body body ++ reserved End ∷ []) ∙ run_body body (word End ∷ due) (reserved End ∷ [])
+
+-- ---- what is taken can be completed to what is spelled
+
+-- what may stand behind the first body of an `if`
+pub data IfRest : Type 0 where
+  no_else : IfRest
+  with_else : SpelledBody → IfRest
+
+abbrev pub spell_rest : IfRest → List Tok → List Tok
+spell_rest no_else behind = reserved End ∷ behind
+spell_rest (with_else b) behind = reserved Else ∷ (spell_body b ++ reserved End ∷ behind)
 
 -- the tokens are these parts, one behind the other
 abbrev pub Derives : List Due → List Tok → Type 0
@@ -35,6 +114,12 @@ Derives [] ts = ts ≡ []
 Derives (word k ∷ due) ts = (more : List Tok) × (ts ≡ reserved k ∷ more) × Derives due more
 Derives (a_sign s ∷ due) ts = (more : List Tok) × (ts ≡ sign s ∷ more) × Derives due more
 Derives (a_name ∷ due) ts = (n : List ℕ) × (more : List Tok) × (ts ≡ name n ∷ more) × Derives due more
+Derives (a_text ∷ due) ts = (n : List ℕ) × (more : List Tok) × (ts ≡ text n ∷ more) × Derives due more
+Derives (a_mode ∷ due) ts = (m : Mode) × (more : List Tok) × (ts ≡ reserved (mode_word m) ∷ more) × Derives due more
+Derives (is_or_has ∷ due) ts = (c : Condition) × (more : List Tok) × (ts ≡ reserved (asks_word c) ∷ more) × Derives due more
+Derives (more_accesses ∷ due) ts = (accesses : List SpelledAccess) × (more : List Tok) × (ts ≡ spell_more accesses more) × Derives due more
+Derives (a_body ∷ due) ts = (b : SpelledBody) × (more : List Tok) × (ts ≡ spell_body b ++ more) × Derives due more
+Derives (rest_of_if ∷ due) ts = (r : IfRest) × (more : List Tok) × (ts ≡ spell_rest r more) × Derives due more
 Derives (a_line ∷ due) ts = (l : SpelledLine) × (more : List Tok) × (ts ≡ spell l ++ more) × Derives due more
 
 -- whatever is due can come
@@ -43,6 +128,12 @@ completion [] = []
 completion (word k ∷ due) = reserved k ∷ completion due
 completion (a_sign s ∷ due) = sign s ∷ completion due
 completion (a_name ∷ due) = name (97 ∷ []) ∷ completion due
+completion (a_text ∷ due) = text [] ∷ completion due
+completion (a_mode ∷ due) = reserved Read ∷ completion due
+completion (is_or_has ∷ due) = reserved Is ∷ completion due
+completion (more_accesses ∷ due) = completion due
+completion (a_body ∷ due) = completion due
+completion (rest_of_if ∷ due) = reserved End ∷ completion due
 completion (a_line ∷ due) = reserved Wait ∷ completion due
 
 pub completes : (due : List Due) → Derives due (completion due)
@@ -50,6 +141,12 @@ completes [] = refl
 completes (word k ∷ due) = (_, refl, completes due)
 completes (a_sign s ∷ due) = (_, refl, completes due)
 completes (a_name ∷ due) = (_, _, refl, completes due)
+completes (a_text ∷ due) = (_, _, refl, completes due)
+completes (a_mode ∷ due) = (mode.Read, _, refl, completes due)
+completes (is_or_has ∷ due) = (asks.Is, _, refl, completes due)
+completes (more_accesses ∷ due) = ([], _, refl, completes due)
+completes (a_body ∷ due) = (empty, _, refl, completes due)
+completes (rest_of_if ∷ due) = (no_else, _, refl, completes due)
 completes (a_line ∷ due) = (wait, _, refl, completes due)
 
 -- no reserved word is `a`
@@ -99,6 +196,12 @@ completion_is_proper [] = tt
 completion_is_proper (word k ∷ due) = (tt, completion_is_proper due)
 completion_is_proper (a_sign s ∷ due) = (tt, completion_is_proper due)
 completion_is_proper (a_name ∷ due) = (a_is_name, completion_is_proper due)
+completion_is_proper (a_text ∷ due) = (refl, completion_is_proper due)
+completion_is_proper (a_mode ∷ due) = (tt, completion_is_proper due)
+completion_is_proper (is_or_has ∷ due) = (tt, completion_is_proper due)
+completion_is_proper (more_accesses ∷ due) = completion_is_proper due
+completion_is_proper (a_body ∷ due) = completion_is_proper due
+completion_is_proper (rest_of_if ∷ due) = (tt, completion_is_proper due)
 completion_is_proper (a_line ∷ due) = (tt, completion_is_proper due)
 
 -- ---- what is taken derives
@@ -123,11 +226,99 @@ name_step : (due : List Due) (t : Tok) (next : List Due) → name_due t due ≡ 
 name_step due (name n) next e ts d = let q : next ≡ due = cc in (n, ts, refl, rw q at d)
 name_step due _ next e ts d = absurd (cc)
 
+text_step : (due : List Due) (t : Tok) (next : List Due) → text_due t due ≡ Some next → (ts : List Tok) → Derives next ts → Derives (a_text ∷ due) (t ∷ ts)
+text_step due (text n) next e ts d = let q : next ≡ due = cc in (n, ts, refl, rw q at d)
+text_step due _ next e ts d = absurd (cc)
+
+mode_step : (due : List Due) (t : Tok) (next : List Due) → mode_due t due ≡ Some next → (ts : List Tok) → Derives next ts → Derives (a_mode ∷ due) (t ∷ ts)
+mode_step due (reserved Read) next e ts d = let q : next ≡ due = cc in (mode.Read, ts, refl, rw q at d)
+mode_step due (reserved Append) next e ts d = let q : next ≡ due = cc in (mode.Append, ts, refl, rw q at d)
+mode_step due (reserved Write) next e ts d = let q : next ≡ due = cc in (mode.Write, ts, refl, rw q at d)
+mode_step due _ next e ts d = absurd (cc)
+
+asks_step : (due : List Due) (t : Tok) (next : List Due) → asks_due t due ≡ Some next → (ts : List Tok) → Derives next ts → Derives (is_or_has ∷ due) (t ∷ ts)
+asks_step due (reserved Is) next e ts d = let q : next ≡ due = cc in (asks.Is, ts, refl, rw q at d)
+asks_step due (reserved Has) next e ts d = let q : next ≡ due = cc in (asks.Has, ts, refl, rw q at d)
+asks_step due _ next e ts d = absurd (cc)
+
+derives_else : (due : List Due) (ts : List Tok) → Derives (a_body ∷ word End ∷ due) ts → Derives (rest_of_if ∷ due) (reserved Else ∷ ts)
+derives_else due ts (b, m, e, (m1, e1, d)) = (with_else b, m1, cc, d)
+
+rest_step : (due : List Due) (t : Tok) (next : List Due) → rest_due t due ≡ Some next → (ts : List Tok) → Derives next ts → Derives (rest_of_if ∷ due) (t ∷ ts)
+rest_step due (reserved End) next e ts d = let q : next ≡ due = cc in (no_else, ts, refl, rw q at d)
+rest_step due (reserved Else) next e ts d = let q : next ≡ (a_body ∷ word End ∷ due) = cc in derives_else due ts (rw q at d)
+rest_step due _ next e ts d = absurd (cc)
+
+-- one more access
+derives_comma : (due : List Due) (ts : List Tok) → Derives (access_due (more_accesses ∷ due)) ts → Derives (more_accesses ∷ due) (sign Comma ∷ ts)
+derives_comma due ts (m, m1, e1, (n, m2, e2, (accesses, more, e3, d))) = (record { mode = m; document = n } ∷ accesses, more, cc, d)
+
+more_step : (due : List Due) (t : Tok) (next : List Due) → more_due t due (step due t) ≡ Some next
+    → ((next : List Due) → step due t ≡ Some next → (ts : List Tok) → Derives next ts → Derives due (t ∷ ts))
+    → (ts : List Tok) → Derives next ts → Derives (more_accesses ∷ due) (t ∷ ts)
+more_step due (sign Comma) next e past ts d = let q : next ≡ access_due (more_accesses ∷ due) = cc in derives_comma due ts (rw q at d)
+more_step due t next e past ts d = ([], t ∷ ts, refl, past next e ts d)
+
+derives_show : (due : List Due) (ts : List Tok) → Derives (a_name ∷ a_sign Semicolon ∷ a_body ∷ due) ts → Derives (a_body ∷ due) (reserved Show ∷ ts)
+derives_show due ts (n, m1, e1, (m2, e2, (b, more, e3, d))) = (show n b, more, cc, d)
+
+derives_say : (due : List Due) (ts : List Tok) → Derives (a_text ∷ a_sign Semicolon ∷ a_body ∷ due) ts → Derives (a_body ∷ due) (reserved Say ∷ ts)
+derives_say due ts (x, m1, e1, (m2, e2, (b, more, e3, d))) = (say x b, more, cc, d)
+
+derives_add : (due : List Due) (ts : List Tok) → Derives (a_name ∷ a_text ∷ a_sign Semicolon ∷ a_body ∷ due) ts → Derives (a_body ∷ due) (reserved Add ∷ ts)
+derives_add due ts (n, m1, e1, (x, m2, e2, (m3, e3, (b, more, e4, d)))) = (add n x b, more, cc, d)
+
+derives_set : (due : List Due) (ts : List Tok) → Derives (a_name ∷ a_text ∷ a_sign Semicolon ∷ a_body ∷ due) ts → Derives (a_body ∷ due) (reserved Set ∷ ts)
+derives_set due ts (n, m1, e1, (x, m2, e2, (m3, e3, (b, more, e4, d)))) = (set n x b, more, cc, d)
+
+derives_copy : (due : List Due) (ts : List Tok) → Derives (a_name ∷ word To ∷ a_name ∷ a_sign Semicolon ∷ a_body ∷ due) ts → Derives (a_body ∷ due) (reserved Copy ∷ ts)
+derives_copy due ts (n, m1, e1, (m2, e2, (k, m3, e3, (m4, e4, (b, more, e5, d))))) = (copy n k b, more, cc, d)
+
+derives_pour : (due : List Due) (ts : List Tok) → Derives (a_name ∷ word To ∷ a_name ∷ a_sign Semicolon ∷ a_body ∷ due) ts → Derives (a_body ∷ due) (reserved Pour ∷ ts)
+derives_pour due ts (n, m1, e1, (m2, e2, (k, m3, e3, (m4, e4, (b, more, e5, d))))) = (pour n k b, more, cc, d)
+
+derives_if : (due : List Due) (ts : List Tok) → Derives (if_due (a_body ∷ rest_of_if ∷ a_sign Semicolon ∷ a_body ∷ due)) ts → Derives (a_body ∷ due) (reserved If ∷ ts)
+derives_if due ts (n, m1, e1, (c, m2, e2, (x, m3, e3, (m4, e4, (a, m5, e5, (no_else, m6, e6, (m7, e7, (b, more, e8, d)))))))) =
+    (if_then n c x a b, more, cc (append_assoc (spell_body a) (reserved End ∷ sign Semicolon ∷ spell_body b) more), d)
+derives_if due ts (n, m1, e1, (c, m2, e2, (x, m3, e3, (m4, e4, (a, m5, e5, (with_else a', m6, e6, (m7, e7, (b, more, e8, d)))))))) =
+    (if_else n c x a a' b, more, cc (
+      append_assoc (spell_body a) (reserved Else ∷ (spell_body a' ++ reserved End ∷ sign Semicolon ∷ spell_body b)) more,
+      append_assoc (spell_body a') (reserved End ∷ sign Semicolon ∷ spell_body b) more,
+    ), d)
+
+derives_spawn : (due : List Due) (ts : List Tok) → Derives (word When ∷ when_due (a_sign Semicolon ∷ a_body ∷ due)) ts → Derives (a_body ∷ due) (reserved Spawn ∷ ts)
+derives_spawn due ts (m0, e0, (m, m1, e1, (n, m2, e2, (accesses, m3, e3, (m4, e4, (a, m5, e5, (m6, e6, (m7, e7, (b, more, e8, d))))))))) =
+    (spawn (record { mode = m; document = n }) accesses a b, more, cc (
+      more_append accesses (reserved Do ∷ (spell_body a ++ reserved End ∷ sign Semicolon ∷ spell_body b)) more,
+      append_assoc (spell_body a) (reserved End ∷ sign Semicolon ∷ spell_body b) more,
+    ), d)
+
+derives_statement : (t : Tok) (due next : List Due) → statement_due t ≡ Some next → (ts : List Tok) → Derives (next ++ a_body ∷ due) ts → Derives (a_body ∷ due) (t ∷ ts)
+derives_statement (reserved Show) due next e ts d = let q : next ≡ (a_name ∷ a_sign Semicolon ∷ []) = cc in derives_show due ts (rw q at d)
+derives_statement (reserved Say) due next e ts d = let q : next ≡ (a_text ∷ a_sign Semicolon ∷ []) = cc in derives_say due ts (rw q at d)
+derives_statement (reserved Add) due next e ts d = let q : next ≡ (a_name ∷ a_text ∷ a_sign Semicolon ∷ []) = cc in derives_add due ts (rw q at d)
+derives_statement (reserved Set) due next e ts d = let q : next ≡ (a_name ∷ a_text ∷ a_sign Semicolon ∷ []) = cc in derives_set due ts (rw q at d)
+derives_statement (reserved Copy) due next e ts d = let q : next ≡ (a_name ∷ word To ∷ a_name ∷ a_sign Semicolon ∷ []) = cc in derives_copy due ts (rw q at d)
+derives_statement (reserved Pour) due next e ts d = let q : next ≡ (a_name ∷ word To ∷ a_name ∷ a_sign Semicolon ∷ []) = cc in derives_pour due ts (rw q at d)
+derives_statement (reserved If) due next e ts d = let q : next ≡ if_due (a_body ∷ rest_of_if ∷ a_sign Semicolon ∷ []) = cc in derives_if due ts (rw q at d)
+derives_statement (reserved Spawn) due next e ts d = let q : next ≡ (word When ∷ when_due (a_sign Semicolon ∷ [])) = cc in derives_spawn due ts (rw q at d)
+derives_statement _ due next e ts d = absurd (cc)
+
+body_step : (o : Option (List Due)) (due : List Due) (t : Tok) → statement_due t ≡ o → (next : List Due) → body_due o due (step due t) ≡ Some next
+    → ((next : List Due) → step due t ≡ Some next → (ts : List Tok) → Derives next ts → Derives due (t ∷ ts))
+    → (ts : List Tok) → Derives next ts → Derives (a_body ∷ due) (t ∷ ts)
+body_step (Some more) due t is next e past ts d = let q : next ≡ more ++ a_body ∷ due = cc in derives_statement t due more is ts (rw q at d)
+body_step None due t is next e past ts d = (empty, t ∷ ts, refl, past next e ts d)
+
 derives_hello : (due : List Due) (ts : List Tok) → Derives (a_name ∷ due) ts → Derives (a_line ∷ due) (reserved Hello ∷ ts)
 derives_hello due ts (n, m, e, d) = (hello n, m, ap (λ x. reserved Hello ∷ x) e, d)
 
 derives_when : (due : List Due) (ts : List Tok) → Derives (when_due due) ts → Derives (a_line ∷ due) (reserved When ∷ ts)
-derives_when due ts (m1, e1, (n, m2, e2, (m3, e3, (m4, e4, (k, m5, e5, (m6, e6, (m7, e7, d))))))) = (when n k, m7, cc, d)
+derives_when due ts (m, m1, e1, (n, m2, e2, (accesses, m3, e3, (m4, e4, (b, m5, e5, (more, e6, d)))))) =
+    (when (record { mode = m; document = n }) accesses b, more, cc (
+      more_append accesses (reserved Do ∷ (spell_body b ++ reserved End ∷ [])) more,
+      append_assoc (spell_body b) (reserved End ∷ []) more,
+    ), d)
 
 line_step : (due : List Due) (t : Tok) (next : List Due) → line_due t due ≡ Some next → (ts : List Tok) → Derives next ts → Derives (a_line ∷ due) (t ∷ ts)
 line_step due (reserved Hello) next e ts d = let q : next ≡ (a_name ∷ due) = cc in derives_hello due ts (rw q at d)
@@ -140,6 +331,12 @@ derives_step [] t next e ts d = absurd (cc)
 derives_step (word k ∷ due) t next e ts d = word_step k due t next e ts d
 derives_step (a_sign s ∷ due) t next e ts d = sign_step s due t next e ts d
 derives_step (a_name ∷ due) t next e ts d = name_step due t next e ts d
+derives_step (a_text ∷ due) t next e ts d = text_step due t next e ts d
+derives_step (a_mode ∷ due) t next e ts d = mode_step due t next e ts d
+derives_step (is_or_has ∷ due) t next e ts d = asks_step due t next e ts d
+derives_step (more_accesses ∷ due) t next e ts d = more_step due t next e (derives_step due t) ts d
+derives_step (a_body ∷ due) t next e ts d = body_step (statement_due t) due t refl next e (derives_step due t) ts d
+derives_step (rest_of_if ∷ due) t next e ts d = rest_step due t next e ts d
 derives_step (a_line ∷ due) t next e ts d = line_step due t next e ts d
 
 derives_on : (o : Option (List Due)) (due : List Due) (t : Tok) (ts us : List Tok) (next : List Due) → step due t ≡ o → run o ts ≡ Some next

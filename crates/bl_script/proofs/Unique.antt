@@ -1,16 +1,162 @@
 -- Tokens spell one line, and those of a line have no fault.
-use Rattle.std.proofs.Common.{◌≡◌, ℕ, List, [], ◌∷◌, ◌++◌, refl, sym, subst, ◌∙◌, append_assoc}
+use Rattle.std.proofs.Common.{◌≡◌, ◌≢◌, ℕ, List, [], ◌∷◌, ◌++◌, Some, None, refl, sym, ap, subst, ◌∙◌, append_assoc}
 use Rattle.std.proofs.lemmas.List.{append-nil}
-use Rattle.bl_level.specs.Token.{Tok}
+use Rattle.bl_level.specs.declared.token.Keyword.TheVariants.{When, Do, End, Else, Spawn}
+use Rattle.bl_level.specs.declared.token.Sign.TheVariants.{Comma, Semicolon}
+use Rattle.bl_level.specs.Token.{Tok, reserved, name, text, sign}
 use Rattle.bl_level.specs.Name.{AreProper}
+use Rattle.bl_policy.specs.declared.access.Mode.{Mode}
+use Rattle.bl_policy.specs.declared.access.Mode.TheVariants.{Read, Append, Write}
+use Rattle.bl_script.specs.declared.script.Condition.{Condition}
+use Rattle.bl_script.specs.declared.script.Condition.TheVariants.{Is, Has}
+use Rattle.bl_script.specs.Spelled.{SpelledAccess, SpelledBody, empty, show, say, add, set, copy, pour, if_then, if_else, spawn, mode_word, asks_word, spell_access, spell_more, spell_body}
 use Rattle.bl_script.specs.Grammar.{SpelledLine, hello, wait, when, spell}
 use Rattle.bl_script.specs.Fault.{Blocks, FirstFault}
+use Rattle.bl_script.specs.Machine.{statement_due}
+use Rattle.bl_script.specs.Parsing.{BeginsNone, IsNotAt}
 use Rattle.bl_script.proofs.Lists.{proper_behind}
+use Rattle.bl_script.proofs.Theory.{more_append}
+
+same_mode : (m n : Mode) → mode_word m ≡ mode_word n → m ≡ n
+same_mode Read Read e = refl
+same_mode Append Append e = refl
+same_mode Write Write e = refl
+same_mode _ _ e = absurd (cc)
+
+same_asks : (c d : Condition) → asks_word c ≡ asks_word d → c ≡ d
+same_asks Is Is e = refl
+same_asks Has Has e = refl
+same_asks _ _ e = absurd (cc)
+
+same_access : (a b : SpelledAccess) (xs ys : List Tok) → spell_access a xs ≡ spell_access b ys → (a ≡ b) × (xs ≡ ys)
+same_access a b xs ys e =
+    let p : mode_word a.mode ≡ mode_word b.mode = cc in
+    let q : a.document ≡ b.document = cc in
+    let r : xs ≡ ys = cc in
+    let m : a.mode ≡ b.mode = same_mode a.mode b.mode p in
+    ((λ i. record { mode = m i; document = q i }), r)
+
+same_more : (these those : List SpelledAccess) (xs ys : List Tok) → IsNotAt (sign Comma) xs → IsNotAt (sign Comma) ys → spell_more these xs ≡ spell_more those ys → (these ≡ those) × (xs ≡ ys)
+same_more [] [] xs ys h k e = (refl, e)
+same_more [] (b ∷ those) xs ys h k e = absurd (subst (IsNotAt (sign Comma)) e h refl)
+same_more (a ∷ these) [] xs ys h k e = absurd (subst (IsNotAt (sign Comma)) (sym e) k refl)
+same_more (a ∷ these) (b ∷ those) xs ys h k e =
+    let f : spell_access a (spell_more these xs) ≡ spell_access b (spell_more those ys) = cc in
+    let p = same_access a b (spell_more these xs) (spell_more those ys) f in
+    let q = same_more these those xs ys h k p.1 in
+    ((λ i. p.0 i ∷ q.0 i), q.1)
+
+no_comma_at_do : (ts : List Tok) → IsNotAt (sign Comma) (reserved Do ∷ ts)
+no_comma_at_do ts e = cc
+
+-- the first token of a body begins a statement
+none_begins : (b : SpelledBody) (ts : List Tok) → BeginsNone (spell_body b ++ ts) → b ≡ empty
+none_begins empty ts h = refl
+none_begins (show document rest) ts h = absurd (cc)
+none_begins (say words rest) ts h = absurd (cc)
+none_begins (add document words rest) ts h = absurd (cc)
+none_begins (set document words rest) ts h = absurd (cc)
+none_begins (copy from to rest) ts h = absurd (cc)
+none_begins (pour from to rest) ts h = absurd (cc)
+none_begins (if_then document asks words then_body rest) ts h = absurd (cc)
+none_begins (if_else document asks words then_body else_body rest) ts h = absurd (cc)
+none_begins (spawn first more body rest) ts h = absurd (cc)
+
+-- tokens that no statement begins have one body before them
+pub same_body : (b c : SpelledBody) (xs ys : List Tok) → BeginsNone xs → BeginsNone ys → spell_body b ++ xs ≡ spell_body c ++ ys → (b ≡ c) × (xs ≡ ys)
+same_body empty c xs ys h k e =
+    let p : c ≡ empty = none_begins c ys (subst BeginsNone e h) in
+    (sym p, e ∙ ap (λ x. spell_body x ++ ys) p)
+same_body b empty xs ys h k e =
+    let p : b ≡ empty = none_begins b xs (subst BeginsNone (sym e) k) in
+    (p, ap (λ x. spell_body x ++ xs) (sym p) ∙ e)
+same_body (show n r) (show n' r') xs ys h k e =
+    let f : spell_body r ++ xs ≡ spell_body r' ++ ys = cc in
+    let p = same_body r r' xs ys h k f in
+    (cc, p.1)
+same_body (say x r) (say x' r') xs ys h k e =
+    let f : spell_body r ++ xs ≡ spell_body r' ++ ys = cc in
+    let p = same_body r r' xs ys h k f in
+    (cc, p.1)
+same_body (add n x r) (add n' x' r') xs ys h k e =
+    let f : spell_body r ++ xs ≡ spell_body r' ++ ys = cc in
+    let p = same_body r r' xs ys h k f in
+    (cc, p.1)
+same_body (set n x r) (set n' x' r') xs ys h k e =
+    let f : spell_body r ++ xs ≡ spell_body r' ++ ys = cc in
+    let p = same_body r r' xs ys h k f in
+    (cc, p.1)
+same_body (copy n m r) (copy n' m' r') xs ys h k e =
+    let f : spell_body r ++ xs ≡ spell_body r' ++ ys = cc in
+    let p = same_body r r' xs ys h k f in
+    (cc, p.1)
+same_body (pour n m r) (pour n' m' r') xs ys h k e =
+    let f : spell_body r ++ xs ≡ spell_body r' ++ ys = cc in
+    let p = same_body r r' xs ys h k f in
+    (cc, p.1)
+same_body (if_then n c x a r) (if_then n' c' x' a' r') xs ys h k e =
+    let f : spell_body a ++ reserved End ∷ sign Semicolon ∷ (spell_body r ++ xs) ≡ spell_body a' ++ reserved End ∷ sign Semicolon ∷ (spell_body r' ++ ys) =
+    cc (append_assoc (spell_body a) (reserved End ∷ sign Semicolon ∷ spell_body r) xs, append_assoc (spell_body a') (reserved End ∷ sign Semicolon ∷ spell_body r') ys) in
+    let p = same_body a a' (reserved End ∷ sign Semicolon ∷ (spell_body r ++ xs)) (reserved End ∷ sign Semicolon ∷ (spell_body r' ++ ys)) refl refl f in
+    let g : spell_body r ++ xs ≡ spell_body r' ++ ys = cc in
+    let q = same_body r r' xs ys h k g in
+    let w : asks_word c ≡ asks_word c' = cc in
+    let d = same_asks c c' w in
+    (cc, q.1)
+same_body (if_else n c x a b r) (if_else n' c' x' a' b' r') xs ys h k e =
+    let f : spell_body a ++ reserved Else ∷ (spell_body b ++ reserved End ∷ sign Semicolon ∷ (spell_body r ++ xs))
+    ≡ spell_body a' ++ reserved Else ∷ (spell_body b' ++ reserved End ∷ sign Semicolon ∷ (spell_body r' ++ ys)) =
+    cc (
+      append_assoc (spell_body a) (reserved Else ∷ (spell_body b ++ reserved End ∷ sign Semicolon ∷ spell_body r)) xs,
+      append_assoc (spell_body a') (reserved Else ∷ (spell_body b' ++ reserved End ∷ sign Semicolon ∷ spell_body r')) ys,
+      append_assoc (spell_body b) (reserved End ∷ sign Semicolon ∷ spell_body r) xs,
+      append_assoc (spell_body b') (reserved End ∷ sign Semicolon ∷ spell_body r') ys,
+    ) in
+    let p = same_body a a' (reserved Else ∷ (spell_body b ++ reserved End ∷ sign Semicolon ∷ (spell_body r ++ xs))) (reserved Else ∷ (spell_body b' ++ reserved End ∷ sign Semicolon ∷ (spell_body r' ++ ys))) refl refl f in
+    let g : spell_body b ++ reserved End ∷ sign Semicolon ∷ (spell_body r ++ xs) ≡ spell_body b' ++ reserved End ∷ sign Semicolon ∷ (spell_body r' ++ ys) = cc in
+    let q = same_body b b' (reserved End ∷ sign Semicolon ∷ (spell_body r ++ xs)) (reserved End ∷ sign Semicolon ∷ (spell_body r' ++ ys)) refl refl g in
+    let i : spell_body r ++ xs ≡ spell_body r' ++ ys = cc in
+    let s = same_body r r' xs ys h k i in
+    let w : asks_word c ≡ asks_word c' = cc in
+    let d = same_asks c c' w in
+    (cc, s.1)
+same_body (if_then n c x a r) (if_else n' c' x' a' b' r') xs ys h k e =
+    let f : spell_body a ++ reserved End ∷ sign Semicolon ∷ (spell_body r ++ xs) ≡ spell_body a' ++ reserved Else ∷ ((spell_body b' ++ reserved End ∷ sign Semicolon ∷ spell_body r') ++ ys) =
+    cc (append_assoc (spell_body a) (reserved End ∷ sign Semicolon ∷ spell_body r) xs, append_assoc (spell_body a') (reserved Else ∷ (spell_body b' ++ reserved End ∷ sign Semicolon ∷ spell_body r')) ys) in
+    let p = same_body a a' (reserved End ∷ sign Semicolon ∷ (spell_body r ++ xs)) (reserved Else ∷ ((spell_body b' ++ reserved End ∷ sign Semicolon ∷ spell_body r') ++ ys)) refl refl f in
+    absurd (cc)
+same_body (if_else n c x a b r) (if_then n' c' x' a' r') xs ys h k e =
+    let f : spell_body a ++ reserved Else ∷ ((spell_body b ++ reserved End ∷ sign Semicolon ∷ spell_body r) ++ xs) ≡ spell_body a' ++ reserved End ∷ sign Semicolon ∷ (spell_body r' ++ ys) =
+    cc (append_assoc (spell_body a) (reserved Else ∷ (spell_body b ++ reserved End ∷ sign Semicolon ∷ spell_body r)) xs, append_assoc (spell_body a') (reserved End ∷ sign Semicolon ∷ spell_body r') ys) in
+    let p = same_body a a' (reserved Else ∷ ((spell_body b ++ reserved End ∷ sign Semicolon ∷ spell_body r) ++ xs)) (reserved End ∷ sign Semicolon ∷ (spell_body r' ++ ys)) refl refl f in
+    absurd (cc)
+same_body (spawn a m b r) (spawn a' m' b' r') xs ys h k e =
+    let f : spell_access a (spell_more m (reserved Do ∷ ((spell_body b ++ reserved End ∷ sign Semicolon ∷ spell_body r) ++ xs)))
+    ≡ spell_access a' (spell_more m' (reserved Do ∷ ((spell_body b' ++ reserved End ∷ sign Semicolon ∷ spell_body r') ++ ys))) =
+    cc (
+      more_append m (reserved Do ∷ (spell_body b ++ reserved End ∷ sign Semicolon ∷ spell_body r)) xs,
+      more_append m' (reserved Do ∷ (spell_body b' ++ reserved End ∷ sign Semicolon ∷ spell_body r')) ys,
+    ) in
+    let p = same_access a a' (spell_more m (reserved Do ∷ ((spell_body b ++ reserved End ∷ sign Semicolon ∷ spell_body r) ++ xs))) (spell_more m' (reserved Do ∷ ((spell_body b' ++ reserved End ∷ sign Semicolon ∷ spell_body r') ++ ys))) f in
+    let q = same_more m m' (reserved Do ∷ ((spell_body b ++ reserved End ∷ sign Semicolon ∷ spell_body r) ++ xs)) (reserved Do ∷ ((spell_body b' ++ reserved End ∷ sign Semicolon ∷ spell_body r') ++ ys)) (no_comma_at_do _) (no_comma_at_do _) p.1 in
+    let g : spell_body b ++ reserved End ∷ sign Semicolon ∷ (spell_body r ++ xs) ≡ spell_body b' ++ reserved End ∷ sign Semicolon ∷ (spell_body r' ++ ys) =
+    cc (q.1, append_assoc (spell_body b) (reserved End ∷ sign Semicolon ∷ spell_body r) xs, append_assoc (spell_body b') (reserved End ∷ sign Semicolon ∷ spell_body r') ys) in
+    let s = same_body b b' (reserved End ∷ sign Semicolon ∷ (spell_body r ++ xs)) (reserved End ∷ sign Semicolon ∷ (spell_body r' ++ ys)) refl refl g in
+    let i : spell_body r ++ xs ≡ spell_body r' ++ ys = cc in
+    let u = same_body r r' xs ys h k i in
+    (cc, u.1)
+same_body _ _ xs ys h k e = absurd (cc)
 
 pub same_line : (l m : SpelledLine) → spell l ≡ spell m → l ≡ m
 same_line (hello n) (hello k) e = cc
 same_line wait wait e = refl
-same_line (when n k) (when n' k') e = cc
+same_line (when a m b) (when a' m' b') e =
+    let f : spell_access a (spell_more m (reserved Do ∷ (spell_body b ++ reserved End ∷ []))) ≡ spell_access a' (spell_more m' (reserved Do ∷ (spell_body b' ++ reserved End ∷ []))) = cc in
+    let p = same_access a a' (spell_more m (reserved Do ∷ (spell_body b ++ reserved End ∷ []))) (spell_more m' (reserved Do ∷ (spell_body b' ++ reserved End ∷ []))) f in
+    let q = same_more m m' (reserved Do ∷ (spell_body b ++ reserved End ∷ [])) (reserved Do ∷ (spell_body b' ++ reserved End ∷ [])) (no_comma_at_do _) (no_comma_at_do _) p.1 in
+    let g : spell_body b ++ reserved End ∷ [] ≡ spell_body b' ++ reserved End ∷ [] = cc (q.1) in
+    let s = same_body b b' (reserved End ∷ []) (reserved End ∷ []) refl refl g in
+    λ i. when (p.0 i) (q.0 i) (s.0 i)
 same_line _ _ e = absurd (cc)
 
 pub line_no_fault : (l : SpelledLine) (tokens : List Tok) (left : ℕ) → AreProper tokens → spell l ≡ tokens → FirstFault tokens left → ⊥

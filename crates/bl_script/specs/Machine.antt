@@ -4,21 +4,73 @@ use denote.Enum.Bare.{sameb}
 use Rattle.bl_level.specs.contracts.token.Keyword as keyword
 use Rattle.bl_level.specs.contracts.token.Sign as a_mark
 use Rattle.bl_level.specs.declared.token.Keyword.{Keyword}
-use Rattle.bl_level.specs.declared.token.Keyword.TheVariants.{Hello, Wait, When, Read, Do, Show, End}
+use Rattle.bl_level.specs.declared.token.Keyword.TheVariants.{Hello, Wait, When, Read, Append, Write, Do, End, Show, Say, Add, Set, Copy, Pour, To, If, Is, Has, Then, Else, Spawn}
 use Rattle.bl_level.specs.declared.token.Sign.{Sign}
-use Rattle.bl_level.specs.declared.token.Sign.TheVariants.{Semicolon}
-use Rattle.bl_level.specs.Token.{Tok, reserved, name, sign}
+use Rattle.bl_level.specs.declared.token.Sign.TheVariants.{Comma, Semicolon}
+use Rattle.bl_level.specs.Token.{Tok, reserved, name, text, sign}
 
--- a part of a line that has to come
+-- A part of a line that has to come. Of more accesses and of a body nothing has to come.
 pub data Due : Type 0 where
   word : Keyword → Due
   a_sign : Sign → Due
   a_name : Due
+  a_text : Due
+  a_mode : Due
+  is_or_has : Due
+  more_accesses : Due
+  a_body : Due
+  rest_of_if : Due
   a_line : Due
+
+-- an access, and then these
+abbrev pub access_due : List Due → List Due
+access_due more = a_mode ∷ a_name ∷ more
 
 -- what is due behind `when`
 abbrev pub when_due : List Due → List Due
-when_due more = word Read ∷ a_name ∷ word Do ∷ word Show ∷ a_name ∷ a_sign Semicolon ∷ word End ∷ more
+when_due more = access_due (more_accesses ∷ word Do ∷ a_body ∷ word End ∷ more)
+
+-- what is due behind `if`, up to its first body
+abbrev pub if_due : List Due → List Due
+if_due more = a_name ∷ is_or_has ∷ a_text ∷ word Then ∷ more
+
+-- what is due behind the first token of a statement, where it begins one
+abbrev pub statement_due : Tok → Option (List Due)
+statement_due (reserved Show) = Some (a_name ∷ a_sign Semicolon ∷ [])
+statement_due (reserved Say) = Some (a_text ∷ a_sign Semicolon ∷ [])
+statement_due (reserved Add) = Some (a_name ∷ a_text ∷ a_sign Semicolon ∷ [])
+statement_due (reserved Set) = Some (a_name ∷ a_text ∷ a_sign Semicolon ∷ [])
+statement_due (reserved Copy) = Some (a_name ∷ word To ∷ a_name ∷ a_sign Semicolon ∷ [])
+statement_due (reserved Pour) = Some (a_name ∷ word To ∷ a_name ∷ a_sign Semicolon ∷ [])
+statement_due (reserved If) = Some (if_due (a_body ∷ rest_of_if ∷ a_sign Semicolon ∷ []))
+statement_due (reserved Spawn) = Some (word When ∷ when_due (a_sign Semicolon ∷ []))
+statement_due _ = None
+
+-- a statement and the rest of the body; or the body is over
+abbrev pub body_due : Option (List Due) → List Due → Option (List Due) → Option (List Due)
+body_due (Some more) due next = Some (more ++ a_body ∷ due)
+body_due None due next = next
+
+-- one more access behind a comma; or there are no more
+abbrev pub more_due : Tok → List Due → Option (List Due) → Option (List Due)
+more_due (sign Comma) due next = Some (access_due (more_accesses ∷ due))
+more_due _ due next = next
+
+abbrev pub rest_due : Tok → List Due → Option (List Due)
+rest_due (reserved End) due = Some due
+rest_due (reserved Else) due = Some (a_body ∷ word End ∷ due)
+rest_due _ due = None
+
+abbrev pub mode_due : Tok → List Due → Option (List Due)
+mode_due (reserved Read) due = Some due
+mode_due (reserved Append) due = Some due
+mode_due (reserved Write) due = Some due
+mode_due _ due = None
+
+abbrev pub asks_due : Tok → List Due → Option (List Due)
+asks_due (reserved Is) due = Some due
+asks_due (reserved Has) due = Some due
+asks_due _ due = None
 
 abbrev pub word_due : Keyword → Tok → List Due → Option (List Due)
 word_due k (reserved w) due = if sameb keyword.the_type w k then Some due else None
@@ -32,6 +84,10 @@ abbrev pub name_due : Tok → List Due → Option (List Due)
 name_due (name n) due = Some due
 name_due _ due = None
 
+abbrev pub text_due : Tok → List Due → Option (List Due)
+text_due (text n) due = Some due
+text_due _ due = None
+
 abbrev pub line_due : Tok → List Due → Option (List Due)
 line_due (reserved Hello) due = Some (a_name ∷ due)
 line_due (reserved Wait) due = Some due
@@ -44,6 +100,12 @@ step [] t = None
 step (word k ∷ due) t = word_due k t due
 step (a_sign s ∷ due) t = sign_due s t due
 step (a_name ∷ due) t = name_due t due
+step (a_text ∷ due) t = text_due t due
+step (a_mode ∷ due) t = mode_due t due
+step (is_or_has ∷ due) t = asks_due t due
+step (more_accesses ∷ due) t = more_due t due (step due t)
+step (a_body ∷ due) t = body_due (statement_due t) due (step due t)
+step (rest_of_if ∷ due) t = rest_due t due
 step (a_line ∷ due) t = line_due t due
 
 -- what is due behind these tokens, where they may come
@@ -55,6 +117,8 @@ run (Some due) (t ∷ ts) = run (step due t) ts
 -- nothing has to come
 abbrev pub ends : List Due → Bool
 ends [] = true
+ends (more_accesses ∷ due) = ends due
+ends (a_body ∷ due) = ends due
 ends _ = false
 
 -- where these are due, the tokens do not go on, or end too early

@@ -1,36 +1,91 @@
 -- What each part of the parser answers.
-use Rattle.std.specs.Prelude.{ℕ, List, Result, Ok, Err}
+use Rattle.std.specs.Prelude.{◌≡◌, ◌≢◌, ℕ, List, [], ◌∷◌, ◌++◌, map, Result, Ok, Err, None}
 use Rattle.bl_level.specs.declared.token.Keyword.{Keyword}
-use Rattle.bl_level.specs.declared.token.Keyword.TheVariants.{Hello, Wait, When}
-use Rattle.bl_level.specs.Token.{Tok, toks}
+use Rattle.bl_level.specs.declared.token.Keyword.TheVariants.{Hello, Wait, When, Do, End, Show, Say, Add, Set, Copy, Pour, To, If, Then, Else, Spawn}
+use Rattle.bl_level.specs.Token.{Tok, toks, reserved, name, text}
 use Rattle.bl_script.specs.declared.parse.Cursor.{Cursor}
 use Rattle.bl_script.specs.declared.parse.First.{First}
 use Rattle.bl_script.specs.declared.parse.First.TheVariants as first
+use Rattle.bl_script.specs.declared.parse.Start.{Start}
+use Rattle.bl_script.specs.declared.parse.Start.TheVariants as start
 use Rattle.bl_script.specs.declared.parse.Stop.{Stop}
+use Rattle.bl_script.specs.declared.parse.Stop.TheVariants.{Memory, At}
+use Rattle.bl_script.specs.declared.raw.RawStatement.{RawStatement}
+use Rattle.bl_script.specs.declared.raw.RawStatement.TheVariants as raw
 use Rattle.bl_script.specs.Fault.{FirstFault}
-use Rattle.bl_script.specs.Machine.{Due, Stops}
+use Rattle.bl_script.specs.Machine.{Due, Stops, statement_due, if_due, when_due, word, a_name, a_text, a_body, rest_of_if}
+use Rattle.bl_script.specs.RawBodies.{raw_access}
+use Rattle.bl_script.specs.Spelled.{asks_word, spell_access, spell_more, spell_body}
 
 -- the tokens that are left
 abbrev pub left : Cursor → List Tok
 left c = toks c.rest.now
 
-abbrev pub stopped_at : ℕ → Stop
-stopped_at left = record { left = left }
-
--- a fault is the first where these are due
+-- a fault is the first where these are due; of want of memory nothing is said
 abbrev pub Faults : List Due → List Tok → Stop → Type 0
-Faults want tokens stop = Stops want tokens stop.left
+Faults want tokens Memory = Unit {0}
+Faults want tokens (At left) = Stops want tokens left
 
 -- what is found is so, and a fault is the first where these are due
 abbrev pub Gives : {X : Type 0} → (X → Type 0) → List Due → List Tok → Result X Stop → Type 0
 Gives P want tokens (Ok x) = P x
 Gives P want tokens (Err e) = Faults want tokens e
 
--- a fault is the first of a line
+-- a fault is the first of a line; of want of memory nothing is said
 abbrev pub IsFirstFault : List Tok → Stop → Type 0
-IsFirstFault tokens stop = FirstFault tokens stop.left
+IsFirstFault tokens Memory = Unit {0}
+IsFirstFault tokens (At left) = FirstFault tokens left
+
+-- the next token is not this one
+abbrev pub IsNotAt : Tok → List Tok → Type 0
+IsNotAt t [] = Unit {0}
+IsNotAt t (u ∷ ts) = u ≢ t
+
+-- no statement begins here
+abbrev pub BeginsNone : List Tok → Type 0
+BeginsNone [] = Unit {0}
+BeginsNone (t ∷ ts) = statement_due t ≡ None
 
 abbrev pub first_word : First → Keyword
 first_word first.Hello = Hello
 first_word first.Wait = Wait
 first_word first.When = When
+
+abbrev pub start_word : Start → Keyword
+start_word start.Show = Show
+start_word start.Say = Say
+start_word start.Add = Add
+start_word start.Set = Set
+start_word start.Copy = Copy
+start_word start.Pour = Pour
+start_word start.If = If
+start_word start.Spawn = Spawn
+
+-- what is due behind the word that begins a statement, up to the semicolon
+abbrev pub start_due : Start → List Due
+start_due start.Show = a_name ∷ []
+start_due start.Say = a_text ∷ []
+start_due start.Add = a_name ∷ a_text ∷ []
+start_due start.Set = a_name ∷ a_text ∷ []
+start_due start.Copy = a_name ∷ word To ∷ a_name ∷ []
+start_due start.Pour = a_name ∷ word To ∷ a_name ∷ []
+start_due start.If = if_due (a_body ∷ rest_of_if ∷ [])
+start_due start.Spawn = word When ∷ when_due []
+
+-- the tokens of a statement, up to its semicolon
+abbrev pub spell_statement : RawStatement → List Tok
+spell_statement (raw.Show document) = reserved Show ∷ name document.now ∷ []
+spell_statement (raw.Say words) = reserved Say ∷ text words.now ∷ []
+spell_statement (raw.Add document words) = reserved Add ∷ name document.now ∷ text words.now ∷ []
+spell_statement (raw.Set document words) = reserved Set ∷ name document.now ∷ text words.now ∷ []
+spell_statement (raw.Copy from to) = reserved Copy ∷ name from.now ∷ reserved To ∷ name to.now ∷ []
+spell_statement (raw.Pour from to) = reserved Pour ∷ name from.now ∷ reserved To ∷ name to.now ∷ []
+spell_statement (raw.IfThen document asks words then_body) =
+    reserved If ∷ name document.now ∷ reserved (asks_word asks) ∷ text words.now ∷ reserved Then
+    ∷ (spell_body then_body ++ reserved End ∷ [])
+spell_statement (raw.IfElse document asks words then_body else_body) =
+    reserved If ∷ name document.now ∷ reserved (asks_word asks) ∷ text words.now ∷ reserved Then
+    ∷ (spell_body then_body ++ reserved Else ∷ (spell_body else_body ++ reserved End ∷ []))
+spell_statement (raw.Spawn first more body) =
+    reserved Spawn ∷ reserved When
+    ∷ spell_access (raw_access first) (spell_more (map raw_access more.items) (reserved Do ∷ (spell_body body ++ reserved End ∷ [])))

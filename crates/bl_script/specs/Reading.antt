@@ -1,5 +1,7 @@
 -- What reading a line answers where it fails.
 use Rattle.std.specs.Prelude.{◌≡◌, ℕ, ◌-◌, List, length, if◌then◌else◌, ◌==◌, slice_index, unwrap_or, Option}
+use Rattle.bl_script.specs.Grammar.{SpelledLine, hello, wait, when}
+use Rattle.bl_script.specs.WhenFaults.{AreContents}
 use Rattle.bl_script.specs.Fault.{SyntaxFault}
 use Rattle.bl_script.specs.declared.read.RawFault.{RawFault}
 use Rattle.bl_script.specs.declared.read.RawFault.TheVariants.{Memory, Syntax}
@@ -15,3 +17,9 @@ IsNoMemory e = e ≡ Memory
 -- the place of the token with so many tokens from it on, or of what stands behind all of them
 abbrev pub fault_place : ℕ → List ℕ → Option ℕ → ℕ → ℕ
 fault_place total places broken left = if left == 0 then unwrap_or broken total else slice_index places (length places - left)
+
+-- each text in a line is a content
+abbrev pub HasContents : SpelledLine → Type 0
+HasContents (hello subject) = Unit {0}
+HasContents wait = Unit {0}
+HasContents (when first more body) = AreContents body

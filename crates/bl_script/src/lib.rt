@@ -5,7 +5,6 @@ pub mod answer;
 pub mod build;
 pub mod document;
 pub mod laws;
-pub mod line;
 pub mod names;
 pub mod parse;
 pub mod raw;

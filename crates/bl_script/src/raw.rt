@@ -108,13 +108,17 @@ impl<'a> RawBody<'a> {
     }
 }
 
-/// A line, which borrows its names from the bytes that it was read in.
-#[derive(Clone, Copy, Debug, PartialEq, Eq)]
+/// A line, which borrows its names and texts from the bytes that it was read in.
+#[derive(Drop)]
 pub enum RawLine<'a> {
     /// `hello NAME`.
     Hello(&'a [u8]),
     /// `wait`.
     Wait,
-    /// `when read NAME do show NAME; end`.
-    When { read: &'a [u8], show: &'a [u8] },
+    /// `when ACCESS, .. do BODY end`.
+    When {
+        first: RawAccess<'a>,
+        more: Vec<RawAccess<'a>>,
+        body: RawBody<'a>,
+    },
 }

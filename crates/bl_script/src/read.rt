@@ -4,12 +4,13 @@ ghost use Rattle.bl_level.specs.Name.{AreProper};
 ghost use Rattle.bl_script.specs.Grammar.{SpelledLine, spell};
 ghost use Rattle.bl_script.specs.Fault.{ReadsAs, SyntaxFault};
 ghost use Rattle.bl_script.specs.RawView.{raw_view};
-ghost use Rattle.bl_script.specs.Reading.{IsRawFault, fault_place, IsNoMemory};
+ghost use Rattle.bl_script.specs.Content.{most_bytes};
+ghost use Rattle.bl_script.specs.Reading.{IsRawFault, fault_place, IsNoMemory, HasContents};
 ghost use Rattle.bl_script.specs.declared.read.RawFault.TheVariants.{Memory};
 
-use crate::parse::parse_line;
+use crate::parse::{Stop, parse_line};
 use crate::raw::RawLine;
-use bl_level::laws::read_tokens_are_proper;
+use bl_level::laws::{canonical_is_shortest, read_tokens_are_proper};
 use bl_level::lexer::{Lexed, lex};
 use std::alloc::{AllocError, Global};
 
@@ -53,16 +54,24 @@ pub fn read_raw<'a>(alloc: Global, bytes: &'a [u8]) -> Result<RawLine<'a>, RawFa
     ensures proper { IfOk result (λ l. AreProper (spell (raw_view l))) }
     // What is spelled so is read, unless memory runs out.
     ensures only { (l : SpelledLine) → ReadsAs bytes.now l → MatchResult result (λ r. raw_view r ≡ l) IsNoMemory }
+    // Of bytes that are no more than a content has, its texts are contents.
+    ensures texts { length bytes.now ≤ most_bytes → IfOk result (λ l. HasContents (raw_view l)) }
     // Which fault it is.
     ensures fault { IfErr result (IsRawFault bytes.now) }
 {
     let lexed = lex(alloc, bytes)?;
-    match parse_line(&lexed.tokens) {
+    match parse_line(alloc, &lexed.tokens) {
         Ok(line) => match lexed.broken {
-            None => Ok(line),
+            None => {
+                canonical_is_shortest();
+                Ok(line)
+            }
             Some(place) => Err(RawFault::Syntax(place)),
         },
-        Err(stop) => Err(RawFault::Syntax(place_of(&lexed, bytes.len(), stop.left))),
+        Err(stop) => match stop {
+            Stop::Memory => Err(RawFault::Memory),
+            Stop::At(left) => Err(RawFault::Syntax(place_of(&lexed, bytes.len(), left))),
+        },
     }
 }
 

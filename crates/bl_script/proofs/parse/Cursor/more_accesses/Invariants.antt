@@ -1,0 +1,12 @@
+use Rattle.std.proofs.Common.{◌≡◌, length, map}
+use Rattle.bl_script.specs.Spelled.{spell_more}
+use Rattle.bl_script.specs.RawBodies.{raw_access}
+use Rattle.bl_script.specs.Parsing.{left}
+use Rattle.bl_script.proofs.parse.Cursor.more_accesses.Given as goal
+
+-- what was taken are these accesses
+abbrev pub invariant-loop-self : goal.invariant-loop-self
+invariant-loop-self l = left l.fn.self ≡ spell_more (map raw_access l.accesses.items) (left l.self)
+
+abbrev pub decreases-loop-self : goal.decreases-loop-self
+decreases-loop-self l = length (left l.self)
