@@ -11,12 +11,13 @@ use Rattle.bl_script.specs.declared.line.Line.{Line}
 use Rattle.bl_script.specs.declared.line.Line.TheVariants as line
 use Rattle.bl_script.specs.declared.work.Work.TheVariants.{Behaviour}
 use Rattle.bl_script.specs.declared.line.LineFault.{LineFault}
-use Rattle.bl_script.specs.declared.line.LineFault.TheVariants.{Long, Syntax, Unknown, Mode, Memory}
+use Rattle.bl_script.specs.declared.line.LineFault.TheVariants.{Long, Syntax, Deep, Many, Unknown, Twice, Mode, Memory}
 use Rattle.bl_script.specs.Names.{KnownNames}
+use Rattle.bl_script.specs.First.{IsFirstWithout}
 use Rattle.bl_script.specs.Grammar.{SpelledLine, hello, wait, when}
 use Rattle.bl_script.specs.Fault.{ReadsAs}
 use Rattle.bl_script.specs.LineGrammar.{most_line_bytes, read_and_show, Means, LineOf}
-use Rattle.bl_script.specs.LineFaults.{subject, document, mentions, IsKnown, IsDeclared, IsFirstWithout, IsFirstUnknown, IsFirstUndeclared, IsFaultOf, IsLineFault, IsWantOfMemory}
+use Rattle.bl_script.specs.LineFaults.{subject, document, mentions, IsKnown, IsDeclared, IsFirstUnknown, IsFirstUndeclared, IsFaultOf, IsLineFault, IsWantOfMemory}
 
 -- a spelled line asks one thing
 pub means_one : (names : KnownNames) (s : SpelledLine) (l m : Line) → Means names s l → Means names s m → l ≡ m
@@ -92,6 +93,9 @@ found_of names bytes s (Err e) short reads means = means
 fault_is : (names : KnownNames) (bytes : List ℕ) (s : SpelledLine) (fault : LineFault) → length bytes ≤ most_line_bytes → ReadsAs bytes s → IsFaultOf names s fault → IsLineFault names bytes fault
 fault_is names bytes s Long short reads f = absurd f
 fault_is names bytes s (Syntax place) short reads f = absurd f
+fault_is names bytes s Deep short reads f = absurd f
+fault_is names bytes s Many short reads f = absurd f
+fault_is names bytes s (Twice name) short reads f = absurd f
 fault_is names bytes s (Unknown name) short reads f = record { short = short; spelled = s; reads = reads; fault_is = f }
 fault_is names bytes s (Mode name) short reads f = record { short = short; spelled = s; reads = reads; fault_is = f }
 fault_is names bytes s Memory short reads f = tt

@@ -13,12 +13,13 @@ use Rattle.bl_script.specs.declared.line.Line.{Line}
 use Rattle.bl_script.specs.declared.line.Line.TheVariants as line
 use Rattle.bl_script.specs.declared.work.Work.TheVariants.{Behaviour}
 use Rattle.bl_script.specs.declared.line.LineFault.{LineFault}
-use Rattle.bl_script.specs.declared.line.LineFault.TheVariants.{Long, Syntax, Unknown, Mode, Memory}
+use Rattle.bl_script.specs.declared.line.LineFault.TheVariants.{Long, Syntax, Deep, Many, Unknown, Twice, Mode, Memory}
 use Rattle.bl_script.specs.Names.{KnownNames}
+use Rattle.bl_script.specs.First.{IsFirstWithout}
 use Rattle.bl_script.specs.Grammar.{SpelledLine, hello, wait, when, spell}
 use Rattle.bl_script.specs.Fault.{ReadsAs, SyntaxFault}
 use Rattle.bl_script.specs.LineGrammar.{Means, LineOf}
-use Rattle.bl_script.specs.LineFaults.{subject, document, mentioned, mentions, IsKnown, Usage, uses, IsDeclared, IsFirstWithout, IsFirstUnknown, IsFirstUndeclared, IsFaultOf, HasFault, IsLineFault}
+use Rattle.bl_script.specs.LineFaults.{subject, document, mentioned, mentions, IsKnown, Usage, uses, IsDeclared, IsFirstUnknown, IsFirstUndeclared, IsFaultOf, HasFault, IsLineFault}
 use Rattle.bl_script.proofs.Unique.{same_line}
 use Rattle.bl_script.proofs.Meanings.{means_one}
 use Rattle.bl_script.proofs.OneFault.{reads_no_fault}
@@ -94,6 +95,9 @@ one_line one names bytes l m a b =
 pub line_or_fault : ReadProper → OneReading → (names : KnownNames) (bytes : List ℕ) (l : Line) (f : LineFault) → LineOf names bytes l → IsLineFault names bytes f → f ≡ Memory
 line_or_fault proper one names bytes l Long a f = absurd (omega (arith, a.short))
 line_or_fault proper one names bytes l (Syntax place) a f = absurd (reads_no_fault proper bytes a.spelled place a.reads f.1)
+line_or_fault proper one names bytes l Deep a f = absurd f.fault_is
+line_or_fault proper one names bytes l Many a f = absurd f.fault_is
+line_or_fault proper one names bytes l (Twice name) a f = absurd f.fault_is
 line_or_fault proper one names bytes l (Unknown name) a f =
     let same : f.spelled ≡ a.spelled = one_spelled one bytes f.spelled a.spelled f.reads a.reads in
     let first : IsFirstUnknown names a.spelled name = subst (λ s. IsFirstUnknown names s name) same f.fault_is in
@@ -119,9 +123,15 @@ one_of_fault names s (Mode n) (Mode m) a b p q = ap Mode (one_undeclared s n m a
 one_of_fault names s Memory _ a b p q = absurd (p refl)
 one_of_fault names s Long _ a b p q = absurd a
 one_of_fault names s (Syntax k) _ a b p q = absurd a
+one_of_fault names s Deep _ a b p q = absurd a
+one_of_fault names s Many _ a b p q = absurd a
+one_of_fault names s (Twice n) _ a b p q = absurd a
 one_of_fault names s _ Memory a b p q = absurd (q refl)
 one_of_fault names s _ Long a b p q = absurd b
 one_of_fault names s _ (Syntax k) a b p q = absurd b
+one_of_fault names s _ Deep a b p q = absurd b
+one_of_fault names s _ Many a b p q = absurd b
+one_of_fault names s _ (Twice m) a b p q = absurd b
 
 one_has_fault : OneReading → (names : KnownNames) (bytes : List ℕ) (f g : LineFault) → HasFault names bytes f → HasFault names bytes g → f ≢ Memory → g ≢ Memory → f ≡ g
 one_has_fault one names bytes f g a b p q =
@@ -146,5 +156,11 @@ one_line_fault proper one syntax names bytes (Mode n) Long a b p q = absurd (ome
 one_line_fault proper one syntax names bytes (Mode n) (Syntax k) a b p q = absurd (reads_no_fault proper bytes a.spelled k a.reads b.1)
 one_line_fault proper one syntax names bytes (Mode n) (Unknown m) a b p q = one_has_fault one names bytes (Mode n) (Unknown m) a b p q
 one_line_fault proper one syntax names bytes (Mode n) (Mode m) a b p q = one_has_fault one names bytes (Mode n) (Mode m) a b p q
+one_line_fault proper one syntax names bytes Deep _ a b p q = absurd a.fault_is
+one_line_fault proper one syntax names bytes Many _ a b p q = absurd a.fault_is
+one_line_fault proper one syntax names bytes (Twice n) _ a b p q = absurd a.fault_is
+one_line_fault proper one syntax names bytes _ Deep a b p q = absurd b.fault_is
+one_line_fault proper one syntax names bytes _ Many a b p q = absurd b.fault_is
+one_line_fault proper one syntax names bytes _ (Twice n) a b p q = absurd b.fault_is
 one_line_fault proper one syntax names bytes Memory _ a b p q = absurd (p refl)
 one_line_fault proper one syntax names bytes _ Memory a b p q = absurd (q refl)

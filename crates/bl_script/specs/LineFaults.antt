@@ -1,9 +1,10 @@
 -- The faults of a line. Each is asked of the whole line before the next.
-use Rattle.std.specs.Prelude.{◌≡◌, ℕ, ◌<◌, ◌≤◌, List, [], ◌∷◌, ◌++◌, length, All, Contains, None}
+use Rattle.std.specs.Prelude.{◌≡◌, ℕ, ◌<◌, ◌≤◌, List, [], ◌∷◌, length, All, Contains, None}
 use Rattle.bl_level.specs.Table.{place_of}
 use Rattle.bl_script.specs.declared.line.LineFault.{LineFault}
-use Rattle.bl_script.specs.declared.line.LineFault.TheVariants.{Long, Syntax, Unknown, Mode, Memory}
+use Rattle.bl_script.specs.declared.line.LineFault.TheVariants.{Long, Syntax, Deep, Many, Unknown, Twice, Mode, Memory}
 use Rattle.bl_script.specs.Names.{KnownNames}
+use Rattle.bl_script.specs.First.{IsFirstWithout}
 use Rattle.bl_script.specs.Grammar.{SpelledLine, hello, wait, when}
 use Rattle.bl_script.specs.Fault.{ReadsAs, SyntaxFault}
 use Rattle.bl_script.specs.LineGrammar.{most_line_bytes}
@@ -43,14 +44,6 @@ uses (when read show) = record { declared = read; used = show } ∷ []
 abbrev pub IsDeclared : Usage → Type 0
 IsDeclared usage = usage.used ≡ usage.declared
 
--- the first of these, from the left, for which this does not hold
-pub record IsFirstWithout {X : Type 0} (P : X → Type 0) (xs : List X) (x : X) : Type 0 where
-  pub before : List X
-  pub after : List X
-  pub split : xs ≡ before ++ x ∷ after
-  pub holds : All P before
-  pub fails : P x → ⊥
-
 -- the first name from the left that is not one of its kind
 pub record IsFirstUnknown (names : KnownNames) (line : SpelledLine) (name : List ℕ) : Type 0 where
   pub mention : Mention
@@ -67,7 +60,10 @@ pub record IsFirstUndeclared (line : SpelledLine) (name : List ℕ) : Type 0 whe
 abbrev pub IsFaultOf : KnownNames → SpelledLine → LineFault → Type 0
 IsFaultOf names line Long = ⊥
 IsFaultOf names line (Syntax place) = ⊥
+IsFaultOf names line Deep = ⊥
+IsFaultOf names line Many = ⊥
 IsFaultOf names line (Unknown name) = IsFirstUnknown names line name
+IsFaultOf names line (Twice name) = ⊥
 IsFaultOf names line (Mode name) = All (IsKnown names) (mentions line) × IsFirstUndeclared line name
 IsFaultOf names line Memory = Unit {0}
 
@@ -83,7 +79,10 @@ pub record HasFault (names : KnownNames) (bytes : List ℕ) (fault : LineFault) 
 abbrev pub IsLineFault : KnownNames → List ℕ → LineFault → Type 0
 IsLineFault names bytes Long = most_line_bytes < length bytes
 IsLineFault names bytes (Syntax place) = (length bytes ≤ most_line_bytes) × SyntaxFault bytes place
+IsLineFault names bytes Deep = HasFault names bytes Deep
+IsLineFault names bytes Many = HasFault names bytes Many
 IsLineFault names bytes (Unknown name) = HasFault names bytes (Unknown name)
+IsLineFault names bytes (Twice name) = HasFault names bytes (Twice name)
 IsLineFault names bytes (Mode name) = HasFault names bytes (Mode name)
 IsLineFault names bytes Memory = Unit {0}
 

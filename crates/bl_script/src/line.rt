@@ -42,9 +42,18 @@ pub enum LineFault {
     Long,
     /// The place of the first byte from the left that no line goes on with.
     Syntax(u32),
-    /// The first name from the left that is no subject or no document, as its place asks.
+    /// A `when` or an `if` is at a depth above 8. The outermost `when` has depth 1, and a `when` or an `if` in a body of depth d
+    /// has depth d + 1.
+    Deep,
+    /// There are more than 32 `when`, or a `when` has more than 8 accesses.
+    Many,
+    /// The first name from the left that is no subject, document, rank or category, as its place asks.
     Unknown(Name),
-    /// The first document from the left that a statement uses and its `when` does not declare so.
+    /// The first document from the left that is declared a second time in one `when`, or the first category that stands a second
+    /// time in one level.
+    Twice(Name),
+    /// The first document from the left, in a statement, that the innermost `when` round it does not declare in a mode that the
+    /// statement asks for.
     Mode(Name),
     /// A growth was refused.
     Memory,
