@@ -15,3 +15,10 @@ pub mod Altered
 mod Rows
 pub mod Additions
 pub mod Same
+pub mod Firsts
+pub mod Joined
+pub mod Passes
+pub mod WhenFaults
+pub mod Declared
+pub mod Few
+pub mod Uses

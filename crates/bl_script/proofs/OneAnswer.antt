@@ -56,10 +56,10 @@ first_one P (a ∷ before) (b ∷ before') after after' x y e p q f g =
     let rest : before ++ x ∷ after ≡ before' ++ y ∷ after' = cc in
     first_one P before before' after after' x y rest (All-tail P a before p) (All-tail P b before' q) f g
 
-one_first : {X : Type 0} (P : X → Type 0) (xs : List X) (x y : X) → IsFirstWithout P xs x → IsFirstWithout P xs y → x ≡ y
+pub one_first : {X : Type 0} (P : X → Type 0) (xs : List X) (x y : X) → IsFirstWithout P xs x → IsFirstWithout P xs y → x ≡ y
 one_first P xs x y a b = first_one P a.before b.before a.after b.after x y (sym a.split ∙ b.split) a.holds b.holds a.fails b.fails
 
-none_first : {X : Type 0} (P : X → Type 0) (xs : List X) (x : X) → All P xs → IsFirstWithout P xs x → ⊥
+pub none_first : {X : Type 0} (P : X → Type 0) (xs : List X) (x : X) → All P xs → IsFirstWithout P xs x → ⊥
 none_first P xs x all a = a.fails (all_at P a.before a.after x (subst (All P) a.split all))
 
 -- ---- what has a meaning has no fault

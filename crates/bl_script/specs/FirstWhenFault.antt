@@ -1,11 +1,26 @@
 -- The fault of a `when` that is spelled as it should be. Each is asked of the whole line before the next.
-use Rattle.std.specs.Prelude.{ℕ, List, ◌∷◌, All, Contains}
+use Rattle.std.specs.Prelude.{ℕ, ◌≤◌, length, List, ◌∷◌, All, Contains}
 use Rattle.bl_script.specs.declared.line.LineFault.{LineFault}
 use Rattle.bl_script.specs.declared.line.LineFault.TheVariants.{Long, Syntax, Deep, Many, Unknown, Twice, Mode, Memory}
 use Rattle.bl_script.specs.Names.{KnownNames}
+use Rattle.bl_script.specs.Script.{most_accesses}
 use Rattle.bl_script.specs.Spelled.{SpelledAccess, SpelledBody}
+use Rattle.bl_script.specs.Meaning.{whens}
 use Rattle.bl_script.specs.First.{IsFirstWithout, IsNameOfFirst}
-use Rattle.bl_script.specs.WhenFaults.{IsShallow, AreFew, names_of_when, Declaration, declarations_of_when, IsOnce, Usage, uses_in, IsDeclared}
+use Rattle.bl_script.specs.WhenFaults.{IsShallow, lists_in, AreFew, names_of_when, Declaration, declarations_of_when, IsOnce, Usage, uses_in, IsDeclared}
+
+-- not too many accesses of one `when`
+abbrev pub HasFewAccesses : List SpelledAccess → Type 0
+HasFewAccesses accesses = length accesses ≤ most_accesses
+
+-- so many `when` at most stand in a body, and none has too many accesses
+pub record AreFewIn (most : ℕ) (body : SpelledBody) : Type 0 where
+  pub count : whens body ≤ most
+  pub accesses : All HasFewAccesses (lists_in body)
+
+-- a name goes with itself
+abbrev pub same_name : List ℕ → List ℕ
+same_name name = name
 
 -- the document that is declared, and the one that is used
 abbrev pub declared_document : Declaration → List ℕ

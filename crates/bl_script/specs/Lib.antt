@@ -13,6 +13,7 @@ pub mod Meaning
 pub mod WhenFaults
 pub mod First
 pub mod FirstWhenFault
+pub mod Uses
 pub mod RawBodies
 pub mod RawFalls
 pub mod Body

@@ -2,10 +2,15 @@
 #![tactic(auto)]
 
 pub mod answer;
+pub mod check;
+pub mod count;
 pub mod document;
+pub mod known;
 pub mod laws;
 pub mod line;
+pub mod modes;
 pub mod names;
+pub mod once;
 pub mod parse;
 pub mod raw;
 pub mod read;
