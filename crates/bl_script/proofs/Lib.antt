@@ -10,6 +10,9 @@ pub mod Whole
 pub mod OneFault
 pub mod Unique
 pub mod Texts
+pub mod FirstOnes
+pub mod Meanings
+pub mod OneAnswer
 pub mod Contents
 pub mod Altered
 mod Rows
@@ -19,3 +22,10 @@ pub mod Numbering
 pub mod Behaviours
 pub mod RawLists
 pub mod Built
+pub mod Firsts
+pub mod Joined
+pub mod Passes
+pub mod WhenFaults
+pub mod Declared
+pub mod Few
+pub mod Uses

@@ -11,6 +11,9 @@ pub mod Spelled
 pub mod SpelledCodes
 pub mod Meaning
 pub mod WhenFaults
+pub mod First
+pub mod FirstWhenFault
+pub mod Uses
 pub mod RawBodies
 pub mod RawFalls
 pub mod Body

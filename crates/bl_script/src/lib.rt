@@ -3,9 +3,15 @@
 
 pub mod answer;
 pub mod build;
+pub mod check;
+pub mod count;
 pub mod document;
+pub mod known;
 pub mod laws;
+pub mod line;
+pub mod modes;
 pub mod names;
+pub mod once;
 pub mod parse;
 pub mod raw;
 pub mod read;

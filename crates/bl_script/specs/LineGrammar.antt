@@ -1,0 +1,30 @@
+-- What a line of a session is: the relation between the names of the server, the bytes of a line and what it asks.
+use Rattle.std.specs.Prelude.{◌≡◌, ℕ, ◌≤◌, List, length, Some}
+use Rattle.bl_level.specs.Table.{place_of}
+use Rattle.bl_script.specs.declared.line.Line.{Line}
+use Rattle.bl_script.specs.declared.line.Line.TheVariants as line
+use Rattle.bl_script.specs.declared.work.Work.TheVariants.{Behaviour}
+use Rattle.bl_script.specs.Names.{KnownNames}
+use Rattle.bl_script.specs.Grammar.{SpelledLine, hello, wait, when}
+use Rattle.bl_script.specs.Fault.{ReadsAs}
+use Rattle.bl_script.specs.Meaning.{script_of}
+use Rattle.bl_script.specs.WhenFaults.{IsFaultless}
+
+-- own choice: a line has at most so many bytes
+abbrev pub most_line_bytes : ℕ
+most_line_bytes = 8192
+
+-- What a line as it is spelled asks, by these names: a subject goes by its place, and a `when` without fault asks its script.
+abbrev pub Means : KnownNames → SpelledLine → Line → Type 0
+Means names (hello name) (line.Hello subject) = place_of name names.subjects ≡ Some subject
+Means names wait line.Wait = Unit {0}
+Means names (when first more body) (line.Work (Behaviour script)) =
+    IsFaultless names first more body × (script ≡ script_of names first more body)
+Means names _ _ = ⊥
+
+-- the bytes are a line that asks this, by these names
+pub record LineOf (names : KnownNames) (bytes : List ℕ) (asked : Line) : Type 0 where
+  pub short : length bytes ≤ most_line_bytes
+  pub spelled : SpelledLine
+  pub reads : ReadsAs bytes spelled
+  pub means : Means names spelled asked
