@@ -1,5 +1,5 @@
 -- The documents that one `when` declares, each behind those before it.
-use Rattle.std.proofs.Common.{◌≡◌, ℕ, zero, suc, ◌+◌, ◌-◌, ◌<◌, ◌≤◌, Bool, true, false, ◌⊎◌, inl, inr, List, [], ◌∷◌, ◌++◌, length, get_or, map, take, drop, refl, ap, sym, subst, ◌∙◌, arith, append_assoc}
+use Rattle.std.proofs.Common.{◌≡◌, ℕ, zero, suc, ◌+◌, ◌<◌, ◌≤◌, Bool, true, false, ◌⊎◌, inl, inr, List, [], ◌∷◌, ◌++◌, length, get_or, map, take, drop, refl, ap, sym, subst, ◌∙◌, arith, append_assoc}
 use Rattle.std.specs.Prelude.{All, Contains}
 use Rattle.std.specs.Str.{bytes_eq}
 use Rattle.std.proofs.lemmas.Bool.{false≢true}
@@ -150,14 +150,3 @@ none_more xs i d document lt none other there =
       inl before ↦ none before
     | inr here ↦ other (only_one x.document.now document here)
     ]
-
--- a slice from the begin on
-pub sliced : (xs : List RawAccess) (i : ℕ) (document : List ℕ) → Contains (documents_of (take (i - 0) xs)) document → Contains (documents_of (take i xs)) document
-sliced xs i document there =
-    let same : i - 0 ≡ i = omega arith in
-    subst (λ n. Contains (documents_of (take n xs)) document) same there
-
-pub unsliced : (xs : List RawAccess) (i : ℕ) (document : List ℕ) → Contains (documents_of (take i xs)) document → Contains (documents_of (take (i - 0) xs)) document
-unsliced xs i document there =
-    let same : i ≡ i - 0 = omega arith in
-    subst (λ n. Contains (documents_of (take n xs)) document) same there

@@ -1,6 +1,7 @@
 -- A `when` has one fault at most, and its names are names.
-use Rattle.std.proofs.Common.{◌≡◌, ℕ, List, [], ◌∷◌, ◌++◌, map, refl, ap, sym, subst, ◌∙◌}
+use Rattle.std.proofs.Common.{◌≡◌, ℕ, ◌≤◌, Bool, true, false, List, [], ◌∷◌, ◌++◌, refl, ap, sym, subst, ◌∙◌, arith}
 use Rattle.std.specs.Prelude.{All, Contains}
+use Rattle.std.proofs.lemmas.Bool.{false≢true}
 use Rattle.std.proofs.lemmas.List.Elements.{All-cons, All-nil, All-head, All-tail, All-append}
 use Rattle.bl_level.specs.Token.{Tok, reserved, name, sign}
 use Rattle.bl_level.specs.Name.{IsName, AreProper}
@@ -12,8 +13,8 @@ use Rattle.bl_script.specs.Modes.{alters, is_write}
 use Rattle.bl_script.specs.Names.{KnownNames}
 use Rattle.bl_script.specs.Spelled.{SpelledAccess, SpelledBody, empty, show, say, add, set, copy, pour, if_then, if_else, spawn, spell_access, spell_more, spell_body, spell_when}
 use Rattle.bl_script.specs.First.{IsFirstWithout, IsNameOfFirst}
-use Rattle.bl_script.specs.WhenFaults.{documents_in, names_in, names_of_when, Declaration, declarations_behind, declarations_in, declarations_of_when, IsOnce, Usage, uses_in, IsDeclared, IsFaultless}
-use Rattle.bl_script.specs.FirstWhenFault.{declared_document, used_document, IsWhenFault}
+use Rattle.bl_script.specs.WhenFaults.{depth_in, IsShallow, AreFew, documents_in, names_in, names_of_when, Declaration, declarations_behind, declarations_in, declarations_of_when, IsOnce, Usage, uses_in, IsDeclared, IsFaultless}
+use Rattle.bl_script.specs.FirstWhenFault.{same_name, declared_document, used_document, IsWhenFault}
 use Rattle.bl_script.proofs.Lists.{proper_behind}
 use Rattle.bl_script.proofs.FirstOnes.{one_first, none_first}
 
@@ -230,3 +231,37 @@ module _ (first : SpelledAccess) (more : List SpelledAccess) (body : SpelledBody
   pub undeclared_named : (n : List ℕ) → IsNameOfFirst IsDeclared used_document (uses_in (first ∷ more) body) n → IsName n
   undeclared_named n f = named IsDeclared used_document (uses_in (first ∷ more) body) n
       (use_names (first ∷ more) body (all_right IsName (documents_in (first ∷ more)) (names_in body) all)) f
+
+-- ---- what each pass tells of the whole `when`
+
+pub shallow_from : (body : SpelledBody) → depth_in body ≤ 7 → IsShallow body
+shallow_from body le = omega (arith, le)
+
+module _ (names : KnownNames) (first : SpelledAccess) (more : List SpelledAccess) (body : SpelledBody) where
+  pub many_fault : (few : Bool) → few ≡ false → (AreFew first more body → few ≡ true) → IsShallow body → IsWhenFault names first more body Many
+  many_fault few none all shallow = (shallow, λ p. false≢true (sym none ∙ all p))
+
+  pub unknown_fault : (n m : List ℕ) → m ≡ n → IsShallow body → AreFew first more body
+      → IsNameOfFirst (Contains names.documents) same_name (names_of_when first more body) n → IsWhenFault names first more body (Unknown m)
+  unknown_fault n m same shallow few f =
+      (shallow, few, subst (λ x. IsFirstWithout (Contains names.documents) (names_of_when first more body) x) (f.name_is ∙ sym same) f.first)
+
+  pub twice_fault : (n m : List ℕ) → m ≡ n → IsShallow body → AreFew first more body → All (Contains names.documents) (names_of_when first more body)
+      → IsNameOfFirst IsOnce declared_document (declarations_of_when first more body) n → IsWhenFault names first more body (Twice m)
+  twice_fault n m same shallow few known f =
+      (shallow, few, known, subst (λ x. IsNameOfFirst IsOnce declared_document (declarations_of_when first more body) x) (sym same) f)
+
+  pub mode_fault : (n m : List ℕ) → m ≡ n → IsShallow body → AreFew first more body → All (Contains names.documents) (names_of_when first more body)
+      → All IsOnce (declarations_of_when first more body) → IsNameOfFirst IsDeclared used_document (uses_in (first ∷ more) body) n
+      → IsWhenFault names first more body (Mode m)
+  mode_fault n m same shallow few known once f =
+      (shallow, few, known, once, subst (λ x. IsNameOfFirst IsDeclared used_document (uses_in (first ∷ more) body) x) (sym same) f)
+
+  -- what has a fault is not as it should be
+  pub fault_not_ok : (f : LineFault) → IsWhenFault names first more body f
+      → (false ≡ true → IsFaultless names first more body) × (IsFaultless names first more body → false ≡ true)
+  fault_not_ok f fault = (λ e. absurd (false≢true e), λ none. absurd (faultless_no_fault names first more body f none fault))
+
+  pub no_fault_ok : IsShallow body → AreFew first more body → All (Contains names.documents) (names_of_when first more body)
+      → All IsOnce (declarations_of_when first more body) → All IsDeclared (uses_in (first ∷ more) body) → IsFaultless names first more body
+  no_fault_ok shallow few known once declared = record { shallow = shallow; few = few; known = known; once = once; declared = declared }

@@ -5,7 +5,7 @@ use Rattle.std.proofs.lemmas.List.{take_all}
 use Rattle.std.proofs.lemmas.List.Elements.{All-cons}
 use Rattle.bl_script.specs.WhenFaults.{IsOnce}
 use Rattle.bl_script.proofs.Passes.{no_access}
-use Rattle.bl_script.proofs.Declared.{is_same, is_other, sliced, unsliced, behind_first, first_once, once_goes_on_at, once_stops_at}
+use Rattle.bl_script.proofs.Declared.{is_same, is_other, behind_first, first_once, once_goes_on_at, once_stops_at}
 use Rattle.bl_script.proofs.once.check_accesses_once.Goals as goal
 use Rattle.bl_script.proofs.once.check_accesses_once.Goals.{then-eq-via-then-eq, then-eq-via-else-eq+then-has_document}
 
@@ -15,13 +15,13 @@ returns-then-eq c =
       then-eq-via-then-eq w ↦ once_stops_at c.args.first.document.now c.args.more.now c.loop-i.i no_access (omega arith) c.loop-i.invariant (inl (is_same _ _ w.if-eq.ensures))
     | then-eq-via-else-eq+then-has_document w ↦
       once_stops_at c.args.first.document.now c.args.more.now c.loop-i.i no_access (omega arith) c.loop-i.invariant
-      (inr (sliced c.args.more.now c.loop-i.i _ (w.has_document.ensures.0 w.if-has_document.true)))
+      (inr (w.has_document.ensures.0 w.if-has_document.true))
     ]
 
 pub loop-i-preserved : goal.loop-i-preserved
 loop-i-preserved c =
     once_goes_on_at c.args.first.document.now c.args.more.now c.loop-i.i no_access (omega arith) c.loop-i.invariant (is_other _ _ c.if-eq.ensures)
-    (λ there. false≢true (sym c.if-has_document.false ∙ c.has_document.ensures.1 (unsliced c.args.more.now c.loop-i.i _ there)))
+    (λ there. false≢true (sym c.if-has_document.false ∙ c.has_document.ensures.1 there))
 
 pub returns : goal.returns
 returns c =
