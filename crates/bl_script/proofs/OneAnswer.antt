@@ -1,5 +1,5 @@
 -- A line asks one thing, or has one fault.
-use Rattle.std.proofs.Common.{◌≡◌, ◌≢◌, ℕ, ◌≤◌, ◌<◌, List, length, refl, sym, ap, subst, ◌∙◌, arith}
+use Rattle.std.proofs.Common.{◌≡◌, ◌≢◌, ℕ, ◌≤◌, ◌<◌, List, [], length, refl, sym, ap, subst, ◌∙◌, arith}
 use Rattle.bl_level.specs.Token.{Tok}
 use Rattle.bl_level.specs.Lexing.{Begins}
 use Rattle.bl_level.specs.Name.{AreProper}

@@ -1,4 +1,6 @@
 //! Each call that grows, once with ample memory.
+mod lines;
+
 use crate::answer::{Answer, Outputs};
 use crate::document::Document;
 use crate::script::{Script, Stmt};
