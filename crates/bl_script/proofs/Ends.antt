@@ -9,8 +9,8 @@ use Rattle.bl_script.specs.Grammar.{SpelledLine, spell}
 use Rattle.bl_script.specs.Fault.{FirstFault}
 use Rattle.bl_script.specs.Machine.{a_line}
 use Rattle.bl_script.specs.Parsing.{Faults, IsFirstFault}
-use Rattle.bl_script.specs.declared.parse.Stop.{Stop}
-use Rattle.bl_script.specs.declared.parse.Stop.TheVariants.{Memory, At}
+use Rattle.bl_script.specs.declared.stop.Stop.{Stop}
+use Rattle.bl_script.specs.declared.stop.Stop.TheVariants.{Memory, At}
 use Rattle.bl_script.proofs.Theory.{run_line, first_fault, fault_at}
 
 pub is_first_fault : (tokens : List Tok) (e : Stop) → Faults (a_line ∷ []) tokens e → IsFirstFault tokens e

@@ -18,8 +18,8 @@ use Rattle.bl_script.specs.Machine.{Due, word, a_sign, a_name, a_text, a_mode, i
 use Rattle.bl_script.specs.Parsing.{Gives, Faults, BeginsNone, IsNotAt, start_word, start_due, spell_statement}
 use Rattle.bl_script.specs.declared.parse.Start.{Start}
 use Rattle.bl_script.specs.declared.parse.Start.TheVariants as start
-use Rattle.bl_script.specs.declared.parse.Stop.{Stop}
-use Rattle.bl_script.specs.declared.parse.Stop.TheVariants.{Memory, At}
+use Rattle.bl_script.specs.declared.stop.Stop.{Stop}
+use Rattle.bl_script.specs.declared.stop.Stop.TheVariants.{Memory, At}
 use Rattle.bl_script.proofs.Theory.{run_mode, run_asks, run_access, run_more, run_test, run_body}
 use Rattle.bl_script.proofs.Spellings.{run_statement}
 

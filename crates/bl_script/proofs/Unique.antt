@@ -49,6 +49,9 @@ same_more (a ∷ these) (b ∷ those) xs ys h k e =
 no_comma_at_do : (ts : List Tok) → IsNotAt (sign Comma) (reserved Do ∷ ts)
 no_comma_at_do ts e = cc
 
+same_behind : (t u : Tok) (ts us : List Tok) → t ∷ ts ≡ u ∷ us → ts ≡ us
+same_behind t u ts us e = cc
+
 -- the first token of a body begins a statement
 none_begins : (b : SpelledBody) (ts : List Tok) → BeginsNone (spell_body b ++ ts) → b ≡ empty
 none_begins empty ts h = refl
@@ -138,13 +141,16 @@ same_body (spawn a m b r) (spawn a' m' b' r') xs ys h k e =
       more_append m' (reserved Do ∷ (spell_body b' ++ reserved End ∷ sign Semicolon ∷ spell_body r')) ys,
     ) in
     let p = same_access a a' (spell_more m (reserved Do ∷ ((spell_body b ++ reserved End ∷ sign Semicolon ∷ spell_body r) ++ xs))) (spell_more m' (reserved Do ∷ ((spell_body b' ++ reserved End ∷ sign Semicolon ∷ spell_body r') ++ ys))) f in
-    let q = same_more m m' (reserved Do ∷ ((spell_body b ++ reserved End ∷ sign Semicolon ∷ spell_body r) ++ xs)) (reserved Do ∷ ((spell_body b' ++ reserved End ∷ sign Semicolon ∷ spell_body r') ++ ys)) (no_comma_at_do _) (no_comma_at_do _) p.1 in
+    let q = same_more m m' (reserved Do ∷ ((spell_body b ++ reserved End ∷ sign Semicolon ∷ spell_body r) ++ xs)) (reserved Do ∷ ((spell_body b' ++ reserved End ∷ sign Semicolon ∷ spell_body r') ++ ys))
+    (no_comma_at_do ((spell_body b ++ reserved End ∷ sign Semicolon ∷ spell_body r) ++ xs)) (no_comma_at_do ((spell_body b' ++ reserved End ∷ sign Semicolon ∷ spell_body r') ++ ys)) p.1 in
     let g : spell_body b ++ reserved End ∷ sign Semicolon ∷ (spell_body r ++ xs) ≡ spell_body b' ++ reserved End ∷ sign Semicolon ∷ (spell_body r' ++ ys) =
-    cc (q.1, append_assoc (spell_body b) (reserved End ∷ sign Semicolon ∷ spell_body r) xs, append_assoc (spell_body b') (reserved End ∷ sign Semicolon ∷ spell_body r') ys) in
+    sym (append_assoc (spell_body b) (reserved End ∷ sign Semicolon ∷ spell_body r) xs)
+    ∙ same_behind (reserved Do) (reserved Do) _ _ q.1
+    ∙ append_assoc (spell_body b') (reserved End ∷ sign Semicolon ∷ spell_body r') ys in
     let s = same_body b b' (reserved End ∷ sign Semicolon ∷ (spell_body r ++ xs)) (reserved End ∷ sign Semicolon ∷ (spell_body r' ++ ys)) refl refl g in
-    let i : spell_body r ++ xs ≡ spell_body r' ++ ys = cc in
-    let u = same_body r r' xs ys h k i in
-    (cc, u.1)
+    let o : spell_body r ++ xs ≡ spell_body r' ++ ys = same_behind (sign Semicolon) (sign Semicolon) _ _ (same_behind (reserved End) (reserved End) _ _ s.1) in
+    let u = same_body r r' xs ys h k o in
+    ((λ i. spawn (p.0 i) (q.0 i) (s.0 i) (u.0 i)), u.1)
 same_body _ _ xs ys h k e = absurd (cc)
 
 pub same_line : (l m : SpelledLine) → spell l ≡ spell m → l ≡ m
@@ -153,8 +159,9 @@ same_line wait wait e = refl
 same_line (when a m b) (when a' m' b') e =
     let f : spell_access a (spell_more m (reserved Do ∷ (spell_body b ++ reserved End ∷ []))) ≡ spell_access a' (spell_more m' (reserved Do ∷ (spell_body b' ++ reserved End ∷ []))) = cc in
     let p = same_access a a' (spell_more m (reserved Do ∷ (spell_body b ++ reserved End ∷ []))) (spell_more m' (reserved Do ∷ (spell_body b' ++ reserved End ∷ []))) f in
-    let q = same_more m m' (reserved Do ∷ (spell_body b ++ reserved End ∷ [])) (reserved Do ∷ (spell_body b' ++ reserved End ∷ [])) (no_comma_at_do _) (no_comma_at_do _) p.1 in
-    let g : spell_body b ++ reserved End ∷ [] ≡ spell_body b' ++ reserved End ∷ [] = cc (q.1) in
+    let q = same_more m m' (reserved Do ∷ (spell_body b ++ reserved End ∷ [])) (reserved Do ∷ (spell_body b' ++ reserved End ∷ []))
+    (no_comma_at_do (spell_body b ++ reserved End ∷ [])) (no_comma_at_do (spell_body b' ++ reserved End ∷ [])) p.1 in
+    let g : spell_body b ++ reserved End ∷ [] ≡ spell_body b' ++ reserved End ∷ [] = same_behind (reserved Do) (reserved Do) _ _ q.1 in
     let s = same_body b b' (reserved End ∷ []) (reserved End ∷ []) refl refl g in
     λ i. when (p.0 i) (q.0 i) (s.0 i)
 same_line _ _ e = absurd (cc)

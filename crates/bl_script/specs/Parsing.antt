@@ -8,8 +8,8 @@ use Rattle.bl_script.specs.declared.parse.First.{First}
 use Rattle.bl_script.specs.declared.parse.First.TheVariants as first
 use Rattle.bl_script.specs.declared.parse.Start.{Start}
 use Rattle.bl_script.specs.declared.parse.Start.TheVariants as start
-use Rattle.bl_script.specs.declared.parse.Stop.{Stop}
-use Rattle.bl_script.specs.declared.parse.Stop.TheVariants.{Memory, At}
+use Rattle.bl_script.specs.declared.stop.Stop.{Stop}
+use Rattle.bl_script.specs.declared.stop.Stop.TheVariants.{Memory, At}
 use Rattle.bl_script.specs.declared.raw.RawStatement.{RawStatement}
 use Rattle.bl_script.specs.declared.raw.RawStatement.TheVariants as raw
 use Rattle.bl_script.specs.Fault.{FirstFault}

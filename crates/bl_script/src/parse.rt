@@ -10,38 +10,14 @@ ghost use Rattle.bl_script.specs.RawBodies.{raw_access};
 ghost use Rattle.bl_script.specs.RawView.{raw_view};
 ghost use Rattle.bl_script.specs.Machine.{word, a_name, a_text, a_sign, a_mode, is_or_has, more_accesses, a_body, rest_of_if, a_line, access_due, if_due, when_due};
 ghost use Rattle.bl_script.specs.Parsing.{Gives, IsFirstFault, IsNotAt, BeginsNone, first_word, start_word, start_due, spell_statement, left};
-ghost use Rattle.bl_script.specs.declared.parse.Stop.TheVariants.{Memory, At};
+ghost use Rattle.bl_script.specs.declared.stop.Stop.TheVariants.{At};
 
 use crate::raw::{RawAccess, RawBody, RawLine, RawStatement};
 use crate::script::Condition;
+use crate::stop::Stop;
 use bl_level::token::{Keyword, Sign, Token};
 use bl_policy::access::Mode;
-use std::alloc::{AllocError, AllocFailed, Global};
-
-/// Why tokens were not read as a line.
-#[derive(Clone, Copy, Debug, PartialEq, Eq)]
-pub enum Stop {
-    /// A growth was refused.
-    Memory,
-    /// The first fault from the left, by the number of tokens from it on: 0 where the line ends too early.
-    At(usize),
-}
-
-impl From<AllocError> for Stop {
-    ghost from_gives = { λ _ stop. stop ≡ Memory };
-
-    fn from(_: AllocError) -> Self {
-        Stop::Memory
-    }
-}
-
-impl<T: Drop> From<AllocFailed<T>> for Stop {
-    ghost from_gives = { λ _ stop. stop ≡ Memory };
-
-    fn from(_: AllocFailed<T>) -> Self {
-        Stop::Memory
-    }
-}
+use std::alloc::Global;
 
 /// The word that begins a line.
 #[derive(Clone, Copy)]

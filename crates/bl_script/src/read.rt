@@ -8,8 +8,9 @@ ghost use Rattle.bl_script.specs.Content.{most_bytes};
 ghost use Rattle.bl_script.specs.Reading.{IsRawFault, fault_place, IsNoMemory, HasContents};
 ghost use Rattle.bl_script.specs.declared.read.RawFault.TheVariants.{Memory};
 
-use crate::parse::{Stop, parse_line};
+use crate::parse::parse_line;
 use crate::raw::RawLine;
+use crate::stop::Stop;
 use bl_level::laws::{canonical_is_shortest, read_tokens_are_proper};
 use bl_level::lexer::{Lexed, lex};
 use std::alloc::{AllocError, Global};
@@ -80,4 +81,87 @@ pub fn one_fault()
     ensures { (bytes : List ℕ) (k l : ℕ) → SyntaxFault bytes k → SyntaxFault bytes l → k ≡ l }
 {
     read_tokens_are_proper()
+}
+
+#[cfg(test)]
+mod tests {
+    use super::*;
+    use crate::raw::{RawBody, RawStatement};
+    use std::test::Fail;
+    use std::thread;
+
+    /// The place of the fault of syntax.
+    fn place(alloc: Global, line: &[u8]) -> Option<usize> {
+        match read_raw(alloc, line) {
+            Err(RawFault::Syntax(place)) => Some(place),
+            _ => None,
+        }
+    }
+
+    #[test]
+    fn syntax_offsets(rt: HostRuntime) -> Result<(), Fail> {
+        let lines: [(&[u8], usize); 3] = [
+            (b"when read memo show memo; end", 15),
+            (b"when read memo do show memo;", 28),
+            (b"when read memo do say \"a\\b\"; end", 24),
+        ];
+        for (line, at) in lines {
+            let found = place(rt.alloc(), line);
+            assert!(rt; found == Some(at), "{found:?}");
+        }
+        Ok(())
+    }
+
+    /// So many `if` in one another, each of them over where there is room for it in 8,192 bytes.
+    fn nested(alloc: Global, levels: usize, over: bool) -> Result<Vec<u8>, Fail> {
+        let mut line = Vec::new(alloc);
+        line.extend_from_slice(b"when read a do ")?;
+        for _ in 0..levels {
+            line.extend_from_slice(b"if a is\"\"then ")?;
+        }
+        if over {
+            for _ in 0..levels {
+                line.extend_from_slice(b"end;")?;
+            }
+            line.extend_from_slice(b"end")?;
+        }
+        Ok(line)
+    }
+
+    /// How many bodies stand in one another, each at the front of the next.
+    fn levels(body: &RawBody<'_>) -> usize {
+        match body.statements() {
+            [RawStatement::IfThen { then_body, .. }, ..] => levels(then_body).saturating_add(1),
+            _ => 0,
+        }
+    }
+
+    fn levels_read(alloc: Global, line: &[u8]) -> Option<usize> {
+        match read_raw(alloc, line) {
+            Ok(RawLine::When {
+                first: _,
+                more: _,
+                body,
+            }) => Some(levels(&body)),
+            _ => None,
+        }
+    }
+
+    #[test]
+    fn reads_the_deepest_lines_on_a_thread(rt: HostRuntime) -> Result<(), Fail> {
+        let whole = nested(rt.alloc(), 454, true)?;
+        assert!(rt; whole.len() > 8_172 && whole.len() <= 8_192);
+        let Ok(reader) = thread::spawn(&rt, move || levels_read(rt.alloc(), &whole)) else {
+            return Err(Fail::new("no thread"));
+        };
+        assert!(rt; reader.join(&rt) == Some(454));
+        let open = nested(rt.alloc(), 584, false)?;
+        let length = open.len();
+        assert!(rt; length > 8_177 && length <= 8_192);
+        let Ok(reader) = thread::spawn(&rt, move || place(rt.alloc(), &open)) else {
+            return Err(Fail::new("no thread"));
+        };
+        assert!(rt; reader.join(&rt) == Some(length));
+        Ok(())
+    }
 }

@@ -1,4 +1,4 @@
-use Rattle.std.proofs.Common.{◌∷◌, [], map, ◌∙◌}
+use Rattle.std.proofs.Common.{◌∷◌, [], ◌∙◌, arith}
 use Rattle.bl_level.specs.declared.token.Keyword.TheVariants.{When, Do, Then}
 use Rattle.bl_script.specs.RawBodies.{raw_access}
 use Rattle.bl_script.specs.Machine.{word, more_accesses, a_body}
@@ -18,7 +18,9 @@ when-returns-in_err-key t c =
     (behind_more _ _ _ _ _ c.in_ok-more.ensures.0 c.in_ok-more.ensures.1 (first_due (word Do ∷ []) _ _ _ c.in_err-key.ensures)))
 
 pub when-body-requires : goal.when-body-requires
-when-body-requires t c = (when_falls (raw_access c.in_ok-first.first) _ _ _ _ _ _ c.in_ok-first.ensures c.in_ok-more.ensures.0 c.in_ok-key.ensures, tt)
+when-body-requires t c =
+    let falls = when_falls (raw_access c.in_ok-first.first) _ _ _ _ _ _ c.in_ok-first.ensures c.in_ok-more.ensures.0 c.in_ok-key.ensures in
+    (omega (arith, falls, c.decreases), tt)
 
 pub when-returns-in_err-body : goal.when-returns-in_err-body
 when-returns-in_err-body t c =
