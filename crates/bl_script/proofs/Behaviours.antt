@@ -1,6 +1,6 @@
 -- Each behaviour of a faultless `when` is one: its accesses are few and apart, and its statements keep to them.
-use Rattle.std.proofs.Common.{◌≡◌, ◌≢◌, ℕ, zero, suc, ◌+◌, ◌<◌, ◌≤◌, Bool, true, false, ◌&&◌, ◌||◌, List, [], ◌∷◌, ◌++◌, length, Option, Some, None, refl, sym, ap, ◌∙◌, subst, arith, append_assoc, get_or, cond}
-use Rattle.std.specs.Prelude.{All, AllPairs, Contains, map, unwrap_or, position, not, ◌==◌}
+use Rattle.std.proofs.Common.{◌≡◌, ◌≢◌, ℕ, zero, suc, ◌+◌, ◌<◌, ◌≤◌, Bool, true, false, ◌&&◌, ◌||◌, List, [], ◌∷◌, ◌++◌, length, Some, None, refl, sym, ap, ◌∙◌, subst, arith, get_or, cond}
+use Rattle.std.specs.Prelude.{All, Contains, map, unwrap_or, not, ◌==◌}
 use Rattle.std.specs.List.{list_any, position_or_len}
 use Rattle.std.proofs.lemmas.List.{length-map}
 use Rattle.std.specs.Str.{bytes_eq}
@@ -14,12 +14,11 @@ use Rattle.bl_policy.specs.declared.access.Access.{Access}
 use Rattle.bl_policy.specs.declared.access.Mode.{Mode}
 use Rattle.bl_script.specs.Names.{KnownNames}
 use Rattle.bl_script.specs.Spelled.{SpelledAccess, SpelledBody, empty, show, say, add, set, copy, pour, if_then, if_else, spawn}
-use Rattle.bl_script.specs.Statements.{Statements, Part}
 use Rattle.bl_script.specs.Modes.{observes, alters, is_write, declares, KeepsModes}
 use Rattle.bl_script.specs.Script.{most_accesses, HasContents, AreApart, IsBehaviour, IsScript}
 use Rattle.bl_script.specs.Meaning.{whens, document_of, access_of, numbered, spawned_from, script_of}
 use Rattle.bl_script.proofs.Numbering.{script_long, script_depth, script_preorder}
-use Rattle.bl_script.specs.WhenFaults.{lists_in, documents_in, names_in, names_of_when, Declaration, declarations_behind, declarations_in, declarations_of_when, IsOnce, Usage, uses_in, IsDeclared, IsFaultless, AreContents}
+use Rattle.bl_script.specs.WhenFaults.{lists_in, documents_in, names_in, Declaration, declarations_behind, declarations_in, IsOnce, Usage, uses_in, IsDeclared, IsFaultless, AreContents}
 
 -- ---- parts of a list
 

@@ -1,15 +1,13 @@
 -- What is built of each statement, and of a `when`.
-use Rattle.std.proofs.Common.{◌≡◌, ℕ, ◌+◌, List, [], ◌∷◌, ◌++◌, length, get_or, set, refl, sym, ap, ◌∙◌, subst, arith, append_assoc, length-append}
+use Rattle.std.proofs.Common.{◌≡◌, ℕ, ◌+◌, List, [], ◌∷◌, ◌++◌, length, get_or, set, sym, ap, ◌∙◌, append_assoc, length-append}
 use Rattle.std.specs.Prelude.{map}
 use Rattle.std.proofs.lemmas.List.{append-nil, set_at, get_or_at}
-use denote.Ref.{Bor}
 use Rattle.bl_policy.specs.declared.access.Access.{Access}
 use Rattle.bl_script.specs.Names.{KnownNames}
 use Rattle.bl_script.specs.Spelled.{SpelledAccess, SpelledBody}
 use Rattle.bl_script.specs.Statements as statement
 use Rattle.bl_script.specs.Statements.{Statements, Part, no_part}
 use Rattle.bl_script.specs.Meaning.{whens, document_of, access_of, numbered, spawned_from}
-use Rattle.bl_script.specs.RawBodies.{raw_access, raw_body}
 use Rattle.bl_script.specs.Building.{when_from, IsBuilt}
 use Rattle.bl_script.specs.declared.script.Condition.{Condition}
 use Rattle.bl_script.proofs.Numbering.{spawned_long}

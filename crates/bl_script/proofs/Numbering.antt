@@ -1,6 +1,6 @@
 -- The behaviours of a `when`: how many they are, how large each is, how deep each goes, and how they are numbered.
 use Rattle.std.proofs.Common.{◌≡◌, ℕ, zero, suc, ◌+◌, ◌-◌, ◌<◌, ◌≤◌, List, [], ◌∷◌, ◌++◌, length, get_or, refl, sym, ap, ◌∙◌, subst, arith, append_assoc, length-append, add-zero, zero-add}
-use Rattle.std.specs.Prelude.{max, sum_by}
+use Rattle.std.specs.Prelude.{sum_by}
 use Rattle.std.proofs.lemmas.List.{append-nil, get_or_at}
 use Rattle.std.proofs.lemmas.List.Sums.{sum_by-cons, sum_by-append}
 use Rattle.bl_script.specs.Names.{KnownNames}

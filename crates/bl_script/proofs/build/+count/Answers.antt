@@ -1,6 +1,6 @@
-use Rattle.std.proofs.Common.{◌+◌, drop, ap, sym, ◌∙◌, arith}
+use Rattle.std.proofs.Common.{ap, arith}
 use Rattle.bl_script.specs.Meaning.{whens}
-use Rattle.bl_script.specs.RawBodies.{raw_body, raw_depth}
+use Rattle.bl_script.specs.RawBodies.{raw_depth}
 use Rattle.bl_script.proofs.RawLists.{depth_at, whens_at, whens_end}
 use Rattle.bl_script.proofs.build.+count.Goals as goal
 

@@ -1,4 +1,4 @@
-use Rattle.std.proofs.Common.{◌++◌, length, ap, sym, ◌∙◌, subst, arith}
+use Rattle.std.proofs.Common.{◌++◌, length, ap, sym, ◌∙◌, subst}
 use Rattle.std.specs.Prelude.{List, map}
 use Rattle.bl_script.specs.Statements.{Part}
 use Rattle.bl_script.specs.RawBodies.{raw_access}
