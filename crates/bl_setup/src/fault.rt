@@ -11,7 +11,7 @@ use std::alloc::{AllocError, AllocFailed};
 /// What is wrong with a line. Where several hold, the first is answered.
 #[derive(Clone, Copy, Debug, PartialEq, Eq)]
 pub enum SetupFaultKind {
-    /// The line is not spelled as a declaration, or another declaration is due.
+    /// The line is not spelled as a declaration, another declaration is due, or the file ends before its categories.
     Syntax,
     /// A name that was not declared before.
     Unknown,
@@ -25,7 +25,8 @@ pub enum SetupFaultKind {
     Memory,
 }
 
-/// A line at fault, and what is wrong with it. Lines count from 1; line 0 stands for the file as a whole.
+/// A line at fault, and what is wrong with it. Lines count from 1, those that are skipped too; line 0 stands for the file as
+/// a whole.
 #[derive(Clone, Copy, Debug, PartialEq, Eq)]
 pub struct SetupFault {
     pub line: u32,

@@ -88,11 +88,11 @@ impl<'a> Lines<'a> {
 
 /// The setup that the text of a setup file is.
 ///
-/// The first line at fault is answered: `Syntax`, where it is not spelled as a declaration or another one is due;
-/// `TooMany`, where there are more names than there may be or a content is too long; then, for the first word at fault
-/// from the left, `Repeated` or `Unknown`; then `CurrentAboveGreatest`. A file of more than 16,777,216 bytes is line 0,
-/// `TooMany`, and one that ends before its categories is `Syntax` at the number of its lines and one. `Memory` comes
-/// with the line that was being read.
+/// The first line at fault is answered, and lines behind it are not read: `Syntax`, where it is not spelled as a
+/// declaration or another one is due; `TooMany`, where there are more names than there may be or a content is too long;
+/// then, for the first word at fault from the left, `Repeated` or `Unknown`; then `CurrentAboveGreatest`. A file of more
+/// than 16,777,216 bytes is line 0, `TooMany`, and one that ends before its categories is `Syntax` at the number of its
+/// lines and one. A mode that is given twice is no fault. `Memory` comes with the line that was being read.
 pub fn read_setup(alloc: Global, bytes: &[u8]) -> Result<Setup, SetupFault>
     ensures setup { IfOk result (IsSetup bytes.now) }
     ensures only { IfOk result (λ setup. (other : order.Setup) → IsSetup bytes.now other → other ≡ setup) }
