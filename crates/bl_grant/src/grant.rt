@@ -1,6 +1,5 @@
-//! One grant: a document's content, lent to one entry in one mode.
-//!
-//! None of these types has `Drop`: a grant is closed, and what it gives back is taken.
+//! One grant: a document's content, lent to one entry in one mode. None of these types has `Drop`: a grant is closed, and what
+//! it gives back is taken.
 ghost use Rattle.std.specs.Prelude.{◌≡◌, ◌↔◌, IsTrue, IfOk, OnOk, OnErr};
 ghost use Rattle.std.specs.List.{list_all};
 ghost use Rattle.bl_policy.specs.declared.access.Mode.TheVariants.{Read, Append, Write};
@@ -8,84 +7,13 @@ ghost use Rattle.bl_script.specs.Content.{IsContent, is_content_byte, added};
 ghost use Rattle.bl_script.specs.Modes.{observes, alters, is_write};
 ghost use Rattle.bl_grant.specs.Loaned.{loan, as_lent, holding, back_of};
 
+use crate::held::Held;
+pub use crate::returned::Returned;
 use bl_policy::access::{Access, Mode};
 use bl_policy::id::DocId;
 use bl_script::document::Document;
 use std::alloc::{AllocError, Global};
 use std::marker::Model;
-
-/// A content that was lent to be altered. The lent bytes are never written: the first change makes bytes of its own.
-struct Held {
-    lent: Document,
-    changed: Option<Document>,
-}
-
-impl Model for Held {
-    ghost use Rattle.std.specs.Prelude.{List, ℕ, unwrap_or};
-
-    ghost Value = { List ℕ × List ℕ };
-
-    ghost view = { λ h. (h.lent, unwrap_or h.changed h.lent) };
-}
-
-impl Held {
-    fn new(lent: Document) -> Held
-        ensures { result ≡ (lent, lent) }
-    {
-        Held {
-            lent,
-            changed: None,
-        }
-    }
-
-    fn lent(&self) -> &Document
-        ensures { result.now ≡ self.now.0 }
-    {
-        &self.lent
-    }
-
-    fn now(&self) -> &Document
-        ensures { result.now ≡ self.now.1 }
-    {
-        match &self.changed {
-            Some(changed) => changed,
-            None => &self.lent,
-        }
-    }
-
-    fn add(&mut self, alloc: Global, text: &[u8]) -> Result<(), AllocError>
-        requires { IsTrue (list_all is_content_byte text.now) }
-        ensures ok { OnOk result (self.new ≡ (self.old.0, added self.old.1 text.now)) }
-        ensures err { OnErr result (self.new ≡ self.old) }
-    {
-        if let Some(changed) = &mut self.changed {
-            return changed.add(alloc, text);
-        }
-        let mut changed = self.lent.share()?;
-        changed.add(alloc, text)?;
-        self.changed = Some(changed);
-        Ok(())
-    }
-
-    fn put(&mut self, content: Document)
-        ensures { self.new ≡ (self.old.0, content) }
-    {
-        self.changed = Some(content);
-    }
-
-    fn reset(&mut self)
-        ensures { self.new ≡ (self.old.0, self.old.0) }
-    {
-        self.changed = None;
-    }
-
-    fn into_now(self) -> Document
-        ensures { result ≡ self.1 }
-    {
-        let Held { lent, changed } = self;
-        changed.unwrap_or(lent)
-    }
-}
 
 /// A document lent for reading. Reading observes and does not alter (Bell and La Padula 1976).
 pub struct ReadGrant {
@@ -134,21 +62,6 @@ impl Model for WriteGrant {
     ghost Value = { Loaned };
 
     ghost view = { λ g. record { entry = g.entry; access = record { mode = Write; doc = g.doc }; lent = g.held.0; now = g.held.1 } };
-}
-
-/// What a closed grant gives back. Its content has to be taken.
-pub struct Returned {
-    entry: u32,
-    access: Access,
-    content: Document,
-}
-
-impl Model for Returned {
-    ghost use Rattle.bl_grant.specs.Loaned.{Back};
-
-    ghost Value = { Back };
-
-    ghost view = { λ r. record { entry = r.entry; access = r.access; content = r.content } };
 }
 
 impl ReadGrant {
@@ -329,34 +242,6 @@ impl WriteGrant {
             access,
             content: held.into_now(),
         }
-    }
-}
-
-impl Returned {
-    /// The number of the entry that the grant was lent to.
-    pub fn entry(&self) -> u32
-        ensures { result ≡ self.now.entry }
-    {
-        self.entry
-    }
-
-    /// The document and mode of the grant.
-    pub fn access(&self) -> Access
-        ensures { result ≡ self.now.access }
-    {
-        self.access
-    }
-
-    /// The content that came back.
-    pub fn into_content(self) -> Document
-        ensures { result ≡ self.content }
-    {
-        let Returned {
-            entry: _,
-            access: _,
-            content,
-        } = self;
-        content
     }
 }
 

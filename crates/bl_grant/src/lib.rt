@@ -4,5 +4,7 @@
 
 pub mod grant;
 pub mod grants;
+mod held;
+pub mod returned;
 #[cfg(test)]
 mod tests;
