@@ -90,7 +90,7 @@ fn reads_a_behaviour_with_a_child(rt: HostRuntime) -> Result<(), Fail> {
     assert_eq!(rt; script.accesses(0).len(), 2);
     assert_eq!(rt; script.accesses(0)[0].mode, Mode::Write);
     assert_eq!(rt; script.accesses(0)[1].doc.position(), 1);
-    assert!(rt; matches!(script.body(0), [Stmt::Add(doc, text), Stmt::Spawn(1)] if doc.position() == 0 && text.bytes() == b"a"));
+    assert!(rt; matches!(script.body(0), [Stmt::Add(doc, text), Stmt::Spawn(1)] if doc.position() == 0 && text.bytes() == b"a".as_slice()));
     assert_eq!(rt; script.accesses(1)[0].mode, Mode::Append);
     assert_eq!(rt; script.body(1).len(), 0);
     Ok(())
