@@ -65,48 +65,92 @@ none_begins (if_then document asks words then_body rest) ts h = absurd (cc)
 none_begins (if_else document asks words then_body else_body rest) ts h = absurd (cc)
 none_begins (spawn first more body rest) ts h = absurd (cc)
 
--- tokens that no statement begins have one body before them
-pub same_body : (b c : SpelledBody) (xs ys : List Tok) → BeginsNone xs → BeginsNone ys → spell_body b ++ xs ≡ spell_body c ++ ys → (b ≡ c) × (xs ≡ ys)
-same_body empty c xs ys h k e =
-    let p : c ≡ empty = none_begins c ys (subst BeginsNone e h) in
-    (sym p, e ∙ ap (λ x. spell_body x ++ ys) p)
-same_body b empty xs ys h k e =
+-- the same body stands before any tokens that no statement begins
+abbrev Same : SpelledBody → Type 0
+Same b = (c : SpelledBody) (xs ys : List Tok) → BeginsNone xs → BeginsNone ys → spell_body b ++ xs ≡ spell_body c ++ ys → (b ≡ c) × (xs ≡ ys)
+
+same_empty : (b : SpelledBody) (xs ys : List Tok) → BeginsNone ys → spell_body b ++ xs ≡ ys → (b ≡ empty) × (xs ≡ ys)
+same_empty b xs ys k e =
     let p : b ≡ empty = none_begins b xs (subst BeginsNone (sym e) k) in
     (p, ap (λ x. spell_body x ++ xs) (sym p) ∙ e)
-same_body (show n r) (show n' r') xs ys h k e =
+
+same_show : (n : List ℕ) (r : SpelledBody) → Same r → Same (show n r)
+same_show n r again empty xs ys h k e = same_empty (show n r) xs ys k e
+same_show n r again (show n' r') xs ys h k e =
     let f : spell_body r ++ xs ≡ spell_body r' ++ ys = cc in
-    let p = same_body r r' xs ys h k f in
+    let p = again r' xs ys h k f in
     (cc, p.1)
-same_body (say x r) (say x' r') xs ys h k e =
+same_show n r again _ xs ys h k e = absurd (cc)
+
+same_say : (x : List ℕ) (r : SpelledBody) → Same r → Same (say x r)
+same_say x r again empty xs ys h k e = same_empty (say x r) xs ys k e
+same_say x r again (say x' r') xs ys h k e =
     let f : spell_body r ++ xs ≡ spell_body r' ++ ys = cc in
-    let p = same_body r r' xs ys h k f in
+    let p = again r' xs ys h k f in
     (cc, p.1)
-same_body (add n x r) (add n' x' r') xs ys h k e =
+same_say x r again _ xs ys h k e = absurd (cc)
+
+same_add : (n : List ℕ) (x : List ℕ) (r : SpelledBody) → Same r → Same (add n x r)
+same_add n x r again empty xs ys h k e = same_empty (add n x r) xs ys k e
+same_add n x r again (add n' x' r') xs ys h k e =
     let f : spell_body r ++ xs ≡ spell_body r' ++ ys = cc in
-    let p = same_body r r' xs ys h k f in
+    let p = again r' xs ys h k f in
     (cc, p.1)
-same_body (set n x r) (set n' x' r') xs ys h k e =
+same_add n x r again _ xs ys h k e = absurd (cc)
+
+same_set : (n : List ℕ) (x : List ℕ) (r : SpelledBody) → Same r → Same (set n x r)
+same_set n x r again empty xs ys h k e = same_empty (set n x r) xs ys k e
+same_set n x r again (set n' x' r') xs ys h k e =
     let f : spell_body r ++ xs ≡ spell_body r' ++ ys = cc in
-    let p = same_body r r' xs ys h k f in
+    let p = again r' xs ys h k f in
     (cc, p.1)
-same_body (copy n m r) (copy n' m' r') xs ys h k e =
+same_set n x r again _ xs ys h k e = absurd (cc)
+
+same_copy : (n : List ℕ) (m : List ℕ) (r : SpelledBody) → Same r → Same (copy n m r)
+same_copy n m r again empty xs ys h k e = same_empty (copy n m r) xs ys k e
+same_copy n m r again (copy n' m' r') xs ys h k e =
     let f : spell_body r ++ xs ≡ spell_body r' ++ ys = cc in
-    let p = same_body r r' xs ys h k f in
+    let p = again r' xs ys h k f in
     (cc, p.1)
-same_body (pour n m r) (pour n' m' r') xs ys h k e =
+same_copy n m r again _ xs ys h k e = absurd (cc)
+
+same_pour : (n : List ℕ) (m : List ℕ) (r : SpelledBody) → Same r → Same (pour n m r)
+same_pour n m r again empty xs ys h k e = same_empty (pour n m r) xs ys k e
+same_pour n m r again (pour n' m' r') xs ys h k e =
     let f : spell_body r ++ xs ≡ spell_body r' ++ ys = cc in
-    let p = same_body r r' xs ys h k f in
+    let p = again r' xs ys h k f in
     (cc, p.1)
-same_body (if_then n c x a r) (if_then n' c' x' a' r') xs ys h k e =
+same_pour n m r again _ xs ys h k e = absurd (cc)
+
+then_then : (n : List ℕ) (c : Condition) (x : List ℕ) (a r : SpelledBody) → Same a → Same r → (n' : List ℕ) (c' : Condition) (x' : List ℕ) (a' r' : SpelledBody) (xs ys : List Tok) → BeginsNone xs → BeginsNone ys
+    → spell_body (if_then n c x a r) ++ xs ≡ spell_body (if_then n' c' x' a' r') ++ ys → (if_then n c x a r ≡ if_then n' c' x' a' r') × (xs ≡ ys)
+then_then n c x a r again_a again n' c' x' a' r' xs ys h k e =
     let f : spell_body a ++ reserved End ∷ sign Semicolon ∷ (spell_body r ++ xs) ≡ spell_body a' ++ reserved End ∷ sign Semicolon ∷ (spell_body r' ++ ys) =
     cc (append_assoc (spell_body a) (reserved End ∷ sign Semicolon ∷ spell_body r) xs, append_assoc (spell_body a') (reserved End ∷ sign Semicolon ∷ spell_body r') ys) in
-    let p = same_body a a' (reserved End ∷ sign Semicolon ∷ (spell_body r ++ xs)) (reserved End ∷ sign Semicolon ∷ (spell_body r' ++ ys)) refl refl f in
+    let p = again_a a' (reserved End ∷ sign Semicolon ∷ (spell_body r ++ xs)) (reserved End ∷ sign Semicolon ∷ (spell_body r' ++ ys)) refl refl f in
     let g : spell_body r ++ xs ≡ spell_body r' ++ ys = cc in
-    let q = same_body r r' xs ys h k g in
+    let q = again r' xs ys h k g in
     let w : asks_word c ≡ asks_word c' = cc in
     let d = same_asks c c' w in
     (cc, q.1)
-same_body (if_else n c x a b r) (if_else n' c' x' a' b' r') xs ys h k e =
+
+then_else : (n : List ℕ) (c : Condition) (x : List ℕ) (a r : SpelledBody) → Same a → (n' : List ℕ) (c' : Condition) (x' : List ℕ) (a' b' r' : SpelledBody) (xs ys : List Tok)
+    → spell_body (if_then n c x a r) ++ xs ≡ spell_body (if_else n' c' x' a' b' r') ++ ys → ⊥
+then_else n c x a r again_a n' c' x' a' b' r' xs ys e =
+    let f : spell_body a ++ reserved End ∷ sign Semicolon ∷ (spell_body r ++ xs) ≡ spell_body a' ++ reserved Else ∷ ((spell_body b' ++ reserved End ∷ sign Semicolon ∷ spell_body r') ++ ys) =
+    cc (append_assoc (spell_body a) (reserved End ∷ sign Semicolon ∷ spell_body r) xs, append_assoc (spell_body a') (reserved Else ∷ (spell_body b' ++ reserved End ∷ sign Semicolon ∷ spell_body r')) ys) in
+    let p = again_a a' (reserved End ∷ sign Semicolon ∷ (spell_body r ++ xs)) (reserved Else ∷ ((spell_body b' ++ reserved End ∷ sign Semicolon ∷ spell_body r') ++ ys)) refl refl f in
+    cc
+
+same_if_then : (n : List ℕ) (c : Condition) (x : List ℕ) (a r : SpelledBody) → Same a → Same r → Same (if_then n c x a r)
+same_if_then n c x a r again_a again empty xs ys h k e = same_empty (if_then n c x a r) xs ys k e
+same_if_then n c x a r again_a again (if_then n' c' x' a' r') xs ys h k e = then_then n c x a r again_a again n' c' x' a' r' xs ys h k e
+same_if_then n c x a r again_a again (if_else n' c' x' a' b' r') xs ys h k e = absurd (then_else n c x a r again_a n' c' x' a' b' r' xs ys e)
+same_if_then n c x a r again_a again _ xs ys h k e = absurd (cc)
+
+else_else : (n : List ℕ) (c : Condition) (x : List ℕ) (a b r : SpelledBody) → Same a → Same b → Same r → (n' : List ℕ) (c' : Condition) (x' : List ℕ) (a' b' r' : SpelledBody) (xs ys : List Tok) → BeginsNone xs → BeginsNone ys
+    → spell_body (if_else n c x a b r) ++ xs ≡ spell_body (if_else n' c' x' a' b' r') ++ ys → (if_else n c x a b r ≡ if_else n' c' x' a' b' r') × (xs ≡ ys)
+else_else n c x a b r again_a again_b again n' c' x' a' b' r' xs ys h k e =
     let f : spell_body a ++ reserved Else ∷ (spell_body b ++ reserved End ∷ sign Semicolon ∷ (spell_body r ++ xs))
     ≡ spell_body a' ++ reserved Else ∷ (spell_body b' ++ reserved End ∷ sign Semicolon ∷ (spell_body r' ++ ys)) =
     cc (
@@ -115,25 +159,32 @@ same_body (if_else n c x a b r) (if_else n' c' x' a' b' r') xs ys h k e =
       append_assoc (spell_body b) (reserved End ∷ sign Semicolon ∷ spell_body r) xs,
       append_assoc (spell_body b') (reserved End ∷ sign Semicolon ∷ spell_body r') ys,
     ) in
-    let p = same_body a a' (reserved Else ∷ (spell_body b ++ reserved End ∷ sign Semicolon ∷ (spell_body r ++ xs))) (reserved Else ∷ (spell_body b' ++ reserved End ∷ sign Semicolon ∷ (spell_body r' ++ ys))) refl refl f in
+    let p = again_a a' (reserved Else ∷ (spell_body b ++ reserved End ∷ sign Semicolon ∷ (spell_body r ++ xs))) (reserved Else ∷ (spell_body b' ++ reserved End ∷ sign Semicolon ∷ (spell_body r' ++ ys))) refl refl f in
     let g : spell_body b ++ reserved End ∷ sign Semicolon ∷ (spell_body r ++ xs) ≡ spell_body b' ++ reserved End ∷ sign Semicolon ∷ (spell_body r' ++ ys) = cc in
-    let q = same_body b b' (reserved End ∷ sign Semicolon ∷ (spell_body r ++ xs)) (reserved End ∷ sign Semicolon ∷ (spell_body r' ++ ys)) refl refl g in
+    let q = again_b b' (reserved End ∷ sign Semicolon ∷ (spell_body r ++ xs)) (reserved End ∷ sign Semicolon ∷ (spell_body r' ++ ys)) refl refl g in
     let i : spell_body r ++ xs ≡ spell_body r' ++ ys = cc in
-    let s = same_body r r' xs ys h k i in
+    let s = again r' xs ys h k i in
     let w : asks_word c ≡ asks_word c' = cc in
     let d = same_asks c c' w in
     (cc, s.1)
-same_body (if_then n c x a r) (if_else n' c' x' a' b' r') xs ys h k e =
-    let f : spell_body a ++ reserved End ∷ sign Semicolon ∷ (spell_body r ++ xs) ≡ spell_body a' ++ reserved Else ∷ ((spell_body b' ++ reserved End ∷ sign Semicolon ∷ spell_body r') ++ ys) =
-    cc (append_assoc (spell_body a) (reserved End ∷ sign Semicolon ∷ spell_body r) xs, append_assoc (spell_body a') (reserved Else ∷ (spell_body b' ++ reserved End ∷ sign Semicolon ∷ spell_body r')) ys) in
-    let p = same_body a a' (reserved End ∷ sign Semicolon ∷ (spell_body r ++ xs)) (reserved Else ∷ ((spell_body b' ++ reserved End ∷ sign Semicolon ∷ spell_body r') ++ ys)) refl refl f in
-    absurd (cc)
-same_body (if_else n c x a b r) (if_then n' c' x' a' r') xs ys h k e =
+
+else_then : (n : List ℕ) (c : Condition) (x : List ℕ) (a b r : SpelledBody) → Same a → (n' : List ℕ) (c' : Condition) (x' : List ℕ) (a' r' : SpelledBody) (xs ys : List Tok)
+    → spell_body (if_else n c x a b r) ++ xs ≡ spell_body (if_then n' c' x' a' r') ++ ys → ⊥
+else_then n c x a b r again_a n' c' x' a' r' xs ys e =
     let f : spell_body a ++ reserved Else ∷ ((spell_body b ++ reserved End ∷ sign Semicolon ∷ spell_body r) ++ xs) ≡ spell_body a' ++ reserved End ∷ sign Semicolon ∷ (spell_body r' ++ ys) =
     cc (append_assoc (spell_body a) (reserved Else ∷ (spell_body b ++ reserved End ∷ sign Semicolon ∷ spell_body r)) xs, append_assoc (spell_body a') (reserved End ∷ sign Semicolon ∷ spell_body r') ys) in
-    let p = same_body a a' (reserved Else ∷ ((spell_body b ++ reserved End ∷ sign Semicolon ∷ spell_body r) ++ xs)) (reserved End ∷ sign Semicolon ∷ (spell_body r' ++ ys)) refl refl f in
-    absurd (cc)
-same_body (spawn a m b r) (spawn a' m' b' r') xs ys h k e =
+    let p = again_a a' (reserved Else ∷ ((spell_body b ++ reserved End ∷ sign Semicolon ∷ spell_body r) ++ xs)) (reserved End ∷ sign Semicolon ∷ (spell_body r' ++ ys)) refl refl f in
+    cc
+
+same_if_else : (n : List ℕ) (c : Condition) (x : List ℕ) (a b r : SpelledBody) → Same a → Same b → Same r → Same (if_else n c x a b r)
+same_if_else n c x a b r again_a again_b again empty xs ys h k e = same_empty (if_else n c x a b r) xs ys k e
+same_if_else n c x a b r again_a again_b again (if_then n' c' x' a' r') xs ys h k e = absurd (else_then n c x a b r again_a n' c' x' a' r' xs ys e)
+same_if_else n c x a b r again_a again_b again (if_else n' c' x' a' b' r') xs ys h k e = else_else n c x a b r again_a again_b again n' c' x' a' b' r' xs ys h k e
+same_if_else n c x a b r again_a again_b again _ xs ys h k e = absurd (cc)
+
+spawn_spawn : (a : SpelledAccess) (m : List SpelledAccess) (b r : SpelledBody) → Same b → Same r → (a' : SpelledAccess) (m' : List SpelledAccess) (b' r' : SpelledBody) (xs ys : List Tok) → BeginsNone xs → BeginsNone ys
+    → spell_body (spawn a m b r) ++ xs ≡ spell_body (spawn a' m' b' r') ++ ys → (spawn a m b r ≡ spawn a' m' b' r') × (xs ≡ ys)
+spawn_spawn a m b r again_b again a' m' b' r' xs ys h k e =
     let f : spell_access a (spell_more m (reserved Do ∷ ((spell_body b ++ reserved End ∷ sign Semicolon ∷ spell_body r) ++ xs)))
     ≡ spell_access a' (spell_more m' (reserved Do ∷ ((spell_body b' ++ reserved End ∷ sign Semicolon ∷ spell_body r') ++ ys))) =
     cc (
@@ -147,11 +198,33 @@ same_body (spawn a m b r) (spawn a' m' b' r') xs ys h k e =
     sym (append_assoc (spell_body b) (reserved End ∷ sign Semicolon ∷ spell_body r) xs)
     ∙ same_behind (reserved Do) (reserved Do) _ _ q.1
     ∙ append_assoc (spell_body b') (reserved End ∷ sign Semicolon ∷ spell_body r') ys in
-    let s = same_body b b' (reserved End ∷ sign Semicolon ∷ (spell_body r ++ xs)) (reserved End ∷ sign Semicolon ∷ (spell_body r' ++ ys)) refl refl g in
+    let s = again_b b' (reserved End ∷ sign Semicolon ∷ (spell_body r ++ xs)) (reserved End ∷ sign Semicolon ∷ (spell_body r' ++ ys)) refl refl g in
     let o : spell_body r ++ xs ≡ spell_body r' ++ ys = same_behind (sign Semicolon) (sign Semicolon) _ _ (same_behind (reserved End) (reserved End) _ _ s.1) in
-    let u = same_body r r' xs ys h k o in
+    let u = again r' xs ys h k o in
     ((λ i. spawn (p.0 i) (q.0 i) (s.0 i) (u.0 i)), u.1)
-same_body _ _ xs ys h k e = absurd (cc)
+
+same_spawn : (a : SpelledAccess) (m : List SpelledAccess) (b r : SpelledBody) → Same b → Same r → Same (spawn a m b r)
+same_spawn a m b r again_b again empty xs ys h k e = same_empty (spawn a m b r) xs ys k e
+same_spawn a m b r again_b again (spawn a' m' b' r') xs ys h k e = spawn_spawn a m b r again_b again a' m' b' r' xs ys h k e
+same_spawn a m b r again_b again _ xs ys h k e = absurd (cc)
+
+same_nothing : Same empty
+same_nothing c xs ys h k e =
+    let p : c ≡ empty = none_begins c ys (subst BeginsNone e h) in
+    (sym p, e ∙ ap (λ x. spell_body x ++ ys) p)
+
+-- tokens that no statement begins have one body before them
+pub same_body : (b : SpelledBody) → Same b
+same_body empty = same_nothing
+same_body (show n r) = same_show n r (same_body r)
+same_body (say x r) = same_say x r (same_body r)
+same_body (add n x r) = same_add n x r (same_body r)
+same_body (set n x r) = same_set n x r (same_body r)
+same_body (copy n m r) = same_copy n m r (same_body r)
+same_body (pour n m r) = same_pour n m r (same_body r)
+same_body (if_then n c x a r) = same_if_then n c x a r (same_body a) (same_body r)
+same_body (if_else n c x a b r) = same_if_else n c x a b r (same_body a) (same_body b) (same_body r)
+same_body (spawn a m b r) = same_spawn a m b r (same_body b) (same_body r)
 
 pub same_line : (l m : SpelledLine) → spell l ≡ spell m → l ≡ m
 same_line (hello n) (hello k) e = cc
