@@ -138,11 +138,13 @@ mod tests {
 
     fn levels_read(alloc: Global, line: &[u8]) -> Option<usize> {
         match read_raw(alloc, line) {
-            Ok(RawLine::When {
-                first: _,
-                more: _,
-                body,
-            }) => Some(levels(&body)),
+            Ok(
+                RawLine::When {
+                    first: _,
+                    more: _,
+                    body,
+                },
+            ) => Some(levels(&body)),
             _ => None,
         }
     }
