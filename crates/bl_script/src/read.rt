@@ -86,9 +86,7 @@ pub fn one_fault()
 #[cfg(test)]
 mod tests {
     use super::*;
-    use crate::raw::{RawBody, RawStatement};
     use std::test::Fail;
-    use std::thread;
 
     /// The place of the fault of syntax.
     fn place(alloc: Global, line: &[u8]) -> Option<usize> {
@@ -109,59 +107,6 @@ mod tests {
             let found = place(rt.alloc(), line);
             assert!(rt; found == Some(at), "{found:?}");
         }
-        Ok(())
-    }
-
-    /// So many `if` in one another, each of them over where there is room for it in 8,192 bytes.
-    fn nested(alloc: Global, levels: usize, over: bool) -> Result<Vec<u8>, Fail> {
-        let mut line = Vec::new(alloc);
-        line.extend_from_slice(b"when read a do ")?;
-        for _ in 0..levels {
-            line.extend_from_slice(b"if a is\"\"then ")?;
-        }
-        if over {
-            for _ in 0..levels {
-                line.extend_from_slice(b"end;")?;
-            }
-            line.extend_from_slice(b"end")?;
-        }
-        Ok(line)
-    }
-
-    /// How many bodies stand in one another, each at the front of the next.
-    fn levels(body: &RawBody<'_>) -> usize {
-        match body.statements() {
-            [RawStatement::IfThen { then_body, .. }, ..] => levels(then_body).saturating_add(1),
-            _ => 0,
-        }
-    }
-
-    fn levels_read(alloc: Global, line: &[u8]) -> Option<usize> {
-        match read_raw(alloc, line) {
-            Ok(RawLine::When {
-                first: _,
-                more: _,
-                body,
-            }) => Some(levels(&body)),
-            _ => None,
-        }
-    }
-
-    #[test]
-    fn reads_the_deepest_lines_on_a_thread(rt: HostRuntime) -> Result<(), Fail> {
-        let whole = nested(rt.alloc(), 454, true)?;
-        assert!(rt; whole.len() > 8_172 && whole.len() <= 8_192);
-        let Ok(reader) = thread::spawn(&rt, move || levels_read(rt.alloc(), &whole)) else {
-            return Err(Fail::new("no thread"));
-        };
-        assert!(rt; reader.join(&rt) == Some(454));
-        let open = nested(rt.alloc(), 584, false)?;
-        let length = open.len();
-        assert!(rt; length > 8_177 && length <= 8_192);
-        let Ok(reader) = thread::spawn(&rt, move || place(rt.alloc(), &open)) else {
-            return Err(Fail::new("no thread"));
-        };
-        assert!(rt; reader.join(&rt) == Some(length));
         Ok(())
     }
 }
