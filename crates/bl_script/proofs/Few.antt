@@ -65,8 +65,8 @@ few_stops xs body whole i x most left lt at is many few =
     let here = raw_body (x ∷ []) in
     let after = raw_body (drop (i + 1) xs) in
     let same : body ≡ joined (joined before here) after =
-      sym whole ∙ ap raw_body (sym (take-append-drop (i + 1) xs)) ∙ raw_body-append (take (i + 1) xs) (drop (i + 1) xs)
-          ∙ ap (λ b. joined b after) (next_body xs i x lt at) in
+    sym whole ∙ ap raw_body (sym (take-append-drop (i + 1) xs)) ∙ raw_body-append (take (i + 1) xs) (drop (i + 1) xs)
+    ∙ ap (λ b. joined b after) (next_body xs i x lt at) in
     many (few_behind before here most left is (few_front (joined before here) after most (subst (AreFewIn most) same few)))
 
 -- one statement more is no deeper than this
