@@ -8,7 +8,7 @@ ghost use Rattle.bl_script.specs.FirstWhenFault.{same_name};
 use crate::names::Names;
 use crate::raw::{RawAccess, RawBody, RawStatement};
 
-/// The name of the first document in a `when` that the names do not know.
+/// Err has the first name from the left, in a `when` and all within it, that is no document's, and Ok says that there is none.
 pub fn check_when_known<'a>(
     names: &Names,
     first: RawAccess<'a>,

@@ -12,14 +12,17 @@ use bl_policy::access::Mode;
 
 /// What a statement does with a document that it names.
 #[derive(Clone, Copy)]
-pub enum Does {
+enum Does {
+    /// It looks at the content.
     Observes,
+    /// It adds to the content.
     Alters,
+    /// It puts another content in its place.
     Replaces,
 }
 
-/// The first document from the left, in a statement of this body, that the innermost `when` round it does not declare in a mode
-/// that the statement asks for. The innermost round the body has these accesses.
+/// Err has the first document from the left, in a statement of this body, that the innermost `when` round it does not declare in
+/// a mode that the statement asks for, and Ok says that there is none. The innermost `when` round the body has these accesses.
 #[cycle(declared)]
 pub fn check_declared<'a>(
     first: RawAccess<'a>,

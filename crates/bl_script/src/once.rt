@@ -7,7 +7,8 @@ ghost use Rattle.bl_script.specs.FirstWhenFault.{declared_document};
 
 use crate::raw::{RawAccess, RawBody, RawStatement};
 
-/// The first document from the left that is declared a second time in one `when`.
+/// Err has the first document from the left that is declared a second time in one `when`, this one or one within it, and Ok says
+/// that there is none.
 pub fn check_when_once<'a>(
     first: RawAccess<'a>,
     more: &[RawAccess<'a>],

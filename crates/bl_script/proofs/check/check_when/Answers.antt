@@ -1,4 +1,4 @@
-use Rattle.std.proofs.Common.{◌∷◌, map, refl}
+use Rattle.std.proofs.Common.{map, refl}
 use Rattle.std.specs.Prelude.{Contains}
 use Rattle.bl_script.specs.declared.line.LineFault.TheVariants.{Many, Unknown, Twice, Mode}
 use Rattle.bl_script.specs.RawBodies.{raw_access}

@@ -1,4 +1,4 @@
-use Rattle.std.proofs.Common.{[], ◌∷◌, inl, inr, sym, subst, ◌∙◌, arith}
+use Rattle.std.proofs.Common.{[], inl, inr, sym, subst, ◌∙◌, arith}
 use Rattle.std.specs.Prelude.{All}
 use Rattle.std.proofs.lemmas.Bool.{false≢true}
 use Rattle.std.proofs.lemmas.List.{take_all}
