@@ -82,31 +82,3 @@ pub fn one_fault()
 {
     read_tokens_are_proper()
 }
-
-#[cfg(test)]
-mod tests {
-    use super::*;
-    use std::test::Fail;
-
-    /// The place of the fault of syntax.
-    fn place(alloc: Global, line: &[u8]) -> Option<usize> {
-        match read_raw(alloc, line) {
-            Err(RawFault::Syntax(place)) => Some(place),
-            _ => None,
-        }
-    }
-
-    #[test]
-    fn syntax_offsets(rt: HostRuntime) -> Result<(), Fail> {
-        let lines: [(&[u8], usize); 3] = [
-            (b"when read memo show memo; end", 15),
-            (b"when read memo do show memo;", 28),
-            (b"when read memo do say \"a\\b\"; end", 24),
-        ];
-        for (line, at) in lines {
-            let found = place(rt.alloc(), line);
-            assert!(rt; found == Some(at), "{found:?}");
-        }
-        Ok(())
-    }
-}

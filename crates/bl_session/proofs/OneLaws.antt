@@ -7,7 +7,7 @@ use Rattle.bl_policy.specs.Policy.{SecurityPolicy}
 use Rattle.bl_script.specs.declared.work.Work.{Work}
 use Rattle.bl_script.specs.declared.work.Work.TheVariants.{Behaviour}
 use Rattle.bl_script.specs.declared.answer.Answer.{Answer}
-use Rattle.bl_script.specs.LineGrammar.{read_and_show}
+use Rattle.bl_small.specs.LineGrammar.{read_and_show}
 use Rattle.bl_script.specs.Effects.{children, after}
 use Rattle.bl_setup.specs.Order.{Setup, Entry, Line, Child, Task, Runs, accesses_of, is_altered}
 use Rattle.bl_setup.specs.Past.{Past, policy_of, content_of, changed, is_done, judged, deeds, first_task, past_of, earlier, place, no_entry}

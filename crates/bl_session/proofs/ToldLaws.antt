@@ -7,10 +7,10 @@ use Rattle.std.proofs.lemmas.List.Sums.{fold-append}
 use Rattle.bl_level.specs.Table.{place_of}
 use Rattle.bl_script.specs.declared.work.Work.{Work}
 use Rattle.bl_script.specs.declared.work.Work.TheVariants.{Behaviour}
-use Rattle.bl_script.specs.declared.line.Line.TheVariants as line
+use Rattle.bl_small.specs.declared.line.Line.TheVariants as line
 use Rattle.bl_script.specs.Names.{KnownNames}
-use Rattle.bl_script.specs.Grammar.{SpelledLine, hello, wait, when}
-use Rattle.bl_script.specs.LineGrammar.{Means}
+use Rattle.bl_small.specs.Grammar.{SpelledLine, hello, wait, when}
+use Rattle.bl_small.specs.LineGrammar.{Means}
 use Rattle.bl_setup.specs.Order.{Setup, Entry}
 use Rattle.bl_session.specs.declared.turn.Turn.{Turn}
 use Rattle.bl_session.specs.declared.turn.Turn.TheVariants.{Skip, Wait, Greets, Bad, Ask}

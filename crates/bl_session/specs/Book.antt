@@ -2,7 +2,7 @@
 use Rattle.std.specs.Prelude.{◌≡◌, ℕ, ◌<◌, ◌≤◌, List, [], ◌∷◌, ◌++◌, length, if◌then◌else◌, ◌==◌, nat_lt, false, slice_index_or, fold, codes, Option, Some, None}
 use Rattle.bl_script.specs.declared.work.Work.{Work}
 use Rattle.bl_script.specs.declared.work.Work.TheVariants.{Behaviour}
-use Rattle.bl_script.specs.LineGrammar.{read_and_show}
+use Rattle.bl_small.specs.LineGrammar.{read_and_show}
 use Rattle.bl_setup.specs.Order.{Setup, Entry, Line, Child}
 use Rattle.bl_setup.specs.Past.{Past, judged, deeds, first_task}
 use Rattle.bl_session.specs.Told.{Told, Opens, Admits, Settles}

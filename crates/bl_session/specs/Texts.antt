@@ -1,7 +1,7 @@
 -- What is written for the lines of a session's input.
 use Rattle.std.specs.Prelude.{ℕ, ◌+◌, List, [], ◌∷◌, ◌++◌, codes, decimal}
-use Rattle.bl_script.specs.declared.line.LineFault.{LineFault}
-use Rattle.bl_script.specs.declared.line.LineFault.TheVariants.{Long, Syntax, Unknown, Mode, Memory}
+use Rattle.bl_small.specs.declared.line.LineFault.{LineFault}
+use Rattle.bl_small.specs.declared.line.LineFault.TheVariants.{Long, Syntax, Unknown, Mode, Memory}
 use Rattle.bl_session.specs.declared.turn.Turn.{Turn}
 use Rattle.bl_session.specs.declared.turn.Turn.TheVariants.{Skip, Wait, Greets, Bad, Ask}
 

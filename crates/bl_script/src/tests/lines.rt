@@ -163,3 +163,14 @@ fn long_deep_many(rt: HostRuntime) -> Result<(), Fail> {
     assert!(rt; fault_of(rt.alloc(), many)? == LineFault::Many);
     Ok(())
 }
+
+#[test]
+fn the_deepest_line_is_read(rt: HostRuntime) -> Result<(), Fail> {
+    let mut line = Vec::new(rt.alloc());
+    line.extend_from_slice(b"when read memo do ")?;
+    while line.len() + 14 <= 8_192 {
+        line.extend_from_slice(b"if a is\"\"then ")?;
+    }
+    assert!(rt; fault_of(rt.alloc(), &line)? == LineFault::Syntax(line.len() as u32));
+    Ok(())
+}
