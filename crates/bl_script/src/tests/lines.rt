@@ -16,14 +16,28 @@ fn named(bytes: &[u8]) -> Result<Name, Fail> {
     }
 }
 
+fn no_names(alloc: Global) -> Result<Names, Fail> {
+    Ok(Names::new(alloc, Scheme::new(alloc, &[named(b"u")?], &[])?)?)
+}
+
+fn add_subject(names: &mut Names, name: &[u8]) -> Result<(), Fail> {
+    names.add_subject(named(name)?)?;
+    Ok(())
+}
+
+fn add_document(names: &mut Names, name: &[u8]) -> Result<(), Fail> {
+    names.add_document(named(name)?)?;
+    Ok(())
+}
+
 /// The subjects ann and bob, and the documents memo, note and log.
 fn known_names(alloc: Global) -> Result<Names, Fail> {
-    let mut names = Names::new(alloc, Scheme::new(alloc, &[named(b"u")?], &[])?)?;
-    names.add_subject(named(b"ann")?)?;
-    names.add_subject(named(b"bob")?)?;
-    names.add_document(named(b"memo")?)?;
-    names.add_document(named(b"note")?)?;
-    names.add_document(named(b"log")?)?;
+    let mut names = no_names(alloc)?;
+    add_subject(&mut names, b"ann")?;
+    add_subject(&mut names, b"bob")?;
+    add_document(&mut names, b"memo")?;
+    add_document(&mut names, b"note")?;
+    add_document(&mut names, b"log")?;
     Ok(names)
 }
 
@@ -164,13 +178,15 @@ fn long_deep_many(rt: HostRuntime) -> Result<(), Fail> {
     Ok(())
 }
 
+/// Some 580 `if` in one another, none of them closed: the deepest that a line can be.
 #[test]
 fn the_deepest_line_is_read(rt: HostRuntime) -> Result<(), Fail> {
     let mut line = Vec::new(rt.alloc());
     line.extend_from_slice(b"when read memo do ")?;
-    while line.len() + 14 <= 8_192 {
+    for _ in 0..583 {
         line.extend_from_slice(b"if a is\"\"then ")?;
     }
-    assert!(rt; fault_of(rt.alloc(), &line)? == LineFault::Syntax(line.len() as u32));
+    assert_eq!(rt; line.len(), 8_180);
+    assert_eq!(rt; place_of(rt.alloc(), &line)?, 8_180);
     Ok(())
 }
