@@ -230,6 +230,7 @@ mod tests {
         assert!(rt; scheme.holds(&both));
         assert!(rt; scheme.write_level(&both)?.as_slice() == b"t{nato,crypto}".as_slice());
         assert_eq!(rt; scheme.level(b"t", &[b"nato", b"crypto"]), Ok(both));
+        assert_eq!(rt; scheme.copy()?.level(b"t", &[b"nato", b"crypto"]), Ok(both));
         Ok(())
     }
 

@@ -7,7 +7,7 @@ ghost use Rattle.bl_level.specs.SchemeFault.{IsSchemeFault};
 use crate::level::Level;
 use crate::name::Name;
 use crate::table::{NameTable, TableFault, table_of};
-use std::alloc::Global;
+use std::alloc::{AllocError, Global};
 use std::marker::Model;
 
 /// How many ranks a scheme may have.
@@ -87,6 +87,16 @@ impl Scheme {
         Ok(Scheme {
             ranks: table_of(alloc, ranks)?,
             categories: table_of(alloc, categories)?,
+        })
+    }
+
+    /// An equal scheme, with memory of its own.
+    pub fn copy(&self) -> Result<Scheme, AllocError>
+        ensures { IfOk result (λ scheme. scheme ≡ self.now) }
+    {
+        Ok(Scheme {
+            ranks: self.ranks.copy()?,
+            categories: self.categories.copy()?,
         })
     }
 

@@ -42,6 +42,17 @@ impl NameTable {
         })
     }
 
+    /// An equal table, with memory of its own.
+    pub fn copy(&self) -> Result<NameTable, AllocError>
+        ensures { IfOk result (λ table. table ≡ self.now) }
+    {
+        match table_of(self.allocator(), self.names.as_slice()) {
+            Ok(table) => Ok(table),
+            // No name of a table stood before, so that a growth was refused.
+            Err(_) => Err(AllocError),
+        }
+    }
+
     /// The allocator that the table keeps.
     pub(crate) fn allocator(&self) -> Global {
         *self.names.allocator()
@@ -151,6 +162,11 @@ mod tests {
         assert_eq!(rt; table.position_of(b"note"), Some(1));
         assert_eq!(rt; table.position_of(b"Note"), None);
         assert!(rt; table.get(1).ok_or("get")?.bytes() == b"note".as_slice());
+        let mut copy = table.copy()?;
+        assert!(rt; copy.add(Name::new(b"log").ok_or("log")?).is_ok());
+        assert_eq!(rt; (table.len(), copy.len()), (2, 3));
+        assert_eq!(rt; copy.position_of(b"note"), Some(1));
+        assert_eq!(rt; table.position_of(b"log"), None);
         let names = [memo.copy(), memo.copy()];
         assert!(rt; table_of(rt.alloc(), &names).err() == Some(TableFault::Repeated(memo)));
         Ok(())

@@ -73,6 +73,17 @@ impl Names {
         })
     }
 
+    /// Equal names, with memory of their own.
+    pub fn copy(&self) -> Result<Names, AllocError>
+        ensures { IfOk result (λ names. names ≡ self.now) }
+    {
+        Ok(Names {
+            scheme: self.scheme.copy()?,
+            subjects: self.subjects.copy()?,
+            documents: self.documents.copy()?,
+        })
+    }
+
     /// The scheme of the levels.
     pub fn scheme(&self) -> &Scheme
         ensures value { result.now ≡ self.now.scheme }

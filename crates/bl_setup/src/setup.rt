@@ -1,11 +1,12 @@
 //! A setup: who and what there is, at which levels, and who may use what.
-ghost use Rattle.std.specs.Prelude.{◌≡◌};
+ghost use Rattle.std.specs.Prelude.{◌≡◌, IfOk};
 ghost use Rattle.bl_setup.specs.Agreement.{Agree};
 
 use crate::draft::Draft;
 use bl_policy::policy::Policy;
 use bl_script::document::Document;
 use bl_script::names::Names;
+use std::alloc::AllocError;
 use std::marker::Model;
 
 /// The names of subjects and documents with the scheme of their levels, the policy over their positions, and the content
@@ -33,8 +34,19 @@ impl Model for Setup {
     ghost invariant = { λ s. Agree (record { names = s.names; policy = s.policy; contents = s.contents.items }) };
 }
 
+/// The same contents, each with one more owner.
+fn shared(contents: &Vec<Document>) -> Result<Vec<Document>, AllocError>
+    ensures { IfOk result (λ copy. copy.items ≡ contents.now.items) }
+{
+    let mut copy = Vec::with_capacity(*contents.allocator(), contents.len())?;
+    for content in contents {
+        copy.push(content.share()?)?;
+    }
+    Ok(copy)
+}
+
 impl Setup {
-    ghost use Rattle.std.specs.Prelude.{◌≡◌};
+    ghost use Rattle.std.specs.Prelude.{◌≡◌, IfOk};
     ghost use Rattle.bl_setup.specs.Agreement.{Agree};
     ghost use Rattle.bl_setup.specs.Draft.{setup_of};
 
@@ -48,6 +60,17 @@ impl Setup {
             policy: draft.policy,
             contents: draft.contents,
         }
+    }
+
+    /// An equal setup. It has names and a policy of its own, and the same contents.
+    pub fn copy(&self) -> Result<Setup, AllocError>
+        ensures { IfOk result (λ setup. setup ≡ self.now) }
+    {
+        Ok(Setup {
+            names: self.names.copy()?,
+            policy: self.policy.copy()?,
+            contents: shared(&self.contents)?,
+        })
     }
 
     /// The scheme, and the names of subjects and documents in the order in which they were declared.

@@ -96,6 +96,21 @@ fn base_setup(rt: HostRuntime) -> Result<(), Fail> {
 }
 
 #[test]
+fn a_copy_is_the_same(rt: HostRuntime) -> Result<(), Fail> {
+    let text = joined(rt.alloc(), &[FRONT, BOB, BACK])?;
+    let copy = read_setup(rt.alloc(), text.as_slice())?.copy()?;
+    assert_eq!(rt; (copy.names().subjects(), copy.names().documents()), (4, 3));
+    assert_eq!(rt;
+        clearance_of(&copy, b"root"),
+        Some((3, 3, 0, 0, true, true))
+    );
+    assert_eq!(rt; cell_of(&copy, b"ann", b"memo"), Some(5));
+    assert!(rt; has_content(&copy, b"memo", b"m1"));
+    assert!(rt; has_content(&copy, b"note", b"n1"));
+    Ok(())
+}
+
+#[test]
 fn line_ends_and_skipped_lines(rt: HostRuntime) -> Result<(), Fail> {
     let text =
         b"# who\r\n\r\nranks u\r\n \t\ncategories\r\n#\ndocument note u \"n1\"\r\nsubject ann greatest u current u admin\r";
