@@ -6,3 +6,5 @@ pub mod line;
 pub mod parse;
 pub mod raw;
 pub mod read;
+#[cfg(test)]
+mod tests;

@@ -11,14 +11,14 @@ ghost use Rattle.bl_small.specs.RawView.{raw_view};
 ghost use Rattle.bl_small.specs.LineGrammar.{Means, LineOf};
 ghost use Rattle.bl_small.specs.LineFaults.{IsFaultOf, IsLineFault, IsWantOfMemory, IsUnknownDocument};
 
-use bl_script::names::Names;
 use crate::raw::RawLine;
 use crate::read::{RawFault, one_fault, read_raw};
-use bl_script::script::Script;
-use bl_script::work::Work;
 use bl_level::laws::{one_reading, read_tokens_are_proper};
 use bl_level::name::Name;
 use bl_policy::id::{DocId, SubjectId};
+use bl_script::names::Names;
+use bl_script::script::Script;
+use bl_script::work::Work;
 use std::alloc::{AllocError, Global};
 
 /// How many bytes a line has at most.
@@ -142,112 +142,4 @@ pub fn one_answer()
     one_reading();
     read_tokens_are_proper();
     one_fault();
-}
-
-#[cfg(test)]
-mod tests {
-    use super::*;
-    use bl_level::scheme::Scheme;
-    use std::test::Fail;
-
-    fn named(bytes: &[u8]) -> Result<Name, Fail> {
-        match Name::new(bytes) {
-            Some(name) => Ok(name),
-            None => Err(Fail::new("no name")),
-        }
-    }
-
-    fn known_names(alloc: Global) -> Result<Names, Fail> {
-        let mut names = Names::new(alloc, Scheme::new(alloc, &[named(b"u")?], &[])?)?;
-        names.add_subject(named(b"ann")?)?;
-        names.add_subject(named(b"bob")?)?;
-        names.add_document(named(b"memo")?)?;
-        names.add_document(named(b"bob")?)?;
-        Ok(names)
-    }
-
-    fn fault_of(alloc: Global, line: &[u8]) -> Result<LineFault, Fail> {
-        let names = known_names(alloc)?;
-        match read_line(alloc, &names, line) {
-            Ok(_) => Err(Fail::new("no fault")),
-            Err(fault) => Ok(fault),
-        }
-    }
-
-    #[test]
-    fn reads_each_line(rt: HostRuntime) -> Result<(), Fail> {
-        let names = known_names(rt.alloc())?;
-        let hello = read_line(rt.alloc(), &names, b"hello bob")?;
-        assert!(rt; matches!(&hello, Line::Hello(subject) if subject.position() == 1));
-        let wait = read_line(rt.alloc(), &names, b"\twait ")?;
-        assert!(rt; matches!(&wait, Line::Wait));
-        Ok(())
-    }
-
-    #[test]
-    fn reads_a_behaviour(rt: HostRuntime) -> Result<(), Fail> {
-        let names = known_names(rt.alloc())?;
-        match read_line(rt.alloc(), &names, b"when read bob do show bob ; end")? {
-            Line::Work(Work::Behaviour(script)) => assert_eq!(rt; script.weight(), 1),
-            _ => return Err(Fail::new("no work")),
-        }
-        Ok(())
-    }
-
-    #[test]
-    fn places_a_fault_of_syntax(rt: HostRuntime) -> Result<(), Fail> {
-        let lines: [(&[u8], u32); 5] = [
-            // By a byte, by a token, by its end, by what stands behind a line, and by a sign that is missing.
-            (b"hello A", 6),
-            (b"hello wait", 6),
-            (b"when read memo do  ", 19),
-            (b"wait wait", 5),
-            (b"when read memo do show memo end", 28),
-        ];
-        for (line, place) in lines {
-            let fault = fault_of(rt.alloc(), line)?;
-            assert!(rt; fault == LineFault::Syntax(place), "{fault:?}");
-        }
-        Ok(())
-    }
-
-    #[test]
-    fn tells_the_first_unknown_name(rt: HostRuntime) -> Result<(), Fail> {
-        let lines: [(&[u8], &[u8]); 3] = [
-            (b"hello memo", b"memo"),
-            (b"when read ann do show x;end", b"ann"),
-            (b"when read memo do show x;end", b"x"),
-        ];
-        for (line, name) in lines {
-            let fault = fault_of(rt.alloc(), line)?;
-            assert!(rt; fault == LineFault::Unknown(named(name)?), "{fault:?}");
-        }
-        Ok(())
-    }
-
-    #[test]
-    fn tells_the_undeclared_document(rt: HostRuntime) -> Result<(), Fail> {
-        let fault = fault_of(rt.alloc(), b"when read memo do show bob;end")?;
-        assert!(rt; fault == LineFault::Mode(named(b"bob")?), "{fault:?}");
-        Ok(())
-    }
-
-    /// The word with blanks behind it.
-    fn spaced(alloc: Global, word: &[u8], len: usize) -> Result<Vec<u8>, Fail> {
-        let mut line = Vec::new(alloc);
-        line.extend_from_slice(word)?;
-        line.resize(len, b' ')?;
-        Ok(line)
-    }
-
-    #[test]
-    fn refuses_a_long_line_alone(rt: HostRuntime) -> Result<(), Fail> {
-        let names = known_names(rt.alloc())?;
-        let longest = spaced(rt.alloc(), b"wait", 8_192)?;
-        let wait = read_line(rt.alloc(), &names, &longest)?;
-        assert!(rt; matches!(&wait, Line::Wait));
-        let long = spaced(rt.alloc(), b"wait", 8_193)?;
-        assert!(rt; fault_of(rt.alloc(), &long)? == LineFault::Long);
-        Ok(())
-    }
 }
