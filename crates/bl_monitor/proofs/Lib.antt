@@ -7,3 +7,5 @@ pub mod Spawns
 pub mod Keeps
 pub mod Coming
 pub mod Errors
+pub mod Ids
+pub mod Handmade
