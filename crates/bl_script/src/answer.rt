@@ -55,6 +55,8 @@ impl Outputs {
 pub enum Answer {
     /// The behaviour ran, and showed these texts.
     Done(Outputs),
+    /// The rule was applied.
+    RuleDone,
     /// The policy denied it, and nothing was changed.
     Denied(Denial),
     /// It was lost to want of memory, and nothing was changed.
@@ -68,6 +70,7 @@ impl Answer {
     {
         match self {
             Answer::Done(outputs) => Ok(Answer::Done(outputs.share()?)),
+            Answer::RuleDone => Ok(Answer::RuleDone),
             Answer::Denied(denial) => Ok(Answer::Denied(*denial)),
             Answer::Lost => Ok(Answer::Lost),
         }

@@ -6,7 +6,8 @@ use crate::document::Document;
 use crate::script::{Script, Stmt};
 use crate::work::Work;
 use bl_policy::access::Mode;
-use bl_policy::id::DocId;
+use bl_policy::id::{DocId, SubjectId};
+use bl_policy::rule::Rule;
 use std::test::Fail;
 
 #[test]
@@ -23,7 +24,9 @@ fn shares_a_document(rt: HostRuntime) -> Result<(), Fail> {
 fn shares_a_work_of_one_read(rt: HostRuntime) -> Result<(), Fail> {
     let memo = DocId::new(3);
     let work = Work::Behaviour(Script::one_read(rt.alloc(), memo)?);
-    let Work::Behaviour(script) = work.share()?;
+    let Work::Behaviour(script) = work.share()? else {
+        return Err(Fail::new("not a behaviour"));
+    };
     assert_eq!(rt; script.weight(), 1);
     assert_eq!(rt; script.accesses(0).len(), 1);
     assert_eq!(rt; script.accesses(0)[0].mode, Mode::Read);
@@ -41,5 +44,20 @@ fn shares_an_answer(rt: HostRuntime) -> Result<(), Fail> {
         return Err(Fail::new("not done"));
     };
     assert_eq!(rt; outputs.texts().len(), 1);
+    Ok(())
+}
+
+#[test]
+fn shares_a_work_of_a_rule(rt: HostRuntime) -> Result<(), Fail> {
+    let rule = Rule::Give {
+        subject: SubjectId::new(1),
+        doc: DocId::new(2),
+        mode: Mode::Append,
+    };
+    let Work::Rule(shared) = Work::Rule(rule).share()? else {
+        return Err(Fail::new("no rule"));
+    };
+    assert!(rt; shared == rule);
+    assert!(rt; matches!(Answer::RuleDone.share()?, Answer::RuleDone));
     Ok(())
 }

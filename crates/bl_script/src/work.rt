@@ -2,6 +2,7 @@
 ghost use Rattle.std.specs.Prelude.{◌≡◌, IfOk};
 
 use crate::script::Script;
+use bl_policy::rule::Rule;
 use std::alloc::AllocError;
 
 /// The work of a line.
@@ -9,6 +10,8 @@ use std::alloc::AllocError;
 pub enum Work {
     /// A behaviour with all that it spawns.
     Behaviour(Script),
+    /// A change of the policy.
+    Rule(Rule),
 }
 
 impl Work {
@@ -18,6 +21,7 @@ impl Work {
     {
         match self {
             Work::Behaviour(script) => Ok(Work::Behaviour(script.share()?)),
+            Work::Rule(rule) => Ok(Work::Rule(*rule)),
         }
     }
 }
