@@ -8,6 +8,7 @@ use Rattle.bl_policy.specs.declared.access.Access.{Access}
 use Rattle.bl_policy.specs.declared.access.Mode.{Mode}
 use Rattle.bl_policy.specs.declared.access.Mode.TheVariants.{Read}
 use Rattle.bl_policy.specs.declared.denial.Clause.{Clause}
+use Rattle.bl_policy.specs.declared.rule.Rule.{Rule}
 use Rattle.bl_script.specs.Statements.{Statements, Part, Nothing, Show}
 use Rattle.bl_script.specs.declared.work.Work.{Work}
 use Rattle.bl_script.specs.declared.work.Work.TheVariants as work
@@ -29,6 +30,10 @@ cat = 2
 abbrev pub root : ℕ
 root = 3
 
+-- of the setup with one subject more
+abbrev pub dan : ℕ
+dan = 4
+
 abbrev pub memo : ℕ
 memo = 0
 
@@ -41,6 +46,15 @@ log = 2
 -- ranks u, c, s, t from 0; the categories nato and crypto have the bits 1 and 2
 abbrev pub u : SecurityLevel
 u = record { rank = 0; categories = 0 }
+
+abbrev pub c : SecurityLevel
+c = record { rank = 1; categories = 0 }
+
+abbrev pub s : SecurityLevel
+s = record { rank = 2; categories = 0 }
+
+abbrev pub t : SecurityLevel
+t = record { rank = 3; categories = 0 }
 
 abbrev pub s_nato : SecurityLevel
 s_nato = record { rank = 2; categories = 1 }
@@ -93,6 +107,14 @@ allowed_all =
 abbrev pub base : Setup
 base = record { names = names; policy = allowed_all; contents = m1 ∷ n1 ∷ [] ∷ [] }
 
+-- base, and behind it `subject dan greatest u current u admin`
+abbrev pub with_dan : Setup
+with_dan = record {
+  names = record names { subjects = codes "ann" ∷ codes "bob" ∷ codes "cat" ∷ codes "root" ∷ codes "dan" ∷ [] };
+  policy = with_subject allowed_all (record { greatest = u; current = u; trusted = false; admin = true });
+  contents = m1 ∷ n1 ∷ [] ∷ [];
+}
+
 abbrev pub access : Mode → ℕ → Access
 access mode doc = record { mode = mode; doc = doc }
 
@@ -114,6 +136,14 @@ lines_from ordinal subject (work ∷ works) = Line 0 ordinal subject work ∷ li
 
 abbrev pub lines : ℕ → List Work → List Entry
 lines subject works = lines_from 1 subject works
+
+-- a line of this subject
+abbrev pub asks : ℕ → Work → Entry
+asks subject work = Line 0 0 subject work
+
+-- a line of this subject that is a rule
+abbrev pub rules : ℕ → Rule → Entry
+rules subject rule = asks subject (work.Rule rule)
 
 -- the answer at a place, where nothing is lost
 abbrev pub answer_at : List Entry → ℕ → Answer

@@ -5,7 +5,7 @@ use Rattle.std.specs.List.{list_any}
 use Rattle.std.proofs.lemmas.Bool.Decides.{nat_tests}
 use Rattle.bl_policy.specs.declared.access.Access.{Access}
 use Rattle.bl_script.specs.Modes.{alters}
-use Rattle.bl_setup.specs.Order.{Task, Runs, OfPolicy, OfDocument, is_rule, claims_of, excludes, conflict, is_altered, is_declared, accesses_of}
+use Rattle.bl_setup.specs.Order.{Task, Runs, Applies, OfPolicy, OfDocument, is_rule, claims_of, excludes, conflict, is_altered, is_declared, accesses_of}
 
 pub or_right : (a b : Bool) → b ≡ true → (a || b) ≡ true
 or_right true b h = refl
@@ -40,6 +40,7 @@ clash : (x : Access) (u : Task) (test : Access → Bool) → ((y : Access) → t
 clash x (Runs script index) test each h =
     any_image test (λ (y : Access). record { cown = OfDocument y.doc; exclusive = alters y.mode })
     (λ b. excludes (record { cown = OfDocument x.doc; exclusive = alters x.mode }) b) (accesses_of (Runs script index)) each h
+clash x (Applies rule) test each h = absurd (true≢false (sym h))
 
 -- two tasks conflict where an access of one clashes
 conflict_from : (t u : Task) (test : Access → Bool)
@@ -49,6 +50,7 @@ conflict_from (Runs script index) u test each h =
     or_right (list_any (λ b. excludes (record { cown = OfPolicy; exclusive = false }) b) (claims_of u))
     (list_any (λ a. list_any (λ b. excludes a b) (claims_of u)) (map (λ (x : Access). record { cown = OfDocument x.doc; exclusive = alters x.mode }) (accesses_of (Runs script index))))
     (any_image test (λ (x : Access). record { cown = OfDocument x.doc; exclusive = alters x.mode }) (λ a. list_any (λ b. excludes a b) (claims_of u)) (accesses_of (Runs script index)) each h)
+conflict_from (Applies rule) u test each h = absurd (true≢false (sym h))
 
 -- a task that alters a document conflicts with a later one that declares it
 pub conflict_where_altered : (t u : Task) (o : ℕ) → is_altered (accesses_of t) o ≡ true → is_declared (accesses_of u) o ≡ true → conflict t u ≡ true
@@ -73,6 +75,10 @@ altered_is_declared xs o h = any_other (λ (x : Access). (x.doc == o) && alters 
 -- a rule conflicts with every task, before it and behind it
 pub rule_conflicts : (t u : Task) → is_rule t ≡ true → conflict t u ≡ true
 rule_conflicts (Runs script index) u h = absurd (true≢false (sym h))
+rule_conflicts (Applies rule) (Runs script index) h = refl
+rule_conflicts (Applies rule) (Applies other) h = refl
 
 pub conflicts_with_rule : (t u : Task) → is_rule u ≡ true → conflict t u ≡ true
 conflicts_with_rule t (Runs script index) h = absurd (true≢false (sym h))
+conflicts_with_rule (Runs script index) (Applies rule) h = refl
+conflicts_with_rule (Applies other) (Applies rule) h = refl

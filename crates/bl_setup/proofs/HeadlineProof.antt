@@ -8,7 +8,7 @@ use Rattle.bl_policy.specs.declared.access.Access.{Access}
 use Rattle.bl_policy.specs.declared.denial.Denial.{Denial}
 use Rattle.bl_script.specs.declared.work.Work.{Work}
 use Rattle.bl_script.specs.Effects.{Effect}
-use Rattle.bl_setup.specs.Order.{Task, Runs, accesses_of}
+use Rattle.bl_setup.specs.Order.{Task, Runs, Applies, accesses_of}
 use Rattle.bl_setup.specs.Past.{is_done, fault_of_task, answer_of}
 use Rattle.bl_setup.specs.Machine.{State, Phase, Waiting, Running, Ended, Gone, is_waiting, is_running, is_over, phase_at, is_lost, has_ended, runs, past_at, MayStart, start, Hold, held_below}
 use Rattle.bl_setup.specs.Now.{policy_at, policy_now}
@@ -27,6 +27,7 @@ done-no_fault false (Some d) t es h = absurd (true≢false (sym h))
 
 secure-task : (p : SecurityPolicy) (s : ℕ) (t : Task) → fault_of_task p s t ≡ None → AllByRecursion (λ a. IsSecure p s a.doc a.mode) (accesses_of t)
 secure-task p s (Runs z i) h = secure-all p s (accesses_of (Runs z i)) h
+secure-task p s (Applies rule) h = tt
 
 -- a place that is answered Done is secure at its place
 pub secure-at : (x : State) (n : ℕ) → is_done (past_at x n).answer ≡ true

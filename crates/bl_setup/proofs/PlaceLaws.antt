@@ -1,10 +1,15 @@
 -- What the record of a place says.
 use Rattle.std.proofs.Common.{◌≡◌, ℕ, zero, suc, ◌-◌, ◌<◌, ◌≤◌, Bool, true, false, cond, ◌&&◌, ◌||◌, not, List, [], ◌∷◌, length, refl, sym, ◌∙◌, ap, inl, inr, arith, ◌⊎◌, true≢false, get_or}
-use Rattle.std.specs.Prelude.{Some, slice_get, slice_index_or, nat_lt}
+use Rattle.std.specs.Prelude.{Option, Some, None, slice_get, slice_index_or, nat_lt}
+use Rattle.bl_policy.specs.Policy.{SecurityPolicy}
+use Rattle.bl_policy.specs.RuleEffect.{rule_fault, rule_makes, unless_failed, after_rule}
+use Rattle.bl_policy.specs.declared.denial.Denial.{Denial}
+use Rattle.bl_policy.specs.declared.rule.Rule.{Rule}
 use Rattle.bl_script.specs.Effects.{Effect, after, children}
-use Rattle.bl_setup.specs.Order.{Setup, Entry, Child, Task, is_rule, conflict, is_altered, accesses_of, Line}
-use Rattle.bl_setup.specs.Past.{earlier, place, past_of, no_entry, policy_of, content_of, is_done, subject_of, task_of, child_task, deeds, answer_of}
-use Rattle.bl_setup.specs.Laws.{IsAnswered, IsClosed, fault_at}
+use Rattle.bl_script.specs.declared.answer.Answer.TheVariants.{RuleDone, Denied, Lost}
+use Rattle.bl_setup.specs.Order.{Setup, Entry, Child, Task, Runs, Applies, is_rule, conflict, is_altered, accesses_of, Line}
+use Rattle.bl_setup.specs.Past.{earlier, place, past_of, no_entry, policy_of, content_of, is_done, subject_of, task_of, child_task, deeds, answer_of, was_lost, fault_of_task, changed}
+use Rattle.bl_setup.specs.Laws.{IsAnswered, IsClosed, RulesMakeThePolicy, fault_at}
 use Rattle.bl_setup.specs.Machine.{State, past_at, has_ended, phase_at, MayStart, may_start, is_clear, is_waiting}
 use Rattle.std.proofs.lemmas.Bool.Decides.{nat_tests}
 use Rattle.bl_setup.proofs.Places.{at_place-earlier, less_or_equal}
@@ -68,6 +73,63 @@ module _ (setup : Setup) (lost : ℕ → Bool) (order : List Entry) (doc : ℕ) 
           ∙ ap (λ b. cond b (after (content_of setup (earlier setup lost order m) doc) (place setup lost order m).effects doc) (content_of setup (earlier setup lost order m) doc)) here
 
 -- ---- rules
+
+-- what is denied is a task that the policy has this against, and changes nothing
+denied_changes : (b : Bool) (p : SecurityPolicy) (s : ℕ) (t : Task) (es : List Effect) (denial : Denial) → answer_of b (fault_of_task p s t) t es ≡ Denied denial
+    → changed (answer_of b (fault_of_task p s t) t es) t s p ≡ p
+denied_changes b p s (Runs script index) es denial h = refl
+denied_changes b p s (Applies rule) es denial h = go b (rule_fault p s rule) h refl
+  where
+    go : (c : Bool) (f : Option Denial) → answer_of c f (Applies rule) es ≡ Denied denial → rule_fault p s rule ≡ f → changed (answer_of c f (Applies rule) es) (Applies rule) s p ≡ p
+    go true f k is = refl
+    go false None k is = absurd (cc)
+    go false (Some d) k is = ap (λ o. unless_failed o (rule_makes p s rule) p) is
+
+-- a rule that is done makes its change
+done_makes : (b : Bool) (p : SecurityPolicy) (s : ℕ) (rule : Rule) (es : List Effect) → answer_of b (rule_fault p s rule) (Applies rule) es ≡ RuleDone
+    → changed (answer_of b (rule_fault p s rule) (Applies rule) es) (Applies rule) s p ≡ rule_makes p s rule
+done_makes b p s rule es h = go b (rule_fault p s rule) h refl
+  where
+    go : (c : Bool) (f : Option Denial) → answer_of c f (Applies rule) es ≡ RuleDone → rule_fault p s rule ≡ f → changed (answer_of c f (Applies rule) es) (Applies rule) s p ≡ rule_makes p s rule
+    go true f k is = absurd (cc)
+    go false (Some d) k is = absurd (cc)
+    go false None k is = ap (λ o. unless_failed o (rule_makes p s rule) p) is
+
+-- a task that is not lost changes the policy by its rule alone
+kept_lost : (f : Option Denial) (t : Task) (es : List Effect) → was_lost (answer_of false f t es) ≡ false
+kept_lost (Some d) t es = refl
+kept_lost None (Runs script index) es = refl
+kept_lost None (Applies rule) es = refl
+
+lost_changes : (t : Task) (s : ℕ) (p : SecurityPolicy) → changed Lost t s p ≡ p
+lost_changes (Runs script index) s p = refl
+lost_changes (Applies rule) s p = refl
+
+pub rules-make : (setup : Setup) (lost : ℕ → Bool) (order : List Entry) (n : ℕ) → RulesMakeThePolicy setup lost order n
+rules-make setup lost order n = record {
+  at_first = refl;
+  by_a_rule = λ rule is kept.
+      ap (λ t. changed (answer_of (lost n) (fault_of_task before subject t) t all) t subject before) is
+      ∙ ap (λ b. changed (answer_of b (rule_fault before subject rule) (Applies rule) all) (Applies rule) subject before) kept
+      ∙ ap (λ b. cond b before (after_rule before subject rule)) (kept_lost (rule_fault before subject rule) (Applies rule) all);
+  by_one_that_is_done = λ rule is done.
+      ap (λ t. changed (answer_of (lost n) (fault_of_task before subject t) t all) t subject before) is
+      ∙ done_makes (lost n) before subject rule all (ap (λ t. answer_of (lost n) (fault_of_task before subject t) t all) (sym is) ∙ done);
+  by_none_refused = λ denial h. denied_changes (lost n) before subject (place setup lost order n).task all denial h;
+  by_none_lost = λ gone.
+      ap (λ b. changed (answer_of b (fault_at setup lost order n) (place setup lost order n).task all) (place setup lost order n).task subject before) gone
+      ∙ lost_changes (place setup lost order n).task subject before;
+  by_no_behaviour = λ none. changed-skips (place setup lost order n).answer (place setup lost order n).task subject before none;
+}
+  where
+    before : SecurityPolicy
+    before = policy_of setup (earlier setup lost order n)
+
+    subject : ℕ
+    subject = (place setup lost order n).subject
+
+    all : List Effect
+    all = deeds (place setup lost order n).task (content_of setup (earlier setup lost order n))
 
 pub policy-left : (setup : Setup) (lost : ℕ → Bool) (order : List Entry) (n : ℕ) → ((k : ℕ) → k < n → is_rule (place setup lost order k).task ≡ false) → policy_of setup (earlier setup lost order n) ≡ setup.policy
 policy-left setup lost order zero none = refl

@@ -1,15 +1,16 @@
 -- How the policy and the contents now move with each event.
 use Rattle.std.proofs.Common.{◌≡◌, ◌≢◌, ℕ, zero, suc, ◌<◌, ◌≤◌, Bool, true, false, cond, ◌&&◌, ◌||◌, List, [], ◌∷◌, length, refl, sym, ◌∙◌, ap, subst, inl, inr, arith, ◌⊎◌, true≢false}
-use Rattle.std.specs.Prelude.{IsTrue}
+use Rattle.std.specs.Prelude.{IsTrue, Option, Some, None}
 use Rattle.bl_policy.specs.Policy.{SecurityPolicy}
-use Rattle.bl_script.specs.Effects.{after}
+use Rattle.bl_policy.specs.declared.denial.Denial.{Denial}
+use Rattle.bl_script.specs.Effects.{Effect, after}
 use Rattle.bl_setup.specs.Machine.{session_at}
-use Rattle.bl_setup.specs.Order.{Setup, Entry, Line, Task, Runs, conflict, is_altered, accesses_of}
-use Rattle.bl_setup.specs.Past.{Past, earlier, place, policy_of, content_of, changed, is_done, judged, deeds}
+use Rattle.bl_setup.specs.Order.{Setup, Entry, Line, Task, Runs, Applies, conflict, is_altered, accesses_of}
+use Rattle.bl_setup.specs.Past.{Past, earlier, place, policy_of, content_of, changed, is_done, answer_of, judged, deeds}
 use Rattle.bl_script.specs.declared.work.Work.{Work}
 use Rattle.std.proofs.Common.{length-append}
 use Rattle.bl_script.specs.declared.answer.Answer.{Answer}
-use Rattle.bl_script.specs.declared.answer.Answer.TheVariants.{Done, Denied, Lost}
+use Rattle.bl_script.specs.declared.answer.Answer.TheVariants.{Lost}
 use Rattle.bl_setup.specs.Machine.{State, Phase, is_over, is_gone, phase_at, is_lost, has_ended, runs, past_at, MayStart, Starts, Ends, Admits, change, with_phase, Gone, Ended, Running}
 use Rattle.bl_setup.specs.Now.{ended_before, ended_places, policy_now, content_now}
 use Rattle.bl_setup.proofs.Sound.{IsSound, has_begun}
@@ -123,11 +124,25 @@ acts_at : {X : Type 0} (step : Past → X → X) (x y : State) (k : ℕ) (p : Ph
     → cond (has_ended y k) (step (past_at y k) v) v ≡ cond (is_over p) (step (past_at x k) v) v
 acts_at step x y k p moves same v = ap (λ b. cond b (step (past_at y k) v) v) (over_at x y k p moves) ∙ ap (λ q. cond (is_over p) (step q v) v) same
 
+-- a rule never runs
+rule_answer : (b : Bool) (f : Option Denial) (t : Task) (es : List Effect) → is_rule t ≡ true → is_done (answer_of b f t es) ≡ false
+rule_answer b f (Runs script index) es h = absurd (true≢false (sym h))
+rule_answer true f (Applies rule) es h = refl
+rule_answer false (Some denial) (Applies rule) es h = refl
+rule_answer false None (Applies rule) es h = refl
+
+pub rule_never_runs : (x : State) (n : ℕ) → is_rule (past_at x n).task ≡ true → is_done (past_at x n).answer ≡ false
+rule_never_runs x n h = rule_answer (is_lost x n) _ (past_at x n).task _ h
+
 -- a start that ends the place at once is a rule's or a denial
-started_acts : (a : Answer) (t : Task) (s : ℕ) (v : SecurityPolicy) → cond (is_over (cond (is_done a) Running Ended)) (changed a t s v) v ≡ changed a t s v
-started_acts (Done o) (Runs script index) s v = refl
-started_acts (Denied d) (Runs script index) s v = refl
-started_acts Lost (Runs script index) s v = refl
+started_acts : (a : Answer) (t : Task) (s : ℕ) (v : SecurityPolicy) → (is_rule t ≡ true → is_done a ≡ false)
+    → cond (is_over (cond (is_done a) Running Ended)) (changed a t s v) v ≡ changed a t s v
+started_acts a (Applies rule) s v never = ap (λ b. cond (is_over (cond b Running Ended)) (changed a (Applies rule) s v) v) (never refl)
+started_acts a (Runs script index) s v never = same (is_over (cond (is_done a) Running Ended)) v
+  where
+    same : (b : Bool) (w : SecurityPolicy) → cond b w w ≡ w
+    same true w = refl
+    same false w = refl
 
 pub lost-answer : (s : Setup) (l : ℕ → Bool) (A : List Entry) (n : ℕ) → l n ≡ true → (place s l A n).answer ≡ Lost
 lost-answer s l A n e = ap (λ b. (judged b (policy_of s (earlier s l A n)) (deeds (place s l A n).task (content_of s (earlier s l A n))) (place s l A n).subject (place s l A n).task).answer) e
@@ -135,6 +150,7 @@ lost-answer s l A n e = ap (λ b. (judged b (policy_of s (earlier s l A n)) (dee
 -- what is lost changes no policy
 lost_changes : (t : Task) (s : ℕ) (v : SecurityPolicy) → changed Lost t s v ≡ v
 lost_changes (Runs script index) s v = refl
+lost_changes (Applies rule) s v = refl
 
 lost_idle : (q : Past) (b : Bool) (v : SecurityPolicy) → q.answer ≡ Lost → cond b (changed q.answer q.task q.subject v) v ≡ v
 lost_idle q true v e = ap (λ a. changed a q.task q.subject v) e ∙ lost_changes q.task q.subject v
@@ -151,12 +167,12 @@ both_alter o t u h k = conflict_where_altered t u o h (altered_is_declared (acce
 policy_now-made : (x : State) → policy_now x ≡ made (λ p y. changed p.answer p.task p.subject y) x.setup.policy (ended_places x)
 policy_now-made x = policy-made x.setup (ended_places x)
 
--- a start changes it as the answer says: only a rule that is done does
+-- a start changes it as the answer says: only a rule's does
 pub policy_now-started : (x : State) (k : ℕ) → IsSound x → MayStart x k → policy_now (change x (Starts k)) ≡ changed (past_at x k).answer (past_at x k).task (past_at x k).subject (policy_now x)
 policy_now-started x k sound may =
     policy_now-made (change x (Starts k))
     ∙ now-moved (λ p y. changed p.answer p.task p.subject y) x.setup.policy is_rule (λ p y h. changed-skips p.answer p.task p.subject y h) both_rules
-    x (change x (Starts k)) k _ (λ v. changed (past_at x k).answer (past_at x k).task (past_at x k).subject v) sound (moves-start x sound k may) (λ v. acts_at (λ p y. changed p.answer p.task p.subject y) x (change x (Starts k)) k _ (moves-start x sound k may) (past-started x sound k may k) v ∙ started_acts (past_at x k).answer (past_at x k).task (past_at x k).subject v)
+    x (change x (Starts k)) k _ (λ v. changed (past_at x k).answer (past_at x k).task (past_at x k).subject v) sound (moves-start x sound k may) (λ v. acts_at (λ p y. changed p.answer p.task p.subject y) x (change x (Starts k)) k _ (moves-start x sound k may) (past-started x sound k may k) v ∙ started_acts (past_at x k).answer (past_at x k).task (past_at x k).subject v (rule_never_runs x k))
     (λ v h. changed-skips (past_at x k).answer (past_at x k).task (past_at x k).subject v h)
     ∙ ap (changed (past_at x k).answer (past_at x k).task (past_at x k).subject) (sym (policy_now-made x))
 
@@ -200,9 +216,10 @@ content_now-started x k o sound may =
     (λ c h. refl)
     ∙ sym (content_now-made x o)
 
--- an end changes no policy
-done_idle : (a : Answer) (t : Task) (s : ℕ) (v : SecurityPolicy) → is_done a ≡ true → changed a t s v ≡ v
-done_idle a (Runs script index) s v h = refl
+-- an end changes no policy, for what has run is no rule
+done_idle : (a : Answer) (t : Task) (s : ℕ) (v : SecurityPolicy) → (is_rule t ≡ true → is_done a ≡ false) → is_done a ≡ true → changed a t s v ≡ v
+done_idle a (Runs script index) s v never h = refl
+done_idle a (Applies rule) s v never h = absurd (true≢false (sym h ∙ never refl))
 
 pub policy_now-ended : (x : State) (k : ℕ) → IsSound x → (r : runs x k ≡ true) → policy_now (change x (Ends k)) ≡ policy_now x
 policy_now-ended x k sound r =
@@ -210,7 +227,7 @@ policy_now-ended x k sound r =
     ∙ now-moved (λ p y. changed p.answer p.task p.subject y) x.setup.policy is_rule (λ p y h. changed-skips p.answer p.task p.subject y h) both_rules
     x (change x (Ends k)) k Ended (λ v. v) sound (moves-end x sound k r)
     (λ v. acts_at (λ p y. changed p.answer p.task p.subject y) x (change x (Ends k)) k Ended (moves-end x sound k r) (past-ended x sound k r k (within x sound k r)) v
-    ∙ done_idle (past_at x k).answer (past_at x k).task (past_at x k).subject v (sound.allowed k (within x sound k r) r))
+    ∙ done_idle (past_at x k).answer (past_at x k).task (past_at x k).subject v (rule_never_runs x k) (sound.allowed k (within x sound k r) r))
     (λ v h. refl)
     ∙ sym (policy_now-made x)
 

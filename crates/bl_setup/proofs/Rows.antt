@@ -1,20 +1,23 @@
 -- The worked examples, computed from the definitions alone.
 use Rattle.std.proofs.Common.{lit<, lit≤}
-use Rattle.std.specs.Prelude.{◌≡◌, Bool, true, false, List, [], ◌∷◌, ◌++◌, map, refl}
+use Rattle.std.specs.Prelude.{◌≡◌, ◌==◌, Bool, true, false, List, [], ◌∷◌, ◌++◌, map, refl, None}
 use Rattle.bl_policy.specs.declared.access.Mode.TheVariants.{Read, Append, Write}
-use Rattle.bl_policy.specs.declared.denial.Clause.TheVariants.{Simple, Star, Discretionary}
+use Rattle.bl_policy.specs.declared.denial.Clause.TheVariants.{Simple, Star, Discretionary, Admin, Trusted, Greatest}
+use Rattle.bl_policy.specs.declared.rule.Rule.TheVariants.{Give, Rescind, Current, Classify}
+use Rattle.bl_policy.specs.Policy.{allows}
 use Rattle.bl_script.specs.declared.script.Condition.TheVariants.{Is, Has}
 use Rattle.bl_script.specs.Content.{added}
 use Rattle.bl_script.specs.Statements.{Nothing, Show, Say, Add, Set, Pour, If, Spawn}
 use Rattle.bl_script.specs.declared.work.Work.{Work}
 use Rattle.bl_script.specs.declared.work.Work.TheVariants as work
 use Rattle.bl_script.specs.declared.answer.Answer.{Answer}
-use Rattle.bl_script.specs.declared.answer.Answer.TheVariants.{Done, Lost}
+use Rattle.bl_script.specs.declared.answer.Answer.TheVariants.{Done, RuleDone, Denied, Lost}
 use Rattle.bl_setup.specs.Order.{Entry, Child}
-use Rattle.bl_setup.specs.Machine.{State, Event, IsTrail, Opens, Admits, Starts, Ends, Loses, start, state_after, may_start, past_at, has_ended, held}
+use Rattle.bl_setup.specs.Past.{place, policy_before, content_before}
+use Rattle.bl_setup.specs.Machine.{State, Event, IsTrail, Opens, Admits, Starts, Ends, Loses, start, state_after, may_start, past_at, has_ended, held, weight_of}
 use Rattle.bl_setup.specs.Now.{content_now}
 use Rattle.bl_setup.proofs.PlaceLaws.{may_start-is}
-use Rattle.bl_setup.proofs.Base.{base, ann, bob, cat, root, memo, note, log, m1, n1, access, behaves, when, reads, lines, answer_at, denied_for}
+use Rattle.bl_setup.proofs.Base.{base, with_dan, ann, bob, cat, root, dan, memo, note, log, u, c, s, t, s_nato, m1, n1, access, behaves, when, reads, lines, asks, rules, answer_at, denied_for}
 
 -- ---- decisions on accesses
 
@@ -48,6 +51,54 @@ denial-changes-nothing :
     ≡ denied_for Star ann note ∷ Done (m1 ∷ []) ∷ []
 unfolding added answers
 denial-changes-nothing = refl
+
+-- ---- rules that change the policy
+
+-- an answer of each of the first four places
+four_answers : List Entry → List Answer
+four_answers order = map (answer_at order) (0 ∷ 1 ∷ 2 ∷ 3 ∷ [])
+
+rules-and-their-checks :
+    four_answers (rules ann (Give cat memo Read) ∷ rules ann (Current s) ∷ rules ann (Current t) ∷ asks ann (when (access Write memo ∷ []) Nothing) ∷ [])
+    ≡ denied_for Admin ann memo ∷ RuleDone ∷ Denied (record { clause = Greatest; subject = ann; object = None }) ∷ denied_for Star ann memo ∷ []
+unfolding four_answers
+rules-and-their-checks = refl
+
+rescind-between-reads :
+    map (answer_at (asks ann (reads memo) ∷ rules root (Rescind ann memo Read) ∷ asks ann (reads memo) ∷ [])) (0 ∷ 1 ∷ 2 ∷ [])
+    ≡ Done (m1 ∷ []) ∷ RuleDone ∷ denied_for Discretionary ann memo ∷ []
+rescind-between-reads = refl
+
+-- the same, where the rule is lost
+lost-rule-changes-nothing :
+    map (λ n. (place base (λ k. k == 1) (asks ann (reads memo) ∷ rules root (Rescind ann memo Read) ∷ asks ann (reads memo) ∷ []) n).answer) (0 ∷ 1 ∷ 2 ∷ [])
+    ≡ Done (m1 ∷ []) ∷ Lost ∷ Done (m1 ∷ []) ∷ []
+lost-rule-changes-nothing = refl
+
+appends_b : Work
+appends_b = when (access Append memo ∷ []) (Add memo (98 ∷ []) Nothing)
+
+raises_and_appends : List Entry
+raises_and_appends = rules bob (Current s_nato) ∷ asks bob appends_b ∷ rules root (Rescind bob memo Append) ∷ asks bob appends_b ∷ []
+
+write-does-not-stand-for-append : four_answers raises_and_appends ≡ RuleDone ∷ Done [] ∷ RuleDone ∷ denied_for Discretionary bob memo ∷ []
+unfolding four_answers raises_and_appends appends_b
+write-does-not-stand-for-append = refl
+
+write-does-not-stand-for-append-memo : content_before base (λ n. false) raises_and_appends memo 4 ≡ m1 ++ 98 ∷ []
+unfolding added raises_and_appends appends_b
+write-does-not-stand-for-append-memo = refl
+
+write-does-not-stand-for-append-cell :
+    map (allows (policy_before base (λ n. false) raises_and_appends 4) bob memo) (Read ∷ Append ∷ Write ∷ []) ≡ true ∷ false ∷ true ∷ []
+unfolding raises_and_appends appends_b
+write-does-not-stand-for-append-cell = refl
+
+classify-needs-trust :
+    map (λ n. (place with_dan (λ k. false)
+    (rules dan (Classify note c) ∷ rules dan (Give cat note Read) ∷ rules root (Classify note c) ∷ asks bob (reads note) ∷ []) n).answer) (0 ∷ 1 ∷ 2 ∷ 3 ∷ [])
+    ≡ denied_for Trusted dan note ∷ RuleDone ∷ RuleDone ∷ denied_for Star bob note ∷ []
+classify-needs-trust = refl
 
 -- ---- scripts and contents, on the machine
 
@@ -95,26 +146,40 @@ child-enters-after-admitted-line-answers :
 unfolding added adds_a adds_b one_worker after_all
 child-enters-after-admitted-line-answers = refl
 
--- ann reads memo, writes memo, reads memo, reads note
-four_lines : List Event
-four_lines =
-    Opens ann ∷ Admits 0 1 (reads memo) ∷ Admits 0 2 (when (access Write memo ∷ []) Nothing) ∷ Admits 0 3 (reads memo)
-    ∷ Admits 0 4 (reads note) ∷ []
+-- ann reads memo, writes memo, reads memo, reads note; root changes its current level
+five_lines : List Event
+five_lines =
+    Opens ann ∷ Opens root ∷ Admits 0 1 (reads memo) ∷ Admits 0 2 (when (access Write memo ∷ []) Nothing) ∷ Admits 0 3 (reads memo)
+    ∷ Admits 0 4 (reads note) ∷ Admits 1 1 (work.Rule (Current u)) ∷ []
 
 may : List Event → List Bool
-may events = map (may_start (after_all (four_lines ++ events))) (0 ∷ 1 ∷ 2 ∷ 3 ∷ [])
+may events = map (may_start (after_all (five_lines ++ events))) (0 ∷ 1 ∷ 2 ∷ 3 ∷ 4 ∷ [])
 
-who-may-start : may [] ≡ true ∷ false ∷ false ∷ true ∷ []
-unfolding added may four_lines after_all
+who-may-start : may [] ≡ true ∷ false ∷ false ∷ true ∷ false ∷ []
+unfolding added may five_lines after_all
 who-may-start = refl
 
-who-may-start-after-0 : may (Starts 0 ∷ Ends 0 ∷ []) ≡ false ∷ true ∷ false ∷ true ∷ []
-unfolding added may four_lines after_all
+who-may-start-after-0 : may (Starts 0 ∷ Ends 0 ∷ []) ≡ false ∷ true ∷ false ∷ true ∷ false ∷ []
+unfolding added may five_lines after_all
 who-may-start-after-0 = refl
 
-who-may-start-after-1-and-3 : may (Starts 0 ∷ Ends 0 ∷ Starts 1 ∷ Starts 3 ∷ Ends 3 ∷ Ends 1 ∷ []) ≡ false ∷ false ∷ true ∷ false ∷ []
-unfolding added may four_lines after_all
+who-may-start-after-1-and-3 : may (Starts 0 ∷ Ends 0 ∷ Starts 1 ∷ Starts 3 ∷ Ends 3 ∷ Ends 1 ∷ []) ≡ false ∷ false ∷ true ∷ false ∷ false ∷ []
+unfolding added may five_lines after_all
 who-may-start-after-1-and-3 = refl
+
+who-may-start-after-2 :
+    may (Starts 0 ∷ Ends 0 ∷ Starts 1 ∷ Starts 3 ∷ Ends 3 ∷ Ends 1 ∷ Starts 2 ∷ Ends 2 ∷ []) ≡ false ∷ false ∷ false ∷ false ∷ true ∷ []
+unfolding added may five_lines after_all
+who-may-start-after-2 = refl
+
+-- a rule ends at its start, and weighs one
+rule-ends-at-its-start : map (λ (x : State). has_ended x 0) (after_all (Opens root ∷ Admits 0 1 (work.Rule (Current u)) ∷ Starts 0 ∷ []) ∷ []) ≡ true ∷ []
+unfolding after_all
+rule-ends-at-its-start = refl
+
+rule-weighs-one : map weight_of (work.Rule (Current u) ∷ reads memo ∷ adds_a ∷ []) ≡ 1 ∷ 1 ∷ 2 ∷ []
+unfolding adds_a
+rule-weighs-one = refl
 
 -- two readers of one document run together, and each access is held once
 two-sessions-read-together :

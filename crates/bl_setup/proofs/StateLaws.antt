@@ -3,7 +3,7 @@ use Rattle.std.proofs.Common.{◌≡◌, ℕ, ◌<◌, ◌≤◌, Bool, true, fa
 use Rattle.bl_policy.specs.Policy.{SecurityPolicy}
 use Rattle.bl_script.specs.Effects.{after}
 use Rattle.bl_script.specs.declared.answer.Answer.{Answer}
-use Rattle.bl_setup.specs.Order.{Setup, Task, Runs, is_rule, conflict, is_altered, is_declared, accesses_of}
+use Rattle.bl_setup.specs.Order.{Setup, Task, Runs, Applies, is_rule, conflict, is_altered, is_declared, accesses_of}
 use Rattle.bl_setup.specs.Past.{Past, earlier, policy_of, content_of, changed, is_done}
 use Rattle.bl_setup.specs.Machine.{State, past_at, has_ended, runs, is_lost, Phase, Waiting, Running, Ended, Gone, is_waiting, is_over}
 use Rattle.bl_setup.specs.Now.{ended_places, policy_at, policy_now, content_at, content_now, IsFirstToAlter}
@@ -13,6 +13,7 @@ use Rattle.bl_setup.proofs.Places.{made, made-before}
 
 pub changed-skips : (a : Answer) (t : Task) (s : ℕ) (y : SecurityPolicy) → is_rule t ≡ false → changed a t s y ≡ y
 changed-skips answer (Runs script index) subject policy h = refl
+changed-skips answer (Applies rule) subject policy h = absurd (true≢false h)
 
 pub policy-made : (s : Setup) (h : List Past) → policy_of s h ≡ made (λ p y. changed p.answer p.task p.subject y) s.policy h
 policy-made s [] = refl

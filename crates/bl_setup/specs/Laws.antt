@@ -1,9 +1,11 @@
 -- What is said of places, in the words of their answers, contents and children.
-use Rattle.std.specs.Prelude.{◌≡◌, ℕ, ◌-◌, ◌<◌, ◌≤◌, Bool, true, false, ◌&&◌, List, [], ◌++◌, length, slice_index_or, Option, Some, None, slice_get}
+use Rattle.std.specs.Prelude.{◌≡◌, ℕ, suc, ◌-◌, ◌<◌, ◌≤◌, Bool, true, false, ◌&&◌, List, [], ◌++◌, length, slice_index_or, Option, Some, None, slice_get}
+use Rattle.bl_policy.specs.RuleEffect.{rule_makes, after_rule}
 use Rattle.bl_policy.specs.declared.denial.Denial.{Denial}
+use Rattle.bl_policy.specs.declared.rule.Rule.{Rule}
 use Rattle.bl_script.specs.Effects.{after, children}
-use Rattle.bl_script.specs.declared.answer.Answer.TheVariants.{Denied, Lost}
-use Rattle.bl_setup.specs.Order.{Setup, Entry, is_rule, is_altered, accesses_of, conflict, Child}
+use Rattle.bl_script.specs.declared.answer.Answer.TheVariants.{RuleDone, Denied, Lost}
+use Rattle.bl_setup.specs.Order.{Setup, Entry, Task, Applies, is_rule, is_altered, accesses_of, conflict, Child}
 use Rattle.bl_setup.specs.Past.{place, policy_before, content_before, is_done, child_task, deeds, fault_of_task, granted}
 
 -- the places of an order keep their records where more entries come
@@ -45,6 +47,24 @@ pub record LooksBack (setup : Setup) (lost : ℕ → Bool) (order : List Entry) 
   pub last : (m : ℕ) → m < n → wrote setup lost order doc m ≡ true → ((k : ℕ) → m < k → k < n → wrote setup lost order doc k ≡ false)
       → content_before setup lost order doc n
       ≡ after (content_before setup lost order doc m) (place setup lost order m).effects doc
+
+-- How the policy goes on from place to place: a rule changes it as rules do, one that is done makes its change, and what is
+-- refused, lost or no rule changes nothing.
+pub record RulesMakeThePolicy (setup : Setup) (lost : ℕ → Bool) (order : List Entry) (n : ℕ) : Type 0 where
+  pub at_first : policy_before setup lost order 0 ≡ setup.policy
+  pub by_a_rule : (rule : Rule) → (place setup lost order n).task ≡ Applies rule → lost n ≡ false
+      → policy_before setup lost order (suc n) ≡ after_rule (policy_before setup lost order n) (place setup lost order n).subject rule
+  pub by_one_that_is_done : (rule : Rule) → (place setup lost order n).task ≡ Applies rule → (place setup lost order n).answer ≡ RuleDone
+      → policy_before setup lost order (suc n) ≡ rule_makes (policy_before setup lost order n) (place setup lost order n).subject rule
+  pub by_none_refused : (denial : Denial) → (place setup lost order n).answer ≡ Denied denial
+      → policy_before setup lost order (suc n) ≡ policy_before setup lost order n
+  pub by_none_lost : lost n ≡ true → policy_before setup lost order (suc n) ≡ policy_before setup lost order n
+  pub by_no_behaviour : is_rule (place setup lost order n).task ≡ false
+      → policy_before setup lost order (suc n) ≡ policy_before setup lost order n
+
+-- a rule conflicts with every task, before it and behind it
+abbrev pub RulesStandAlone : Type 0
+RulesStandAlone = (rule task : Task) → is_rule rule ≡ true → (conflict rule task ≡ true) × (conflict task rule ≡ true)
 
 -- where no rule stands before a place, the policy there is the setup's
 abbrev pub LeavesThePolicy : Setup → (ℕ → Bool) → List Entry → ℕ → Type 0

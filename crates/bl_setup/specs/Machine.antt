@@ -92,9 +92,10 @@ is_clear x task (suc m) = (not (conflict (past_at x m).task task) || has_ended x
 abbrev pub may_start : State → ℕ → Bool
 may_start x n = nat_lt n (length x.order) && is_waiting (phase_at x n) && is_clear x (past_at x n).task n
 
--- own choice: a line weighs one for each `when` in it
+-- own choice: a line weighs one for each `when` in it, and a rule weighs one
 abbrev pub weight_of : Work → ℕ
 weight_of (work.Behaviour script) = length script
+weight_of (work.Rule rule) = 1
 
 abbrev pub entry_weight : Entry → ℕ
 entry_weight (Line session ordinal subject work) = weight_of work

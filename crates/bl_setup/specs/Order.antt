@@ -1,10 +1,11 @@
 -- The admission order: what enters it, and which of its entries may not run together.
-use Rattle.std.specs.Prelude.{ℕ, Bool, true, false, ◌&&◌, ◌||◌, ◌==◌, List, ◌∷◌, map, slice_index_or}
+use Rattle.std.specs.Prelude.{ℕ, Bool, true, false, ◌&&◌, ◌||◌, ◌==◌, List, [], ◌∷◌, map, slice_index_or}
 use Rattle.std.specs.List.{list_any}
 use Rattle.bl_policy.specs.Policy.{SecurityPolicy}
 use Rattle.bl_policy.specs.declared.access.Access.{Access}
+use Rattle.bl_policy.specs.declared.rule.Rule.{Rule}
 use Rattle.bl_script.specs.Names.{KnownNames}
-use Rattle.bl_script.specs.Statements.{Statements, Part, no_part}
+use Rattle.bl_script.specs.Statements.{Statements, Part, Nothing, no_part}
 use Rattle.bl_script.specs.Modes.{alters}
 use Rattle.bl_script.specs.declared.work.Work.{Work}
 
@@ -21,21 +22,25 @@ pub data Entry : Type 0 where
   Line : (session ordinal subject : ℕ) → (work : Work) → Entry
   Child : (parent which : ℕ) → Entry
 
--- Body of a place: what it does, which is to run a behaviour of a script
+-- Body of a place: what it does, which is to run a behaviour of a script, or to apply a rule to the policy
 pub data Task : Type 0 where
   Runs : (script : List Part) → (index : ℕ) → Task
+  Applies : (rule : Rule) → Task
 
--- the accesses that a task declares
+-- the accesses that a task declares: a rule declares none
 abbrev pub accesses_of : Task → List Access
 accesses_of (Runs script index) = (slice_index_or script index no_part).accesses
+accesses_of (Applies rule) = []
 
--- the statements that a task runs
+-- the statements that a task runs: a rule runs none
 abbrev pub body_of : Task → Statements
 body_of (Runs script index) = (slice_index_or script index no_part).body
+body_of (Applies rule) = Nothing
 
--- whether a task changes the policy: a behaviour does not
+-- whether a task is a rule: it may change the policy, which a behaviour never does
 abbrev pub is_rule : Task → Bool
 is_rule (Runs script index) = false
+is_rule (Applies rule) = true
 
 -- Cheeseman et al. 2023: what behaviours hold while they run. Own choice: the policy is a cown too.
 pub data Cown : Type 0 where
@@ -57,9 +62,10 @@ pub record Claim : Type 0 where
 abbrev pub document_claims : List Access → List Claim
 document_claims accesses = map (λ (a : Access). record { cown = OfDocument a.doc; exclusive = alters a.mode }) accesses
 
--- own choice: a behaviour has the policy shared
+-- own choice: a behaviour has the policy shared, and a rule has it exclusively
 abbrev pub claims_of : Task → List Claim
 claims_of (Runs script index) = record { cown = OfPolicy; exclusive = false } ∷ document_claims (accesses_of (Runs script index))
+claims_of (Applies rule) = record { cown = OfPolicy; exclusive = true } ∷ []
 
 -- two claims are of the same cown, which one of them has exclusively
 abbrev pub excludes : Claim → Claim → Bool

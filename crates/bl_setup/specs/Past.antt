@@ -3,14 +3,15 @@
 use Rattle.std.specs.Prelude.{ℕ, zero, suc, ◌-◌, Bool, true, false, ◌&&◌, if◌then◌else◌, ◌==◌, List, [], ◌∷◌, length, slice_index_or, Option, Some, None}
 use Rattle.bl_policy.specs.Policy.{SecurityPolicy}
 use Rattle.bl_policy.specs.FirstFault.{first_fault}
+use Rattle.bl_policy.specs.RuleEffect.{rule_fault, after_rule}
 use Rattle.bl_policy.specs.declared.access.Access.{Access}
 use Rattle.bl_policy.specs.declared.denial.Denial.{Denial}
 use Rattle.bl_script.specs.Effects.{Effect, effects_of, after, outputs, children}
 use Rattle.bl_script.specs.declared.work.Work.{Work}
 use Rattle.bl_script.specs.declared.work.Work.TheVariants as work
 use Rattle.bl_script.specs.declared.answer.Answer.{Answer}
-use Rattle.bl_script.specs.declared.answer.Answer.TheVariants.{Done, Denied, Lost}
-use Rattle.bl_setup.specs.Order.{Setup, Entry, Line, Child, Task, Runs, accesses_of, body_of, is_declared, is_altered}
+use Rattle.bl_script.specs.declared.answer.Answer.TheVariants.{Done, RuleDone, Denied, Lost}
+use Rattle.bl_setup.specs.Order.{Setup, Entry, Line, Child, Task, Runs, Applies, accesses_of, body_of, is_declared, is_altered}
 
 -- the record of a place
 pub record Past : Type 0 where
@@ -31,12 +32,22 @@ at_place (past ∷ earlier) n = if n == length earlier then past else at_place e
 -- whether a behaviour ran
 abbrev pub is_done : Answer → Bool
 is_done (Done shown) = true
+is_done RuleDone = false
 is_done (Denied denial) = false
 is_done Lost = false
 
--- the policy after a task was given its answer: a behaviour leaves it as it was
+-- whether a place is answered as lost
+abbrev pub was_lost : Answer → Bool
+was_lost (Done shown) = false
+was_lost RuleDone = false
+was_lost (Denied denial) = false
+was_lost Lost = true
+
+-- The policy after a task of this subject was given its answer: a rule that is not lost changes it as rules do, which is by
+-- nothing where its condition fails; a behaviour leaves it as it was.
 abbrev pub changed : Answer → Task → ℕ → SecurityPolicy → SecurityPolicy
 changed answer (Runs script index) subject policy = policy
+changed answer (Applies rule) subject policy = if was_lost answer then policy else after_rule policy subject rule
 
 -- the policy that these records make: the setup's, changed by them in order
 abbrev pub policy_of : Setup → List Past → SecurityPolicy
@@ -57,13 +68,15 @@ abbrev pub subject_of : List Past → Entry → ℕ
 subject_of earlier (Line session ordinal subject work) = subject
 subject_of earlier (Child parent which) = (at_place earlier parent).subject
 
--- a behaviour's line runs the first behaviour of its script
+-- a behaviour's line runs the first behaviour of its script, and a rule's line applies the rule
 abbrev pub first_task : Work → Task
 first_task (work.Behaviour script) = Runs script 0
+first_task (work.Rule rule) = Applies rule
 
--- another behaviour of the same script
+-- another behaviour of the same script; a rule spawns none, and stands here for itself
 abbrev pub child_task : Task → ℕ → Task
 child_task (Runs script index) behaviour = Runs script behaviour
+child_task (Applies rule) behaviour = Applies rule
 
 -- Body: a line does its work; a child runs the behaviour that its parent's which-th Child effect names
 abbrev pub task_of : List Past → Entry → Task
@@ -79,13 +92,16 @@ lent accesses contents doc = if is_declared accesses doc then contents doc else 
 abbrev pub deeds : Task → (ℕ → List ℕ) → List Effect
 deeds task contents = effects_of (lent (accesses_of task) contents) (body_of task)
 
--- What the policy has against a task: of a behaviour the first access at fault (own choice: the order in which faults are named).
+-- What the policy has against a task: of a behaviour the first access at fault, of a rule its failing condition (own choice: the
+-- order in which faults are named).
 abbrev pub fault_of_task : SecurityPolicy → ℕ → Task → Option Denial
 fault_of_task policy subject (Runs script index) = first_fault policy subject (accesses_of (Runs script index))
+fault_of_task policy subject (Applies rule) = rule_fault policy subject rule
 
--- the answer of a task that nothing is held against: a behaviour is done, with the texts that it showed
+-- the answer of a task that nothing is held against: a behaviour is done, with the texts that it showed, and a rule is done
 abbrev pub granted : Task → List Effect → Answer
 granted (Runs script index) effects = Done (outputs effects)
+granted (Applies rule) effects = RuleDone
 
 -- Answer: lost where it is lost; else denied where the policy has something against it; else granted
 abbrev pub answer_of : Bool → Option Denial → Task → List Effect → Answer
@@ -93,7 +109,7 @@ answer_of true fault task effects = Lost
 answer_of false (Some denial) task effects = Denied denial
 answer_of false None task effects = granted task effects
 
--- what was denied or lost has no effects
+-- only what ran has effects
 abbrev pub only_if_done : Answer → List Effect → List Effect
 only_if_done answer effects = if is_done answer then effects else []
 
@@ -124,7 +140,7 @@ module _ (setup : Setup) (lost : ℕ → Bool) (order : List Entry) where
   abbrev pub place : ℕ → Past
   place n = past_of setup (lost n) (earlier n) (slice_index_or order n no_entry)
 
-  -- PolicyAt: the policy at place n
+  -- PolicyAt: the policy at place n, which is the setup's, changed in order by the rules before it that are not lost
   abbrev pub policy_before : ℕ → SecurityPolicy
   policy_before n = policy_of setup (earlier n)
 

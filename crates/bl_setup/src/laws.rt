@@ -2,7 +2,7 @@
 ghost use Rattle.std.specs.Prelude.{◌≡◌, ◌↔◌, ℕ, ◌<◌, Bool, IsTrue, List, slice_get, Some};
 ghost use Rattle.bl_script.specs.declared.work.Work.{Work};
 ghost use Rattle.bl_setup.specs.Headline.{Holds, IsReached, MovesOn};
-ghost use Rattle.bl_setup.specs.Laws.{FollowsItsParent, IsAnswered, IsClosed, KeepsPlaces, LeavesThePolicy, LooksBack, RestsOnEnded, RestsOnLossesBefore};
+ghost use Rattle.bl_setup.specs.Laws.{FollowsItsParent, IsAnswered, IsClosed, KeepsPlaces, LeavesThePolicy, LooksBack, RestsOnEnded, RestsOnLossesBefore, RulesMakeThePolicy, RulesStandAlone};
 ghost use Rattle.bl_setup.specs.Machine.{MayStart, State, may_start};
 ghost use Rattle.bl_setup.specs.Order.{Child, Entry, Setup};
 
@@ -31,6 +31,18 @@ pub fn ended_places_rest_on_ended_places()
 pub fn contents_look_back()
     ensures { (setup : Setup) (lost : ℕ → Bool) (order : List Entry) (doc n : ℕ) →
         LooksBack setup lost order doc n }
+{}
+
+/// The policy goes on from place to place by the rules that are not lost, each as rules change a policy.
+pub fn rules_make_the_policy()
+    ensures { (setup : Setup) (lost : ℕ → Bool) (order : List Entry) (n : ℕ) →
+        RulesMakeThePolicy setup lost order n }
+{}
+
+/// A rule starts only where nothing runs before it, and nothing behind it starts before it has ended: it conflicts with
+/// every task.
+pub fn rules_stand_alone()
+    ensures { RulesStandAlone }
 {}
 
 /// Behaviours change no policy: where no rule stands before a place, what is denied there depends on the setup's policy
