@@ -1,34 +1,35 @@
 -- Which entries may come next, and what runs for them, by what is kept.
 use Rattle.std.proofs.Common.{◌≡◌, ℕ, ◌-◌, ◌<◌, ◌≤◌, true, cond, List, [], ◌∷◌, ◌++◌, length, get_or, refl, sym, ◌∙◌, ap, subst, arith}
-use Rattle.std.specs.Prelude.{All, is_some, nat_lt, ◌&&◌, slice_index_or, Some, None}
+use Rattle.std.specs.Prelude.{is_some, nat_lt, ◌&&◌, slice_index_or, Some, None}
+use Rattle.bl_policy.specs.FirstFault.{first_fault}
+use Rattle.bl_policy.specs.Policy.{SecurityPolicy}
+use Rattle.bl_policy.proofs.Rules.{AsMany}
 use Rattle.std.proofs.lemmas.Bool.Decides.{nat_tests}
 use Rattle.std.proofs.lemmas.List.{get_or_default}
 use Rattle.std.proofs.lemmas.List.Elements.{All-get_or}
 use Rattle.bl_script.specs.Effects.{children}
-use Rattle.bl_script.specs.Script.{IsScript}
+use Rattle.bl_script.specs.declared.work.Work.{Work}
 use Rattle.bl_script.specs.declared.work.Work.TheVariants as work
-use Rattle.bl_setup.specs.Order.{Setup, Runs}
-use Rattle.bl_setup.specs.Past.{at_place, earlier, is_done, subject_of, task_of, child_task, fault_of_task, policy_of, deeds}
+use Rattle.bl_setup.specs.Order.{Setup, Task, accesses_of}
+use Rattle.bl_setup.specs.Past.{at_place, is_done, changed, subject_of, task_of, first_task, child_task, fault_of_task, deeds}
 use Rattle.bl_setup.proofs.Places.{at_place-earlier}
 use Rattle.bl_monitor.specs.declared.monitor.Entry.{Entry}
 use Rattle.bl_monitor.specs.declared.monitor.Entry.TheVariants as entry
 use Rattle.bl_monitor.specs.declared.place.Admitted.{Admitted}
 use Rattle.bl_monitor.specs.declared.place.Place.{Place}
-use Rattle.bl_monitor.specs.Heard.{Heard, is_lost, place_at, IsChild, MayCome, Knows, lost_of, children_of, fault_of, answer_at}
+use Rattle.bl_monitor.specs.Heard.{Heard, is_lost, place_at, IsChild, MayCome, KnowsWork, Knows, lost_of, children_of, fault_of, answer_at}
 use Rattle.bl_monitor.specs.Heard as heard
 use Rattle.bl_monitor.specs.Kept.{spawned_of}
 use Rattle.bl_monitor.specs.Places as kept
-use Rattle.bl_monitor.specs.Places.{no_place, HasChild}
-use Rattle.bl_monitor.specs.Sound.{heard_of, pasts_of, IsRight, Tells, IsSound, CanCome, IsAdmitted}
+use Rattle.bl_monitor.specs.Places.{no_place, script_of, HasScript, HasChild}
+use Rattle.bl_monitor.specs.Sound.{heard_of, pasts_of, policy_at, IsRight, Tells, IsSound, CanCome, IsAdmitted}
 use Rattle.std.proofs.lemmas.List.{map-append}
 use Rattle.bl_monitor.specs.declared.judge.Judged.{Judged}
-use Rattle.bl_monitor.specs.Judging.{IsJudged, IsKnown, content_at}
+use Rattle.bl_monitor.specs.Judging.{HasBelow, IsJudged, IsKnown, content_at}
 use Rattle.bl_monitor.specs.Heard.{KnowsAnswer}
-use Rattle.bl_monitor.proofs.Ids.{fault_ids, answer_ids}
-use Rattle.bl_script.specs.Statements.{Part, no_part}
-use Rattle.bl_policy.specs.declared.access.Access.{Access}
+use Rattle.bl_monitor.proofs.Ids.{task_ids, answer_ids}
 use Rattle.bl_monitor.specs.Texts.{applied}
-use Rattle.bl_monitor.proofs.Keeps.{policy_same, length-mapped, sound_more, answer_more}
+use Rattle.bl_monitor.proofs.Keeps.{as_many_ruled, length-mapped, sound_more, answer_more}
 
 -- what is known of an entry that is admitted
 pub record IsNext (setup : Setup) (places : List Place) (e : Entry) (a : Admitted) : Type 0 where
@@ -38,7 +39,30 @@ pub record IsNext (setup : Setup) (places : List Place) (e : Entry) (a : Admitte
   pub told : kept.entry_of a ≡ heard.entry_of e
   pub lost : a.lost ≡ lost_of e
 
-module _ (setup : Setup) (contents : List (List ℕ)) (places : List Place) (sound : IsSound setup contents places) where
+-- a work whose ids are known, with the first behaviour of its script
+first_ids : (setup : Setup) (w : Work) → KnowsWork setup w → HasScript w → HasBelow (length setup.policy.subjects) (length setup.policy.documents) w 0
+first_ids setup (work.Behaviour script) knows right = (knows, right.preorder.some)
+first_ids setup (work.Rule rule) knows right = knows
+
+-- and with another one
+other_ids : (subjects documents : ℕ) (w : Work) (index behaviour : ℕ) → HasBelow subjects documents w index → (behaviour < length (script_of w))
+    → HasBelow subjects documents w behaviour
+other_ids subjects documents (work.Behaviour script) index behaviour there lt = (there.0, lt)
+other_ids subjects documents (work.Rule rule) index behaviour there lt = there
+
+first_is : (w : Work) → first_task w ≡ child_task (first_task w) 0
+first_is (work.Behaviour script) = refl
+first_is (work.Rule rule) = refl
+
+other_is : (w : Work) (index behaviour : ℕ) → child_task (child_task (first_task w) index) behaviour ≡ child_task (first_task w) behaviour
+other_is (work.Behaviour script) index behaviour = refl
+other_is (work.Rule rule) index behaviour = refl
+
+few_behaviours : (w : Work) → HasScript w → length (script_of w) ≤ 32
+few_behaviours (work.Behaviour script) right = right.few
+few_behaviours (work.Rule rule) right = omega arith
+
+module _ (setup : Setup) (policy : SecurityPolicy) (contents : List (List ℕ)) (places : List Place) (sound : IsSound setup policy contents places) where
   abbrev h : Heard
   h = heard_of setup places
 
@@ -48,12 +72,12 @@ module _ (setup : Setup) (contents : List (List ℕ)) (places : List Place) (sou
   record_at : (k : ℕ) → k < length places → at_place (pasts_of setup places) k ≡ place_at h k
   record_at k lt = at_place-earlier setup (is_lost h) h.order (length places) k lt
 
-  told_at : (k : ℕ) → k < length places → Tells setup (slice_index_or places k no_place) (place_at h k)
-  told_at k lt = subst (Tells setup (slice_index_or places k no_place)) (record_at k lt) (sound.told k lt)
+  told_at : (k : ℕ) → k < length places → Tells setup (policy_at setup places k) (slice_index_or places k no_place) (place_at h k)
+  told_at k lt = subst (Tells setup (policy_at setup places k) (slice_index_or places k no_place)) (record_at k lt) (sound.told k lt)
 
   pub child_is : (parent which : ℕ) → HasChild places parent which → IsChild h parent which
   child_is parent which has =
-      let t : Tells setup (slice_index_or places parent no_place) (place_at h parent) = told_at parent has.behind in
+      let t : Tells setup (policy_at setup places parent) (slice_index_or places parent no_place) (place_at h parent) = told_at parent has.behind in
       record {
         from_one = has.from_one;
         behind = let b : parent < length places = has.behind in omega (arith, as_long);
@@ -65,7 +89,7 @@ module _ (setup : Setup) (contents : List (List ℕ)) (places : List Place) (sou
   child_has parent which is =
       let b : parent < length h.order = is.behind in
       let behind : parent < length places = omega (arith, as_long) in
-      let t : Tells setup (slice_index_or places parent no_place) (place_at h parent) = told_at parent behind in
+      let t : Tells setup (policy_at setup places parent) (slice_index_or places parent no_place) (place_at h parent) = told_at parent behind in
       record {
         behind = behind;
         done = t.ran ∙ is.done;
@@ -82,88 +106,93 @@ module _ (setup : Setup) (contents : List (List ℕ)) (places : List Place) (sou
   can_come (entry.Child parent which lost) may = child_has parent which may
 
   pub admitted_can : (e : Entry) (a : Admitted) → IsAdmitted places e a → CanCome places e
-  admitted_can (entry.Line subject (work.Behaviour script) lost) a is = tt
+  admitted_can (entry.Line subject w lost) a is = tt
   admitted_can (entry.Child parent which lost) a is = is.0
 
-  pub next : (e : Entry) (a : Admitted) → Knows setup e → IsAdmitted places e a → IsScript a.script → IsNext setup places e a
-  next (entry.Line subject (work.Behaviour script) lost) a knows is right = subst (λ b. IsScript b.script → IsNext setup places (entry.Line subject (work.Behaviour script) lost) b) (sym is)
-      (λ (r : IsScript script). record {
-        right = record { subject = knows.0; documents = knows.1; script = r; index = r.preorder.some };
+  pub next : (e : Entry) (a : Admitted) → Knows setup e → IsAdmitted places e a → HasScript a.work → IsNext setup places e a
+  next (entry.Line subject w lost) a knows is right = subst (λ b. HasScript b.work → IsNext setup places (entry.Line subject w lost) b) (sym is)
+      (λ (r : HasScript w). record {
+        right = record { subject = knows.0; ids = first_ids setup w knows.1 r; script = r };
         subject = refl;
-        task = refl;
+        task = first_is w;
         told = refl;
         lost = refl;
       }) right
-  next (entry.Child parent which lost) a knows is right = subst (λ b. IsScript b.script → IsNext setup places (entry.Child parent which lost) b) (sym is.1)
-      (λ (r : IsScript (slice_index_or places parent no_place).admitted.script).
-      let t : Tells setup (slice_index_or places parent no_place) (at_place (pasts_of setup places) parent) = sound.told parent is.0.behind in
+  next (entry.Child parent which lost) a knows is right = subst (λ b. HasScript b.work → IsNext setup places (entry.Child parent which lost) b) (sym is.1)
+      (λ (r : HasScript (slice_index_or places parent no_place).admitted.work).
+      let t : Tells setup (policy_at setup places parent) (slice_index_or places parent no_place) (at_place (pasts_of setup places) parent) = sound.told parent is.0.behind in
       let one : 0 < which = is.0.from_one in
       let most : which ≤ length (spawned_of (slice_index_or places parent no_place).children) = is.0.spawned in
+      let w : Work = (slice_index_or places parent no_place).admitted.work in
       record {
         right = record {
           subject = t.right.subject;
-          documents = t.right.documents;
+          ids = other_ids (length setup.policy.subjects) (length setup.policy.documents) w (slice_index_or places parent no_place).admitted.index
+              (slice_index_or (spawned_of (slice_index_or places parent no_place).children) (which - 1) 0) t.right.ids
+              (subst (λ xs. slice_index_or xs (which - 1) 0 < length (script_of w)) (sym t.spawned)
+              (All-get_or (λ behaviour. behaviour < length (script_of w)) (children (at_place (pasts_of setup places) parent).effects) (which - 1) 0
+              (omega (arith, ap length t.spawned)) t.each));
           script = r;
-          index = subst (λ xs. slice_index_or xs (which - 1) 0 < length (slice_index_or places parent no_place).admitted.script) (sym t.spawned)
-              (All-get_or (λ behaviour. behaviour < length (slice_index_or places parent no_place).admitted.script) (children (at_place (pasts_of setup places) parent).effects) (which - 1) 0
-              (omega (arith, ap length t.spawned)) t.each);
         };
         subject = t.subject;
         task = ap (λ k. child_task k (slice_index_or (children (at_place (pasts_of setup places) parent).effects) (which - 1) 0)) t.task
-            ∙ ap (λ xs. Runs (slice_index_or places parent no_place).admitted.script (slice_index_or xs (which - 1) 0)) (sym t.spawned);
+            ∙ other_is w (slice_index_or places parent no_place).admitted.index (slice_index_or (children (at_place (pasts_of setup places) parent).effects) (which - 1) 0)
+            ∙ ap (λ xs. child_task (first_task w) (slice_index_or xs (which - 1) 0)) (sym t.spawned);
         told = refl;
         lost = refl;
       }) right
 
-  found_at : (n : ℕ) (q : Place) → n < length places → q ≡ get_or places n q → Tells setup q (place_at h n)
-  found_at n q lt is = subst (λ r. Tells setup r (place_at h n)) (sym (is ∙ get_or_default places n q no_place lt)) (told_at n lt)
+  found_at : (n : ℕ) (q : Place) → n < length places → q ≡ get_or places n q → Tells setup (policy_at setup places n) q (place_at h n)
+  found_at n q lt is = subst (λ r. Tells setup (policy_at setup places n) r (place_at h n)) (sym (is ∙ get_or_default places n q no_place lt)) (told_at n lt)
 
   below : (n : ℕ) → n < length places → nat_lt n (length h.order) ≡ true
   below n lt = let le : n < length h.order = omega (arith, as_long) in grind (arith, nat_tests)
 
   pub told_fault : (n : ℕ) (q : Place) → n < length places → q ≡ get_or places n q → q.fault ≡ fault_of h n
   told_fault n q lt is =
-      let t : Tells setup q (place_at h n) = found_at n q lt is in
+      let t : Tells setup (policy_at setup places n) q (place_at h n) = found_at n q lt is in
       t.fault
-      ∙ ap (λ p. fault_of_task p q.admitted.subject (kept.task_of q.admitted)) (sym (policy_same setup (earlier setup (is_lost h) h.order n)))
-      ∙ ap (λ s. fault_of_task (policy_of setup (earlier setup (is_lost h) h.order n)) s (kept.task_of q.admitted)) (sym t.subject)
-      ∙ ap (λ k. fault_of_task (policy_of setup (earlier setup (is_lost h) h.order n)) (place_at h n).subject k) (sym t.task)
-      ∙ ap (λ b. cond b (fault_of_task (policy_of setup (earlier setup (is_lost h) h.order n)) (place_at h n).subject (place_at h n).task) None) (sym (below n lt))
+      ∙ ap (λ s. first_fault (policy_at setup places n) s (accesses_of (kept.task_of q.admitted))) (sym t.subject)
+      ∙ ap (λ (k : Task). first_fault (policy_at setup places n) (place_at h n).subject (accesses_of k)) (sym t.task)
+      ∙ ap (λ b. cond b (first_fault (policy_at setup places n) (place_at h n).subject (accesses_of (place_at h n).task)) None) (sym (below n lt))
 
   pub told_children : (n : ℕ) (q : Place) → n < length places → q ≡ get_or places n q
       → cond (is_some q.children) (Some (length (spawned_of q.children))) None ≡ children_of h n
   told_children n q lt is =
-      let t : Tells setup q (place_at h n) = found_at n q lt is in
+      let t : Tells setup (policy_at setup places n) q (place_at h n) = found_at n q lt is in
       ap (λ b. cond b (Some (length (spawned_of q.children))) None) t.ran
       ∙ ap (λ xs. cond (is_done (place_at h n).answer) (Some (length xs)) None) t.spawned
       ∙ ap (λ b. cond (b && is_done (place_at h n).answer) (Some (length (children (place_at h n).effects))) None) (sym (below n lt))
 
   pub told_few : (n : ℕ) (q : Place) → n < length places → q ≡ get_or places n q → length (spawned_of q.children) ≤ 32
   told_few n q lt is =
-      let t : Tells setup q (place_at h n) = found_at n q lt is in
-      let few : length (children (place_at h n).effects) ≤ length q.admitted.script = t.few in
-      let script : length q.admitted.script ≤ 32 = t.right.script.few in
+      let t : Tells setup (policy_at setup places n) q (place_at h n) = found_at n q lt is in
+      let few : length (children (place_at h n).effects) ≤ length (script_of q.admitted.work) = t.few in
+      let script : length (script_of q.admitted.work) ≤ 32 = few_behaviours q.admitted.work t.right.script in
       omega (arith, ap length t.spawned)
 
+  -- the policy has the setup's subjects and documents
+  pub ruled : AsMany setup.policy policy
+  ruled = subst (AsMany setup.policy) (sym sound.ruled) (as_many_ruled setup (pasts_of setup places))
+
   -- one entry more
-  module _ (e : Entry) (a : Admitted) (j : Judged) (knows : Knows setup e) (is : IsAdmitted places e a) (script : IsScript a.script)
-      (judged : IsJudged setup.policy contents a j) where
+  module _ (e : Entry) (a : Admitted) (j : Judged) (now : SecurityPolicy) (knows : Knows setup e) (is : IsAdmitted places e a) (script : HasScript a.work)
+      (judged : IsJudged a.lost policy contents a.subject (kept.task_of a) j) (made : now ≡ changed j.answer (kept.task_of a) a.subject policy) where
     coming : IsNext setup places e a
     coming = next e a knows is script
 
-    pub next_sound : IsSound setup (applied contents j.changes.items) (places ++ record { admitted = a; fault = j.fault; children = j.children } ∷ [])
-    next_sound = sound_more setup contents places a j sound coming.right coming.subject coming.task judged
+    pub next_sound : IsSound setup now (applied contents j.changes.items) (places ++ record { admitted = a; fault = j.fault; children = j.children } ∷ [])
+    next_sound = sound_more setup policy contents places a j now sound coming.right coming.subject coming.task judged made
 
     pub next_answer : j.answer ≡ answer_at (heard_of setup (places ++ record { admitted = a; fault = j.fault; children = j.children } ∷ [])) (length places)
-    next_answer = answer_more setup contents places a j sound coming.right coming.subject coming.task judged
+    next_answer = answer_more setup policy contents places a j now sound coming.right coming.subject coming.task judged made
 
     pub next_ids : KnowsAnswer setup j.answer
     next_ids =
         let r : IsRight setup a = coming.right in
         subst (KnowsAnswer setup) (sym judged.answer)
-        (answer_ids setup a.lost (fault_of_task setup.policy a.subject (kept.task_of a)) a.script a.index (deeds (kept.task_of a) (content_at contents))
-        (fault_ids setup setup.policy a.subject r.subject (slice_index_or a.script a.index no_part).accesses
-        (All-get_or (λ (part : Part). All (λ (access : Access). access.doc < length setup.policy.documents) part.accesses) a.script a.index no_part r.index r.documents)))
+        (answer_ids setup a.lost (fault_of_task policy a.subject (kept.task_of a)) (kept.task_of a) (deeds (kept.task_of a) (content_at contents))
+        (task_ids setup policy a.subject r.subject a.work a.index r.ids))
 
     pub next_heard : heard_of setup (places ++ record { admitted = a; fault = j.fault; children = j.children } ∷ []) ≡ heard.with_entry h e
     next_heard = λ i. record {
@@ -173,12 +202,12 @@ module _ (setup : Setup) (contents : List (List ℕ)) (places : List Place) (sou
     }
 
   -- what a judge asks for
-  pub next_known : (e : Entry) (a : Admitted) → Knows setup e → IsAdmitted places e a → IsScript a.script → IsKnown setup.policy contents a
+  pub next_known : (e : Entry) (a : Admitted) → Knows setup e → IsAdmitted places e a → HasScript a.work → IsKnown policy contents a
   next_known e a knows is script =
       let n : IsNext setup places e a = next e a knows is script in
       record {
-        subject = n.right.subject;
-        documents = n.right.documents;
-        as_many = sym sound.agree.documents ∙ sound.agree.contents ∙ sym sound.as_many;
-        index = n.right.index;
+        subject = subst (λ count. a.subject < count) (sym ruled.subjects) n.right.subject;
+        ids = subst (λ count. HasBelow count (length policy.documents) a.work a.index) (sym ruled.subjects)
+            (subst (λ count. HasBelow (length setup.policy.subjects) count a.work a.index) (sym ruled.documents) n.right.ids);
+        as_many = ruled.documents ∙ sym sound.agree.documents ∙ sound.agree.contents ∙ sym sound.as_many;
       }

@@ -1,39 +1,51 @@
 -- A monitor stays sound by one entry more, and answers it as the definitions of the order say.
 use Rattle.std.proofs.Common.{◌≡◌, ℕ, zero, suc, ◌<◌, Bool, true, false, cond, List, [], ◌∷◌, ◌++◌, length, get_or, refl, sym, ◌∙◌, ap, subst, arith, ◌⊎◌, inl, inr, length-append, add-one}
-use Rattle.std.specs.Prelude.{◌==◌, ◌&&◌, ◌||◌, All, map, slice_index_or}
+use Rattle.std.specs.Prelude.{◌==◌, ◌&&◌, ◌||◌, ◌≤◌, All, map, slice_index_or}
 use mathlib.Core.Path.{fun_ext}
 use Rattle.std.proofs.Math.ListN.{get_or-append}
 use Rattle.std.proofs.lemmas.Bool.Decides.{eqb_tells}
 use Rattle.std.proofs.lemmas.List.{map-append}
 use Rattle.std.proofs.lemmas.List.Elements.{All-head, All-tail, All-get_or}
 use Rattle.bl_policy.specs.Policy.{SecurityPolicy}
+use Rattle.bl_policy.specs.RuleEffect.{after_rule}
+use Rattle.bl_policy.proofs.Rules.{AsMany, as_many-after}
 use Rattle.bl_policy.specs.declared.access.Access.{Access}
 use Rattle.bl_script.specs.Effects.{Effect, after, effects_of}
 use Rattle.bl_script.specs.Statements.{Part, no_part}
 use Rattle.bl_script.specs.declared.answer.Answer.{Answer}
-use Rattle.bl_setup.specs.Order.{Setup, Entry, Task, Runs, accesses_of, is_declared, is_altered}
-use Rattle.bl_setup.specs.Past.{Past, at_place, changed, policy_of, content_of, earlier, place, past_of, judged, deeds, lent, is_done, subject_of, task_of, no_entry}
+use Rattle.bl_script.specs.declared.work.Work.{Work}
+use Rattle.bl_script.specs.declared.work.Work.TheVariants as work
+use Rattle.bl_setup.specs.Order.{Setup, Entry, Task, Runs, Applies, accesses_of, is_declared, is_altered}
+use Rattle.bl_setup.specs.Past.{Past, at_place, was_lost, changed, policy_of, content_of, earlier, place, past_of, judged, deeds, lent, is_done, subject_of, task_of, first_task, child_task, no_entry}
 use Rattle.bl_setup.proofs.Places.{earlier-grown}
 use Rattle.bl_setup.proofs.PlaceLaws.{earlier-lost}
 use Rattle.bl_monitor.specs.declared.place.Admitted.{Admitted}
 use Rattle.bl_monitor.specs.declared.place.Place.{Place}
 use Rattle.bl_monitor.specs.declared.judge.Judged.{Judged}
 use Rattle.bl_monitor.specs.Heard.{Heard, is_lost}
-use Rattle.bl_monitor.specs.Judging.{AreBelow, content_at, record_of, IsJudged}
+use Rattle.bl_monitor.specs.Judging.{AreBelow, HasBelow, content_at, record_of, IsJudged}
 use Rattle.bl_monitor.specs.Places as kept
-use Rattle.bl_monitor.specs.Places.{no_place}
-use Rattle.bl_monitor.specs.Sound.{heard_of, pasts_of, IsRight, Tells, IsSound}
+use Rattle.bl_monitor.specs.Places.{no_place, script_of, HasScript}
+use Rattle.bl_monitor.specs.Sound.{heard_of, pasts_of, policy_at, IsRight, Tells, IsSound}
 use Rattle.bl_monitor.specs.Texts.{applied}
 use Rattle.bl_monitor.proofs.Spawns.{Spawns, spawns, no_spawns}
 use Rattle.bl_monitor.proofs.Changes.{length-applied}
 
--- behaviours leave the policy as it was
-changed_same : (a : Answer) (t : Task) (s : ℕ) (p : SecurityPolicy) → changed a t s p ≡ p
-changed_same a (Runs script index) s p = refl
+-- no task adds or drops a subject or a document
+as_many_changed : (a : Answer) (t : Task) (s : ℕ) (p : SecurityPolicy) → AsMany p (changed a t s p)
+as_many_changed a (Runs script index) s p = record { subjects = refl; documents = refl }
+as_many_changed a (Applies rule) s p = go (was_lost a)
+  where
+    go : (b : Bool) → AsMany p (cond b p (after_rule p s rule))
+    go true = record { subjects = refl; documents = refl }
+    go false = as_many-after p s rule
 
-pub policy_same : (setup : Setup) (pasts : List Past) → policy_of setup pasts ≡ setup.policy
-policy_same setup [] = refl
-policy_same setup (p ∷ pasts) = changed_same p.answer p.task p.subject (policy_of setup pasts) ∙ policy_same setup pasts
+pub as_many_ruled : (setup : Setup) (pasts : List Past) → AsMany setup.policy (policy_of setup pasts)
+as_many_ruled setup [] = record { subjects = refl; documents = refl }
+as_many_ruled setup (p ∷ pasts) =
+    let before : AsMany setup.policy (policy_of setup pasts) = as_many_ruled setup pasts in
+    let now : AsMany (policy_of setup pasts) (changed p.answer p.task p.subject (policy_of setup pasts)) = as_many_changed p.answer p.task p.subject (policy_of setup pasts) in
+    record { subjects = now.subjects ∙ before.subjects; documents = now.documents ∙ before.documents }
 
 pub length-pasts : (setup : Setup) (lost : ℕ → Bool) (order : List Entry) (n : ℕ) → length (earlier setup lost order n) ≡ n
 length-pasts setup lost order zero = refl
@@ -78,38 +90,43 @@ module _ (setup : Setup) (places : List Place) (p : Place) where
   abbrev next_past : Past
   next_past = past_of setup p.admitted.lost pasts (kept.entry_of p.admitted)
 
+  abbrev lost' : ℕ → Bool
+  lost' = is_lost (heard_of setup more)
+
+  abbrev order' : List Entry
+  order' = (heard_of setup more).order
+
+  order_grows : order' ≡ heard.order ++ kept.entry_of p.admitted ∷ []
+  order_grows = map-append (λ (q : Place). kept.entry_of q.admitted) places (p ∷ [])
+
+  lost_grows : (heard_of setup more).lost ≡ heard.lost ++ p.admitted.lost ∷ []
+  lost_grows = map-append (λ (q : Place). q.admitted.lost) places (p ∷ [])
+
   -- the places before the new one keep their records
-  pub pasts_more : pasts_of setup more ≡ next_past ∷ pasts
-  pasts_more =
-      ap (λ n. earlier setup lost' order' n) (length-append places (p ∷ []) ∙ add-one (length places))
-      ∙ ap (λ h. past_of setup (lost' (length places)) h (get_or order' (length places) no_entry) ∷ h) before
-      ∙ ap (λ b. past_of setup b pasts (get_or order' (length places) no_entry) ∷ pasts) lost_here
-      ∙ ap (λ e. past_of setup p.admitted.lost pasts e ∷ pasts) entry_here
+  earlier_more : (n : ℕ) → n ≤ length places → earlier setup lost' order' n ≡ earlier setup (is_lost heard) heard.order n
+  earlier_more n le =
+      earlier-lost setup lost' (is_lost heard) order' n (λ k lt. lost_before k (omega arith))
+      ∙ ap (λ o. earlier setup (is_lost heard) o n) order_grows
+      ∙ earlier-grown setup (is_lost heard) heard.order (kept.entry_of p.admitted ∷ []) n
+      (omega (arith, length-mapped (λ (q : Place). kept.entry_of q.admitted) places))
     where
-      lost' : ℕ → Bool
-      lost' = is_lost (heard_of setup more)
-
-      order' : List Entry
-      order' = (heard_of setup more).order
-
-      order_grows : order' ≡ heard.order ++ kept.entry_of p.admitted ∷ []
-      order_grows = map-append (λ (q : Place). kept.entry_of q.admitted) places (p ∷ [])
-
-      lost_grows : (heard_of setup more).lost ≡ heard.lost ++ p.admitted.lost ∷ []
-      lost_grows = map-append (λ (q : Place). q.admitted.lost) places (p ∷ [])
-
       lost_before : (k : ℕ) → k < length places → lost' k ≡ is_lost heard k
       lost_before k lt =
           ap (λ l. get_or l k false) lost_grows
           ∙ get_or-append heard.lost (p.admitted.lost ∷ []) false k (omega (arith, length-mapped (λ (q : Place). q.admitted.lost) places))
 
-      before : earlier setup lost' order' (length places) ≡ pasts
-      before =
-          earlier-lost setup lost' (is_lost heard) order' (length places) lost_before
-          ∙ ap (λ o. earlier setup (is_lost heard) o (length places)) order_grows
-          ∙ earlier-grown setup (is_lost heard) heard.order (kept.entry_of p.admitted ∷ []) (length places)
-          (omega (arith, length-mapped (λ (q : Place). kept.entry_of q.admitted) places))
+  -- and so they find the same policy
+  pub policy_more : (n : ℕ) → n ≤ length places → policy_at setup more n ≡ policy_at setup places n
+  policy_more n le = ap (policy_of setup) (earlier_more n le)
 
+  -- the new place stands behind them
+  pub pasts_more : pasts_of setup more ≡ next_past ∷ pasts
+  pasts_more =
+      ap (λ n. earlier setup lost' order' n) (length-append places (p ∷ []) ∙ add-one (length places))
+      ∙ ap (λ h. past_of setup (lost' (length places)) h (get_or order' (length places) no_entry) ∷ h) (earlier_more (length places) (omega arith))
+      ∙ ap (λ b. past_of setup b pasts (get_or order' (length places) no_entry) ∷ pasts) lost_here
+      ∙ ap (λ e. past_of setup p.admitted.lost pasts e ∷ pasts) entry_here
+    where
       lost_here : lost' (length places) ≡ p.admitted.lost
       lost_here =
           ap (λ l. get_or l (length places) false) lost_grows
@@ -138,49 +155,78 @@ declared : (count : ℕ) (script : List Part) (index : ℕ) → AreBelow count s
     → All (λ (a : Access). a.doc < count) (slice_index_or script index no_part).accesses
 declared count script index all lt = All-get_or (λ (part : Part). All (λ (a : Access). a.doc < count) part.accesses) script index no_part lt all
 
+-- what is done rests on the contents of the documents that are there
+same_deeds : (subjects count : ℕ) (w : Work) (index : ℕ) (f g : ℕ → List ℕ) → HasBelow subjects count w index → ((doc : ℕ) → doc < count → f doc ≡ g doc)
+    → deeds (child_task (first_task w) index) f ≡ deeds (child_task (first_task w) index) g
+same_deeds subjects count (work.Behaviour script) index f g there same =
+    ap (λ c. effects_of c (slice_index_or script index no_part).body)
+    (fun_ext (same_lent count (slice_index_or script index no_part).accesses f g (declared count script index there.0 there.1) same))
+same_deeds subjects count (work.Rule rule) index f g there same = refl
+
 -- the record of an entry, by what is kept
-pub same_past : (setup : Setup) (contents : List (List ℕ)) (pasts : List Past) (a : Admitted) → IsRight setup a
+pub same_past : (setup : Setup) (policy : SecurityPolicy) (contents : List (List ℕ)) (pasts : List Past) (a : Admitted) → IsRight setup a
+    → policy ≡ policy_of setup pasts
     → length setup.policy.documents ≡ length contents
     → ((doc : ℕ) → doc < length contents → content_at contents doc ≡ content_of setup pasts doc)
     → subject_of pasts (kept.entry_of a) ≡ a.subject → task_of pasts (kept.entry_of a) ≡ kept.task_of a
-    → past_of setup a.lost pasts (kept.entry_of a) ≡ record_of setup.policy contents a
-same_past setup contents pasts a right many same subject task =
+    → past_of setup a.lost pasts (kept.entry_of a) ≡ record_of a.lost policy contents a.subject (kept.task_of a)
+same_past setup policy contents pasts a right ruled many same subject task =
     ap (λ t. judged a.lost (policy_of setup pasts) (deeds t (content_of setup pasts)) (subject_of pasts (kept.entry_of a)) t) task
     ∙ ap (λ s. judged a.lost (policy_of setup pasts) (deeds (kept.task_of a) (content_of setup pasts)) s (kept.task_of a)) subject
-    ∙ ap (λ p. judged a.lost p (deeds (kept.task_of a) (content_of setup pasts)) a.subject (kept.task_of a)) (policy_same setup pasts)
-    ∙ ap (λ f. judged a.lost setup.policy (effects_of f (slice_index_or a.script a.index no_part).body) a.subject (kept.task_of a))
-    (fun_ext (same_lent (length setup.policy.documents) (slice_index_or a.script a.index no_part).accesses (content_of setup pasts) (content_at contents)
-    (declared (length setup.policy.documents) a.script a.index right.documents right.index)
-    (λ doc lt. sym (same doc (omega arith)))))
+    ∙ ap (λ p. judged a.lost p (deeds (kept.task_of a) (content_of setup pasts)) a.subject (kept.task_of a)) (sym ruled)
+    ∙ ap (λ es. judged a.lost policy es a.subject (kept.task_of a))
+    (same_deeds (length setup.policy.subjects) (length setup.policy.documents) a.work a.index (content_of setup pasts) (content_at contents) right.ids
+    (λ doc lt. sym (same doc (omega arith))))
+
+-- what is done spawns behaviours of its script
+work_spawns : (subjects documents : ℕ) (w : Work) (index : ℕ) (contents : ℕ → List ℕ) → HasScript w → HasBelow subjects documents w index
+    → Spawns (script_of w) (deeds (child_task (first_task w) index) contents)
+work_spawns subjects documents (work.Behaviour script) index contents right there = spawns script index _ right there.1
+work_spawns subjects documents (work.Rule rule) index contents right there = no_spawns []
 
 -- what ran or did not spawns behaviours of its script
 record_spawns : (b : Bool) (effects : List Effect) (script : List Part) → Spawns script effects → Spawns script (cond b effects [])
 record_spawns true effects script s = s
 record_spawns false effects script s = no_spawns script
 
-module _ (setup : Setup) (contents : List (List ℕ)) (places : List Place) (a : Admitted) (j : Judged) (sound : IsSound setup contents places) (right : IsRight setup a)
+module _ (setup : Setup) (policy : SecurityPolicy) (contents : List (List ℕ)) (places : List Place) (a : Admitted) (j : Judged) (now : SecurityPolicy)
+    (sound : IsSound setup policy contents places) (right : IsRight setup a)
     (subject : subject_of (pasts_of setup places) (kept.entry_of a) ≡ a.subject)
     (task : task_of (pasts_of setup places) (kept.entry_of a) ≡ kept.task_of a)
-    (is : IsJudged setup.policy contents a j) where
+    (is : IsJudged a.lost policy contents a.subject (kept.task_of a) j)
+    (made : now ≡ changed j.answer (kept.task_of a) a.subject policy) where
   abbrev added_place : Place
   added_place = record { admitted = a; fault = j.fault; children = j.children }
+
+  abbrev added_past : Past
+  added_past = record_of a.lost policy contents a.subject (kept.task_of a)
 
   many : length setup.policy.documents ≡ length contents
   many = sym sound.agree.documents ∙ sound.agree.contents ∙ sym sound.as_many
 
-  next_is : past_of setup a.lost (pasts_of setup places) (kept.entry_of a) ≡ record_of setup.policy contents a
-  next_is = same_past setup contents (pasts_of setup places) a right many sound.current subject task
+  next_is : past_of setup a.lost (pasts_of setup places) (kept.entry_of a) ≡ added_past
+  next_is = same_past setup policy contents (pasts_of setup places) a right sound.ruled many sound.current subject task
 
-  pasts_are : pasts_of setup (places ++ added_place ∷ []) ≡ record_of setup.policy contents a ∷ pasts_of setup places
+  pasts_are : pasts_of setup (places ++ added_place ∷ []) ≡ added_past ∷ pasts_of setup places
   pasts_are = pasts_more setup places added_place ∙ ap (λ q. q ∷ pasts_of setup places) next_is
 
   -- the answer
   pub answer_more : j.answer ≡ (place setup (is_lost (heard_of setup (places ++ added_place ∷ []))) (heard_of setup (places ++ added_place ∷ [])).order (length places)).answer
   answer_more = is.answer ∙ ap (λ (q : Past). q.answer) (sym (place_more setup places added_place ∙ next_is))
 
-  here : Tells setup added_place (record_of setup.policy contents a)
+  -- the policy
+  ruled_more : now ≡ policy_of setup (pasts_of setup (places ++ added_place ∷ []))
+  ruled_more =
+      made
+      ∙ ap (λ b. changed b (kept.task_of a) a.subject policy) is.answer
+      ∙ ap (changed added_past.answer (kept.task_of a) a.subject) sound.ruled
+      ∙ ap (policy_of setup) (sym pasts_are)
+
+  here : Tells setup policy added_place added_past
   here =
-      let s : Spawns a.script (children_effects) = record_spawns (is_done (record_of setup.policy contents a).answer) (deeds (kept.task_of a) (content_at contents)) a.script (spawns a.script a.index _ right.script right.index) in
+      let s : Spawns (script_of a.work) added_past.effects =
+      record_spawns (is_done added_past.answer) (deeds (kept.task_of a) (content_at contents)) (script_of a.work)
+      (work_spawns (length setup.policy.subjects) (length setup.policy.documents) a.work a.index (content_at contents) right.script right.ids) in
       record {
         right = right;
         subject = refl;
@@ -191,34 +237,36 @@ module _ (setup : Setup) (contents : List (List ℕ)) (places : List Place) (a :
         each = s.each;
         few = s.few;
       }
-    where
-      children_effects : List Effect
-      children_effects = (record_of setup.policy contents a).effects
 
-  pub sound_more : IsSound setup (applied contents j.changes.items) (places ++ added_place ∷ [])
+  pub sound_more : IsSound setup now (applied contents j.changes.items) (places ++ added_place ∷ [])
   sound_more = record {
     agree = sound.agree;
+    ruled = ruled_more;
     as_many = length-applied contents j.changes.items ∙ sound.as_many;
     current = λ doc lt.
         is.changes.left doc (omega (arith, length-applied contents j.changes.items))
-        ∙ ap (λ t. cond (is_done (record_of setup.policy contents a).answer && is_altered (accesses_of (kept.task_of a)) doc) (after t (record_of setup.policy contents a).effects doc) t)
+        ∙ ap (λ t. cond (is_done added_past.answer && is_altered (accesses_of (kept.task_of a)) doc) (after t added_past.effects doc) t)
         (sound.current doc (omega (arith, length-applied contents j.changes.items)))
         ∙ ap (λ h. content_of setup h doc) (sym pasts_are);
-    told = λ k lt. go k lt (eqb_tells k (length (pasts_of setup places)));
+    told = λ k lt.
+        subst (λ p. Tells setup p (get_or (places ++ added_place ∷ []) k no_place) (at_place (pasts_of setup (places ++ added_place ∷ [])) k))
+        (sym (policy_more setup places added_place k (omega (arith, length-append places (added_place ∷ [])))))
+        (go k lt (eqb_tells k (length (pasts_of setup places))));
   }
     where
       count : length (pasts_of setup places) ≡ length places
       count = length-pasts setup (is_lost (heard_of setup places)) (heard_of setup places).order (length places)
 
       go : (k : ℕ) → k < length (places ++ added_place ∷ []) → (((k == length (pasts_of setup places)) ≡ true) × (k ≡ length (pasts_of setup places))) ⊎ (((k == length (pasts_of setup places)) ≡ false) × (k ≡ length (pasts_of setup places) → ⊥))
-          → Tells setup (get_or (places ++ added_place ∷ []) k no_place) (at_place (pasts_of setup (places ++ added_place ∷ [])) k)
+          → Tells setup (policy_at setup places k) (get_or (places ++ added_place ∷ []) k no_place) (at_place (pasts_of setup (places ++ added_place ∷ [])) k)
       go k lt (inl e) =
-          subst (λ h. Tells setup (get_or (places ++ added_place ∷ []) k no_place) (at_place h k)) (sym pasts_are)
-          (subst (λ b. Tells setup (get_or (places ++ added_place ∷ []) k no_place) (cond b (record_of setup.policy contents a) (at_place (pasts_of setup places) k))) (sym e.0)
-          (subst (λ n. Tells setup (get_or (places ++ added_place ∷ []) n no_place) (record_of setup.policy contents a)) (sym (e.1 ∙ count))
-          (subst (λ q. Tells setup q (record_of setup.policy contents a)) (sym (last places added_place no_place)) here)))
+          subst (λ h. Tells setup (policy_at setup places k) (get_or (places ++ added_place ∷ []) k no_place) (at_place h k)) (sym pasts_are)
+          (subst (λ b. Tells setup (policy_at setup places k) (get_or (places ++ added_place ∷ []) k no_place) (cond b added_past (at_place (pasts_of setup places) k))) (sym e.0)
+          (subst (λ n. Tells setup (policy_at setup places n) (get_or (places ++ added_place ∷ []) n no_place) added_past) (sym (e.1 ∙ count))
+          (subst (λ q. Tells setup (policy_at setup places (length places)) q added_past) (sym (last places added_place no_place))
+          (subst (λ p. Tells setup p added_place added_past) sound.ruled here))))
       go k lt (inr e) =
           let before : k < length places = omega (arith, e.1, count, length-append places (added_place ∷ [])) in
-          subst (λ h. Tells setup (get_or (places ++ added_place ∷ []) k no_place) (at_place h k)) (sym pasts_are)
-          (subst (λ b. Tells setup (get_or (places ++ added_place ∷ []) k no_place) (cond b (record_of setup.policy contents a) (at_place (pasts_of setup places) k))) (sym e.0)
-          (subst (λ q. Tells setup q (at_place (pasts_of setup places) k)) (sym (get_or-append places (added_place ∷ []) no_place k before)) (sound.told k before)))
+          subst (λ h. Tells setup (policy_at setup places k) (get_or (places ++ added_place ∷ []) k no_place) (at_place h k)) (sym pasts_are)
+          (subst (λ b. Tells setup (policy_at setup places k) (get_or (places ++ added_place ∷ []) k no_place) (cond b added_past (at_place (pasts_of setup places) k))) (sym e.0)
+          (subst (λ q. Tells setup (policy_at setup places k) q (at_place (pasts_of setup places) k)) (sym (get_or-append places (added_place ∷ []) no_place k before)) (sound.told k before)))

@@ -1,14 +1,16 @@
 -- What a monitor has been told, and what the definitions of the order say of it.
 use Rattle.std.specs.Prelude.{◌≡◌, ℕ, ◌<◌, ◌≤◌, Bool, true, false, ◌&&◌, if◌then◌else◌, nat_lt, List, [], ◌∷◌, ◌++◌, length, slice_index_or, Option, Some, None, ⊤, IfSome}
+use Rattle.bl_policy.specs.FirstFault.{first_fault}
+use Rattle.bl_policy.specs.Policy.{SecurityPolicy}
+use Rattle.bl_policy.specs.RuleEffect.{IsRuleOf}
 use Rattle.bl_policy.specs.declared.denial.Denial.{Denial}
 use Rattle.bl_script.specs.declared.answer.Answer.{Answer}
 use Rattle.bl_script.specs.declared.answer.Answer.TheVariants as answer
 use Rattle.bl_script.specs.declared.work.Work.{Work}
 use Rattle.bl_script.specs.declared.work.Work.TheVariants as work
 use Rattle.bl_setup.specs.Order as order
-use Rattle.bl_setup.specs.Order.{Setup}
-use Rattle.bl_setup.specs.Past.{Past, place, is_done}
-use Rattle.bl_setup.specs.Laws.{fault_at}
+use Rattle.bl_setup.specs.Order.{Setup, accesses_of}
+use Rattle.bl_setup.specs.Past.{Past, place, policy_before, is_done}
 use Rattle.bl_setup.specs.Legal.{child_count}
 use Rattle.bl_monitor.specs.Judging.{AreBelow}
 use Rattle.bl_monitor.specs.declared.monitor.Entry.{Entry}
@@ -48,6 +50,7 @@ with_entry heard e = record heard { order = heard.order ++ entry_of e ∷ []; lo
 -- the ids of a work are in the setup
 abbrev pub KnowsWork : Setup → Work → Type 0
 KnowsWork setup (work.Behaviour script) = AreBelow (length setup.policy.documents) script
+KnowsWork setup (work.Rule rule) = IsRuleOf setup.policy rule
 
 -- the subject and the document of a denial are in the setup
 pub record KnowsDenial (setup : Setup) (denial : Denial) : Type 0 where
@@ -57,6 +60,7 @@ pub record KnowsDenial (setup : Setup) (denial : Denial) : Type 0 where
 -- the ids that an answer names are in the setup
 abbrev pub KnowsAnswer : Setup → Answer → Type 0
 KnowsAnswer setup (answer.Done outputs) = ⊤
+KnowsAnswer setup answer.RuleDone = ⊤
 KnowsAnswer setup (answer.Denied denial) = KnowsDenial setup denial
 KnowsAnswer setup answer.Lost = ⊤
 
@@ -84,6 +88,13 @@ children_of heard n =
     then Some (child_count heard.setup (is_lost heard) heard.order n)
     else None
 
--- what the policy had against an entry at its place
+-- PolicyAt, of the place of an entry
+abbrev pub policy_at : Heard → ℕ → SecurityPolicy
+policy_at heard n = policy_before heard.setup (is_lost heard) heard.order n
+
+-- FirstFault of the accesses that an entry declares, at its place: a rule declares none, and has no fault of an access
 abbrev pub fault_of : Heard → ℕ → Option Denial
-fault_of heard n = if nat_lt n (length heard.order) then fault_at heard.setup (is_lost heard) heard.order n else None
+fault_of heard n =
+    if nat_lt n (length heard.order)
+    then first_fault (policy_at heard n) (place_at heard n).subject (accesses_of (place_at heard n).task)
+    else None

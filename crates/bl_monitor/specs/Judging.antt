@@ -1,16 +1,19 @@
 -- What comes of an entry.
-use Rattle.std.specs.Prelude.{◌≡◌, ℕ, ◌<◌, ◌&&◌, if◌then◌else◌, List, [], length, All, Option, None, is_some, true, slice_index_or}
+use Rattle.std.specs.Prelude.{◌≡◌, ℕ, ◌<◌, Bool, ◌&&◌, if◌then◌else◌, List, [], length, All, Option, None, is_some, true, slice_index_or}
+use Rattle.bl_policy.specs.FirstFault.{first_fault}
 use Rattle.bl_policy.specs.Policy.{SecurityPolicy}
+use Rattle.bl_policy.specs.RuleEffect.{HasIdsBelow}
 use Rattle.bl_policy.specs.declared.access.Access.{Access}
 use Rattle.bl_policy.specs.declared.denial.Denial.{Denial}
 use Rattle.bl_script.specs.Effects.{Effect, effects_of, after, outputs, children}
 use Rattle.bl_script.specs.Statements.{Statements, Part}
 use Rattle.bl_script.specs.declared.answer.Answer.{Answer}
 use Rattle.bl_script.specs.declared.answer.Answer.TheVariants as answer
-use Rattle.bl_setup.specs.Order.{accesses_of, is_altered}
-use Rattle.bl_setup.specs.Past.{Past, judged, deeds, lent, fault_of_task, is_done}
+use Rattle.bl_script.specs.declared.work.Work.{Work}
+use Rattle.bl_script.specs.declared.work.Work.TheVariants as work
+use Rattle.bl_setup.specs.Order.{Task, accesses_of, is_altered}
+use Rattle.bl_setup.specs.Past.{Past, judged, deeds, lent, is_done}
 use Rattle.bl_monitor.specs.Kept.{spawned_of}
-use Rattle.bl_monitor.specs.Places.{task_of}
 use Rattle.bl_monitor.specs.Texts.{applied}
 use Rattle.bl_monitor.specs.declared.run.Text.{Text}
 use Rattle.bl_monitor.specs.declared.place.Admitted.{Admitted}
@@ -20,12 +23,16 @@ use Rattle.bl_monitor.specs.declared.judge.Judged.{Judged}
 abbrev pub AreBelow : ℕ → List Part → Type 0
 AreBelow documents script = All (λ (part : Part). All (λ (access : Access). access.doc < documents) part.accesses) script
 
+-- the ids of a work are below these counts, and its script has the behaviour
+abbrev pub HasBelow : ℕ → ℕ → Work → ℕ → Type 0
+HasBelow subjects documents (work.Behaviour script) index = AreBelow documents script × (index < length script)
+HasBelow subjects documents (work.Rule rule) index = HasIdsBelow subjects documents rule
+
 -- the ids of an entry are there, and its script has the behaviour
 pub record IsKnown (policy : SecurityPolicy) (contents : List (List ℕ)) (admitted : Admitted) : Type 0 where
   pub subject : admitted.subject < length policy.subjects
-  pub documents : AreBelow (length policy.documents) admitted.script
+  pub ids : HasBelow (length policy.subjects) (length policy.documents) admitted.work admitted.index
   pub as_many : length policy.documents ≡ length contents
-  pub index : admitted.index < length admitted.script
 
 -- a list as a content of each document
 abbrev pub content_at : List (List ℕ) → ℕ → List ℕ
@@ -54,15 +61,14 @@ pub record IsIdle (given : Answer) (found : Option Denial) (j : Judged) : Type 0
   pub ran : j.children ≡ None
   pub changes : j.changes.items ≡ []
 
--- the record of an entry under a policy and contents
-abbrev pub record_of : SecurityPolicy → List (List ℕ) → Admitted → Past
-record_of policy contents admitted =
-    judged admitted.lost policy (deeds (task_of admitted) (content_at contents)) admitted.subject (task_of admitted)
+-- the record of a task, by whether it is lost, the policy, the contents and who speaks
+abbrev pub record_of : Bool → SecurityPolicy → List (List ℕ) → ℕ → Task → Past
+record_of lost policy contents subject task = judged lost policy (deeds task (content_at contents)) subject task
 
--- what comes of the entry is what its record says
-pub record IsJudged (policy : SecurityPolicy) (contents : List (List ℕ)) (admitted : Admitted) (j : Judged) : Type 0 where
-  pub answer : j.answer ≡ (record_of policy contents admitted).answer
-  pub fault : j.fault ≡ fault_of_task policy admitted.subject (task_of admitted)
-  pub ran : is_some j.children ≡ is_done (record_of policy contents admitted).answer
-  pub spawned : spawned_of j.children ≡ children (record_of policy contents admitted).effects
-  pub changes : Changes contents (λ doc. if is_done (record_of policy contents admitted).answer && is_altered (accesses_of (task_of admitted)) doc then after (content_at contents doc) (record_of policy contents admitted).effects doc else content_at contents doc) j.changes.items
+-- What comes of a task is what its record says. Own choice: of a rule no fault is kept, since it declares no access.
+pub record IsJudged (lost : Bool) (policy : SecurityPolicy) (contents : List (List ℕ)) (subject : ℕ) (task : Task) (j : Judged) : Type 0 where
+  pub answer : j.answer ≡ (record_of lost policy contents subject task).answer
+  pub fault : j.fault ≡ first_fault policy subject (accesses_of task)
+  pub ran : is_some j.children ≡ is_done (record_of lost policy contents subject task).answer
+  pub spawned : spawned_of j.children ≡ children (record_of lost policy contents subject task).effects
+  pub changes : Changes contents (λ doc. if is_done (record_of lost policy contents subject task).answer && is_altered (accesses_of task) doc then after (content_at contents doc) (record_of lost policy contents subject task).effects doc else content_at contents doc) j.changes.items

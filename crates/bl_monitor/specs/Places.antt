@@ -1,8 +1,11 @@
 -- What is kept of a place.
-use Rattle.std.specs.Prelude.{◌≡◌, ℕ, ◌<◌, ◌≤◌, true, false, List, [], None, is_some, length, slice_index_or}
-use Rattle.bl_script.specs.declared.work.Work.TheVariants as work
+use Rattle.std.specs.Prelude.{◌≡◌, ℕ, ◌<◌, ◌≤◌, true, false, List, [], None, is_some, length, slice_index_or, ⊤}
+use Rattle.bl_script.specs.Script.{IsScript}
 use Rattle.bl_script.specs.Statements.{Part}
+use Rattle.bl_script.specs.declared.work.Work.{Work}
+use Rattle.bl_script.specs.declared.work.Work.TheVariants as work
 use Rattle.bl_setup.specs.Order as order
+use Rattle.bl_setup.specs.Past.{first_task, child_task}
 use Rattle.bl_monitor.specs.Kept.{spawned_of}
 use Rattle.bl_monitor.specs.declared.place.Origin.{Origin}
 use Rattle.bl_monitor.specs.declared.place.Origin.TheVariants as origin
@@ -12,22 +15,33 @@ use Rattle.bl_monitor.specs.declared.place.Place.{Place}
 -- what stands where there is no such place
 abbrev pub no_place : Place
 no_place = record {
-  admitted = record { origin = origin.Line; lost = false; subject = 0; script = []; index = 0 };
+  admitted = record { origin = origin.Line; lost = false; subject = 0; work = work.Behaviour []; index = 0 };
   fault = None;
   children = None;
 }
 
+-- the behaviours of a work: a rule has none
+abbrev pub script_of : Work → List Part
+script_of (work.Behaviour script) = script
+script_of (work.Rule rule) = []
+
+-- the script of a work, where it has one, is in pre-order, and what more a script keeps
+abbrev pub HasScript : Work → Type 0
+HasScript (work.Behaviour script) = IsScript script
+HasScript (work.Rule rule) = ⊤
+
 -- own choice: the session and the ordinal of a line bear on no answer, and are seen as 0
-abbrev pub entry_from : Origin → ℕ → List Part → order.Entry
-entry_from origin.Line subject script = order.Line 0 0 subject (work.Behaviour script)
-entry_from (origin.Child parent which) subject script = order.Child parent which
+abbrev pub entry_from : Origin → ℕ → Work → order.Entry
+entry_from origin.Line subject its_work = order.Line 0 0 subject its_work
+entry_from (origin.Child parent which) subject its_work = order.Child parent which
 
 -- the entry that was admitted
 abbrev pub entry_of : Admitted → order.Entry
-entry_of admitted = entry_from admitted.origin admitted.subject admitted.script
+entry_of admitted = entry_from admitted.origin admitted.subject admitted.work
 
+-- what is to be done for it: its rule, or this behaviour of its script
 abbrev pub task_of : Admitted → order.Task
-task_of admitted = order.Runs admitted.script admitted.index
+task_of admitted = child_task (first_task admitted.work) admitted.index
 
 -- the parent's place was done with so many children at least
 pub record HasChild (places : List Place) (parent which : ℕ) : Type 0 where

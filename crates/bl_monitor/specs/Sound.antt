@@ -1,15 +1,15 @@
 -- What a monitor keeps.
 use Rattle.std.specs.Prelude.{◌≡◌, ℕ, ◌-◌, ◌<◌, ◌≤◌, List, length, map, slice_index_or, is_some, All}
 use Rattle.bl_script.specs.Effects.{children}
-use Rattle.bl_script.specs.Script.{IsScript}
+use Rattle.bl_policy.specs.FirstFault.{first_fault}
+use Rattle.bl_policy.specs.Policy.{SecurityPolicy}
 use Rattle.bl_setup.specs.Agreement.{Agree}
-use Rattle.bl_setup.specs.Order.{Setup}
-use Rattle.bl_setup.specs.Past.{Past, earlier, at_place, content_of, fault_of_task, is_done}
+use Rattle.bl_setup.specs.Order.{Setup, accesses_of}
+use Rattle.bl_setup.specs.Past.{Past, earlier, at_place, policy_before, policy_of, content_of, is_done}
 use Rattle.bl_monitor.specs.Heard.{Heard, is_lost}
-use Rattle.bl_monitor.specs.Judging.{AreBelow, content_at}
+use Rattle.bl_monitor.specs.Judging.{HasBelow, content_at}
 use Rattle.bl_monitor.specs.Kept.{spawned_of}
-use Rattle.bl_monitor.specs.Places.{no_place, entry_of, task_of, HasChild}
-use Rattle.bl_script.specs.declared.work.Work.TheVariants as work
+use Rattle.bl_monitor.specs.Places.{no_place, script_of, HasScript, entry_of, task_of, HasChild}
 use Rattle.bl_monitor.specs.declared.monitor.Entry.{Entry}
 use Rattle.bl_monitor.specs.declared.monitor.Entry.TheVariants as entry
 use Rattle.bl_monitor.specs.declared.place.Origin.TheVariants as origin
@@ -28,30 +28,34 @@ heard_of setup places = record {
 abbrev pub pasts_of : Setup → List Place → List Past
 pasts_of setup places = earlier setup (is_lost (heard_of setup places)) (heard_of setup places).order (length places)
 
+-- the policy at one of the kept places
+abbrev pub policy_at : Setup → List Place → ℕ → SecurityPolicy
+policy_at setup places n = policy_before setup (is_lost (heard_of setup places)) (heard_of setup places).order n
+
 -- an entry's ids are in the setup, and its behaviour is one of its script
 pub record IsRight (setup : Setup) (admitted : Admitted) : Type 0 where
   pub subject : admitted.subject < length setup.policy.subjects
-  pub documents : AreBelow (length setup.policy.documents) admitted.script
-  pub script : IsScript admitted.script
-  pub index : admitted.index < length admitted.script
+  pub ids : HasBelow (length setup.policy.subjects) (length setup.policy.documents) admitted.work admitted.index
+  pub script : HasScript admitted.work
 
--- what is kept of a place tells its record
-pub record Tells (setup : Setup) (place : Place) (past : Past) : Type 0 where
+-- what is kept of a place tells its record, and what the policy at the place has against its accesses
+pub record Tells (setup : Setup) (policy : SecurityPolicy) (place : Place) (past : Past) : Type 0 where
   pub right : IsRight setup place.admitted
   pub subject : past.subject ≡ place.admitted.subject
   pub task : past.task ≡ task_of place.admitted
-  pub fault : place.fault ≡ fault_of_task setup.policy place.admitted.subject (task_of place.admitted)
+  pub fault : place.fault ≡ first_fault policy place.admitted.subject (accesses_of (task_of place.admitted))
   pub ran : is_some place.children ≡ is_done past.answer
   pub spawned : spawned_of place.children ≡ children past.effects
-  pub each : All (λ behaviour. behaviour < length place.admitted.script) (children past.effects)
-  pub few : length (children past.effects) ≤ length place.admitted.script
+  pub each : All (λ behaviour. behaviour < length (script_of place.admitted.work)) (children past.effects)
+  pub few : length (children past.effects) ≤ length (script_of place.admitted.work)
 
--- one content of each document, and what is kept of each place, are as looking back finds them
-pub record IsSound (setup : Setup) (contents : List (List ℕ)) (places : List Place) : Type 0 where
+-- one policy, one content of each document, and what is kept of each place, are as looking back finds them
+pub record IsSound (setup : Setup) (policy : SecurityPolicy) (contents : List (List ℕ)) (places : List Place) : Type 0 where
   pub agree : Agree setup
+  pub ruled : policy ≡ policy_of setup (pasts_of setup places)
   pub as_many : length contents ≡ length setup.contents
   pub current : (doc : ℕ) → doc < length contents → content_at contents doc ≡ content_of setup (pasts_of setup places) doc
-  pub told : (k : ℕ) → k < length places → Tells setup (slice_index_or places k no_place) (at_place (pasts_of setup places) k)
+  pub told : (k : ℕ) → k < length places → Tells setup (policy_at setup places k) (slice_index_or places k no_place) (at_place (pasts_of setup places) k)
 
 -- an entry may come behind these places
 abbrev pub CanCome : List Place → Entry → Type 0
@@ -60,14 +64,14 @@ CanCome places (entry.Child parent which lost) = HasChild places parent which
 
 -- what is to run for an entry behind these places
 abbrev pub IsAdmitted : List Place → Entry → Admitted → Type 0
-IsAdmitted places (entry.Line subject (work.Behaviour script) lost) a =
-    a ≡ record { origin = origin.Line; lost = lost; subject = subject; script = script; index = 0 }
+IsAdmitted places (entry.Line subject its_work lost) a =
+    a ≡ record { origin = origin.Line; lost = lost; subject = subject; work = its_work; index = 0 }
 IsAdmitted places (entry.Child parent which lost) a =
     HasChild places parent which
     × (a ≡ record {
       origin = origin.Child parent which;
       lost = lost;
       subject = (slice_index_or places parent no_place).admitted.subject;
-      script = (slice_index_or places parent no_place).admitted.script;
+      work = (slice_index_or places parent no_place).admitted.work;
       index = slice_index_or (spawned_of (slice_index_or places parent no_place).children) (which - 1) 0;
     })

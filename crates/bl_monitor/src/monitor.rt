@@ -1,7 +1,7 @@
 //! The monitor and its entries.
 //!
-//! For each place it keeps what looking back would find there, and for each document one current content. So no step
-//! takes longer because more entries came before.
+//! For each place it keeps what looking back would find there, for each document one current content, and one current
+//! policy. So no step takes longer because more entries came before.
 ghost use Rattle.std.specs.Prelude.{◌≡◌, ◌↔◌, ◌<◌, All, length, IfOk, IsErrOf};
 ghost use Rattle.bl_monitor.specs.Places.{HasChild};
 ghost use Rattle.bl_monitor.specs.Sound.{CanCome, IsAdmitted};
@@ -13,6 +13,7 @@ use crate::place::{Admitted, Origin, Place, child_index};
 use crate::run::Text;
 use bl_policy::denial::Denial;
 use bl_policy::id::SubjectId;
+use bl_policy::policy::Policy;
 use bl_script::answer::Answer;
 use bl_script::document::Document;
 use bl_script::work::Work;
@@ -62,6 +63,7 @@ impl From<AllocError> for MonitorFault {
 pub struct Monitor {
     alloc: Global,
     setup: Arc<Setup, Global>,
+    policy: Policy,
     contents: Vec<Document>,
     places: Vec<Place>,
 }
@@ -77,12 +79,11 @@ impl Model for Monitor {
     ghost coded = { Prim.hlevel (codes, matrix_code, coded_entry) };
 
     ghost use Rattle.bl_monitor.specs.Sound.{heard_of, IsSound};
-
     ghost use Rattle.std.specs.Arc.{arc_value};
 
     ghost view = { λ m. heard_of (arc_value m.setup) m.places.items };
 
-    ghost invariant = { λ m. IsSound (arc_value m.setup) m.contents.items m.places.items };
+    ghost invariant = { λ m. IsSound (arc_value m.setup) m.policy m.contents.items m.places.items };
 }
 
 /// The contents that every entry of the order finds first.
@@ -107,7 +108,7 @@ fn keep(contents: &mut [Document], changes: Vec<Text>)
     }
 }
 
-/// Who speaks and what is to run for an entry behind these places.
+/// Who speaks and what is to be done for an entry behind these places.
 fn admit(places: &[Place], entry: Entry) -> Result<Admitted, MonitorFault>
     ensures ok { IfOk result (IsAdmitted places.now entry) }
     ensures no_child { IsErrOf result faults.NoChild ↔ (¬ CanCome places.now entry) }
@@ -117,16 +118,13 @@ fn admit(places: &[Place], entry: Entry) -> Result<Admitted, MonitorFault>
             subject,
             work,
             lost,
-        } => {
-            let Work::Behaviour(script) = work;
-            Ok(Admitted {
-                origin: Origin::Line,
-                lost,
-                subject,
-                script,
-                index: 0,
-            })
-        }
+        } => Ok(Admitted {
+            origin: Origin::Line,
+            lost,
+            subject,
+            work,
+            index: 0,
+        }),
         Entry::Child {
             parent,
             which,
@@ -147,7 +145,7 @@ fn child(places: &[Place], parent: u32, which: u32, lost: bool) -> Result<Admitt
                 origin: Origin::Child { parent, which },
                 lost,
                 subject: place.admitted.subject,
-                script: place.admitted.script.share()?,
+                work: place.admitted.work.share()?,
                 index,
             })
         }
@@ -165,6 +163,7 @@ impl Monitor {
     pub fn new(alloc: Global, setup: Setup) -> Result<Monitor, AllocError>
         ensures { IfOk result (λ m. m ≡ record { setup = setup; order = []; lost = [] }) }
     {
+        let policy = setup.policy().copy()?;
         let contents = shared(alloc, setup.contents())?;
         let setup = match Arc::new(alloc, setup) {
             Ok(setup) => setup,
@@ -173,6 +172,7 @@ impl Monitor {
         Ok(Monitor {
             alloc,
             setup,
+            policy,
             contents,
             places: Vec::new(alloc),
         })
@@ -197,9 +197,9 @@ impl Monitor {
         ensures err { OnErr result (self.new ≡ self.old) }
     {
         let admitted = admit(&self.places, entry)?;
-        let _weight = admitted.script.weight();
-        let judged = judge(self.alloc, self.setup.policy(), &self.contents, &admitted)?;
+        let _behaviours = admitted.behaviours();
         self.places.reserve(1)?;
+        let judged = judge(self.alloc, &mut self.policy, &self.contents, &admitted)?;
         let Judged {
             answer,
             fault,
@@ -228,8 +228,8 @@ impl Monitor {
         }
     }
 
-    /// What the policy had against an entry at its place, lost or not; `None` where that is nothing, and for a number
-    /// that is no entry's.
+    /// What the policy had against the accesses of an entry at its place, lost or not: the first that failed a property.
+    /// `None` where none did, for a rule, and for a number that is no entry's.
     pub fn fault(&self, n: u32) -> Option<Denial>
         ensures { result ≡ fault_of self.now n }
     {

@@ -1,11 +1,11 @@
 //! What is kept of each place of the order, in place of looking back over it.
-ghost use Rattle.std.specs.Prelude.{◌≡◌, ◌-◌, IfOk, IsErrOf, MatchOption, slice_index_or};
+ghost use Rattle.std.specs.Prelude.{◌≡◌, ◌-◌, MatchOption, slice_index_or};
 ghost use Rattle.bl_monitor.specs.Kept.{spawned_of};
 ghost use Rattle.bl_monitor.specs.Places.{no_place, HasChild};
 
 use bl_policy::denial::Denial;
 use bl_policy::id::SubjectId;
-use bl_script::script::Script;
+use bl_script::work::Work;
 
 /// Where an entry comes from.
 #[derive(Clone, Copy)]
@@ -14,17 +14,35 @@ pub(crate) enum Origin {
     Child { parent: u32, which: u32 },
 }
 
-/// An entry with who speaks and the behaviour that is to run.
+/// An entry with who speaks and what is to be done: the rule of its work, or one behaviour of the work's script.
 #[derive(Drop)]
 pub(crate) struct Admitted {
     pub(crate) origin: Origin,
     pub(crate) lost: bool,
     pub(crate) subject: SubjectId,
-    pub(crate) script: Script,
+    pub(crate) work: Work,
+    /// The number of the behaviour; 0 for a rule.
     pub(crate) index: u8,
 }
 
-/// An answered entry: what the policy had against it at its place, and the behaviours that it spawned if it was done.
+impl Admitted {
+    ghost use Rattle.std.specs.Prelude.{◌≡◌, length};
+    ghost use Rattle.bl_monitor.specs.Places.{script_of, HasScript};
+
+    /// How many behaviours the work has: a rule has none.
+    pub(crate) fn behaviours(&self) -> usize
+        ensures number { result ≡ length (script_of self.now.work) }
+        ensures script { HasScript self.now.work }
+    {
+        match &self.work {
+            Work::Behaviour(script) => script.weight(),
+            Work::Rule(_) => 0,
+        }
+    }
+}
+
+/// An answered entry: what the policy had against its accesses at its place, and the behaviours that it spawned if it was
+/// done.
 #[derive(Drop)]
 pub(crate) struct Place {
     pub(crate) admitted: Admitted,

@@ -7,5 +7,5 @@ use Rattle.bl_monitor.proofs.monitor.Monitor.fault.Goals as goal
 pub returns : goal.returns
 returns c =
     let lt : c.args.n < length c.self.inside.places.items = omega arith in
-    told_fault (arc_value c.self.inside.setup) c.self.inside.contents.items c.self.inside.places.items c.self.invariant c.args.n c.index.result.now lt c.index.ensures
+    told_fault (arc_value c.self.inside.setup) c.self.inside.policy c.self.inside.contents.items c.self.inside.places.items c.self.invariant c.args.n c.index.result.now lt c.index.ensures
     ∙ ap (λ h. fault_of h c.args.n) c.self.view_is

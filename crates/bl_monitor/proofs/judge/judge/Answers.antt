@@ -1,0 +1,9 @@
+use Rattle.std.proofs.Common.{sym, subst}
+use Rattle.bl_setup.specs.Past.{first_task, child_task}
+use Rattle.bl_monitor.specs.Judging.{IsJudged}
+use Rattle.bl_monitor.proofs.judge.judge.Goals as goal
+
+pub returns-in-Rule-clause-judged : goal.returns-in-Rule-clause-judged
+returns-in-Rule-clause-judged c =
+    subst (λ w. IsJudged c.args.admitted.now.lost c.args.policy.now c.args.contents.now c.args.admitted.now.subject (child_task (first_task w) c.args.admitted.now.index) c.apply.result)
+    (sym c.in-Rule.is) (c.apply.ensures.judged c.args.contents.now)
