@@ -9,3 +9,4 @@ pub mod Coming
 pub mod Errors
 pub mod Ids
 pub mod Handmade
+pub mod ReadLines
