@@ -1,5 +1,5 @@
 -- What a read line names is in the setup whose names it was read under.
-use Rattle.std.proofs.Common.{◌≡◌, ℕ, ◌<◌, List, length, subst}
+use Rattle.std.proofs.Common.{ℕ, ◌<◌, List, length, subst}
 use Rattle.bl_script.specs.LineGrammar.{LineOf}
 use Rattle.bl_script.specs.KnownLine.{IsKnownLine}
 use Rattle.bl_script.specs.declared.line.Line.{Line}
