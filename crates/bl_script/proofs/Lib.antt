@@ -22,6 +22,7 @@ pub mod Numbering
 pub mod Behaviours
 pub mod RawLists
 pub mod Built
+pub mod Writing
 pub mod Firsts
 pub mod Joined
 pub mod Passes

@@ -29,3 +29,4 @@ pub mod Reading
 pub mod LineGrammar
 pub mod LineFaults
 pub mod Building
+pub mod Writing

@@ -20,3 +20,4 @@ pub mod stop;
 #[cfg(test)]
 mod tests;
 pub mod work;
+pub mod write;
