@@ -29,4 +29,5 @@ pub mod Reading
 pub mod LineGrammar
 pub mod LineFaults
 pub mod Building
+pub mod Unread
 pub mod Writing
