@@ -30,3 +30,5 @@ pub mod WhenFaults
 pub mod Declared
 pub mod Few
 pub mod Uses
+pub mod Tidy
+pub mod Unreading
