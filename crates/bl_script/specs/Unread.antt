@@ -1,9 +1,13 @@
--- The way back from a script to the `when` that it stands for.
+-- The way back from a line to how it is spelled, and from a script to its `when`.
 use Rattle.std.specs.Prelude.{ℕ, ◌+◌, ◌-◌, List, [], ◌∷◌, map, slice_index_or}
 use Rattle.bl_policy.specs.declared.access.Access.{Access}
 use Rattle.bl_policy.specs.declared.access.Mode.TheVariants.{Read}
 use Rattle.bl_script.specs.Names.{KnownNames}
+use Rattle.bl_script.specs.declared.line.Line.{Line}
+use Rattle.bl_script.specs.declared.line.Line.TheVariants as line
 use Rattle.bl_script.specs.declared.script.Condition.{Condition}
+use Rattle.bl_script.specs.declared.work.Work.TheVariants.{Behaviour}
+use Rattle.bl_script.specs.Grammar.{SpelledLine, hello, wait, when}
 use Rattle.bl_script.specs.Spelled.{SpelledAccess, SpelledBody, empty, show, say, add, set, copy, pour, if_then, if_else, spawn}
 use Rattle.bl_script.specs.Statements.{Statements, Nothing, Show, Say, Add, Set, Copy, Pour, If, Spawn, Part}
 
@@ -59,3 +63,13 @@ module _ (names : KnownNames) where
   -- the `when` of a behaviour, by its number
   abbrev pub unread_at : List Part → ℕ → SpelledWhen
   unread_at script k = slice_index_or (unread_from 0 script) k no_when
+
+  -- the `when` of a script is that of its outermost behaviour
+  abbrev pub unread : List Part → SpelledWhen
+  unread script = unread_at script 0
+
+  -- the line, as it is spelled
+  abbrev pub unread_line : Line → SpelledLine
+  unread_line (line.Hello subject) = hello (slice_index_or names.subjects subject [])
+  unread_line line.Wait = wait
+  unread_line (line.Work (Behaviour script)) = when (unread script).first (unread script).more (unread script).body
