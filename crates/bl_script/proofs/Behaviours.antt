@@ -132,7 +132,7 @@ module _ (names : KnownNames) where
 -- ---- accesses
 
 -- an element that passes stands before the end
-first_within : (p : List ℕ → Bool) (xs : List (List ℕ)) (k : ℕ) (d : List ℕ) → k < length xs → p (get_or xs k d) ≡ true → position_or_len p xs < length xs
+pub first_within : (p : List ℕ → Bool) (xs : List (List ℕ)) (k : ℕ) (d : List ℕ) → k < length xs → p (get_or xs k d) ≡ true → position_or_len p xs < length xs
 first_within p [] k d lt h = absurd (omega arith)
 first_within p (x ∷ xs) zero d lt h = rw h (omega arith)
 first_within p (x ∷ xs) (suc k) d lt h = go (p x) (first_within p xs k d (omega arith) h)

@@ -32,3 +32,4 @@ pub mod Few
 pub mod Uses
 pub mod Tidy
 pub mod Unreading
+pub mod Knowing

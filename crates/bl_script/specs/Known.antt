@@ -4,9 +4,11 @@ use Rattle.bl_level.specs.Canonical.{canonical}
 use Rattle.bl_policy.specs.declared.access.Access.{Access}
 use Rattle.bl_script.specs.LineGrammar.{most_line_bytes}
 use Rattle.bl_script.specs.Names.{KnownNames}
-use Rattle.bl_script.specs.Spelled.{spell_when}
+use Rattle.bl_script.specs.Grammar.{spell}
+use Rattle.bl_script.specs.declared.line.Line.TheVariants as line
+use Rattle.bl_script.specs.declared.work.Work.TheVariants.{Behaviour}
 use Rattle.bl_script.specs.Statements.{Statements, Nothing, Show, Say, Add, Set, Copy, Pour, If, Spawn, Part}
-use Rattle.bl_script.specs.Unread.{unread_at}
+use Rattle.bl_script.specs.Unread.{unread_line}
 
 -- each document in the statements is one of so many
 abbrev pub AreThere : ℕ → Statements → Type 0
@@ -30,10 +32,9 @@ pub record IsThere (count : ℕ) (part : Part) : Type 0 where
   pub accesses : All (IsAccessThere count) part.accesses
   pub statements : AreThere count part.body
 
--- own choice: the canonical text of a script, by these names, is that of the `when` that it is read back as
+-- own choice: the canonical text of a script, by these names, is that of the line that it is read back as
 abbrev pub canonical_script : KnownNames → List Part → List ℕ
-canonical_script names script =
-    canonical (spell_when (unread_at names script 0).first (unread_at names script 0).more (unread_at names script 0).body)
+canonical_script names script = canonical (spell (unread_line names (line.Work (Behaviour script))))
 
 -- the names have a name for each document of the script, and its canonical text is no longer than a line
 pub record IsKnown (names : KnownNames) (script : List Part) : Type 0 where
