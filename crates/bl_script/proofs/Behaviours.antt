@@ -193,11 +193,11 @@ module _ (names : KnownNames) where
   -- ---- the behaviours
 
   -- not too many accesses
-  abbrev IsShort : List SpelledAccess → Type 0
+  abbrev pub IsShort : List SpelledAccess → Type 0
   IsShort list = length list ≤ most_accesses
 
   -- what a faultless `when` says of a body in it, under these accesses
-  record IsRight (list : List SpelledAccess) (b : SpelledBody) : Type 0 where
+  pub record IsRight (list : List SpelledAccess) (b : SpelledBody) : Type 0 where
     pub short : All IsShort (lists_in b)
     pub known : All (Contains names.documents) (names_in b)
     pub once : All IsOnce (declarations_in b)

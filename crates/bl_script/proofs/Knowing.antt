@@ -24,7 +24,7 @@ use Rattle.bl_script.specs.Unread.{SpelledWhen, unread}
 use Rattle.bl_script.specs.WhenFaults.{documents_in, names_in, names_of_when}
 use Rattle.bl_script.proofs.Behaviours.{first_within}
 use Rattle.bl_script.proofs.Tidy.{tidy, tidy_when_shorter}
-use Rattle.bl_script.proofs.Unreading.{IsDocument, script_again}
+use Rattle.bl_script.proofs.ReadBack.{IsDocument, script_again}
 use Rattle.bl_script.proofs.WhenFaults.{all_left, all_right}
 
 -- ---- each document is there
@@ -35,7 +35,7 @@ module _ (names : KnownNames) where
   count = length names.documents
 
   -- the place of a name that is there
-  place_there : (d : List ℕ) → IsDocument names d → document_of names d < count
+  pub place_there : (d : List ℕ) → IsDocument names d → document_of names d < count
   place_there d (k, lt, at) =
       let itself : bytes_eq d d ≡ true = let e = bytes_eq-Decides d d in grind (arith, e) in
       let within = first_within (bytes_eq d) names.documents k d lt (ap (bytes_eq d) at ∙ itself) in

@@ -31,5 +31,8 @@ pub mod Declared
 pub mod Few
 pub mod Uses
 pub mod Tidy
-pub mod Unreading
+pub mod ReadBack
 pub mod Knowing
+pub mod Reread
+pub mod Faultless
+pub mod ReadAgain
