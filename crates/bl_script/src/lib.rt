@@ -16,6 +16,7 @@ pub mod parse;
 pub mod raw;
 pub mod read;
 pub mod script;
+pub mod sink;
 pub mod stop;
 #[cfg(test)]
 mod tests;
