@@ -30,4 +30,5 @@ pub mod LineGrammar
 pub mod LineFaults
 pub mod Building
 pub mod Unread
+pub mod There
 pub mod Writing

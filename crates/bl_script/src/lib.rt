@@ -17,6 +17,7 @@ pub mod raw;
 pub mod read;
 pub mod script;
 pub mod sink;
+mod spell;
 pub mod stop;
 #[cfg(test)]
 mod tests;
