@@ -31,4 +31,5 @@ pub mod LineFaults
 pub mod Building
 pub mod Unread
 pub mod Known
+pub mod There
 pub mod Writing

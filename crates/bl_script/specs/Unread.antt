@@ -1,5 +1,7 @@
 -- The way back from a line to how it is spelled, and from a script to its `when`.
 use Rattle.std.specs.Prelude.{ℕ, ◌+◌, ◌-◌, List, [], ◌∷◌, map, slice_index_or}
+use Rattle.bl_level.specs.declared.token.Keyword.TheVariants.{Else}
+use Rattle.bl_level.specs.Token.{Tok, reserved}
 use Rattle.bl_policy.specs.declared.access.Access.{Access}
 use Rattle.bl_policy.specs.declared.access.Mode.TheVariants.{Read}
 use Rattle.bl_script.specs.Names.{KnownNames}
@@ -8,7 +10,7 @@ use Rattle.bl_script.specs.declared.line.Line.TheVariants as line
 use Rattle.bl_script.specs.declared.script.Condition.{Condition}
 use Rattle.bl_script.specs.declared.work.Work.TheVariants.{Behaviour}
 use Rattle.bl_script.specs.Grammar.{SpelledLine, hello, wait, when}
-use Rattle.bl_script.specs.Spelled.{SpelledAccess, SpelledBody, empty, show, say, add, set, copy, pour, if_then, if_else, spawn}
+use Rattle.bl_script.specs.Spelled.{SpelledAccess, SpelledBody, empty, show, say, add, set, copy, pour, if_then, if_else, spawn, spell_body, spell_when}
 use Rattle.bl_script.specs.Statements.{Statements, Nothing, Show, Say, Add, Set, Copy, Pour, If, Spawn, Part}
 
 -- a `when` with all that stands in it
@@ -20,6 +22,15 @@ pub record SpelledWhen : Type 0 where
 -- what stands where there is none
 abbrev pub no_when : SpelledWhen
 no_when = record { first = record { mode = Read; document = [] }; more = []; body = empty }
+
+-- the tokens of a `when`, by all that stands in it
+abbrev pub tokens_of : SpelledWhen → List Tok
+tokens_of spelled = spell_when spelled.first spelled.more spelled.body
+
+-- the tokens of an `else`, where its body has a statement
+abbrev pub spell_else : SpelledBody → List Tok
+spell_else empty = []
+spell_else body = reserved Else ∷ spell_body body
 
 module _ (names : KnownNames) where
   -- the name of a document is the one at its place

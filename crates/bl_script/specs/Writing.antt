@@ -17,8 +17,3 @@ with_token w t = record {
   bytes = w.bytes ++ ((if w.word && is_word t then 32 ∷ [] else []) ++ spelled t);
   word = is_word t;
 }
-
--- more tokens, from the left
-abbrev pub with_tokens : Written → List Tok → Written
-with_tokens w [] = w
-with_tokens w (t ∷ ts) = with_tokens (with_token w t) ts

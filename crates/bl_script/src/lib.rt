@@ -17,6 +17,8 @@ pub mod parse;
 pub mod raw;
 pub mod read;
 pub mod script;
+pub mod sink;
+mod spell;
 pub mod stop;
 #[cfg(test)]
 mod tests;

@@ -1,10 +1,11 @@
 //! The canonical text of a line: one space between two words that follow each other, no other blank, and no `else` before an
 //! empty body.
-ghost use Rattle.std.specs.Prelude.{◌≡◌, [], ◌∷◌, ◌++◌, OnOk, IfOk};
+ghost use Rattle.std.specs.Prelude.{◌≡◌, [], ◌∷◌, ◌++◌, fold, OnOk, IfOk};
 ghost use Rattle.bl_level.specs.Token.{tok, toks};
 ghost use Rattle.bl_level.specs.Canonical.{sign_byte as byte_of, is_word as is_a_word, spelled, canonical};
-ghost use Rattle.bl_script.specs.Writing.{with_token, with_tokens, nothing_written};
+ghost use Rattle.bl_script.specs.Writing.{with_token, nothing_written};
 
+use crate::sink::{Sink, put_all};
 use bl_level::token::{Sign, Token};
 use std::alloc::{AllocError, Global};
 use std::marker::Model;
@@ -73,28 +74,6 @@ impl Text {
         }
     }
 
-    /// Writes a token, behind a space where it follows a word and is one.
-    pub fn put(&mut self, token: Token<'_>) -> Result<(), AllocError>
-        ensures { OnOk result (self.new ≡ with_token self.old (tok token.entry)) }
-    {
-        if self.ends_with_word && is_word(token) {
-            self.bytes.push(b' ')?;
-        }
-        self.put_bytes(token)?;
-        self.ends_with_word = is_word(token);
-        Ok(())
-    }
-
-    /// Writes tokens.
-    pub fn put_all(&mut self, tokens: &[Token<'_>]) -> Result<(), AllocError>
-        ensures { OnOk result (self.new ≡ with_tokens self.old (toks tokens.now)) }
-    {
-        for token in tokens {
-            self.put(*token)?;
-        }
-        Ok(())
-    }
-
     /// The bytes, which are the canonical text of the tokens that were written.
     pub fn into_bytes(self) -> Vec<u8>
         ensures { result.items ≡ self.bytes }
@@ -103,11 +82,27 @@ impl Text {
     }
 }
 
+impl Sink for Text {
+    type Refusal = AllocError;
+
+    ghost taken = { with_token };
+
+    /// Writes a token, behind a space where it follows a word and is one.
+    fn put(&mut self, token: Token<'_>) -> Result<(), AllocError> {
+        if self.ends_with_word && is_word(token) {
+            self.bytes.push(b' ')?;
+        }
+        self.put_bytes(token)?;
+        self.ends_with_word = is_word(token);
+        Ok(())
+    }
+}
+
 /// The canonical text of tokens.
 pub fn write_tokens(alloc: Global, tokens: &[Token<'_>]) -> Result<Vec<u8>, AllocError>
     ensures { IfOk result (λ text. text.items ≡ canonical (toks tokens.now)) }
 {
     let mut text = Text::new(alloc);
-    text.put_all(tokens)?;
+    put_all(&mut text, tokens)?;
     Ok(text.into_bytes())
 }
