@@ -14,12 +14,13 @@ use Rattle.bl_policy.specs.declared.access.Access.{Access}
 use Rattle.bl_script.specs.declared.line.Line.TheVariants as line
 use Rattle.bl_script.specs.declared.work.Work.TheVariants.{Behaviour}
 use Rattle.bl_script.specs.Grammar.{SpelledLine, hello, wait, when, spell}
-use Rattle.bl_script.specs.Known.{AreThere, IsAccessThere, IsThere, IsKnown, canonical_script}
+use Rattle.bl_script.specs.Known.{IsKnown, canonical_script}
 use Rattle.bl_script.specs.LineGrammar.{most_line_bytes, Means, LineOf}
 use Rattle.bl_script.specs.Meaning.{whens, document_of, access_of, numbered, spawned_from, script_of}
 use Rattle.bl_script.specs.Names.{KnownNames}
 use Rattle.bl_script.specs.Spelled.{SpelledAccess, SpelledBody, empty, show, say, add, set, copy, pour, if_then, if_else, spawn, spell_when}
-use Rattle.bl_script.specs.Statements.{Statements, Part}
+use Rattle.bl_script.specs.Statements.{Part}
+use Rattle.bl_script.specs.There.{AreIn, AreThere}
 use Rattle.bl_script.specs.Unread.{SpelledWhen, unread}
 use Rattle.bl_script.specs.WhenFaults.{documents_in, names_in, names_of_when}
 use Rattle.bl_script.proofs.Behaviours.{first_within}
@@ -31,7 +32,7 @@ use Rattle.bl_script.proofs.WhenFaults.{all_left, all_right}
 
 module _ (names : KnownNames) where
   -- how many documents there are
-  abbrev count : ℕ
+  abbrev pub count : ℕ
   count = length names.documents
 
   -- the place of a name that is there
@@ -43,55 +44,23 @@ module _ (names : KnownNames) where
       ap (λ b. cond b (Some (position_or_len (bytes_eq d) names.documents)) None) (lt-ltb _ _ within) in
       subst (λ o. unwrap_or o 0 < count) (sym place) within
 
-  accesses_there : (list : List SpelledAccess) → All (IsDocument names) (documents_in list) → All (IsAccessThere count) (map (access_of names) list)
-  accesses_there [] known = All-nil (IsAccessThere count)
+  -- the document of an access is there
+  abbrev pub IsIn : Access → Type 0
+  IsIn access = access.doc < count
+
+  accesses_there : (list : List SpelledAccess) → All (IsDocument names) (documents_in list) → AreIn count (map (access_of names) list)
+  accesses_there [] known = All-nil IsIn
   accesses_there (a ∷ list) known =
-      All-cons (IsAccessThere count) (access_of names a) (map (access_of names) list) (place_there a.document (All-head (IsDocument names) a.document (documents_in list) known))
+      All-cons IsIn (access_of names a) (map (access_of names) list) (place_there a.document (All-head (IsDocument names) a.document (documents_in list) known))
       (accesses_there list (All-tail (IsDocument names) a.document (documents_in list) known))
 
-  -- of a body whose names are documents', the statements name documents that are there
-  statements_there : (b : SpelledBody) (next : ℕ) → All (IsDocument names) (names_in b) → AreThere count (numbered names next b)
-  statements_there empty next known = tt
-  statements_there (show d r) next known =
-      (place_there d (All-head (IsDocument names) d (names_in r) known), statements_there r next (All-tail (IsDocument names) d (names_in r) known))
-  statements_there (say w r) next known = statements_there r next known
-  statements_there (add d w r) next known =
-      (place_there d (All-head (IsDocument names) d (names_in r) known), statements_there r next (All-tail (IsDocument names) d (names_in r) known))
-  statements_there (set d w r) next known =
-      (place_there d (All-head (IsDocument names) d (names_in r) known), statements_there r next (All-tail (IsDocument names) d (names_in r) known))
-  statements_there (copy d e r) next known =
-      let later = All-tail (IsDocument names) d (e ∷ names_in r) known in (
-        place_there d (All-head (IsDocument names) d (e ∷ names_in r) known),
-        place_there e (All-head (IsDocument names) e (names_in r) later),
-        statements_there r next (All-tail (IsDocument names) e (names_in r) later),
-      )
-  statements_there (pour d e r) next known =
-      let later = All-tail (IsDocument names) d (e ∷ names_in r) known in (
-        place_there d (All-head (IsDocument names) d (e ∷ names_in r) known),
-        place_there e (All-head (IsDocument names) e (names_in r) later),
-        statements_there r next (All-tail (IsDocument names) e (names_in r) later),
-      )
-  statements_there (if_then d a w t r) next known =
-      let later = All-tail (IsDocument names) d (names_in t ++ names_in r) known in (
-        place_there d (All-head (IsDocument names) d (names_in t ++ names_in r) known),
-        statements_there t next (all_left (IsDocument names) (names_in t) (names_in r) later),
-        tt,
-        statements_there r (next + whens t) (all_right (IsDocument names) (names_in t) (names_in r) later),
-      )
-  statements_there (if_else d a w t e r) next known =
-      let later = All-tail (IsDocument names) d (names_in t ++ (names_in e ++ names_in r)) known in
-      let last = all_right (IsDocument names) (names_in t) (names_in e ++ names_in r) later in (
-        place_there d (All-head (IsDocument names) d (names_in t ++ (names_in e ++ names_in r)) known),
-        statements_there t next (all_left (IsDocument names) (names_in t) (names_in e ++ names_in r) later),
-        statements_there e (next + whens t) (all_left (IsDocument names) (names_in e) (names_in r) last),
-        statements_there r (next + whens t + whens e) (all_right (IsDocument names) (names_in e) (names_in r) last),
-      )
-  statements_there (spawn f m b r) next known =
-      statements_there r (next + 1 + whens b) (all_right (IsDocument names) (names_in b) (names_in r) (all_right (IsDocument names) (documents_in (f ∷ m)) (names_in b ++ names_in r) known))
+  -- each document that a behaviour declares is there
+  abbrev pub AreOfPart : Part → Type 0
+  AreOfPart part = AreIn count part.accesses
 
-  -- and so are those of each behaviour that it spawns
-  spawned_there : (b : SpelledBody) (next : ℕ) → All (IsDocument names) (names_in b) → All (IsThere count) (spawned_from names next b)
-  spawned_there empty next known = All-nil (IsThere count)
+  -- each document that a behaviour which a body spawns declares is there
+  spawned_there : (b : SpelledBody) (next : ℕ) → All (IsDocument names) (names_in b) → All AreOfPart (spawned_from names next b)
+  spawned_there empty next known = All-nil AreOfPart
   spawned_there (show d r) next known = spawned_there r next (All-tail (IsDocument names) d (names_in r) known)
   spawned_there (say w r) next known = spawned_there r next known
   spawned_there (add d w r) next known = spawned_there r next (All-tail (IsDocument names) d (names_in r) known)
@@ -100,34 +69,31 @@ module _ (names : KnownNames) where
   spawned_there (pour d e r) next known = spawned_there r next (all_right (IsDocument names) (d ∷ e ∷ []) (names_in r) known)
   spawned_there (if_then d a w t r) next known =
       let later = All-tail (IsDocument names) d (names_in t ++ names_in r) known in
-      All-append (IsThere count) (spawned_from names next t) (spawned_from names (next + whens t) r)
+      All-append AreOfPart (spawned_from names next t) (spawned_from names (next + whens t) r)
       (spawned_there t next (all_left (IsDocument names) (names_in t) (names_in r) later))
       (spawned_there r (next + whens t) (all_right (IsDocument names) (names_in t) (names_in r) later))
   spawned_there (if_else d a w t e r) next known =
       let later = All-tail (IsDocument names) d (names_in t ++ (names_in e ++ names_in r)) known in
       let last = all_right (IsDocument names) (names_in t) (names_in e ++ names_in r) later in
-      All-append (IsThere count) (spawned_from names next t) (spawned_from names (next + whens t) e ++ spawned_from names (next + whens t + whens e) r)
+      All-append AreOfPart (spawned_from names next t) (spawned_from names (next + whens t) e ++ spawned_from names (next + whens t + whens e) r)
       (spawned_there t next (all_left (IsDocument names) (names_in t) (names_in e ++ names_in r) later))
-      (All-append (IsThere count) (spawned_from names (next + whens t) e) (spawned_from names (next + whens t + whens e) r)
+      (All-append AreOfPart (spawned_from names (next + whens t) e) (spawned_from names (next + whens t + whens e) r)
       (spawned_there e (next + whens t) (all_left (IsDocument names) (names_in e) (names_in r) last))
       (spawned_there r (next + whens t + whens e) (all_right (IsDocument names) (names_in e) (names_in r) last)))
   spawned_there (spawn f m b r) next known =
       let later = all_right (IsDocument names) (documents_in (f ∷ m)) (names_in b ++ names_in r) known in
       let inner = all_left (IsDocument names) (names_in b) (names_in r) later in
-      All-cons (IsThere count) (record { accesses = map (access_of names) (f ∷ m); body = numbered names (next + 1) b })
+      All-cons AreOfPart (record { accesses = map (access_of names) (f ∷ m); body = numbered names (next + 1) b })
       (spawned_from names (next + 1) b ++ spawned_from names (next + 1 + whens b) r)
-      (record {
-        accesses = accesses_there (f ∷ m) (all_left (IsDocument names) (documents_in (f ∷ m)) (names_in b ++ names_in r) known);
-        statements = statements_there b (next + 1) inner;
-      })
-      (All-append (IsThere count) (spawned_from names (next + 1) b) (spawned_from names (next + 1 + whens b) r) (spawned_there b (next + 1) inner)
+      (accesses_there (f ∷ m) (all_left (IsDocument names) (documents_in (f ∷ m)) (names_in b ++ names_in r) known))
+      (All-append AreOfPart (spawned_from names (next + 1) b) (spawned_from names (next + 1 + whens b) r) (spawned_there b (next + 1) inner)
       (spawned_there r (next + 1 + whens b) (all_right (IsDocument names) (names_in b) (names_in r) later)))
 
-  script_there : (f : SpelledAccess) (m : List SpelledAccess) (b : SpelledBody) → All (IsDocument names) (names_of_when f m b) → All (IsThere count) (script_of names f m b)
+  script_there : (f : SpelledAccess) (m : List SpelledAccess) (b : SpelledBody) → All (IsDocument names) (names_of_when f m b) → AreThere names (script_of names f m b)
   script_there f m b known =
       let inner = all_right (IsDocument names) (documents_in (f ∷ m)) (names_in b) known in
-      All-cons (IsThere count) (record { accesses = map (access_of names) (f ∷ m); body = numbered names 1 b }) (spawned_from names 1 b)
-      (record { accesses = accesses_there (f ∷ m) (all_left (IsDocument names) (documents_in (f ∷ m)) (names_in b) known); statements = statements_there b 1 inner })
+      All-cons AreOfPart (record { accesses = map (access_of names) (f ∷ m); body = numbered names 1 b }) (spawned_from names 1 b)
+      (accesses_there (f ∷ m) (all_left (IsDocument names) (documents_in (f ∷ m)) (names_in b) known))
       (spawned_there b 1 inner)
 
 -- ---- what a text reads as
@@ -138,7 +104,7 @@ CanonicalIsShortest = (ts : List Tok) (bytes rest : List ℕ) → Begins bytes t
 
 -- what is known of the script of a line: its documents are there, and its canonical text is no longer than the bytes
 pub record IsOfLine (names : KnownNames) (bytes : List ℕ) (script : List Part) : Type 0 where
-  pub there : All (IsThere (length names.documents)) script
+  pub there : AreThere names script
   pub shortest : length (canonical_script names script) ≤ length bytes
 
 of_when : CanonicalIsShortest → (names : KnownNames) (bytes : List ℕ) (f : SpelledAccess) (m : List SpelledAccess) (b : SpelledBody) → Begins bytes (spell_when f m b) []

@@ -1,25 +1,27 @@
 -- A script in pre-order is that of the `when` that it is read back as, by names that have each of its documents.
-use Rattle.std.proofs.Common.{◌≡◌, ◌≢◌, ℕ, zero, suc, ◌+◌, ◌-◌, ◌<◌, ◌≤◌, inl, inr, List, [], ◌∷◌, ◌++◌, length, drop, map, get_or, refl, sym, ap, subst, ◌∙◌, append_assoc, arith, add-zero, zero-add, length-append}
-use Rattle.std.specs.Prelude.{All, Contains, sum_by}
-use Rattle.std.proofs.lemmas.Bool.{cases_order}
+use Rattle.std.proofs.Common.{◌≡◌, ◌≢◌, ℕ, zero, suc, ◌+◌, ◌-◌, ◌<◌, ◌≤◌, inl, inr, Bool, true, false, ◌&&◌, List, [], ◌∷◌, ◌++◌, length, drop, map, get_or, refl, sym, ap, subst, ◌∙◌, append_assoc, arith, add-zero, zero-add, length-append}
+use Rattle.std.specs.Prelude.{All, Contains, sum_by, ◌==◌}
+use Rattle.std.proofs.lemmas.Bool.{cases_order, or_cases, and_parts, eqb-true, false≢true}
 use Rattle.std.proofs.lemmas.List.{append-nil, drop-drop, drop_all, get_or-drop, length-drop}
 use Rattle.std.proofs.lemmas.List.Elements.{All-cons, All-nil, All-head, All-tail, All-append, All-get_or, Contains-get_or}
 use Rattle.std.proofs.lemmas.List.Sums.{sum_by-cons, sum_by-append}
 use Rattle.bl_level.specs.Table.{AreDistinct}
 use Rattle.bl_policy.specs.declared.access.Access.{Access}
+use Rattle.bl_policy.specs.declared.access.Mode.{Mode}
 use Rattle.bl_script.specs.declared.script.Condition.{Condition}
 use Rattle.bl_script.specs.Building.{when_from}
-use Rattle.bl_script.specs.Known.{AreThere, IsAccessThere, IsThere}
 use Rattle.bl_script.specs.Meaning.{whens, document_of, access_of, numbered, spawned_from, script_of}
+use Rattle.bl_script.specs.Modes.{observes, alters, is_write, declares, KeepsModes}
 use Rattle.bl_script.specs.Names.{KnownNames}
 use Rattle.bl_script.specs.Nesting.{spawned, sizes_from, size_at, AreNumbered, IsPreorder}
 use Rattle.bl_script.specs.Script.{IsBehaviour}
 use Rattle.bl_script.specs.Spelled.{SpelledAccess, SpelledBody, empty, show, say, add, set, copy, pour, if_then, if_else, spawn}
 use Rattle.bl_script.specs.Statements.{Statements, Nothing, Show, Say, Add, Set, Copy, Pour, If, Spawn, Part, no_part}
+use Rattle.bl_script.specs.There.{AreIn, AreThere}
 use Rattle.bl_script.specs.Unread.{SpelledWhen, no_when, name_at, unread_access, unread_if, unread_body, unread_when, unread_from, unread}
 use Rattle.bl_script.specs.WhenFaults.{documents_in, names_in, names_of_when}
 use Rattle.bl_script.proofs.Behaviours.{at_place}
-use Rattle.bl_script.proofs.Knowing.{place_there}
+use Rattle.bl_script.proofs.Knowing.{place_there, IsIn, AreOfPart}
 use Rattle.bl_script.proofs.ReadBack.{IsDocument, below_from}
 
 -- ---- names and places
@@ -53,18 +55,26 @@ module _ (names : KnownNames) (distinct : AreDistinct names.documents) where
       let known = document_there d there in
       one_index names.documents (document_of names (name_at names d)) d distinct (place_there names (name_at names d) known) there (at_place names.documents (name_at names d) known)
 
-  accesses_back : (list : List Access) → All (IsAccessThere count) list → map (access_of names) (map (unread_access names) list) ≡ list
+  accesses_back : (list : List Access) → AreIn count list → map (access_of names) (map (unread_access names) list) ≡ list
   accesses_back [] there = refl
   accesses_back (a ∷ list) there =
-      let here : document_of names (name_at names a.doc) ≡ a.doc = place_again a.doc (All-head (IsAccessThere count) a list there) in
-      let more = accesses_back list (All-tail (IsAccessThere count) a list there) in
+      let here : document_of names (name_at names a.doc) ≡ a.doc = place_again a.doc (All-head (IsIn names) a list there) in
+      let more = accesses_back list (All-tail (IsIn names) a list there) in
       λ i. record { mode = a.mode; doc = here i } ∷ more i
 
-  accesses_known : (list : List Access) → All (IsAccessThere count) list → All (IsDocument names) (documents_in (map (unread_access names) list))
+  accesses_known : (list : List Access) → AreIn count list → All (IsDocument names) (documents_in (map (unread_access names) list))
   accesses_known [] there = All-nil (IsDocument names)
   accesses_known (a ∷ list) there =
-      All-cons (IsDocument names) (name_at names a.doc) (documents_in (map (unread_access names) list)) (document_there a.doc (All-head (IsAccessThere count) a list there))
-      (accesses_known list (All-tail (IsAccessThere count) a list there))
+      All-cons (IsDocument names) (name_at names a.doc) (documents_in (map (unread_access names) list)) (document_there a.doc (All-head (IsIn names) a list there))
+      (accesses_known list (All-tail (IsIn names) a list there))
+
+  declared_in : (test : Mode → Bool) (list : List Access) (d : ℕ) → AreIn count list → declares test list d ≡ true → d < count
+  declared_in test [] d there h = absurd (false≢true h)
+  declared_in test (a ∷ list) d there h =
+      elim (or_cases ((a.doc == d) && test a.mode) (declares test list d) h) [
+          inl q ↦ subst (λ n. n < count) (eqb-true a.doc d (and_parts (a.doc == d) (test a.mode) q).0) (All-head (IsIn names) a list there)
+        | inr q ↦ declared_in test list d (All-tail (IsIn names) a list there) q
+      ]
 
   -- ---- an `if` with an `else` before an empty body, or without it
 
@@ -107,7 +117,11 @@ module _ (names : KnownNames) (distinct : AreDistinct names.documents) where
     abbrev ReadsFrom : ℕ → List Part → Type 0
     ReadsFrom k rest = (j : ℕ) → k ≤ j → j < length script → Reads j (below_from names k rest j) (get_or (sizes_from k rest) (j - k) 0)
 
-    module _ (k : ℕ) (rest : List Part) (reads : ReadsFrom k rest) where
+    module _ (k : ℕ) (rest : List Part) (reads : ReadsFrom k rest) (accesses : List Access) (listed : AreIn count accesses) where
+      -- a document that the accesses declare is there
+      is_in : (test : Mode → Bool) (d : ℕ) → declares test accesses d ≡ true → d < count
+      is_in test d h = declared_in test accesses d listed h
+
       abbrev below : ℕ → SpelledWhen
       below = below_from names k rest
 
@@ -123,7 +137,7 @@ module _ (names : KnownNames) (distinct : AreDistinct names.documents) where
         pub behind : AreNumbered script (next + whens u) more
 
       abbrev BodyOf : Statements → Type 0
-      BodyOf b = (next : ℕ) (more : List ℕ) → k ≤ next → AreThere count b → AreNumbered script next (spawned b ++ more) → IsBody b next more (unread_body names below b)
+      BodyOf b = (next : ℕ) (more : List ℕ) → k ≤ next → KeepsModes accesses b → AreNumbered script next (spawned b ++ more) → IsBody b next more (unread_body names below b)
 
       body_nothing : BodyOf Nothing
       body_nothing next more late there numbers = record {
@@ -137,11 +151,11 @@ module _ (names : KnownNames) (distinct : AreDistinct names.documents) where
       body_show : (d : ℕ) (r : Statements) → BodyOf r → BodyOf (Show d r)
       body_show d r rest_is next more late (there, others) numbers =
           let p = rest_is next more late others numbers in
-          let here = place_again d there in
+          let here = place_again d (is_in observes d there) in
           record {
             statements = λ i. Show (here i) (p.statements i);
             behaviours = p.behaviours;
-            known = All-cons (IsDocument names) (name_at names d) _ (document_there d there) p.known;
+            known = All-cons (IsDocument names) (name_at names d) _ (document_there d (is_in observes d there)) p.known;
             sizes = p.sizes;
             behind = p.behind;
           }
@@ -154,11 +168,11 @@ module _ (names : KnownNames) (distinct : AreDistinct names.documents) where
       body_add : (d : ℕ) (w : List ℕ) (r : Statements) → BodyOf r → BodyOf (Add d w r)
       body_add d w r rest_is next more late (there, others) numbers =
           let p = rest_is next more late others numbers in
-          let here = place_again d there in
+          let here = place_again d (is_in alters d there) in
           record {
             statements = λ i. Add (here i) w (p.statements i);
             behaviours = p.behaviours;
-            known = All-cons (IsDocument names) (name_at names d) _ (document_there d there) p.known;
+            known = All-cons (IsDocument names) (name_at names d) _ (document_there d (is_in alters d there)) p.known;
             sizes = p.sizes;
             behind = p.behind;
           }
@@ -166,11 +180,11 @@ module _ (names : KnownNames) (distinct : AreDistinct names.documents) where
       body_set : (d : ℕ) (w : List ℕ) (r : Statements) → BodyOf r → BodyOf (Set d w r)
       body_set d w r rest_is next more late (there, others) numbers =
           let p = rest_is next more late others numbers in
-          let here = place_again d there in
+          let here = place_again d (is_in is_write d there) in
           record {
             statements = λ i. Set (here i) w (p.statements i);
             behaviours = p.behaviours;
-            known = All-cons (IsDocument names) (name_at names d) _ (document_there d there) p.known;
+            known = All-cons (IsDocument names) (name_at names d) _ (document_there d (is_in is_write d there)) p.known;
             sizes = p.sizes;
             behind = p.behind;
           }
@@ -184,12 +198,12 @@ module _ (names : KnownNames) (distinct : AreDistinct names.documents) where
       body_copy : (d e : ℕ) (r : Statements) → BodyOf r → BodyOf (Copy d e r)
       body_copy d e r rest_is next more late (here, there, others) numbers =
           let p = rest_is next more late others numbers in
-          let from = place_again d here in
-          let to = place_again e there in
+          let from = place_again d (is_in observes d here) in
+          let to = place_again e (is_in is_write e there) in
           record {
             statements = λ i. Copy (from i) (to i) (p.statements i);
             behaviours = p.behaviours;
-            known = two_known d e _ here there p.known;
+            known = two_known d e _ (is_in observes d here) (is_in is_write e there) p.known;
             sizes = p.sizes;
             behind = p.behind;
           }
@@ -197,12 +211,12 @@ module _ (names : KnownNames) (distinct : AreDistinct names.documents) where
       body_pour : (d e : ℕ) (r : Statements) → BodyOf r → BodyOf (Pour d e r)
       body_pour d e r rest_is next more late (here, there, others) numbers =
           let p = rest_is next more late others numbers in
-          let from = place_again d here in
-          let to = place_again e there in
+          let from = place_again d (is_in observes d here) in
+          let to = place_again e (is_in alters e there) in
           record {
             statements = λ i. Pour (from i) (to i) (p.statements i);
             behaviours = p.behaviours;
-            known = two_known d e _ here there p.known;
+            known = two_known d e _ (is_in observes d here) (is_in alters e there) p.known;
             sizes = p.sizes;
             behind = p.behind;
           }
@@ -227,7 +241,7 @@ module _ (names : KnownNames) (distinct : AreDistinct names.documents) where
           let p = then_is next (spawned e ++ (spawned r ++ more)) late there_t (subst (AreNumbered script next) split numbers) in
           let q = else_is (next + whens u) (spawned r ++ more) (omega arith) there_e p.behind in
           let s = rest_is (next + whens u + whens v) more (omega arith) there_r q.behind in
-          let here = place_again d there in
+          let here = place_again d (is_in observes d there) in
           let end : next + whens u + whens v + whens z ≡ next + (whens u + (whens v + whens z)) = omega arith in
           let a_list = spawned_from names next u in
           let b_list = spawned_from names (next + whens u) v in
@@ -237,7 +251,7 @@ module _ (names : KnownNames) (distinct : AreDistinct names.documents) where
             behaviours = p.behaviours ∙ ap (λ l. a_list ++ l) (q.behaviours ∙ ap (λ l. b_list ++ l) (s.behaviours ∙ ap (λ n. c_list ++ drop n script) end))
                 ∙ ap (λ l. a_list ++ l) (sym (append_assoc b_list c_list (drop (next + (whens u + (whens v + whens z))) script)))
                 ∙ sym (append_assoc a_list (b_list ++ c_list) (drop (next + (whens u + (whens v + whens z))) script));
-            known = All-cons (IsDocument names) (name_at names d) _ (document_there d there)
+            known = All-cons (IsDocument names) (name_at names d) _ (document_there d (is_in observes d there))
                 (All-append (IsDocument names) (names_in u) (names_in v ++ names_in z) p.known (All-append (IsDocument names) (names_in v) (names_in z) q.known s.known));
             sizes = omega (arith, sum_by-append size_of (spawned t ++ spawned e) (spawned r), sum_by-append size_of (spawned t) (spawned e), p.sizes, q.sizes, s.sizes);
             behind = subst (λ n. AreNumbered script n more) end s.behind;
@@ -280,7 +294,7 @@ module _ (names : KnownNames) (distinct : AreDistinct names.documents) where
     -- ---- a behaviour
 
     -- a behaviour with accesses, and what its body stands for
-    when_reads : (accesses : List Access) (u : SpelledBody) (k size : ℕ) → 0 < length accesses → All (IsAccessThere count) accesses → size ≡ 1 + whens u → size_at script k ≡ 1 + whens u
+    when_reads : (accesses : List Access) (u : SpelledBody) (k size : ℕ) → 0 < length accesses → AreIn count accesses → size ≡ 1 + whens u → size_at script k ≡ 1 + whens u
         → drop k script ≡ record { accesses = accesses; body = numbered names (k + 1) u } ∷ (spawned_from names (k + 1) u ++ drop (k + (1 + whens u)) script)
         → All (IsDocument names) (names_in u) → Reads k (unread_when names accesses u) size
     when_reads [] u k size some there size_is within is known = absurd (omega arith)
@@ -293,7 +307,7 @@ module _ (names : KnownNames) (distinct : AreDistinct names.documents) where
           known = All-append (IsDocument names) (documents_in (map (unread_access names) (first ∷ more))) (names_in u) (accesses_known (first ∷ more) there) known;
         }
 
-    module _ (preorder : IsPreorder script) (each : All IsBehaviour script) (there : All (IsThere count) script) where
+    module _ (preorder : IsPreorder script) (each : All IsBehaviour script) (there : AreThere names script) where
       -- the first of the behaviours from this number on
       first_reads : (k : ℕ) (part : Part) (rest : List Part) → drop k script ≡ part ∷ rest → ReadsFrom (k + 1) rest
           → Reads k (get_or (unread_from names k (part ∷ rest)) 0 no_when) (get_or (sizes_from k (part ∷ rest)) 0 0)
@@ -301,18 +315,18 @@ module _ (names : KnownNames) (distinct : AreDistinct names.documents) where
           let long : k < length script = omega (arith, length-drop k script, ap length is) in
           let at : get_or script k no_part ≡ part = ap (λ n. get_or script n no_part) (sym (add-zero _)) ∙ sym (get_or-drop k script 0 no_part) ∙ ap (λ l. get_or l 0 no_part) is in
           let own : IsBehaviour part = subst IsBehaviour at (All-get_or IsBehaviour script k no_part long each) in
-          let known : IsThere count part = subst (IsThere count) at (All-get_or (IsThere count) script k no_part long there) in
+          let listed : AreIn count part.accesses = subst (AreOfPart names) at (All-get_or (AreOfPart names) script k no_part long there) in
           let numbers : AreNumbered script (k + 1) (spawned part.body ++ []) =
           subst (AreNumbered script (k + 1)) (sym (append-nil (spawned part.body))) (subst (λ (p : Part). AreNumbered script (k + 1) (spawned p.body)) at (preorder.numbered k long)) in
           let u = unread_body names (below_from names (k + 1) rest) part.body in
-          let p = body_is (k + 1) rest reads part.body (k + 1) [] (omega arith) known.statements numbers in
+          let p = body_is (k + 1) rest reads part.accesses listed part.body (k + 1) [] (omega arith) own.modes numbers in
           let size = get_or (sizes_from k (part ∷ rest)) 0 0 in
           let size_is : size ≡ 1 + whens u = ap (λ n. 1 + n) p.sizes in
           let within : size_at script k ≡ size = size_there script 0 k ∙ (λ i. get_or (sizes_from (zero-add k i) (is i)) 0 0) in
           let next : drop (k + 1) script ≡ rest = sym (drop-drop 1 k script) ∙ ap (drop 1) is in
           let same : k + 1 + whens u ≡ k + (1 + whens u) = omega arith in
           let others : rest ≡ spawned_from names (k + 1) u ++ drop (k + (1 + whens u)) script = sym next ∙ p.behaviours ∙ ap (λ n. spawned_from names (k + 1) u ++ drop n script) same in
-          when_reads part.accesses u k size own.some known.accesses size_is (within ∙ size_is)
+          when_reads part.accesses u k size own.some listed size_is (within ∙ size_is)
           (is ∙ (λ i. record { accesses = part.accesses; body = (sym p.statements) i } ∷ others i)) p.known
 
       -- the tables have the `when` of each of the behaviours from this number on
