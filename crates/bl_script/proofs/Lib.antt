@@ -22,6 +22,7 @@ pub mod Numbering
 pub mod Behaviours
 pub mod RawLists
 pub mod Built
+pub mod Writing
 pub mod Firsts
 pub mod Joined
 pub mod Passes
@@ -30,3 +31,9 @@ pub mod Declared
 pub mod Few
 pub mod Uses
 pub mod KnownLines
+pub mod Tidy
+pub mod ReadBack
+pub mod Knowing
+pub mod Reread
+pub mod Faultless
+pub mod ReadAgain

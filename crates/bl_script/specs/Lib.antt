@@ -30,3 +30,7 @@ pub mod LineGrammar
 pub mod KnownLine
 pub mod LineFaults
 pub mod Building
+pub mod Unread
+pub mod Known
+pub mod There
+pub mod Writing

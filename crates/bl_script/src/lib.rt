@@ -3,6 +3,7 @@
 
 pub mod answer;
 pub mod build;
+pub mod canonical;
 pub mod check;
 pub mod count;
 pub mod document;
@@ -16,7 +17,10 @@ pub mod parse;
 pub mod raw;
 pub mod read;
 pub mod script;
+pub mod sink;
+mod spell;
 pub mod stop;
 #[cfg(test)]
 mod tests;
 pub mod work;
+pub mod write;
