@@ -1,11 +1,12 @@
 -- What a read line names is in the setup whose names it was read under.
 use Rattle.std.proofs.Common.{ℕ, ◌<◌, List, length, subst}
+use Rattle.bl_policy.specs.RuleEffect.{HasIdsBelow}
 use Rattle.bl_script.specs.LineGrammar.{LineOf}
 use Rattle.bl_script.specs.KnownLine.{IsKnownLine}
 use Rattle.bl_script.specs.declared.line.Line.{Line}
 use Rattle.bl_script.specs.declared.line.Line.TheVariants as asked
 use Rattle.bl_script.specs.declared.work.Work.{Work}
-use Rattle.bl_script.specs.declared.work.Work.TheVariants.{Behaviour}
+use Rattle.bl_script.specs.declared.work.Work.TheVariants.{Behaviour, Rule}
 use Rattle.bl_script.specs.Names.{KnownNames}
 use Rattle.bl_setup.specs.Agreement.{Agree}
 use Rattle.bl_setup.specs.Order.{Setup}
@@ -20,3 +21,6 @@ module _ (known : (names : KnownNames) (bytes : List ℕ) (line : Line) → Line
   pub work_in_setup : (setup : Setup) (bytes : List ℕ) (work : Work) → Agree setup → LineOf setup.names bytes (asked.Work work) → KnowsWork setup work
   work_in_setup setup bytes (Behaviour script) agree is =
       subst (λ n. AreBelow n script) agree.documents (known setup.names bytes (asked.Work (Behaviour script)) is)
+  work_in_setup setup bytes (Rule rule) agree is =
+      subst (λ n. HasIdsBelow n (length setup.policy.documents) rule) agree.subjects
+      (subst (λ n. HasIdsBelow (length setup.names.subjects) n rule) agree.documents (known setup.names bytes (asked.Work (Rule rule)) is))

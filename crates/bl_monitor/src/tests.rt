@@ -118,7 +118,7 @@ fn is_done(answer: &Answer, texts: &[&[u8]]) -> bool {
                     .zip(texts)
                     .all(|(shown, text)| shown.bytes() == *text)
         }
-        Answer::Denied(_) | Answer::Lost => false,
+        Answer::RuleDone | Answer::Denied(_) | Answer::Lost => false,
     }
 }
 
@@ -137,7 +137,7 @@ fn ann_is_shown(
 fn is_star_ann_note(answer: &Answer) -> bool {
     match answer {
         Answer::Denied(denial) => Some(*denial) == star_ann_note(),
-        Answer::Done(_) | Answer::Lost => false,
+        Answer::Done(_) | Answer::RuleDone | Answer::Lost => false,
     }
 }
 
@@ -151,7 +151,7 @@ fn ann_is_denied_note(monitor: &mut Monitor, alloc: Global, text: &[u8]) -> Resu
 fn is_lost(monitor: &mut Monitor, alloc: Global, text: &[u8]) -> Result<bool, Fail> {
     match answer_to(monitor, alloc, b"hello ann", text, true)? {
         Answer::Lost => Ok(true),
-        Answer::Done(_) | Answer::Denied(_) => Ok(false),
+        Answer::Done(_) | Answer::RuleDone | Answer::Denied(_) => Ok(false),
     }
 }
 
@@ -288,3 +288,5 @@ fn lost_entry_keeps_its_fault(rt: HostRuntime) -> Result<(), Fail> {
     assert_eq!(rt; monitor.children(0), None);
     Ok(())
 }
+
+mod rules;

@@ -1,9 +1,10 @@
 -- The lines that speak of known subjects and documents alone.
 use Rattle.std.specs.Prelude.{ℕ, ◌<◌, List, All, length}
 use Rattle.bl_policy.specs.declared.access.Access.{Access}
+use Rattle.bl_policy.specs.RuleEffect.{HasIdsBelow}
 use Rattle.bl_script.specs.declared.line.Line.{Line}
 use Rattle.bl_script.specs.declared.line.Line.TheVariants as line
-use Rattle.bl_script.specs.declared.work.Work.TheVariants.{Behaviour}
+use Rattle.bl_script.specs.declared.work.Work.TheVariants.{Behaviour, Rule}
 use Rattle.bl_script.specs.Names.{KnownNames}
 use Rattle.bl_script.specs.Statements.{Part}
 
@@ -18,8 +19,9 @@ DeclaresKnown names part = All (λ (access : Access). IsKnownDocument names acce
 abbrev pub AreKnown : KnownNames → List Part → Type 0
 AreKnown names script = All (DeclaresKnown names) script
 
--- the subject is known, or the documents that the script declares are
+-- the subject is known, or the documents that the script declares are, or what the rule names
 abbrev pub IsKnownLine : KnownNames → Line → Type 0
 IsKnownLine names (line.Hello subject) = subject < length names.subjects
 IsKnownLine names line.Wait = Unit {0}
 IsKnownLine names (line.Work (Behaviour script)) = AreKnown names script
+IsKnownLine names (line.Work (Rule rule)) = HasIdsBelow (length names.subjects) (length names.documents) rule

@@ -1,0 +1,229 @@
+//! Rules among the entries of an order, each answered as the worked examples have it.
+ghost use Rattle.std.specs.Prelude.{IfOk};
+ghost use Rattle.bl_monitor.specs.Heard.{Knows};
+
+use super::{SHOW_MEMO, ann_is_shown, answer_to, base_monitor, is_done, monitor_over};
+use crate::monitor::{Entry, Monitor};
+use bl_level::level::Level;
+use bl_policy::access::Mode;
+use bl_policy::denial::{Clause, Denial};
+use bl_policy::id::{DocId, SubjectId};
+use bl_policy::rule::Rule;
+use bl_script::answer::Answer;
+use bl_script::work::Work;
+use bl_setup::setup::Setup;
+use std::alloc::Global;
+use std::test::Fail;
+
+/// The subjects of the base setup, in order, and one behind them.
+const ANN: u16 = 0;
+
+const BOB: u16 = 1;
+
+const CAT: u16 = 2;
+
+const ROOT: u16 = 3;
+
+const DAN: u16 = 4;
+
+/// The documents of the base setup, in order.
+const MEMO: u16 = 0;
+
+const NOTE: u16 = 1;
+
+/// The ranks of the base setup, and its first category.
+const C: u8 = 1;
+
+const S: u8 = 2;
+
+const T: u8 = 3;
+
+const NATO: u32 = 1;
+
+/// A rule of a subject, which the setup has, and so has it what the rule names.
+fn entry_of(setup: &Setup, subject: u16, rule: Rule, lost: bool) -> Result<Entry, Fail>
+    ensures { IfOk result (Knows setup.now) }
+{
+    let policy = setup.policy();
+    let is_there = (subject as usize) < policy.subjects();
+    if !is_there || !rule.has_ids_below(policy.subjects(), policy.documents()) {
+        return Err(Fail::new("not of this setup"));
+    }
+    Ok(Entry::Line {
+        subject: SubjectId::new(subject),
+        work: Work::Rule(rule),
+        lost,
+    })
+}
+
+/// The answer of a rule.
+fn answer_of(monitor: &mut Monitor, subject: u16, rule: Rule, lost: bool) -> Result<Answer, Fail> {
+    let setup = monitor.share_setup()?;
+    let entry = entry_of(&setup, subject, rule, lost)?;
+    Ok(monitor.next(entry)?)
+}
+
+/// Whether a rule is done.
+fn is_made(monitor: &mut Monitor, subject: u16, rule: Rule) -> Result<bool, Fail> {
+    match answer_of(monitor, subject, rule, false)? {
+        Answer::RuleDone => Ok(true),
+        Answer::Done(_) | Answer::Denied(_) | Answer::Lost => Ok(false),
+    }
+}
+
+/// The denial that an answer names.
+fn denial_of(answer: &Answer) -> Option<Denial> {
+    match answer {
+        Answer::Denied(denial) => Some(*denial),
+        Answer::Done(_) | Answer::RuleDone | Answer::Lost => None,
+    }
+}
+
+/// What a rule is denied with.
+fn refusal(monitor: &mut Monitor, subject: u16, rule: Rule) -> Result<Option<Denial>, Fail> {
+    let answer = answer_of(monitor, subject, rule, false)?;
+    Ok(denial_of(&answer))
+}
+
+/// What a line of the subject that a first line greets for is denied with.
+fn line_refusal(
+    monitor: &mut Monitor,
+    alloc: Global,
+    first: &[u8],
+    text: &[u8],
+) -> Result<Option<Denial>, Fail> {
+    let answer = answer_to(monitor, alloc, first, text, false)?;
+    Ok(denial_of(&answer))
+}
+
+fn denied(clause: Clause, subject: u16, object: Option<u16>) -> Option<Denial> {
+    let object = match object {
+        Some(doc) => Some(DocId::new(doc)),
+        None => None,
+    };
+    Some(Denial {
+        clause,
+        subject: SubjectId::new(subject),
+        object,
+    })
+}
+
+fn level(rank: u8, categories: u32) -> Result<Level, Fail> {
+    match Level::new(rank, categories) {
+        Some(level) => Ok(level),
+        None => Err(Fail::new("no such rank")),
+    }
+}
+
+/// `current ..`
+fn current(rank: u8, categories: u32) -> Result<Rule, Fail> {
+    Ok(Rule::Current {
+        level: level(rank, categories)?,
+    })
+}
+
+/// `classify note c`
+fn classify_note() -> Result<Rule, Fail> {
+    Ok(Rule::Classify {
+        doc: DocId::new(NOTE),
+        level: level(C, 0)?,
+    })
+}
+
+/// `give cat .. r`
+fn give_cat(doc: u16) -> Rule {
+    Rule::Give {
+        subject: SubjectId::new(CAT),
+        doc: DocId::new(doc),
+        mode: Mode::Read,
+    }
+}
+
+/// `rescind .. memo ..`
+fn rescind_memo(subject: u16, mode: Mode) -> Rule {
+    Rule::Rescind {
+        subject: SubjectId::new(subject),
+        doc: DocId::new(MEMO),
+        mode,
+    }
+}
+
+#[test]
+fn rules_and_their_checks(rt: HostRuntime) -> Result<(), Fail> {
+    let mut monitor = base_monitor(rt.alloc())?;
+    let told = refusal(&mut monitor, ANN, give_cat(MEMO))?;
+    assert_eq!(rt; told, denied(Clause::Admin, ANN, Some(MEMO)));
+    assert!(rt; is_made(&mut monitor, ANN, current(S, 0)?)?);
+    let told = refusal(&mut monitor, ANN, current(T, 0)?)?;
+    assert_eq!(rt; told, denied(Clause::Greatest, ANN, None));
+    let line = b"when write memo do end";
+    let told = line_refusal(&mut monitor, rt.alloc(), b"hello ann", line)?;
+    assert_eq!(rt; told, denied(Clause::Star, ANN, Some(MEMO)));
+    Ok(())
+}
+
+/// A rule has no fault of an access and no children, denied or done.
+#[test]
+fn rules_have_neither_faults_nor_children(rt: HostRuntime) -> Result<(), Fail> {
+    let mut monitor = base_monitor(rt.alloc())?;
+    let told = refusal(&mut monitor, ANN, give_cat(MEMO))?;
+    assert_eq!(rt; told, denied(Clause::Admin, ANN, Some(MEMO)));
+    assert!(rt; is_made(&mut monitor, ROOT, give_cat(NOTE))?);
+    assert_eq!(rt; monitor.fault(0), None);
+    assert_eq!(rt; monitor.children(0), None);
+    assert_eq!(rt; monitor.children(1), None);
+    Ok(())
+}
+
+const APPEND_B: &[u8] = b"when append memo do add memo \"b\"; end";
+
+#[test]
+fn write_does_not_stand_for_append(rt: HostRuntime) -> Result<(), Fail> {
+    let mut monitor = base_monitor(rt.alloc())?;
+    assert!(rt; is_made(&mut monitor, BOB, current(S, NATO)?)?);
+    let answer = answer_to(&mut monitor, rt.alloc(), b"hello bob", APPEND_B, false)?;
+    assert!(rt; is_done(&answer, &[]));
+    assert!(rt; is_made(&mut monitor, ROOT, rescind_memo(BOB, Mode::Append))?);
+    let told = line_refusal(&mut monitor, rt.alloc(), b"hello bob", APPEND_B)?;
+    assert_eq!(rt; told, denied(Clause::Discretionary, BOB, Some(MEMO)));
+    assert!(rt; ann_is_shown(&mut monitor, rt.alloc(), SHOW_MEMO, &[b"m1b"])?);
+    Ok(())
+}
+
+#[test]
+fn rescind_between_reads(rt: HostRuntime) -> Result<(), Fail> {
+    let mut monitor = base_monitor(rt.alloc())?;
+    assert!(rt; ann_is_shown(&mut monitor, rt.alloc(), SHOW_MEMO, &[b"m1"])?);
+    assert!(rt; is_made(&mut monitor, ROOT, rescind_memo(ANN, Mode::Read))?);
+    let told = line_refusal(&mut monitor, rt.alloc(), b"hello ann", SHOW_MEMO)?;
+    assert_eq!(rt; told, denied(Clause::Discretionary, ANN, Some(MEMO)));
+    assert_eq!(rt;
+        monitor.fault(2),
+        denied(Clause::Discretionary, ANN, Some(MEMO))
+    );
+    Ok(())
+}
+
+/// The same, where the rule is lost.
+#[test]
+fn lost_rule_changes_nothing(rt: HostRuntime) -> Result<(), Fail> {
+    let mut monitor = base_monitor(rt.alloc())?;
+    let answer = answer_of(&mut monitor, ROOT, rescind_memo(ANN, Mode::Read), true)?;
+    assert!(rt; matches!(answer, Answer::Lost));
+    assert!(rt; ann_is_shown(&mut monitor, rt.alloc(), SHOW_MEMO, &[b"m1"])?);
+    Ok(())
+}
+
+#[test]
+fn classify_needs_trust(rt: HostRuntime) -> Result<(), Fail> {
+    let more = b"subject dan greatest u current u admin\n";
+    let mut monitor = monitor_over(rt.alloc(), b"\"n1\"", more)?;
+    let told = refusal(&mut monitor, DAN, classify_note()?)?;
+    assert_eq!(rt; told, denied(Clause::Trusted, DAN, Some(NOTE)));
+    assert!(rt; is_made(&mut monitor, DAN, give_cat(NOTE))?);
+    assert!(rt; is_made(&mut monitor, ROOT, classify_note()?)?);
+    let line = b"when read note do end";
+    let told = line_refusal(&mut monitor, rt.alloc(), b"hello bob", line)?;
+    assert_eq!(rt; told, denied(Clause::Star, BOB, Some(NOTE)));
+    Ok(())
+}
