@@ -53,7 +53,7 @@ contents_numbered names (spawn f m b rest) next (h, i) = contents_numbered names
 -- ---- modes
 
 -- bytes that compare as equal are the same
-same_bytes : (a b : List ℕ) → bytes_eq a b ≡ true → a ≡ b
+pub same_bytes : (a b : List ℕ) → bytes_eq a b ≡ true → a ≡ b
 same_bytes a b h = let d = bytes_eq-Decides a b in grind (arith, d)
 
 module _ (names : KnownNames) where
@@ -132,7 +132,7 @@ module _ (names : KnownNames) where
 -- ---- accesses
 
 -- an element that passes stands before the end
-first_within : (p : List ℕ → Bool) (xs : List (List ℕ)) (k : ℕ) (d : List ℕ) → k < length xs → p (get_or xs k d) ≡ true → position_or_len p xs < length xs
+pub first_within : (p : List ℕ → Bool) (xs : List (List ℕ)) (k : ℕ) (d : List ℕ) → k < length xs → p (get_or xs k d) ≡ true → position_or_len p xs < length xs
 first_within p [] k d lt h = absurd (omega arith)
 first_within p (x ∷ xs) zero d lt h = rw h (omega arith)
 first_within p (x ∷ xs) (suc k) d lt h = go (p x) (first_within p xs k d (omega arith) h)
@@ -143,7 +143,7 @@ first_within p (x ∷ xs) (suc k) d lt h = go (p x) (first_within p xs k d (omeg
 
 module _ (documents : List (List ℕ)) where
   -- the place of a name that stands there has the name
-  at_place : (a : List ℕ) → Contains documents a → get_or documents (unwrap_or (place_of a documents) 0) [] ≡ a
+  pub at_place : (a : List ℕ) → Contains documents a → get_or documents (unwrap_or (place_of a documents) 0) [] ≡ a
   at_place a (k, lt, at) =
       let itself : bytes_eq a a ≡ true = let d = bytes_eq-Decides a a in grind (arith, d) in
       let within = first_within (bytes_eq a) documents k a lt (ap (bytes_eq a) at ∙ itself) in
@@ -153,7 +153,7 @@ module _ (documents : List (List ℕ)) where
       ap (λ o. get_or documents (unwrap_or o 0) []) place ∙ sym (same_bytes a _ found.1)
 
   -- names with one place are one name
-  one_place : (a b : List ℕ) → Contains documents a → Contains documents b → unwrap_or (place_of a documents) 0 ≡ unwrap_or (place_of b documents) 0 → a ≡ b
+  pub one_place : (a b : List ℕ) → Contains documents a → Contains documents b → unwrap_or (place_of a documents) 0 ≡ unwrap_or (place_of b documents) 0 → a ≡ b
   one_place a b here there same = sym (at_place a here) ∙ ap (λ n. get_or documents n []) same ∙ at_place b there
 
 -- what was declared before is not declared again
@@ -193,11 +193,11 @@ module _ (names : KnownNames) where
   -- ---- the behaviours
 
   -- not too many accesses
-  abbrev IsShort : List SpelledAccess → Type 0
+  abbrev pub IsShort : List SpelledAccess → Type 0
   IsShort list = length list ≤ most_accesses
 
   -- what a faultless `when` says of a body in it, under these accesses
-  record IsRight (list : List SpelledAccess) (b : SpelledBody) : Type 0 where
+  pub record IsRight (list : List SpelledAccess) (b : SpelledBody) : Type 0 where
     pub short : All IsShort (lists_in b)
     pub known : All (Contains names.documents) (names_in b)
     pub once : All IsOnce (declarations_in b)

@@ -32,3 +32,9 @@ pub mod WhenFaults
 pub mod Declared
 pub mod Few
 pub mod Uses
+pub mod Tidy
+pub mod ReadBack
+pub mod Knowing
+pub mod Reread
+pub mod Faultless
+pub mod ReadAgain

@@ -30,5 +30,6 @@ pub mod LineGrammar
 pub mod LineFaults
 pub mod Building
 pub mod Unread
+pub mod Known
 pub mod There
 pub mod Writing

@@ -3,6 +3,7 @@
 
 pub mod answer;
 pub mod build;
+pub mod canonical;
 pub mod check;
 pub mod count;
 pub mod document;
