@@ -33,3 +33,4 @@ pub mod Unread
 pub mod Known
 pub mod There
 pub mod Writing
+pub mod Counting
