@@ -24,12 +24,12 @@ use Rattle.bl_script.specs.WhenFaults.{lists_in, documents_in, names_in, Declara
 
 module _ {X : Type 0} (P : X → Type 0) where
   -- what holds of all holds of the front
-  all_left : (xs ys : List X) → All P (xs ++ ys) → All P xs
+  pub all_left : (xs ys : List X) → All P (xs ++ ys) → All P xs
   all_left [] ys h = All-nil P
   all_left (x ∷ xs) ys h = All-cons P x xs (All-head P x (xs ++ ys) h) (all_left xs ys (All-tail P x (xs ++ ys) h))
 
   -- what holds of all holds of what stands behind
-  all_right : (xs ys : List X) → All P (xs ++ ys) → All P ys
+  pub all_right : (xs ys : List X) → All P (xs ++ ys) → All P ys
   all_right [] ys h = h
   all_right (x ∷ xs) ys h = all_right xs ys (All-tail P x (xs ++ ys) h)
 

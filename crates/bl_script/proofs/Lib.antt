@@ -23,6 +23,8 @@ pub mod Behaviours
 pub mod RawLists
 pub mod Built
 pub mod Writing
+pub mod Unreading
+pub mod Walking
 pub mod Firsts
 pub mod Joined
 pub mod Passes

@@ -51,7 +51,10 @@ fn put_access<S: Sink>(sink: &mut S, names: &Names, access: Access) -> Result<()
     ensures { OnOk result (sink.new ≡ fold S.taken sink.old (spell_access (unread_access names.now access) [])) }
 {
     let name = name_of(names, access.doc);
-    put_all(sink, &[Token::Reserved(mode_word(access.mode)), Token::Name(name)])
+    put_all(
+        sink,
+        &[Token::Reserved(mode_word(access.mode)), Token::Name(name)],
+    )
 }
 
 /// Puts the accesses behind the first one of a `when`.
@@ -79,7 +82,15 @@ fn put_change<'a, S: Sink>(
         (reserved word ∷ name (name_at names.now doc) ∷ text words.now ∷ sign Semicolon ∷ [])) }
 {
     let document = Token::Name(name_of(names, doc));
-    put_all(sink, &[Token::Reserved(word), document, Token::Text(words), SEMICOLON])
+    put_all(
+        sink,
+        &[
+            Token::Reserved(word),
+            document,
+            Token::Text(words),
+            SEMICOLON,
+        ],
+    )
 }
 
 /// Puts a statement that copies or pours a document into another.
@@ -98,7 +109,10 @@ fn put_move<S: Sink>(
     let source = Token::Name(name_of(names, from));
     let target = Token::Name(name_of(names, to));
     let to_word = Token::Reserved(Keyword::To);
-    put_all(sink, &[Token::Reserved(word), source, to_word, target, SEMICOLON])
+    put_all(
+        sink,
+        &[Token::Reserved(word), source, to_word, target, SEMICOLON],
+    )
 }
 
 /// Puts the condition of an `if`.
@@ -116,7 +130,16 @@ fn put_condition<'a, S: Sink>(
     let document = Token::Name(name_of(names, doc));
     let asks = Token::Reserved(asks_word(test));
     let then = Token::Reserved(Keyword::Then);
-    put_all(sink, &[Token::Reserved(Keyword::If), document, asks, Token::Text(words), then])
+    put_all(
+        sink,
+        &[
+            Token::Reserved(Keyword::If),
+            document,
+            asks,
+            Token::Text(words),
+            then,
+        ],
+    )
 }
 
 /// Puts the `when` of a behaviour.
@@ -177,7 +200,10 @@ fn put_statement<S: Sink>(
     match statement {
         Stmt::Show(doc) => {
             let name = name_of(names, *doc);
-            put_all(sink, &[Token::Reserved(Keyword::Show), Token::Name(name), SEMICOLON])
+            put_all(
+                sink,
+                &[Token::Reserved(Keyword::Show), Token::Name(name), SEMICOLON],
+            )
         }
         Stmt::Say(text) => {
             let text = Token::Text(text.bytes());

@@ -1,26 +1,27 @@
-use Rattle.std.proofs.Common.{◌≡◌, ◌<◌, [], ◌∷◌, map, fold, length, OnOk, ℕ, ◌+◌, ◌-◌, ◌*◌, ◌≤◌}
-use Rattle.bl_level.specs.Token.{reserved, name, text, sign}
-use Rattle.bl_level.specs.declared.token.Keyword.TheVariants.{To, If, Then}
-use Rattle.bl_level.specs.declared.token.Sign.TheVariants.{Semicolon}
+use Rattle.std.proofs.Common.{◌≡◌, ◌+◌, ◌*◌, [], ◌∷◌, drop}
+use Rattle.std.specs.List.{fold}
 use Rattle.bl_script.specs.Body.{statements_of}
-use Rattle.bl_script.specs.Script.{IsScript}
-use Rattle.bl_script.specs.Spelled.{spell_access, spell_more, spell_body}
-use Rattle.bl_script.specs.Spelled as spelled
-use Rattle.bl_script.specs.There.{AreIn, AreThere, AreWithin}
-use Rattle.bl_script.specs.Unread.{name_at, unread_access, unread_body, unread_at, tokens_of, spell_else}
+use Rattle.bl_script.specs.RawBodies.{raw_depth}
+use Rattle.bl_script.specs.Spelled.{spell_body}
+use Rattle.bl_script.specs.Unread.{unread_body, unread_at}
 use Rattle.bl_script.proofs.spell.+spell.Given as goal
 
-abbrev pub decreases-put_else : goal.decreases-put_else
-decreases-put_else g l = goal.size-put_else g l
-
-abbrev pub decreases-put_statement : goal.decreases-put_statement
-decreases-put_statement g l = goal.size-put_statement g l
+-- how many bodies stand in one another, as they are spelled, where a `when` and an `else` are more than their body, that more than
+-- one of its statements, and that more than what stands in it
+abbrev pub decreases-put_when : goal.decreases-put_when
+decreases-put_when g l = 4 * raw_depth (unread_at l.names.now l.script.now l.index).body + 4
 
 abbrev pub decreases-put_statements : goal.decreases-put_statements
-decreases-put_statements g l = goal.size-put_statements g l
+decreases-put_statements g l = 4 * raw_depth (unread_body l.names.now (unread_at l.names.now l.script.now) (statements_of l.statements.now)) + 3
 
-abbrev pub decreases-put_when : goal.decreases-put_when
-decreases-put_when g l = ?
+abbrev pub decreases-put_statement : goal.decreases-put_statement
+decreases-put_statement g l = 4 * raw_depth (unread_body l.names.now (unread_at l.names.now l.script.now) (statements_of (l.statement.now ∷ []))) + 2
 
+abbrev pub decreases-put_else : goal.decreases-put_else
+decreases-put_else g l = 4 * raw_depth (unread_body l.names.now (unread_at l.names.now l.script.now) (statements_of l.statements.now)) + 4
+
+-- what is put, and what is left, are all
 abbrev pub invariant-put_statements-loop-statement : goal.invariant-put_statements-loop-statement
-invariant-put_statements-loop-statement g l = ?
+invariant-put_statements-loop-statement g l =
+    fold g.S.Sink.taken l.sink (spell_body (unread_body l.names (unread_at l.names l.script) (statements_of (drop l.statement-index l.statements))))
+    ≡ fold g.S.Sink.taken l.initial.sink (spell_body (unread_body l.names (unread_at l.names l.script) (statements_of l.statements)))

@@ -7,5 +7,5 @@ use Rattle.bl_script.proofs.spell.put_more.Given as goal
 -- what is put, and what is left, are all
 abbrev pub invariant-loop-access : goal.invariant-loop-access
 invariant-loop-access g l =
-    fold g.S.Sink.taken l.sink (spell_more (map (unread_access l.names.now) (drop l.access-index l.accesses)) [])
-    ≡ fold g.S.Sink.taken l.initial.sink (spell_more (map (unread_access l.names.now) l.accesses) [])
+    fold g.S.Sink.taken l.sink (spell_more (map (unread_access l.names) (drop l.access-index l.accesses)) [])
+    ≡ fold g.S.Sink.taken l.initial.sink (spell_more (map (unread_access l.names) l.accesses) [])
