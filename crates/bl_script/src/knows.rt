@@ -3,12 +3,13 @@
 ghost use Rattle.std.specs.Prelude.{◌≡◌, ◌↔◌, ◌≤◌, ℕ, List, length, IsTrue};
 ghost use Rattle.bl_level.specs.Token.{tok};
 ghost use Rattle.bl_level.specs.Canonical.{spelled};
-ghost use Rattle.bl_script.specs.Counting.{counted, nothing_counted, bytes_behind};
-ghost use Rattle.bl_script.specs.Known.{IsKnown, canonical_script};
+ghost use Rattle.bl_script.specs.Counting.{counted, nothing_counted};
+ghost use Rattle.bl_script.specs.Known.{canonical_script};
 ghost use Rattle.bl_script.specs.LineGrammar.{LineOf, most_line_bytes};
 ghost use Rattle.bl_script.specs.Script.{IsScript};
 ghost use Rattle.bl_script.specs.There.{AreIn, AreThere};
 ghost use Rattle.bl_script.specs.declared.line.Line.TheVariants as asked;
+ghost use Rattle.bl_script.specs.declared.work.Work.TheVariants.{Behaviour};
 
 use crate::canonical::{canonical_script_is_shortest, canonical_script_reads_again};
 use crate::line::MOST_LINE_BYTES;
@@ -115,17 +116,24 @@ fn is_short(names: &Names, script: &Script) -> bool
     }
 }
 
+/// Whether some text reads as this script by these names.
+fn knows_script(names: &Names, script: &Script) -> bool
+    ensures { IsTrue result ↔ ((bytes : List ℕ) × LineOf names.now bytes (asked.Work (Behaviour script.now))) }
+{
+    canonical_script_reads_again();
+    canonical_script_is_shortest();
+    let _ = names.scheme();
+    are_there(names, script) && is_short(names, script)
+}
+
 impl Names {
     /// Whether some text reads as this work by these names: each document that it declares is among them, and its canonical text
     /// has at most 8,192 bytes. It takes no memory.
     pub fn knows(&self, work: &Work) -> bool
         ensures { IsTrue result ↔ ((bytes : List ℕ) × LineOf self.now bytes (asked.Work work.now)) }
     {
-        canonical_script_reads_again();
-        canonical_script_is_shortest();
-        let _ = self.scheme();
         match work {
-            Work::Behaviour(script) => are_there(self, script) && is_short(self, script),
+            Work::Behaviour(script) => knows_script(self, script),
         }
     }
 }
