@@ -34,3 +34,4 @@ pub mod Unread
 pub mod Known
 pub mod There
 pub mod Writing
+pub mod Counting
