@@ -8,7 +8,7 @@ use Rattle.bl_script.specs.Names.{KnownNames}
 use Rattle.bl_script.specs.declared.line.Line.{Line}
 use Rattle.bl_script.specs.declared.line.Line.TheVariants as line
 use Rattle.bl_script.specs.declared.script.Condition.{Condition}
-use Rattle.bl_script.specs.declared.work.Work.TheVariants.{Behaviour}
+use Rattle.bl_script.specs.declared.work.Work.TheVariants.{Behaviour, Rule}
 use Rattle.bl_script.specs.Grammar.{SpelledLine, hello, wait, when}
 use Rattle.bl_script.specs.Spelled.{SpelledAccess, SpelledBody, empty, show, say, add, set, copy, pour, if_then, if_else, spawn, spell_body, spell_when}
 use Rattle.bl_script.specs.Statements.{Statements, Nothing, Show, Say, Add, Set, Copy, Pour, If, Spawn, Part}
@@ -79,8 +79,9 @@ module _ (names : KnownNames) where
   abbrev pub unread : List Part → SpelledWhen
   unread script = unread_at script 0
 
-  -- the line, as it is spelled
+  -- The line, as it is spelled. Of a rule, which no text reads as, nothing is asked.
   abbrev pub unread_line : Line → SpelledLine
   unread_line (line.Hello subject) = hello (slice_index_or names.subjects subject [])
   unread_line line.Wait = wait
   unread_line (line.Work (Behaviour script)) = when (unread script).first (unread script).more (unread script).body
+  unread_line (line.Work (Rule rule)) = wait

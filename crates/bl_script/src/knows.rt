@@ -134,6 +134,7 @@ impl Names {
     {
         match work {
             Work::Behaviour(script) => knows_script(self, script),
+            Work::Rule(_) => false,
         }
     }
 }
