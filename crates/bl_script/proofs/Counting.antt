@@ -24,6 +24,7 @@ counts (t ∷ ts) c w long word = counts ts (counted c t) (with_token w t) (one_
     behind =
         length-append (cond (w.word && is_word t) (32 ∷ []) []) (spelled t)
         ∙ ap (λ n. n + length (spelled t)) (gap_long (w.word && is_word t) (32 ∷ []) refl ∙ ap (λ x. cond (x && is_word t) 1 0) (sym word))
+
     one_more : (n : ℕ) → length (cond (w.word && is_word t) (32 ∷ []) [] ++ spelled t) ≡ n
         → min (c.bytes + n) (most_line_bytes + 1) ≡ min (length (w.bytes ++ (cond (w.word && is_word t) (32 ∷ []) [] ++ spelled t))) (most_line_bytes + 1)
     one_more n e = omega (arith, e, long, length-append w.bytes (cond (w.word && is_word t) (32 ∷ []) [] ++ spelled t))

@@ -71,7 +71,10 @@ impl Sink for Length {
     /// Counts a token, and a space before it where it follows a word and is one.
     fn put(&mut self, token: Token<'_>) -> Result<(), Infallible> {
         let gap = usize::from(self.ends_with_word && is_word(token));
-        let bytes = self.bytes.saturating_add(gap).saturating_add(bytes_of(token));
+        let bytes = self
+            .bytes
+            .saturating_add(gap)
+            .saturating_add(bytes_of(token));
         self.bytes = bytes.min(MOST_LINE_BYTES + 1);
         self.ends_with_word = is_word(token);
         Ok(())
