@@ -1,26 +1,25 @@
 -- A `when` whose names are documents' and that stands for a script is faultless, its texts are contents, and its tokens are proper.
-use Rattle.std.proofs.Common.{◌≡◌, ◌≢◌, ℕ, zero, suc, ◌+◌, ◌<◌, ◌≤◌, Bool, true, false, ◌&&◌, ◌||◌, List, [], ◌∷◌, ◌++◌, length, map, get_or, refl, sym, ap, subst, ◌∙◌, arith}
-use Rattle.std.specs.Prelude.{All, AllPairs, Contains, ◌==◌}
+use Rattle.std.proofs.Common.{◌≡◌, ◌≢◌, ℕ, zero, suc, ◌+◌, Bool, true, false, ◌&&◌, ◌||◌, List, [], ◌∷◌, ◌++◌, map, refl, ap, subst, arith}
+use Rattle.std.specs.Prelude.{All, Contains, ◌==◌}
 use Rattle.std.specs.List.{list_any}
 use Rattle.std.specs.Str.{bytes_eq}
 use Rattle.std.proofs.lemmas.Bool.{and_parts, and_from, eqb-true}
 use Rattle.std.proofs.lemmas.List.{length-map}
 use Rattle.std.proofs.lemmas.List.Elements.{All-cons, All-nil, All-head, All-tail, All-append, All-from_get_or, All-contains}
 use Rattle.std.proofs.lemmas.Slice.Eq.{bytes_eq-Decides}
-use Rattle.bl_level.specs.declared.token.Keyword.TheVariants.{When, Do, End, Then, Else}
+use Rattle.bl_level.specs.declared.token.Keyword.TheVariants.{Do, End, Else}
 use Rattle.bl_level.specs.declared.token.Sign.TheVariants.{Semicolon}
 use Rattle.bl_level.specs.Name.{IsName, AreProper}
-use Rattle.bl_level.specs.Token.{Tok, reserved, name, text, sign}
+use Rattle.bl_level.specs.Token.{Tok, reserved, sign}
 use Rattle.bl_policy.specs.declared.access.Access.{Access}
 use Rattle.bl_policy.specs.declared.access.Mode.{Mode}
-use Rattle.bl_script.specs.Content.{IsContent}
 use Rattle.bl_script.specs.Meaning.{whens, document_of, access_of, numbered, spawned_from, script_of}
 use Rattle.bl_script.specs.Modes.{observes, alters, is_write, declares, KeepsModes}
 use Rattle.bl_script.specs.Names.{KnownNames}
-use Rattle.bl_script.specs.Script.{most_accesses, HasContents, AreApart, IsBehaviour, IsScript}
-use Rattle.bl_script.specs.Spelled.{SpelledAccess, SpelledBody, empty, show, say, add, set, copy, pour, if_then, if_else, spawn, spell_access, spell_more, spell_body, spell_when}
+use Rattle.bl_script.specs.Script.{HasContents, AreApart, IsBehaviour, IsScript}
+use Rattle.bl_script.specs.Spelled.{SpelledAccess, SpelledBody, empty, show, say, add, set, copy, pour, if_then, if_else, spawn, spell_more, spell_body, spell_when}
 use Rattle.bl_script.specs.Statements.{Part}
-use Rattle.bl_script.specs.WhenFaults.{depth_in, lists_in, documents_in, names_in, names_of_when, Declaration, declarations_behind, declarations_in, IsOnce, Usage, uses_in, IsDeclared, IsFaultless, AreContents}
+use Rattle.bl_script.specs.WhenFaults.{lists_in, documents_in, names_in, names_of_when, declarations_behind, declarations_in, IsOnce, uses_in, IsDeclared, IsFaultless, AreContents}
 use Rattle.bl_script.proofs.Behaviours.{one_place, IsShort, IsRight, used}
 use Rattle.bl_script.proofs.Lists.{proper_append}
 use Rattle.bl_script.proofs.Numbering.{script_long, script_depth}
@@ -335,37 +334,104 @@ module _ (names : KnownNames) where
     body_proper (set d w r) known (words, texts) =
         (tt, (name_proper d (All-head (IsDocument names) d (names_in r) known), (words.plain, (tt, body_proper r (All-tail (IsDocument names) d (names_in r) known) texts))))
     body_proper (copy d e r) known texts =
-        let later = All-tail (IsDocument names) d (e ∷ names_in r) known in
-        (tt, (name_proper d (All-head (IsDocument names) d (e ∷ names_in r) known), (tt, (name_proper e (All-head (IsDocument names) e (names_in r) later),
-        (tt, body_proper r (All-tail (IsDocument names) e (names_in r) later) texts)))))
+        let later = All-tail (IsDocument names) d (e ∷ names_in r) known in (
+          tt,
+          (
+            name_proper d (All-head (IsDocument names) d (e ∷ names_in r) known),
+            (
+              tt,
+              (
+                name_proper e (All-head (IsDocument names) e (names_in r) later),
+                (tt, body_proper r (All-tail (IsDocument names) e (names_in r) later) texts),
+              ),
+            ),
+          ),
+        )
     body_proper (pour d e r) known texts =
-        let later = All-tail (IsDocument names) d (e ∷ names_in r) known in
-        (tt, (name_proper d (All-head (IsDocument names) d (e ∷ names_in r) known), (tt, (name_proper e (All-head (IsDocument names) e (names_in r) later),
-        (tt, body_proper r (All-tail (IsDocument names) e (names_in r) later) texts)))))
+        let later = All-tail (IsDocument names) d (e ∷ names_in r) known in (
+          tt,
+          (
+            name_proper d (All-head (IsDocument names) d (e ∷ names_in r) known),
+            (
+              tt,
+              (
+                name_proper e (All-head (IsDocument names) e (names_in r) later),
+                (tt, body_proper r (All-tail (IsDocument names) e (names_in r) later) texts),
+              ),
+            ),
+          ),
+        )
     body_proper (if_then d a w t r) known (words, (texts, others)) =
-        let later = All-tail (IsDocument names) d (names_in t ++ names_in r) known in
-        (tt, (name_proper d (All-head (IsDocument names) d (names_in t ++ names_in r) known), (tt, (words.plain, (tt,
-        proper_append (spell_body t) (reserved End ∷ sign Semicolon ∷ spell_body r) (body_proper t (all_left (IsDocument names) (names_in t) (names_in r) later) texts)
-        (tt, (tt, body_proper r (all_right (IsDocument names) (names_in t) (names_in r) later) others)))))))
+        let later = All-tail (IsDocument names) d (names_in t ++ names_in r) known in (
+          tt,
+          (
+            name_proper d (All-head (IsDocument names) d (names_in t ++ names_in r) known),
+            (
+              tt,
+              (
+                words.plain,
+                (
+                  tt,
+                  proper_append (spell_body t) (reserved End ∷ sign Semicolon ∷ spell_body r) (body_proper t (all_left (IsDocument names) (names_in t) (names_in r) later) texts)
+                      (tt, (tt, body_proper r (all_right (IsDocument names) (names_in t) (names_in r) later) others)),
+                ),
+              ),
+            ),
+          ),
+        )
     body_proper (if_else d a w t e r) known (words, (texts, (second, others))) =
         let later = All-tail (IsDocument names) d (names_in t ++ (names_in e ++ names_in r)) known in
-        let last = all_right (IsDocument names) (names_in t) (names_in e ++ names_in r) later in
-        (tt, (name_proper d (All-head (IsDocument names) d (names_in t ++ (names_in e ++ names_in r)) known), (tt, (words.plain, (tt,
-        proper_append (spell_body t) (reserved Else ∷ (spell_body e ++ reserved End ∷ sign Semicolon ∷ spell_body r))
-        (body_proper t (all_left (IsDocument names) (names_in t) (names_in e ++ names_in r) later) texts)
-        (tt, proper_append (spell_body e) (reserved End ∷ sign Semicolon ∷ spell_body r) (body_proper e (all_left (IsDocument names) (names_in e) (names_in r) last) second)
-        (tt, (tt, body_proper r (all_right (IsDocument names) (names_in e) (names_in r) last) others))))))))
+        let last = all_right (IsDocument names) (names_in t) (names_in e ++ names_in r) later in (
+          tt,
+          (
+            name_proper d (All-head (IsDocument names) d (names_in t ++ (names_in e ++ names_in r)) known),
+            (
+              tt,
+              (
+                words.plain,
+                (
+                  tt,
+                  proper_append (spell_body t) (reserved Else ∷ (spell_body e ++ reserved End ∷ sign Semicolon ∷ spell_body r))
+                      (body_proper t (all_left (IsDocument names) (names_in t) (names_in e ++ names_in r) later) texts) (
+                        tt,
+                        proper_append (spell_body e) (reserved End ∷ sign Semicolon ∷ spell_body r) (body_proper e (all_left (IsDocument names) (names_in e) (names_in r) last) second)
+                            (tt, (tt, body_proper r (all_right (IsDocument names) (names_in e) (names_in r) last) others)),
+                      ),
+                ),
+              ),
+            ),
+          ),
+        )
     body_proper (spawn f m b r) known (texts, others) =
         let documents = all_left (IsDocument names) (documents_in (f ∷ m)) (names_in b ++ names_in r) known in
-        let later = all_right (IsDocument names) (documents_in (f ∷ m)) (names_in b ++ names_in r) known in
-        (tt, (tt, (tt, (name_proper f.document (All-head (IsDocument names) f.document (documents_in m) documents),
-        more_proper m (reserved Do ∷ (spell_body b ++ reserved End ∷ sign Semicolon ∷ spell_body r)) (All-tail (IsDocument names) f.document (documents_in m) documents)
-        (tt, proper_append (spell_body b) (reserved End ∷ sign Semicolon ∷ spell_body r) (body_proper b (all_left (IsDocument names) (names_in b) (names_in r) later) texts)
-        (tt, (tt, body_proper r (all_right (IsDocument names) (names_in b) (names_in r) later) others)))))))
+        let later = all_right (IsDocument names) (documents_in (f ∷ m)) (names_in b ++ names_in r) known in (
+          tt,
+          (
+            tt,
+            (
+              tt,
+              (
+                name_proper f.document (All-head (IsDocument names) f.document (documents_in m) documents),
+                more_proper m (reserved Do ∷ (spell_body b ++ reserved End ∷ sign Semicolon ∷ spell_body r)) (All-tail (IsDocument names) f.document (documents_in m) documents) (
+                  tt,
+                  proper_append (spell_body b) (reserved End ∷ sign Semicolon ∷ spell_body r) (body_proper b (all_left (IsDocument names) (names_in b) (names_in r) later) texts)
+                      (tt, (tt, body_proper r (all_right (IsDocument names) (names_in b) (names_in r) later) others)),
+                ),
+              ),
+            ),
+          ),
+        )
 
     pub when_proper : (f : SpelledAccess) (m : List SpelledAccess) (b : SpelledBody) → All (IsDocument names) (names_of_when f m b) → AreContents b → AreProper (spell_when f m b)
     when_proper f m b known texts =
-        let documents = all_left (IsDocument names) (documents_in (f ∷ m)) (names_in b) known in
-        (tt, (tt, (name_proper f.document (All-head (IsDocument names) f.document (documents_in m) documents),
-        more_proper m (reserved Do ∷ (spell_body b ++ reserved End ∷ [])) (All-tail (IsDocument names) f.document (documents_in m) documents)
-        (tt, proper_append (spell_body b) (reserved End ∷ []) (body_proper b (all_right (IsDocument names) (documents_in (f ∷ m)) (names_in b) known) texts) (tt, tt)))))
+        let documents = all_left (IsDocument names) (documents_in (f ∷ m)) (names_in b) known in (
+          tt,
+          (
+            tt,
+            (
+              name_proper f.document (All-head (IsDocument names) f.document (documents_in m) documents),
+              more_proper m (reserved Do ∷ (spell_body b ++ reserved End ∷ [])) (All-tail (IsDocument names) f.document (documents_in m) documents)
+                  (tt, proper_append (spell_body b) (reserved End ∷ []) (body_proper b (all_right (IsDocument names) (documents_in (f ∷ m)) (names_in b) known) texts) (tt, tt)),
+            ),
+          ),
+        )

@@ -39,3 +39,4 @@ pub mod Knowing
 pub mod Reread
 pub mod Faultless
 pub mod ReadAgain
+pub mod Counting

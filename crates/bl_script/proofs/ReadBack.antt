@@ -1,14 +1,13 @@
 -- The script of a `when` is read back as that `when`, without an `else` before an empty body.
-use Rattle.std.proofs.Common.{◌≡◌, ℕ, zero, suc, ◌+◌, ◌-◌, ◌<◌, ◌≤◌, List, [], ◌∷◌, ◌++◌, length, drop, map, get_or, refl, sym, ap, subst, ◌∙◌, append_assoc, arith, add-zero}
+use Rattle.std.proofs.Common.{◌≡◌, ℕ, zero, suc, ◌+◌, ◌-◌, ◌≤◌, List, [], ◌∷◌, ◌++◌, length, drop, map, get_or, refl, sym, ap, subst, ◌∙◌, append_assoc, arith}
 use Rattle.std.specs.Prelude.{All, Contains}
 use Rattle.std.proofs.lemmas.List.{append-nil, drop-drop, drop_at}
 use Rattle.std.proofs.lemmas.List.Elements.{All-head, All-tail}
-use Rattle.bl_policy.specs.declared.access.Access.{Access}
 use Rattle.bl_script.specs.Building.{when_from}
 use Rattle.bl_script.specs.Meaning.{whens, document_of, access_of, numbered, spawned_from, script_of}
 use Rattle.bl_script.specs.Names.{KnownNames}
 use Rattle.bl_script.specs.Spelled.{SpelledAccess, SpelledBody, empty, show, say, add, set, copy, pour, if_then, if_else, spawn}
-use Rattle.bl_script.specs.Statements.{Statements, Part}
+use Rattle.bl_script.specs.Statements.{Part}
 use Rattle.bl_script.specs.Unread.{SpelledWhen, no_when, name_at, unread_access, unread_if, unread_body, unread_when, unread_from, unread_at}
 use Rattle.bl_script.specs.WhenFaults.{documents_in, names_in, names_of_when}
 use Rattle.bl_script.proofs.Behaviours.{at_place}

@@ -1,6 +1,6 @@
 -- A script in pre-order is that of the `when` that it is read back as, by names that have each of its documents.
-use Rattle.std.proofs.Common.{◌≡◌, ◌≢◌, ℕ, zero, suc, ◌+◌, ◌-◌, ◌<◌, ◌≤◌, inl, inr, Bool, true, false, ◌&&◌, List, [], ◌∷◌, ◌++◌, length, drop, map, get_or, refl, sym, ap, subst, ◌∙◌, append_assoc, arith, add-zero, zero-add, length-append}
-use Rattle.std.specs.Prelude.{All, Contains, sum_by, ◌==◌}
+use Rattle.std.proofs.Common.{◌≡◌, ℕ, zero, suc, ◌+◌, ◌-◌, ◌<◌, ◌≤◌, inl, inr, Bool, true, ◌&&◌, List, [], ◌∷◌, ◌++◌, length, drop, map, get_or, refl, sym, ap, subst, ◌∙◌, append_assoc, arith, add-zero, zero-add}
+use Rattle.std.specs.Prelude.{All, sum_by, ◌==◌}
 use Rattle.std.proofs.lemmas.Bool.{cases_order, or_cases, and_parts, eqb-true, false≢true}
 use Rattle.std.proofs.lemmas.List.{append-nil, drop-drop, drop_all, get_or-drop, length-drop}
 use Rattle.std.proofs.lemmas.List.Elements.{All-cons, All-nil, All-head, All-tail, All-append, All-get_or, Contains-get_or}
@@ -15,7 +15,7 @@ use Rattle.bl_script.specs.Modes.{observes, alters, is_write, declares, KeepsMod
 use Rattle.bl_script.specs.Names.{KnownNames}
 use Rattle.bl_script.specs.Nesting.{spawned, sizes_from, size_at, AreNumbered, IsPreorder}
 use Rattle.bl_script.specs.Script.{IsBehaviour}
-use Rattle.bl_script.specs.Spelled.{SpelledAccess, SpelledBody, empty, show, say, add, set, copy, pour, if_then, if_else, spawn}
+use Rattle.bl_script.specs.Spelled.{SpelledBody, empty, show, say, add, set, copy, pour, if_then, if_else, spawn}
 use Rattle.bl_script.specs.Statements.{Statements, Nothing, Show, Say, Add, Set, Copy, Pour, If, Spawn, Part, no_part}
 use Rattle.bl_script.specs.There.{AreIn, AreThere}
 use Rattle.bl_script.specs.Unread.{SpelledWhen, no_when, name_at, unread_access, unread_if, unread_body, unread_when, unread_from, unread}
@@ -30,7 +30,7 @@ use Rattle.bl_script.proofs.ReadBack.{IsDocument, below_from}
 one_index : (list : List (List ℕ)) (i j : ℕ) → AreDistinct list → i < length list → j < length list → get_or list i [] ≡ get_or list j [] → i ≡ j
 one_index list i j distinct here there same =
     elim (cases_order i j) [
-        inl q ↦ q
+      | inl q ↦ q
       | inr q ↦ elim q [ inl less ↦ absurd (distinct i j [] less there same) | inr more ↦ absurd (distinct j i [] more here (sym same)) ]
     ]
 
@@ -72,7 +72,7 @@ module _ (names : KnownNames) (distinct : AreDistinct names.documents) where
   declared_in test [] d there h = absurd (false≢true h)
   declared_in test (a ∷ list) d there h =
       elim (or_cases ((a.doc == d) && test a.mode) (declares test list d) h) [
-          inl q ↦ subst (λ n. n < count) (eqb-true a.doc d (and_parts (a.doc == d) (test a.mode) q).0) (All-head (IsIn names) a list there)
+        | inl q ↦ subst (λ n. n < count) (eqb-true a.doc d (and_parts (a.doc == d) (test a.mode) q).0) (All-head (IsIn names) a list there)
         | inr q ↦ declared_in test list d (All-tail (IsIn names) a list there) q
       ]
 

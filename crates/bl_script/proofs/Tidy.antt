@@ -1,5 +1,5 @@
 -- A body without an `else` before an empty body, which is no longer than with it.
-use Rattle.std.proofs.Common.{◌≡◌, ℕ, ◌+◌, ◌≤◌, Bool, true, false, List, [], ◌∷◌, ◌++◌, length, refl, sym, ap, subst, ◌∙◌, append_assoc, arith, length-append}
+use Rattle.std.proofs.Common.{ℕ, ◌≤◌, List, [], ◌∷◌, ◌++◌, length, sym, subst, append_assoc, arith, length-append}
 use Rattle.bl_level.specs.declared.token.Keyword.TheVariants.{When, Do, End, Then, Else, Spawn}
 use Rattle.bl_level.specs.declared.token.Keyword.TheVariants as word
 use Rattle.bl_level.specs.declared.token.Sign.TheVariants.{Comma, Semicolon}
@@ -41,12 +41,19 @@ no_longer_cons t xs ys p =
 no_longer_else : (ts : List Tok) → IsNoLonger (reserved End ∷ ts) (reserved Else ∷ reserved End ∷ ts)
 no_longer_else ts =
     let here : length (canonical (reserved End ∷ ts)) ≤ length (canonical (reserved Else ∷ reserved End ∷ ts)) =
-    omega (arith, length-append (spelled (reserved Else)) (gap (reserved Else) (reserved End ∷ ts) ++ canonical (reserved End ∷ ts)),
-      length-append (gap (reserved Else) (reserved End ∷ ts)) (canonical (reserved End ∷ ts))) in
+    omega (
+      arith,
+      length-append (spelled (reserved Else)) (gap (reserved Else) (reserved End ∷ ts) ++ canonical (reserved End ∷ ts)),
+      length-append (gap (reserved Else) (reserved End ∷ ts)) (canonical (reserved End ∷ ts)),
+    ) in
     record {
       alone = here;
-      behind = λ u. omega (arith, here, length-append (gap u (reserved End ∷ ts)) (canonical (reserved End ∷ ts)),
-        length-append (gap u (reserved End ∷ ts)) (canonical (reserved Else ∷ reserved End ∷ ts)));
+      behind = λ u. omega (
+        arith,
+        here,
+        length-append (gap u (reserved End ∷ ts)) (canonical (reserved End ∷ ts)),
+        length-append (gap u (reserved End ∷ ts)) (canonical (reserved Else ∷ reserved End ∷ ts)),
+      );
     }
 
 -- the same accesses before both

@@ -34,3 +34,4 @@ pub mod Known
 pub mod CanonicalLine
 pub mod There
 pub mod Writing
+pub mod Counting

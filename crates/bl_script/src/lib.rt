@@ -8,6 +8,7 @@ pub mod check;
 pub mod count;
 pub mod document;
 pub mod known;
+pub mod knows;
 pub mod laws;
 pub mod line;
 pub mod modes;

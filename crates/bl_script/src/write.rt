@@ -51,7 +51,7 @@ fn sign_text(sign: Sign) -> &'static [u8]
 }
 
 /// Whether the token is a reserved word or a name.
-fn is_word(token: Token<'_>) -> bool
+pub(crate) fn is_word(token: Token<'_>) -> bool
     ensures { result ≡ is_a_word (tok token.entry) }
 {
     match token {

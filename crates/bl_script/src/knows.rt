@@ -1,0 +1,142 @@
+//! Which works some text reads as, by given names: those whose documents are among the names and whose canonical text is no longer
+//! than a line. The text is counted and not written, so that no memory is taken.
+ghost use Rattle.std.specs.Prelude.{◌≡◌, ◌↔◌, ◌≤◌, ℕ, List, length, IsTrue};
+ghost use Rattle.bl_level.specs.Token.{tok};
+ghost use Rattle.bl_level.specs.Canonical.{spelled};
+ghost use Rattle.bl_script.specs.Counting.{counted, nothing_counted};
+ghost use Rattle.bl_script.specs.Known.{canonical_script};
+ghost use Rattle.bl_script.specs.LineGrammar.{LineOf, most_line_bytes};
+ghost use Rattle.bl_script.specs.Script.{IsScript};
+ghost use Rattle.bl_script.specs.There.{AreIn, AreThere};
+ghost use Rattle.bl_script.specs.declared.line.Line.TheVariants as asked;
+ghost use Rattle.bl_script.specs.declared.work.Work.TheVariants.{Behaviour};
+
+use crate::canonical::{canonical_script_is_shortest, canonical_script_reads_again};
+use crate::line::MOST_LINE_BYTES;
+use crate::names::Names;
+use crate::script::Script;
+use crate::sink::Sink;
+use crate::spell::put_when;
+use crate::work::Work;
+use crate::write::is_word;
+use bl_level::token::Token;
+use bl_policy::access::Access;
+use std::convert::Infallible;
+use std::marker::Model;
+
+/// The length of a text while it is written, counted up to one more than a line has.
+#[derive(Drop)]
+struct Length {
+    bytes: usize,
+    ends_with_word: bool,
+}
+
+impl Model for Length {
+    ghost use Rattle.bl_script.specs.Counting.{Counted};
+
+    ghost Value = { Counted };
+
+    ghost view = { λ l. record { bytes = l.bytes; word = l.ends_with_word } };
+}
+
+/// How many bytes a token has.
+fn bytes_of(token: Token<'_>) -> usize
+    ensures { result ≡ length (spelled (tok token.entry)) }
+{
+    match token {
+        Token::Reserved(word) => word.text().len(),
+        Token::Name(name) => name.len(),
+        Token::Text(text) => text.len() + 2,
+        Token::Sign(_) => 1,
+    }
+}
+
+impl Length {
+    /// Of no text.
+    fn new() -> Length
+        ensures { result ≡ nothing_counted }
+    {
+        Length {
+            bytes: 0,
+            ends_with_word: false,
+        }
+    }
+}
+
+impl Sink for Length {
+    type Refusal = Infallible;
+
+    ghost taken = { counted };
+
+    /// Counts a token, and a space before it where it follows a word and is one.
+    fn put(&mut self, token: Token<'_>) -> Result<(), Infallible> {
+        let gap = usize::from(self.ends_with_word && is_word(token));
+        let bytes = self
+            .bytes
+            .saturating_add(gap)
+            .saturating_add(bytes_of(token));
+        self.bytes = bytes.min(MOST_LINE_BYTES + 1);
+        self.ends_with_word = is_word(token);
+        Ok(())
+    }
+}
+
+/// Whether each document that these accesses declare is one of so many.
+fn are_in(documents: usize, accesses: &[Access]) -> bool
+    ensures { IsTrue result ↔ AreIn documents accesses.now }
+{
+    for access in accesses {
+        if usize::from(access.doc.position()) >= documents {
+            return false;
+        }
+    }
+    true
+}
+
+/// Whether each document that the script declares is among the names.
+fn are_there(names: &Names, script: &Script) -> bool
+    ensures there { IsTrue result ↔ AreThere names.now script.now }
+    ensures script { IsScript script.now }
+{
+    for index in 0..script.weight() {
+        if !are_in(names.documents(), script.accesses(index)) {
+            return false;
+        }
+    }
+    true
+}
+
+/// Whether the canonical text of the script is no longer than a line.
+fn is_short(names: &Names, script: &Script) -> bool
+    requires { AreThere names.now script.now }
+    ensures { IsTrue result ↔ (length (canonical_script names.now script.now) ≤ most_line_bytes) }
+{
+    let _ = script.weight();
+    let mut length = Length::new();
+    match put_when(&mut length, names, script, 0) {
+        Ok(()) => length.bytes <= MOST_LINE_BYTES,
+        Err(never) => match never {},
+    }
+}
+
+/// Whether some text reads as this script by these names.
+fn knows_script(names: &Names, script: &Script) -> bool
+    ensures { IsTrue result ↔ ((bytes : List ℕ) × LineOf names.now bytes (asked.Work (Behaviour script.now))) }
+{
+    canonical_script_reads_again();
+    canonical_script_is_shortest();
+    let _ = names.scheme();
+    are_there(names, script) && is_short(names, script)
+}
+
+impl Names {
+    /// Whether some text reads as this work by these names: each document that it declares is among them, and its canonical text
+    /// has at most 8,192 bytes. It takes no memory.
+    pub fn knows(&self, work: &Work) -> bool
+        ensures { IsTrue result ↔ ((bytes : List ℕ) × LineOf self.now bytes (asked.Work work.now)) }
+    {
+        match work {
+            Work::Behaviour(script) => knows_script(self, script),
+        }
+    }
+}
