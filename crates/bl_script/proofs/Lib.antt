@@ -25,6 +25,7 @@ pub mod Built
 pub mod Writing
 pub mod Unreading
 pub mod Walking
+pub mod LinesWritten
 pub mod Firsts
 pub mod Joined
 pub mod Passes

@@ -32,6 +32,7 @@ pub mod LineFaults
 pub mod Building
 pub mod Unread
 pub mod Known
+pub mod CanonicalLine
 pub mod There
 pub mod Writing
 pub mod Counting

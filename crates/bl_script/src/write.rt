@@ -1,12 +1,25 @@
 //! The canonical text of a line: one space between two words that follow each other, no other blank, and no `else` before an
 //! empty body.
-ghost use Rattle.std.specs.Prelude.{◌≡◌, [], ◌∷◌, ◌++◌, fold, OnOk, IfOk};
+ghost use Rattle.std.specs.Prelude.{◌≡◌, ◌<◌, ◌≤◌, ℕ, List, [], ◌∷◌, ◌++◌, length, fold, OnOk, IfOk};
 ghost use Rattle.bl_level.specs.Token.{tok, toks};
 ghost use Rattle.bl_level.specs.Canonical.{sign_byte as byte_of, is_word as is_a_word, spelled, canonical};
+ghost use Rattle.bl_script.specs.declared.line.Line.TheVariants as asked;
+ghost use Rattle.bl_script.specs.declared.work.Work.TheVariants.{Behaviour};
+ghost use Rattle.bl_script.specs.CanonicalLine.{IsCanonicalOf, canonical_line};
+ghost use Rattle.bl_script.specs.Known.{canonical_script};
+ghost use Rattle.bl_script.specs.LineGrammar.{LineOf};
 ghost use Rattle.bl_script.specs.Writing.{with_token, nothing_written};
 
+use crate::canonical::{canonical_script_is_shortest, canonical_script_reads_again};
+use crate::line::Line;
+use crate::names::Names;
+use crate::script::Script;
 use crate::sink::{Sink, put_all};
-use bl_level::token::{Sign, Token};
+use crate::spell::put_when;
+use crate::work::Work;
+use bl_level::laws::{canonical_is_shortest, canonical_reads_again, read_tokens_are_proper};
+use bl_level::token::{Keyword, Sign, Token};
+use bl_policy::id::SubjectId;
 use std::alloc::{AllocError, Global};
 use std::marker::Model;
 
@@ -105,4 +118,58 @@ pub fn write_tokens(alloc: Global, tokens: &[Token<'_>]) -> Result<Vec<u8>, Allo
     let mut text = Text::new(alloc);
     put_all(&mut text, tokens)?;
     Ok(text.into_bytes())
+}
+
+/// The text of a `hello` of a subject that is there.
+fn write_hello(alloc: Global, names: &Names, subject: SubjectId) -> Result<Vec<u8>, AllocError>
+    requires { subject < length names.now.subjects }
+    ensures { IfOk result (λ text. text.items ≡ canonical_line names.now (asked.Hello subject)) }
+{
+    let name = names.subject_name(subject).bytes();
+    let tokens = [Token::Reserved(Keyword::Hello), Token::Name(name)];
+    write_tokens(alloc, &tokens)
+}
+
+/// The text of a script that some text reads as by these names.
+fn write_script(alloc: Global, names: &Names, script: &Script) -> Result<Vec<u8>, AllocError>
+    requires { (bytes : List ℕ) × LineOf names.now bytes (asked.Work (Behaviour script.now)) }
+    ensures { IfOk result (λ text. text.items ≡ canonical_script names.now script.now) }
+{
+    canonical_script_is_shortest();
+    let _ = script.weight();
+    let mut text = Text::new(alloc);
+    put_when(&mut text, names, script, 0)?;
+    Ok(text.into_bytes())
+}
+
+/// The text of a line that some text reads as by these names.
+fn text_of(alloc: Global, names: &Names, line: &Line) -> Result<Vec<u8>, AllocError>
+    requires { (bytes : List ℕ) × LineOf names.now bytes line.now }
+    ensures { IfOk result (λ text. text.items ≡ canonical_line names.now line.now) }
+{
+    match line {
+        Line::Hello(subject) => write_hello(alloc, names, *subject),
+        Line::Wait => write_tokens(alloc, &[Token::Reserved(Keyword::Wait)]),
+        Line::Work(Work::Behaviour(script)) => write_script(alloc, names, script),
+    }
+}
+
+/// The canonical text of a line that some text reads as by these names: one space between two words that follow each other, no
+/// other blank, and no `else` before an empty body. It fails only where a growth is refused.
+pub fn write_line(alloc: Global, names: &Names, line: &Line) -> Result<Vec<u8>, AllocError>
+    requires { (bytes : List ℕ) × LineOf names.now bytes line.now }
+    // The text reads as the line.
+    ensures reads { IfOk result (λ text. LineOf names.now text.items line.now) }
+    // No text that reads as the line is shorter.
+    ensures shortest { IfOk result (λ text. (bytes : List ℕ) → LineOf names.now bytes line.now → length text.items ≤ length bytes) }
+    // The text has no blank but one space between two words, and no `else` before an empty body.
+    ensures canonical { IfOk result (λ text. IsCanonicalOf names.now text.items line.now) }
+{
+    let _ = names.scheme();
+    canonical_reads_again();
+    canonical_is_shortest();
+    read_tokens_are_proper();
+    canonical_script_reads_again();
+    canonical_script_is_shortest();
+    text_of(alloc, names, line)
 }

@@ -1,0 +1,12 @@
+use Rattle.std.proofs.Common.{ap, ◌∙◌}
+use Rattle.std.specs.List.{fold}
+use Rattle.bl_script.specs.Unread.{tokens_of, unread}
+use Rattle.bl_script.specs.Writing.{Written, with_token}
+use Rattle.bl_script.proofs.Writing.{written_is_canonical}
+use Rattle.bl_script.proofs.write.write_script.Goals as goal
+
+pub returns : goal.returns
+returns c =
+    let tokens = tokens_of (unread c.args.names.now c.args.script.now) in
+    c.into_bytes.ensures ∙ ap (λ (w : Written). w.bytes) (c.in_ok-put_when.ensures ∙ ap (λ (w : Written). fold with_token w tokens) c.new-text.ensures)
+    ∙ written_is_canonical tokens

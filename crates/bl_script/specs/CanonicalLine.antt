@@ -1,0 +1,39 @@
+-- The canonical text of a line: the bytes of its tokens, with one space between two words that follow each other and no other blank,
+-- and with no `else` before a body of no statements.
+use Rattle.std.specs.Prelude.{◌≡◌, ◌≢◌, ℕ, List}
+use Rattle.bl_level.specs.Canonical.{canonical}
+use Rattle.bl_script.specs.declared.line.Line.{Line}
+use Rattle.bl_script.specs.Grammar.{SpelledLine, hello, wait, when, spell}
+use Rattle.bl_script.specs.LineGrammar.{Means}
+use Rattle.bl_script.specs.Names.{KnownNames}
+use Rattle.bl_script.specs.Spelled.{SpelledBody, empty, show, say, add, set, copy, pour, if_then, if_else, spawn}
+use Rattle.bl_script.specs.Unread.{unread_line}
+
+-- no `else` stands before a body of no statements
+abbrev pub IsTidy : SpelledBody → Type 0
+IsTidy empty = Unit {0}
+IsTidy (show document rest) = IsTidy rest
+IsTidy (say words rest) = IsTidy rest
+IsTidy (add document words rest) = IsTidy rest
+IsTidy (set document words rest) = IsTidy rest
+IsTidy (copy from to rest) = IsTidy rest
+IsTidy (pour from to rest) = IsTidy rest
+IsTidy (if_then document asks words then_body rest) = IsTidy then_body × IsTidy rest
+IsTidy (if_else document asks words then_body else_body rest) = (else_body ≢ empty) × IsTidy then_body × IsTidy else_body × IsTidy rest
+IsTidy (spawn first more body rest) = IsTidy body × IsTidy rest
+
+abbrev pub IsTidyLine : SpelledLine → Type 0
+IsTidyLine (hello subject) = Unit {0}
+IsTidyLine wait = Unit {0}
+IsTidyLine (when first more body) = IsTidy body
+
+-- the bytes are the canonical text of a tidy line that asks this, by these names
+pub record IsCanonicalOf (names : KnownNames) (bytes : List ℕ) (asked : Line) : Type 0 where
+  pub spelled : SpelledLine
+  pub tidy : IsTidyLine spelled
+  pub means : Means names spelled asked
+  pub text : bytes ≡ canonical (spell spelled)
+
+-- the canonical text of the line that a line is read back as
+abbrev pub canonical_line : KnownNames → Line → List ℕ
+canonical_line names asked = canonical (spell (unread_line names asked))
