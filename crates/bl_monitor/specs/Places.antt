@@ -25,7 +25,7 @@ abbrev pub script_of : Work → List Part
 script_of (work.Behaviour script) = script
 script_of (work.Rule rule) = []
 
--- the script of a work, where it has one, is in pre-order, and what more a script keeps
+-- the script of a work, where it has one, is as every script is
 abbrev pub HasScript : Work → Type 0
 HasScript (work.Behaviour script) = IsScript script
 HasScript (work.Rule rule) = ⊤

@@ -6,7 +6,7 @@ use super::{SHOW_MEMO, ann_is_shown, answer_to, base_monitor, is_done, monitor_o
 use crate::monitor::{Entry, Monitor};
 use bl_level::level::Level;
 use bl_policy::access::Mode;
-use bl_policy::denial::{Clause, Denial};
+use bl_policy::denial::Clause;
 use bl_policy::id::{DocId, SubjectId};
 use bl_policy::rule::Rule;
 use bl_script::answer::Answer;
@@ -71,41 +71,65 @@ fn is_made(monitor: &mut Monitor, subject: u16, rule: Rule) -> Result<bool, Fail
     }
 }
 
-/// The denial that an answer names.
-fn denial_of(answer: &Answer) -> Option<Denial> {
+/// Whether an answer is this denial of a subject.
+fn is_denial(answer: &Answer, clause: Clause, subject: u16, object: Option<u16>) -> bool {
     match answer {
-        Answer::Denied(denial) => Some(*denial),
-        Answer::Done(_) | Answer::RuleDone | Answer::Lost => None,
+        Answer::Denied(denial) => {
+            denial.clause == clause
+                && denial.subject == SubjectId::new(subject)
+                && is_document(denial.object, object)
+        }
+        Answer::Done(_) | Answer::RuleDone | Answer::Lost => false,
     }
 }
 
-/// What a rule is denied with.
-fn refusal(monitor: &mut Monitor, subject: u16, rule: Rule) -> Result<Option<Denial>, Fail> {
-    let answer = answer_of(monitor, subject, rule, false)?;
-    Ok(denial_of(&answer))
+fn is_document(object: Option<DocId>, doc: Option<u16>) -> bool {
+    match (object, doc) {
+        (Some(object), Some(doc)) => object == DocId::new(doc),
+        (None, None) => true,
+        _ => false,
+    }
 }
 
-/// What a line of the subject that a first line greets for is denied with.
-fn line_refusal(
+/// Whether a rule is denied so.
+fn is_refused(
+    monitor: &mut Monitor,
+    subject: u16,
+    rule: Rule,
+    clause: Clause,
+    object: Option<u16>,
+) -> Result<bool, Fail> {
+    let answer = answer_of(monitor, subject, rule, false)?;
+    Ok(is_denial(&answer, clause, subject, object))
+}
+
+/// Whether a line of `ann` is denied so.
+fn is_refused_to_ann(
     monitor: &mut Monitor,
     alloc: Global,
-    first: &[u8],
     text: &[u8],
-) -> Result<Option<Denial>, Fail> {
-    let answer = answer_to(monitor, alloc, first, text, false)?;
-    Ok(denial_of(&answer))
+    clause: Clause,
+    doc: u16,
+) -> Result<bool, Fail> {
+    let answer = answer_to(monitor, alloc, b"hello ann", text, false)?;
+    Ok(is_denial(&answer, clause, ANN, Some(doc)))
 }
 
-fn denied(clause: Clause, subject: u16, object: Option<u16>) -> Option<Denial> {
-    let object = match object {
-        Some(doc) => Some(DocId::new(doc)),
-        None => None,
-    };
-    Some(Denial {
-        clause,
-        subject: SubjectId::new(subject),
-        object,
-    })
+/// Whether a line of `bob` is denied so.
+fn is_refused_to_bob(
+    monitor: &mut Monitor,
+    alloc: Global,
+    text: &[u8],
+    clause: Clause,
+    doc: u16,
+) -> Result<bool, Fail> {
+    let answer = answer_to(monitor, alloc, b"hello bob", text, false)?;
+    Ok(is_denial(&answer, clause, BOB, Some(doc)))
+}
+
+/// Whether an entry has neither a fault nor children.
+fn has_nothing(monitor: &Monitor, n: u32) -> bool {
+    monitor.fault(n).is_none() && monitor.children(n).is_none()
 }
 
 fn level(rank: u8, categories: u32) -> Result<Level, Fail> {
@@ -151,14 +175,11 @@ fn rescind_memo(subject: u16, mode: Mode) -> Rule {
 #[test]
 fn rules_and_their_checks(rt: HostRuntime) -> Result<(), Fail> {
     let mut monitor = base_monitor(rt.alloc())?;
-    let told = refusal(&mut monitor, ANN, give_cat(MEMO))?;
-    assert_eq!(rt; told, denied(Clause::Admin, ANN, Some(MEMO)));
+    assert!(rt; is_refused(&mut monitor, ANN, give_cat(MEMO), Clause::Admin, Some(MEMO))?);
     assert!(rt; is_made(&mut monitor, ANN, current(S, 0)?)?);
-    let told = refusal(&mut monitor, ANN, current(T, 0)?)?;
-    assert_eq!(rt; told, denied(Clause::Greatest, ANN, None));
+    assert!(rt; is_refused(&mut monitor, ANN, current(T, 0)?, Clause::Greatest, None)?);
     let line = b"when write memo do end";
-    let told = line_refusal(&mut monitor, rt.alloc(), b"hello ann", line)?;
-    assert_eq!(rt; told, denied(Clause::Star, ANN, Some(MEMO)));
+    assert!(rt; is_refused_to_ann(&mut monitor, rt.alloc(), line, Clause::Star, MEMO)?);
     Ok(())
 }
 
@@ -166,12 +187,10 @@ fn rules_and_their_checks(rt: HostRuntime) -> Result<(), Fail> {
 #[test]
 fn rules_have_neither_faults_nor_children(rt: HostRuntime) -> Result<(), Fail> {
     let mut monitor = base_monitor(rt.alloc())?;
-    let told = refusal(&mut monitor, ANN, give_cat(MEMO))?;
-    assert_eq!(rt; told, denied(Clause::Admin, ANN, Some(MEMO)));
+    assert!(rt; is_refused(&mut monitor, ANN, give_cat(MEMO), Clause::Admin, Some(MEMO))?);
     assert!(rt; is_made(&mut monitor, ROOT, give_cat(NOTE))?);
-    assert_eq!(rt; monitor.fault(0), None);
-    assert_eq!(rt; monitor.children(0), None);
-    assert_eq!(rt; monitor.children(1), None);
+    assert!(rt; has_nothing(&monitor, 0));
+    assert!(rt; has_nothing(&monitor, 1));
     Ok(())
 }
 
@@ -184,8 +203,15 @@ fn write_does_not_stand_for_append(rt: HostRuntime) -> Result<(), Fail> {
     let answer = answer_to(&mut monitor, rt.alloc(), b"hello bob", APPEND_B, false)?;
     assert!(rt; is_done(&answer, &[]));
     assert!(rt; is_made(&mut monitor, ROOT, rescind_memo(BOB, Mode::Append))?);
-    let told = line_refusal(&mut monitor, rt.alloc(), b"hello bob", APPEND_B)?;
-    assert_eq!(rt; told, denied(Clause::Discretionary, BOB, Some(MEMO)));
+    assert!(rt;
+        is_refused_to_bob(
+            &mut monitor,
+            rt.alloc(),
+            APPEND_B,
+            Clause::Discretionary,
+            MEMO
+        )?
+    );
     assert!(rt; ann_is_shown(&mut monitor, rt.alloc(), SHOW_MEMO, &[b"m1b"])?);
     Ok(())
 }
@@ -195,11 +221,14 @@ fn rescind_between_reads(rt: HostRuntime) -> Result<(), Fail> {
     let mut monitor = base_monitor(rt.alloc())?;
     assert!(rt; ann_is_shown(&mut monitor, rt.alloc(), SHOW_MEMO, &[b"m1"])?);
     assert!(rt; is_made(&mut monitor, ROOT, rescind_memo(ANN, Mode::Read))?);
-    let told = line_refusal(&mut monitor, rt.alloc(), b"hello ann", SHOW_MEMO)?;
-    assert_eq!(rt; told, denied(Clause::Discretionary, ANN, Some(MEMO)));
-    assert_eq!(rt;
-        monitor.fault(2),
-        denied(Clause::Discretionary, ANN, Some(MEMO))
+    assert!(rt;
+        is_refused_to_ann(
+            &mut monitor,
+            rt.alloc(),
+            SHOW_MEMO,
+            Clause::Discretionary,
+            MEMO
+        )?
     );
     Ok(())
 }
@@ -218,12 +247,18 @@ fn lost_rule_changes_nothing(rt: HostRuntime) -> Result<(), Fail> {
 fn classify_needs_trust(rt: HostRuntime) -> Result<(), Fail> {
     let more = b"subject dan greatest u current u admin\n";
     let mut monitor = monitor_over(rt.alloc(), b"\"n1\"", more)?;
-    let told = refusal(&mut monitor, DAN, classify_note()?)?;
-    assert_eq!(rt; told, denied(Clause::Trusted, DAN, Some(NOTE)));
+    assert!(rt;
+        is_refused(
+            &mut monitor,
+            DAN,
+            classify_note()?,
+            Clause::Trusted,
+            Some(NOTE)
+        )?
+    );
     assert!(rt; is_made(&mut monitor, DAN, give_cat(NOTE))?);
     assert!(rt; is_made(&mut monitor, ROOT, classify_note()?)?);
     let line = b"when read note do end";
-    let told = line_refusal(&mut monitor, rt.alloc(), b"hello bob", line)?;
-    assert_eq!(rt; told, denied(Clause::Star, BOB, Some(NOTE)));
+    assert!(rt; is_refused_to_bob(&mut monitor, rt.alloc(), line, Clause::Star, NOTE)?);
     Ok(())
 }
