@@ -1,6 +1,6 @@
 -- Which entries may come next, and what runs for them, by what is kept.
 use Rattle.std.proofs.Common.{◌≡◌, ℕ, ◌-◌, ◌<◌, ◌≤◌, true, cond, List, [], ◌∷◌, ◌++◌, length, get_or, refl, sym, ◌∙◌, ap, subst, arith}
-use Rattle.std.specs.Prelude.{is_some, nat_lt, ◌&&◌, slice_index_or, Some, None}
+use Rattle.std.specs.Prelude.{All, is_some, nat_lt, ◌&&◌, slice_index_or, Some, None}
 use Rattle.std.proofs.lemmas.Bool.Decides.{nat_tests}
 use Rattle.std.proofs.lemmas.List.{get_or_default}
 use Rattle.std.proofs.lemmas.List.Elements.{All-get_or}
@@ -8,7 +8,7 @@ use Rattle.bl_script.specs.Effects.{children}
 use Rattle.bl_script.specs.Script.{IsScript}
 use Rattle.bl_script.specs.declared.work.Work.TheVariants as work
 use Rattle.bl_setup.specs.Order.{Setup, Runs}
-use Rattle.bl_setup.specs.Past.{at_place, earlier, is_done, subject_of, task_of, child_task, fault_of_task, policy_of}
+use Rattle.bl_setup.specs.Past.{at_place, earlier, is_done, subject_of, task_of, child_task, fault_of_task, policy_of, deeds}
 use Rattle.bl_setup.proofs.Places.{at_place-earlier}
 use Rattle.bl_monitor.specs.declared.monitor.Entry.{Entry}
 use Rattle.bl_monitor.specs.declared.monitor.Entry.TheVariants as entry
@@ -22,7 +22,11 @@ use Rattle.bl_monitor.specs.Places.{no_place, HasChild}
 use Rattle.bl_monitor.specs.Sound.{heard_of, pasts_of, IsRight, Tells, IsSound, CanCome, IsAdmitted}
 use Rattle.std.proofs.lemmas.List.{map-append}
 use Rattle.bl_monitor.specs.declared.judge.Judged.{Judged}
-use Rattle.bl_monitor.specs.Judging.{IsJudged, IsKnown}
+use Rattle.bl_monitor.specs.Judging.{IsJudged, IsKnown, content_at}
+use Rattle.bl_monitor.specs.Heard.{KnowsAnswer}
+use Rattle.bl_monitor.proofs.Ids.{fault_ids, answer_ids}
+use Rattle.bl_script.specs.Statements.{Part, no_part}
+use Rattle.bl_policy.specs.declared.access.Access.{Access}
 use Rattle.bl_monitor.specs.Texts.{applied}
 use Rattle.bl_monitor.proofs.Keeps.{policy_same, length-mapped, sound_more, answer_more}
 
@@ -152,6 +156,14 @@ module _ (setup : Setup) (contents : List (List ℕ)) (places : List Place) (sou
 
     pub next_answer : j.answer ≡ answer_at (heard_of setup (places ++ record { admitted = a; fault = j.fault; children = j.children } ∷ [])) (length places)
     next_answer = answer_more setup contents places a j sound coming.right coming.subject coming.task judged
+
+    pub next_ids : KnowsAnswer setup j.answer
+    next_ids =
+        let r : IsRight setup a = coming.right in
+        subst (KnowsAnswer setup) (sym judged.answer)
+        (answer_ids setup a.lost (fault_of_task setup.policy a.subject (kept.task_of a)) a.script a.index (deeds (kept.task_of a) (content_at contents))
+        (fault_ids setup setup.policy a.subject r.subject (slice_index_or a.script a.index no_part).accesses
+        (All-get_or (λ (part : Part). All (λ (access : Access). access.doc < length setup.policy.documents) part.accesses) a.script a.index no_part r.index r.documents)))
 
     pub next_heard : heard_of setup (places ++ record { admitted = a; fault = j.fault; children = j.children } ∷ []) ≡ heard.with_entry h e
     next_heard = λ i. record {

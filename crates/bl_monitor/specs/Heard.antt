@@ -1,7 +1,8 @@
 -- What a monitor has been told, and what the definitions of the order say of it.
-use Rattle.std.specs.Prelude.{◌≡◌, ℕ, ◌<◌, ◌≤◌, Bool, true, false, ◌&&◌, if◌then◌else◌, nat_lt, List, [], ◌∷◌, ◌++◌, length, slice_index_or, Option, Some, None}
+use Rattle.std.specs.Prelude.{◌≡◌, ℕ, ◌<◌, ◌≤◌, Bool, true, false, ◌&&◌, if◌then◌else◌, nat_lt, List, [], ◌∷◌, ◌++◌, length, slice_index_or, Option, Some, None, ⊤, IfSome}
 use Rattle.bl_policy.specs.declared.denial.Denial.{Denial}
 use Rattle.bl_script.specs.declared.answer.Answer.{Answer}
+use Rattle.bl_script.specs.declared.answer.Answer.TheVariants as answer
 use Rattle.bl_script.specs.declared.work.Work.{Work}
 use Rattle.bl_script.specs.declared.work.Work.TheVariants as work
 use Rattle.bl_setup.specs.Order as order
@@ -47,6 +48,17 @@ with_entry heard e = record heard { order = heard.order ++ entry_of e ∷ []; lo
 -- the ids of a work are in the setup
 abbrev pub KnowsWork : Setup → Work → Type 0
 KnowsWork setup (work.Behaviour script) = AreBelow (length setup.policy.documents) script
+
+-- the subject and the document of a denial are in the setup
+pub record KnowsDenial (setup : Setup) (denial : Denial) : Type 0 where
+  pub subject : denial.subject < length setup.policy.subjects
+  pub object : IfSome denial.object (λ doc. doc < length setup.policy.documents)
+
+-- the ids that an answer names are in the setup
+abbrev pub KnowsAnswer : Setup → Answer → Type 0
+KnowsAnswer setup (answer.Done outputs) = ⊤
+KnowsAnswer setup (answer.Denied denial) = KnowsDenial setup denial
+KnowsAnswer setup answer.Lost = ⊤
 
 -- the ids of an entry are in the setup
 abbrev pub Knows : Setup → Entry → Type 0

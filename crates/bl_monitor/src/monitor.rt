@@ -154,7 +154,7 @@ fn child(places: &[Place], parent: u32, which: u32, lost: bool) -> Result<Admitt
 
 impl Monitor {
     ghost use Rattle.std.specs.Prelude.{◌≡◌, ◌↔◌, length, [], IfOk, OnOk, OnErr, IsErrOf};
-    ghost use Rattle.bl_monitor.specs.Heard.{Knows, MayCome, with_entry, answer_at, children_of, fault_of};
+    ghost use Rattle.bl_monitor.specs.Heard.{Knows, KnowsAnswer, MayCome, with_entry, answer_at, children_of, fault_of};
     ghost use Rattle.bl_monitor.specs.declared.monitor.MonitorFault.TheVariants as faults;
 
     /// A monitor of an empty order over this setup.
@@ -175,6 +175,7 @@ impl Monitor {
         // The ids of a line are in the setup.
         requires { Knows self.old.setup entry }
         ensures answer { IfOk result (λ answer. answer ≡ answer_at self.new (length self.old.order)) }
+        ensures ids { IfOk result (KnowsAnswer self.old.setup) }
         ensures order { OnOk result (self.new ≡ with_entry self.old entry) }
         ensures came { OnOk result (MayCome self.old entry) }
         ensures no_child { IsErrOf result faults.NoChild ↔ (¬ MayCome self.old entry) }

@@ -1,12 +1,12 @@
 use Rattle.std.proofs.Common.{◌≡◌, [], ◌∷◌, ◌++◌, length, sym, ◌∙◌, ap, subst, arith}
 use Rattle.std.proofs.lemmas.Result.{err_from_is_err_and}
-use Rattle.bl_monitor.specs.Heard.{MayCome, Knows, answer_at}
+use Rattle.bl_monitor.specs.Heard.{MayCome, Knows, KnowsAnswer, answer_at}
 use Rattle.bl_monitor.specs.Judging.{IsJudged}
 use Rattle.bl_monitor.specs.Sound.{IsAdmitted, CanCome, IsSound, heard_of}
 use Rattle.bl_monitor.specs.Texts.{applied}
 use Rattle.bl_monitor.proofs.Errors.{moved, not_memory, not_ok}
 use Rattle.bl_monitor.proofs.Changes.{whole_again, length-applied}
-use Rattle.bl_monitor.proofs.Coming.{may_come, can_come, admitted_can, as_long, next_sound, next_answer}
+use Rattle.bl_monitor.proofs.Coming.{may_come, can_come, admitted_can, as_long, next_sound, next_answer, next_ids}
 use Rattle.bl_monitor.proofs.monitor.Monitor.next.Goals as goal
 
 pub returns-in_err-admitted-clause-no_child : goal.returns-in_err-admitted-clause-no_child
@@ -50,3 +50,8 @@ returns-clause-came c = (subst (λ h. MayCome h c.args.entry) c.self.view_is (ma
 
 pub returns-clause-no_child : goal.returns-clause-no_child
 returns-clause-no_child c = (λ x m. not_ok c.in_ok-judged.judged.answer x, λ n. absurd (n (subst (λ h. MayCome h c.args.entry) c.self.view_is (may_come c.self.inside.setup c.self.inside.contents.items c.self.inside.places.items c.self.invariant c.args.entry (admitted_can c.self.inside.setup c.self.inside.contents.items c.self.inside.places.items c.self.invariant c.args.entry c.in_ok-admitted.admitted (subst (λ ps. IsAdmitted ps c.args.entry c.in_ok-admitted.admitted) c.deref.ensures.value c.in_ok-admitted.ensures.ok))))))
+
+pub returns-clause-ids : goal.returns-clause-ids
+returns-clause-ids c =
+    subst (λ h. KnowsAnswer h.setup c.in_ok-judged.judged.answer) c.self.view_is
+    (next_ids c.self.inside.setup c.self.inside.contents.items c.self.inside.places.items c.self.invariant c.args.entry c.in_ok-admitted.admitted c.in_ok-judged.judged (subst (λ h. Knows h.setup c.args.entry) (sym c.self.view_is) c.requires) (subst (λ ps. IsAdmitted ps c.args.entry c.in_ok-admitted.admitted) c.deref.ensures.value c.in_ok-admitted.ensures.ok) c.weight-weight.ensures.script (subst (λ p. IsJudged p c.self.inside.contents.items c.in_ok-admitted.admitted c.in_ok-judged.judged) c.policy.ensures.value (subst (λ cs. IsJudged c.policy.result.now cs c.in_ok-admitted.admitted c.in_ok-judged.judged) c.deref-2.ensures.value c.in_ok-judged.ensures)))
