@@ -6,4 +6,6 @@ mod judge;
 pub mod monitor;
 mod place;
 mod run;
+#[cfg(test)]
+mod tests;
 mod text;

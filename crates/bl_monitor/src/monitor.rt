@@ -19,6 +19,7 @@ use bl_script::work::Work;
 use bl_setup::setup::Setup;
 use std::alloc::{AllocError, Global};
 use std::marker::Model;
+use std::sync::Arc;
 
 /// An entry of the admission order, with whether it is lost to want of memory.
 #[derive(Drop)]
@@ -60,7 +61,7 @@ impl From<AllocError> for MonitorFault {
 #[derive(Drop)]
 pub struct Monitor {
     alloc: Global,
-    setup: Setup,
+    setup: Arc<Setup, Global>,
     contents: Vec<Document>,
     places: Vec<Place>,
 }
@@ -77,9 +78,11 @@ impl Model for Monitor {
 
     ghost use Rattle.bl_monitor.specs.Sound.{heard_of, IsSound};
 
-    ghost view = { λ m. heard_of m.setup m.places.items };
+    ghost use Rattle.std.specs.Arc.{arc_value};
 
-    ghost invariant = { λ m. IsSound m.setup m.contents.items m.places.items };
+    ghost view = { λ m. heard_of (arc_value m.setup) m.places.items };
+
+    ghost invariant = { λ m. IsSound (arc_value m.setup) m.contents.items m.places.items };
 }
 
 /// The contents that every entry of the order finds first.
@@ -153,6 +156,7 @@ fn child(places: &[Place], parent: u32, which: u32, lost: bool) -> Result<Admitt
 }
 
 impl Monitor {
+    ghost use Rattle.std.specs.Arc.{arc_value};
     ghost use Rattle.std.specs.Prelude.{◌≡◌, ◌↔◌, length, [], IfOk, OnOk, OnErr, IsErrOf};
     ghost use Rattle.bl_monitor.specs.Heard.{Knows, KnowsAnswer, MayCome, with_entry, answer_at, children_of, fault_of};
     ghost use Rattle.bl_monitor.specs.declared.monitor.MonitorFault.TheVariants as faults;
@@ -162,12 +166,23 @@ impl Monitor {
         ensures { IfOk result (λ m. m ≡ record { setup = setup; order = []; lost = [] }) }
     {
         let contents = shared(alloc, setup.contents())?;
+        let setup = match Arc::new(alloc, setup) {
+            Ok(setup) => setup,
+            Err(_) => return Err(AllocError),
+        };
         Ok(Monitor {
             alloc,
             setup,
             contents,
             places: Vec::new(alloc),
         })
+    }
+
+    /// One more owner of the setup.
+    pub fn share_setup(&self) -> Result<Arc<Setup, Global>, AllocError>
+        ensures { IfOk result (λ setup. arc_value setup ≡ self.now.setup) }
+    {
+        Ok(Arc::try_clone(&self.setup)?)
     }
 
     /// Answers the entry at the next place of the order. After an error the order is as it was.

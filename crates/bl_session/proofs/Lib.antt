@@ -7,6 +7,10 @@ pub mod Steps
 pub mod Cuttings
 pub mod Stages
 pub mod Outcomes
-pub mod BookLaws
-pub mod OneLaws
-pub mod ToldLaws
+pub mod OrderLaws
+pub mod RunLaws
+pub mod EntryLaws
+pub mod AnswerLaws
+pub mod BlockLaws
+pub mod WordLaws
+pub mod MachineLaws

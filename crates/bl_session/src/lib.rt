@@ -15,9 +15,11 @@
 
 pub mod alone;
 mod behind;
+mod block;
 mod entries;
 pub mod fault;
 mod held;
+mod label;
 mod lines;
 mod put;
 mod reply;
@@ -26,3 +28,4 @@ mod session;
 mod tests;
 mod turn;
 pub mod watched;
+mod words;

@@ -69,6 +69,7 @@ fn push_reply<B: Behind>(
     line: &Pending,
 ) -> Result<(), AllocError>
     requires settled { (n : ℕ) × (ordinal ≤ n) × B.settled behind.now state.now n }
+    requires whole { (n : ℕ) × B.whole behind.now state.now n }
     requires gives { (n : ℕ) × (n < ordinal) × B.gives behind.now state.now block.old n }
     ensures text { OnOk result (out.new.items ≡ out.old.items ++ reply_to (B.replies behind.now state.now) ordinal line.now) }
     ensures gives { OnOk result ((n : ℕ) × (n ≤ ordinal) × B.gives behind.now state.now block.new n) }
@@ -90,6 +91,7 @@ pub fn text_block<B: Behind>(
     pending: &[Pending],
 ) -> Result<Vec<u8>, AllocError>
     requires settled { B.settled behind.now state.now (after + length pending.now) }
+    requires whole { (n : ℕ) × B.whole behind.now state.now n }
     requires gives { B.gives behind.now state.now block.old after }
     requires fits { after + length pending.now < 2 ^ 32 }
     ensures { IfOk result (λ out. out.items ≡ block_text (B.replies behind.now state.now) after pending.now) }
