@@ -23,10 +23,12 @@ use Rattle.bl_script.specs.WhenFaults.{lists_in, documents_in, names_in, Declara
 -- ---- parts of a list
 
 module _ {X : Type 0} (P : X → Type 0) where
+  -- what holds of all holds of the front
   all_left : (xs ys : List X) → All P (xs ++ ys) → All P xs
   all_left [] ys h = All-nil P
   all_left (x ∷ xs) ys h = All-cons P x xs (All-head P x (xs ++ ys) h) (all_left xs ys (All-tail P x (xs ++ ys) h))
 
+  -- what holds of all holds of what stands behind
   all_right : (xs ys : List X) → All P (xs ++ ys) → All P ys
   all_right [] ys h = h
   all_right (x ∷ xs) ys h = all_right xs ys (All-tail P x (xs ++ ys) h)
@@ -50,10 +52,12 @@ contents_numbered names (spawn f m b rest) next (h, i) = contents_numbered names
 
 -- ---- modes
 
+-- bytes that compare as equal are the same
 same_bytes : (a b : List ℕ) → bytes_eq a b ≡ true → a ≡ b
 same_bytes a b h = let d = bytes_eq-Decides a b in grind (arith, d)
 
 module _ (names : KnownNames) where
+  -- a document by its place
   abbrev doc : List ℕ → ℕ
   doc = document_of names
 
@@ -77,12 +81,15 @@ module _ (names : KnownNames) where
           or_right false b h = h
 
   module _ (list : List SpelledAccess) where
+    -- the accesses, by places
     abbrev accesses : List Access
     accesses = map (access_of names) list
 
+    -- a document that a statement uses under these accesses
     abbrev pub used : (Mode → Bool) → List ℕ → Usage
     used test d = record { declared = list; asked = test; document = d }
 
+    -- statements whose documents are declared as they ask keep to the accesses
     keeps : (b : SpelledBody) (next : ℕ) → All IsDeclared (uses_in list b) → KeepsModes accesses (numbered names next b)
     keeps empty next h = tt
     keeps (show d rest) next h =
@@ -160,6 +167,7 @@ later_once (b ∷ list) earlier x (k, lt, at) h =
     (later_once list (b.document ∷ earlier) x (suc k, omega arith, at) (All-tail IsOnce here (declarations_behind (b.document ∷ earlier) list) h))
 
 module _ (names : KnownNames) where
+  -- the place of a document is not that of any that is declared after it
   others_apart : (a : SpelledAccess) (list : List SpelledAccess) → Contains names.documents a.document → All (Contains names.documents) (documents_in list)
       → All (λ (b : SpelledAccess). a.document ≢ b.document) list → All (λ (x : Access). document_of names a.document ≢ x.doc) (map (access_of names) list)
   others_apart a [] here known other = All-nil (λ (x : Access). document_of names a.document ≢ x.doc)
@@ -184,6 +192,7 @@ module _ (names : KnownNames) where
 
   -- ---- the behaviours
 
+  -- not too many accesses
   abbrev IsShort : List SpelledAccess → Type 0
   IsShort list = length list ≤ most_accesses
 

@@ -1,4 +1,4 @@
--- What is built of each statement, and of a `when`.
+-- What is built of an `if` with an `else`, and of a `when`.
 use Rattle.std.proofs.Common.{◌≡◌, ℕ, ◌+◌, List, [], ◌∷◌, ◌++◌, length, get_or, set, sym, ap, ◌∙◌, append_assoc, length-append}
 use Rattle.std.specs.Prelude.{map}
 use Rattle.std.proofs.lemmas.List.{append-nil, set_at, get_or_at}
@@ -14,24 +14,12 @@ use Rattle.bl_script.proofs.Numbering.{spawned_long}
 use Rattle.bl_script.specs.Spelled as spelled
 
 module _ (names : KnownNames) where
-  -- a statement that spawns nothing
-  pub built_plain : (s : SpelledBody) (old : List Part) (y : Statements) → y ≡ numbered names (length old) s → spawned_from names (length old) s ≡ []
-      → IsBuilt names s old old y
-  built_plain s old y is none = record { statements = is; behaviours = sym (append-nil old) ∙ ap (λ l. old ++ l) (sym none) }
-
   -- behind what a body spawns stand those that come next
   pub built_long : (s : SpelledBody) (old new : List Part) (y : Statements) → IsBuilt names s old new y → length new ≡ length old + whens s
   built_long s old new y b =
       ap length b.behaviours ∙ length-append old (spawned_from names (length old) s) ∙ ap (λ n. length old + n) (spawned_long names s (length old))
 
-  pub built_if_then : (document : List ℕ) (asks : Condition) (words : List ℕ) (t : SpelledBody) (old new : List Part) (d : ℕ) (w : List ℕ) (y z : Statements)
-      → d ≡ document_of names document → w ≡ words → IsBuilt names t old new y → z ≡ statement.Nothing
-      → IsBuilt names (spelled.if_then document asks words t spelled.empty) old new (statement.If d asks w y z statement.Nothing)
-  built_if_then document asks words t old new d w y z at same b none = record {
-    statements = λ i. statement.If (at i) asks (same i) (b.statements i) (none i) statement.Nothing;
-    behaviours = b.behaviours ∙ ap (λ l. old ++ l) (sym (append-nil (spawned_from names (length old) t)));
-  }
-
+  -- an `if` with an `else`, whose behaviours stand behind those of `then`
   pub built_if_else : (document : List ℕ) (asks : Condition) (words : List ℕ) (t e : SpelledBody) (old mid new : List Part) (d : ℕ) (w : List ℕ) (y z : Statements)
       → d ≡ document_of names document → w ≡ words → IsBuilt names t old mid y → IsBuilt names e mid new z
       → IsBuilt names (spelled.if_else document asks words t e spelled.empty) old new (statement.If d asks w y z statement.Nothing)
@@ -44,15 +32,6 @@ module _ (names : KnownNames) where
         statements = λ i. statement.If (at i) asks (same i) (b.statements i) (is i) statement.Nothing;
         behaviours = c.behaviours ∙ ap (λ n. mid ++ spawned_from names n e) long ∙ ap (λ l. l ++ later) b.behaviours ∙ append_assoc old x later
             ∙ ap (λ l. old ++ (x ++ l)) (sym (append-nil later));
-      }
-
-  pub built_spawn : (f : SpelledAccess) (m : List SpelledAccess) (b : SpelledBody) (old new : List Part) (n : ℕ) → n ≡ length old → new ≡ old ++ when_from names (length old) f m b
-      → IsBuilt names (spelled.spawn f m b spelled.empty) old new (statement.Spawn n statement.Nothing)
-  built_spawn f m b old new n at is =
-      let own : Part = record { accesses = map (access_of names) (f ∷ m); body = numbered names (length old + 1) b } in
-      record {
-        statements = ap (λ k. statement.Spawn k statement.Nothing) at;
-        behaviours = is ∙ ap (λ l. old ++ (own ∷ l)) (sym (append-nil (spawned_from names (length old + 1) b)));
       }
 
   -- a `when` whose behaviour was pushed first, and given its statements when they were built

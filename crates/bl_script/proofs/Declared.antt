@@ -1,5 +1,5 @@
 -- The documents that one `when` declares, each behind those before it.
-use Rattle.std.proofs.Common.{◌≡◌, ℕ, zero, suc, ◌+◌, ◌<◌, ◌≤◌, Bool, true, false, ◌⊎◌, inl, inr, List, [], ◌∷◌, ◌++◌, length, get_or, map, take, drop, refl, ap, sym, subst, ◌∙◌, arith, append_assoc}
+use Rattle.std.proofs.Common.{◌≡◌, ℕ, zero, suc, ◌+◌, ◌<◌, true, false, ◌⊎◌, inl, inr, List, [], ◌∷◌, ◌++◌, length, get_or, map, take, drop, refl, ap, sym, subst, ◌∙◌, arith, append_assoc}
 use Rattle.std.specs.Prelude.{All, Contains}
 use Rattle.std.specs.Str.{bytes_eq}
 use Rattle.std.proofs.lemmas.Bool.{false≢true}
@@ -31,11 +31,11 @@ heaped_to : (earlier : List (List ℕ)) (accesses : List SpelledAccess) (d : Lis
 heaped_to earlier [] d there = inl there
 heaped_to earlier (access ∷ more) d there =
     elim (heaped_to (access.document ∷ earlier) more d there) [
-      inl before ↦ elim (Contains-append_cases (access.document ∷ []) earlier d before) [
-        inl here ↦ inr (Contains-append_left (access.document ∷ []) (documents_in more) d here)
-      | inr old ↦ inl old
+      | inl before ↦ elim (Contains-append_cases (access.document ∷ []) earlier d before) [
+        | inl here ↦ inr (Contains-append_left (access.document ∷ []) (documents_in more) d here)
+        | inr old ↦ inl old
       ]
-    | inr later ↦ inr (Contains-append_right (access.document ∷ []) (documents_in more) d later)
+      | inr later ↦ inr (Contains-append_right (access.document ∷ []) (documents_in more) d later)
     ]
 
 heaped_old : (earlier : List (List ℕ)) (accesses : List SpelledAccess) (d : List ℕ) → Contains earlier d → Contains (heaped earlier accesses) d
@@ -47,8 +47,8 @@ heaped_new : (earlier : List (List ℕ)) (accesses : List SpelledAccess) (d : Li
 heaped_new earlier [] d there = absurd (nothing_in d there)
 heaped_new earlier (access ∷ more) d there =
     elim (Contains-append_cases (access.document ∷ []) (documents_in more) d there) [
-      inl here ↦ heaped_old (access.document ∷ earlier) more d (Contains-append_left (access.document ∷ []) earlier d here)
-    | inr later ↦ heaped_new (access.document ∷ earlier) more d later
+      | inl here ↦ heaped_old (access.document ∷ earlier) more d (Contains-append_left (access.document ∷ []) earlier d here)
+      | inr later ↦ heaped_new (access.document ∷ earlier) more d later
     ]
 
 behind-append : (earlier : List (List ℕ)) (xs ys : List SpelledAccess) → declarations_behind earlier (xs ++ ys) ≡ declarations_behind earlier xs ++ declarations_behind (heaped earlier xs) ys
@@ -79,7 +79,7 @@ behind_whole : (first : List ℕ) (xs : List RawAccess) (i : ℕ) (x : RawAccess
 behind_whole first xs i x lt at =
     let rest = map raw_access (drop (i + 1) xs) in
     let split : xs ≡ take i xs ++ (x ∷ drop (i + 1) xs) =
-      sym (take-append-drop (i + 1) xs) ∙ ap (λ l. l ++ drop (i + 1) xs) (one_more xs i x lt at) ∙ append_assoc (take i xs) (x ∷ []) (drop (i + 1) xs) in
+    sym (take-append-drop (i + 1) xs) ∙ ap (λ l. l ++ drop (i + 1) xs) (one_more xs i x lt at) ∙ append_assoc (take i xs) (x ∷ []) (drop (i + 1) xs) in
     ap (behind_first first) split ∙ ap (declarations_behind (first ∷ [])) (map-append raw_access (take i xs) (x ∷ drop (i + 1) xs))
     ∙ behind-append (first ∷ []) (map raw_access (take i xs)) (raw_access x ∷ rest)
 
@@ -88,10 +88,10 @@ pub once_goes_on : (first : List ℕ) (xs : List RawAccess) (i : ℕ) (x : RawAc
     → ((raw_access x).document ≡ first → ⊥) → (Contains (documents_in (map raw_access (take i xs))) (raw_access x).document → ⊥) → All IsOnce (behind_first first (take (i + 1) xs))
 once_goes_on first xs i x lt at so_far other new =
     let once : IsOnce (declaration_at first (take i xs) x) =
-      λ there. elim (heaped_to (first ∷ []) (map raw_access (take i xs)) (raw_access x).document there) [
-        inl old ↦ other (sym (only_one first (raw_access x).document old))
+    λ there. elim (heaped_to (first ∷ []) (map raw_access (take i xs)) (raw_access x).document there) [
+      | inl old ↦ other (sym (only_one first (raw_access x).document old))
       | inr later ↦ new later
-      ] in
+    ] in
     subst (All IsOnce) (sym (behind_more first xs i x lt at))
     (All-append IsOnce (behind_first first (take i xs)) (declaration_at first (take i xs) x ∷ []) so_far
     (All-cons IsOnce (declaration_at first (take i xs) x) [] once (All-nil IsOnce)))
@@ -105,12 +105,12 @@ once_stops first xs i x lt at so_far again =
     let before = take i xs in
     let rest = declarations_behind (d ∷ heaped (first ∷ []) (map raw_access before)) (map raw_access (drop (i + 1) xs)) in
     let there : Contains (heaped (first ∷ []) (map raw_access before)) d =
-      elim again [
-        inl same ↦ heaped_old (first ∷ []) (map raw_access before) d (subst (λ y. Contains (first ∷ []) y) (sym same) (Contains-push [] first))
+    elim again [
+      | inl same ↦ heaped_old (first ∷ []) (map raw_access before) d (subst (λ y. Contains (first ∷ []) y) (sym same) (Contains-push [] first))
       | inr later ↦ heaped_new (first ∷ []) (map raw_access before) d later
-      ] in
+    ] in
     let found = first_behind IsOnce declared_document (behind_first first before) (declaration_at first before x ∷ rest) d so_far
-      (first_here IsOnce declared_document (declaration_at first before x) rest (λ once. once there)) in
+    (first_here IsOnce declared_document (declaration_at first before x) rest (λ once. once there)) in
     first_behind IsOnce declared_document (record { earlier = []; document = first } ∷ []) (behind_first first xs) d
     (All-cons IsOnce (record { earlier = []; document = first }) [] (first_once first) (All-nil IsOnce))
     (subst (λ l. IsNameOfFirst IsOnce declared_document l d) (sym (behind_whole first xs i x lt at)) found)
@@ -145,8 +145,8 @@ pub none_more : (xs : List RawAccess) (i : ℕ) (d : RawAccess) (document : List
 none_more xs i d document lt none other there =
     let x = get_or xs i d in
     let split : documents_of (take (i + 1) xs) ≡ documents_of (take i xs) ++ x.document.now ∷ [] =
-      ap documents_of (take_more xs i d lt) ∙ documents_additive (take i xs) (x ∷ []) in
+    ap documents_of (take_more xs i d lt) ∙ documents_additive (take i xs) (x ∷ []) in
     elim (Contains-append_cases (documents_of (take i xs)) (x.document.now ∷ []) document (subst (λ l. Contains l document) split there)) [
-      inl before ↦ none before
-    | inr here ↦ other (only_one x.document.now document here)
+      | inl before ↦ none before
+      | inr here ↦ other (only_one x.document.now document here)
     ]

@@ -6,7 +6,7 @@ use denote.Enum.Bare.{true_same}
 use Rattle.bl_level.specs.contracts.token.Keyword as keyword
 use Rattle.bl_level.specs.contracts.token.Sign as a_mark
 use Rattle.bl_level.specs.declared.token.Keyword.{Keyword}
-use Rattle.bl_level.specs.declared.token.Keyword.TheVariants.{Hello, When, To, Do, End, Else, Then}
+use Rattle.bl_level.specs.declared.token.Keyword.TheVariants.{Hello, When, End, Else, Then}
 use Rattle.bl_level.specs.declared.token.Sign.{Sign}
 use Rattle.bl_level.specs.declared.token.Sign.TheVariants.{Comma, Semicolon}
 use Rattle.bl_level.specs.Token.{Tok, reserved, name, text, sign}

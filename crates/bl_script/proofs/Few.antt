@@ -1,9 +1,9 @@
 -- How many `when` stand in a body, and how many accesses each has.
-use Rattle.std.proofs.Common.{◌≡◌, ℕ, ◌+◌, ◌-◌, ◌<◌, ◌≤◌, max, List, [], ◌∷◌, ◌++◌, length, get_or, map, take, drop, Option, Some, None, MatchOption, refl, ap, sym, subst, ◌∙◌, arith}
+use Rattle.std.proofs.Common.{◌≡◌, ℕ, ◌+◌, ◌-◌, ◌<◌, ◌≤◌, List, [], ◌∷◌, ◌++◌, length, get_or, map, take, drop, Option, Some, None, MatchOption, ap, sym, subst, ◌∙◌, arith}
 use Rattle.std.specs.Prelude.{All, IsTrue, is_some, Bool}
 use Rattle.std.proofs.lemmas.Bool.{false≢true}
 use Rattle.std.proofs.lemmas.List.{take-append-drop, length-map}
-use Rattle.std.proofs.lemmas.List.Elements.{All-cons, All-nil, All-head, All-tail, All-append}
+use Rattle.std.proofs.lemmas.List.Elements.{All-cons, All-nil, All-tail, All-append}
 use Rattle.bl_script.specs.Spelled.{SpelledAccess, SpelledBody, empty, spawn, if_else}
 use Rattle.bl_script.specs.RawBodies.{raw_access, raw_body}
 use Rattle.bl_script.specs.Meaning.{whens}
@@ -38,10 +38,6 @@ few_behind a b most left is p = record {
   accesses = all_right HasFewAccesses (lists_in a) (lists_in b) (subst (All HasFewAccesses) (lists_in-joined a b) p.accesses);
 }
 
--- nothing is too much before anything
-pub few_none : (most : ℕ) → AreFewIn most empty
-few_none most = record { count = omega arith; accesses = All-nil HasFewAccesses }
-
 next_body : (xs : List RawStatement) (i : ℕ) (x : RawStatement) → i < length xs → x ≡ get_or xs i x → raw_body (take (i + 1) xs) ≡ joined (raw_body (take i xs)) (raw_body (x ∷ []))
 next_body xs i x lt at = ap raw_body (one_more xs i x lt at) ∙ raw_body-append (take i xs) (x ∷ [])
 
@@ -65,8 +61,8 @@ few_stops xs body whole i x most left lt at is many few =
     let here = raw_body (x ∷ []) in
     let after = raw_body (drop (i + 1) xs) in
     let same : body ≡ joined (joined before here) after =
-      sym whole ∙ ap raw_body (sym (take-append-drop (i + 1) xs)) ∙ raw_body-append (take (i + 1) xs) (drop (i + 1) xs)
-          ∙ ap (λ b. joined b after) (next_body xs i x lt at) in
+    sym whole ∙ ap raw_body (sym (take-append-drop (i + 1) xs)) ∙ raw_body-append (take (i + 1) xs) (drop (i + 1) xs)
+    ∙ ap (λ b. joined b after) (next_body xs i x lt at) in
     many (few_behind before here most left is (few_front (joined before here) after most (subst (AreFewIn most) same few)))
 
 -- one statement more is no deeper than this

@@ -5,7 +5,7 @@ use Rattle.std.proofs.lemmas.List.Elements.{All-cons, All-nil, All-append}
 use Rattle.std.specs.Result.{IsErrAnd}
 use Rattle.std.proofs.lemmas.Result.{err_from_is_err_and}
 use Rattle.bl_script.specs.declared.raw.RawStatement.{RawStatement}
-use Rattle.bl_script.specs.First.{IsFirstWithout, IsNameOfFirst}
+use Rattle.bl_script.specs.First.{IsNameOfFirst}
 
 -- the answer of a search from the left: all hold, or the name of the first that does not
 abbrev pub Finds : {X U : Type 0} (P : X → Type 0) (name_of : X → List ℕ) → List X → Result U (Bor (List ℕ)) → Type 0

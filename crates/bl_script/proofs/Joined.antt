@@ -1,9 +1,9 @@
 -- What stands in a body that is put together from two.
-use Rattle.std.proofs.Common.{◌≡◌, ℕ, zero, suc, ◌+◌, ◌<◌, ◌≤◌, max, List, [], ◌∷◌, ◌++◌, length, get_or, take, drop, map, refl, ap, sym, ◌∙◌, arith, append_assoc}
+use Rattle.std.proofs.Common.{◌≡◌, ℕ, zero, suc, ◌+◌, ◌<◌, ◌≤◌, max, List, [], ◌∷◌, ◌++◌, length, get_or, map, refl, ap, sym, ◌∙◌, arith, append_assoc}
 use Rattle.bl_script.specs.Spelled.{SpelledAccess, SpelledBody, empty, show, say, add, set, copy, pour, if_then, if_else, spawn}
 use Rattle.bl_script.specs.RawBodies.{raw_access, raw_body, raw_depth}
 use Rattle.bl_script.specs.Meaning.{whens}
-use Rattle.bl_script.specs.WhenFaults.{depth_in, lists_in, documents_in, names_in, Declaration, declarations_behind, declarations_in, Usage, uses_in}
+use Rattle.bl_script.specs.WhenFaults.{depth_in, lists_in, documents_in, names_in, declarations_behind, declarations_in, uses_in}
 use Rattle.bl_script.specs.Modes.{observes, alters, is_write}
 use Rattle.bl_script.specs.declared.raw.RawStatement.{RawStatement}
 use Rattle.bl_script.specs.declared.raw.RawStatement.TheVariants.{Show, Say, Add, Set, Copy, Pour, IfThen, IfElse, Spawn}

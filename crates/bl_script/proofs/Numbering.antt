@@ -50,6 +50,7 @@ module _ (value : SpelledBody → ℕ) where
   values_in (if_else d a w t e rest) = values_in t ++ (values_in e ++ values_in rest)
   values_in (spawn f m b rest) = value b ∷ (values_in b ++ values_in rest)
 
+  -- there is a number for each `when`
   values_long : (b : SpelledBody) → length (values_in b) ≡ whens b
   values_long empty = refl
   values_long (show d rest) = values_long rest
@@ -117,6 +118,7 @@ module _ (value : SpelledBody → ℕ) where
 module _ (names : KnownNames) (measure : SpelledBody → ℕ) (table : ℕ → List Part → List ℕ) (total : (ℕ → ℕ) → Statements → ℕ)
     (one : (k : ℕ) (p : Part) (rest : List Part) → table k (p ∷ rest) ≡ (1 + total (λ j. get_or (table (k + 1) rest) (j - (k + 1)) 0) p.body) ∷ table (k + 1) rest)
     (meets : (b : SpelledBody) (f : ℕ → ℕ) (next : ℕ) → HasAt (λ c. 1 + measure c) f next b → total f (numbered names next b) ≡ measure b) where
+  -- the table of a list that begins with what a body spawns begins with the numbers of that body
   pub table_is : (b : SpelledBody) (next : ℕ) (behind : List Part)
       → table next (spawned_from names next b ++ behind) ≡ values_in (λ c. 1 + measure c) b ++ table (next + whens b) behind
   table_is empty next behind = rw add-zero refl
@@ -201,10 +203,12 @@ module _ (names : KnownNames) where
       omega (arith, depth_numbered t f next h, depth_numbered e f (next + whens t) i, depth_numbered rest f (next + whens t + whens e) j)
   depth_numbered (spawn a m b rest) f next (h, i, j) = omega (arith, h, depth_numbered rest f (next + 1 + whens b) j)
 
+  -- the sizes of what a body spawns: each behaviour, and the `when` in it
   sizes_are : (b : SpelledBody) (next : ℕ) (behind : List Part)
       → sizes_from next (spawned_from names next b ++ behind) ≡ values_in (λ c. 1 + whens c) b ++ sizes_from (next + whens b) behind
   sizes_are = table_is names whens sizes_from (λ f body. sum_by f (spawned body)) (λ k p rest. refl) sum_spawned
 
+  -- the depths of what a body spawns: each `when`, and how deep its body goes
   depths_are : (b : SpelledBody) (next : ℕ) (behind : List Part)
       → depths_from next (spawned_from names next b ++ behind) ≡ values_in (λ c. 1 + depth_in c) b ++ depths_from (next + whens b) behind
   depths_are = table_is names depth_in depths_from depth_below (λ k p rest. refl) depth_numbered
@@ -216,6 +220,7 @@ abbrev EachFrom : (ℕ → Part → Type 0) → ℕ → List Part → Type 0
 EachFrom P k [] = Unit {0}
 EachFrom P k (p ∷ rest) = P k p × EachFrom P (k + 1) rest
 
+-- it holds of each behaviour, by its place
 each_at : (P : ℕ → Part → Type 0) (xs : List Part) (k i : ℕ) (d : Part) → EachFrom P k xs → i < length xs → P (k + i) (get_or xs i d)
 each_at P [] k i d h lt = absurd (omega arith)
 each_at P (x ∷ xs) k zero d (h, more) lt = let same : k ≡ k + 0 = omega arith in subst (λ n. P n x) same h
@@ -223,10 +228,12 @@ each_at P (x ∷ xs) k (suc i) d (h, more) lt =
     let same : k + 1 + i ≡ k + suc i = omega arith in
     subst (λ n. P n (get_or xs i d)) same (each_at P xs (k + 1) i d more (omega arith))
 
+-- what the behaviour of this number names is numbered from the next number on
 abbrev IsNumbered : List Part → ℕ → Part → Type 0
 IsNumbered script k part = AreNumbered script (k + 1) (spawned part.body)
 
 module _ (names : KnownNames) (script : List Part) where
+  -- the script has at each behaviour of the body its size
   abbrev Fits : ℕ → SpelledBody → Type 0
   Fits next b = HasAt (λ c. 1 + whens c) (size_at script) next b
 
@@ -302,18 +309,23 @@ module _ (names : KnownNames) (script : List Part) where
       )
 
 module _ (names : KnownNames) (first : SpelledAccess) (more : List SpelledAccess) (body : SpelledBody) where
+  -- the script of the `when`
   abbrev whole : List Part
   whole = script_of names first more body
 
+  -- a script has a behaviour for each `when`, the outermost among them
   pub script_long : length whole ≡ 1 + whens body
   script_long = omega (arith, spawned_long names body 1)
 
+  -- the sizes of the behaviours behind the outermost
   sizes_of_rest : sizes_from 1 (spawned_from names 1 body) ≡ values_in (λ c. 1 + whens c) body ++ []
   sizes_of_rest = ap (sizes_from 1) (sym (append-nil (spawned_from names 1 body))) ∙ sizes_are names body 1 []
 
+  -- the depths of the behaviours behind the outermost
   depths_of_rest : depths_from 1 (spawned_from names 1 body) ≡ values_in (λ c. 1 + depth_in c) body ++ []
   depths_of_rest = ap (depths_from 1) (sym (append-nil (spawned_from names 1 body))) ∙ depths_are names body 1 []
 
+  -- the outermost behaviour has all the others within it
   size_of_whole : size_at whole 0 ≡ 1 + whens body
   size_of_whole =
       ap (λ n. 1 + n) (sum_spawned names body (λ j. get_or (sizes_from 1 (spawned_from names 1 body)) (j - 1) 0) 1
@@ -325,12 +337,14 @@ module _ (names : KnownNames) (first : SpelledAccess) (more : List SpelledAccess
       ap (λ n. 1 + n) (depth_numbered names body (λ j. get_or (depths_from 1 (spawned_from names 1 body)) (j - 1) 0) 1
       (has_at (λ c. 1 + depth_in c) body (depths_from 1 (spawned_from names 1 body)) [] [] 1 1 refl depths_of_rest))
 
+  -- the sizes in the script are those of the body
   fits_whole : Fits names whole 1 body
   fits_whole =
       let same : (j : ℕ) → j - 0 ≡ j = λ j. omega arith in
       subst (λ (table : ℕ → ℕ). HasAt (λ c. 1 + whens c) table 1 body) (λ i j. get_or (sizes_from 0 whole) (same j i) 0)
       (has_at (λ c. 1 + whens c) body (sizes_from 0 whole) (size_at whole 0 ∷ []) [] 0 1 refl (ap (λ l. size_at whole 0 ∷ l) sizes_of_rest))
 
+  -- the behaviours that each names are numbered one whole behaviour after another
   each_numbered : EachFrom (IsNumbered whole) 0 whole
   each_numbered =
       let within : 1 + whens body ≤ length whole = omega (arith, script_long) in (

@@ -35,8 +35,8 @@ pass_stops F additive P name_of xs whole is i x name lt at so_far first =
     let here = x ∷ [] in
     let after = drop (i + 1) xs in
     let same : whole ≡ F before ++ F here ++ F after =
-      sym is ∙ ap F (sym (take-append-drop (i + 1) xs)) ∙ additive (take (i + 1) xs) after ∙ ap (λ l. F l ++ F after) (one_more xs i x lt at)
-          ∙ ap (λ l. l ++ F after) (additive before here) in
+    sym is ∙ ap F (sym (take-append-drop (i + 1) xs)) ∙ additive (take (i + 1) xs) after ∙ ap (λ l. F l ++ F after) (one_more xs i x lt at)
+    ∙ ap (λ l. l ++ F after) (additive before here) in
     subst (λ l. IsNameOfFirst P name_of l name) (sym same)
     (first_before P name_of (F before ++ F here) (F after) name (first_behind P name_of (F before) (F here) name so_far first))
 

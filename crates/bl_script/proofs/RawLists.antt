@@ -29,6 +29,7 @@ put (statement.Pour from to rest) more = statement.Pour from to more
 put (statement.If doc asks text then_body else_body rest) more = statement.If doc asks text then_body else_body more
 put (statement.Spawn behaviour rest) more = statement.Spawn behaviour more
 
+-- a list of built statements is its first one with the others behind it
 put_built : (s : Stmt) (ys : List Stmt) → statements_of (s ∷ ys) ≡ put (statements_of (s ∷ [])) (statements_of ys)
 put_built (built.Show doc) ys = refl
 put_built (built.Say text) ys = refl
@@ -39,6 +40,7 @@ put_built (built.Pour from to) ys = refl
 put_built (built.If doc asks text then_body else_body) ys = refl
 put_built (built.Spawn behaviour) ys = refl
 
+-- the `when` of a list are those of its first statement and those of the others
 whens_first : (x : RawStatement) (rest : List RawStatement) → whens (raw_body (x ∷ rest)) ≡ whens (raw_body (x ∷ [])) + whens (raw_body rest)
 whens_first (Show d) rest = omega arith
 whens_first (Say w) rest = omega arith
@@ -50,6 +52,7 @@ whens_first (IfThen d a w t) rest = omega arith
 whens_first (IfElse d a w t e) rest = omega arith
 whens_first (Spawn f m b) rest = omega arith
 
+-- a list is as deep as its first statement or as the others
 depth_first : (x : RawStatement) (rest : List RawStatement) → raw_depth (raw_body (x ∷ rest)) ≡ max (raw_depth (raw_body (x ∷ []))) (raw_depth (raw_body rest))
 depth_first (Show d) rest = omega arith
 depth_first (Say w) rest = omega arith
@@ -77,6 +80,7 @@ whens_at raws i x lt at =
 pub whens_end : (raws : List RawStatement) (i : ℕ) → length raws ≤ i → whens (raw_body (drop i raws)) ≡ 0
 whens_end raws i past = ap (λ (l : List RawStatement). whens (raw_body l)) (drop_all i raws past)
 
+-- the texts of a list are those of its first statement and those of the others
 contents_first : (x : RawStatement) (rest : List RawStatement) → AreContents (raw_body (x ∷ rest)) → AreContents (raw_body (x ∷ [])) × AreContents (raw_body rest)
 contents_first (Show d) rest h = (tt, h)
 contents_first (Say w) rest (c, h) = ((c, tt), h)
@@ -89,6 +93,7 @@ contents_first (IfElse d a w t e) rest (c, (h, (i, j))) = ((c, (h, (i, tt))), j)
 contents_first (Spawn f m b) rest (h, i) = ((h, tt), i)
 
 module _ (names : KnownNames) where
+  -- the others are numbered behind what the first statement spawns
   numbered_first : (x : RawStatement) (rest : List RawStatement) (n : ℕ)
       → numbered names n (raw_body (x ∷ rest)) ≡ put (numbered names n (raw_body (x ∷ []))) (numbered names (n + whens (raw_body (x ∷ []))) (raw_body rest))
   numbered_first (Show d) rest n = rw add-zero refl
@@ -107,6 +112,7 @@ module _ (names : KnownNames) where
       let same : n + 1 + whens b ≡ n + (1 + (whens b + 0)) = omega arith in
       ap (λ k. put (numbered names n (raw_body (Spawn f m b ∷ []))) (numbered names k (raw_body rest))) same
 
+  -- what the others spawn stands behind what the first statement spawns
   spawned_first : (x : RawStatement) (rest : List RawStatement) (n : ℕ)
       → spawned_from names n (raw_body (x ∷ rest)) ≡ spawned_from names n (raw_body (x ∷ [])) ++ spawned_from names (n + whens (raw_body (x ∷ []))) (raw_body rest)
   spawned_first (Show d) rest n = rw add-zero refl
@@ -138,10 +144,6 @@ module _ (names : KnownNames) where
     pub behaviours : mid ++ spawned_from names (length mid) (raw_body rest) ≡ old ++ spawned_from names (length old) (raw_body raws)
     pub few : length mid + whens (raw_body rest) ≤ most_behaviours
     pub texts : AreContents (raw_body rest)
-
-  -- nothing is built
-  pub part_none : (raws : List RawStatement) (old : List Part) → length old + whens (raw_body raws) ≤ most_behaviours → AreContents (raw_body raws) → IsPartBuilt raws old raws [] old
-  part_none raws old few texts = record { statements = λ ys e. e; behaviours = refl; few = few; texts = texts }
 
   -- the next statement has room, and its texts are contents
   pub part_next : (raws : List RawStatement) (old : List Part) (x : RawStatement) (rest : List RawStatement) (so_far : List Stmt) (mid : List Part)

@@ -65,9 +65,16 @@ body_contents (if_then document asks words then_body rest) (x, (y, (z, (fits, (v
     (fits, (body_contents then_body p.0, body_contents rest (behind (sign Semicolon) (spell_body rest) (behind (reserved End) (sign Semicolon ∷ spell_body rest) p.1))))
 body_contents (if_else document asks words then_body else_body rest) (x, (y, (z, (fits, (v, more))))) =
     let p = fit_split (spell_body then_body) (reserved Else ∷ (spell_body else_body ++ reserved End ∷ sign Semicolon ∷ spell_body rest)) more in
-    let q = fit_split (spell_body else_body) (reserved End ∷ sign Semicolon ∷ spell_body rest) (behind (reserved Else) (spell_body else_body ++ reserved End ∷ sign Semicolon ∷ spell_body rest) p.1) in
-    (fits, (body_contents then_body p.0, (body_contents else_body q.0,
-    body_contents rest (behind (sign Semicolon) (spell_body rest) (behind (reserved End) (sign Semicolon ∷ spell_body rest) q.1)))))
+    let q = fit_split (spell_body else_body) (reserved End ∷ sign Semicolon ∷ spell_body rest) (behind (reserved Else) (spell_body else_body ++ reserved End ∷ sign Semicolon ∷ spell_body rest) p.1) in (
+      fits,
+      (
+        body_contents then_body p.0,
+        (
+          body_contents else_body q.0,
+          body_contents rest (behind (sign Semicolon) (spell_body rest) (behind (reserved End) (sign Semicolon ∷ spell_body rest) q.1)),
+        ),
+      ),
+    )
 body_contents (spawn first more body rest) (x, (y, (z, (u, behind_first)))) =
     let d : AreFit (spell_body body ++ reserved End ∷ sign Semicolon ∷ spell_body rest) =
     behind (reserved Do) (spell_body body ++ reserved End ∷ sign Semicolon ∷ spell_body rest) (behind_more more (reserved Do ∷ (spell_body body ++ reserved End ∷ sign Semicolon ∷ spell_body rest)) behind_first) in

@@ -15,7 +15,7 @@ use Rattle.bl_policy.specs.declared.access.Mode.{Mode}
 use Rattle.bl_policy.specs.declared.access.Mode.TheVariants as mode
 use Rattle.bl_script.specs.declared.script.Condition.{Condition}
 use Rattle.bl_script.specs.declared.script.Condition.TheVariants as asks
-use Rattle.bl_script.specs.Spelled.{SpelledAccess, SpelledBody, empty, show, say, add, set, copy, pour, if_then, if_else, spawn, mode_word, asks_word, spell_access, spell_more, spell_body, spell_when}
+use Rattle.bl_script.specs.Spelled.{SpelledAccess, SpelledBody, empty, show, say, add, set, copy, pour, if_then, if_else, spawn, mode_word, asks_word, spell_access, spell_more, spell_body}
 use Rattle.bl_script.specs.Grammar.{SpelledLine, hello, wait, when, spell, CanGoOn}
 use Rattle.bl_script.specs.Fault.{Blocks, FirstFault}
 use Rattle.bl_script.specs.Machine.{Due, word, a_sign, a_name, a_text, a_mode, is_or_has, more_accesses, a_body, rest_of_if, a_line, access_due, when_due, if_due, statement_due, body_due, more_due, rest_due, mode_due, asks_due, step, run, ends, Refuses, Stops, word_due, sign_due, name_due, text_due, line_due}
@@ -280,18 +280,26 @@ derives_pour due ts (n, m1, e1, (m2, e2, (k, m3, e3, (m4, e4, (b, more, e5, d)))
 derives_if : (due : List Due) (ts : List Tok) → Derives (if_due (a_body ∷ rest_of_if ∷ a_sign Semicolon ∷ a_body ∷ due)) ts → Derives (a_body ∷ due) (reserved If ∷ ts)
 derives_if due ts (n, m1, e1, (c, m2, e2, (x, m3, e3, (m4, e4, (a, m5, e5, (no_else, m6, e6, (m7, e7, (b, more, e8, d)))))))) =
     (if_then n c x a b, more, cc (append_assoc (spell_body a) (reserved End ∷ sign Semicolon ∷ spell_body b) more), d)
-derives_if due ts (n, m1, e1, (c, m2, e2, (x, m3, e3, (m4, e4, (a, m5, e5, (with_else a', m6, e6, (m7, e7, (b, more, e8, d)))))))) =
-    (if_else n c x a a' b, more, cc (
-      append_assoc (spell_body a) (reserved Else ∷ (spell_body a' ++ reserved End ∷ sign Semicolon ∷ spell_body b)) more,
-      append_assoc (spell_body a') (reserved End ∷ sign Semicolon ∷ spell_body b) more,
-    ), d)
+derives_if due ts (n, m1, e1, (c, m2, e2, (x, m3, e3, (m4, e4, (a, m5, e5, (with_else a', m6, e6, (m7, e7, (b, more, e8, d)))))))) = (
+  if_else n c x a a' b,
+  more,
+  cc (
+    append_assoc (spell_body a) (reserved Else ∷ (spell_body a' ++ reserved End ∷ sign Semicolon ∷ spell_body b)) more,
+    append_assoc (spell_body a') (reserved End ∷ sign Semicolon ∷ spell_body b) more,
+  ),
+  d,
+)
 
 derives_spawn : (due : List Due) (ts : List Tok) → Derives (word When ∷ when_due (a_sign Semicolon ∷ a_body ∷ due)) ts → Derives (a_body ∷ due) (reserved Spawn ∷ ts)
-derives_spawn due ts (m0, e0, (m, m1, e1, (n, m2, e2, (accesses, m3, e3, (m4, e4, (a, m5, e5, (m6, e6, (m7, e7, (b, more, e8, d))))))))) =
-    (spawn (record { mode = m; document = n }) accesses a b, more, cc (
-      more_append accesses (reserved Do ∷ (spell_body a ++ reserved End ∷ sign Semicolon ∷ spell_body b)) more,
-      append_assoc (spell_body a) (reserved End ∷ sign Semicolon ∷ spell_body b) more,
-    ), d)
+derives_spawn due ts (m0, e0, (m, m1, e1, (n, m2, e2, (accesses, m3, e3, (m4, e4, (a, m5, e5, (m6, e6, (m7, e7, (b, more, e8, d))))))))) = (
+  spawn (record { mode = m; document = n }) accesses a b,
+  more,
+  cc (
+    more_append accesses (reserved Do ∷ (spell_body a ++ reserved End ∷ sign Semicolon ∷ spell_body b)) more,
+    append_assoc (spell_body a) (reserved End ∷ sign Semicolon ∷ spell_body b) more,
+  ),
+  d,
+)
 
 derives_statement : (t : Tok) (due next : List Due) → statement_due t ≡ Some next → (ts : List Tok) → Derives (next ++ a_body ∷ due) ts → Derives (a_body ∷ due) (t ∷ ts)
 derives_statement (reserved Show) due next e ts d = let q : next ≡ (a_name ∷ a_sign Semicolon ∷ []) = cc in derives_show due ts (rw q at d)
@@ -314,11 +322,15 @@ derives_hello : (due : List Due) (ts : List Tok) → Derives (a_name ∷ due) ts
 derives_hello due ts (n, m, e, d) = (hello n, m, ap (λ x. reserved Hello ∷ x) e, d)
 
 derives_when : (due : List Due) (ts : List Tok) → Derives (when_due due) ts → Derives (a_line ∷ due) (reserved When ∷ ts)
-derives_when due ts (m, m1, e1, (n, m2, e2, (accesses, m3, e3, (m4, e4, (b, m5, e5, (more, e6, d)))))) =
-    (when (record { mode = m; document = n }) accesses b, more, cc (
-      more_append accesses (reserved Do ∷ (spell_body b ++ reserved End ∷ [])) more,
-      append_assoc (spell_body b) (reserved End ∷ []) more,
-    ), d)
+derives_when due ts (m, m1, e1, (n, m2, e2, (accesses, m3, e3, (m4, e4, (b, m5, e5, (more, e6, d)))))) = (
+  when (record { mode = m; document = n }) accesses b,
+  more,
+  cc (
+    more_append accesses (reserved Do ∷ (spell_body b ++ reserved End ∷ [])) more,
+    append_assoc (spell_body b) (reserved End ∷ []) more,
+  ),
+  d,
+)
 
 line_step : (due : List Due) (t : Tok) (next : List Due) → line_due t due ≡ Some next → (ts : List Tok) → Derives next ts → Derives (a_line ∷ due) (t ∷ ts)
 line_step due (reserved Hello) next e ts d = let q : next ≡ (a_name ∷ due) = cc in derives_hello due ts (rw q at d)

@@ -74,7 +74,8 @@ same_empty b xs ys k e =
     let p : b ≡ empty = none_begins b xs (subst BeginsNone (sym e) k) in
     (p, ap (λ x. spell_body x ++ xs) (sym p) ∙ e)
 
-same_show : (n : List ℕ) (r : SpelledBody) → Same r → Same (show n r)
+same_show : (n : List ℕ) (r : SpelledBody) → Same r → (o : SpelledBody) (xs ys : List Tok) → BeginsNone xs → BeginsNone ys
+    → spell_body (show n r) ++ xs ≡ spell_body o ++ ys → (show n r ≡ o) × (xs ≡ ys)
 same_show n r again empty xs ys h k e = same_empty (show n r) xs ys k e
 same_show n r again (show n' r') xs ys h k e =
     let f : spell_body r ++ xs ≡ spell_body r' ++ ys = cc in
@@ -82,7 +83,8 @@ same_show n r again (show n' r') xs ys h k e =
     (cc, p.1)
 same_show n r again _ xs ys h k e = absurd (cc)
 
-same_say : (x : List ℕ) (r : SpelledBody) → Same r → Same (say x r)
+same_say : (x : List ℕ) (r : SpelledBody) → Same r → (o : SpelledBody) (xs ys : List Tok) → BeginsNone xs → BeginsNone ys
+    → spell_body (say x r) ++ xs ≡ spell_body o ++ ys → (say x r ≡ o) × (xs ≡ ys)
 same_say x r again empty xs ys h k e = same_empty (say x r) xs ys k e
 same_say x r again (say x' r') xs ys h k e =
     let f : spell_body r ++ xs ≡ spell_body r' ++ ys = cc in
@@ -90,7 +92,8 @@ same_say x r again (say x' r') xs ys h k e =
     (cc, p.1)
 same_say x r again _ xs ys h k e = absurd (cc)
 
-same_add : (n : List ℕ) (x : List ℕ) (r : SpelledBody) → Same r → Same (add n x r)
+same_add : (n : List ℕ) (x : List ℕ) (r : SpelledBody) → Same r → (o : SpelledBody) (xs ys : List Tok) → BeginsNone xs → BeginsNone ys
+    → spell_body (add n x r) ++ xs ≡ spell_body o ++ ys → (add n x r ≡ o) × (xs ≡ ys)
 same_add n x r again empty xs ys h k e = same_empty (add n x r) xs ys k e
 same_add n x r again (add n' x' r') xs ys h k e =
     let f : spell_body r ++ xs ≡ spell_body r' ++ ys = cc in
@@ -98,7 +101,8 @@ same_add n x r again (add n' x' r') xs ys h k e =
     (cc, p.1)
 same_add n x r again _ xs ys h k e = absurd (cc)
 
-same_set : (n : List ℕ) (x : List ℕ) (r : SpelledBody) → Same r → Same (set n x r)
+same_set : (n : List ℕ) (x : List ℕ) (r : SpelledBody) → Same r → (o : SpelledBody) (xs ys : List Tok) → BeginsNone xs → BeginsNone ys
+    → spell_body (set n x r) ++ xs ≡ spell_body o ++ ys → (set n x r ≡ o) × (xs ≡ ys)
 same_set n x r again empty xs ys h k e = same_empty (set n x r) xs ys k e
 same_set n x r again (set n' x' r') xs ys h k e =
     let f : spell_body r ++ xs ≡ spell_body r' ++ ys = cc in
@@ -106,7 +110,8 @@ same_set n x r again (set n' x' r') xs ys h k e =
     (cc, p.1)
 same_set n x r again _ xs ys h k e = absurd (cc)
 
-same_copy : (n : List ℕ) (m : List ℕ) (r : SpelledBody) → Same r → Same (copy n m r)
+same_copy : (n : List ℕ) (m : List ℕ) (r : SpelledBody) → Same r → (o : SpelledBody) (xs ys : List Tok) → BeginsNone xs → BeginsNone ys
+    → spell_body (copy n m r) ++ xs ≡ spell_body o ++ ys → (copy n m r ≡ o) × (xs ≡ ys)
 same_copy n m r again empty xs ys h k e = same_empty (copy n m r) xs ys k e
 same_copy n m r again (copy n' m' r') xs ys h k e =
     let f : spell_body r ++ xs ≡ spell_body r' ++ ys = cc in
@@ -114,7 +119,8 @@ same_copy n m r again (copy n' m' r') xs ys h k e =
     (cc, p.1)
 same_copy n m r again _ xs ys h k e = absurd (cc)
 
-same_pour : (n : List ℕ) (m : List ℕ) (r : SpelledBody) → Same r → Same (pour n m r)
+same_pour : (n : List ℕ) (m : List ℕ) (r : SpelledBody) → Same r → (o : SpelledBody) (xs ys : List Tok) → BeginsNone xs → BeginsNone ys
+    → spell_body (pour n m r) ++ xs ≡ spell_body o ++ ys → (pour n m r ≡ o) × (xs ≡ ys)
 same_pour n m r again empty xs ys h k e = same_empty (pour n m r) xs ys k e
 same_pour n m r again (pour n' m' r') xs ys h k e =
     let f : spell_body r ++ xs ≡ spell_body r' ++ ys = cc in
@@ -142,7 +148,8 @@ then_else n c x a r again_a n' c' x' a' b' r' xs ys e =
     let p = again_a a' (reserved End ∷ sign Semicolon ∷ (spell_body r ++ xs)) (reserved Else ∷ ((spell_body b' ++ reserved End ∷ sign Semicolon ∷ spell_body r') ++ ys)) refl refl f in
     cc
 
-same_if_then : (n : List ℕ) (c : Condition) (x : List ℕ) (a r : SpelledBody) → Same a → Same r → Same (if_then n c x a r)
+same_if_then : (n : List ℕ) (c : Condition) (x : List ℕ) (a r : SpelledBody) → Same a → Same r → (o : SpelledBody) (xs ys : List Tok) → BeginsNone xs → BeginsNone ys
+    → spell_body (if_then n c x a r) ++ xs ≡ spell_body o ++ ys → (if_then n c x a r ≡ o) × (xs ≡ ys)
 same_if_then n c x a r again_a again empty xs ys h k e = same_empty (if_then n c x a r) xs ys k e
 same_if_then n c x a r again_a again (if_then n' c' x' a' r') xs ys h k e = then_then n c x a r again_a again n' c' x' a' r' xs ys h k e
 same_if_then n c x a r again_a again (if_else n' c' x' a' b' r') xs ys h k e = absurd (then_else n c x a r again_a n' c' x' a' b' r' xs ys e)
@@ -176,7 +183,8 @@ else_then n c x a b r again_a n' c' x' a' r' xs ys e =
     let p = again_a a' (reserved Else ∷ ((spell_body b ++ reserved End ∷ sign Semicolon ∷ spell_body r) ++ xs)) (reserved End ∷ sign Semicolon ∷ (spell_body r' ++ ys)) refl refl f in
     cc
 
-same_if_else : (n : List ℕ) (c : Condition) (x : List ℕ) (a b r : SpelledBody) → Same a → Same b → Same r → Same (if_else n c x a b r)
+same_if_else : (n : List ℕ) (c : Condition) (x : List ℕ) (a b r : SpelledBody) → Same a → Same b → Same r → (o : SpelledBody) (xs ys : List Tok) → BeginsNone xs → BeginsNone ys
+    → spell_body (if_else n c x a b r) ++ xs ≡ spell_body o ++ ys → (if_else n c x a b r ≡ o) × (xs ≡ ys)
 same_if_else n c x a b r again_a again_b again empty xs ys h k e = same_empty (if_else n c x a b r) xs ys k e
 same_if_else n c x a b r again_a again_b again (if_then n' c' x' a' r') xs ys h k e = absurd (else_then n c x a b r again_a n' c' x' a' r' xs ys e)
 same_if_else n c x a b r again_a again_b again (if_else n' c' x' a' b' r') xs ys h k e = else_else n c x a b r again_a again_b again n' c' x' a' b' r' xs ys h k e
@@ -203,12 +211,14 @@ spawn_spawn a m b r again_b again a' m' b' r' xs ys h k e =
     let u = again r' xs ys h k o in
     ((λ i. spawn (p.0 i) (q.0 i) (s.0 i) (u.0 i)), u.1)
 
-same_spawn : (a : SpelledAccess) (m : List SpelledAccess) (b r : SpelledBody) → Same b → Same r → Same (spawn a m b r)
+same_spawn : (a : SpelledAccess) (m : List SpelledAccess) (b r : SpelledBody) → Same b → Same r → (o : SpelledBody) (xs ys : List Tok) → BeginsNone xs → BeginsNone ys
+    → spell_body (spawn a m b r) ++ xs ≡ spell_body o ++ ys → (spawn a m b r ≡ o) × (xs ≡ ys)
 same_spawn a m b r again_b again empty xs ys h k e = same_empty (spawn a m b r) xs ys k e
 same_spawn a m b r again_b again (spawn a' m' b' r') xs ys h k e = spawn_spawn a m b r again_b again a' m' b' r' xs ys h k e
 same_spawn a m b r again_b again _ xs ys h k e = absurd (cc)
 
-same_nothing : Same empty
+same_nothing : (o : SpelledBody) (xs ys : List Tok) → BeginsNone xs → BeginsNone ys
+    → spell_body empty ++ xs ≡ spell_body o ++ ys → (empty ≡ o) × (xs ≡ ys)
 same_nothing c xs ys h k e =
     let p : c ≡ empty = none_begins c ys (subst BeginsNone e h) in
     (sym p, e ∙ ap (λ x. spell_body x ++ ys) p)

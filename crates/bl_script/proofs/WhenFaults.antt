@@ -3,15 +3,15 @@ use Rattle.std.proofs.Common.{◌≡◌, ℕ, ◌≤◌, Bool, true, false, List
 use Rattle.std.specs.Prelude.{All, Contains}
 use Rattle.std.proofs.lemmas.Bool.{false≢true}
 use Rattle.std.proofs.lemmas.List.Elements.{All-cons, All-nil, All-head, All-tail, All-append}
-use Rattle.bl_level.specs.Token.{Tok, reserved, name, sign}
+use Rattle.bl_level.specs.Token.{Tok, reserved, sign}
 use Rattle.bl_level.specs.Name.{IsName, AreProper}
 use Rattle.bl_level.specs.declared.token.Keyword.TheVariants as word
-use Rattle.bl_level.specs.declared.token.Sign.TheVariants.{Comma, Semicolon}
+use Rattle.bl_level.specs.declared.token.Sign.TheVariants.{Semicolon}
 use Rattle.bl_script.specs.declared.line.LineFault.{LineFault}
 use Rattle.bl_script.specs.declared.line.LineFault.TheVariants.{Long, Syntax, Deep, Many, Unknown, Twice, Mode, Memory}
 use Rattle.bl_script.specs.Modes.{alters, is_write}
 use Rattle.bl_script.specs.Names.{KnownNames}
-use Rattle.bl_script.specs.Spelled.{SpelledAccess, SpelledBody, empty, show, say, add, set, copy, pour, if_then, if_else, spawn, spell_access, spell_more, spell_body, spell_when}
+use Rattle.bl_script.specs.Spelled.{SpelledAccess, SpelledBody, empty, show, say, add, set, copy, pour, if_then, if_else, spawn, spell_more, spell_body, spell_when}
 use Rattle.bl_script.specs.First.{IsFirstWithout, IsNameOfFirst}
 use Rattle.bl_script.specs.WhenFaults.{depth_in, IsShallow, AreFew, documents_in, names_in, names_of_when, Declaration, declarations_behind, declarations_in, declarations_of_when, IsOnce, Usage, uses_in, IsDeclared, IsFaultless}
 use Rattle.bl_script.specs.FirstWhenFault.{same_name, declared_document, used_document, IsWhenFault}

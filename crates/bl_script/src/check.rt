@@ -21,7 +21,12 @@ use bl_level::name::Name;
 
 /// The fault of a `when` of these parts: the first of Deep, Many, Unknown, Twice and Mode that it has, and Ok where it has none.
 /// It takes no memory, so that it never answers Memory.
-pub fn check_when<'a>(names: &Names, first: RawAccess<'a>, more: &[RawAccess<'a>], body: &RawBody<'a>) -> Result<(), LineFault>
+pub fn check_when<'a>(
+    names: &Names,
+    first: RawAccess<'a>,
+    more: &[RawAccess<'a>],
+    body: &RawBody<'a>,
+) -> Result<(), LineFault>
     requires { All IsName (names_of_when (raw_access first) (map raw_access more.now) body.now) }
     ensures ok { IsOk result ↔ IsFaultless names.now (raw_access first.entry) (map raw_access more.now) body.now }
     ensures fault { IfErr result (IsWhenFault names.now (raw_access first.entry) (map raw_access more.now) body.now) }
@@ -50,14 +55,12 @@ pub fn one_when_fault()
         → IsWhenFault names first more body f → IsWhenFault names first more body g → f ≡ g }
     ensures none { (names : KnownNames) (first : SpelledAccess) (more : List SpelledAccess) (body : SpelledBody) (f : Fault)
         → IsFaultless names first more body → IsWhenFault names first more body f → ⊥ }
-{
-}
+{}
 
 /// Where the tokens of a `when` are such as bytes spell, the names in it are names.
 pub fn names_are_names()
     ensures { (first : SpelledAccess) (more : List SpelledAccess) (body : SpelledBody) → AreProper (spell_when first more body) → All IsName (names_of_when first more body) }
-{
-}
+{}
 
 /// The name of these bytes.
 fn name_of(bytes: &[u8]) -> Name

@@ -42,9 +42,7 @@ fn is_statement_shallow(statement: &RawStatement<'_>, most: usize) -> bool
             else_body,
             ..
         } => {
-            most > 0
-                && is_body_shallow(then_body, most - 1)
-                && is_body_shallow(else_body, most - 1)
+            most > 0 && is_body_shallow(then_body, most - 1) && is_body_shallow(else_body, most - 1)
         }
         RawStatement::Spawn { body, .. } => most > 0 && is_body_shallow(body, most - 1),
         _ => true,
@@ -75,10 +73,8 @@ fn whens_left(body: &RawBody<'_>, most: usize) -> Option<usize>
 /// or one that has too many accesses.
 #[cycle(few)]
 fn whens_left_behind(statement: &RawStatement<'_>, most: usize) -> Option<usize>
-    ensures {
-        let body = raw_body (statement.now ∷ []) in
-        MatchOption result (AreFewIn most body → ⊥) (λ left. AreFewIn most body × (whens body + left ≡ most))
-    }
+    ensures { let body = raw_body (statement.now ∷ []) in
+        MatchOption result (AreFewIn most body → ⊥) (λ left. AreFewIn most body × (whens body + left ≡ most)) }
 {
     match statement {
         RawStatement::IfThen { then_body, .. } => whens_left(then_body, most),

@@ -8,13 +8,16 @@ ghost use Rattle.bl_script.specs.FirstWhenFault.{same_name};
 use crate::names::Names;
 use crate::raw::{RawAccess, RawBody, RawStatement};
 
-/// The name of the first document in a `when` that the names do not know.
-pub fn check_when_known<'a>(names: &Names, first: RawAccess<'a>, more: &[RawAccess<'a>], body: &RawBody<'a>) -> Result<(), &'a [u8]>
-    ensures {
-        let P = Contains names.now.documents in
+/// Err has the first name from the left, in a `when` and all within it, that is no document's, and Ok says that there is none.
+pub fn check_when_known<'a>(
+    names: &Names,
+    first: RawAccess<'a>,
+    more: &[RawAccess<'a>],
+    body: &RawBody<'a>,
+) -> Result<(), &'a [u8]>
+    ensures { let P = Contains names.now.documents in
         let xs = names_of_when (raw_access first.entry) (map raw_access more.now) body.now in
-        MatchResult result (λ _. All P xs) (λ name. IsNameOfFirst P same_name xs name.now)
-    }
+        MatchResult result (λ _. All P xs) (λ name. IsNameOfFirst P same_name xs name.now) }
 {
     check_accesses_known(names, first, more)?;
     check_known(names, body)
@@ -23,10 +26,8 @@ pub fn check_when_known<'a>(names: &Names, first: RawAccess<'a>, more: &[RawAcce
 /// The name of the first document in this body that the names do not know.
 #[cycle(known)]
 fn check_known<'a>(names: &Names, body: &RawBody<'a>) -> Result<(), &'a [u8]>
-    ensures {
-        let P = Contains names.now.documents in
-        MatchResult result (λ _. All P (names_in body.now)) (λ name. IsNameOfFirst P same_name (names_in body.now) name.now)
-    }
+    ensures { let P = Contains names.now.documents in
+        MatchResult result (λ _. All P (names_in body.now)) (λ name. IsNameOfFirst P same_name (names_in body.now) name.now) }
 {
     for statement in body.statements() {
         check_statement_known(names, statement)?;
@@ -37,11 +38,9 @@ fn check_known<'a>(names: &Names, body: &RawBody<'a>) -> Result<(), &'a [u8]>
 /// The name of the first document in this statement that the names do not know.
 #[cycle(known)]
 fn check_statement_known<'a>(names: &Names, statement: &RawStatement<'a>) -> Result<(), &'a [u8]>
-    ensures {
-        let P = Contains names.now.documents in
+    ensures { let P = Contains names.now.documents in
         let xs = names_in (raw_body (statement.now ∷ [])) in
-        MatchResult result (λ _. All P xs) (λ name. IsNameOfFirst P same_name xs name.now)
-    }
+        MatchResult result (λ _. All P xs) (λ name. IsNameOfFirst P same_name xs name.now) }
 {
     match statement {
         RawStatement::Say(_) => Ok(()),
@@ -82,12 +81,14 @@ fn check_statement_known<'a>(names: &Names, statement: &RawStatement<'a>) -> Res
 }
 
 /// The name of the first document of these accesses that the names do not know.
-fn check_accesses_known<'a>(names: &Names, first: RawAccess<'a>, more: &[RawAccess<'a>]) -> Result<(), &'a [u8]>
-    ensures {
-        let P = Contains names.now.documents in
+fn check_accesses_known<'a>(
+    names: &Names,
+    first: RawAccess<'a>,
+    more: &[RawAccess<'a>],
+) -> Result<(), &'a [u8]>
+    ensures { let P = Contains names.now.documents in
         let xs = documents_in (raw_access first.entry ∷ map raw_access more.now) in
-        MatchResult result (λ _. All P xs) (λ name. IsNameOfFirst P same_name xs name.now)
-    }
+        MatchResult result (λ _. All P xs) (λ name. IsNameOfFirst P same_name xs name.now) }
 {
     check_document_known(names, first.document)?;
     for access in more {
@@ -98,11 +99,9 @@ fn check_accesses_known<'a>(names: &Names, first: RawAccess<'a>, more: &[RawAcce
 
 /// This name, where it is no document that the names know.
 fn check_document_known<'a>(names: &Names, name: &'a [u8]) -> Result<(), &'a [u8]>
-    ensures {
-        let P = Contains names.now.documents in
+    ensures { let P = Contains names.now.documents in
         let xs = name.now ∷ [] in
-        MatchResult result (λ _. All P xs) (λ unknown. IsNameOfFirst P same_name xs unknown.now)
-    }
+        MatchResult result (λ _. All P xs) (λ unknown. IsNameOfFirst P same_name xs unknown.now) }
 {
     match names.document(name) {
         Some(_) => Ok(()),

@@ -106,7 +106,13 @@ fn asked(alloc: Global, names: &Names, raw: RawLine<'_>) -> Result<Line, LineFau
 }
 
 /// What a `when` asks.
-fn behaviour<'a>(alloc: Global, names: &Names, first: RawAccess<'a>, more: &[RawAccess<'a>], body: &RawBody<'a>) -> Result<Line, LineFault>
+fn behaviour<'a>(
+    alloc: Global,
+    names: &Names,
+    first: RawAccess<'a>,
+    more: &[RawAccess<'a>],
+    body: &RawBody<'a>,
+) -> Result<Line, LineFault>
     requires proper { AreProper (spell (when (raw_access first) (map raw_access more.now) body.now)) }
     requires texts { HasContents (when (raw_access first) (map raw_access more.now) body.now) }
     ensures found { IfOk result (Means names.now (when (raw_access first.entry) (map raw_access more.now) body.now)) }

@@ -12,20 +12,25 @@ use bl_policy::access::Mode;
 
 /// What a statement does with a document that it names.
 #[derive(Clone, Copy)]
-pub enum Does {
+enum Does {
+    /// It looks at the content.
     Observes,
+    /// It adds to the content.
     Alters,
+    /// It puts another content in its place.
     Replaces,
 }
 
-/// The first document from the left, in a statement of this body, that the innermost `when` round it does not declare in a mode
-/// that the statement asks for. The innermost round the body has these accesses.
+/// Err has the first document from the left, in a statement of this body, that the innermost `when` round it does not declare in
+/// a mode that the statement asks for, and Ok says that there is none. The innermost `when` round the body has these accesses.
 #[cycle(declared)]
-pub fn check_declared<'a>(first: RawAccess<'a>, more: &[RawAccess<'a>], body: &RawBody<'a>) -> Result<(), &'a [u8]>
-    ensures {
-        let xs = uses_in (raw_access first.entry ∷ map raw_access more.now) body.now in
-        MatchResult result (λ _. All IsDeclared xs) (λ name. IsNameOfFirst IsDeclared used_document xs name.now)
-    }
+pub fn check_declared<'a>(
+    first: RawAccess<'a>,
+    more: &[RawAccess<'a>],
+    body: &RawBody<'a>,
+) -> Result<(), &'a [u8]>
+    ensures { let xs = uses_in (raw_access first.entry ∷ map raw_access more.now) body.now in
+        MatchResult result (λ _. All IsDeclared xs) (λ name. IsNameOfFirst IsDeclared used_document xs name.now) }
 {
     for statement in body.statements() {
         check_statement_declared(first, more, statement)?;
@@ -36,11 +41,13 @@ pub fn check_declared<'a>(first: RawAccess<'a>, more: &[RawAccess<'a>], body: &R
 /// The first document from the left, in this statement and those within it, that the innermost `when` round it does not declare
 /// in a mode that the statement asks for. The innermost round this statement has these accesses.
 #[cycle(declared)]
-fn check_statement_declared<'a>(first: RawAccess<'a>, more: &[RawAccess<'a>], statement: &RawStatement<'a>) -> Result<(), &'a [u8]>
-    ensures {
-        let xs = uses_in (raw_access first.entry ∷ map raw_access more.now) (raw_body (statement.now ∷ [])) in
-        MatchResult result (λ _. All IsDeclared xs) (λ name. IsNameOfFirst IsDeclared used_document xs name.now)
-    }
+fn check_statement_declared<'a>(
+    first: RawAccess<'a>,
+    more: &[RawAccess<'a>],
+    statement: &RawStatement<'a>,
+) -> Result<(), &'a [u8]>
+    ensures { let xs = uses_in (raw_access first.entry ∷ map raw_access more.now) (raw_body (statement.now ∷ [])) in
+        MatchResult result (λ _. All IsDeclared xs) (λ name. IsNameOfFirst IsDeclared used_document xs name.now) }
 {
     match statement {
         RawStatement::Show(document) => check_use(first, more, Does::Observes, document),
@@ -78,12 +85,15 @@ fn check_statement_declared<'a>(first: RawAccess<'a>, more: &[RawAccess<'a>], st
 }
 
 /// This document, where no access declares it in a mode in which one may do so with it.
-fn check_use<'a>(first: RawAccess<'a>, more: &[RawAccess<'a>], does: Does, document: &'a [u8]) -> Result<(), &'a [u8]>
-    ensures {
-        let declared = raw_access first.entry ∷ map raw_access more.now in
+fn check_use<'a>(
+    first: RawAccess<'a>,
+    more: &[RawAccess<'a>],
+    does: Does,
+    document: &'a [u8],
+) -> Result<(), &'a [u8]>
+    ensures { let declared = raw_access first.entry ∷ map raw_access more.now in
         let xs = record { declared = declared; asked = passes does; document = document.now } ∷ [] in
-        MatchResult result (λ _. All IsDeclared xs) (λ name. IsNameOfFirst IsDeclared used_document xs name.now)
-    }
+        MatchResult result (λ _. All IsDeclared xs) (λ name. IsNameOfFirst IsDeclared used_document xs name.now) }
 {
     if declares(first, does, document) {
         return Ok(());

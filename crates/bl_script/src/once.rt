@@ -7,12 +7,15 @@ ghost use Rattle.bl_script.specs.FirstWhenFault.{declared_document};
 
 use crate::raw::{RawAccess, RawBody, RawStatement};
 
-/// The first document from the left that is declared a second time in one `when`.
-pub fn check_when_once<'a>(first: RawAccess<'a>, more: &[RawAccess<'a>], body: &RawBody<'a>) -> Result<(), &'a [u8]>
-    ensures {
-        let xs = declarations_of_when (raw_access first.entry) (map raw_access more.now) body.now in
-        MatchResult result (λ _. All IsOnce xs) (λ name. IsNameOfFirst IsOnce declared_document xs name.now)
-    }
+/// Err has the first document from the left that is declared a second time in one `when`, this one or one within it, and Ok says
+/// that there is none.
+pub fn check_when_once<'a>(
+    first: RawAccess<'a>,
+    more: &[RawAccess<'a>],
+    body: &RawBody<'a>,
+) -> Result<(), &'a [u8]>
+    ensures { let xs = declarations_of_when (raw_access first.entry) (map raw_access more.now) body.now in
+        MatchResult result (λ _. All IsOnce xs) (λ name. IsNameOfFirst IsOnce declared_document xs name.now) }
 {
     check_accesses_once(first, more)?;
     check_once(body)
@@ -21,10 +24,8 @@ pub fn check_when_once<'a>(first: RawAccess<'a>, more: &[RawAccess<'a>], body: &
 /// The first document from the left that is declared a second time in one `when` of this body.
 #[cycle(once)]
 fn check_once<'a>(body: &RawBody<'a>) -> Result<(), &'a [u8]>
-    ensures {
-        let xs = declarations_in body.now in
-        MatchResult result (λ _. All IsOnce xs) (λ name. IsNameOfFirst IsOnce declared_document xs name.now)
-    }
+    ensures { let xs = declarations_in body.now in
+        MatchResult result (λ _. All IsOnce xs) (λ name. IsNameOfFirst IsOnce declared_document xs name.now) }
 {
     for statement in body.statements() {
         check_statement_once(statement)?;
@@ -35,10 +36,8 @@ fn check_once<'a>(body: &RawBody<'a>) -> Result<(), &'a [u8]>
 /// The first document from the left that is declared a second time in one `when` of this statement.
 #[cycle(once)]
 fn check_statement_once<'a>(statement: &RawStatement<'a>) -> Result<(), &'a [u8]>
-    ensures {
-        let xs = declarations_in (raw_body (statement.now ∷ [])) in
-        MatchResult result (λ _. All IsOnce xs) (λ name. IsNameOfFirst IsOnce declared_document xs name.now)
-    }
+    ensures { let xs = declarations_in (raw_body (statement.now ∷ [])) in
+        MatchResult result (λ _. All IsOnce xs) (λ name. IsNameOfFirst IsOnce declared_document xs name.now) }
 {
     match statement {
         RawStatement::IfThen { then_body, .. } => check_once(then_body),
@@ -60,10 +59,8 @@ fn check_statement_once<'a>(statement: &RawStatement<'a>) -> Result<(), &'a [u8]
 
 /// The first document of these accesses that an earlier one has.
 fn check_accesses_once<'a>(first: RawAccess<'a>, more: &[RawAccess<'a>]) -> Result<(), &'a [u8]>
-    ensures {
-        let xs = declarations_behind [] (raw_access first.entry ∷ map raw_access more.now) in
-        MatchResult result (λ _. All IsOnce xs) (λ name. IsNameOfFirst IsOnce declared_document xs name.now)
-    }
+    ensures { let xs = declarations_behind [] (raw_access first.entry ∷ map raw_access more.now) in
+        MatchResult result (λ _. All IsOnce xs) (λ name. IsNameOfFirst IsOnce declared_document xs name.now) }
 {
     for (i, access) in more.iter().enumerate() {
         if access.document == first.document || has_document(&more[..i], access.document) {

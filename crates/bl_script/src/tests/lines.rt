@@ -16,14 +16,28 @@ fn named(bytes: &[u8]) -> Result<Name, Fail> {
     }
 }
 
+fn no_names(alloc: Global) -> Result<Names, Fail> {
+    Ok(Names::new(alloc, Scheme::new(alloc, &[named(b"u")?], &[])?)?)
+}
+
+fn add_subject(names: &mut Names, name: &[u8]) -> Result<(), Fail> {
+    names.add_subject(named(name)?)?;
+    Ok(())
+}
+
+fn add_document(names: &mut Names, name: &[u8]) -> Result<(), Fail> {
+    names.add_document(named(name)?)?;
+    Ok(())
+}
+
 /// The subjects ann and bob, and the documents memo, note and log.
 fn known_names(alloc: Global) -> Result<Names, Fail> {
-    let mut names = Names::new(alloc, Scheme::new(alloc, &[named(b"u")?], &[])?)?;
-    names.add_subject(named(b"ann")?)?;
-    names.add_subject(named(b"bob")?)?;
-    names.add_document(named(b"memo")?)?;
-    names.add_document(named(b"note")?)?;
-    names.add_document(named(b"log")?)?;
+    let mut names = no_names(alloc)?;
+    add_subject(&mut names, b"ann")?;
+    add_subject(&mut names, b"bob")?;
+    add_document(&mut names, b"memo")?;
+    add_document(&mut names, b"note")?;
+    add_document(&mut names, b"log")?;
     Ok(names)
 }
 
@@ -90,7 +104,9 @@ fn reads_a_behaviour_with_a_child(rt: HostRuntime) -> Result<(), Fail> {
     assert_eq!(rt; script.accesses(0).len(), 2);
     assert_eq!(rt; script.accesses(0)[0].mode, Mode::Write);
     assert_eq!(rt; script.accesses(0)[1].doc.position(), 1);
-    assert!(rt; matches!(script.body(0), [Stmt::Add(doc, text), Stmt::Spawn(1)] if doc.position() == 0 && text.bytes() == b"a"));
+    assert!(rt;
+        matches!(script.body(0), [Stmt::Add(doc, text), Stmt::Spawn(1)] if doc.position() == 0 && text.bytes() == b"a".as_slice())
+    );
     assert_eq!(rt; script.accesses(1)[0].mode, Mode::Append);
     assert_eq!(rt; script.body(1).len(), 0);
     Ok(())
@@ -98,8 +114,14 @@ fn reads_a_behaviour_with_a_child(rt: HostRuntime) -> Result<(), Fail> {
 
 #[test]
 fn an_else_of_nothing_is_none(rt: HostRuntime) -> Result<(), Fail> {
-    let with = script_of(rt.alloc(), b"when read memo do if memo is \"\" then show memo; else end; end")?;
-    let without = script_of(rt.alloc(), b"when read memo do if memo is \"\" then show memo; end; end")?;
+    let with = script_of(
+        rt.alloc(),
+        b"when read memo do if memo is \"\" then show memo; else end; end",
+    )?;
+    let without = script_of(
+        rt.alloc(),
+        b"when read memo do if memo is \"\" then show memo; end; end",
+    )?;
     assert!(rt; with.is_same(&without));
     Ok(())
 }
@@ -108,7 +130,10 @@ fn an_else_of_nothing_is_none(rt: HostRuntime) -> Result<(), Fail> {
 fn syntax_offsets(rt: HostRuntime) -> Result<(), Fail> {
     assert_eq!(rt; place_of(rt.alloc(), b"when read memo show memo; end")?, 15);
     assert_eq!(rt; place_of(rt.alloc(), b"when read memo do show memo;")?, 28);
-    assert_eq!(rt; place_of(rt.alloc(), b"when read memo do say \"a\\b\"; end")?, 24);
+    assert_eq!(rt;
+        place_of(rt.alloc(), b"when read memo do say \"a\\b\"; end")?,
+        24
+    );
     Ok(())
 }
 
@@ -120,9 +145,15 @@ fn places_a_fault_of_syntax(rt: HostRuntime) -> Result<(), Fail> {
     assert_eq!(rt; place_of(rt.alloc(), b"hello wait")?, 6);
     assert_eq!(rt; place_of(rt.alloc(), b"when read memo do  ")?, 19);
     assert_eq!(rt; place_of(rt.alloc(), b"wait now")?, 5);
-    assert_eq!(rt; place_of(rt.alloc(), b"when read memo do show memo end")?, 28);
+    assert_eq!(rt;
+        place_of(rt.alloc(), b"when read memo do show memo end")?,
+        28
+    );
     assert_eq!(rt; place_of(rt.alloc(), b"when read memo do say \"a")?, 24);
-    assert_eq!(rt; place_of(rt.alloc(), b"hello aaaaaaaaaaaaaaaaaaaaaaaaaaaaaaaaa")?, 6);
+    assert_eq!(rt;
+        place_of(rt.alloc(), b"hello aaaaaaaaaaaaaaaaaaaaaaaaaaaaaaaaa")?,
+        6
+    );
     Ok(())
 }
 
@@ -131,7 +162,10 @@ fn refusals_of_a_line(rt: HostRuntime) -> Result<(), Fail> {
     let twice = fault_of(rt.alloc(), b"when read memo, write memo do end")?;
     assert!(rt; twice == LineFault::Twice(named(b"memo")?), "{twice:?}");
     let unknown = fault_of(rt.alloc(), b"when read zed do show zed; end")?;
-    assert!(rt; unknown == LineFault::Unknown(named(b"zed")?), "{unknown:?}");
+    assert!(rt;
+        unknown == LineFault::Unknown(named(b"zed")?),
+        "{unknown:?}"
+    );
     let mode = fault_of(rt.alloc(), b"when append log do show log; end")?;
     assert!(rt; mode == LineFault::Mode(named(b"log")?), "{mode:?}");
     Ok(())
@@ -140,9 +174,15 @@ fn refusals_of_a_line(rt: HostRuntime) -> Result<(), Fail> {
 #[test]
 fn tells_the_first_name_at_fault(rt: HostRuntime) -> Result<(), Fail> {
     let subject = fault_of(rt.alloc(), b"hello memo")?;
-    assert!(rt; subject == LineFault::Unknown(named(b"memo")?), "{subject:?}");
+    assert!(rt;
+        subject == LineFault::Unknown(named(b"memo")?),
+        "{subject:?}"
+    );
     let document = fault_of(rt.alloc(), b"when read ann do show x;end")?;
-    assert!(rt; document == LineFault::Unknown(named(b"ann")?), "{document:?}");
+    assert!(rt;
+        document == LineFault::Unknown(named(b"ann")?),
+        "{document:?}"
+    );
     let source = fault_of(rt.alloc(), b"when read note do copy memo to log;end")?;
     assert!(rt; source == LineFault::Mode(named(b"memo")?), "{source:?}");
     Ok(())
@@ -159,7 +199,21 @@ fn long_deep_many(rt: HostRuntime) -> Result<(), Fail> {
     assert_eq!(rt; script_of(rt.alloc(), &deepest)?.weight(), 8);
     let deep = nested(rt.alloc(), 9)?;
     assert!(rt; fault_of(rt.alloc(), &deep)? == LineFault::Deep);
-    let many = b"when read a, read b, read c, read d, read e, read f, read g, read h, read i do end";
+    let many =
+        b"when read a, read b, read c, read d, read e, read f, read g, read h, read i do end";
     assert!(rt; fault_of(rt.alloc(), many)? == LineFault::Many);
+    Ok(())
+}
+
+/// Some 580 `if` in one another, none of them closed: the deepest that a line can be.
+#[test]
+fn the_deepest_line_is_read(rt: HostRuntime) -> Result<(), Fail> {
+    let mut line = Vec::new(rt.alloc());
+    line.extend_from_slice(b"when read memo do ")?;
+    for _ in 0..583 {
+        line.extend_from_slice(b"if a is\"\"then ")?;
+    }
+    assert_eq!(rt; line.len(), 8_180);
+    assert_eq!(rt; place_of(rt.alloc(), &line)?, 8_180);
     Ok(())
 }

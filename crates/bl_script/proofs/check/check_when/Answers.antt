@@ -1,4 +1,4 @@
-use Rattle.std.proofs.Common.{◌∷◌, map, refl}
+use Rattle.std.proofs.Common.{map, refl}
 use Rattle.std.specs.Prelude.{Contains}
 use Rattle.bl_script.specs.declared.line.LineFault.TheVariants.{Many, Unknown, Twice, Mode}
 use Rattle.bl_script.specs.RawBodies.{raw_access}
@@ -67,7 +67,9 @@ returns-in-Err-check_declared-clause-ok c =
     c.in_default.ensures c.in_default-check_when_once.ensures c.in-Err-check_declared.ensures)
 
 pub returns-clause-ok : goal.returns-clause-ok
-returns-clause-ok c =
-    (λ e. no_fault_ok c.args.names.now (raw_access c.args.first) (map raw_access c.args.more.now) c.args.body.now
+returns-clause-ok c = (
+  λ e. no_fault_ok c.args.names.now (raw_access c.args.first) (map raw_access c.args.more.now) c.args.body.now
       (shallow_from c.args.body.now (c.is_body_shallow.ensures.0 c.if-not-is_body_shallow.false)) ((c.are_few.ensures (raw_access c.args.first)).0 c.if-not-are_few.false)
-      c.in_default.ensures c.in_default-check_when_once.ensures c.in_default-check_declared.ensures, λ none. refl)
+      c.in_default.ensures c.in_default-check_when_once.ensures c.in_default-check_declared.ensures,
+  λ none. refl,
+)

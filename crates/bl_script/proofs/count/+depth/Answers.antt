@@ -1,5 +1,5 @@
-use Rattle.std.proofs.Common.{◌≡◌, ap, sym, ◌∙◌, arith}
-use Rattle.bl_script.specs.RawBodies.{raw_body, raw_depth}
+use Rattle.std.proofs.Common.{ap, sym, ◌∙◌, arith}
+use Rattle.bl_script.specs.RawBodies.{raw_depth}
 use Rattle.bl_script.specs.WhenFaults.{depth_in}
 use Rattle.bl_script.proofs.Joined.{depth-at, depth_in-at}
 use Rattle.bl_script.proofs.Few.{depth_goes_on}

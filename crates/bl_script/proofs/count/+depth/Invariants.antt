@@ -1,6 +1,5 @@
-use Rattle.std.proofs.Common.{◌≡◌, ◌+◌, ◌*◌, ◌≤◌, List, [], ◌∷◌, map, take}
-use Rattle.std.specs.Prelude.{All, Contains}
-use Rattle.bl_script.specs.RawBodies.{raw_access, raw_body, raw_depth}
+use Rattle.std.proofs.Common.{◌+◌, ◌*◌, ◌≤◌, [], ◌∷◌, take}
+use Rattle.bl_script.specs.RawBodies.{raw_body, raw_depth}
 use Rattle.bl_script.specs.WhenFaults.{depth_in}
 use Rattle.bl_script.proofs.count.+depth.Given as goal
 

@@ -1,12 +1,10 @@
-use Rattle.std.proofs.Common.{◌≡◌, ℕ, ◌+◌, ◌<◌, ◌≤◌, List, [], ◌∷◌, ◌++◌, map, refl, ap, sym, subst, ◌∙◌, arith, Bor}
-use Rattle.std.specs.Prelude.{All, Contains}
-use Rattle.std.proofs.lemmas.List.Elements.{All-append, All-nil}
-use Rattle.bl_script.specs.RawBodies.{raw_access, raw_body, raw_depth}
+use Rattle.std.proofs.Common.{◌+◌, [], ◌∷◌, ◌++◌, map, ap, arith}
+use Rattle.bl_script.specs.RawBodies.{raw_access, raw_depth}
 use Rattle.bl_script.specs.Modes.{observes, alters, is_write}
-use Rattle.bl_script.proofs.Joined.{depth-at, depth_in-at}
-use Rattle.bl_script.proofs.Firsts.{first_here, first_behind, first_before, finds_behind, finds_end, exits, in_statement, all_one}
-use Rattle.bl_script.proofs.Passes.{pass_goes_on, pass_stops, pass_ends, names_of, names_additive, declarations_of, declarations_additive, uses_of, uses_additive, documents_of, documents_additive}
-use Rattle.bl_script.specs.WhenFaults.{Usage, IsDeclared, uses_in}
+use Rattle.bl_script.proofs.Joined.{depth-at}
+use Rattle.bl_script.proofs.Firsts.{first_behind, first_before, finds_behind, finds_end, exits, in_statement}
+use Rattle.bl_script.proofs.Passes.{pass_goes_on, pass_stops, pass_ends, uses_of, uses_additive}
+use Rattle.bl_script.specs.WhenFaults.{IsDeclared, uses_in}
 use Rattle.bl_script.specs.FirstWhenFault.{used_document}
 use Rattle.bl_script.proofs.modes.+declared.Goals as goal
 

@@ -1,5 +1,5 @@
-use Rattle.std.proofs.Common.{◌≡◌, ◌+◌, ◌*◌, ◌≤◌, List, [], ◌∷◌, map, take}
-use Rattle.std.specs.Prelude.{All, Contains}
+use Rattle.std.proofs.Common.{◌+◌, ◌*◌, [], ◌∷◌, map, take}
+use Rattle.std.specs.Prelude.{All}
 use Rattle.bl_script.specs.RawBodies.{raw_access, raw_body, raw_depth}
 use Rattle.bl_script.specs.WhenFaults.{IsDeclared, uses_in}
 use Rattle.bl_script.proofs.modes.+declared.Given as goal

@@ -1,11 +1,10 @@
-use Rattle.std.proofs.Common.{◌≡◌, ℕ, ◌+◌, ◌<◌, ◌≤◌, List, [], ◌∷◌, ◌++◌, map, refl, ap, sym, subst, ◌∙◌, arith, Bor}
-use Rattle.std.specs.Prelude.{All, Contains}
-use Rattle.std.proofs.lemmas.List.Elements.{All-append, All-nil}
-use Rattle.bl_script.specs.RawBodies.{raw_access, raw_body, raw_depth}
+use Rattle.std.proofs.Common.{◌+◌, [], ◌∷◌, ◌++◌, map, ap, subst, arith}
+use Rattle.std.specs.Prelude.{All}
+use Rattle.bl_script.specs.RawBodies.{raw_access, raw_depth}
 use Rattle.bl_script.specs.First.{IsNameOfFirst}
-use Rattle.bl_script.proofs.Joined.{depth-at, depth_in-at}
-use Rattle.bl_script.proofs.Firsts.{first_here, first_behind, first_before, finds_behind, finds_end, exits, in_statement, all_one}
-use Rattle.bl_script.proofs.Passes.{pass_goes_on, pass_stops, pass_ends, names_of, names_additive, declarations_of, declarations_additive, uses_of, uses_additive, documents_of, documents_additive}
+use Rattle.bl_script.proofs.Joined.{depth-at}
+use Rattle.bl_script.proofs.Firsts.{first_before, finds_behind, finds_end, exits, in_statement}
+use Rattle.bl_script.proofs.Passes.{pass_goes_on, pass_stops, pass_ends, declarations_of, declarations_additive}
 use Rattle.bl_script.specs.WhenFaults.{IsOnce, declarations_behind, declarations_in}
 use Rattle.bl_script.specs.FirstWhenFault.{declared_document}
 use Rattle.bl_script.proofs.once.+once.Goals as goal

@@ -1,4 +1,4 @@
-use Rattle.std.proofs.Common.{[], ◌∷◌, inl, inr, sym, subst, ◌∙◌, arith}
+use Rattle.std.proofs.Common.{[], inl, inr, sym, subst, ◌∙◌, arith}
 use Rattle.std.specs.Prelude.{All}
 use Rattle.std.proofs.lemmas.Bool.{false≢true}
 use Rattle.std.proofs.lemmas.List.{take_all}
@@ -12,10 +12,10 @@ use Rattle.bl_script.proofs.once.check_accesses_once.Goals.{then-eq-via-then-eq,
 pub returns-then-eq : goal.returns-then-eq
 returns-then-eq c =
     elim c.then-eq.branch [
-      then-eq-via-then-eq w ↦ once_stops_at c.args.first.document.now c.args.more.now c.loop-i.i no_access (omega arith) c.loop-i.invariant (inl (is_same _ _ w.if-eq.ensures))
-    | then-eq-via-else-eq+then-has_document w ↦
-      once_stops_at c.args.first.document.now c.args.more.now c.loop-i.i no_access (omega arith) c.loop-i.invariant
-      (inr (w.has_document.ensures.0 w.if-has_document.true))
+      | then-eq-via-then-eq w ↦ once_stops_at c.args.first.document.now c.args.more.now c.loop-i.i no_access (omega arith) c.loop-i.invariant (inl (is_same _ _ w.if-eq.ensures))
+      | then-eq-via-else-eq+then-has_document w ↦
+          once_stops_at c.args.first.document.now c.args.more.now c.loop-i.i no_access (omega arith) c.loop-i.invariant
+          (inr (w.has_document.ensures.0 w.if-has_document.true))
     ]
 
 pub loop-i-preserved : goal.loop-i-preserved

@@ -1,0 +1,10 @@
+pub mod Lists
+pub mod Theory
+pub mod Faults
+pub mod Ends
+pub mod Unique
+pub mod Places
+pub mod Whole
+pub mod OneFault
+pub mod Meanings
+pub mod OneAnswer
