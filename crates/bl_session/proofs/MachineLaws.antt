@@ -47,8 +47,9 @@ module _ (setup : Setup) (limit : ℕ) where
   settle_came subject A B e t x g run is le =
       let all : e + (limit - e) ≡ limit = omega (arith, le) in
       let skips = run-skip x e 0 (limit - e) (λ p lt. g.over p (omega (arith, lt))) (let w : e ≤ length A = g.within in omega (arith, w, ap length g.order_is)) in
+      let from : 0 + e ≡ e = omega arith in
       subst (Mirrors setup limit subject B t)
-      (sym (settled x ∙ ap (λ k. state_after x (run_from k x 0)) (g.limit_is ∙ sym all) ∙ skips))
+      (sym (settled x ∙ ap (λ k. state_after x (run_from k x 0)) (g.limit_is ∙ sym all) ∙ skips ∙ ap (λ k. state_after x (run_from (limit - e) x k)) from))
       (ran_to subject A B e t x g run is)
 
   pub settle_same : (A B : List Entry) (e t n : ℕ) → HasRun setup limit A e B t → t ≡ length B → e ≤ length A → AreLater e A n → SameUpTo n (told_text setup A) (told_text setup B)

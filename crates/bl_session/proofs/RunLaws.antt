@@ -5,7 +5,7 @@ use Rattle.std.proofs.lemmas.Bool.Decides.{nat_tests}
 use Rattle.bl_script.specs.Effects.{children}
 use Rattle.bl_script.specs.declared.work.Work.{Work}
 use Rattle.bl_setup.specs.Order.{Setup, Entry, Line}
-use Rattle.bl_setup.specs.Past.{Past, is_done, place}
+use Rattle.bl_setup.specs.Past.{Past, is_done, place, earlier, no_entry, deeds, task_of, content_of}
 use Rattle.bl_setup.specs.Machine.{State, Event, Session, Phase, Waiting, Running, Ended, Gone, is_gone, is_over, is_running, is_lost, past_at, phase_at, change, state_after, start, children_at, child_entries, runs, has_ended, with_phase}
 use Rattle.bl_setup.specs.Machine as machine
 use Rattle.bl_session.specs.Told.{Told, Opens, Admits, Settles, SameUpTo}
@@ -41,16 +41,16 @@ more_gone (q ∷ phases) n kept zero = kept zero
 more_gone (q ∷ phases) n kept (suc m) = more_gone phases n (λ k. kept (suc k)) m
 
 set_over : (phases : List Phase) (n m : ℕ) (p : Phase) → is_over (slice_index_or phases n Waiting) ≡ false → is_over (slice_index_or phases m Waiting) ≡ true → is_over (slice_index_or (slice_set phases n p) m Waiting) ≡ true
-set_over [] n m p no yes = yes
-set_over (q ∷ phases) zero zero p no yes = absurd (true≢false (sym yes ∙ no))
-set_over (q ∷ phases) zero (suc m) p no yes = yes
-set_over (q ∷ phases) (suc n) zero p no yes = yes
-set_over (q ∷ phases) (suc n) (suc m) p no yes = set_over phases n m p no yes
+set_over [] n m p unended ended_so = ended_so
+set_over (q ∷ phases) zero zero p unended ended_so = absurd (true≢false (sym ended_so ∙ unended))
+set_over (q ∷ phases) zero (suc m) p unended ended_so = ended_so
+set_over (q ∷ phases) (suc n) zero p unended ended_so = ended_so
+set_over (q ∷ phases) (suc n) (suc m) p unended ended_so = set_over phases n m p unended ended_so
 
 more_over : (phases more : List Phase) (m : ℕ) → is_over (slice_index_or phases m Waiting) ≡ true → is_over (slice_index_or (phases ++ more) m Waiting) ≡ true
-more_over [] more m yes = absurd (true≢false (sym yes))
-more_over (q ∷ phases) more zero yes = yes
-more_over (q ∷ phases) more (suc m) yes = more_over phases more m yes
+more_over [] more m ended_so = absurd (true≢false (sym ended_so))
+more_over (q ∷ phases) more zero ended_so = ended_so
+more_over (q ∷ phases) more (suc m) ended_so = more_over phases more m ended_so
 
 set_other : (phases : List Phase) (n m : ℕ) (p : Phase) → n < m → slice_index_or (slice_set phases n p) m Waiting ≡ slice_index_or phases m Waiting
 set_other [] n m p lt = refl
@@ -81,7 +81,7 @@ runs_on : (p : Phase) → is_running p ≡ true → is_over p ≡ false
 runs_on Waiting is = refl
 runs_on Running is = refl
 runs_on Ended is = absurd (true≢false (sym is))
-runs_on Gone is = refl
+runs_on Gone is = absurd (true≢false (sym is))
 
 long_more : (phases : List Phase) (n : ℕ) (p : Phase) (k : ℕ) → length (slice_set phases n p ++ replicate k Waiting) ≡ length phases + k
 long_more phases n p k = length-append (slice_set phases n p) (replicate k Waiting) ∙ ap (λ a. a + length (replicate k Waiting)) (length-set phases n p) ∙ ap (λ a. length phases + a) (length-replicate k Waiting)
@@ -100,24 +100,24 @@ pub record GoesOn (setup : Setup) (A : List Entry) (ended n : ℕ) (y : State) :
 
 module _ (setup : Setup) (A : List Entry) (ended n : ℕ) where
   goes_start : (y : State) (p : ℕ) → GoesOn setup A ended n y → has_ended y p ≡ false → GoesOn setup A ended n (change y (machine.Starts p))
-  goes_start y p g no = record {
+  goes_start y p g unended = record {
     setup_is = g.setup_is;
     more = g.more;
     order_is = g.order_is;
     as_many = length-set y.phases p (cond (is_done (past_at y p).answer) Running Ended) ∙ g.as_many;
     kept = set_gone y.phases p (cond (is_done (past_at y p).answer) Running Ended) (not_gone (is_done (past_at y p).answer)) g.kept;
-    over = λ q lt. set_over y.phases p q (cond (is_done (past_at y p).answer) Running Ended) no (g.over q lt);
+    over = λ q lt. set_over y.phases p q (cond (is_done (past_at y p).answer) Running Ended) unended (g.over q lt);
     later = g.later;
   }
 
   goes_end : (y : State) (p : ℕ) → GoesOn setup A ended n y → has_ended y p ≡ false → ended ≤ p → p < length y.order → GoesOn setup A ended n (change y (machine.Ends p))
-  goes_end y p g no le lt = record {
+  goes_end y p g unended le lt = record {
     setup_is = g.setup_is;
     more = g.more ++ children_at y p;
     order_is = ap (λ l. l ++ children_at y p) g.order_is ∙ join A g.more (children_at y p);
     as_many = long_more y.phases p Ended (length (children_at y p)) ∙ ap (λ k. k + length (children_at y p)) g.as_many ∙ sym (length-append y.order (children_at y p));
     kept = more_gone (slice_set y.phases p Ended) (length (children_at y p)) (set_gone y.phases p Ended refl g.kept);
-    over = λ q below. more_over (slice_set y.phases p Ended) (replicate (length (children_at y p)) Waiting) q (set_over y.phases p q Ended no (g.over q below));
+    over = λ q below. more_over (slice_set y.phases p Ended) (replicate (length (children_at y p)) Waiting) q (set_over y.phases p q Ended unended (g.over q below));
     later = later-children (children (past_at y p).effects) y.order ended p 1 n g.later le lt;
   }
 
@@ -157,6 +157,16 @@ module _ (setup : Setup) (A : List Entry) (ended n : ℕ) where
 
 -- ---- a place after the other
 
+-- a place that isn't done has no children
+pub no_children : (setup : Setup) (order : List Entry) (m : ℕ) → is_done (said setup order m).answer ≡ false → children (said setup order m).effects ≡ []
+no_children setup order m is = ap (λ b. children (cond b (deeds (task_of before entry) (content_of setup before)) [])) is
+  where
+    before : List Past
+    before = earlier setup (λ k. false) order m
+
+    entry : Entry
+    entry = slice_index_or order m no_entry
+
 module _ (setup : Setup) (limit : ℕ) (subject : Option ℕ) where
   -- the place after those that have ended starts, and ends, and its children enter
   pub mirror_place : (order : List Entry) (m : ℕ) (x : State) → Mirrors setup limit subject order m x → m < length order
@@ -166,15 +176,15 @@ module _ (setup : Setup) (limit : ℕ) (subject : Option ℕ) where
       here : m < length x.phases
       here = omega (arith, g.as_many)
 
-      no : has_ended x m ≡ false
-      no = ap is_over (g.waits m (omega arith))
+      unended : has_ended x m ≡ false
+      unended = ap is_over (g.waits m (omega arith))
 
       is_said : past_at x m ≡ said setup order m
       is_said = past-calm x g.kept m ∙ ap (λ s. said s x.order m) g.setup_is ∙ ap (λ o. said setup o m) g.order_is
 
       events : (b : Bool) → is_done (past_at x m).answer ≡ b → place_events x m ≡ cond b (machine.Starts m ∷ machine.Ends m ∷ []) (machine.Starts m ∷ [])
       events b is =
-          ap (λ t. cond t [] (cond (runs (change x (machine.Starts m)) m) (machine.Starts m ∷ machine.Ends m ∷ []) (machine.Starts m ∷ []))) no
+          ap (λ t. cond t [] (cond (runs (change x (machine.Starts m)) m) (machine.Starts m ∷ machine.Ends m ∷ []) (machine.Starts m ∷ []))) unended
           ∙ ap (λ t. cond t (machine.Starts m ∷ machine.Ends m ∷ []) (machine.Starts m ∷ []))
           (ap is_running (set_here x.phases m (cond (is_done (past_at x m).answer) Running Ended) here) ∙ is_run (is_done (past_at x m).answer) ∙ is)
 
@@ -212,13 +222,12 @@ module _ (setup : Setup) (limit : ℕ) (subject : Option ℕ) where
             over = λ p below. more_over (slice_set z.phases m Ended) (replicate (length (children_at z m)) Waiting) p
                 (over_at (slice_set z.phases m Ended) m p below (ap is_over (set_here z.phases m Ended (omega (arith, z_long))))
                 (λ lt. set_over z.phases m p Ended (runs_on (phase_at z m) (ap is_running (set_here x.phases m (cond (is_done (past_at x m).answer) Running Ended) here) ∙ is_run (is_done (past_at x m).answer) ∙ is))
-                (set_over x.phases m p (cond (is_done (past_at x m).answer) Running Ended) no (g.over p lt))));
+                (set_over x.phases m p (cond (is_done (past_at x m).answer) Running Ended) unended (g.over p lt))));
             waits = λ p low. more_waiting (slice_set z.phases m Ended) (length (children_at z m)) p
                 (set_other z.phases m p Ended low ∙ set_other x.phases m p (cond (is_done (past_at x m).answer) Running Ended) low ∙ g.waits p (omega arith));
           })
       go false is =
-          let none : children (said setup order m).effects ≡ [] =
-          ap (λ b. children (cond b _ [])) (sym (ap (λ (p : Past). is_done p.answer) is_said) ∙ is) in
+          let none : children (said setup order m).effects ≡ [] = no_children setup order m (sym (ap (λ (p : Past). is_done p.answer) is_said) ∙ is) in
           let same : order ++ child_entries m 1 (children (said setup order m).effects) ≡ order = ap (λ l. order ++ child_entries m 1 l) none ∙ append-nil order in
           subst (λ o. Mirrors setup limit subject o (suc m) (state_after x (place_events x m))) (sym same)
           (subst (λ events. Mirrors setup limit subject order (suc m) (state_after x events)) (sym (events false is))
@@ -232,7 +241,7 @@ module _ (setup : Setup) (limit : ℕ) (subject : Option ℕ) where
             kept = set_gone x.phases m (cond (is_done (past_at x m).answer) Running Ended) (not_gone (is_done (past_at x m).answer)) g.kept;
             over = λ p below. over_at (started (cond (is_done (past_at x m).answer) Running Ended)) m p below
                 (ap is_over (set_here x.phases m (cond (is_done (past_at x m).answer) Running Ended) here) ∙ ap (λ b. is_over (cond b Running Ended)) is)
-                (λ lt. set_over x.phases m p (cond (is_done (past_at x m).answer) Running Ended) no (g.over p lt));
+                (λ lt. set_over x.phases m p (cond (is_done (past_at x m).answer) Running Ended) unended (g.over p lt));
             waits = λ p low. set_other x.phases m p (cond (is_done (past_at x m).answer) Running Ended) low ∙ g.waits p (omega arith);
           }))
 
@@ -348,7 +357,7 @@ run_same setup limit subject A B ended over n most p x g later after k le =
 
 -- ---- some state of an order
 
-sessions_of : Option ℕ → List Session
+abbrev pub sessions_of : Option ℕ → List Session
 sessions_of None = []
 sessions_of (Some subject) = record { subject = subject; last = 0 } ∷ []
 
