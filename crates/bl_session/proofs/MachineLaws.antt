@@ -1,5 +1,5 @@
 -- What was told and what the machine of one worker holds.
-use Rattle.std.proofs.Common.{◌≡◌, ℕ, zero, suc, ◌+◌, ◌-◌, ◌<◌, ◌≤◌, Bool, true, false, cond, List, [], ◌∷◌, ◌++◌, length, refl, sym, ap, subst, ◌∙◌, arith, Option, Some, None, nat_le, sum_by, replicate}
+use Rattle.std.proofs.Common.{◌≡◌, ℕ, suc, ◌+◌, ◌-◌, ◌<◌, ◌≤◌, true, false, cond, List, [], ◌∷◌, ◌++◌, length, refl, sym, ap, subst, ◌∙◌, arith, Option, Some, None, nat_le, sum_by, replicate}
 use Rattle.bl_script.specs.Effects.{children}
 use Rattle.bl_script.specs.declared.work.Work.{Work}
 use Rattle.bl_setup.specs.Order.{Setup, Entry, Line}
@@ -8,10 +8,10 @@ use Rattle.bl_setup.specs.Machine as machine
 use Rattle.bl_session.specs.declared.turn.Turn.{Turn}
 use Rattle.bl_session.specs.Told.{Told, Opens, Admits, Settles, SameUpTo, told_by}
 use Rattle.bl_session.specs.Replies.{line_text}
-use Rattle.bl_session.specs.One.{place_events, run_from, settling, fits, events_of, one_state}
+use Rattle.bl_session.specs.One.{place_events, run_from, fits, events_of, one_state}
 use Rattle.bl_session.specs.Orders.{said, told_text, AreLater, Mirrors}
 use Rattle.bl_session.specs.Whole.{HasRun}
-use Rattle.bl_session.proofs.RunLaws.{GoesOn, goes_run, mirror_place, mirror_line, mirror_text, mirror_goes, run-skip, run-one, run-none, told_append, settled, goes_settles, goes_same, run_same, some_state, some_mirrors}
+use Rattle.bl_session.proofs.RunLaws.{goes_run, mirror_place, mirror_line, mirror_text, mirror_goes, run-skip, run-one, run-none, told_append, settled, goes_settles, goes_same, run_same, some_state, some_mirrors}
 
 module _ (setup : Setup) (limit : ℕ) where
   pub has_run_start : (A : List Entry) (e : ℕ) → HasRun setup limit A e A e
