@@ -1,5 +1,5 @@
 -- Laws of the entries that the machine of one worker keeps.
-use Rattle.std.proofs.Common.{◌≡◌, ◌≢◌, ℕ, zero, suc, ◌+◌, ◌<◌, ◌≤◌, Bool, true, false, List, [], ◌∷◌, ◌++◌, map, length, refl, sym, ap, subst, ◌∙◌, arith, inl, inr, ◌⊎◌, slice_index_or, true≢false, length-append}
+use Rattle.std.proofs.Common.{◌≡◌, ◌≢◌, ℕ, zero, suc, ◌+◌, ◌<◌, ◌≤◌, Bool, true, false, ◌==◌, List, [], ◌∷◌, ◌++◌, map, length, refl, sym, ap, subst, ◌∙◌, arith, inl, inr, ◌⊎◌, slice_index_or, true≢false, zero-add, length-append}
 use Rattle.std.proofs.Math.ListN.{get_or-append}
 use Rattle.std.proofs.lemmas.List.{get_or_push, map-append}
 use Rattle.std.proofs.lemmas.Bool.Decides.{eqb_tells}
@@ -139,7 +139,7 @@ module _ (entries : List Entered) (new : Entered) (are : AreLabelled entries) wh
 
 -- the children from this number on are those up to the last without those before it
 pub children_from : (parent which : ℕ) (behaviours : List ℕ) → first_children parent which ++ child_entries parent (which + 1) behaviours ≡ first_children parent (which + length behaviours)
-children_from parent which [] = append_none (first_children parent which) ∙ ap (first_children parent) (omega arith)
+children_from parent which [] = let e : which ≡ which + 0 = omega arith in append_none (first_children parent which) ∙ ap (first_children parent) e
   where
     append_none : (l : List Entry) → l ++ [] ≡ l
     append_none [] = refl
@@ -154,4 +154,4 @@ children_from parent which (b ∷ behaviours) =
     ∙ ap (first_children parent) f
 
 pub children_all : (parent : ℕ) (behaviours : List ℕ) → child_entries parent 1 behaviours ≡ first_children parent (length behaviours)
-children_all parent behaviours = children_from parent 0 behaviours
+children_all parent behaviours = children_from parent 0 behaviours ∙ ap (first_children parent) (zero-add (length behaviours))

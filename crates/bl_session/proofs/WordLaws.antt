@@ -1,40 +1,44 @@
--- The texts of labels and outputs, piece by piece.
-use Rattle.std.proofs.Common.{◌≡◌, ℕ, zero, suc, ◌+◌, ◌<◌, List, [], ◌∷◌, ◌++◌, length, take, refl, sym, ap, ◌∙◌, add-one, codes, decimal, slice_index_or}
-use Rattle.std.specs.List.{flat_map}
+-- The texts of labels and outputs, piece by piece, and the order of labels.
+use Rattle.std.proofs.Common.{◌≡◌, ℕ, zero, suc, ◌+◌, ◌<◌, ◌≤◌, Bool, true, false, ◌&&◌, ◌||◌, ◌==◌, List, [], ◌∷◌, ◌++◌, length, take, drop, refl, sym, ap, ◌∙◌, append_assoc, add-one, drop-cons, arith, codes, decimal, slice_index, slice_index_or, nat_lt}
 use Rattle.std.proofs.Math.Seq.{take-suc}
-use Rattle.std.proofs.lemmas.Grind.{flat_map-append}
-use Rattle.bl_session.specs.Replies.{label_text, output_text}
-
-join : (a b c : List ℕ) → (a ++ b) ++ c ≡ a ++ (b ++ c)
-join [] b c = refl
-join (x ∷ a) b c = ap (λ l. x ∷ l) (join a b c)
+use Rattle.std.proofs.lemmas.Bool.Decides.{nat_tests}
+use Rattle.bl_session.specs.Replies.{label_text, is_before}
 
 -- one number more
 pub label-more : (n : ℕ) (path : List ℕ) (m : ℕ) → label_text (n ∷ (path ++ m ∷ [])) ≡ label_text (n ∷ path) ++ (codes "." ++ decimal m)
-label-more n [] m = refl
+label-more n [] m = append_assoc (decimal n) (codes ".") (decimal m)
 label-more n (x ∷ path) m =
-    ap (λ l. decimal n ++ (codes "." ++ l)) (label-more x path m)
-    ∙ ap (λ l. decimal n ++ l) (sym (join (codes ".") (label_text (x ∷ path)) (codes "." ++ decimal m)))
-    ∙ sym (join (decimal n) (codes "." ++ label_text (x ∷ path)) (codes "." ++ decimal m))
+    ap (λ l. (decimal n ++ codes ".") ++ l) (label-more x path m)
+    ∙ sym (append_assoc (decimal n ++ codes ".") (label_text (x ∷ path)) (codes "." ++ decimal m))
 
-pub label-step : (n : ℕ) (path : List ℕ) (i m : ℕ) → i < length path → m ≡ slice_index_or path i m
-    → label_text (n ∷ take (i + 1) path) ≡ label_text (n ∷ take i path) ++ (codes "." ++ decimal m)
-label-step n path i m lt at =
-    ap (λ k. label_text (n ∷ take k path)) (add-one i)
-    ∙ ap (λ l. label_text (n ∷ l)) (take-suc path i m lt)
-    ∙ label-more n (take i path) (slice_index_or path i m)
-    ∙ ap (λ k. label_text (n ∷ take i path) ++ (codes "." ++ decimal k)) (sym at)
+-- the label up to a number, and then a dot and the number
+pub label-step : (out : List ℕ) (n : ℕ) (path : List ℕ) (i : ℕ) → i < length path
+    → out ++ label_text (n ∷ take (i + 1) path) ≡ ((out ++ label_text (n ∷ take i path)) ++ codes ".") ++ decimal (slice_index path i)
+label-step out n path i lt =
+    ap (λ l. out ++ label_text (n ∷ l)) (ap (λ k. take k path) (add-one i) ∙ take-suc path i 0 lt)
+    ∙ ap (λ l. out ++ l) (label-more n (take i path) (slice_index path i))
+    ∙ sym (append_assoc out (label_text (n ∷ take i path)) (codes "." ++ decimal (slice_index path i)))
+    ∙ sym (append_assoc (out ++ label_text (n ∷ take i path)) (codes ".") (decimal (slice_index path i)))
 
--- one output more
-pub outputs-step : (texts : List (List ℕ)) (i : ℕ) (text : List ℕ) → i < length texts → text ≡ slice_index_or texts i text
-    → flat_map output_text (take (i + 1) texts) ≡ flat_map output_text (take i texts) ++ output_text text
-outputs-step texts i text lt at =
-    ap (λ k. flat_map output_text (take k texts)) (add-one i)
-    ∙ ap (flat_map output_text) (take-suc texts i text lt)
-    ∙ flat_map-append output_text (take i texts) (slice_index_or texts i text ∷ [])
-    ∙ ap (λ t. flat_map output_text (take i texts) ++ flat_map output_text (t ∷ [])) (sym at)
-    ∙ ap (λ l. flat_map output_text (take i texts) ++ l) (append_none (output_text text))
+-- the order of labels, number by number
+pub no_before : (a : List ℕ) → is_before a [] ≡ false
+no_before [] = refl
+no_before (x ∷ a) = refl
+
+pub none_before : (b : List ℕ) (i : ℕ) → is_before [] (drop i b) ≡ nat_lt i (length b)
+none_before [] zero = grind (arith, nat_tests)
+none_before [] (suc i) = grind (arith, nat_tests)
+none_before (x ∷ b) zero = grind (arith, nat_tests)
+none_before (x ∷ b) (suc i) = none_before b i ∙ grind (arith, nat_tests)
+
+pub before_first : (m n : ℕ) (a b : List ℕ) → (m == n) ≡ false → is_before (m ∷ a) (n ∷ b) ≡ nat_lt m n
+before_first m n a b e = ap (λ x. nat_lt m n || (x && is_before a b)) e ∙ or_false (nat_lt m n)
   where
-    append_none : (l : List ℕ) → l ++ [] ≡ l
-    append_none [] = refl
-    append_none (x ∷ l) = ap (λ r. x ∷ r) (append_none l)
+    or_false : (x : Bool) → (x || false) ≡ x
+    or_false true = refl
+    or_false false = refl
+
+-- the words of a denial, piece by piece
+pub denied_words : (out word subject object : List ℕ)
+    → ((((out ++ codes " denied ") ++ word) ++ codes " ") ++ subject) ++ object ≡ out ++ (codes " denied " ++ (word ++ (codes " " ++ (subject ++ object))))
+denied_words out word subject object = simp append_assoc

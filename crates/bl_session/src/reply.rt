@@ -27,8 +27,14 @@ fn push_fault(out: &mut Vec<u8>, fault: &LineFault) -> Result<(), AllocError>
             out.extend_from_slice(b"syntax ")?;
             push_number(out, *byte)
         }
+        LineFault::Deep => out.extend_from_slice(b"deep"),
+        LineFault::Many => out.extend_from_slice(b"many"),
         LineFault::Unknown(name) => {
             out.extend_from_slice(b"unknown ")?;
+            out.extend_from_slice(name.bytes())
+        }
+        LineFault::Twice(name) => {
+            out.extend_from_slice(b"twice ")?;
             out.extend_from_slice(name.bytes())
         }
         LineFault::Mode(name) => {
