@@ -1,5 +1,5 @@
 -- Laws of the replies of a block.
-use Rattle.std.proofs.Common.{◌≡◌, ◌≢◌, ℕ, zero, suc, ◌+◌, ◌-◌, ◌<◌, ◌≤◌, Bool, true, false, cond, ◌&&◌, ◌||◌, ◌==◌, List, [], ◌∷◌, ◌++◌, map, length, take, drop, refl, sym, ap, subst, ◌∙◌, arith, ne_eqb, inl, inr, ◌⊎◌, slice_index_or, slice_set, nat_lt, true≢false}
+use Rattle.std.proofs.Common.{◌≡◌, ◌≢◌, ℕ, zero, suc, ◌+◌, ◌-◌, ◌<◌, ◌≤◌, Bool, true, false, cond, ◌&&◌, ◌||◌, ◌==◌, List, [], ◌∷◌, ◌++◌, map, length, take, drop, refl, sym, ap, subst, ◌∙◌, arith, ne_eqb, inl, inr, ◌⊎◌, slice_index_or, slice_set, nat_lt, true≢false, zero-add}
 use Rattle.std.specs.Prelude.{Vec, All}
 use Rattle.std.specs.Global.{Global}
 use Rattle.std.proofs.Math.Seq.{get_or-set_other}
@@ -13,8 +13,9 @@ use Rattle.bl_session.specs.declared.label.Entered.{Entered}
 use Rattle.bl_session.specs.Replies.{Tag, Reply, tag, is_of, is_before, put_in, replies_to}
 use Rattle.bl_session.specs.Orders.{reply_at, at_rest, ordinal_of}
 use Rattle.bl_session.specs.Entries.{Each, order_of, is_line, tag_of, StandsBelow, AreLabelled}
-use Rattle.bl_session.specs.Blocks.{IsBlock, AreKin, SplitsAt}
+use Rattle.bl_session.specs.Blocks.{IsBlock, AreKin, SplitsAt, StandsUnder}
 use Rattle.bl_session.proofs.OrderLaws.{replies-other, not_of}
+use Rattle.bl_session.proofs.WordLaws.{no_before}
 
 -- a reply is put behind those that its label is not before
 pub put_rank : (ra : ℕ → Reply) (new : Reply) (place : ℕ) (kin : List ℕ) (r : ℕ) → ra place ≡ new → r ≤ length kin
@@ -46,13 +47,6 @@ before_paths o p a b e = go (is_before a b)
         second true = refl
         second false = refl
 
-no_before : (a : List ℕ) → is_before a [] ≡ false
-no_before [] = refl
-no_before (x ∷ a) = refl
-
-is_zero : (0 == 0) ≡ true
-is_zero = refl
-
 pub is_of_own : (t : Tag) (k : ℕ) → t.session ≡ 0 → ordinal_of t ≡ k → is_of 0 k t ≡ true
 is_of_own t k s e = ap (λ x. (x == 0) && (ordinal_of t == k)) s ∙ ap (λ x. (0 == 0) && x) same
   where
@@ -72,10 +66,21 @@ module _ (setup : Setup) (entries : List Entered) (are : AreLabelled entries) wh
   ordinal_is : (n : ℕ) (d : Entered) → n < length entries → ordinal_of (tag order n) ≡ (slice_index_or entries n d).ordinal
   ordinal_is n d lt = ap ordinal_of (are.tags n d lt)
 
+  -- below one line labels are in the order of their paths
+  labels_before : (m n : ℕ) (d : Entered) → m < length entries → n < length entries → (slice_index_or entries m d).ordinal ≡ (slice_index_or entries n d).ordinal
+      → is_before (tag order m).label (tag order n).label ≡ is_before (slice_index_or entries m d).path.items (slice_index_or entries n d).path.items
+  labels_before m n d lt lt' same =
+      let x : Entered = slice_index_or entries m d in
+      let y : Entered = slice_index_or entries n d in
+      ap (λ l. is_before l (tag order n).label) (label_is m d lt)
+      ∙ ap (is_before (x.ordinal ∷ x.path.items)) (label_is n d lt')
+      ∙ before_paths x.ordinal y.ordinal x.path.items y.path.items same
+
   -- of places of other lines there are no replies
   pub none_of : (k n : ℕ) (d : Entered) → n ≤ length entries → ((m : ℕ) → m < n → (slice_index_or entries m d).ordinal ≢ k) → replies_to (at_rest setup order) 0 k n ≡ []
   none_of k n d le other =
-      replies-other setup order k 0 n (λ p low high e. other p (omega (arith, high)) (sym (ordinal_is p d (omega (arith, high, le))) ∙ e))
+      ap (replies_to (at_rest setup order) 0 k) (sym (zero-add n))
+      ∙ replies-other setup order k 0 n (λ p low high e. other p (omega (arith, high)) (sym (ordinal_is p d (omega (arith, high, le))) ∙ e))
 
   pub more_of : (k from n : ℕ) (d : Entered) → from + n ≤ length entries → ((m : ℕ) → from ≤ m → m < from + n → (slice_index_or entries m d).ordinal ≢ k)
       → replies_to (at_rest setup order) 0 k (from + n) ≡ replies_to (at_rest setup order) 0 k from
@@ -115,7 +120,7 @@ module _ (setup : Setup) (entries : List Entered) (are : AreLabelled entries) wh
     pub kin_start : (n : ℕ) → SplitsAt entries first n → (kin : List (Vec ℕ Global)) → length kin ≡ entered - first
         → ((i : ℕ) (v : Vec ℕ Global) → i < length kin → (slice_index_or kin i v).items ≡ []) → AreKin setup entries first entered kin
     kin_start n splits kin long empty = record {
-      there = λ i v lt. subst (All (λ place. (place < entered) × ((e : Entered) → (slice_index_or entries place e).line ≡ first + i))) (sym (empty i v lt)) (All-nil _);
+      there = λ i v lt. subst (All (StandsUnder entries entered (first + i))) (sym (empty i v lt)) (All-nil (StandsUnder entries entered (first + i)));
       replies = λ i d v lt.
           let w : entered ≤ length entries = block.within in
           let s : first ≤ entered = block.some in
@@ -168,6 +173,9 @@ module _ (setup : Setup) (entries : List Entered) (are : AreLabelled entries) wh
     all_insert : (P : ℕ → Type 0) (xs : List ℕ) (r place : ℕ) → All P xs → P place → All P (take r xs ++ place ∷ drop r xs)
     all_insert P xs r place all here = All-append P (take r xs) (place ∷ drop r xs) (All-take P r xs all) (All-cons P place (drop r xs) here (All-drop P r xs all))
 
+    abbrev Under : ℕ → ℕ → ℕ → Type 0
+    Under n j = StandsUnder entries n (first + j)
+
     -- one child more
     pub kin_step : (place : ℕ) (d : Entered) (kin : List (Vec ℕ Global)) (i r : ℕ) (w : Vec ℕ Global) → entered ≤ place → place < length entries → length kin ≡ entered - first
         → AreKin setup entries first place kin
@@ -184,20 +192,25 @@ module _ (setup : Setup) (entries : List Entered) (are : AreLabelled entries) wh
       replies = λ j e u lt. replies_at j e u (omega (arith, lt, length-set kin i w)) (eqb_tells j i);
     }
       where
+        wider : (j : ℕ) (xs : List ℕ) → All (Under place j) xs → All (Under (suc place) j) xs
+        wider j xs all = All-weaker (Under place j) (Under (suc place) j) (λ p h. (omega (arith, h.0), h.1)) xs all
+
+        old : All (Under place i) v.items
+        old = subst (λ (x : Vec ℕ Global). All (Under place i) x.items) (sym at) (kept.there i v inside)
+
+        itself : Under (suc place) i place
+        itself = (omega arith, λ e. ap (λ (x : Entered). x.line) (same_at place e d high) ∙ sym line)
+
+        there_now : All (Under (suc place) i) w.items
+        there_now = subst (All (Under (suc place) i)) (sym is) (all_insert (Under (suc place) i) v.items r place (wider i v.items old) itself)
+
         there_at : (j : ℕ) (u : Vec ℕ Global) → j < length kin → (((j == i) ≡ true) × (j ≡ i)) ⊎ (((j == i) ≡ false) × (j ≡ i → ⊥))
-            → All (λ p. (p < suc place) × ((e : Entered) → (slice_index_or entries p e).line ≡ first + j)) (slice_index_or (slice_set kin i w) j u).items
+            → All (Under (suc place) j) (slice_index_or (slice_set kin i w) j u).items
         there_at j u lt (inl t) =
-            let old : All (λ p. (p < place) × ((e : Entered) → (slice_index_or entries p e).line ≡ first + i)) v.items =
-            subst (λ (x : Vec ℕ Global). All (λ p. (p < place) × ((e : Entered) → (slice_index_or entries p e).line ≡ first + i)) x.items) (sym at) (kept.there i v inside) in
-            let wider : All (λ p. (p < suc place) × ((e : Entered) → (slice_index_or entries p e).line ≡ first + i)) v.items =
-            All-weaker _ _ (λ p h. (omega (arith, h.0), h.1)) v.items old in
-            subst (λ k. All (λ p. (p < suc place) × ((e : Entered) → (slice_index_or entries p e).line ≡ first + k)) (slice_index_or (slice_set kin i w) j u).items) (sym t.1)
-            (subst (λ (x : Vec ℕ Global). All (λ p. (p < suc place) × ((e : Entered) → (slice_index_or entries p e).line ≡ first + i)) x.items) (sym (get_or-set_at kin i j w u t.1 inside))
-            (subst (λ l. All (λ p. (p < suc place) × ((e : Entered) → (slice_index_or entries p e).line ≡ first + i)) l) (sym is)
-            (all_insert _ v.items r place wider (omega arith, λ e. ap (λ (x : Entered). x.line) (same_at place e d high) ∙ sym line))))
+            subst (λ k. All (Under (suc place) k) (slice_index_or (slice_set kin i w) j u).items) (sym t.1)
+            (subst (λ (x : Vec ℕ Global). All (Under (suc place) i) x.items) (sym (get_or-set_at kin i j w u t.1 inside)) there_now)
         there_at j u lt (inr t) =
-            subst (λ (x : Vec ℕ Global). All (λ p. (p < suc place) × ((e : Entered) → (slice_index_or entries p e).line ≡ first + j)) x.items) (sym (get_or-set_other kin i j w u t.1))
-            (All-weaker _ _ (λ p h. (omega (arith, h.0), h.1)) (slice_index_or kin j u).items (kept.there j u lt))
+            subst (λ (x : Vec ℕ Global). All (Under (suc place) j) x.items) (sym (get_or-set_other kin i j w u t.1)) (wider j (slice_index_or kin j u).items (kept.there j u lt))
 
         own : (e : Entered) → (slice_index_or entries place e).ordinal ≡ (slice_index_or entries (first + i) e).ordinal
         own e =
@@ -232,26 +245,19 @@ module _ (setup : Setup) (entries : List Entered) (are : AreLabelled entries) wh
 
             line_first : is_before (tag order place).label (tag order (first + i)).label ≡ false
             line_first =
-                ap (λ l. is_before l (tag order (first + i)).label) (label_is place e high)
-                ∙ ap (is_before ((slice_index_or entries place e).ordinal ∷ (slice_index_or entries place e).path.items)) (label_is (first + i) e (at_line e))
-                ∙ before_paths _ _ _ _ (own e)
+                labels_before place (first + i) e high (at_line e) (own e)
                 ∙ ap (is_before (slice_index_or entries place e).path.items) (are.lines (first + i) e (at_line e) (block.lines (first + i) e (omega arith) here)).1
                 ∙ no_before (slice_index_or entries place e).path.items
-
-            old : All (λ p. (p < place) × ((x : Entered) → (slice_index_or entries p x).line ≡ first + i)) v.items
-            old = subst (λ (x : Vec ℕ Global). All (λ p. (p < place) × ((y : Entered) → (slice_index_or entries p y).line ≡ first + i)) x.items) (sym at) (kept.there i v inside)
 
             -- labels below this line are in the order of their paths
             paths : (q : ℕ) → q < length v.items → is_before (tag order place).label (tag order (slice_index_or v.items q 0)).label
                 ≡ is_before (slice_index_or entries place d).path.items (slice_index_or entries (slice_index_or v.items q 0) d).path.items
             paths q below =
                 let p : ℕ = slice_index_or v.items q 0 in
-                let h = All-get_or (λ p. (p < place) × ((x : Entered) → (slice_index_or entries p x).line ≡ first + i)) v.items q 0 below old in
+                let h : Under place i p = All-get_or (Under place i) v.items q 0 below old in
                 let there : p < length entries = omega (arith, h.0, high) in
                 let s : StandsBelow entries p (slice_index_or entries p d) = are.below p d there in
-                ap (λ l. is_before l (tag order p).label) (label_is place d high)
-                ∙ ap (is_before ((slice_index_or entries place d).ordinal ∷ (slice_index_or entries place d).path.items)) (label_is p d there)
-                ∙ before_paths _ _ _ _ (own d ∙ ap (λ k. (slice_index_or entries k d).ordinal) (sym (h.1 d)) ∙ s.same d)
+                labels_before place p d high there (own d ∙ ap (λ k. (slice_index_or entries k d).ordinal) (sym (h.1 d)) ∙ s.same d)
 
             behind_labels : (q : ℕ) → q < r → is_before (tag order place).label (tag order (slice_index_or v.items q 0)).label ≡ false
             behind_labels q lt' = paths q (omega (arith, lt', within)) ∙ behind q 0 d lt'
