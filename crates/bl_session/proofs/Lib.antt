@@ -14,3 +14,7 @@ pub mod AnswerLaws
 pub mod BlockLaws
 pub mod WordLaws
 pub mod MachineLaws
+pub mod EnterLaws
+pub mod AskLaws
+pub mod SettleLaws
+pub mod ReplyLaws

@@ -1,5 +1,5 @@
 -- What was told and what the machine of one worker holds.
-use Rattle.std.proofs.Common.{◌≡◌, ℕ, zero, suc, ◌+◌, ◌-◌, ◌<◌, ◌≤◌, Bool, true, false, cond, List, [], ◌∷◌, ◌++◌, length, refl, sym, ap, subst, ◌∙◌, arith, Option, Some, None, nat_le, sum_by, replicate}
+use Rattle.std.proofs.Common.{◌≡◌, ℕ, suc, ◌+◌, ◌-◌, ◌<◌, ◌≤◌, true, false, cond, List, [], ◌∷◌, ◌++◌, length, refl, sym, ap, subst, ◌∙◌, arith, Option, Some, None, nat_le, sum_by, replicate}
 use Rattle.bl_script.specs.Effects.{children}
 use Rattle.bl_script.specs.declared.work.Work.{Work}
 use Rattle.bl_setup.specs.Order.{Setup, Entry, Line}
@@ -8,10 +8,10 @@ use Rattle.bl_setup.specs.Machine as machine
 use Rattle.bl_session.specs.declared.turn.Turn.{Turn}
 use Rattle.bl_session.specs.Told.{Told, Opens, Admits, Settles, SameUpTo, told_by}
 use Rattle.bl_session.specs.Replies.{line_text}
-use Rattle.bl_session.specs.One.{place_events, run_from, settling, fits, events_of, one_state}
+use Rattle.bl_session.specs.One.{place_events, run_from, fits, events_of, one_state}
 use Rattle.bl_session.specs.Orders.{said, told_text, AreLater, Mirrors}
 use Rattle.bl_session.specs.Whole.{HasRun}
-use Rattle.bl_session.proofs.RunLaws.{GoesOn, mirror_place, mirror_line, mirror_text, mirror_goes, run-skip, run-one, run-none, told_append, settled, goes_settles, goes_same, run_same, some_state, some_mirrors}
+use Rattle.bl_session.proofs.RunLaws.{goes_run, mirror_place, mirror_line, mirror_text, mirror_goes, run-skip, run-one, run-none, told_append, settled, goes_settles, goes_same, run_same, some_state, some_mirrors}
 
 module _ (setup : Setup) (limit : ℕ) where
   pub has_run_start : (A : List Entry) (e : ℕ) → HasRun setup limit A e A e
@@ -57,6 +57,42 @@ module _ (setup : Setup) (limit : ℕ) where
       let x : State = some_state setup limit None A e in
       let g : Mirrors setup limit None A e x = some_mirrors setup limit None A e le in
       run_same setup limit None A B e t n (limit - e) e x g later (ran_to None A B e t x g run is)
+
+  -- what stood below later lines, and what enters while places run, stands below later lines
+  pub settle_later : (A B : List Entry) (e t n : ℕ) → HasRun setup limit A e B t → t ≡ length B → e ≤ length A → AreLater e A n → AreLater e B n
+  settle_later A B e t n run is le later =
+      let x : State = some_state setup limit None A e in
+      let g : Mirrors setup limit None A e x = some_mirrors setup limit None A e le in
+      subst (λ o. AreLater e o n) (ran_to None A B e t x g run is).order_is (goes_run setup A e n (limit - e) x e (mirror_goes setup limit None A e n x g later)).later
+
+  -- nothing was told yet
+  pub start_came : Mirrors setup limit None [] 0 (start setup limit)
+  start_came = record {
+    setup_is = refl;
+    limit_is = refl;
+    sessions = refl;
+    order_is = refl;
+    as_many = refl;
+    within = omega arith;
+    kept = λ p. refl;
+    over = λ p lt. absurd (omega (arith, lt));
+    waits = λ p le. refl;
+  }
+
+  -- then a session is opened
+  pub open_came : (subject : Option ℕ) (A : List Entry) (e u : ℕ) → Mirrors setup limit subject A e (start setup limit)
+      → Mirrors setup limit (Some u) A e (state_after (start setup limit) (events_of (start setup limit) (Opens u ∷ [])))
+  open_came subject A e u g = record {
+    setup_is = refl;
+    limit_is = refl;
+    sessions = (0, refl);
+    order_is = g.order_is;
+    as_many = g.as_many;
+    within = g.within;
+    kept = g.kept;
+    over = g.over;
+    waits = g.waits;
+  }
 
   -- a line that fits is admitted, and another is not
   pub ask_came : (A : List Entry) (e u k : ℕ) (w : Work) (x : State) → Mirrors setup limit (Some u) A e x → nat_le (sum_by entry_weight A + weight_of w) limit ≡ true

@@ -1,15 +1,15 @@
 -- Laws of an admission order that grows at its end.
-use Rattle.std.proofs.Common.{◌≡◌, ◌≢◌, ℕ, zero, suc, ◌+◌, ◌-◌, ◌<◌, ◌≤◌, Bool, true, false, cond, ◌&&◌, ◌||◌, ◌==◌, List, [], ◌∷◌, ◌++◌, map, length, get_or, refl, sym, ap, subst, ◌∙◌, arith, ne_eqb, append-nil, length-append, inl, inr, ◌⊎◌, slice_index_or, nat_lt}
+use Rattle.std.proofs.Common.{◌≡◌, ◌≢◌, ℕ, zero, suc, ◌+◌, ◌<◌, ◌≤◌, Bool, true, false, cond, ◌&&◌, ◌==◌, List, [], ◌∷◌, ◌++◌, length, get_or, refl, sym, ap, subst, ◌∙◌, arith, ne_eqb, append-nil, length-append, inl, inr, ◌⊎◌, slice_index_or}
 use mathlib.Core.Path.{fun_ext}
 use Rattle.std.proofs.Math.ListN.{get_or-append}
-use Rattle.std.proofs.lemmas.Bool.Decides.{nat_tests, eqb_tells}
+use Rattle.std.proofs.lemmas.Bool.Decides.{eqb_tells}
 use Rattle.bl_script.specs.declared.work.Work.{Work}
 use Rattle.bl_setup.specs.Order.{Setup, Entry, Line, Child}
 use Rattle.bl_setup.specs.Past.{Past, place, no_entry}
 use Rattle.bl_setup.specs.Machine.{State, is_lost, past_at, child_entries}
 use Rattle.bl_setup.proofs.Places.{place-grown}
 use Rattle.bl_session.specs.Told.{SameUpTo}
-use Rattle.bl_session.specs.Replies.{Tag, Reply, tag, tag_of, tag_at, tags_to, is_of, is_before, put_in, replies_to, line_or_full, line_text, reply_text, label_text}
+use Rattle.bl_session.specs.Replies.{Tag, Reply, tag, tag_of, tag_at, tags_to, is_of, put_in, replies_to, line_or_full, line_text}
 use Rattle.bl_session.specs.Orders.{said, reply_at, at_rest, told_text, ordinal_of, AreLater}
 
 -- ---- lists

@@ -1,5 +1,5 @@
 -- The replies of a block, line by line.
-use Rattle.std.specs.Prelude.{◌≡◌, ℕ, ◌+◌, ◌-◌, ◌<◌, ◌≤◌, true, false, List, ◌∷◌, map, length, slice_index_or, Vec, All}
+use Rattle.std.specs.Prelude.{◌≡◌, ℕ, ◌+◌, ◌<◌, ◌≤◌, true, false, List, ◌∷◌, map, length, slice_index_or, Vec, All}
 use Rattle.std.specs.Global.{Global}
 use Rattle.bl_setup.specs.Order.{Setup}
 use Rattle.bl_session.specs.declared.label.Entered.{Entered}

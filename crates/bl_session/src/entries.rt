@@ -1,12 +1,12 @@
 //! The machine of one worker. Lines enter an admission order without being run. When a block ends, a monitor answers the
 //! entries by rising place, and the children of an entry enter at its end, behind all that entered before.
-ghost use Rattle.std.specs.Prelude.{◌≡◌, ◌+◌, ◌<◌, ◌≤◌, ◌++◌, ℕ, [], List, OnOk, IfOk, None, length};
+ghost use Rattle.std.specs.Prelude.{◌≡◌, ◌+◌, ◌<◌, ◌≤◌, ◌++◌, ℕ, [], List, All, OnOk, IfOk, None, length};
 ghost use Rattle.std.specs.Arc.{arc_value};
 ghost use Rattle.bl_script.specs.Effects.{children};
 ghost use Rattle.bl_setup.specs.Machine.{weight_of};
 ghost use Rattle.bl_monitor.specs.Heard.{KnowsWork};
 ghost use Rattle.bl_session.specs.Orders.{said, told_text, AreLater};
-ghost use Rattle.bl_session.specs.Entries.{order_of, told_of, AreLabelled, AreAnswered};
+ghost use Rattle.bl_session.specs.Entries.{order_of, told_of, is_line, AreLabelled, AreAnswered};
 ghost use Rattle.bl_session.specs.Whole.{AreKnown, HasEntered, HasRun, IsWhole, Came};
 ghost use Rattle.bl_session.specs.Blocks.{Gives};
 
@@ -144,7 +144,7 @@ fn run(
     requires known { AreKnown monitor.old.setup entries.old.items }
     requires answered { AreAnswered monitor.old.setup monitor.old (order_of entries.old.items) answers.old.items }
     ensures setup { monitor.new.setup ≡ monitor.old.setup }
-    ensures more { (more : List Entered) × (entries.new.items ≡ entries.old.items ++ more) }
+    ensures more { (more : List Entered) × (entries.new.items ≡ entries.old.items ++ more) × All (λ e. is_line e.origin ≡ false) more }
     ensures all { OnOk result (length answers.new.items ≡ length entries.new.items) }
     ensures answered { OnOk result (AreAnswered monitor.new.setup monitor.new (order_of entries.new.items) answers.new.items) }
     ensures labelled { AreLabelled entries.old.items → AreLabelled entries.new.items }
@@ -201,6 +201,7 @@ impl Behind for Alone {
 
     fn open(&self, state: &mut Pages, subject: SubjectId) -> Result<(), AllocError> {
         state.subject = Some(subject);
+        state.last = 0;
         Ok(())
     }
 
