@@ -18,3 +18,4 @@ pub mod EnterLaws
 pub mod AskLaws
 pub mod SettleLaws
 pub mod ReplyLaws
+pub mod ServeLaws

@@ -256,8 +256,9 @@ impl Behind for Alone {
         };
         let names = self.setup.names();
         push_reply(out, names, &state.entries[place], &state.answers[place])?;
-        for kin in block.kin(place) {
-            push_reply(out, names, &state.entries[*kin], &state.answers[*kin])?;
+        let kin = block.kin(place);
+        for below in kin {
+            push_reply(out, names, &state.entries[*below], &state.answers[*below])?;
         }
         Ok(())
     }
