@@ -160,3 +160,15 @@ pub settled_came : (setup : Setup) (limit : ℕ) (subject : Option ℕ) (A B : L
 settled_came setup limit subject A B e t run all le told came =
     came_more setup limit subject B t told (Settles ∷ [])
     (settle_came setup limit subject A B e t (state_after (start setup limit) (events_of (start setup limit) told)) came run all le)
+
+-- the entries that had ended stand among the old ones
+pub ended_before : (setup : Setup) (limit : ℕ) (s : Pages) (n : ℕ) → IsWhole setup limit s n → s.ended ≤ length (order_of s.entries.items)
+ended_before setup limit s n w = omega (arith, w.ended, w.answered.few)
+
+-- all places have run
+pub ran_all : (setup : Setup) (limit : ℕ) (s : Pages) (n : ℕ) → IsWhole setup limit s n → (own : Setup) (now : List Entered) (t : ℕ) → own ≡ setup → t ≡ length now
+    → HasRun own limit (order_of s.entries.items) (length s.answers.items) (order_of now) t → HasRun setup limit (order_of s.entries.items) s.ended (order_of now) (length (order_of now))
+ran_all setup limit s n w own now t same all run =
+    subst (λ (k : Setup). HasRun k limit (order_of s.entries.items) s.ended (order_of now) (length (order_of now))) same
+    (subst (λ k. HasRun own limit (order_of s.entries.items) k (order_of now) (length (order_of now))) (sym w.ended)
+    (subst (HasRun own limit (order_of s.entries.items) (length s.answers.items) (order_of now)) (all ∙ sym (length-order now)) run))
