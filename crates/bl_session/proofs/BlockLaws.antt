@@ -1,5 +1,5 @@
 -- Laws of the replies of a block.
-use Rattle.std.proofs.Common.{◌≡◌, ◌≢◌, ℕ, zero, suc, ◌+◌, ◌-◌, ◌<◌, ◌≤◌, Bool, true, false, cond, ◌&&◌, ◌||◌, ◌==◌, List, [], ◌∷◌, ◌++◌, map, length, take, drop, refl, sym, ap, subst, ◌∙◌, arith, ne_eqb, inl, inr, ◌⊎◌, slice_index_or, slice_set, nat_lt, true≢false, zero-add, length-append}
+use Rattle.std.proofs.Common.{◌≡◌, ◌≢◌, ℕ, zero, suc, ◌+◌, ◌-◌, ◌<◌, ◌≤◌, Bool, true, false, cond, ◌&&◌, ◌||◌, ◌==◌, List, [], ◌∷◌, ◌++◌, map, length, take, drop, refl, sym, ap, subst, ◌∙◌, arith, inl, inr, ◌⊎◌, slice_index_or, slice_set, nat_lt, true≢false, zero-add, length-append}
 use Rattle.std.specs.Prelude.{Vec, All}
 use Rattle.std.specs.Global.{Global}
 use Rattle.std.proofs.Math.Seq.{get_or-set_other}
@@ -12,7 +12,7 @@ use Rattle.bl_setup.specs.Order.{Setup, Entry}
 use Rattle.bl_session.specs.declared.label.Entered.{Entered}
 use Rattle.bl_session.specs.Replies.{Tag, Reply, tag, is_of, is_before, put_in, replies_to}
 use Rattle.bl_session.specs.Orders.{reply_at, at_rest, ordinal_of}
-use Rattle.bl_session.specs.Entries.{Each, order_of, is_line, tag_of, StandsBelow, AreLabelled}
+use Rattle.bl_session.specs.Entries.{order_of, StandsBelow, AreLabelled}
 use Rattle.bl_session.specs.Blocks.{IsBlock, AreKin, SplitsAt, StandsUnder, AreUnder}
 use Rattle.bl_session.proofs.OrderLaws.{replies-other, not_of}
 use Rattle.bl_session.proofs.WordLaws.{no_before}

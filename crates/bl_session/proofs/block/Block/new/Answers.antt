@@ -1,4 +1,4 @@
-use Rattle.std.proofs.Common.{rules, ◌≡◌, ◌∙◌, ℕ, suc, ◌+◌, ◌-◌, ◌<◌, ◌≤◌, ◌++◌, ◌∷◌, [], All, List, length, length-append, length-set, take, drop, slice_index_or, slice_set, ap, sym, subst, arith, add-one, true, false, Vec, vec_len}
+use Rattle.std.proofs.Common.{◌≡◌, ◌∙◌, ℕ, suc, ◌+◌, ◌-◌, ◌<◌, ◌≤◌, ◌++◌, ◌∷◌, [], All, List, length, length-append, length-set, take, drop, slice_index_or, slice_set, ap, sym, subst, arith, add-one, true, false, Vec, vec_len}
 use Rattle.std.specs.Global.{Global}
 use Rattle.std.proofs.lemmas.List.{get_or_default}
 use Rattle.bl_setup.specs.Order.{Setup}
@@ -26,8 +26,7 @@ children-init c =
     let block = c.requires.block in
     let kin = c.lines.kin.items in
     let some : c.args.first ≤ c.args.entered = block.some in
-    let long : length kin ≡ c.args.entered - c.args.first = omega arith in
-    (
+    let long : length kin ≡ c.args.entered - c.args.first = omega arith in (
       long,
       under_start entries are c.args.first c.args.entered block kin c.lines.invariant.1,
       λ setup n splits. kin_start setup entries are c.args.first c.args.entered block n splits kin long c.lines.invariant.1,
@@ -102,8 +101,7 @@ children-preserved c =
     under_step entries are first entered block place e kin i r w high c.children.invariant.1 row.0 line v at is in
     let kept : (setup : Setup) (n : ℕ) → SplitsAt entries first n → AreKin setup entries first (suc place) (slice_set kin i w) =
     λ setup n splits.
-    kin_step setup entries are first entered block place e kin i r w low high c.children.invariant.0 (c.children.invariant.2 setup n splits) row.0 line v at within behind front is in
-    (
+    kin_step setup entries are first entered block place e kin i r w low high c.children.invariant.0 (c.children.invariant.2 setup n splits) row.0 line v at within behind front is in (
       length-set kin i w ∙ c.children.invariant.0,
       subst (λ n. AreUnder entries first n (slice_set kin i w)) (sym (add-one place)) under,
       subst (λ m. (setup : Setup) (n : ℕ) → SplitsAt entries first n → AreKin setup entries first m (slice_set kin i w)) (sym (add-one place)) kept,
