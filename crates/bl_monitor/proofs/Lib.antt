@@ -8,8 +8,4 @@ pub mod Keeps
 pub mod Coming
 pub mod Errors
 pub mod Ids
-<<<<<<< HEAD
-pub mod Handmade
-=======
 pub mod ReadLines
->>>>>>> 6bfde401ded4cf0a9565db0d25e5f86f6748b373

@@ -79,15 +79,8 @@ impl Model for Monitor {
     ghost use Rattle.bl_monitor.specs.Sound.{heard_of, IsSound};
     ghost use Rattle.std.specs.Arc.{arc_value};
 
-<<<<<<< HEAD
-    ghost use Rattle.std.specs.Arc.{arc_value};
-
     ghost view = { λ m. heard_of (arc_value m.setup) m.places.items };
 
-=======
-    ghost view = { λ m. heard_of (arc_value m.setup) m.places.items };
-
->>>>>>> 6bfde401ded4cf0a9565db0d25e5f86f6748b373
     ghost invariant = { λ m. IsSound (arc_value m.setup) m.contents.items m.places.items };
 }
 
