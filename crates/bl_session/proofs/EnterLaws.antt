@@ -14,6 +14,7 @@ use Rattle.bl_session.specs.Whole.{HasEntered, HasRun}
 use Rattle.bl_session.proofs.OrderLaws.{join}
 use Rattle.bl_session.proofs.EntryLaws.{length-order, order-more, each_more, labelled_child, children_all}
 use Rattle.bl_session.proofs.AnswerLaws.{answered_more, answered_grown, children_told}
+use Rattle.bl_session.proofs.RunLaws.{no_children}
 use Rattle.bl_session.proofs.MachineLaws.{has_run_step}
 
 -- the entry of a place
@@ -97,7 +98,7 @@ module _ (h : Heard) (old : List Entered) (answers : List Answer) (are : AreAnsw
       → 0 ≡ length (children (said h.setup (order_of old) (length answers)).effects)
   next_none next is none =
       let no : is_done (said h.setup (order_of old) (length answers)).answer ≡ false = no_kids (is_done (said h.setup (order_of old) (length answers)).answer) _ (none ∙ told_kids next is) in
-      sym (ap (λ b. length (children (cond b _ []))) no)
+      sym (ap length (no_children h.setup (order_of old) (length answers) no))
 
 -- where children enter the answers stay
 pub answered_entered : (setup : Setup) (h : Heard) (parent n : ℕ) (old now : List Entered) (answers : List Answer) → HasEntered parent n old now

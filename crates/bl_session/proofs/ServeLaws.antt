@@ -1,5 +1,8 @@
 -- What the machine of one worker holds before the first line, and what is asked of it.
-use Rattle.std.proofs.Common.{◌≡◌, ℕ, ◌<◌, ◌≤◌, false, List, [], length, refl, sym, ap, subst, ◌∙◌, arith, slice_index_or, Option, Some, None, IfSome, sum_by}
+use Rattle.std.proofs.Common.{◌≡◌, ℕ, ◌<◌, ◌≤◌, Bool, true, false, inl, List, [], length, refl, sym, ap, subst, ◌∙◌, arith, slice_index_or, Option, Some, None, IfSome, sum_by}
+use mathlib.Core.Path.{fun_ext}
+use Rattle.std.specs.Io.KnownBytes.{Appends}
+use Rattle.std.proofs.KnownBytes.{Appends-nil}
 use Rattle.std.specs.Str.{bytes_eq}
 use Rattle.std.proofs.lemmas.List.Quantifiers.{position-Some}
 use Rattle.bl_level.specs.Table.{place_of}
@@ -16,10 +19,21 @@ use Rattle.bl_session.specs.declared.label.Entered.{Entered}
 use Rattle.bl_session.specs.declared.entries.Pages.{Pages}
 use Rattle.bl_session.specs.declared.turn.Turn.{Turn}
 use Rattle.bl_session.specs.declared.turn.Turn.TheVariants.{Skip, Wait, Greets, Bad, Ask}
+use Rattle.bl_session.specs.declared.fault.SessionFault.{SessionFault}
+use Rattle.bl_session.specs.declared.fault.SessionFault.TheVariants.{Memory}
 use Rattle.bl_session.specs.Turns.{AreServed}
-use Rattle.bl_session.specs.Orders.{AreLater, Mirrors}
+use Rattle.bl_session.specs.Told.{SameUpTo}
+use Rattle.bl_session.specs.Texts.{session_text}
+use Rattle.bl_session.specs.Stages.{Finished, Stopped}
+use Rattle.bl_session.specs.Outcome.{IsServed, IsCutShort}
+use Rattle.bl_session.specs.Replies.{line_text}
+use Rattle.bl_session.specs.Transcript.{transcript}
+use Rattle.bl_session.specs.One.{one_state}
+use Rattle.bl_session.specs.Orders.{told_text, AreLater, Mirrors}
 use Rattle.bl_session.specs.Entries.{order_of, AreLabelled, AreAnswered}
 use Rattle.bl_session.specs.Whole.{AreKnown, IsWhole, Came}
+use Rattle.bl_session.proofs.Cuttings.{cutting_start, broken_after}
+use Rattle.bl_session.proofs.MachineLaws.{one_whole, one_part}
 
 -- ---- nothing has been told
 
@@ -103,3 +117,51 @@ are_served setup agree knows l Wait is = tt
 are_served setup agree knows l (Greets subject) is = subst (λ n. subject < n) agree.subjects (subject_of setup.names is.1.spelled subject is.1.means)
 are_served setup agree knows l (Bad fault) is = tt
 are_served setup agree knows l (Ask work) is = knows _ work is.1
+
+-- ---- what is written
+
+module _ (setup : Setup) (limit : ℕ) (s : Pages) (start rest first kept : Option (List ℕ)) where
+  -- a session that was read to its end
+  pub served_whole : (Settled : ℕ → Type 0) → Finished setup.names start rest first kept (told_text setup (order_of s.entries.items)) Settled (Came setup limit s)
+      → IsServed setup limit start rest first kept
+  served_whole Settled done = record {
+    bytes = done.bytes;
+    turns = done.turns;
+    took = done.took;
+    within = done.within;
+    whole = done.whole;
+    are = done.are;
+    put = subst (λ (f : ℕ → List ℕ). Appends first kept (session_text f done.turns))
+        (fun_ext (one_whole setup limit s.subject (order_of s.entries.items) s.ended done.turns done.came)) done.put;
+  }
+
+  -- a session that ended early
+  pub served_part : (fault : SessionFault) (read_failed write_failed : Bool)
+      → Stopped fault setup.names start rest first kept read_failed write_failed (told_text setup (order_of s.entries.items)) (λ n. AreLater s.ended (order_of s.entries.items) n) (Came setup limit s)
+      → IsCutShort setup limit fault start rest first kept read_failed write_failed
+  served_part fault read_failed write_failed off =
+      let same : SameUpTo off.upto (told_text setup (order_of s.entries.items)) (line_text (one_state setup limit off.heard) 0) =
+      one_part setup limit s.subject (order_of s.entries.items) s.ended off.upto off.settles off.told off.heard off.came off.settled off.told_is in
+      record {
+        turns = off.turns;
+        read = off.read;
+        written = off.written;
+        put = off.put;
+        heard = off.heard;
+        heard_is = off.heard_is;
+        begins = off.begins (line_text (one_state setup limit off.heard) 0) same;
+        closed = λ which. off.closed which (line_text (one_state setup limit off.heard) 0) same;
+      }
+
+-- a session for which memory was refused before it began
+pub unserved : (setup : Setup) (limit : ℕ) (start kept : Option (List ℕ)) (read_failed write_failed : Bool) → IsCutShort setup limit Memory start start kept kept read_failed write_failed
+unserved setup limit start kept read_failed write_failed = record {
+  turns = [];
+  read = broken_after true _ _ _ 16777216 [] (cutting_start setup.names start 16777216 refl) Memory read_failed write_failed tt;
+  written = [];
+  put = Appends-nil kept;
+  heard = [];
+  heard_is = ([], refl);
+  begins = (transcript setup limit [], refl);
+  closed = λ which. inl (tt, refl);
+}

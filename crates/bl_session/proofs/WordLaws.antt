@@ -1,5 +1,5 @@
 -- The texts of labels and outputs, piece by piece, and the order of labels.
-use Rattle.std.proofs.Common.{◌≡◌, ℕ, zero, suc, ◌+◌, ◌<◌, ◌≤◌, Bool, true, false, ◌&&◌, ◌||◌, ◌==◌, List, [], ◌∷◌, ◌++◌, length, take, drop, refl, sym, ap, ◌∙◌, append_assoc, add-one, drop-cons, arith, codes, decimal, slice_index, slice_index_or, nat_lt}
+use Rattle.std.proofs.Common.{◌≡◌, ℕ, zero, suc, ◌+◌, ◌<◌, false, List, [], ◌∷◌, ◌++◌, length, take, drop, refl, sym, ap, ◌∙◌, append_assoc, add-one, arith, codes, decimal, slice_index, nat_lt}
 use Rattle.std.proofs.Math.Seq.{take-suc}
 use Rattle.std.proofs.lemmas.Bool.Decides.{nat_tests}
 use Rattle.bl_session.specs.Replies.{label_text, is_before}
@@ -30,13 +30,6 @@ none_before [] zero = grind (arith, nat_tests)
 none_before [] (suc i) = grind (arith, nat_tests)
 none_before (x ∷ b) zero = grind (arith, nat_tests)
 none_before (x ∷ b) (suc i) = none_before b i ∙ grind (arith, nat_tests)
-
-pub before_first : (m n : ℕ) (a b : List ℕ) → (m == n) ≡ false → is_before (m ∷ a) (n ∷ b) ≡ nat_lt m n
-before_first m n a b e = ap (λ x. nat_lt m n || (x && is_before a b)) e ∙ or_false (nat_lt m n)
-  where
-    or_false : (x : Bool) → (x || false) ≡ x
-    or_false true = refl
-    or_false false = refl
 
 -- the words of a denial, piece by piece
 pub denied_words : (out word subject object : List ℕ)

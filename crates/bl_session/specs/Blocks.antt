@@ -1,5 +1,5 @@
 -- The replies of a block, line by line.
-use Rattle.std.specs.Prelude.{◌≡◌, ℕ, ◌+◌, ◌-◌, ◌<◌, ◌≤◌, true, false, List, ◌∷◌, map, length, slice_index_or, Vec, All}
+use Rattle.std.specs.Prelude.{◌≡◌, ℕ, ◌+◌, ◌<◌, ◌≤◌, true, false, List, ◌∷◌, map, length, slice_index_or, Vec, All}
 use Rattle.std.specs.Global.{Global}
 use Rattle.bl_setup.specs.Order.{Setup}
 use Rattle.bl_session.specs.declared.label.Entered.{Entered}
@@ -16,10 +16,18 @@ pub record IsBlock (entries : List Entered) (first entered : ℕ) : Type 0 where
   pub children : (m : ℕ) (d : Entered) → entered ≤ m → m < length entries → is_line (slice_index_or entries m d).origin ≡ false
   pub below : (m : ℕ) (d : Entered) → first ≤ m → m < length entries → first ≤ (slice_index_or entries m d).line
 
+-- a place before n whose entry stands below the line of a place
+abbrev pub StandsUnder : List Entered → ℕ → ℕ → ℕ → Type 0
+StandsUnder entries n line place = (place < n) × ((d : Entered) → (slice_index_or entries place d).line ≡ line)
+
+-- in the row of each line from a place on stand places before n, of entries below that line
+abbrev pub AreUnder : List Entered → ℕ → ℕ → List (Vec ℕ Global) → Type 0
+AreUnder entries first n kin = (i : ℕ) (v : Vec ℕ Global) → i < length kin → All (StandsUnder entries n (first + i)) (slice_index_or kin i v).items
+
 -- Of each line from this place on, the places of its descendants below n, in order of their labels: with the line's own they
 -- are the places of its replies.
 pub record AreKin (setup : Setup) (entries : List Entered) (first n : ℕ) (kin : List (Vec ℕ Global)) : Type 0 where
-  pub there : (i : ℕ) (v : Vec ℕ Global) → i < length kin → All (λ place. (place < n) × ((d : Entered) → (slice_index_or entries place d).line ≡ first + i)) (slice_index_or kin i v).items
+  pub there : AreUnder entries first n kin
   pub replies : (i : ℕ) (d : Entered) (v : Vec ℕ Global) → i < length kin
       → map (reply_at setup (order_of entries)) ((first + i) ∷ (slice_index_or kin i v).items)
       ≡ replies_to (at_rest setup (order_of entries)) 0 (slice_index_or entries (first + i) d).ordinal n

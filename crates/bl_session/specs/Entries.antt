@@ -1,9 +1,7 @@
 -- The entries that the machine of one worker keeps, as the definitions see them.
-use Rattle.std.specs.Prelude.{◌≡◌, ℕ, zero, suc, ◌+◌, ◌<◌, ◌≤◌, Bool, true, false, List, [], ◌∷◌, ◌++◌, map, length, take, slice_index_or, ⊤, sum_by}
-use Rattle.bl_script.specs.declared.work.Work.{Work}
+use Rattle.std.specs.Prelude.{◌≡◌, ℕ, zero, suc, ◌<◌, ◌≤◌, Bool, true, false, List, [], ◌∷◌, ◌++◌, map, length, take, slice_index_or, ⊤}
 use Rattle.bl_script.specs.declared.answer.Answer.{Answer}
 use Rattle.bl_setup.specs.Order.{Setup, Entry, Line, Child}
-use Rattle.bl_setup.specs.Machine.{entry_weight}
 use Rattle.bl_monitor.specs.Heard.{Heard, KnowsWork, KnowsAnswer}
 use Rattle.bl_monitor.specs.Heard as heard
 use Rattle.bl_monitor.specs.declared.monitor.Entry.TheVariants as told

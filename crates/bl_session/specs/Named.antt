@@ -1,5 +1,5 @@
 -- That what an answer names has a name.
-use Rattle.std.specs.Prelude.{ℕ, ◌<◌, length, IfSome, ⊤}
+use Rattle.std.specs.Prelude.{◌<◌, length, IfSome, ⊤}
 use Rattle.bl_policy.specs.declared.denial.Denial.{Denial}
 use Rattle.bl_script.specs.Names.{KnownNames}
 use Rattle.bl_script.specs.declared.answer.Answer.{Answer}

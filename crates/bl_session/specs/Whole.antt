@@ -1,5 +1,5 @@
 -- How the pages of the machine of one worker stand between two calls.
-use Rattle.std.specs.Prelude.{◌≡◌, ℕ, ◌+◌, ◌-◌, ◌<◌, ◌≤◌, List, ◌++◌, length, slice_index_or, true, false, All, Option, sum_by, IfSome}
+use Rattle.std.specs.Prelude.{◌≡◌, ℕ, ◌-◌, ◌<◌, ◌≤◌, List, ◌++◌, length, slice_index_or, true, false, All, Option, sum_by, IfSome}
 use Rattle.bl_setup.specs.Agreement.{Agree}
 use Rattle.bl_setup.specs.Order.{Setup, Entry}
 use Rattle.bl_setup.specs.Machine.{State, state_after, start, entry_weight}
@@ -48,4 +48,3 @@ pub record IsWhole (setup : Setup) (limit : ℕ) (s : Pages) (n : ℕ) : Type 0 
 abbrev pub Came : Setup → ℕ → Pages → List Told → Type 0
 Came setup limit s told =
     Mirrors setup limit s.subject (order_of s.entries.items) s.ended (state_after (start setup limit) (events_of (start setup limit) told))
-

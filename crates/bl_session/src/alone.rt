@@ -8,6 +8,7 @@ use crate::entries::{Alone, Pages};
 use crate::fault::SessionFault;
 use crate::session::converse;
 use crate::watched::Watched;
+use bl_monitor::laws::read_lines_are_in_the_setup;
 use bl_monitor::monitor::Monitor;
 use bl_setup::setup::Setup;
 use std::alloc::Global;
@@ -42,6 +43,7 @@ pub fn serve_alone<R: BufRead, W: Write>(
         Ok(setup) => setup,
         Err(_) => return Err(SessionFault::Memory),
     };
+    read_lines_are_in_the_setup();
     let behind = Alone {
         alloc,
         setup,

@@ -1,6 +1,6 @@
 //! The machine of one worker. Lines enter an admission order without being run. When a block ends, a monitor answers the
 //! entries by rising place, and the children of an entry enter at its end, behind all that entered before.
-ghost use Rattle.std.specs.Prelude.{◌≡◌, ◌+◌, ◌<◌, ◌≤◌, ◌++◌, ℕ, [], List, All, OnOk, IfOk, None, length};
+ghost use Rattle.std.specs.Prelude.{◌≡◌, ◌+◌, ◌<◌, ◌≤◌, ◌++◌, ℕ, [], List, All, false, OnOk, IfOk, None, length};
 ghost use Rattle.std.specs.Arc.{arc_value};
 ghost use Rattle.bl_script.specs.Effects.{children};
 ghost use Rattle.bl_setup.specs.Machine.{weight_of};

@@ -50,12 +50,7 @@ impl Entered {
     }
 
     /// The which-th child of this entry, which stands at the parent's place.
-    pub fn child(
-        &self,
-        alloc: Global,
-        parent: u32,
-        which: u32,
-    ) -> Result<Entered, AllocError>
+    pub fn child(&self, alloc: Global, parent: u32, which: u32) -> Result<Entered, AllocError>
         ensures origin { IfOk result (λ child. child.origin ≡ origin.Child parent which) }
         ensures line { IfOk result (λ child. child.line ≡ self.now.line) }
         ensures ordinal { IfOk result (λ child. child.ordinal ≡ self.now.ordinal) }
@@ -76,8 +71,14 @@ impl Entered {
         ensures { result ≡ is_line self.now.origin }
     {
         match &self.origin {
-            Origin::Line { subject: _, work: _ } => true,
-            Origin::Child { parent: _, which: _ } => false,
+            Origin::Line {
+                subject: _,
+                work: _,
+            } => true,
+            Origin::Child {
+                parent: _,
+                which: _,
+            } => false,
         }
     }
 }

@@ -1,4 +1,4 @@
-use Rattle.std.proofs.Common.{◌≡◌, ◌++◌, take, codes, flat_map}
+use Rattle.std.proofs.Common.{◌≡◌, ◌++◌, take, flat_map}
 use Rattle.bl_session.specs.Replies.{output_text}
 use Rattle.bl_session.proofs.words.push_done.Given as goal
 

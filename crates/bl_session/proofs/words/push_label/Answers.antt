@@ -1,4 +1,4 @@
-use Rattle.std.proofs.Common.{rules, ◌∙◌, ap, sym, ◌++◌, ◌∷◌, [], ◌<◌, length, arith, codes, decimal, slice_index}
+use Rattle.std.proofs.Common.{◌∙◌, ap, sym, ◌++◌, ◌<◌, length, arith, codes, decimal, slice_index}
 use Rattle.bl_session.proofs.WordLaws.{label-step}
 use Rattle.bl_session.proofs.words.push_label.Goals as goal
 
