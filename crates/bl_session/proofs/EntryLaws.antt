@@ -1,12 +1,11 @@
 -- Laws of the entries that the machine of one worker keeps.
-use Rattle.std.proofs.Common.{◌≡◌, ◌≢◌, ℕ, zero, suc, ◌+◌, ◌<◌, ◌≤◌, Bool, true, false, ◌==◌, List, [], ◌∷◌, ◌++◌, map, length, refl, sym, ap, subst, ◌∙◌, arith, inl, inr, ◌⊎◌, slice_index_or, true≢false, zero-add, length-append}
+use Rattle.std.proofs.Common.{◌≡◌, ℕ, suc, ◌+◌, ◌<◌, ◌≤◌, true, false, ◌==◌, List, [], ◌∷◌, ◌++◌, length, refl, sym, ap, subst, ◌∙◌, arith, inl, inr, ◌⊎◌, slice_index_or, true≢false, zero-add}
 use Rattle.std.proofs.Math.ListN.{get_or-append}
 use Rattle.std.proofs.lemmas.List.{get_or_push, map-append}
 use Rattle.std.proofs.lemmas.Bool.Decides.{eqb_tells}
 use Rattle.bl_script.specs.declared.work.Work.{Work}
-use Rattle.bl_setup.specs.Order.{Setup, Entry, Line, Child}
+use Rattle.bl_setup.specs.Order.{Entry, Child}
 use Rattle.bl_setup.specs.Machine.{child_entries}
-use Rattle.bl_session.specs.declared.label.Origin.{Origin}
 use Rattle.bl_session.specs.declared.label.Origin.TheVariants as origin
 use Rattle.bl_session.specs.declared.label.Entered.{Entered}
 use Rattle.bl_session.specs.Replies.{Tag, tag}
