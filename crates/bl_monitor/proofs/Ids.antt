@@ -1,6 +1,6 @@
 -- The ids that an answer names are in the setup.
-use Rattle.std.proofs.Common.{ℕ, zero, suc, ◌<◌, Bool, true, false, cond, List, [], ◌∷◌, length, get_or, arith}
-use Rattle.std.specs.Prelude.{All, IfSome, Option, Some, None, ⊤}
+use Rattle.std.proofs.Common.{ℕ, zero, suc, ◌<◌, Bool, true, false, cond, List, [], ◌∷◌, length, arith}
+use Rattle.std.specs.Prelude.{All, IfSome, Option, Some, None}
 use Rattle.bl_policy.specs.Policy.{SecurityPolicy}
 use Rattle.bl_policy.specs.Properties.{is_simple, is_star, is_discretionary}
 use Rattle.bl_policy.specs.FirstFault.{denied, fault_of, fault_or, first_fault}
@@ -8,8 +8,8 @@ use Rattle.bl_policy.specs.declared.access.Access.{Access}
 use Rattle.bl_policy.specs.declared.denial.Clause.TheVariants as failing
 use Rattle.bl_policy.specs.declared.denial.Denial.{Denial}
 use Rattle.bl_script.specs.Effects.{Effect}
-use Rattle.bl_setup.specs.Order.{Setup, Task}
-use Rattle.bl_setup.specs.Past.{answer_of, granted}
+use Rattle.bl_setup.specs.Order.{Setup}
+use Rattle.bl_setup.specs.Past.{answer_of}
 use Rattle.bl_script.specs.Statements.{Part}
 use Rattle.bl_setup.specs.Order.{Runs}
 use Rattle.bl_monitor.specs.Heard.{KnowsDenial, KnowsAnswer}

@@ -8,4 +8,4 @@ pub mod Keeps
 pub mod Coming
 pub mod Errors
 pub mod Ids
-pub mod Handmade
+pub mod ReadLines

@@ -3,6 +3,7 @@
 #![tactic(auto)]
 
 mod judge;
+pub mod laws;
 pub mod monitor;
 mod place;
 mod run;

@@ -77,7 +77,6 @@ impl Model for Monitor {
     ghost coded = { Prim.hlevel (codes, matrix_code, coded_entry) };
 
     ghost use Rattle.bl_monitor.specs.Sound.{heard_of, IsSound};
-
     ghost use Rattle.std.specs.Arc.{arc_value};
 
     ghost view = { λ m. heard_of (arc_value m.setup) m.places.items };

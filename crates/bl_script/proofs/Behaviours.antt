@@ -24,12 +24,12 @@ use Rattle.bl_script.specs.WhenFaults.{lists_in, documents_in, names_in, Declara
 
 module _ {X : Type 0} (P : X → Type 0) where
   -- what holds of all holds of the front
-  all_left : (xs ys : List X) → All P (xs ++ ys) → All P xs
+  pub all_left : (xs ys : List X) → All P (xs ++ ys) → All P xs
   all_left [] ys h = All-nil P
   all_left (x ∷ xs) ys h = All-cons P x xs (All-head P x (xs ++ ys) h) (all_left xs ys (All-tail P x (xs ++ ys) h))
 
   -- what holds of all holds of what stands behind
-  all_right : (xs ys : List X) → All P (xs ++ ys) → All P ys
+  pub all_right : (xs ys : List X) → All P (xs ++ ys) → All P ys
   all_right [] ys h = h
   all_right (x ∷ xs) ys h = all_right xs ys (All-tail P x (xs ++ ys) h)
 
@@ -142,13 +142,18 @@ first_within p (x ∷ xs) (suc k) d lt h = go (p x) (first_within p xs k d (omeg
     go false deeper = omega arith
 
 module _ (documents : List (List ℕ)) where
-  -- the place of a name that stands there has the name
-  at_place : (a : List ℕ) → Contains documents a → get_or documents (unwrap_or (place_of a documents) 0) [] ≡ a
-  at_place a (k, lt, at) =
+  -- a name that stands there has a place, which is before the end
+  pub has_place : (a : List ℕ) → Contains documents a
+      → (place_of a documents ≡ Some (position_or_len (bytes_eq a) documents)) × (position_or_len (bytes_eq a) documents < length documents)
+  has_place a (k, lt, at) =
       let itself : bytes_eq a a ≡ true = let d = bytes_eq-Decides a a in grind (arith, d) in
       let within = first_within (bytes_eq a) documents k a lt (ap (bytes_eq a) at ∙ itself) in
-      let place : place_of a documents ≡ Some (position_or_len (bytes_eq a) documents) =
-      ap (λ b. cond b (Some (position_or_len (bytes_eq a) documents)) None) (lt-ltb _ _ within) in
+      (ap (λ b. cond b (Some (position_or_len (bytes_eq a) documents)) None) (lt-ltb _ _ within), within)
+
+  -- the place of a name that stands there has the name
+  at_place : (a : List ℕ) → Contains documents a → get_or documents (unwrap_or (place_of a documents) 0) [] ≡ a
+  at_place a there =
+      let place = (has_place a there).0 in
       let found = position-Some (bytes_eq a) documents (position_or_len (bytes_eq a) documents) [] place in
       ap (λ o. get_or documents (unwrap_or o 0) []) place ∙ sym (same_bytes a _ found.1)
 

@@ -29,3 +29,4 @@ pub mod WhenFaults
 pub mod Declared
 pub mod Few
 pub mod Uses
+pub mod KnownLines

@@ -27,5 +27,6 @@ pub mod Machine
 pub mod Parsing
 pub mod Reading
 pub mod LineGrammar
+pub mod KnownLine
 pub mod LineFaults
 pub mod Building

@@ -9,6 +9,7 @@ ghost use Rattle.bl_script.specs.Grammar.{when, spell};
 ghost use Rattle.bl_script.specs.RawBodies.{raw_access};
 ghost use Rattle.bl_script.specs.RawView.{raw_view};
 ghost use Rattle.bl_script.specs.Reading.{HasContents};
+ghost use Rattle.bl_script.specs.KnownLine.{IsKnownLine};
 ghost use Rattle.bl_script.specs.LineGrammar.{Means, LineOf};
 ghost use Rattle.bl_script.specs.LineFaults.{IsFaultOrMemory, IsLineFault, IsWantOfMemory};
 
@@ -136,3 +137,8 @@ pub fn one_answer()
     one_fault();
     one_when_fault();
 }
+
+/// A line that is read speaks of known subjects and documents alone.
+pub fn read_lines_are_known()
+    ensures { (names : KnownNames) (bytes : List ℕ) (line : AskedLine) → LineOf names bytes line → IsKnownLine names line }
+{}

@@ -1,7 +1,8 @@
 -- What the machine of one worker holds before the first line, and what is asked of it.
-use Rattle.std.proofs.Common.{◌≡◌, ℕ, ◌<◌, ◌≤◌, Bool, false, List, [], length, refl, sym, ap, subst, ◌∙◌, arith, slice_index_or, Option, Some, None, IfSome, sum_by}
+use Rattle.std.proofs.Common.{◌≡◌, ℕ, ◌<◌, Bool, true, inl, List, [], length, refl, sym, ap, subst, ◌∙◌, arith, Option, Some, None, IfSome, sum_by}
 use mathlib.Core.Path.{fun_ext}
 use Rattle.std.specs.Io.KnownBytes.{Appends}
+use Rattle.std.proofs.KnownBytes.{Appends-nil}
 use Rattle.std.specs.Str.{bytes_eq}
 use Rattle.std.proofs.lemmas.List.Quantifiers.{position-Some}
 use Rattle.bl_level.specs.Table.{place_of}
@@ -12,23 +13,24 @@ use Rattle.bl_script.specs.Grammar.{SpelledLine, hello, wait, when}
 use Rattle.bl_script.specs.LineGrammar.{Means, LineOf}
 use Rattle.bl_setup.specs.Agreement.{Agree}
 use Rattle.bl_setup.specs.Order.{Setup}
-use Rattle.bl_setup.specs.Machine.{State, start, entry_weight}
+use Rattle.bl_setup.specs.Machine.{start, entry_weight}
 use Rattle.bl_monitor.specs.Heard.{Heard, KnowsWork}
-use Rattle.bl_session.specs.declared.label.Entered.{Entered}
 use Rattle.bl_session.specs.declared.entries.Pages.{Pages}
-use Rattle.bl_session.specs.declared.turn.Turn.{Turn}
 use Rattle.bl_session.specs.declared.turn.Turn.TheVariants.{Skip, Wait, Greets, Bad, Ask}
 use Rattle.bl_session.specs.declared.fault.SessionFault.{SessionFault}
+use Rattle.bl_session.specs.declared.fault.SessionFault.TheVariants.{Memory}
 use Rattle.bl_session.specs.Turns.{AreServed}
 use Rattle.bl_session.specs.Told.{SameUpTo}
 use Rattle.bl_session.specs.Texts.{session_text}
 use Rattle.bl_session.specs.Stages.{Finished, Stopped}
 use Rattle.bl_session.specs.Outcome.{IsServed, IsCutShort}
 use Rattle.bl_session.specs.Replies.{line_text}
+use Rattle.bl_session.specs.Transcript.{transcript}
 use Rattle.bl_session.specs.One.{one_state}
 use Rattle.bl_session.specs.Orders.{told_text, AreLater, Mirrors}
 use Rattle.bl_session.specs.Entries.{order_of, AreLabelled, AreAnswered}
 use Rattle.bl_session.specs.Whole.{AreKnown, IsWhole, Came}
+use Rattle.bl_session.proofs.Cuttings.{cutting_start, broken_after}
 use Rattle.bl_session.proofs.MachineLaws.{one_whole, one_part}
 
 -- ---- nothing has been told
@@ -148,3 +150,16 @@ module _ (setup : Setup) (limit : ℕ) (s : Pages) (start rest first kept : Opti
         begins = off.begins (line_text (one_state setup limit off.heard) 0) same;
         closed = λ which. off.closed which (line_text (one_state setup limit off.heard) 0) same;
       }
+
+-- a session for which memory was refused before it began
+pub unserved : (setup : Setup) (limit : ℕ) (start kept : Option (List ℕ)) (read_failed write_failed : Bool) → IsCutShort setup limit Memory start start kept kept read_failed write_failed
+unserved setup limit start kept read_failed write_failed = record {
+  turns = [];
+  read = broken_after true _ _ _ 16777216 [] (cutting_start setup.names start 16777216 refl) Memory read_failed write_failed tt;
+  written = [];
+  put = Appends-nil kept;
+  heard = [];
+  heard_is = ([], refl);
+  begins = (transcript setup limit [], refl);
+  closed = λ which. inl (tt, refl);
+}

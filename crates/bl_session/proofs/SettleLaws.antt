@@ -3,7 +3,7 @@ use Rattle.std.proofs.Common.{◌≡◌, ℕ, suc, ◌+◌, ◌-◌, ◌<◌, �
 use Rattle.std.specs.Global.{Global}
 use Rattle.std.proofs.Math.ListN.{get_or-append}
 use Rattle.std.proofs.lemmas.List.{map-append}
-use Rattle.std.proofs.lemmas.List.Sums.{sum_by-append}
+use Rattle.std.proofs.lemmas.List.Sums.{sum_by-append, sum_by-cons}
 use Rattle.std.proofs.lemmas.List.Elements.{All-head, All-tail}
 use Rattle.std.proofs.lemmas.Bool.Decides.{nat_tests}
 use Rattle.bl_script.specs.declared.answer.Answer.{Answer}
@@ -14,16 +14,15 @@ use Rattle.bl_session.specs.declared.label.Origin.{Origin}
 use Rattle.bl_session.specs.declared.label.Origin.TheVariants as origin
 use Rattle.bl_session.specs.declared.label.Entered.{Entered}
 use Rattle.bl_session.specs.declared.entries.Pages.{Pages}
-use Rattle.bl_session.specs.Told.{Told, Settles, SameUpTo}
+use Rattle.bl_session.specs.Told.{Told, Settles}
 use Rattle.bl_session.specs.One.{run_from, events_of}
-use Rattle.bl_session.specs.Replies.{tag}
-use Rattle.bl_session.specs.Orders.{told_text, AreLater, Mirrors, ordinal_of}
-use Rattle.bl_session.specs.Entries.{entry_from, entry_of, order_of, is_line, tag_of, Each, StandsBelow, AreLabelled, AreAnswered}
-use Rattle.bl_session.specs.Whole.{AreKnown, HasRun, IsWhole, Came}
+use Rattle.bl_session.specs.Orders.{AreLater, Mirrors, ordinal_of}
+use Rattle.bl_session.specs.Entries.{entry_from, entry_of, order_of, is_line, Each, StandsBelow, AreLabelled, AreAnswered}
+use Rattle.bl_session.specs.Whole.{AreKnown, HasRun, IsWhole}
 use Rattle.bl_session.specs.Blocks.{IsBlock, SplitsAt}
 use Rattle.bl_session.proofs.EntryLaws.{length-order}
 use Rattle.bl_session.proofs.RunLaws.{GoesOn, goes_run, mirror_goes, some_state, some_mirrors}
-use Rattle.bl_session.proofs.MachineLaws.{ran_to, settle_came, settle_same, came_more}
+use Rattle.bl_session.proofs.MachineLaws.{ran_to, settle_came, came_more}
 
 get_behind : (A B : List Entered) (k : ℕ) (d : Entered) → slice_index_or (A ++ B) (length A + k) d ≡ slice_index_or B k d
 get_behind [] B k d = ap (λ i. slice_index_or B i d) (omega arith)
@@ -32,15 +31,16 @@ get_behind (x ∷ A) B k d =
     ap (λ i. slice_index_or (x ∷ (A ++ B)) i d) e ∙ get_behind A B k d
 
 weightless : (o : Origin) (ordinal : ℕ) → is_line o ≡ false → entry_weight (entry_from o ordinal) ≡ 0
-weightless (origin.Line subject work) ordinal no = absurd (true≢false no)
-weightless (origin.Child parent which) ordinal no = refl
+weightless (origin.Line subject work) ordinal other = absurd (true≢false other)
+weightless (origin.Child parent which) ordinal other = refl
 
 no_weight : (more : List Entered) → All (λ (e : Entered). is_line e.origin ≡ false) more → sum_by entry_weight (order_of more) ≡ 0
 no_weight [] none = refl
 no_weight (e ∷ more) none =
     let first : entry_weight (entry_of e) ≡ 0 = weightless e.origin e.ordinal (All-head (λ (e : Entered). is_line e.origin ≡ false) e more none) in
     let rest : sum_by entry_weight (order_of more) ≡ 0 = no_weight more (All-tail (λ (e : Entered). is_line e.origin ≡ false) e more none) in
-    omega (arith, first, rest)
+    let both : sum_by entry_weight (order_of (e ∷ more)) ≡ entry_weight (entry_of e) + sum_by entry_weight (order_of more) = sum_by-cons entry_weight (entry_of e) (order_of more) in
+    both ∙ ap (λ k. k + sum_by entry_weight (order_of more)) first ∙ ap (λ k. 0 + k) rest
 
 -- a run of the places from e on leaves those behind them below later lines
 pub settle_later : (setup : Setup) (limit : ℕ) (A B : List Entry) (e t n : ℕ) → HasRun setup limit A e B t → t ≡ length B → e ≤ length A → AreLater e A n → AreLater e B n
@@ -77,14 +77,14 @@ module _ (setup : Setup) (limit : ℕ) (s : Pages) (n : ℕ) (w : IsWhole setup 
 
   -- a line stands among the old entries
   line_old : (p : ℕ) (d : Entered) → p < length now → is_line (slice_index_or now p d).origin ≡ true → p < length old
-  line_old p d lt yes = go (nat_lt p (length old)) refl
+  line_old p d lt line = go (nat_lt p (length old)) refl
     where
       not_old : nat_lt p (length old) ≡ false → length old ≤ p
       not_old e = grind (arith, nat_tests)
 
       go : (b : Bool) → nat_lt p (length old) ≡ b → p < length old
       go true e = ltb-true p (length old) e
-      go false e = absurd (true≢false (sym yes ∙ behind p d (not_old e) lt))
+      go false e = absurd (true≢false (sym line ∙ behind p d (not_old e) lt))
 
   -- of the line that a place stands below
   home : (p : ℕ) (d : Entered) → p < length now → (slice_index_or now p d).line < length old
@@ -160,3 +160,15 @@ pub settled_came : (setup : Setup) (limit : ℕ) (subject : Option ℕ) (A B : L
 settled_came setup limit subject A B e t run all le told came =
     came_more setup limit subject B t told (Settles ∷ [])
     (settle_came setup limit subject A B e t (state_after (start setup limit) (events_of (start setup limit) told)) came run all le)
+
+-- the entries that had ended stand among the old ones
+pub ended_before : (setup : Setup) (limit : ℕ) (s : Pages) (n : ℕ) → IsWhole setup limit s n → s.ended ≤ length (order_of s.entries.items)
+ended_before setup limit s n w = omega (arith, w.ended, w.answered.few)
+
+-- all places have run
+pub ran_all : (setup : Setup) (limit : ℕ) (s : Pages) (n : ℕ) → IsWhole setup limit s n → (own : Setup) (now : List Entered) (t : ℕ) → own ≡ setup → t ≡ length now
+    → HasRun own limit (order_of s.entries.items) (length s.answers.items) (order_of now) t → HasRun setup limit (order_of s.entries.items) s.ended (order_of now) (length (order_of now))
+ran_all setup limit s n w own now t same all run =
+    subst (λ (k : Setup). HasRun k limit (order_of s.entries.items) s.ended (order_of now) (length (order_of now))) same
+    (subst (λ k. HasRun own limit (order_of s.entries.items) k (order_of now) (length (order_of now))) (sym w.ended)
+    (subst (HasRun own limit (order_of s.entries.items) (length s.answers.items) (order_of now)) (all ∙ sym (length-order now)) run))
