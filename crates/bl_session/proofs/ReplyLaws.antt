@@ -8,7 +8,7 @@ use Rattle.std.proofs.lemmas.Grind.{flat_map-append}
 use Rattle.std.proofs.lemmas.Bool.Decides.{nat_tests}
 use Rattle.bl_script.specs.Names.{KnownNames}
 use Rattle.bl_script.specs.declared.answer.Answer.{Answer}
-use Rattle.bl_script.specs.declared.answer.Answer.TheVariants.{Done, Denied, Lost}
+use Rattle.bl_script.specs.declared.answer.Answer.TheVariants.{Done, RuleDone, Denied, Lost}
 use Rattle.bl_setup.specs.Agreement.{Agree}
 use Rattle.bl_setup.specs.Order.{Setup}
 use Rattle.bl_monitor.specs.Heard.{KnowsAnswer}
@@ -38,6 +38,7 @@ names_answer setup agree (Denied denial) known = record {
   subject = omega (arith, known.subject, agree.subjects);
   object = named_object setup agree denial.object known.object;
 }
+names_answer setup agree RuleDone known = tt
 names_answer setup agree Lost known = tt
 
 -- ---- texts

@@ -3,7 +3,7 @@ use Rattle.std.specs.Prelude.{◌<◌, length, IfSome, ⊤}
 use Rattle.bl_policy.specs.declared.denial.Denial.{Denial}
 use Rattle.bl_script.specs.Names.{KnownNames}
 use Rattle.bl_script.specs.declared.answer.Answer.{Answer}
-use Rattle.bl_script.specs.declared.answer.Answer.TheVariants.{Done, Denied, Lost}
+use Rattle.bl_script.specs.declared.answer.Answer.TheVariants.{Done, RuleDone, Denied, Lost}
 
 -- the subject and the document of a denial have names
 pub record NamesDenial (names : KnownNames) (denial : Denial) : Type 0 where
@@ -12,5 +12,6 @@ pub record NamesDenial (names : KnownNames) (denial : Denial) : Type 0 where
 
 abbrev pub NamesAnswer : KnownNames → Answer → Type 0
 NamesAnswer names (Done outputs) = ⊤
+NamesAnswer names RuleDone = ⊤
 NamesAnswer names (Denied denial) = NamesDenial names denial
 NamesAnswer names Lost = ⊤

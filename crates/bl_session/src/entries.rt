@@ -51,6 +51,7 @@ fn weight_of(work: &Work) -> u32
 {
     match work {
         Work::Behaviour(script) => script.weight() as u32,
+        Work::Rule(_) => 1,
     }
 }
 

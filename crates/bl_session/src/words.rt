@@ -78,6 +78,7 @@ pub fn push_reply(
     match answer {
         Answer::Done(outputs) => push_done(out, names, outputs)?,
         Answer::Denied(denial) => push_denied(out, names, denial)?,
+        Answer::RuleDone => out.extend_from_slice(b" done")?,
         Answer::Lost => out.extend_from_slice(b" lost")?,
     }
     out.extend_from_slice(b"\n")
