@@ -1,9 +1,9 @@
 -- Tokens spell one line, and those of a line have no fault.
-use Rattle.std.proofs.Common.{◌≡◌, ◌≢◌, ℕ, List, [], ◌∷◌, ◌++◌, Some, None, refl, sym, ap, subst, ◌∙◌, append_assoc}
+use Rattle.std.proofs.Common.{◌≡◌, ℕ, List, [], ◌∷◌, ◌++◌, refl, sym, ap, subst, ◌∙◌, append_assoc}
 use Rattle.std.proofs.lemmas.List.{append-nil}
-use Rattle.bl_level.specs.declared.token.Keyword.TheVariants.{When, Do, End, Else, Spawn}
+use Rattle.bl_level.specs.declared.token.Keyword.TheVariants.{Do, End, Else}
 use Rattle.bl_level.specs.declared.token.Sign.TheVariants.{Comma, Semicolon}
-use Rattle.bl_level.specs.Token.{Tok, reserved, name, text, sign}
+use Rattle.bl_level.specs.Token.{Tok, reserved, sign}
 use Rattle.bl_level.specs.Name.{AreProper}
 use Rattle.bl_policy.specs.declared.access.Mode.{Mode}
 use Rattle.bl_policy.specs.declared.access.Mode.TheVariants.{Read, Append, Write}
@@ -12,7 +12,6 @@ use Rattle.bl_script.specs.declared.script.Condition.TheVariants.{Is, Has}
 use Rattle.bl_script.specs.Spelled.{SpelledAccess, SpelledBody, empty, show, say, add, set, copy, pour, if_then, if_else, spawn, mode_word, asks_word, spell_access, spell_more, spell_body}
 use Rattle.bl_script.specs.Grammar.{SpelledLine, hello, wait, when, spell}
 use Rattle.bl_script.specs.Fault.{Blocks, FirstFault}
-use Rattle.bl_script.specs.Machine.{statement_due}
 use Rattle.bl_script.specs.Parsing.{BeginsNone, IsNotAt}
 use Rattle.bl_script.proofs.Lists.{proper_behind}
 use Rattle.bl_script.proofs.Theory.{more_append}
