@@ -196,6 +196,7 @@ impl Monitor {
         ensures err { OnErr result (self.new ≡ self.old) }
     {
         let admitted = admit(&self.places, entry)?;
+        // asked for the proof alone: the behaviours are a script, as those of each kept place
         let _weight = admitted.script.weight();
         let judged = judge(self.alloc, self.setup.policy(), &self.contents, &admitted)?;
         self.places.reserve(1)?;
