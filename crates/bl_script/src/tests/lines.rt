@@ -16,7 +16,7 @@ fn named(bytes: &[u8]) -> Result<Name, Fail> {
     }
 }
 
-fn no_names(alloc: Global) -> Result<Names, Fail> {
+pub(super) fn no_names(alloc: Global) -> Result<Names, Fail> {
     Ok(Names::new(alloc, Scheme::new(alloc, &[named(b"u")?], &[])?)?)
 }
 
@@ -25,7 +25,7 @@ fn add_subject(names: &mut Names, name: &[u8]) -> Result<(), Fail> {
     Ok(())
 }
 
-fn add_document(names: &mut Names, name: &[u8]) -> Result<(), Fail> {
+pub(super) fn add_document(names: &mut Names, name: &[u8]) -> Result<(), Fail> {
     names.add_document(named(name)?)?;
     Ok(())
 }
