@@ -31,7 +31,7 @@ pub(super) fn add_document(names: &mut Names, name: &[u8]) -> Result<(), Fail> {
 }
 
 /// The subjects ann and bob, and the documents memo, note and log.
-fn known_names(alloc: Global) -> Result<Names, Fail> {
+pub(super) fn known_names(alloc: Global) -> Result<Names, Fail> {
     let mut names = no_names(alloc)?;
     add_subject(&mut names, b"ann")?;
     add_subject(&mut names, b"bob")?;
