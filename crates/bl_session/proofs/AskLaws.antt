@@ -1,11 +1,11 @@
 -- Laws of a line that is asked for: how it changes the pages of the machine, and that it changes no reply.
-use Rattle.std.proofs.Common.{◌≡◌, ℕ, suc, ◌+◌, ◌<◌, ◌≤◌, true, false, List, [], ◌∷◌, ◌++◌, length, refl, sym, ap, subst, ◌∙◌, arith, slice_index_or, Option, Some, None, IfSome, nat_le, sum_by, Vec}
+use Rattle.std.proofs.Common.{◌≡◌, ℕ, ◌+◌, ◌<◌, ◌≤◌, true, false, List, [], ◌∷◌, ◌++◌, length, refl, sym, ap, subst, ◌∙◌, arith, slice_index_or, Option, Some, IfSome, nat_le, sum_by, Vec}
 use Rattle.std.specs.Global.{Global}
 use Rattle.std.proofs.Math.ListN.{get_or-append}
 use Rattle.std.proofs.lemmas.List.Sums.{sum_by_push}
 use Rattle.std.proofs.lemmas.Bool.Decides.{nat_tests}
 use Rattle.bl_script.specs.declared.work.Work.{Work}
-use Rattle.bl_setup.specs.Order.{Setup, Entry, Line}
+use Rattle.bl_setup.specs.Order.{Setup, Line}
 use Rattle.bl_setup.specs.Machine.{State, state_after, start, weight_of, entry_weight}
 use Rattle.bl_monitor.specs.Heard.{KnowsWork}
 use Rattle.bl_session.specs.declared.label.Origin.TheVariants as origin
@@ -17,7 +17,7 @@ use Rattle.bl_session.specs.Orders.{told_text, AreLater, Mirrors}
 use Rattle.bl_session.specs.Entries.{entry_from, entry_of, order_of, is_line, KnowsOrigin, Each, AreLabelled, AreAnswered}
 use Rattle.bl_session.specs.Whole.{AreKnown, IsWhole, Came}
 use Rattle.bl_session.proofs.OrderLaws.{later-line, text-later}
-use Rattle.bl_session.proofs.EntryLaws.{length-order, order-more, longer_by_one, each_more, each_map, labelled_line}
+use Rattle.bl_session.proofs.EntryLaws.{length-order, order-more, longer_by_one, each_more, labelled_line}
 use Rattle.bl_session.proofs.AnswerLaws.{answered_grown}
 use Rattle.bl_session.proofs.MachineLaws.{ask_came, full_came, came_more}
 
@@ -110,10 +110,11 @@ module _ (setup : Setup) (limit : ℕ) (s : Pages) (n : ℕ) (w : IsWhole setup 
   pub asked_settled : (m : ℕ) → m < ordinal → AreLater s.ended (order_of old) m
       → AreLater s.ended (order_of es.items) m × SameUpTo m (told_text setup (order_of old)) (told_text setup (order_of es.items))
   asked_settled m lt later =
-      subst (λ o. AreLater s.ended o m × SameUpTo m (told_text setup (order_of old)) (told_text setup o)) (sym asked_order)
-      (later-line (order_of old) s.ended ordinal subject m work later lt,
-      text-later setup (order_of old) (Line 0 ordinal subject work ∷ []) m
-      (later-line (order_of old) (length (order_of old)) ordinal subject m work (λ p low high. absurd (omega (arith, low, high))) lt))
+      subst (λ o. AreLater s.ended o m × SameUpTo m (told_text setup (order_of old)) (told_text setup o)) (sym asked_order) (
+        later-line (order_of old) s.ended ordinal subject m work later lt,
+        text-later setup (order_of old) (Line 0 ordinal subject work ∷ []) m
+            (later-line (order_of old) (length (order_of old)) ordinal subject m work (λ p low high. absurd (omega (arith, low, high))) lt),
+      )
 
 -- a line for which there is no room
 pub refused_came : (setup : Setup) (limit : ℕ) (s : Pages) (n : ℕ) → IsWhole setup limit s n → (ordinal : ℕ) (work : Work) → limit < s.weight + weight_of work → (told : List Told) → Came setup limit s told

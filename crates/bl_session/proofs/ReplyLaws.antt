@@ -1,17 +1,16 @@
 -- Laws of the replies to a line: which places are answered, what their replies are, and which lines have none.
-use Rattle.std.proofs.Common.{◌≡◌, ◌≢◌, ℕ, zero, suc, ◌+◌, ◌-◌, ◌<◌, ◌≤◌, Bool, true, false, List, [], ◌∷◌, ◌++◌, map, length, take, take_all, refl, sym, ap, subst, ◌∙◌, arith, add-one, append-nil, slice_index_or, Option, Some, None, IfSome, nat_lt, ltb-true, true≢false, Vec, codes}
+use Rattle.std.proofs.Common.{◌≡◌, ◌≢◌, ℕ, ◌+◌, ◌-◌, ◌<◌, ◌≤◌, Bool, true, false, List, [], ◌∷◌, ◌++◌, map, length, take, take_all, refl, sym, ap, subst, ◌∙◌, arith, add-one, append-nil, slice_index_or, Option, Some, None, IfSome, nat_lt, ltb-true, true≢false, Vec, codes}
 use Rattle.std.specs.Global.{Global}
 use Rattle.std.specs.List.{flat_map}
 use Rattle.std.proofs.Math.Seq.{take-suc}
 use Rattle.std.proofs.lemmas.List.{map-append}
 use Rattle.std.proofs.lemmas.Grind.{flat_map-append}
 use Rattle.std.proofs.lemmas.Bool.Decides.{nat_tests}
-use Rattle.bl_policy.specs.declared.denial.Denial.{Denial}
 use Rattle.bl_script.specs.Names.{KnownNames}
 use Rattle.bl_script.specs.declared.answer.Answer.{Answer}
 use Rattle.bl_script.specs.declared.answer.Answer.TheVariants.{Done, Denied, Lost}
 use Rattle.bl_setup.specs.Agreement.{Agree}
-use Rattle.bl_setup.specs.Order.{Setup, Entry}
+use Rattle.bl_setup.specs.Order.{Setup}
 use Rattle.bl_monitor.specs.Heard.{KnowsAnswer}
 use Rattle.bl_session.specs.declared.label.Entered.{Entered}
 use Rattle.bl_session.specs.declared.entries.Pages.{Pages}
@@ -20,7 +19,7 @@ use Rattle.bl_session.specs.Texts.{refusal}
 use Rattle.bl_session.specs.Named.{NamesAnswer}
 use Rattle.bl_session.specs.Replies.{Reply, Tag, tag, reply_text, replies_to, line_or_full}
 use Rattle.bl_session.specs.Orders.{reply_at, at_rest, told_text, ordinal_of, AreLater}
-use Rattle.bl_session.specs.Entries.{order_of, is_line, StandsBelow}
+use Rattle.bl_session.specs.Entries.{order_of, StandsBelow}
 use Rattle.bl_session.specs.Whole.{IsWhole}
 use Rattle.bl_session.specs.Blocks.{IsBlock, AreKin, NoLine, Gives}
 use Rattle.bl_session.proofs.OrderLaws.{replies-other}

@@ -1,5 +1,5 @@
 -- What the machine of one worker holds before the first line, and what is asked of it.
-use Rattle.std.proofs.Common.{◌≡◌, ℕ, ◌<◌, ◌≤◌, Bool, true, false, inl, List, [], length, refl, sym, ap, subst, ◌∙◌, arith, slice_index_or, Option, Some, None, IfSome, sum_by}
+use Rattle.std.proofs.Common.{◌≡◌, ℕ, ◌<◌, Bool, true, inl, List, [], length, refl, sym, ap, subst, ◌∙◌, arith, Option, Some, None, IfSome, sum_by}
 use mathlib.Core.Path.{fun_ext}
 use Rattle.std.specs.Io.KnownBytes.{Appends}
 use Rattle.std.proofs.KnownBytes.{Appends-nil}
@@ -13,11 +13,9 @@ use Rattle.bl_script.specs.Grammar.{SpelledLine, hello, wait, when}
 use Rattle.bl_script.specs.LineGrammar.{Means, LineOf}
 use Rattle.bl_setup.specs.Agreement.{Agree}
 use Rattle.bl_setup.specs.Order.{Setup}
-use Rattle.bl_setup.specs.Machine.{State, start, entry_weight}
+use Rattle.bl_setup.specs.Machine.{start, entry_weight}
 use Rattle.bl_monitor.specs.Heard.{Heard, KnowsWork}
-use Rattle.bl_session.specs.declared.label.Entered.{Entered}
 use Rattle.bl_session.specs.declared.entries.Pages.{Pages}
-use Rattle.bl_session.specs.declared.turn.Turn.{Turn}
 use Rattle.bl_session.specs.declared.turn.Turn.TheVariants.{Skip, Wait, Greets, Bad, Ask}
 use Rattle.bl_session.specs.declared.fault.SessionFault.{SessionFault}
 use Rattle.bl_session.specs.declared.fault.SessionFault.TheVariants.{Memory}

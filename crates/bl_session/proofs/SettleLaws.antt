@@ -14,16 +14,15 @@ use Rattle.bl_session.specs.declared.label.Origin.{Origin}
 use Rattle.bl_session.specs.declared.label.Origin.TheVariants as origin
 use Rattle.bl_session.specs.declared.label.Entered.{Entered}
 use Rattle.bl_session.specs.declared.entries.Pages.{Pages}
-use Rattle.bl_session.specs.Told.{Told, Settles, SameUpTo}
+use Rattle.bl_session.specs.Told.{Told, Settles}
 use Rattle.bl_session.specs.One.{run_from, events_of}
-use Rattle.bl_session.specs.Replies.{tag}
-use Rattle.bl_session.specs.Orders.{told_text, AreLater, Mirrors, ordinal_of}
-use Rattle.bl_session.specs.Entries.{entry_from, entry_of, order_of, is_line, tag_of, Each, StandsBelow, AreLabelled, AreAnswered}
-use Rattle.bl_session.specs.Whole.{AreKnown, HasRun, IsWhole, Came}
+use Rattle.bl_session.specs.Orders.{AreLater, Mirrors, ordinal_of}
+use Rattle.bl_session.specs.Entries.{entry_from, entry_of, order_of, is_line, Each, StandsBelow, AreLabelled, AreAnswered}
+use Rattle.bl_session.specs.Whole.{AreKnown, HasRun, IsWhole}
 use Rattle.bl_session.specs.Blocks.{IsBlock, SplitsAt}
 use Rattle.bl_session.proofs.EntryLaws.{length-order}
 use Rattle.bl_session.proofs.RunLaws.{GoesOn, goes_run, mirror_goes, some_state, some_mirrors}
-use Rattle.bl_session.proofs.MachineLaws.{ran_to, settle_came, settle_same, came_more}
+use Rattle.bl_session.proofs.MachineLaws.{ran_to, settle_came, came_more}
 
 get_behind : (A B : List Entered) (k : ℕ) (d : Entered) → slice_index_or (A ++ B) (length A + k) d ≡ slice_index_or B k d
 get_behind [] B k d = ap (λ i. slice_index_or B i d) (omega arith)

@@ -14,7 +14,7 @@ use bl_setup::setup::Setup;
 use std::alloc::Global;
 use std::io::{BufRead, Write};
 
-/// Serves one session over a reader and a writer, of which at most `limit` lines are admitted.
+/// Serves one session over a reader and a writer. The admitted lines weigh at most `limit` together, one for each `when`.
 ///
 /// At `Ok` the input was read to its end, or to the end of a first line that was refused, and its
 /// transcript is written. `Read` and `Write` come only where that end failed, `TooLong` only where

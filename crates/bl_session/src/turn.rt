@@ -4,9 +4,9 @@ ghost use Rattle.bl_session.specs.Lines.{without_cr};
 
 use crate::held::{Held, Look};
 use bl_policy::id::SubjectId;
+use bl_script::line::{Line, LineFault, read_line};
 use bl_script::names::Names;
 use bl_script::work::Work;
-use bl_script::line::{Line, LineFault, read_line};
 use std::alloc::{AllocError, Global};
 
 /// What one line of the input is to the session.

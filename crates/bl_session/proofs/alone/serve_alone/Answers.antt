@@ -1,4 +1,4 @@
-use Rattle.std.proofs.Common.{◌≡◌, ◌∙◌, ◌<◌, ap, sym, subst, length, ℕ, List}
+use Rattle.std.proofs.Common.{◌≡◌, ◌∙◌, ◌<◌, ap, sym, subst, length, ℕ}
 use Rattle.std.specs.Arc.{arc_value}
 use Rattle.bl_script.specs.Names.{KnownNames}
 use Rattle.bl_setup.specs.Agreement.{Agree}
@@ -39,7 +39,7 @@ returns-in-Ok-converse-clause-ok g c =
     subst (λ (k : Setup). IsServed k c.args.limit (R c.args.reader.now.inner) (R c.converse.new.reader.inner) (W c.args.writer.now.inner) (W c.converse.new.writer.inner)) is
     (served_whole own c.args.limit s (R c.args.reader.now.inner) (R c.converse.new.reader.inner) (W c.args.writer.now.inner) (W c.converse.new.writer.inner) Settled
     (subst (λ (k : KnownNames). Finished k (R c.args.reader.now.inner) (R c.converse.new.reader.inner) (W c.args.writer.now.inner) (W c.converse.new.writer.inner)
-        (told_text own (order_of s.entries.items)) Settled (Came own c.args.limit s)) names c.in-Ok-converse.ensures.ok))
+    (told_text own (order_of s.entries.items)) Settled (Came own c.args.limit s)) names c.in-Ok-converse.ensures.ok))
 
 pub returns-clause-err : goal.returns-clause-err
 returns-clause-err g c =
@@ -52,8 +52,8 @@ returns-clause-err g c =
     let Settled : ℕ → Type 0 = λ n. AreLater s.ended (order_of s.entries.items) n in
     let fault = c.in-Err-converse.fault in
     subst (λ (k : Setup). IsCutShort k c.args.limit fault (R c.args.reader.now.inner) (R c.converse.new.reader.inner) (W c.args.writer.now.inner) (W c.converse.new.writer.inner)
-        c.converse.new.reader.failed c.converse.new.writer.failed) is
+    c.converse.new.reader.failed c.converse.new.writer.failed) is
     (served_part own c.args.limit s (R c.args.reader.now.inner) (R c.converse.new.reader.inner) (W c.args.writer.now.inner) (W c.converse.new.writer.inner) fault
     c.converse.new.reader.failed c.converse.new.writer.failed
     (subst (λ (k : KnownNames). Stopped fault k (R c.args.reader.now.inner) (R c.converse.new.reader.inner) (W c.args.writer.now.inner) (W c.converse.new.writer.inner)
-        c.converse.new.reader.failed c.converse.new.writer.failed (told_text own (order_of s.entries.items)) Settled (Came own c.args.limit s)) names c.in-Err-converse.ensures.err))
+    c.converse.new.reader.failed c.converse.new.writer.failed (told_text own (order_of s.entries.items)) Settled (Came own c.args.limit s)) names c.in-Err-converse.ensures.err))

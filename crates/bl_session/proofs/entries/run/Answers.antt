@@ -1,4 +1,4 @@
-use Rattle.std.proofs.Common.{rules, ◌≡◌, ◌∙◌, ◌<◌, ◌≤◌, ◌+◌, ◌++◌, [], List, refl, ap, sym, subst, length, false, append-nil, append_assoc, All, arith}
+use Rattle.std.proofs.Common.{rules, ◌≡◌, ◌∙◌, ◌<◌, ◌++◌, [], refl, ap, sym, subst, length, false, append-nil, append_assoc, arith}
 use Rattle.std.proofs.lemmas.List.Elements.{All-append}
 use Rattle.bl_script.specs.Effects.{children}
 use Rattle.bl_setup.specs.Order.{Setup}
@@ -6,7 +6,6 @@ use Rattle.bl_session.specs.declared.label.Entered.{Entered}
 use Rattle.bl_session.specs.Orders.{said}
 use Rattle.bl_session.specs.Entries.{order_of, is_line}
 use Rattle.bl_session.specs.Whole.{HasEntered, HasRun}
-use Rattle.bl_session.proofs.EntryLaws.{length-order}
 use Rattle.bl_session.proofs.EnterLaws.{run_more}
 use Rattle.bl_session.proofs.MachineLaws.{has_run_start}
 use Rattle.bl_session.proofs.entries.run.Goals as goal

@@ -1,10 +1,8 @@
-use Rattle.std.proofs.Common.{rules, ◌≡◌, ◌∙◌, ◌<◌, ◌≤◌, ◌-◌, ◌+◌, ◌++◌, ◌∷◌, [], ap, sym, subst, length, map, take, slice_index_or, append_assoc, append-nil, arith, ℕ, Vec}
+use Rattle.std.proofs.Common.{rules, ◌≡◌, ◌∙◌, ◌<◌, ◌-◌, ◌++◌, ◌∷◌, ap, sym, length, map, take, slice_index_or, append_assoc, append-nil, ℕ, Vec}
 use Rattle.std.specs.Global.{Global}
 use Rattle.std.specs.Arc.{arc_value}
 use Rattle.std.specs.List.{flat_map}
-use Rattle.bl_script.specs.Names.{KnownNames}
 use Rattle.bl_setup.specs.Order.{Setup}
-use Rattle.bl_session.specs.declared.label.Entered.{Entered}
 use Rattle.bl_session.specs.Replies.{reply_text}
 use Rattle.bl_session.specs.Orders.{reply_at}
 use Rattle.bl_session.specs.Entries.{order_of}
@@ -26,7 +24,7 @@ pub index-requires-2 : goal.index-requires-2
 index-requires-2 c =
     let r = c.requires in
     let p = placed (arc_value c.args.self.now.setup) c.args.self.now.limit c.args.state.now r.whole.0 r.settled.0 c.args.ordinal r.whole.1 r.settled.2 r.settled.1
-        c.deref.result.now c.deref.ensures.value c.args.block.now c.line.new.self.next r.gives.0 r.gives.2 c.line.ensures.from c.in-Some.place (rw c.in-Some.is at c.line.ensures.found) in
+    c.deref.result.now c.deref.ensures.value c.args.block.now c.line.new.self.next r.gives.0 r.gives.2 c.line.ensures.from c.in-Some.place (rw c.in-Some.is at c.line.ensures.found) in
     let lt : c.in-Some.place < length c.args.state.now.answers.items = p.answered in
     search rules
 
@@ -34,7 +32,7 @@ pub push_reply-requires : goal.push_reply-requires
 push_reply-requires c =
     let r = c.requires in
     let p = placed (arc_value c.args.self.now.setup) c.args.self.now.limit c.args.state.now r.whole.0 r.settled.0 c.args.ordinal r.whole.1 r.settled.2 r.settled.1
-        c.deref.result.now c.deref.ensures.value c.args.block.now c.line.new.self.next r.gives.0 r.gives.2 c.line.ensures.from c.in-Some.place (rw c.in-Some.is at c.line.ensures.found) in
+    c.deref.result.now c.deref.ensures.value c.args.block.now c.line.new.self.next r.gives.0 r.gives.2 c.line.ensures.from c.in-Some.place (rw c.in-Some.is at c.line.ensures.found) in
     names_known (arc_value c.args.self.now.setup) c.args.self.now.limit c.args.state.now r.whole.0 r.settled.0 c.args.ordinal r.whole.1 r.settled.2 r.settled.1
     c.names-names.result.now (c.names-names.ensures.value ∙ ap (λ (s : Setup). s.names) c.deref-2.ensures) c.in-Some.place c.index-2.result.now p.answered c.index-2.ensures
 
@@ -43,9 +41,9 @@ loop-below-init c =
     let r = c.requires in
     let setup = arc_value c.args.self.now.setup in
     let p = placed setup c.args.self.now.limit c.args.state.now r.whole.0 r.settled.0 c.args.ordinal r.whole.1 r.settled.2 r.settled.1
-        c.deref.result.now c.deref.ensures.value c.args.block.now c.line.new.self.next r.gives.0 r.gives.2 c.line.ensures.from c.in-Some.place (rw c.in-Some.is at c.line.ensures.found) in
+    c.deref.result.now c.deref.ensures.value c.args.block.now c.line.new.self.next r.gives.0 r.gives.2 c.line.ensures.from c.in-Some.place (rw c.in-Some.is at c.line.ensures.found) in
     let said = text_said setup c.args.self.now.limit c.args.state.now r.whole.0 r.settled.0 c.args.ordinal r.whole.1 r.settled.2 r.settled.1
-        c.names-names.result.now (c.names-names.ensures.value ∙ ap (λ (s : Setup). s.names) c.deref-2.ensures) c.in-Some.place c.index.result.now c.index-2.result.now p.answered c.index.ensures c.index-2.ensures in
+    c.names-names.result.now (c.names-names.ensures.value ∙ ap (λ (s : Setup). s.names) c.deref-2.ensures) c.in-Some.place c.index.result.now c.index-2.result.now p.answered c.index.ensures c.index-2.ensures in
     c.in_ok-push_reply.ensures ∙ ap (λ l. c.args.out.now.items ++ l) (said ∙ sym (append-nil (reply_text setup.names (reply_at setup (order_of c.args.state.now.entries.items) c.in-Some.place))))
 
 pub index-requires-in-loop-below : goal.index-requires-in-loop-below
@@ -53,12 +51,12 @@ index-requires-in-loop-below c =
     let r = c.requires in
     let setup = arc_value c.args.self.now.setup in
     let p = placed setup c.args.self.now.limit c.args.state.now r.whole.0 r.settled.0 c.args.ordinal r.whole.1 r.settled.2 r.settled.1
-        c.deref.result.now c.deref.ensures.value c.args.block.now c.line.new.self.next r.gives.0 r.gives.2 c.line.ensures.from c.in-Some.place (rw c.in-Some.is at c.line.ensures.found) in
+    c.deref.result.now c.deref.ensures.value c.args.block.now c.line.new.self.next r.gives.0 r.gives.2 c.line.ensures.from c.in-Some.place (rw c.in-Some.is at c.line.ensures.found) in
     let kin : (v : Vec ℕ Global) → c.kin-kin.result.now ≡ (slice_index_or c.args.block.now.kin.items (c.in-Some.place - c.args.block.now.first) v).items =
-        λ v. c.kin-kin.ensures v ∙ ap (λ (k : Vec (Vec ℕ Global) Global). (slice_index_or k.items (c.in-Some.place - c.line.new.self.first) v).items) c.line.ensures.kin
-            ∙ ap (λ f. (slice_index_or c.args.block.now.kin.items (c.in-Some.place - f) v).items) c.line.ensures.first in
+    λ v. c.kin-kin.ensures v ∙ ap (λ (k : Vec (Vec ℕ Global) Global). (slice_index_or k.items (c.in-Some.place - c.line.new.self.first) v).items) c.line.ensures.kin
+    ∙ ap (λ f. (slice_index_or c.args.block.now.kin.items (c.in-Some.place - f) v).items) c.line.ensures.first in
     let below = kin_placed setup c.args.self.now.limit c.args.state.now r.whole.0 r.settled.0 c.args.ordinal r.whole.1 r.settled.2 r.settled.1
-        c.args.block.now r.gives.0 c.in-Some.place r.gives.2 p c.kin-kin.result.now kin c.loop-below.below-index 0 c.loop-below-test.true in
+    c.args.block.now r.gives.0 c.in-Some.place r.gives.2 p c.kin-kin.result.now kin c.loop-below.below-index 0 c.loop-below-test.true in
     let lt : slice_index_or c.kin-kin.result.now c.loop-below.below-index 0 < length c.args.state.now.entries.items = below.0 in
     search rules
 
@@ -67,12 +65,12 @@ index-requires-in-loop-below-2 c =
     let r = c.requires in
     let setup = arc_value c.args.self.now.setup in
     let p = placed setup c.args.self.now.limit c.args.state.now r.whole.0 r.settled.0 c.args.ordinal r.whole.1 r.settled.2 r.settled.1
-        c.deref.result.now c.deref.ensures.value c.args.block.now c.line.new.self.next r.gives.0 r.gives.2 c.line.ensures.from c.in-Some.place (rw c.in-Some.is at c.line.ensures.found) in
+    c.deref.result.now c.deref.ensures.value c.args.block.now c.line.new.self.next r.gives.0 r.gives.2 c.line.ensures.from c.in-Some.place (rw c.in-Some.is at c.line.ensures.found) in
     let kin : (v : Vec ℕ Global) → c.kin-kin.result.now ≡ (slice_index_or c.args.block.now.kin.items (c.in-Some.place - c.args.block.now.first) v).items =
-        λ v. c.kin-kin.ensures v ∙ ap (λ (k : Vec (Vec ℕ Global) Global). (slice_index_or k.items (c.in-Some.place - c.line.new.self.first) v).items) c.line.ensures.kin
-            ∙ ap (λ f. (slice_index_or c.args.block.now.kin.items (c.in-Some.place - f) v).items) c.line.ensures.first in
+    λ v. c.kin-kin.ensures v ∙ ap (λ (k : Vec (Vec ℕ Global) Global). (slice_index_or k.items (c.in-Some.place - c.line.new.self.first) v).items) c.line.ensures.kin
+    ∙ ap (λ f. (slice_index_or c.args.block.now.kin.items (c.in-Some.place - f) v).items) c.line.ensures.first in
     let below = kin_placed setup c.args.self.now.limit c.args.state.now r.whole.0 r.settled.0 c.args.ordinal r.whole.1 r.settled.2 r.settled.1
-        c.args.block.now r.gives.0 c.in-Some.place r.gives.2 p c.kin-kin.result.now kin c.loop-below.below-index 0 c.loop-below-test.true in
+    c.args.block.now r.gives.0 c.in-Some.place r.gives.2 p c.kin-kin.result.now kin c.loop-below.below-index 0 c.loop-below-test.true in
     let lt : slice_index_or c.kin-kin.result.now c.loop-below.below-index 0 < length c.args.state.now.answers.items = below.1 in
     search rules
 
@@ -81,12 +79,12 @@ push_reply-requires-in-loop-below c =
     let r = c.requires in
     let setup = arc_value c.args.self.now.setup in
     let p = placed setup c.args.self.now.limit c.args.state.now r.whole.0 r.settled.0 c.args.ordinal r.whole.1 r.settled.2 r.settled.1
-        c.deref.result.now c.deref.ensures.value c.args.block.now c.line.new.self.next r.gives.0 r.gives.2 c.line.ensures.from c.in-Some.place (rw c.in-Some.is at c.line.ensures.found) in
+    c.deref.result.now c.deref.ensures.value c.args.block.now c.line.new.self.next r.gives.0 r.gives.2 c.line.ensures.from c.in-Some.place (rw c.in-Some.is at c.line.ensures.found) in
     let kin : (v : Vec ℕ Global) → c.kin-kin.result.now ≡ (slice_index_or c.args.block.now.kin.items (c.in-Some.place - c.args.block.now.first) v).items =
-        λ v. c.kin-kin.ensures v ∙ ap (λ (k : Vec (Vec ℕ Global) Global). (slice_index_or k.items (c.in-Some.place - c.line.new.self.first) v).items) c.line.ensures.kin
-            ∙ ap (λ f. (slice_index_or c.args.block.now.kin.items (c.in-Some.place - f) v).items) c.line.ensures.first in
+    λ v. c.kin-kin.ensures v ∙ ap (λ (k : Vec (Vec ℕ Global) Global). (slice_index_or k.items (c.in-Some.place - c.line.new.self.first) v).items) c.line.ensures.kin
+    ∙ ap (λ f. (slice_index_or c.args.block.now.kin.items (c.in-Some.place - f) v).items) c.line.ensures.first in
     let below = kin_placed setup c.args.self.now.limit c.args.state.now r.whole.0 r.settled.0 c.args.ordinal r.whole.1 r.settled.2 r.settled.1
-        c.args.block.now r.gives.0 c.in-Some.place r.gives.2 p c.kin-kin.result.now kin c.loop-below.below-index 0 c.loop-below-test.true in
+    c.args.block.now r.gives.0 c.in-Some.place r.gives.2 p c.kin-kin.result.now kin c.loop-below.below-index 0 c.loop-below-test.true in
     names_known setup c.args.self.now.limit c.args.state.now r.whole.0 r.settled.0 c.args.ordinal r.whole.1 r.settled.2 r.settled.1
     c.names-names.result.now (c.names-names.ensures.value ∙ ap (λ (s : Setup). s.names) c.deref-2.ensures) (slice_index_or c.kin-kin.result.now c.loop-below.below-index 0) c.index-in-loop-below-2.result.now below.1 c.index-in-loop-below-2.ensures
 
@@ -96,15 +94,15 @@ loop-below-preserved c =
     let setup = arc_value c.args.self.now.setup in
     let order = order_of c.args.state.now.entries.items in
     let p = placed setup c.args.self.now.limit c.args.state.now r.whole.0 r.settled.0 c.args.ordinal r.whole.1 r.settled.2 r.settled.1
-        c.deref.result.now c.deref.ensures.value c.args.block.now c.line.new.self.next r.gives.0 r.gives.2 c.line.ensures.from c.in-Some.place (rw c.in-Some.is at c.line.ensures.found) in
+    c.deref.result.now c.deref.ensures.value c.args.block.now c.line.new.self.next r.gives.0 r.gives.2 c.line.ensures.from c.in-Some.place (rw c.in-Some.is at c.line.ensures.found) in
     let kin : (v : Vec ℕ Global) → c.kin-kin.result.now ≡ (slice_index_or c.args.block.now.kin.items (c.in-Some.place - c.args.block.now.first) v).items =
-        λ v. c.kin-kin.ensures v ∙ ap (λ (k : Vec (Vec ℕ Global) Global). (slice_index_or k.items (c.in-Some.place - c.line.new.self.first) v).items) c.line.ensures.kin
-            ∙ ap (λ f. (slice_index_or c.args.block.now.kin.items (c.in-Some.place - f) v).items) c.line.ensures.first in
+    λ v. c.kin-kin.ensures v ∙ ap (λ (k : Vec (Vec ℕ Global) Global). (slice_index_or k.items (c.in-Some.place - c.line.new.self.first) v).items) c.line.ensures.kin
+    ∙ ap (λ f. (slice_index_or c.args.block.now.kin.items (c.in-Some.place - f) v).items) c.line.ensures.first in
     let below = kin_placed setup c.args.self.now.limit c.args.state.now r.whole.0 r.settled.0 c.args.ordinal r.whole.1 r.settled.2 r.settled.1
-        c.args.block.now r.gives.0 c.in-Some.place r.gives.2 p c.kin-kin.result.now kin c.loop-below.below-index 0 c.loop-below-test.true in
+    c.args.block.now r.gives.0 c.in-Some.place r.gives.2 p c.kin-kin.result.now kin c.loop-below.below-index 0 c.loop-below-test.true in
     let said = text_said setup c.args.self.now.limit c.args.state.now r.whole.0 r.settled.0 c.args.ordinal r.whole.1 r.settled.2 r.settled.1
-        c.names-names.result.now (c.names-names.ensures.value ∙ ap (λ (s : Setup). s.names) c.deref-2.ensures) (slice_index_or c.kin-kin.result.now c.loop-below.below-index 0)
-        c.index-in-loop-below.result.now c.index-in-loop-below-2.result.now below.1 c.index-in-loop-below.ensures c.index-in-loop-below-2.ensures in
+    c.names-names.result.now (c.names-names.ensures.value ∙ ap (λ (s : Setup). s.names) c.deref-2.ensures) (slice_index_or c.kin-kin.result.now c.loop-below.below-index 0)
+    c.index-in-loop-below.result.now c.index-in-loop-below-2.result.now below.1 c.index-in-loop-below.ensures c.index-in-loop-below-2.ensures in
     let so_far = flat_map (reply_text setup.names) (map (reply_at setup order) (c.in-Some.place ∷ take c.loop-below.below-index c.kin-kin.result.now)) in
     let text = reply_text c.names-names.result.now (record { label = c.index-in-loop-below.result.now.ordinal ∷ c.index-in-loop-below.result.now.path.items; answer = c.index-in-loop-below-2.result.now }) in
     c.in_ok-push_reply-2.ensures
@@ -117,10 +115,10 @@ returns-clause-text c =
     let r = c.requires in
     let setup = arc_value c.args.self.now.setup in
     let p = placed setup c.args.self.now.limit c.args.state.now r.whole.0 r.settled.0 c.args.ordinal r.whole.1 r.settled.2 r.settled.1
-        c.deref.result.now c.deref.ensures.value c.args.block.now c.line.new.self.next r.gives.0 r.gives.2 c.line.ensures.from c.in-Some.place (rw c.in-Some.is at c.line.ensures.found) in
+    c.deref.result.now c.deref.ensures.value c.args.block.now c.line.new.self.next r.gives.0 r.gives.2 c.line.ensures.from c.in-Some.place (rw c.in-Some.is at c.line.ensures.found) in
     let kin : (v : Vec ℕ Global) → c.kin-kin.result.now ≡ (slice_index_or c.args.block.now.kin.items (c.in-Some.place - c.args.block.now.first) v).items =
-        λ v. c.kin-kin.ensures v ∙ ap (λ (k : Vec (Vec ℕ Global) Global). (slice_index_or k.items (c.in-Some.place - c.line.new.self.first) v).items) c.line.ensures.kin
-            ∙ ap (λ f. (slice_index_or c.args.block.now.kin.items (c.in-Some.place - f) v).items) c.line.ensures.first in
+    λ v. c.kin-kin.ensures v ∙ ap (λ (k : Vec (Vec ℕ Global) Global). (slice_index_or k.items (c.in-Some.place - c.line.new.self.first) v).items) c.line.ensures.kin
+    ∙ ap (λ f. (slice_index_or c.args.block.now.kin.items (c.in-Some.place - f) v).items) c.line.ensures.first in
     c.loop-below.invariant
     ∙ ap (λ l. c.args.out.now.items ++ l)
     (all_text setup c.args.self.now.limit c.args.state.now r.whole.0 r.settled.0 c.args.ordinal r.whole.1 r.settled.2 r.settled.1
