@@ -23,9 +23,7 @@ fn is_too_long(alloc: Global, input: &[u8]) -> Result<bool, Fail> {
     let mut reader = Watched::new(input);
     let mut writer = Watched::new(Vec::new(alloc));
     let result = serve_alone(alloc, base(alloc)?, 10_000, &mut reader, &mut writer);
-    Ok(result == Err(SessionFault::TooLong)
-        && writer.inner.is_empty()
-        && reader.inner.len() == 1)
+    Ok(result == Err(SessionFault::TooLong) && writer.inner.is_empty() && reader.inner.len() == 1)
 }
 
 #[test]
