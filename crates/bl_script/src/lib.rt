@@ -15,6 +15,7 @@ pub mod once;
 pub mod parse;
 pub mod raw;
 pub mod read;
+pub mod rules;
 pub mod script;
 pub mod stop;
 #[cfg(test)]

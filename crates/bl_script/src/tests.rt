@@ -1,5 +1,6 @@
 //! Each call that grows, once with ample memory.
 mod lines;
+mod rules;
 
 use crate::answer::{Answer, Outputs};
 use crate::document::Document;
