@@ -50,7 +50,7 @@ pub listed_closed : (categories : List (List ℕ)) (whole here rest : List Tok) 
     → (whole ≡ spell_categories categories ++ rest) × LevelEnds categories rest
 listed_closed categories whole here rest l e = (
   l.split ∙ ap (λ ts. sign Open ∷ name l.first ∷ (commas l.more ++ ts)) e ∙ ap (λ ts. sign Open ∷ name l.first ∷ ts) (commas_close l.more rest)
-  ∙ ap (λ cs. spell_categories cs ++ rest) (sym l.are),
+      ∙ ap (λ cs. spell_categories cs ++ rest) (sym l.are),
   subst (λ cs. LevelEnds cs rest) (sym l.are) tt,
 )
 

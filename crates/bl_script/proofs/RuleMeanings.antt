@@ -88,7 +88,7 @@ reads_level scheme text rank known once (Err level_fault.UnknownRank) reads = ab
 reads_level scheme text rank known once (Err level_fault.UnknownCategory) (_, (before, c, at, absent)) =
     let here = stands_at scheme text before c at in
     absurd (absent (subst (Contains scheme.categories) (get_or_from_slice_get text.categories (length before) c c here)
-        (known (length before) c (slice_get_within text.categories (length before) c here))))
+    (known (length before) c (slice_get_within text.categories (length before) c here))))
 reads_level scheme text rank known once (Err level_fault.RepeatedCategory) (_, (before, c, at, again)) =
     let front : take (length before) text.categories ≡ before = ap (take (length before)) at.split ∙ take_at before (c ∷ at.after) (length before) refl in
     absurd (not_distinct text.categories c (length before) (stands_at scheme text before c at) (subst (λ cs. Contains cs c) (sym front) again) once)

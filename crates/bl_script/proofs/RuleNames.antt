@@ -1,5 +1,5 @@
 -- The names in a rule: what is known of them, and that they are names.
-use Rattle.std.proofs.Common.{◌≡◌, ◌≢◌, ℕ, zero, suc, ◌+◌, ◌<◌, ◌≤◌, ◌⊎◌, inl, inr, List, [], ◌∷◌, ◌++◌, length, get_or, slice_get, map, take, Some, Bor, refl, sym, ap, subst, ◌∙◌, arith}
+use Rattle.std.proofs.Common.{◌≡◌, ◌≢◌, ℕ, zero, suc, ◌+◌, ◌<◌, ◌≤◌, ◌⊎◌, inl, inr, List, [], ◌∷◌, ◌++◌, length, get_or, slice_get, map, take, Some, Bor, Result, refl, sym, ap, subst, ◌∙◌, arith}
 use Rattle.std.specs.Prelude.{All, Contains}
 use Rattle.std.proofs.lemmas.List.{length-take, get_or-take, take-take, take-map, take_all, map_more, length-map, get_or-map}
 use Rattle.std.proofs.lemmas.List.Elements.{All-cons, All-nil, All-head, All-tail, Contains-get_or, Contains-push, Contains-push_cases, Contains-append_left, Contains-append_right}
@@ -13,9 +13,11 @@ use Rattle.bl_level.specs.Table.{AreDistinct, IsFirstRepeated}
 use Rattle.bl_script.specs.declared.rules.Role.TheVariants.{Subject, Document, Rank, Category}
 use Rattle.bl_script.specs.First.{IsNameOfFirst}
 use Rattle.bl_script.specs.Names.{KnownNames}
-use Rattle.bl_script.specs.RawRules.{raw_names}
+use Rattle.bl_script.specs.RawRules.{raw_names, raw_rule}
+use Rattle.bl_script.specs.declared.raw.RawRule.{RawRule}
 use Rattle.bl_script.specs.RuleFaults.{Mention, mentioned, category_mention, right_mentions, mentions_in_level, mentions_in, categories_in, IsKnown}
 use Rattle.bl_script.specs.SpelledRules.{SpelledRule, give, rescind, current, classify, spell_rule}
+use Rattle.bl_script.proofs.Firsts.{Finds}
 use Rattle.bl_script.proofs.Passes.{IsAdditive}
 
 -- what stands for a name past the end
@@ -43,6 +45,11 @@ categories_held names [] all = All-nil (Contains names.scheme.categories)
 categories_held names (c ∷ cs) all =
     All-cons (Contains names.scheme.categories) c cs (All-head (IsKnown names) (category_mention c) (map category_mention cs) all)
     (categories_held names cs (All-tail (IsKnown names) (category_mention c) (map category_mention cs) all))
+
+-- a search in a rule that is known to be this one
+pub in_rule : {U : Type 0} (names : KnownNames) (r q : RawRule) (found : Result U (Bor (List ℕ))) → r ≡ q → Finds (IsKnown names) mentioned (mentions_in (raw_rule q)) found
+    → Finds (IsKnown names) mentioned (mentions_in (raw_rule r)) found
+in_rule names r q found same finds = subst (λ x. Finds (IsKnown names) mentioned (mentions_in (raw_rule x)) found) (sym same) finds
 
 -- ---- names that stand once
 

@@ -200,12 +200,20 @@ impl<'t, 'a> Cursor<'t, 'a> {
             ((left self.new ≡ left self.old) × IsNotAt (sign s) (left self.old)) }
     {
         match self.rest {
-            [Token::Sign(t), rest @ ..] if *t == s => {
+            [Token::Sign(found), rest @ ..] if *found == s => {
                 self.rest = rest;
                 true
             }
             _ => false,
         }
+    }
+
+    /// Takes a comma where it is the next token.
+    fn takes_comma(&mut self) -> bool
+        ensures { MatchBool result (left self.old ≡ sign Comma ∷ left self.new)
+            ((left self.new ≡ left self.old) × IsNotAt (sign Comma) (left self.old)) }
+    {
+        self.takes_sign(Sign::Comma)
     }
 
     /// Takes the word that begins a statement, where one is the next token.
@@ -260,7 +268,7 @@ impl<'t, 'a> Cursor<'t, 'a> {
             (more_accesses ∷ []) (left self.old) result }
     {
         let mut accesses = Vec::new(alloc);
-        while self.takes_sign(Sign::Comma) {
+        while self.takes_comma() {
             let access = self.access()?;
             accesses.push(access)?;
         }

@@ -179,10 +179,7 @@ fn tells_the_first_unknown_name_of_a_rule(rt: HostRuntime) -> Result<(), Fail> {
 #[test]
 fn tells_the_first_category_named_twice(rt: HostRuntime) -> Result<(), Fail> {
     let twice = fault_of(rt.alloc(), b"current s{nato,crypto,crypto,nato}")?;
-    assert!(rt;
-        twice == LineFault::Twice(named(b"crypto")?),
-        "{twice:?}"
-    );
+    assert!(rt; twice == LineFault::Twice(named(b"crypto")?), "{twice:?}");
     let other = fault_of(rt.alloc(), b"classify note u{nato,nato}")?;
     assert!(rt; other == LineFault::Twice(named(b"nato")?), "{other:?}");
     Ok(())
