@@ -17,6 +17,7 @@ pub mod once;
 pub mod parse;
 pub mod raw;
 pub mod read;
+pub mod rules;
 pub mod script;
 pub mod sink;
 mod spell;

@@ -1,6 +1,7 @@
 //! Each call that grows, once with ample memory.
 mod knows;
 mod lines;
+mod rules;
 mod write;
 
 use crate::answer::{Answer, Outputs};
