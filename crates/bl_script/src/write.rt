@@ -151,6 +151,8 @@ fn text_of(alloc: Global, names: &Names, line: &Line) -> Result<Vec<u8>, AllocEr
         Line::Hello(subject) => write_hello(alloc, names, *subject),
         Line::Wait => write_tokens(alloc, &[Token::Reserved(Keyword::Wait)]),
         Line::Work(Work::Behaviour(script)) => write_script(alloc, names, script),
+        // No text reads as a rule.
+        Line::Work(Work::Rule(_)) => Ok(Vec::new(alloc)),
     }
 }
 

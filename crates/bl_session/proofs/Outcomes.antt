@@ -1,5 +1,5 @@
 -- From what holds of an outcome to what follows from it.
-use Rattle.std.proofs.Common.{Result, Ok, Err, OnOk, IfErr}
+use Rattle.std.proofs.Common.{Result, Ok, Err, OnOk, OnErr, IfOk, IfErr}
 
 pub on_ok-map : {A E : Type 0} (r : Result A E) {P Q : Type 0} → (P → Q) → OnOk r P → OnOk r Q
 on_ok-map (Ok x) f p = f p
@@ -8,3 +8,16 @@ on_ok-map (Err e) f p = tt
 pub if_err-map : {A E : Type 0} (r : Result A E) {P Q : E → Type 0} → ((e : E) → P e → Q e) → IfErr r P → IfErr r Q
 if_err-map (Ok x) f p = tt
 if_err-map (Err e) f p = f e p
+
+-- what holds holds of each result
+pub on_ok-all : {A E : Type 0} (r : Result A E) {P : Type 0} → P → OnOk r P
+on_ok-all (Ok a) p = p
+on_ok-all (Err e) p = tt
+
+pub on_err-all : {A E : Type 0} (r : Result A E) {P : Type 0} → P → OnErr r P
+on_err-all (Ok a) p = tt
+on_err-all (Err e) p = p
+
+pub if_ok-map : {A E : Type 0} (r : Result A E) {P Q : A → Type 0} → ((a : A) → P a → Q a) → IfOk r P → IfOk r Q
+if_ok-map (Ok x) f p = f x p
+if_ok-map (Err e) f p = tt

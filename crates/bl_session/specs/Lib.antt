@@ -8,8 +8,11 @@ pub mod Texts
 pub mod Spoken
 pub mod Stages
 pub mod Replies
+pub mod Named
+pub mod Orders
+pub mod Entries
 pub mod One
+pub mod Whole
+pub mod Blocks
 pub mod Transcript
-pub mod Book
-pub mod BookView
 pub mod Outcome

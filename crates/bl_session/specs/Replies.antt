@@ -4,7 +4,7 @@ use Rattle.std.specs.List.{flat_map}
 use Rattle.bl_policy.specs.Denial.{word_of}
 use Rattle.bl_script.specs.Names.{KnownNames}
 use Rattle.bl_script.specs.declared.answer.Answer.{Answer}
-use Rattle.bl_script.specs.declared.answer.Answer.TheVariants.{Done, Denied, Lost}
+use Rattle.bl_script.specs.declared.answer.Answer.TheVariants.{Done, RuleDone, Denied, Lost}
 use Rattle.bl_setup.specs.Order.{Entry, Line, Child}
 use Rattle.bl_setup.specs.Past.{no_entry}
 use Rattle.bl_setup.specs.Machine.{State, past_at}
@@ -83,6 +83,7 @@ abbrev pub answer_text : KnownNames → Answer → List ℕ
 answer_text names (Done outputs) = codes " done" ++ flat_map output_text outputs
 answer_text names (Denied denial) =
     codes " denied " ++ (word_of denial.clause ++ (codes " " ++ (slice_index_or names.subjects denial.subject [] ++ object_text names denial.object)))
+answer_text names RuleDone = codes " done"
 answer_text names Lost = codes " lost"
 
 abbrev pub reply_text : KnownNames → Reply → List ℕ

@@ -1,7 +1,7 @@
 -- What is written for the lines of a session's input.
 use Rattle.std.specs.Prelude.{ℕ, ◌+◌, List, [], ◌∷◌, ◌++◌, codes, decimal}
-use Rattle.bl_small.specs.declared.line.LineFault.{LineFault}
-use Rattle.bl_small.specs.declared.line.LineFault.TheVariants.{Long, Syntax, Unknown, Mode, Memory}
+use Rattle.bl_script.specs.declared.line.LineFault.{LineFault}
+use Rattle.bl_script.specs.declared.line.LineFault.TheVariants.{Long, Syntax, Deep, Many, Unknown, Twice, Mode, Memory}
 use Rattle.bl_session.specs.declared.turn.Turn.{Turn}
 use Rattle.bl_session.specs.declared.turn.Turn.TheVariants.{Skip, Wait, Greets, Bad, Ask}
 
@@ -9,7 +9,10 @@ use Rattle.bl_session.specs.declared.turn.Turn.TheVariants.{Skip, Wait, Greets, 
 abbrev pub fault_words : LineFault → List ℕ
 fault_words Long = codes "long"
 fault_words (Syntax byte) = codes "syntax " ++ decimal byte
+fault_words Deep = codes "deep"
+fault_words Many = codes "many"
 fault_words (Unknown name) = codes "unknown " ++ name
+fault_words (Twice name) = codes "twice " ++ name
 fault_words (Mode name) = codes "mode " ++ name
 fault_words Memory = []
 

@@ -1,10 +1,10 @@
 -- What a line is to a session.
 use Rattle.std.specs.Prelude.{◌≡◌, ◌≢◌, ℕ, Bool, true, false, List, [], ◌∷◌, Option, Some, None, ⊤}
 use Rattle.bl_script.specs.Names.{KnownNames}
-use Rattle.bl_small.specs.declared.line.Line.TheVariants as lines
-use Rattle.bl_small.specs.declared.line.LineFault.TheVariants.{Memory}
-use Rattle.bl_small.specs.LineGrammar.{LineOf}
-use Rattle.bl_small.specs.LineFaults.{IsLineFault}
+use Rattle.bl_script.specs.declared.line.Line.TheVariants as lines
+use Rattle.bl_script.specs.declared.line.LineFault.TheVariants.{Memory}
+use Rattle.bl_script.specs.LineGrammar.{LineOf}
+use Rattle.bl_script.specs.LineFaults.{IsLineFault}
 use Rattle.bl_script.specs.declared.work.Work.{Work}
 use Rattle.bl_session.specs.Lines.{without_cr, is_blank}
 use Rattle.bl_session.specs.declared.turn.Turn.{Turn}

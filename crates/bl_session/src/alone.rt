@@ -8,11 +8,13 @@ use crate::entries::{Alone, Pages};
 use crate::fault::SessionFault;
 use crate::session::converse;
 use crate::watched::Watched;
+use bl_monitor::laws::read_lines_are_in_the_setup;
+use bl_monitor::monitor::Monitor;
 use bl_setup::setup::Setup;
 use std::alloc::Global;
 use std::io::{BufRead, Write};
 
-/// Serves one session over a reader and a writer, of which at most `limit` lines are admitted.
+/// Serves one session over a reader and a writer. The admitted lines weigh at most `limit` together, one for each `when`.
 ///
 /// At `Ok` the input was read to its end, or to the end of a first line that was refused, and its
 /// transcript is written. `Read` and `Write` come only where that end failed, `TooLong` only where
@@ -33,11 +35,21 @@ pub fn serve_alone<R: BufRead, W: Write>(
         reader.new.failed writer.new.failed) }
     ensures never { IfErr result (λ fault. fault ≢ Clash) }
 {
-    let behind = Alone { setup, limit };
-    let mut pages = Pages {
-        subject: None,
-        lines: Vec::new(alloc),
+    let monitor = match Monitor::new(alloc, setup) {
+        Ok(monitor) => monitor,
+        Err(_) => return Err(SessionFault::Memory),
     };
+    let setup = match monitor.share_setup() {
+        Ok(setup) => setup,
+        Err(_) => return Err(SessionFault::Memory),
+    };
+    read_lines_are_in_the_setup();
+    let behind = Alone {
+        alloc,
+        setup,
+        limit,
+    };
+    let mut pages = Pages::new(alloc, monitor);
     match converse(
         alloc,
         behind.setup.names(),

@@ -27,6 +27,9 @@ pub trait Behind {
     // the replies to the works up to this ordinal stand for good
     ghost settled: { Self → Self.State → ℕ → Type 0 };
 
+    // no call has failed, and the last block ended with this ordinal
+    ghost whole: { Self → Self.State → ℕ → Type 0 };
+
     // what was told brought the state here
     ghost came: { Self → Self.State → List Told → Type 0 };
 
@@ -39,8 +42,10 @@ pub trait Behind {
     /// Opens the session for a subject.
     fn open(&self, state: &mut Self::State, subject: SubjectId) -> Result<(), AllocError>
         requires serves { serves self.now subject }
+        requires whole { whole self.now state.old 0 }
         requires came { came self.now state.old [] }
         requires settled { settled self.now state.old 0 }
+        ensures whole { OnOk result (whole self.now state.new 0) }
         ensures came { OnOk result (came self.now state.new (Opens subject ∷ [])) }
         ensures err { OnErr result (came self.now state.new []) }
         ensures last { OnOk result (last self.now state.new ≡ 0) }
@@ -49,8 +54,10 @@ pub trait Behind {
     /// Admits a work, or finds no room for it.
     fn ask(&self, state: &mut Self::State, ordinal: u32, work: Work) -> Result<(), AllocError>
         requires takes { takes self.now work }
+        requires whole { (n : ℕ) × (n < ordinal) × whole self.now state.old n }
         requires last { last self.now state.old < ordinal }
         requires settled { (n : ℕ) × (n < ordinal) × settled self.now state.old n }
+        ensures whole { OnOk result ((n : ℕ) → n < ordinal → whole self.now state.old n → whole self.now state.new n) }
         ensures came { OnOk result ((told : List Told) → came self.now state.old told → came self.now state.new (told ++ Admits ordinal work ∷ [])) }
         ensures err { OnErr result ((told : List Told) → came self.now state.old told → came self.now state.new told) }
         ensures last { last self.now state.new ≤ ordinal }
@@ -66,6 +73,8 @@ pub trait Behind {
     ) -> Result<Self::Block, AllocError>
         requires last { last self.now state.old ≤ ordinal }
         requires settled { settled self.now state.old after }
+        requires whole { whole self.now state.old after }
+        ensures whole { OnOk result (whole self.now state.new ordinal) }
         ensures came { OnOk result ((told : List Told) → came self.now state.old told → came self.now state.new (told ++ Settles ∷ [])) }
         ensures err { OnErr result ((told : List Told) → came self.now state.old told → came self.now state.new told ⊎ came self.now state.new (told ++ Settles ∷ [])) }
         ensures last { last self.now state.new ≤ ordinal }
@@ -83,6 +92,7 @@ pub trait Behind {
         out: &mut Vec<u8>,
     ) -> Result<(), AllocError>
         requires settled { (n : ℕ) × (ordinal ≤ n) × settled self.now state.now n }
+        requires whole { (n : ℕ) × whole self.now state.now n }
         requires gives { (n : ℕ) × (n < ordinal) × gives self.now state.now block.old n }
         ensures text { OnOk result (out.new.items ≡ out.old.items ++ replies self.now state.now ordinal) }
         ensures gives { OnOk result (gives self.now state.now block.new ordinal) };

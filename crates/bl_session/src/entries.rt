@@ -1,190 +1,266 @@
-//! The machine of one worker where lines only read: one list of entries, which are answered in
-//! admission order. Nothing alters a content or the policy, so each entry is answered alone.
-ghost use Rattle.std.specs.Prelude.{◌≡◌, ◌≤◌, ◌<◌, ◌+◌, ◌++◌, ◌∷◌, ℕ, [], List, OnOk, IfOk, length, take, drop, slice_index_or, codes};
-ghost use Rattle.std.specs.Option.{ForSome};
-ghost use Rattle.bl_script.specs.declared.answer.Answer.TheVariants.{Denied};
-ghost use Rattle.bl_session.specs.Book.{IsRead, HasOrdinalFrom, last_of, past_alone, reply_in};
-ghost use Rattle.bl_session.specs.BookView.{IsBook, IsSound, entries_of};
-ghost use Rattle.bl_session.specs.Replies.{answer_text, object_text, output_text, reply_text};
+//! The machine of one worker. Lines enter an admission order without being run. When a block ends, a monitor answers the
+//! entries by rising place, and the children of an entry enter at its end, behind all that entered before.
+ghost use Rattle.std.specs.Prelude.{◌≡◌, ◌+◌, ◌<◌, ◌≤◌, ◌++◌, ℕ, [], List, All, false, OnOk, IfOk, None, length};
+ghost use Rattle.std.specs.Arc.{arc_value};
+ghost use Rattle.bl_script.specs.Effects.{children};
+ghost use Rattle.bl_setup.specs.Machine.{weight_of};
+ghost use Rattle.bl_monitor.specs.Heard.{KnowsWork};
+ghost use Rattle.bl_session.specs.Orders.{said, told_text, AreLater};
+ghost use Rattle.bl_session.specs.Entries.{order_of, told_of, is_line, AreLabelled, AreAnswered};
+ghost use Rattle.bl_session.specs.Whole.{AreKnown, HasEntered, HasRun, IsWhole, Came};
+ghost use Rattle.bl_session.specs.Blocks.{Gives};
 
 use crate::behind::Behind;
-use crate::reply::{push_number, push_refused};
-use bl_policy::denial::Denial;
-use bl_policy::id::{DocId, SubjectId};
+use crate::block::Block;
+use crate::label::{Entered, Origin};
+use crate::reply::push_refused;
+use crate::words::push_reply;
+use bl_monitor::monitor::{Entry, Monitor};
+use bl_policy::id::SubjectId;
+use bl_script::answer::Answer;
 use bl_script::work::Work;
 use bl_setup::setup::Setup;
-use std::alloc::AllocError;
+use std::alloc::{AllocError, Global};
+use std::sync::Arc;
 
-/// What stays while a session is served: the setup, and how many lines are admitted at most.
+/// What stays while a session is served: the setup, and the greatest sum of the weights of admitted lines.
 #[derive(Drop)]
 pub struct Alone {
-    pub setup: Setup,
+    pub alloc: Global,
+    pub setup: Arc<Setup, Global>,
     pub limit: u32,
 }
 
-/// An admitted line.
-#[derive(Drop)]
-pub struct Asked {
-    pub ordinal: u32,
-    pub subject: SubjectId,
-    pub work: Work,
-}
-
-/// The session's subject, once it is open, and its admitted lines in admission order.
+/// The session's subject once it is open, the admission order with the answers of its first entries, the weight of its
+/// lines, and how many entries had ended before the open block.
 #[derive(Drop)]
 pub struct Pages {
     pub subject: Option<SubjectId>,
-    pub lines: Vec<Asked>,
+    pub monitor: Monitor,
+    pub entries: Vec<Entered>,
+    pub answers: Vec<Answer>,
+    pub weight: u32,
+    pub last: u32,
+    pub ended: usize,
 }
 
-/// Adds a subject's name.
-fn push_subject(setup: &Setup, out: &mut Vec<u8>, subject: SubjectId) -> Result<(), AllocError>
-    requires { subject < length setup.now.names.subjects }
-    ensures { OnOk result (out.new.items ≡ out.old.items ++ slice_index_or setup.now.names.subjects subject []) }
+/// The number of behaviours of a work.
+fn weight_of(work: &Work) -> u32
+    ensures value { result ≡ weight_of work.now }
+    ensures few { result ≤ 32 }
 {
-    out.extend_from_slice(setup.names().subject_name(subject).bytes())
+    match work {
+        Work::Behaviour(script) => script.weight() as u32,
+        Work::Rule(_) => 1,
+    }
 }
 
-/// Adds a space and the document's name, where there is one.
-fn push_object(setup: &Setup, out: &mut Vec<u8>, object: Option<DocId>) -> Result<(), AllocError>
-    requires { ForSome object (λ doc. doc < length setup.now.names.documents) }
-    ensures { OnOk result (out.new.items ≡ out.old.items ++ object_text setup.now.names object) }
+/// What the monitor is told of an entry.
+fn told(origin: &Origin) -> Result<Entry, AllocError>
+    ensures { IfOk result (λ entry. entry ≡ told_of origin.now) }
 {
-    match object {
-        Some(doc) => {
-            out.extend_from_slice(b" ")?;
-            out.extend_from_slice(setup.names().document_name(doc).bytes())
+    match origin {
+        Origin::Line { subject, work } => Ok(Entry::Line {
+            subject: *subject,
+            work: work.share()?,
+            lost: false,
+        }),
+        Origin::Child { parent, which } => Ok(Entry::Child {
+            parent: *parent,
+            which: *which,
+            lost: false,
+        }),
+    }
+}
+
+/// Lets so many children of an entry enter. There is room for as many entries as the limit says, and no line's weight
+/// lets there be more.
+fn enter(
+    alloc: Global,
+    entries: &mut Vec<Entered>,
+    room: usize,
+    parent: u32,
+    children: u32,
+) -> Result<(), AllocError>
+    requires there { parent < length entries.old.items }
+    requires room { length entries.old.items ≤ room }
+    ensures some { (n : ℕ) × HasEntered parent n entries.old.items entries.new.items }
+    ensures all { OnOk result (HasEntered parent children entries.old.items entries.new.items) }
+    ensures room { length entries.new.items ≤ room }
+{
+    let mut which = 0;
+    while which < children {
+        if entries.len() >= room {
+            return Err(AllocError);
         }
+        which += 1;
+        let child = entries[parent as usize].child(alloc, parent, which)?;
+        entries.push(child)?;
+    }
+    Ok(())
+}
+
+/// Has the next entry answered, and lets its children enter.
+fn run_next(
+    alloc: Global,
+    room: u32,
+    monitor: &mut Monitor,
+    entries: &mut Vec<Entered>,
+    answers: &mut Vec<Answer>,
+) -> Result<(), AllocError>
+    requires more { length answers.old.items < length entries.old.items }
+    requires room { length entries.old.items ≤ room }
+    requires known { AreKnown monitor.old.setup entries.old.items }
+    requires answered { AreAnswered monitor.old.setup monitor.old (order_of entries.old.items) answers.old.items }
+    ensures setup { monitor.new.setup ≡ monitor.old.setup }
+    ensures some { (n : ℕ) × HasEntered (length answers.old.items) n entries.old.items entries.new.items }
+    ensures entered { OnOk result (HasEntered (length answers.old.items) (length (children (said monitor.old.setup (order_of entries.old.items) (length answers.old.items)).effects)) entries.old.items entries.new.items) }
+    ensures answered { OnOk result (AreAnswered monitor.new.setup monitor.new (order_of entries.new.items) answers.new.items) }
+    ensures count { OnOk result (length answers.new.items ≡ length answers.old.items + 1) }
+    ensures room { length entries.new.items ≤ room }
+{
+    let place = answers.len();
+    let entry = told(&entries[place].origin)?;
+    answers.reserve(1)?;
+    let answer = match monitor.next(entry) {
+        Ok(answer) => answer,
+        Err(_) => return Err(AllocError),
+    };
+    answers.push_reserved(answer);
+    match monitor.children(place as u32) {
+        Some(children) => enter(alloc, entries, room as usize, place as u32, children),
         None => Ok(()),
     }
 }
 
-/// Adds ` denied CLAUSE SUBJECT`, and a space and the object where there is one.
-fn push_denied(setup: &Setup, out: &mut Vec<u8>, denial: Denial) -> Result<(), AllocError>
-    requires subject { denial.subject < length setup.now.names.subjects }
-    requires object { ForSome denial.object (λ doc. doc < length setup.now.names.documents) }
-    ensures { OnOk result (out.new.items ≡ out.old.items ++ answer_text setup.now.names (Denied denial)) }
+/// Has all entries answered.
+fn run(
+    alloc: Global,
+    room: u32,
+    monitor: &mut Monitor,
+    entries: &mut Vec<Entered>,
+    answers: &mut Vec<Answer>,
+) -> Result<(), AllocError>
+    requires room { length entries.old.items ≤ room }
+    requires known { AreKnown monitor.old.setup entries.old.items }
+    requires answered { AreAnswered monitor.old.setup monitor.old (order_of entries.old.items) answers.old.items }
+    ensures setup { monitor.new.setup ≡ monitor.old.setup }
+    ensures more { (more : List Entered) × (entries.new.items ≡ entries.old.items ++ more) × All (λ e. is_line e.origin ≡ false) more }
+    ensures all { OnOk result (length answers.new.items ≡ length entries.new.items) }
+    ensures answered { OnOk result (AreAnswered monitor.new.setup monitor.new (order_of entries.new.items) answers.new.items) }
+    ensures labelled { AreLabelled entries.old.items → AreLabelled entries.new.items }
+    ensures known { AreKnown monitor.old.setup entries.new.items }
+    ensures ran { OnOk result (HasRun monitor.old.setup room (order_of entries.old.items) (length answers.old.items) (order_of entries.new.items) (length answers.new.items)) }
+    ensures room { length entries.new.items ≤ room }
 {
-    out.extend_from_slice(b" denied ")?;
-    out.extend_from_slice(denial.clause.word().as_bytes())?;
-    out.extend_from_slice(b" ")?;
-    push_subject(setup, out, denial.subject)?;
-    push_object(setup, out, denial.object)
-}
-
-/// Adds ` done` and the content of the document that was shown.
-fn push_done(setup: &Setup, out: &mut Vec<u8>, doc: DocId) -> Result<(), AllocError>
-    requires { doc < length setup.now.names.documents }
-    ensures { OnOk result (out.new.items ≡ out.old.items ++ codes " done" ++ output_text (slice_index_or setup.now.contents doc [])) }
-{
-    let contents = setup.contents();
-    out.extend_from_slice(b" done \"")?;
-    out.extend_from_slice(contents[doc.position() as usize].bytes())?;
-    out.extend_from_slice(b"\"")
-}
-
-/// Adds the reply to an admitted line: the policy's first refusal, or the content that it shows.
-fn push_answer(setup: &Setup, out: &mut Vec<u8>, asked: &Asked) -> Result<(), AllocError>
-    requires subject { asked.now.subject < length setup.now.names.subjects }
-    requires reads { IsRead setup.now asked.now.work }
-    ensures { OnOk result (out.new.items ≡ out.old.items ++ reply_text setup.now.names (record { label = asked.now.ordinal ∷ []; answer = (past_alone setup.now asked.now.subject asked.now.work).answer })) }
-{
-    let Work::Behaviour(script) = &asked.work;
-    let accesses = script.accesses(0);
-    push_number(out, asked.ordinal)?;
-    match setup.policy().decide(asked.subject, accesses) {
-        Some(denial) => push_denied(setup, out, denial)?,
-        None => push_done(setup, out, accesses[0].doc)?,
+    'places: while answers.len() < entries.len() {
+        run_next(alloc, room, monitor, entries, answers)?;
     }
-    out.extend_from_slice(b"\n")
+    Ok(())
 }
 
-/// The place of the first line from `at` on whose ordinal is not below this one, or how many lines
-/// there are.
-fn place_from(lines: &[Asked], at: usize, ordinal: u32) -> usize
-    requires within { at ≤ length lines.now }
-    requires before { last_of 0 (take at (entries_of lines.now)) < ordinal }
-    ensures within { result ≤ length lines.now }
-    ensures before { last_of 0 (take result (entries_of lines.now)) < ordinal }
-    ensures here { HasOrdinalFrom ordinal (drop result (entries_of lines.now)) }
-{
-    let mut place = at;
-    while place < lines.len() && lines[place].ordinal < ordinal {
-        place += 1;
+impl Pages {
+    /// An order without entries, under this monitor, which has answered none.
+    pub fn new(alloc: Global, monitor: Monitor) -> Pages
+        ensures monitor { result.monitor ≡ monitor }
+        ensures empty { (result.entries.items ≡ []) × (result.answers.items ≡ []) }
+        ensures subject { result.subject ≡ None }
+        ensures counts { (result.weight ≡ 0) × (result.last ≡ 0) × (result.ended ≡ 0) }
+    {
+        Pages {
+            subject: None,
+            monitor,
+            entries: Vec::new(alloc),
+            answers: Vec::new(alloc),
+            weight: 0,
+            last: 0,
+            ended: 0,
+        }
     }
-    place
-}
-
-/// The place of the first line whose ordinal is above this one, looking from the end.
-fn place_above(lines: &[Asked], ordinal: u32) -> usize
-    ensures within { result ≤ length lines.now }
-    ensures before { last_of 0 (take result (entries_of lines.now)) ≤ ordinal }
-{
-    let mut place = lines.len();
-    while place > 0 && lines[place - 1].ordinal > ordinal {
-        place -= 1;
-    }
-    place
 }
 
 impl Behind for Alone {
     type State = Pages;
 
-    type Block = usize;
+    type Block = Block;
 
-    ghost serves = { λ a subject. subject < length a.setup.names.subjects };
+    ghost serves = { λ a subject. subject < length (arc_value a.setup).policy.subjects };
 
-    ghost takes = { λ a work. IsRead a.setup work };
+    ghost takes = { λ a work. KnowsWork (arc_value a.setup) work };
 
-    ghost replies = { λ a pages k. reply_in a.setup (entries_of pages.lines.items) k };
+    ghost replies = { λ a s k. told_text (arc_value a.setup) (order_of s.entries.items) k };
 
-    ghost settled = { λ a pages n. IsSound a.setup pages };
+    ghost settled = { λ a s n. AreLater s.ended (order_of s.entries.items) n };
 
-    ghost came = { λ a pages told. IsBook a.limit pages told };
+    ghost whole = { λ a s n. IsWhole (arc_value a.setup) a.limit s n };
 
-    ghost last = { λ a pages. last_of 0 (entries_of pages.lines.items) };
+    ghost came = { λ a s told. Came (arc_value a.setup) a.limit s told };
 
-    ghost gives = { λ a pages place n. (place ≤ length pages.lines.items) × (last_of 0 (take place (entries_of pages.lines.items)) ≤ n) };
+    ghost last = { λ a s. s.last };
+
+    ghost gives = { λ a s block n. Gives (arc_value a.setup) s.entries.items block n };
 
     fn open(&self, state: &mut Pages, subject: SubjectId) -> Result<(), AllocError> {
         state.subject = Some(subject);
+        state.last = 0;
         Ok(())
     }
 
     fn ask(&self, state: &mut Pages, ordinal: u32, work: Work) -> Result<(), AllocError> {
-        match state.subject {
-            Some(subject) => {
-                if state.lines.len() < self.limit as usize {
-                    state.lines.push(Asked {
-                        ordinal,
-                        subject,
-                        work,
-                    })?;
-                }
-                Ok(())
-            }
-            None => Ok(()),
+        let Some(subject) = state.subject else {
+            return Err(AllocError);
+        };
+        let weight = weight_of(&work);
+        if self.limit - state.weight < weight {
+            return Ok(());
         }
+        if state.entries.len() >= self.limit as usize {
+            return Err(AllocError);
+        }
+        let place = state.entries.len();
+        state
+            .entries
+            .push(Entered::line(self.alloc, place, ordinal, subject, work))?;
+        state.weight += weight;
+        state.last = ordinal;
+        Ok(())
     }
 
-    fn settle(&self, state: &mut Pages, after: u32, ordinal: u32) -> Result<usize, AllocError> {
-        let _ = ordinal;
-        Ok(place_above(&state.lines, after))
+    fn settle(&self, state: &mut Pages, after: u32, ordinal: u32) -> Result<Block, AllocError> {
+        let _ = (after, ordinal);
+        let first = state.ended;
+        let entered = state.entries.len();
+        let ran = run(
+            self.alloc,
+            self.limit,
+            &mut state.monitor,
+            &mut state.entries,
+            &mut state.answers,
+        );
+        if let Err(fault) = ran {
+            state.entries.truncate(entered);
+            return Err(fault);
+        }
+        state.ended = state.entries.len();
+        Block::new(self.alloc, &state.entries, first, entered)
     }
 
     fn answer(
         &self,
         state: &Pages,
-        block: &mut usize,
+        block: &mut Block,
         ordinal: u32,
         out: &mut Vec<u8>,
     ) -> Result<(), AllocError> {
-        let place = place_from(&state.lines, *block, ordinal);
-        *block = place;
-        if place < state.lines.len() && state.lines[place].ordinal == ordinal {
-            push_answer(&self.setup, out, &state.lines[place])
-        } else {
-            push_refused(out, ordinal, b"full")
+        let Some(place) = block.line(&state.entries, ordinal) else {
+            return push_refused(out, ordinal, b"full");
+        };
+        let names = self.setup.names();
+        push_reply(out, names, &state.entries[place], &state.answers[place])?;
+        let kin = block.kin(place);
+        for below in kin {
+            push_reply(out, names, &state.entries[*below], &state.answers[*below])?;
         }
+        Ok(())
     }
 }

@@ -8,16 +8,21 @@
 //!     turn       what a line is to a session
 //!     session    the engine: reads lines, has them answered, writes the replies
 //!     behind     what stands behind a session
-//!     entries    the list of entries that stands behind one
+//!     entries    the machine of one worker, which stands behind one
+//!     label      entries with their labels
+//!     block      the entries of a block, line by line
+//!     words      the texts of answers
 //!     reply      the texts of replies
 //!     put        writes the whole of some bytes
 #![tactic(auto)]
 
 pub mod alone;
 mod behind;
+mod block;
 mod entries;
 pub mod fault;
 mod held;
+mod label;
 mod lines;
 mod put;
 mod reply;
@@ -26,3 +31,4 @@ mod session;
 mod tests;
 mod turn;
 pub mod watched;
+mod words;

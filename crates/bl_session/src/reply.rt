@@ -5,7 +5,7 @@ ghost use Rattle.bl_session.specs.Spoken.{block_text, reply_to};
 
 use crate::behind::Behind;
 use crate::turn::Pending;
-use bl_small::line::LineFault;
+use bl_script::line::LineFault;
 use itoa::Buffer;
 use std::alloc::{AllocError, Global};
 
@@ -27,8 +27,14 @@ fn push_fault(out: &mut Vec<u8>, fault: &LineFault) -> Result<(), AllocError>
             out.extend_from_slice(b"syntax ")?;
             push_number(out, *byte)
         }
+        LineFault::Deep => out.extend_from_slice(b"deep"),
+        LineFault::Many => out.extend_from_slice(b"many"),
         LineFault::Unknown(name) => {
             out.extend_from_slice(b"unknown ")?;
+            out.extend_from_slice(name.bytes())
+        }
+        LineFault::Twice(name) => {
+            out.extend_from_slice(b"twice ")?;
             out.extend_from_slice(name.bytes())
         }
         LineFault::Mode(name) => {
@@ -69,6 +75,7 @@ fn push_reply<B: Behind>(
     line: &Pending,
 ) -> Result<(), AllocError>
     requires settled { (n : ℕ) × (ordinal ≤ n) × B.settled behind.now state.now n }
+    requires whole { (n : ℕ) × B.whole behind.now state.now n }
     requires gives { (n : ℕ) × (n < ordinal) × B.gives behind.now state.now block.old n }
     ensures text { OnOk result (out.new.items ≡ out.old.items ++ reply_to (B.replies behind.now state.now) ordinal line.now) }
     ensures gives { OnOk result ((n : ℕ) × (n ≤ ordinal) × B.gives behind.now state.now block.new n) }
@@ -90,6 +97,7 @@ pub fn text_block<B: Behind>(
     pending: &[Pending],
 ) -> Result<Vec<u8>, AllocError>
     requires settled { B.settled behind.now state.now (after + length pending.now) }
+    requires whole { (n : ℕ) × B.whole behind.now state.now n }
     requires gives { B.gives behind.now state.now block.old after }
     requires fits { after + length pending.now < 2 ^ 32 }
     ensures { IfOk result (λ out. out.items ≡ block_text (B.replies behind.now state.now) after pending.now) }

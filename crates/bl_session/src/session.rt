@@ -47,6 +47,7 @@ fn end_block<B: Behind, W: Write>(
     requires count { talk.old.ordinal ≡ talk.old.after + length talk.old.pending.items }
     requires last { B.last behind.now state.old ≤ talk.old.ordinal }
     requires settled { B.settled behind.now state.old talk.old.after }
+    requires whole { B.whole behind.now state.old talk.old.after }
     ensures settled { (n : ℕ) → B.settled behind.now state.old n →
         B.settled behind.now state.new n × SameUpTo n (B.replies behind.now state.old) (B.replies behind.now state.new) }
     ensures last { B.last behind.now state.new ≤ talk.old.ordinal }
@@ -57,6 +58,7 @@ fn end_block<B: Behind, W: Write>(
     ensures came { OnOk result ((told : List Told) → B.came behind.now state.old told → B.came behind.now state.new (told ++ Settles ∷ [])) }
     ensures talk { OnOk result ((talk.new.ordinal ≡ talk.old.ordinal) × (talk.new.after ≡ talk.old.ordinal) × (talk.new.pending.items ≡ [])) }
     ensures same { OnOk result (writer.new.failed ≡ writer.old.failed) }
+    ensures whole { OnOk result (B.whole behind.now state.new talk.new.after) }
 
     ensures fault { IfErr result (IsOwnFault writer.new.failed) }
     ensures part { OnErr result (BlockFailed (B.settled behind.now state.new) (W.contents writer.old.inner) (W.contents writer.new.inner)
@@ -97,6 +99,7 @@ fn take_turn<B: Behind, W: Write>(
 ) -> Result<(), SessionFault>
     requires count { talk.old.ordinal ≡ talk.old.after + length talk.old.pending.items }
     requires settled { B.settled behind.now state.old talk.old.after }
+    requires whole { B.whole behind.now state.old talk.old.after }
     requires last { B.last behind.now state.old ≤ talk.old.ordinal }
     requires small { talk.old.ordinal + 1 < 2 ^ 32 }
     requires served { IsServed (B.serves behind.now) (B.takes behind.now) turn }
@@ -104,6 +107,7 @@ fn take_turn<B: Behind, W: Write>(
         (B.settled behind.now state.old) (B.settled behind.now state.new) (B.came behind.now state.old) (B.came behind.now state.new)
         talk.old.after talk.new.after talk.old.pending.items talk.new.pending.items (W.contents writer.old.inner) (W.contents writer.new.inner) turn) }
     ensures same { OnOk result (writer.new.failed ≡ writer.old.failed) }
+    ensures whole { OnOk result (B.whole behind.now state.new talk.new.after) }
     ensures count { OnOk result (talk.new.ordinal ≡ talk.new.after + length talk.new.pending.items) }
     ensures settled { OnOk result (B.settled behind.now state.new talk.new.after) }
     ensures last { OnOk result (B.last behind.now state.new ≤ talk.new.ordinal) }
@@ -183,6 +187,7 @@ fn one_line<R: BufRead, B: Behind, W: Write>(
 ) -> Result<bool, SessionFault>
     requires count { talk.old.ordinal ≡ talk.old.after + length talk.old.pending.items }
     requires settled { B.settled behind.now state.old talk.old.after }
+    requires whole { B.whole behind.now state.old talk.old.after }
     requires last { B.last behind.now state.old ≤ talk.old.ordinal }
     requires small { talk.old.ordinal + left.old + 1 < 2 ^ 32 }
     requires served { AreServed names.now (B.serves behind.now) (B.takes behind.now) }
@@ -190,6 +195,7 @@ fn one_line<R: BufRead, B: Behind, W: Write>(
         Stage true names.now start (R.remaining reader.old.inner) first (W.contents writer.old.inner) left.old (B.replies behind.now state.old) (B.settled behind.now state.old) (B.came behind.now state.old) talk.old.after talk.old.pending.items →
         Stage again names.now start (R.remaining reader.new.inner) first (W.contents writer.new.inner) left.new (B.replies behind.now state.new) (B.settled behind.now state.new) (B.came behind.now state.new) talk.new.after talk.new.pending.items) }
     ensures same { OnOk result ((reader.new.failed ≡ reader.old.failed) × (writer.new.failed ≡ writer.old.failed)) }
+    ensures whole { OnOk result (B.whole behind.now state.new talk.new.after) }
     ensures count { OnOk result (talk.new.ordinal ≡ talk.new.after + length talk.new.pending.items) }
     ensures settled { OnOk result (B.settled behind.now state.new talk.new.after) }
     ensures last { OnOk result (B.last behind.now state.new ≤ talk.new.ordinal) }
@@ -259,6 +265,7 @@ fn listen<R: BufRead, B: Behind, W: Write>(
     more: bool,
 ) -> Result<(), SessionFault>
     requires settled { B.settled behind.now state.old 0 }
+    requires whole { B.whole behind.now state.old 0 }
     requires served { AreServed names.now (B.serves behind.now) (B.takes behind.now) }
     requires last { B.last behind.now state.old ≡ 0 }
     requires small { left.old ≤ 16777216 }
@@ -314,9 +321,11 @@ fn greet<B: Behind, W: Write>(
     requires serves { B.serves behind.now subject }
     requires came { B.came behind.now state.old [] }
     requires settled { B.settled behind.now state.old 0 }
+    requires whole { B.whole behind.now state.old 0 }
     ensures settled { B.settled behind.now state.new 0 }
     ensures ok { OnOk result (Appends (W.contents writer.old.inner) (W.contents writer.new.inner) ok_line) }
     ensures same { OnOk result (writer.new.failed ≡ writer.old.failed) }
+    ensures whole { OnOk result (B.whole behind.now state.new 0) }
     ensures came { OnOk result (B.came behind.now state.new (Opens subject ∷ [])) }
     ensures last { OnOk result (B.last behind.now state.new ≡ 0) }
     ensures fault { IfErr result (IsOwnFault writer.new.failed) }
@@ -348,6 +357,7 @@ fn answer_first<R: BufRead, B: Behind, W: Write>(
 ) -> Result<(), SessionFault>
     requires came { B.came behind.now state.old [] }
     requires settled { B.settled behind.now state.old 0 }
+    requires whole { B.whole behind.now state.old 0 }
     requires small { left.old ≤ 16777216 }
     requires spoken { is_skip turn ≡ false }
     requires first { IsServed (B.serves behind.now) (B.takes behind.now) turn }
@@ -381,6 +391,7 @@ pub fn converse<R: BufRead, B: Behind, W: Write>(
 ) -> Result<(), SessionFault>
     requires came { B.came behind.now state.old [] }
     requires settled { B.settled behind.now state.old 0 }
+    requires whole { B.whole behind.now state.old 0 }
     requires served { AreServed names.now (B.serves behind.now) (B.takes behind.now) }
     ensures ok { OnOk result (Finished names.now (R.remaining reader.old.inner) (R.remaining reader.new.inner) (W.contents writer.old.inner) (W.contents writer.new.inner)
         (B.replies behind.now state.new) (B.settled behind.now state.new) (B.came behind.now state.new)) }

@@ -1,51 +1,59 @@
-use Rattle.std.proofs.Common.{◌<◌, sym, subst, refl, length, ℕ, List}
-use Rattle.std.specs.Io.KnownBytes.{Appends}
+use Rattle.std.proofs.Common.{◌≡◌, ◌∙◌, ◌<◌, ap, sym, subst, length, ℕ}
+use Rattle.std.specs.Arc.{arc_value}
 use Rattle.bl_script.specs.Names.{KnownNames}
-use Rattle.bl_session.specs.Texts.{session_text}
-use Rattle.bl_session.specs.Turns.{AreTurns, AreServed}
-use Rattle.bl_session.specs.Spoken.{Begins}
-use Rattle.bl_session.specs.Stages.{AreWhole, Broken}
-use Rattle.bl_session.specs.Lines.{lines_of}
-use Rattle.bl_session.specs.Book.{IsRead, reply_in}
-use Rattle.bl_session.specs.BookView.{entries_of}
-use Rattle.bl_session.proofs.ToldLaws.{are_served, one-reply, heard-reply}
+use Rattle.bl_setup.specs.Agreement.{Agree}
+use Rattle.bl_setup.specs.Order.{Setup}
+use Rattle.bl_monitor.specs.Heard.{Heard, KnowsWork}
+use Rattle.bl_session.specs.Turns.{AreServed}
+use Rattle.bl_session.specs.Orders.{told_text, AreLater}
+use Rattle.bl_session.specs.Entries.{order_of}
+use Rattle.bl_session.specs.Whole.{Came}
+use Rattle.bl_session.specs.Stages.{Finished, Stopped}
+use Rattle.bl_session.specs.Outcome.{IsServed, IsCutShort}
+use Rattle.bl_session.proofs.ServeLaws.{are_served, served_whole, served_part, unserved}
 use Rattle.bl_session.proofs.alone.serve_alone.Goals as goal
+
+pub returns-in-Err-clause-err : goal.returns-in-Err-clause-err
+returns-in-Err-clause-err g c = unserved c.args.setup c.args.limit _ _ _ _
+
+pub returns-in-Err-share_setup-clause-err : goal.returns-in-Err-share_setup-clause-err
+returns-in-Err-share_setup-clause-err g c = unserved c.args.setup c.args.limit _ _ _ _
 
 pub converse-requires-clause-served : goal.converse-requires-clause-served
 converse-requires-clause-served g c =
-    let setup = c.args.setup in
-    subst (λ (names : KnownNames). AreServed names (λ subject. subject < length setup.names.subjects) (IsRead setup)) (sym c.names.ensures.value) (are_served setup)
+    let own = arc_value c.in-Ok-share_setup.setup in
+    let names : c.names.result.now ≡ own.names = c.names.ensures.value ∙ ap (λ (s : Setup). s.names) c.deref.ensures in
+    let agree = subst Agree c.deref.ensures c.names.ensures.agree in
+    subst (λ (k : KnownNames). AreServed k (λ subject. subject < length own.policy.subjects) (KnowsWork own)) (sym names)
+    (are_served own agree (λ bytes work. c.read_lines_are_in_the_setup.ensures.work own bytes work agree))
 
-pub returns-in-Ok-clause-ok : goal.returns-in-Ok-clause-ok
-returns-in-Ok-clause-ok g c =
-    let setup = c.args.setup in
-    let done = c.in-Ok.ensures.ok in
-    let are : AreTurns setup.names (lines_of done.bytes) done.turns = subst (λ (names : KnownNames). AreTurns names (lines_of done.bytes) done.turns) c.names.ensures.value done.are in
-    let same = one-reply setup c.args.limit (lines_of done.bytes) done.turns (entries_of c.converse.new.state.lines.items) are done.came.lines done.settled.rise in
-    record {
-      bytes = done.bytes;
-      turns = done.turns;
-      took = done.took;
-      within = done.within;
-      whole = done.whole;
-      are = are;
-      put = subst (λ (f : ℕ → List ℕ). Appends (g.W.Write.contents c.args.writer.now.inner) (g.W.Write.contents c.converse.new.writer.inner) (session_text f done.turns)) same done.put;
-    }
+pub returns-in-Ok-converse-clause-ok : goal.returns-in-Ok-converse-clause-ok
+returns-in-Ok-converse-clause-ok g c =
+    let own = arc_value c.in-Ok-share_setup.setup in
+    let is : own ≡ c.args.setup = c.in-Ok-share_setup.ensures ∙ ap (λ (h : Heard). h.setup) c.in-Ok.ensures in
+    let names : c.names.result.now ≡ own.names = c.names.ensures.value ∙ ap (λ (s : Setup). s.names) c.deref.ensures in
+    let s = c.converse.new.state in
+    let R = g.R.Read.remaining in
+    let W = g.W.Write.contents in
+    let Settled : ℕ → Type 0 = λ n. AreLater s.ended (order_of s.entries.items) n in
+    subst (λ (k : Setup). IsServed k c.args.limit (R c.args.reader.now.inner) (R c.converse.new.reader.inner) (W c.args.writer.now.inner) (W c.converse.new.writer.inner)) is
+    (served_whole own c.args.limit s (R c.args.reader.now.inner) (R c.converse.new.reader.inner) (W c.args.writer.now.inner) (W c.converse.new.writer.inner) Settled
+    (subst (λ (k : KnownNames). Finished k (R c.args.reader.now.inner) (R c.converse.new.reader.inner) (W c.args.writer.now.inner) (W c.converse.new.writer.inner)
+    (told_text own (order_of s.entries.items)) Settled (Came own c.args.limit s)) names c.in-Ok-converse.ensures.ok))
 
 pub returns-clause-err : goal.returns-clause-err
 returns-clause-err g c =
-    let setup = c.args.setup in
-    let off = c.in-Err.ensures.err in
-    let read = subst (λ (names : KnownNames). Broken c.in-Err.fault names (g.R.Read.remaining c.args.reader.now.inner) (g.R.Read.remaining c.converse.new.reader.inner) c.converse.new.reader.failed c.converse.new.writer.failed off.turns) c.names.ensures.value off.read in
-    let same = heard-reply setup c.args.limit (lines_of read.bytes) off.turns off.heard off.told off.settles (entries_of c.converse.new.state.lines.items) read.are off.heard_is off.told_is off.came.lines off.settled.rise in
-    let replies = reply_in setup (entries_of c.converse.new.state.lines.items) in
-    record {
-      turns = off.turns;
-      read = read;
-      written = off.written;
-      put = off.put;
-      heard = off.heard;
-      heard_is = off.heard_is;
-      begins = subst (λ (f : ℕ → List ℕ). Begins off.written (session_text f off.heard)) same (off.begins replies (λ k le. refl));
-      closed = λ which. subst (λ (f : ℕ → List ℕ). AreWhole f off.turns off.written) same (off.closed which replies (λ k le. refl));
-    }
+    let own = arc_value c.in-Ok-share_setup.setup in
+    let is : own ≡ c.args.setup = c.in-Ok-share_setup.ensures ∙ ap (λ (h : Heard). h.setup) c.in-Ok.ensures in
+    let names : c.names.result.now ≡ own.names = c.names.ensures.value ∙ ap (λ (s : Setup). s.names) c.deref.ensures in
+    let s = c.converse.new.state in
+    let R = g.R.Read.remaining in
+    let W = g.W.Write.contents in
+    let Settled : ℕ → Type 0 = λ n. AreLater s.ended (order_of s.entries.items) n in
+    let fault = c.in-Err-converse.fault in
+    subst (λ (k : Setup). IsCutShort k c.args.limit fault (R c.args.reader.now.inner) (R c.converse.new.reader.inner) (W c.args.writer.now.inner) (W c.converse.new.writer.inner)
+    c.converse.new.reader.failed c.converse.new.writer.failed) is
+    (served_part own c.args.limit s (R c.args.reader.now.inner) (R c.converse.new.reader.inner) (W c.args.writer.now.inner) (W c.converse.new.writer.inner) fault
+    c.converse.new.reader.failed c.converse.new.writer.failed
+    (subst (λ (k : KnownNames). Stopped fault k (R c.args.reader.now.inner) (R c.converse.new.reader.inner) (W c.args.writer.now.inner) (W c.converse.new.writer.inner)
+    c.converse.new.reader.failed c.converse.new.writer.failed (told_text own (order_of s.entries.items)) Settled (Came own c.args.limit s)) names c.in-Err-converse.ensures.err))

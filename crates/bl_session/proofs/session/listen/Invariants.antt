@@ -7,6 +7,7 @@ invariant-lines g l = record {
   count : l.talk.ordinal ≡ l.talk.after + length l.talk.pending.items;
   settled : g.B.Behind.settled l.behind l.state l.talk.after;
   last : g.B.Behind.last l.behind l.state ≤ l.talk.ordinal;
+  whole : g.B.Behind.whole l.behind l.state l.talk.after;
   small : l.again ≡ true → l.talk.ordinal + l.left ≤ 16777216;
   same : (l.reader.failed ≡ l.initial.reader.failed) × (l.writer.failed ≡ l.initial.writer.failed);
   stage : (start first : Option (List ℕ)) →

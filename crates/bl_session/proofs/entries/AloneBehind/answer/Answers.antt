@@ -1,58 +1,131 @@
-use Rattle.std.proofs.Common.{rules, ◌≡◌, ◌∙◌, ◌<◌, ◌≤◌, ◌++◌, ◌≢◌, ap, sym, subst, length, take, drop, [], ◌∷◌, slice_index_or}
+use Rattle.std.proofs.Common.{rules, ◌≡◌, ◌∙◌, ◌<◌, ◌-◌, ◌++◌, ◌∷◌, ap, sym, length, map, take, slice_index_or, append_assoc, append-nil, ℕ, Vec}
+use Rattle.std.specs.Global.{Global}
+use Rattle.std.specs.Arc.{arc_value}
+use Rattle.std.specs.List.{flat_map}
+use Rattle.bl_setup.specs.Order.{Setup}
 use Rattle.bl_session.specs.Replies.{reply_text}
-use Rattle.bl_session.specs.declared.entries.Asked.{Asked}
-use Rattle.bl_session.specs.Book.{IsRead, last_of, HasOrdinalFrom, past_alone}
-use Rattle.bl_session.specs.BookView.{entries_of}
+use Rattle.bl_session.specs.Orders.{reply_at}
+use Rattle.bl_session.specs.Entries.{order_of}
 use Rattle.bl_session.proofs.Outcomes.{on_ok-map}
-use Rattle.bl_session.proofs.BookLaws.{reads-at, reply-at, reply-missing, reply-past, same-at}
+use Rattle.bl_session.proofs.ReplyLaws.{kin_text, text_said, names_known, placed, kin_placed, all_text, missing, gives_on}
 use Rattle.bl_session.proofs.entries.AloneBehind.answer.Goals as goal
-use Rattle.bl_session.proofs.entries.AloneBehind.answer.Goals.{else-place-len-via-then-place-len+else-index-ordinal, else-place-len-via-else-place-len}
 
-pub push_answer-requires-clause-subject : goal.push_answer-requires-clause-subject
-push_answer-requires-clause-subject c =
-    let setup = c.args.self.now.setup in
-    let lt : c.place_from-place.result < length c.args.state.now.lines.items = search rules in
-    subst (λ (x : Asked). x.subject < length setup.names.subjects) (sym c.index-then-index-ordinal.ensures)
-    (reads-at setup c.args.state.now.lines.items c.place_from-place.result c.index-then-index-ordinal.result.now c.requires.settled.2.reads lt).0
-
-pub push_answer-requires-clause-reads : goal.push_answer-requires-clause-reads
-push_answer-requires-clause-reads c =
-    let setup = c.args.self.now.setup in
-    let lt : c.place_from-place.result < length c.args.state.now.lines.items = search rules in
-    subst (λ (x : Asked). IsRead setup x.work) (sym c.index-then-index-ordinal.ensures)
-    (reads-at setup c.args.state.now.lines.items c.place_from-place.result c.index-then-index-ordinal.result.now c.requires.settled.2.reads lt).1
-
-pub returns-then-index-ordinal-clause-text : goal.returns-then-index-ordinal-clause-text
-returns-then-index-ordinal-clause-text c =
-    let setup = c.args.self.now.setup in
-    let items = c.args.state.now.lines.items in
-    let place = c.place_from-place.result in
-    let r = c.index.result.now in
-    let lt : place < length items = search rules in
-    let before : last_of 0 (take place (entries_of items)) < c.args.ordinal = search rules in
-    let is : (slice_index_or items place r).ordinal ≡ c.args.ordinal =
-    ap (λ (x : Asked). x.ordinal) (sym c.index.ensures) ∙ c.if-index-ordinal.true in
-    let asked : c.index-then-index-ordinal.result.now ≡ slice_index_or items place r =
-    c.index-then-index-ordinal.ensures ∙ same-at items place c.index-then-index-ordinal.result.now r lt in
-    on_ok-map c.push_answer.result
-    (λ text. text ∙ ap (λ (x : Asked). c.args.out.now.items ++ reply_text setup.names (record { label = x.ordinal ∷ []; answer = (past_alone setup x.subject x.work).answer })) asked
-    ∙ ap (λ l. c.args.out.now.items ++ l) (sym (reply-at setup items place c.args.ordinal c.requires.settled.2.rise before r lt is)))
-    c.push_answer.ensures
-
-pub returns-else-place-len-clause-text : goal.returns-else-place-len-clause-text
-returns-else-place-len-clause-text c =
-    let setup = c.args.self.now.setup in
-    let items = c.args.state.now.lines.items in
-    let place = c.place_from-place.result in
-    let before : last_of 0 (take place (entries_of items)) < c.args.ordinal = search rules in
-    let here : HasOrdinalFrom c.args.ordinal (drop place (entries_of items)) = search rules in
+pub returns-in_default-clause-text : goal.returns-in_default-clause-text
+returns-in_default-clause-text c =
+    let r = c.requires in
+    let none = rw c.in_default.is at c.line.ensures.found in
     on_ok-map c.push_refused.result
-    (λ text. text ∙ ap (λ l. c.args.out.now.items ++ l) (sym (elim c.else-place-len.branch [
-      | else-place-len-via-then-place-len+else-index-ordinal w ↦
-          (let lt : place < length items = search rules in
-          let other : (slice_index_or items place w.index.result.now).ordinal ≢ c.args.ordinal = λ e. w.if-index-ordinal.false (ap (λ (x : Asked). x.ordinal) w.index.ensures ∙ e) in
-          reply-missing setup items place c.args.ordinal c.requires.settled.2.rise before w.index.result.now lt here other)
-      | else-place-len-via-else-place-len w ↦
-          (let le : length items ≤ place = search rules in reply-past setup items place c.args.ordinal c.requires.settled.2.rise before le)
-    ])))
+    (λ text. text ∙ ap (λ l. c.args.out.now.items ++ l)
+    (missing (arc_value c.args.self.now.setup) c.args.self.now.limit c.args.state.now r.whole.0 r.settled.0 c.args.ordinal r.whole.1 r.settled.2 r.settled.1
+    c.deref.result.now c.deref.ensures.value c.args.block.now c.line.new.self.next r.gives.0 r.gives.2 r.gives.1 c.line.ensures.from c.line.ensures.passed none))
     c.push_refused.ensures
+
+pub index-requires-2 : goal.index-requires-2
+index-requires-2 c =
+    let r = c.requires in
+    let p = placed (arc_value c.args.self.now.setup) c.args.self.now.limit c.args.state.now r.whole.0 r.settled.0 c.args.ordinal r.whole.1 r.settled.2 r.settled.1
+    c.deref.result.now c.deref.ensures.value c.args.block.now c.line.new.self.next r.gives.0 r.gives.2 c.line.ensures.from c.in-Some.place (rw c.in-Some.is at c.line.ensures.found) in
+    let lt : c.in-Some.place < length c.args.state.now.answers.items = p.answered in
+    search rules
+
+pub push_reply-requires : goal.push_reply-requires
+push_reply-requires c =
+    let r = c.requires in
+    let p = placed (arc_value c.args.self.now.setup) c.args.self.now.limit c.args.state.now r.whole.0 r.settled.0 c.args.ordinal r.whole.1 r.settled.2 r.settled.1
+    c.deref.result.now c.deref.ensures.value c.args.block.now c.line.new.self.next r.gives.0 r.gives.2 c.line.ensures.from c.in-Some.place (rw c.in-Some.is at c.line.ensures.found) in
+    names_known (arc_value c.args.self.now.setup) c.args.self.now.limit c.args.state.now r.whole.0 r.settled.0 c.args.ordinal r.whole.1 r.settled.2 r.settled.1
+    c.names-names.result.now (c.names-names.ensures.value ∙ ap (λ (s : Setup). s.names) c.deref-2.ensures) c.in-Some.place c.index-2.result.now p.answered c.index-2.ensures
+
+pub loop-below-init : goal.loop-below-init
+loop-below-init c =
+    let r = c.requires in
+    let setup = arc_value c.args.self.now.setup in
+    let p = placed setup c.args.self.now.limit c.args.state.now r.whole.0 r.settled.0 c.args.ordinal r.whole.1 r.settled.2 r.settled.1
+    c.deref.result.now c.deref.ensures.value c.args.block.now c.line.new.self.next r.gives.0 r.gives.2 c.line.ensures.from c.in-Some.place (rw c.in-Some.is at c.line.ensures.found) in
+    let said = text_said setup c.args.self.now.limit c.args.state.now r.whole.0 r.settled.0 c.args.ordinal r.whole.1 r.settled.2 r.settled.1
+    c.names-names.result.now (c.names-names.ensures.value ∙ ap (λ (s : Setup). s.names) c.deref-2.ensures) c.in-Some.place c.index.result.now c.index-2.result.now p.answered c.index.ensures c.index-2.ensures in
+    c.in_ok-push_reply.ensures ∙ ap (λ l. c.args.out.now.items ++ l) (said ∙ sym (append-nil (reply_text setup.names (reply_at setup (order_of c.args.state.now.entries.items) c.in-Some.place))))
+
+pub index-requires-in-loop-below : goal.index-requires-in-loop-below
+index-requires-in-loop-below c =
+    let r = c.requires in
+    let setup = arc_value c.args.self.now.setup in
+    let p = placed setup c.args.self.now.limit c.args.state.now r.whole.0 r.settled.0 c.args.ordinal r.whole.1 r.settled.2 r.settled.1
+    c.deref.result.now c.deref.ensures.value c.args.block.now c.line.new.self.next r.gives.0 r.gives.2 c.line.ensures.from c.in-Some.place (rw c.in-Some.is at c.line.ensures.found) in
+    let kin : (v : Vec ℕ Global) → c.kin-kin.result.now ≡ (slice_index_or c.args.block.now.kin.items (c.in-Some.place - c.args.block.now.first) v).items =
+    λ v. c.kin-kin.ensures v ∙ ap (λ (k : Vec (Vec ℕ Global) Global). (slice_index_or k.items (c.in-Some.place - c.line.new.self.first) v).items) c.line.ensures.kin
+    ∙ ap (λ f. (slice_index_or c.args.block.now.kin.items (c.in-Some.place - f) v).items) c.line.ensures.first in
+    let below = kin_placed setup c.args.self.now.limit c.args.state.now r.whole.0 r.settled.0 c.args.ordinal r.whole.1 r.settled.2 r.settled.1
+    c.args.block.now r.gives.0 c.in-Some.place r.gives.2 p c.kin-kin.result.now kin c.loop-below.below-index 0 c.loop-below-test.true in
+    let lt : slice_index_or c.kin-kin.result.now c.loop-below.below-index 0 < length c.args.state.now.entries.items = below.0 in
+    search rules
+
+pub index-requires-in-loop-below-2 : goal.index-requires-in-loop-below-2
+index-requires-in-loop-below-2 c =
+    let r = c.requires in
+    let setup = arc_value c.args.self.now.setup in
+    let p = placed setup c.args.self.now.limit c.args.state.now r.whole.0 r.settled.0 c.args.ordinal r.whole.1 r.settled.2 r.settled.1
+    c.deref.result.now c.deref.ensures.value c.args.block.now c.line.new.self.next r.gives.0 r.gives.2 c.line.ensures.from c.in-Some.place (rw c.in-Some.is at c.line.ensures.found) in
+    let kin : (v : Vec ℕ Global) → c.kin-kin.result.now ≡ (slice_index_or c.args.block.now.kin.items (c.in-Some.place - c.args.block.now.first) v).items =
+    λ v. c.kin-kin.ensures v ∙ ap (λ (k : Vec (Vec ℕ Global) Global). (slice_index_or k.items (c.in-Some.place - c.line.new.self.first) v).items) c.line.ensures.kin
+    ∙ ap (λ f. (slice_index_or c.args.block.now.kin.items (c.in-Some.place - f) v).items) c.line.ensures.first in
+    let below = kin_placed setup c.args.self.now.limit c.args.state.now r.whole.0 r.settled.0 c.args.ordinal r.whole.1 r.settled.2 r.settled.1
+    c.args.block.now r.gives.0 c.in-Some.place r.gives.2 p c.kin-kin.result.now kin c.loop-below.below-index 0 c.loop-below-test.true in
+    let lt : slice_index_or c.kin-kin.result.now c.loop-below.below-index 0 < length c.args.state.now.answers.items = below.1 in
+    search rules
+
+pub push_reply-requires-in-loop-below : goal.push_reply-requires-in-loop-below
+push_reply-requires-in-loop-below c =
+    let r = c.requires in
+    let setup = arc_value c.args.self.now.setup in
+    let p = placed setup c.args.self.now.limit c.args.state.now r.whole.0 r.settled.0 c.args.ordinal r.whole.1 r.settled.2 r.settled.1
+    c.deref.result.now c.deref.ensures.value c.args.block.now c.line.new.self.next r.gives.0 r.gives.2 c.line.ensures.from c.in-Some.place (rw c.in-Some.is at c.line.ensures.found) in
+    let kin : (v : Vec ℕ Global) → c.kin-kin.result.now ≡ (slice_index_or c.args.block.now.kin.items (c.in-Some.place - c.args.block.now.first) v).items =
+    λ v. c.kin-kin.ensures v ∙ ap (λ (k : Vec (Vec ℕ Global) Global). (slice_index_or k.items (c.in-Some.place - c.line.new.self.first) v).items) c.line.ensures.kin
+    ∙ ap (λ f. (slice_index_or c.args.block.now.kin.items (c.in-Some.place - f) v).items) c.line.ensures.first in
+    let below = kin_placed setup c.args.self.now.limit c.args.state.now r.whole.0 r.settled.0 c.args.ordinal r.whole.1 r.settled.2 r.settled.1
+    c.args.block.now r.gives.0 c.in-Some.place r.gives.2 p c.kin-kin.result.now kin c.loop-below.below-index 0 c.loop-below-test.true in
+    names_known setup c.args.self.now.limit c.args.state.now r.whole.0 r.settled.0 c.args.ordinal r.whole.1 r.settled.2 r.settled.1
+    c.names-names.result.now (c.names-names.ensures.value ∙ ap (λ (s : Setup). s.names) c.deref-2.ensures) (slice_index_or c.kin-kin.result.now c.loop-below.below-index 0) c.index-in-loop-below-2.result.now below.1 c.index-in-loop-below-2.ensures
+
+pub loop-below-preserved : goal.loop-below-preserved
+loop-below-preserved c =
+    let r = c.requires in
+    let setup = arc_value c.args.self.now.setup in
+    let order = order_of c.args.state.now.entries.items in
+    let p = placed setup c.args.self.now.limit c.args.state.now r.whole.0 r.settled.0 c.args.ordinal r.whole.1 r.settled.2 r.settled.1
+    c.deref.result.now c.deref.ensures.value c.args.block.now c.line.new.self.next r.gives.0 r.gives.2 c.line.ensures.from c.in-Some.place (rw c.in-Some.is at c.line.ensures.found) in
+    let kin : (v : Vec ℕ Global) → c.kin-kin.result.now ≡ (slice_index_or c.args.block.now.kin.items (c.in-Some.place - c.args.block.now.first) v).items =
+    λ v. c.kin-kin.ensures v ∙ ap (λ (k : Vec (Vec ℕ Global) Global). (slice_index_or k.items (c.in-Some.place - c.line.new.self.first) v).items) c.line.ensures.kin
+    ∙ ap (λ f. (slice_index_or c.args.block.now.kin.items (c.in-Some.place - f) v).items) c.line.ensures.first in
+    let below = kin_placed setup c.args.self.now.limit c.args.state.now r.whole.0 r.settled.0 c.args.ordinal r.whole.1 r.settled.2 r.settled.1
+    c.args.block.now r.gives.0 c.in-Some.place r.gives.2 p c.kin-kin.result.now kin c.loop-below.below-index 0 c.loop-below-test.true in
+    let said = text_said setup c.args.self.now.limit c.args.state.now r.whole.0 r.settled.0 c.args.ordinal r.whole.1 r.settled.2 r.settled.1
+    c.names-names.result.now (c.names-names.ensures.value ∙ ap (λ (s : Setup). s.names) c.deref-2.ensures) (slice_index_or c.kin-kin.result.now c.loop-below.below-index 0)
+    c.index-in-loop-below.result.now c.index-in-loop-below-2.result.now below.1 c.index-in-loop-below.ensures c.index-in-loop-below-2.ensures in
+    let so_far = flat_map (reply_text setup.names) (map (reply_at setup order) (c.in-Some.place ∷ take c.loop-below.below-index c.kin-kin.result.now)) in
+    let text = reply_text c.names-names.result.now (record { label = c.index-in-loop-below.result.now.ordinal ∷ c.index-in-loop-below.result.now.path.items; answer = c.index-in-loop-below-2.result.now }) in
+    c.in_ok-push_reply-2.ensures
+    ∙ ap (λ l. l ++ text) c.loop-below.invariant
+    ∙ append_assoc c.args.out.now.items so_far text
+    ∙ ap (λ l. c.args.out.now.items ++ l) (ap (λ l. so_far ++ l) said ∙ sym (kin_text setup.names (reply_at setup order) c.in-Some.place c.kin-kin.result.now c.loop-below.below-index 0 c.loop-below-test.true))
+
+pub returns-clause-text : goal.returns-clause-text
+returns-clause-text c =
+    let r = c.requires in
+    let setup = arc_value c.args.self.now.setup in
+    let p = placed setup c.args.self.now.limit c.args.state.now r.whole.0 r.settled.0 c.args.ordinal r.whole.1 r.settled.2 r.settled.1
+    c.deref.result.now c.deref.ensures.value c.args.block.now c.line.new.self.next r.gives.0 r.gives.2 c.line.ensures.from c.in-Some.place (rw c.in-Some.is at c.line.ensures.found) in
+    let kin : (v : Vec ℕ Global) → c.kin-kin.result.now ≡ (slice_index_or c.args.block.now.kin.items (c.in-Some.place - c.args.block.now.first) v).items =
+    λ v. c.kin-kin.ensures v ∙ ap (λ (k : Vec (Vec ℕ Global) Global). (slice_index_or k.items (c.in-Some.place - c.line.new.self.first) v).items) c.line.ensures.kin
+    ∙ ap (λ f. (slice_index_or c.args.block.now.kin.items (c.in-Some.place - f) v).items) c.line.ensures.first in
+    c.loop-below.invariant
+    ∙ ap (λ l. c.args.out.now.items ++ l)
+    (all_text setup c.args.self.now.limit c.args.state.now r.whole.0 r.settled.0 c.args.ordinal r.whole.1 r.settled.2 r.settled.1
+    c.args.block.now r.gives.0 c.in-Some.place r.gives.2 p c.kin-kin.result.now kin c.loop-below.below-index c.loop-below-test.false)
+
+pub returns-clause-gives : goal.returns-clause-gives
+returns-clause-gives c =
+    let r = c.requires in
+    gives_on (arc_value c.args.self.now.setup) c.args.self.now.limit c.args.state.now r.whole.0 r.settled.0 c.args.ordinal r.whole.1 r.settled.2 r.settled.1
+    c.deref.result.now c.deref.ensures.value c.args.block.now c.line.new.self r.gives.0 r.gives.2 r.gives.1 c.line.ensures.first c.line.ensures.kin c.line.ensures.from c.line.ensures.upto c.line.ensures.passed

@@ -1,31 +1,45 @@
-use Rattle.std.proofs.Common.{rules, ◌≡◌, ◌∙◌, ◌++◌, ◌∷◌, [], ap, sym, subst, arith, refl}
-use Rattle.bl_setup.specs.Order.{Line}
-use Rattle.bl_session.specs.Told.{SameUpTo}
-use Rattle.bl_session.specs.Book.{last_of, AreReads, RiseAbove, reply_in}
-use Rattle.bl_session.specs.BookView.{entries_of, IsKnown}
-use Rattle.bl_session.proofs.BookLaws.{entries-append, last-append, rise-append, reads-append, same-other}
+use Rattle.std.proofs.Common.{rules, ◌≡◌, ◌∙◌, ◌<◌, ◌≤◌, ◌+◌, ◌++◌, ◌∷◌, [], ap, length, arith, Some}
+use Rattle.std.specs.Arc.{arc_value}
+use Rattle.bl_setup.specs.Machine.{weight_of}
+use Rattle.bl_session.proofs.AskLaws.{asked_whole, asked_came, asked_settled, refused_came}
 use Rattle.bl_session.proofs.entries.AloneBehind.ask.Goals as goal
 
-pub returns-in_ok-push-in-Some-clause-last : goal.returns-in_ok-push-in-Some-clause-last
-returns-in_ok-push-in-Some-clause-last c =
-    let lines = c.args.state.now.lines.items in
-    let pushed : c.push.new.self.items ≡ lines ++ record { ordinal = c.args.ordinal; subject = c.in-Some.subject; work = c.args.work } ∷ [] = search rules in
-    let e = ap (λ l. last_of 0 (entries_of l)) pushed ∙ ap (last_of 0) (entries-append lines (record { ordinal = c.args.ordinal; subject = c.in-Some.subject; work = c.args.work } ∷ []))
-    ∙ last-append 0 c.args.ordinal c.in-Some.subject c.args.work 0 (entries_of lines) in
-    omega (arith, e)
+pub returns-then-self-state-clause-came : goal.returns-then-self-state-clause-came
+returns-then-self-state-clause-came c told came =
+    let s = c.args.state.now in
+    let w = c.requires.whole in
+    let over : c.args.self.now.limit < s.weight + weight_of c.args.work = omega (arith, c.if-self-state.true, c.weight_of-weight.ensures.value, w.2.fits) in
+    refused_came (arc_value c.args.self.now.setup) c.args.self.now.limit s w.0 w.2 c.args.ordinal c.args.work over told came
 
-pub returns-in_ok-push-in-Some-clause-settled : goal.returns-in_ok-push-in-Some-clause-settled
-returns-in_ok-push-in-Some-clause-settled c n below sound =
-    let lines = c.args.state.now.lines.items in
-    let pushed : c.push.new.self.items ≡ lines ++ record { ordinal = c.args.ordinal; subject = c.in-Some.subject; work = c.args.work } ∷ [] = search rules in
-    let e : entries_of c.push.new.self.items ≡ entries_of lines ++ Line 0 c.args.ordinal c.in-Some.subject c.args.work ∷ [] =
-    ap entries_of pushed ∙ entries-append lines (record { ordinal = c.args.ordinal; subject = c.in-Some.subject; work = c.args.work } ∷ []) in (
-      record {
-        subject = sound.subject;
-        reads = subst (AreReads c.args.self.now.setup) (sym e)
-            (reads-append 0 c.args.ordinal c.in-Some.subject c.args.work c.args.self.now.setup (entries_of lines) sound.reads refl (subst (IsKnown c.args.self.now.setup) c.in-Some.is sound.subject) c.requires.takes);
-        rise = subst (RiseAbove 0) (sym e) (rise-append 0 c.args.ordinal c.in-Some.subject c.args.work 0 (entries_of lines) sound.rise c.requires.last);
-      },
-      subst (λ l. SameUpTo n (reply_in c.args.self.now.setup (entries_of lines)) (reply_in c.args.self.now.setup l)) (sym e)
-          (same-other 0 c.args.ordinal c.in-Some.subject c.args.work c.args.self.now.setup (entries_of lines) n below),
-    )
+pub returns-clause-whole : goal.returns-clause-whole
+returns-clause-whole c n lt w =
+    let s = c.args.state.now in
+    let old = s.entries.items in
+    let line = c.line.result in
+    let place : c.len-place.result ≡ length old = search rules in
+    let pushed : c.push.new.self.items ≡ old ++ line ∷ [] = search rules in
+    let speaks : s.subject ≡ Some c.in-Some.subject = search rules in
+    let room : length old < c.args.self.now.limit = omega (arith, c.if-len-self.false, c.len.ensures) in
+    let heavier : s.weight + c.weight_of-weight.result ≡ s.weight + weight_of c.args.work = ap (λ k. s.weight + k) c.weight_of-weight.ensures.value in
+    let fits : s.weight + c.weight_of-weight.result ≤ c.args.self.now.limit = omega (arith, c.if-self-state.false, w.fits) in
+    asked_whole (arc_value c.args.self.now.setup) c.args.self.now.limit s n w c.in-Some.subject c.args.ordinal c.args.work line c.push.new.self pushed c.line.ensures.origin c.line.ensures.ordinal
+    (s.weight + c.weight_of-weight.result) speaks c.requires.takes c.requires.last (c.line.ensures.line ∙ place) c.line.ensures.path room heavier fits
+
+pub returns-clause-came : goal.returns-clause-came
+returns-clause-came c told came =
+    let s = c.args.state.now in
+    let w = c.requires.whole.2 in
+    let line = c.line.result in
+    let pushed : c.push.new.self.items ≡ s.entries.items ++ line ∷ [] = search rules in
+    let speaks : s.subject ≡ Some c.in-Some.subject = search rules in
+    let fits : s.weight + weight_of c.args.work ≤ c.args.self.now.limit = omega (arith, c.if-self-state.false, c.weight_of-weight.ensures.value, w.fits) in
+    asked_came (arc_value c.args.self.now.setup) c.args.self.now.limit s c.requires.whole.0 w c.in-Some.subject c.args.ordinal c.args.work line c.push.new.self pushed c.line.ensures.origin c.line.ensures.ordinal
+    (s.weight + c.weight_of-weight.result) speaks fits told came
+
+pub returns-clause-settled : goal.returns-clause-settled
+returns-clause-settled c n lt later =
+    let s = c.args.state.now in
+    let line = c.line.result in
+    let pushed : c.push.new.self.items ≡ s.entries.items ++ line ∷ [] = search rules in
+    asked_settled (arc_value c.args.self.now.setup) c.args.self.now.limit s c.requires.whole.0 c.requires.whole.2 c.in-Some.subject c.args.ordinal c.args.work line c.push.new.self pushed c.line.ensures.origin c.line.ensures.ordinal
+    n lt later

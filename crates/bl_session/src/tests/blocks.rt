@@ -1,0 +1,41 @@
+//! The replies of each block, and what stays from one block to the next.
+use crate::tests::base::said;
+use std::test::Fail;
+
+/// The second block has its own replies alone, and finds what the first one left.
+#[test]
+fn two_blocks(rt: HostRuntime) -> Result<(), Fail> {
+    let input = "hello ann\n\
+        when write memo do add memo \"a\"; spawn when read memo do show memo; end; end\n\
+        when read memo do show memo; end\n\
+        wait\n\
+        when write memo do add memo \"b\"; spawn when read memo do show memo; end; end\n\
+        when read memo do show memo; end\n\
+        wait\n";
+    let output = "ok\n\
+        1 done\n1.1 done \"m1a\"\n2 done \"m1a\"\nok\n\
+        3 done\n3.1 done \"m1ab\"\n4 done \"m1ab\"\nok\n\
+        bye\n";
+    assert_eq!(rt; said(rt.alloc(), input)?.as_str(), output);
+    Ok(())
+}
+
+/// Refused lines take ordinals, and stand among the replies of their block. A block may be empty.
+#[test]
+fn refused_lines_among_blocks(rt: HostRuntime) -> Result<(), Fail> {
+    let input = "hello ann\n\
+        wait\n\
+        wait now\n\
+        when read note do spawn when read note do show note; end; end\n\
+        hello ann\n\
+        wait\n\
+        \n\
+        when read zed do end\n\
+        when write note do end\n";
+    let output = "ok\n\
+        ok\n\
+        1 refused syntax 5\n2 done\n2.1 done \"n1\"\n3 refused hello\nok\n\
+        4 refused unknown zed\n5 denied star ann note\nbye\n";
+    assert_eq!(rt; said(rt.alloc(), input)?.as_str(), output);
+    Ok(())
+}
