@@ -1,5 +1,5 @@
 -- The text of a line as it is read back: it reads as the line, it is canonical, and no text of the line is shorter.
-use Rattle.std.proofs.Common.{◌≡◌, ℕ, zero, suc, ◌+◌, ◌-◌, ◌<◌, ◌≤◌, List, [], ◌∷◌, length, get_or, Some, Ok, Err, refl, ap, sym, ◌∙◌, subst, arith, lit≤}
+use Rattle.std.proofs.Common.{◌≡◌, ℕ, zero, suc, ◌+◌, ◌-◌, ◌<◌, ◌≤◌, List, [], ◌∷◌, length, get_or, Some, Ok, Err, refl, sym, subst, arith, lit≤}
 use Rattle.std.specs.Prelude.{Result, IfOk}
 use Rattle.std.specs.Str.{bytes_eq}
 use Rattle.std.proofs.lemmas.List.Quantifiers.{position-Some}
@@ -12,7 +12,8 @@ use Rattle.bl_policy.specs.declared.access.Access.{Access}
 use Rattle.bl_script.specs.declared.line.Line.{Line}
 use Rattle.bl_script.specs.declared.line.Line.TheVariants as line
 use Rattle.bl_script.specs.declared.script.Condition.{Condition}
-use Rattle.bl_script.specs.declared.work.Work.TheVariants.{Behaviour}
+use Rattle.bl_policy.specs.declared.rule.Rule as asked_rule
+use Rattle.bl_script.specs.declared.work.Work.TheVariants.{Behaviour, Rule}
 use Rattle.bl_script.specs.CanonicalLine.{IsTidy, IsTidyLine, IsCanonicalOf, canonical_line}
 use Rattle.bl_script.specs.Grammar.{SpelledLine, hello, wait, when, spell}
 use Rattle.bl_script.specs.Known.{IsKnown, canonical_script}
@@ -72,6 +73,7 @@ module _ (names : KnownNames) where
   tidy_line (line.Hello subject) = tt
   tidy_line line.Wait = tt
   tidy_line (line.Work (Behaviour script)) = tidy_from 0 script 0
+  tidy_line (line.Work (Rule rule)) = tt
 
 -- ---- what a line as it is read back asks
 
@@ -183,6 +185,12 @@ module _ (names : KnownNames) where
           let contents = line_contents (when first more body) most_line_bytes (lit≤ tt) (proper bytes [] (spell_when first more body) reads) short in
           subst IsScript (sym is) (when_is_script names first more body faultless contents)
 
+  -- no text reads as a rule
+  no_rule : (rule : asked_rule.Rule) (spelled : SpelledLine) → Means names spelled (line.Work (Rule rule)) → ⊥
+  no_rule rule (hello name) means = means
+  no_rule rule wait means = means
+  no_rule rule (when first more body) means = means
+
   pub line_written : CanonicalReadsAgain → CanonicalIsShortest → ReadTokensAreProper → ScriptReadsAgain → ScriptIsShortest → ScriptIsKnown
       → (asked : Line) → AreNames names → (bytes : List ℕ) → LineOf names bytes asked
       → IsWritten names asked (canonical_line names asked)
@@ -199,6 +207,7 @@ module _ (names : KnownNames) where
         shortest = λ bytes l. script_shortest names bytes script l;
         canonical = record { spelled = unread_line names asked; tidy = tidy_line names asked; means = script_means script table is known; text = refl };
       }
+  line_written again shortest proper script_again script_shortest script_known (line.Work (Rule rule)) table bytes l = absurd (no_rule rule l.spelled l.means)
 
 -- ---- what an answer says
 

@@ -108,10 +108,10 @@ fn are_there(names: &Names, script: &Script) -> bool
 
 /// Whether the canonical text of the script is no longer than a line.
 fn is_short(names: &Names, script: &Script) -> bool
-    requires { AreThere names.now script.now }
+    requires script { IsScript script.now }
+    requires there { AreThere names.now script.now }
     ensures { IsTrue result ↔ (length (canonical_script names.now script.now) ≤ most_line_bytes) }
 {
-    let _ = script.weight();
     let mut length = Length::new();
     match put_when(&mut length, names, script, 0) {
         Ok(()) => length.bytes <= MOST_LINE_BYTES,

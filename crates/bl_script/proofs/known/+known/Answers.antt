@@ -1,4 +1,4 @@
-use Rattle.std.proofs.Common.{◌+◌, [], ◌∷◌, ◌++◌, map, ap, subst, arith}
+use Rattle.std.proofs.Common.{[], ◌∷◌, ◌++◌, map, ap, subst, arith}
 use Rattle.std.specs.Prelude.{All, Contains}
 use Rattle.bl_script.specs.RawBodies.{raw_access, raw_depth}
 use Rattle.bl_script.specs.First.{IsNameOfFirst}

@@ -1,4 +1,4 @@
-use Rattle.std.proofs.Common.{◌+◌, [], ◌∷◌, ◌++◌, map, ap, arith}
+use Rattle.std.proofs.Common.{[], ◌∷◌, ◌++◌, map, ap, arith}
 use Rattle.bl_script.specs.RawBodies.{raw_access, raw_depth}
 use Rattle.bl_script.specs.Modes.{observes, alters, is_write}
 use Rattle.bl_script.proofs.Joined.{depth-at}

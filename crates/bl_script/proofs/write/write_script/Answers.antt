@@ -5,6 +5,9 @@ use Rattle.bl_script.specs.Writing.{Written, with_token}
 use Rattle.bl_script.proofs.Writing.{written_is_canonical}
 use Rattle.bl_script.proofs.write.write_script.Goals as goal
 
+pub put_when-requires-clause-there : goal.put_when-requires-clause-there
+put_when-requires-clause-there c = (c.canonical_script_is_shortest.ensures.known c.args.names.now c.requires.0 c.args.script.now c.requires.1).there
+
 pub returns : goal.returns
 returns c =
     let tokens = tokens_of (unread c.args.names.now c.args.script.now) in

@@ -1,5 +1,5 @@
 use Rattle.std.proofs.Common.{◌∷◌, [], ◌∙◌, arith}
-use Rattle.bl_level.specs.declared.token.Keyword.TheVariants.{When, Do, Then}
+use Rattle.bl_level.specs.declared.token.Keyword.TheVariants.{When, Do}
 use Rattle.bl_script.specs.RawBodies.{raw_access}
 use Rattle.bl_script.specs.Machine.{word, more_accesses, a_body}
 use Rattle.bl_script.proofs.Faults.{exits, behind_access, behind_more, behind_word, behind_test, behind_body, behind_else, no_else, in_statement, behind_statement, first_due}
