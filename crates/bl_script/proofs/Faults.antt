@@ -1,14 +1,12 @@
 -- A fault behind some tokens is a fault of the whole.
-use Rattle.std.proofs.Common.{◌≡◌, ◌≢◌, ℕ, cond, List, [], ◌∷◌, ◌++◌, Some, None, Result, Ok, Err, refl, sym, ap, subst, ◌∙◌, append_assoc}
+use Rattle.std.proofs.Common.{◌≡◌, ◌≢◌, ℕ, cond, List, [], ◌∷◌, ◌++◌, Some, None, Result, refl, sym, ap, subst, ◌∙◌, append_assoc}
 use Rattle.std.specs.Result.{IsErrAnd}
 use Rattle.std.proofs.lemmas.Result.{err_from_is_err_and}
 use denote.Enum.Bare.{true_same}
 use Rattle.bl_level.specs.contracts.token.Keyword as keyword
-use Rattle.bl_level.specs.contracts.token.Sign as a_mark
 use Rattle.bl_level.specs.declared.token.Keyword.{Keyword}
 use Rattle.bl_level.specs.declared.token.Keyword.TheVariants.{Hello, Give, Rescind, Current, Classify, When, End, Else, Then}
-use Rattle.bl_level.specs.declared.token.Sign.{Sign}
-use Rattle.bl_level.specs.declared.token.Sign.TheVariants.{Comma, Semicolon, Open, Close}
+use Rattle.bl_level.specs.declared.token.Sign.TheVariants.{Comma, Semicolon, Close}
 use Rattle.bl_level.specs.Token.{Tok, reserved, name, text, sign}
 use Rattle.bl_policy.specs.declared.access.Mode.{Mode}
 use Rattle.bl_script.specs.declared.script.Condition.{Condition}

@@ -1,5 +1,5 @@
 -- What a line asks is one thing, and what has a fault asks nothing.
-use Rattle.std.proofs.Common.{◌≡◌, ◌≢◌, ℕ, ◌≤◌, List, length, Result, Ok, Err, MatchResult, IfOk, IfErr, get_or, Some, refl, sym, ap, ◌∙◌}
+use Rattle.std.proofs.Common.{◌≡◌, ℕ, ◌≤◌, List, length, Result, Ok, Err, MatchResult, IfOk, IfErr, get_or, Some, refl, sym, ap, ◌∙◌}
 use Rattle.std.specs.Prelude.{Contains}
 use Rattle.std.specs.Str.{bytes_eq}
 use Rattle.std.proofs.lemmas.Slice.Eq.{bytes_eq-Decides}
@@ -15,7 +15,6 @@ use Rattle.bl_script.specs.declared.line.LineFault.TheVariants.{Long, Syntax, De
 use Rattle.bl_script.specs.Names.{KnownNames}
 use Rattle.bl_script.specs.Grammar.{SpelledLine, hello, wait, when, rule}
 use Rattle.bl_script.specs.Fault.{ReadsAs}
-use Rattle.bl_script.specs.FirstWhenFault.{IsWhenFault}
 use Rattle.bl_script.specs.LineGrammar.{most_line_bytes, Means, LineOf}
 use Rattle.bl_script.specs.LineFaults.{IsFaultOf, IsFaultOrMemory, IsLineFault, IsWantOfMemory}
 use Rattle.bl_script.proofs.WhenFaults.{faultless_no_fault}

@@ -1,12 +1,12 @@
 -- Tokens spell one line, and those of a line have no fault.
-use Rattle.std.proofs.Common.{◌≡◌, ◌≢◌, ℕ, List, [], ◌∷◌, ◌++◌, Some, None, refl, sym, ap, subst, ◌∙◌, append_assoc}
+use Rattle.std.proofs.Common.{◌≡◌, ℕ, List, [], ◌∷◌, ◌++◌, Some, refl, sym, ap, subst, ◌∙◌, append_assoc}
 use Rattle.std.proofs.lemmas.List.{append-nil}
 use Rattle.bl_level.specs.declared.token.Keyword.{Keyword}
-use Rattle.bl_level.specs.declared.token.Keyword.TheVariants.{Hello, Wait, Give, Rescind, Current, Classify, When, Do, End, Else, Spawn}
+use Rattle.bl_level.specs.declared.token.Keyword.TheVariants.{Hello, Wait, Give, Rescind, Current, Classify, When, Do, End, Else}
 use Rattle.bl_level.specs.LevelText.{LevelText, spell_categories, spell_level}
 use Rattle.bl_level.specs.LevelText as of_level
 use Rattle.bl_level.specs.declared.token.Sign.TheVariants.{Comma, Semicolon}
-use Rattle.bl_level.specs.Token.{Tok, reserved, name, text, sign}
+use Rattle.bl_level.specs.Token.{Tok, reserved, name, sign}
 use Rattle.bl_level.specs.Name.{AreProper}
 use Rattle.bl_policy.specs.declared.access.Mode.{Mode}
 use Rattle.bl_policy.specs.declared.access.Mode.TheVariants.{Read, Append, Write}
@@ -16,7 +16,7 @@ use Rattle.bl_script.specs.Spelled.{SpelledAccess, SpelledBody, empty, show, say
 use Rattle.bl_script.specs.SpelledRules.{SpelledRule, letter_of, give, rescind, current, classify, spell_rule}
 use Rattle.bl_script.specs.Grammar.{SpelledLine, hello, wait, when, rule, spell}
 use Rattle.bl_script.specs.Fault.{Blocks, FirstFault}
-use Rattle.bl_script.specs.Machine.{statement_due, mode_of}
+use Rattle.bl_script.specs.Machine.{mode_of}
 use Rattle.bl_script.specs.Parsing.{BeginsNone, IsNotAt}
 use Rattle.bl_script.proofs.Lists.{proper_behind}
 use Rattle.bl_script.proofs.Theory.{more_append}
