@@ -5,14 +5,8 @@ use Rattle.std.proofs.lemmas.Result.{err_from_is_err_and}
 use denote.Enum.Bare.{true_same}
 use Rattle.bl_level.specs.contracts.token.Keyword as keyword
 use Rattle.bl_level.specs.declared.token.Keyword.{Keyword}
-<<<<<<< HEAD
 use Rattle.bl_level.specs.declared.token.Keyword.TheVariants.{Hello, Give, Rescind, Current, Classify, When, End, Else, Then}
-use Rattle.bl_level.specs.declared.token.Sign.{Sign}
-use Rattle.bl_level.specs.declared.token.Sign.TheVariants.{Comma, Semicolon, Open, Close}
-=======
-use Rattle.bl_level.specs.declared.token.Keyword.TheVariants.{Hello, When, End, Else, Then}
-use Rattle.bl_level.specs.declared.token.Sign.TheVariants.{Comma, Semicolon}
->>>>>>> e9a351f37eb661d30e7f7d88512a7ece92bd3456
+use Rattle.bl_level.specs.declared.token.Sign.TheVariants.{Comma, Semicolon, Close}
 use Rattle.bl_level.specs.Token.{Tok, reserved, name, text, sign}
 use Rattle.bl_policy.specs.declared.access.Mode.{Mode}
 use Rattle.bl_script.specs.declared.script.Condition.{Condition}

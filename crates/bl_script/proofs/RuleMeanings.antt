@@ -1,5 +1,5 @@
 -- A rule asks one thing, or has one fault.
-use Rattle.std.proofs.Common.{◌≡◌, ℕ, List, [], ◌∷◌, ◌++◌, refl, ap, sym, subst, ◌∙◌, ◌↔◌, map, length, take, slice_get, Some, Result, Ok, Err}
+use Rattle.std.proofs.Common.{◌≡◌, ℕ, List, [], ◌∷◌, ◌++◌, refl, ap, sym, subst, ◌∙◌, map, length, take, slice_get, Some, Result, Ok, Err}
 use Rattle.std.specs.Prelude.{All, Contains}
 use Rattle.std.proofs.lemmas.List.Elements.{All-cons, All-nil, All-head, All-tail}
 use Rattle.std.specs.Result.{IsOk}
@@ -20,7 +20,7 @@ use Rattle.bl_policy.specs.declared.rule.Rule.{Rule}
 use Rattle.bl_policy.specs.declared.rule.Rule.TheVariants as asked
 use Rattle.bl_script.specs.declared.line.LineFault.{LineFault}
 use Rattle.bl_script.specs.declared.line.LineFault.TheVariants.{Unknown, Twice}
-use Rattle.bl_script.specs.declared.rules.Role.TheVariants.{Subject, Document, Rank, Category}
+use Rattle.bl_script.specs.declared.rules.Role.TheVariants.{Subject, Document, Rank}
 use Rattle.bl_script.specs.Names.{KnownNames}
 use Rattle.bl_script.specs.RuleFaults.{mentioned, category_mention, right_mentions, mentions_in_level, mentions_in, categories_in, IsKnown, IsFaultOfRule}
 use Rattle.bl_script.specs.RuleMeaning.{MeansRule}

@@ -1,5 +1,5 @@
 -- The names in a rule: what is known of them, and that they are names.
-use Rattle.std.proofs.Common.{◌≡◌, ◌≢◌, ℕ, zero, suc, ◌+◌, ◌<◌, ◌≤◌, ◌⊎◌, inl, inr, List, [], ◌∷◌, ◌++◌, length, get_or, slice_get, map, take, Some, Bor, Result, refl, sym, ap, subst, ◌∙◌, arith}
+use Rattle.std.proofs.Common.{◌≡◌, ◌≢◌, ℕ, zero, suc, ◌+◌, ◌<◌, ◌≤◌, ◌⊎◌, inl, inr, List, [], ◌∷◌, length, get_or, slice_get, map, take, Some, Bor, Result, refl, sym, ap, subst, ◌∙◌, arith}
 use Rattle.std.specs.Prelude.{All, Contains}
 use Rattle.std.proofs.lemmas.List.{length-take, get_or-take, take-take, take-map, take_all, map_more, length-map, get_or-map}
 use Rattle.std.proofs.lemmas.List.Elements.{All-cons, All-nil, All-head, All-tail, Contains-get_or, Contains-push, Contains-push_cases, Contains-append_left, Contains-append_right}
@@ -10,8 +10,7 @@ use Rattle.bl_level.specs.LevelText.{LevelText, spell_categories, spell_level}
 use Rattle.bl_level.specs.LevelText as of_level
 use Rattle.bl_level.specs.Name.{IsName, AreProper}
 use Rattle.bl_level.specs.Table.{AreDistinct, IsFirstRepeated}
-use Rattle.bl_script.specs.declared.rules.Role.TheVariants.{Subject, Document, Rank, Category}
-use Rattle.bl_script.specs.First.{IsNameOfFirst}
+use Rattle.bl_script.specs.declared.rules.Role.TheVariants.{Subject, Document, Rank}
 use Rattle.bl_script.specs.Names.{KnownNames}
 use Rattle.bl_script.specs.RawRules.{raw_names, raw_rule}
 use Rattle.bl_script.specs.declared.raw.RawRule.{RawRule}

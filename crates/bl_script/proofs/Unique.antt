@@ -2,7 +2,7 @@
 use Rattle.std.proofs.Common.{◌≡◌, ℕ, List, [], ◌∷◌, ◌++◌, Some, refl, sym, ap, subst, ◌∙◌, append_assoc}
 use Rattle.std.proofs.lemmas.List.{append-nil}
 use Rattle.bl_level.specs.declared.token.Keyword.{Keyword}
-use Rattle.bl_level.specs.declared.token.Keyword.TheVariants.{Hello, Wait, Give, Rescind, Current, Classify, When, Do, End, Else, Spawn}
+use Rattle.bl_level.specs.declared.token.Keyword.TheVariants.{Hello, Wait, Give, Rescind, Current, Classify, When, Do, End, Else}
 use Rattle.bl_level.specs.LevelText.{LevelText, spell_categories, spell_level}
 use Rattle.bl_level.specs.LevelText as of_level
 use Rattle.bl_level.specs.declared.token.Sign.TheVariants.{Comma, Semicolon}

@@ -85,55 +85,70 @@ fn level(rank: u8, categories: u32) -> Result<Level, Fail> {
     }
 }
 
-/// The lines of rules of the worked examples.
+/// A rule that gives or takes: the place of its subject, that of its document, and its mode.
+fn give(subject: u16, doc: u16, mode: Mode) -> Rule {
+    let subject = SubjectId::new(subject);
+    let doc = DocId::new(doc);
+    Rule::Give { subject, doc, mode }
+}
+
+fn rescind(subject: u16, doc: u16, mode: Mode) -> Rule {
+    let subject = SubjectId::new(subject);
+    let doc = DocId::new(doc);
+    Rule::Rescind { subject, doc, mode }
+}
+
+fn current(rank: u8, categories: u32) -> Result<Rule, Fail> {
+    let level = level(rank, categories)?;
+    Ok(Rule::Current { level })
+}
+
+fn classify(doc: u16, rank: u8, categories: u32) -> Result<Rule, Fail> {
+    let doc = DocId::new(doc);
+    let level = level(rank, categories)?;
+    Ok(Rule::Classify { doc, level })
+}
+
+#[test]
+fn rules_and_their_checks(rt: HostRuntime) -> Result<(), Fail> {
+    assert_eq!(rt;
+        rule_of(rt.alloc(), b"give cat memo r")?,
+        give(2, 0, Mode::Read)
+    );
+    assert_eq!(rt; rule_of(rt.alloc(), b"current s")?, current(2, 0)?);
+    assert_eq!(rt; rule_of(rt.alloc(), b"current t")?, current(3, 0)?);
+    Ok(())
+}
+
+/// The lines of rules of the other worked examples.
 #[test]
 fn reads_the_rules_of_the_examples(rt: HostRuntime) -> Result<(), Fail> {
-    let memo = DocId::new(0);
-    let note = DocId::new(1);
-    let give = Rule::Give {
-        subject: SubjectId::new(2),
-        doc: memo,
-        mode: Mode::Read,
-    };
-    assert_eq!(rt; rule_of(rt.alloc(), b"give cat memo r")?, give);
-    let rescind = Rule::Rescind {
-        subject: SubjectId::new(1),
-        doc: memo,
-        mode: Mode::Append,
-    };
-    assert_eq!(rt; rule_of(rt.alloc(), b"rescind bob memo a")?, rescind);
-    let down = Rule::Current {
-        level: level(2, 0)?,
-    };
-    assert_eq!(rt; rule_of(rt.alloc(), b"current s")?, down);
-    let nato = Rule::Current {
-        level: level(2, 1)?,
-    };
-    assert_eq!(rt; rule_of(rt.alloc(), b"current s{nato}")?, nato);
-    let classify = Rule::Classify {
-        doc: note,
-        level: level(1, 0)?,
-    };
-    assert_eq!(rt; rule_of(rt.alloc(), b"classify note c")?, classify);
+    assert_eq!(rt; rule_of(rt.alloc(), b"current s{nato}")?, current(2, 0b01)?);
+    assert_eq!(rt;
+        rule_of(rt.alloc(), b"rescind bob memo a")?,
+        rescind(1, 0, Mode::Append)
+    );
+    assert_eq!(rt;
+        rule_of(rt.alloc(), b"rescind ann memo r")?,
+        rescind(0, 0, Mode::Read)
+    );
+    assert_eq!(rt;
+        rule_of(rt.alloc(), b"classify note c")?,
+        classify(1, 1, 0)?
+    );
     Ok(())
 }
 
 /// A letter is a name in every other place, and categories may come in any order.
 #[test]
 fn reads_rules_with_blanks(rt: HostRuntime) -> Result<(), Fail> {
-    let write = Rule::Give {
-        subject: SubjectId::new(3),
-        doc: DocId::new(2),
-        mode: Mode::Write,
-    };
-    assert_eq!(rt; rule_of(rt.alloc(), b"\tgive  root log w ")?, write);
-    let both = Rule::Classify {
-        doc: DocId::new(0),
-        level: level(3, 0b11)?,
-    };
+    assert_eq!(rt;
+        rule_of(rt.alloc(), b"\tgive  root log w ")?,
+        give(3, 2, Mode::Write)
+    );
     assert_eq!(rt;
         rule_of(rt.alloc(), b"classify memo t { crypto ,nato } ")?,
-        both
+        classify(0, 3, 0b11)?
     );
     assert_eq!(rt; unknown_of(rt.alloc(), b"give r w a")?, named(b"r")?);
     Ok(())
