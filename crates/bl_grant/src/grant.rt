@@ -324,6 +324,7 @@ impl Grant {
         match self {
             Grant::Read(grant) => &grant.content,
             Grant::Append(grant) => {
+                // read for the proof alone: the mode of this grant is append, which the condition rules out
                 let _ = &grant.doc;
                 unreachable!()
             }
@@ -340,6 +341,7 @@ impl Grant {
     {
         match self {
             Grant::Read(grant) => {
+                // read for the proof alone: the mode of this grant is read, which the condition rules out
                 let _ = &grant.doc;
                 unreachable!()
             }
@@ -355,10 +357,12 @@ impl Grant {
     {
         match self {
             Grant::Read(grant) => {
+                // read for the proof alone: the mode of this grant is read, which the condition rules out
                 let _ = &grant.doc;
                 unreachable!()
             }
             Grant::Append(grant) => {
+                // read for the proof alone: the mode of this grant is append, which the condition rules out
                 let _ = &grant.doc;
                 unreachable!()
             }
@@ -372,6 +376,7 @@ impl Grant {
     {
         match self {
             Grant::Read(grant) => {
+                // read for the proof alone: the content of this grant is the lent one already
                 let _ = &grant.content;
             }
             Grant::Append(grant) => grant.reset(),

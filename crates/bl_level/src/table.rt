@@ -98,6 +98,7 @@ impl NameTable {
         ensures place { IfSome result (λ i. slice_get self.now i ≡ Some bytes.now) }
         ensures within { IfSome result (λ i. i < length self.now) }
     {
+        // read for the proof alone: each key of the table is a name, so bytes that are none are not there
         let _ = &self.names;
         match Name::new(bytes) {
             Some(name) => self.position(&name),
@@ -113,6 +114,7 @@ impl NameTable {
         ensures err { OnErr result (self.new ≡ self.old) }
         ensures table { IsTable self.new }
     {
+        // read for the proof alone: the bytes of a name are a name, as the table wants of its keys
         let _ = name.bytes();
         if self.names.contains(&name) {
             return Err(TableFault::Repeated(name));

@@ -197,6 +197,7 @@ impl Monitor {
         ensures err { OnErr result (self.new ≡ self.old) }
     {
         let admitted = admit(&self.places, entry)?;
+        // asked for the proof alone: the behaviours are a script, as those of each kept place
         let _behaviours = admitted.behaviours();
         self.places.reserve(1)?;
         let judged = judge(self.alloc, &mut self.policy, &self.contents, &admitted)?;

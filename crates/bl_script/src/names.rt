@@ -65,6 +65,7 @@ impl Names {
     pub fn new(alloc: Global, scheme: Scheme) -> Result<Names, AllocError>
         ensures { IfOk result (λ names. names ≡ record { scheme = scheme; subjects = []; documents = [] }) }
     {
+        // read for the proof alone: the scheme is one, as the names want it
         let _ = scheme.ranks();
         Ok(Names {
             scheme,

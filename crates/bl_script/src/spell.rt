@@ -46,6 +46,7 @@ fn name_of(names: &Names, document: DocId) -> &[u8]
     names.document_name(document).bytes()
 }
 
+/// Puts the mode and the document of an access.
 fn put_access<S: Sink>(sink: &mut S, names: &Names, access: Access) -> Result<(), S::Refusal>
     requires { access.doc < length names.now.documents }
     ensures { OnOk result (sink.new ≡ fold S.taken sink.old (spell_access (unread_access names.now access) [])) }
@@ -142,7 +143,7 @@ fn put_condition<'a, S: Sink>(
     )
 }
 
-/// Puts the `when` of a behaviour.
+/// Puts the `when` of a behaviour, by its number.
 #[cycle(spell)]
 pub(crate) fn put_when<S: Sink>(
     sink: &mut S,
@@ -165,6 +166,7 @@ pub(crate) fn put_when<S: Sink>(
     sink.put(Token::Reserved(Keyword::End))
 }
 
+/// Puts statements, from the left.
 #[cycle(spell)]
 fn put_statements<S: Sink>(
     sink: &mut S,
@@ -184,6 +186,7 @@ fn put_statements<S: Sink>(
     Ok(())
 }
 
+/// Puts a statement, with its semicolon.
 #[cycle(spell)]
 fn put_statement<S: Sink>(
     sink: &mut S,

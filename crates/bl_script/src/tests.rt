@@ -1,4 +1,5 @@
 //! Each call that grows, once with ample memory.
+mod deepest;
 mod knows;
 mod lines;
 mod rules;

@@ -1,6 +1,6 @@
 //! The canonical text of a line: one space between two words that follow each other, no other blank, and no `else` before an
 //! empty body.
-ghost use Rattle.std.specs.Prelude.{◌≡◌, ◌<◌, ◌≤◌, ℕ, List, [], ◌∷◌, ◌++◌, length, fold, OnOk, IfOk};
+ghost use Rattle.std.specs.Prelude.{◌≡◌, ◌<◌, ◌≤◌, ℕ, List, [], ◌∷◌, ◌++◌, length, OnOk, IfOk};
 ghost use Rattle.bl_level.specs.Token.{tok, toks};
 ghost use Rattle.bl_level.specs.Canonical.{sign_byte as byte_of, is_word as is_a_word, spelled, canonical};
 ghost use Rattle.bl_script.specs.declared.line.Line.TheVariants as asked;

@@ -1,5 +1,5 @@
 -- From what holds of an outcome to what follows from it.
-use Rattle.std.proofs.Common.{Result, Ok, Err, OnOk, OnErr, IfOk, IfErr}
+use Rattle.std.proofs.Common.{◌≡◌, ◌∙◌, ◌++◌, ap, List, ℕ, Result, Ok, Err, OnOk, OnErr, IfOk, IfErr}
 
 pub on_ok-map : {A E : Type 0} (r : Result A E) {P Q : Type 0} → (P → Q) → OnOk r P → OnOk r Q
 on_ok-map (Ok x) f p = f p
@@ -21,3 +21,8 @@ on_err-all (Err e) p = p
 pub if_ok-map : {A E : Type 0} (r : Result A E) {P Q : A → Type 0} → ((a : A) → P a → Q a) → IfOk r P → IfOk r Q
 if_ok-map (Ok x) f p = f x p
 if_ok-map (Err e) f p = tt
+
+-- what is added is added still under another name of it
+pub said_full : {A E : Type 0} (r : Result A E) (new old text said : List ℕ) → text ≡ said → OnOk r (new ≡ old ++ text) → OnOk r (new ≡ old ++ said)
+said_full (Ok x) new old text said is added = added ∙ ap (λ l. old ++ l) is
+said_full (Err e) new old text said is added = tt

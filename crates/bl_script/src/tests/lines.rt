@@ -16,7 +16,7 @@ fn named(bytes: &[u8]) -> Result<Name, Fail> {
     }
 }
 
-fn no_names(alloc: Global) -> Result<Names, Fail> {
+pub(super) fn no_names(alloc: Global) -> Result<Names, Fail> {
     Ok(Names::new(alloc, Scheme::new(alloc, &[named(b"u")?], &[])?)?)
 }
 
@@ -25,13 +25,13 @@ fn add_subject(names: &mut Names, name: &[u8]) -> Result<(), Fail> {
     Ok(())
 }
 
-fn add_document(names: &mut Names, name: &[u8]) -> Result<(), Fail> {
+pub(super) fn add_document(names: &mut Names, name: &[u8]) -> Result<(), Fail> {
     names.add_document(named(name)?)?;
     Ok(())
 }
 
 /// The subjects ann and bob, and the documents memo, note and log.
-fn known_names(alloc: Global) -> Result<Names, Fail> {
+pub(super) fn known_names(alloc: Global) -> Result<Names, Fail> {
     let mut names = no_names(alloc)?;
     add_subject(&mut names, b"ann")?;
     add_subject(&mut names, b"bob")?;

@@ -136,16 +136,10 @@ fn breaks(alloc: Global, reads: bool) -> Result<usize, Fail> {
     Err(Fail::new("no end"))
 }
 
-/// There are at least as many reads as the input has pieces of seven bytes.
+/// There are at least as many reads and writes as the input and the output have pieces of seven bytes.
 #[test]
-fn fail_each_read(rt: HostRuntime) -> Result<(), Fail> {
+fn fail_each(rt: HostRuntime) -> Result<(), Fail> {
     assert!(rt; breaks(rt.alloc(), true)? >= 19);
-    Ok(())
-}
-
-/// There are at least as many writes as the output has pieces of seven bytes.
-#[test]
-fn fail_each_write(rt: HostRuntime) -> Result<(), Fail> {
     assert!(rt; breaks(rt.alloc(), false)? >= 6);
     Ok(())
 }

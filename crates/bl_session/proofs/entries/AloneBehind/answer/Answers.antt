@@ -1,12 +1,13 @@
-use Rattle.std.proofs.Common.{rules, ◌≡◌, ◌∙◌, ◌<◌, ◌-◌, ◌++◌, ◌∷◌, ap, sym, length, map, take, slice_index_or, append_assoc, append-nil, ℕ, Vec}
+use Rattle.std.proofs.Common.{rules, ◌≡◌, ◌∙◌, ◌<◌, ◌-◌, ◌++◌, ◌∷◌, ap, codes, sym, length, map, take, slice_index_or, append_assoc, append-nil, ℕ, Vec}
 use Rattle.std.specs.Global.{Global}
 use Rattle.std.specs.Arc.{arc_value}
 use Rattle.std.specs.List.{flat_map}
 use Rattle.bl_setup.specs.Order.{Setup}
 use Rattle.bl_session.specs.Replies.{reply_text}
-use Rattle.bl_session.specs.Orders.{reply_at}
+use Rattle.bl_session.specs.Texts.{refusal}
+use Rattle.bl_session.specs.Orders.{reply_at, told_text}
 use Rattle.bl_session.specs.Entries.{order_of}
-use Rattle.bl_session.proofs.Outcomes.{on_ok-map}
+use Rattle.bl_session.proofs.Outcomes.{said_full}
 use Rattle.bl_session.proofs.ReplyLaws.{kin_text, text_said, names_known, placed, kin_placed, all_text, missing, gives_on}
 use Rattle.bl_session.proofs.entries.AloneBehind.answer.Goals as goal
 
@@ -14,10 +15,9 @@ pub returns-in_default-clause-text : goal.returns-in_default-clause-text
 returns-in_default-clause-text c =
     let r = c.requires in
     let none = rw c.in_default.is at c.line.ensures.found in
-    on_ok-map c.push_refused.result
-    (λ text. text ∙ ap (λ l. c.args.out.now.items ++ l)
+    said_full c.push_refused.result c.push_refused.new.out.items c.args.out.now.items (refusal c.args.ordinal (codes "full")) (told_text (arc_value c.args.self.now.setup) (order_of c.args.state.now.entries.items) c.args.ordinal)
     (missing (arc_value c.args.self.now.setup) c.args.self.now.limit c.args.state.now r.whole.0 r.settled.0 c.args.ordinal r.whole.1 r.settled.2 r.settled.1
-    c.deref.result.now c.deref.ensures.value c.args.block.now c.line.new.self.next r.gives.0 r.gives.2 r.gives.1 c.line.ensures.from c.line.ensures.passed none))
+    c.deref.result.now c.deref.ensures.value c.args.block.now c.line.new.self.next r.gives.0 r.gives.2 r.gives.1 c.line.ensures.from c.line.ensures.passed none)
     c.push_refused.ensures
 
 pub index-requires-2 : goal.index-requires-2
