@@ -44,3 +44,5 @@ pub mod Reread
 pub mod Faultless
 pub mod ReadAgain
 pub mod Counting
+pub mod Widths
+pub mod RulesWritten
