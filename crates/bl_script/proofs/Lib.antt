@@ -46,3 +46,4 @@ pub mod ReadAgain
 pub mod Counting
 pub mod Widths
 pub mod RulesWritten
+pub mod RulesSpelled

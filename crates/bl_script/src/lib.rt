@@ -21,6 +21,7 @@ pub mod rules;
 pub mod script;
 pub mod sink;
 mod spell;
+mod spell_rules;
 pub mod stop;
 #[cfg(test)]
 mod tests;
