@@ -67,6 +67,13 @@ impl Length {
             ends_with_word: false,
         }
     }
+
+    /// Whether the text is no longer than a line.
+    fn fits(&self) -> bool
+        ensures { IsTrue result ↔ (self.now.bytes ≤ most_line_bytes) }
+    {
+        self.bytes <= MOST_LINE_BYTES
+    }
 }
 
 impl Sink for Length {
@@ -120,7 +127,7 @@ fn is_short(names: &Names, script: &Script) -> bool
 {
     let mut length = Length::new();
     match put_when(&mut length, names, script, 0) {
-        Ok(()) => length.bytes <= MOST_LINE_BYTES,
+        Ok(()) => length.fits(),
         Err(never) => match never {},
     }
 }
@@ -159,7 +166,7 @@ fn is_rule_short(names: &Names, rule: &Rule) -> bool
 {
     let mut length = Length::new();
     match put_rule(&mut length, names, *rule) {
-        Ok(()) => length.bytes <= MOST_LINE_BYTES,
+        Ok(()) => length.fits(),
         Err(never) => match never {},
     }
 }
