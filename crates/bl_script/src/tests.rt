@@ -2,6 +2,7 @@
 mod deepest;
 mod knows;
 mod lines;
+mod rule_texts;
 mod rules;
 mod write;
 

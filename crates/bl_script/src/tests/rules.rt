@@ -36,7 +36,7 @@ fn add_document(names: &mut Names, name: &[u8]) -> Result<(), Fail> {
 }
 
 /// The subjects ann, bob, cat and root, and the documents memo, note and log.
-fn base_names(alloc: Global) -> Result<Names, Fail> {
+pub(crate) fn base_names(alloc: Global) -> Result<Names, Fail> {
     let mut names = Names::new(alloc, base_scheme(alloc)?)?;
     add_subject(&mut names, b"ann")?;
     add_subject(&mut names, b"bob")?;
@@ -86,7 +86,7 @@ fn level(rank: u8, categories: u32) -> Result<Level, Fail> {
 }
 
 /// A rule that gives or takes: the place of its subject, that of its document, and its mode.
-fn give(subject: u16, doc: u16, mode: Mode) -> Rule {
+pub(crate) fn give(subject: u16, doc: u16, mode: Mode) -> Rule {
     let subject = SubjectId::new(subject);
     let doc = DocId::new(doc);
     Rule::Give { subject, doc, mode }
@@ -98,12 +98,12 @@ fn rescind(subject: u16, doc: u16, mode: Mode) -> Rule {
     Rule::Rescind { subject, doc, mode }
 }
 
-fn current(rank: u8, categories: u32) -> Result<Rule, Fail> {
+pub(crate) fn current(rank: u8, categories: u32) -> Result<Rule, Fail> {
     let level = level(rank, categories)?;
     Ok(Rule::Current { level })
 }
 
-fn classify(doc: u16, rank: u8, categories: u32) -> Result<Rule, Fail> {
+pub(crate) fn classify(doc: u16, rank: u8, categories: u32) -> Result<Rule, Fail> {
     let doc = DocId::new(doc);
     let level = level(rank, categories)?;
     Ok(Rule::Classify { doc, level })
