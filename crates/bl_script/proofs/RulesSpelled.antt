@@ -1,9 +1,9 @@
 -- The tokens of a level's categories, a category at a time.
-use Rattle.std.proofs.Common.{◌≡◌, ℕ, suc, ◌+◌, ◌<◌, ◌≤◌, Bool, true, false, eqb, cond, List, [], ◌∷◌, drop, get_or, length, refl, sym, ap, ◌∙◌, add-one, drop-cons}
+use Rattle.std.proofs.Common.{◌≡◌, ℕ, suc, ◌+◌, ◌<◌, Bool, true, false, eqb, cond, List, [], ◌∷◌, drop, get_or, length, refl, sym, ap, ◌∙◌, add-one, drop-cons}
 use Rattle.std.specs.List.{fold}
 use Rattle.std.specs.Int.{bit_at}
 use Rattle.std.proofs.lemmas.Bool.{eq-eqb, ne_eqb}
-use Rattle.bl_level.specs.declared.token.Sign.TheVariants.{Comma, Open, Close}
+use Rattle.bl_level.specs.declared.token.Sign.TheVariants.{Comma, Open}
 use Rattle.bl_level.specs.Level.{SecurityLevel, HasCategory}
 use Rattle.bl_level.specs.LevelText.{held_names, spell_categories, spell_more}
 use Rattle.bl_level.specs.Token.{Tok, name, sign}

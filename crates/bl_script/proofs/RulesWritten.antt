@@ -16,7 +16,6 @@ use Rattle.bl_policy.specs.declared.access.Mode.{Mode}
 use Rattle.bl_policy.specs.declared.access.Mode.TheVariants.{Read, Append, Write}
 use Rattle.bl_policy.specs.declared.rule.Rule.{Rule}
 use Rattle.bl_policy.specs.declared.rule.Rule.TheVariants as asked
-use Rattle.bl_policy.specs.RuleEffect.{HasIdsBelow}
 use Rattle.bl_script.specs.declared.line.Line.TheVariants as line
 use Rattle.bl_script.specs.declared.work.Work.TheVariants as work
 use Rattle.bl_script.specs.Grammar.{SpelledLine, hello, wait, when, rule, spell}
@@ -25,7 +24,7 @@ use Rattle.bl_script.specs.LineGrammar.{most_line_bytes, Means, LineOf}
 use Rattle.bl_script.specs.Names.{KnownNames, AreNames}
 use Rattle.bl_script.specs.RuleMeaning.{MeansRule}
 use Rattle.bl_script.specs.SpelledRules.{SpelledRule, give, rescind, current, classify, letter_of, spell_rule}
-use Rattle.bl_script.specs.There.{HasHeldLevel, IsRuleThere}
+use Rattle.bl_script.specs.There.{IsRuleThere}
 use Rattle.bl_script.specs.Unread.{unread_rule}
 use Rattle.bl_script.proofs.Widths.{name_is, place_within, held, level_shorter}
 

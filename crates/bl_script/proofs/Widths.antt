@@ -1,11 +1,11 @@
 -- How long the categories of a level are as they are written: those of a text that names each of them are no shorter.
-use Rattle.std.proofs.Common.{◌≡◌, ◌≢◌, ℕ, zero, suc, ◌+◌, ◌<◌, ◌≤◌, ◌⊎◌, inl, inr, Some, false, true, List, [], ◌∷◌, ◌++◌, length, get_or, refl, sym, ap, subst, ◌∙◌, arith, length-append}
-use Rattle.std.specs.Prelude.{All, Contains}
+use Rattle.std.proofs.Common.{◌≡◌, ℕ, zero, suc, ◌+◌, ◌<◌, ◌≤◌, inl, inr, Some, false, true, List, [], ◌∷◌, ◌++◌, length, get_or, refl, sym, ap, subst, ◌∙◌, arith, length-append}
+use Rattle.std.specs.Prelude.{Contains}
 use Rattle.std.specs.Str.{bytes_eq}
 use Rattle.std.proofs.lemmas.List.Elements.{Contains-append_left, Contains-append_right, Contains-append_cases}
 use Rattle.std.proofs.lemmas.List.Quantifiers.{position-Some}
 use Rattle.bl_level.specs.Canonical.{canonical}
-use Rattle.bl_level.specs.Level.{SecurityLevel, HasCategory}
+use Rattle.bl_level.specs.Level.{SecurityLevel}
 use Rattle.bl_level.specs.LevelFronts.{tail_of}
 use Rattle.bl_level.specs.LevelText.{LevelText, IsNamed, spell_level, held_names, text_of}
 use Rattle.bl_level.specs.LevelText as of_level

@@ -49,7 +49,8 @@ fn writes_no_else_before_an_empty_body(rt: HostRuntime) -> Result<(), Fail> {
 
 #[test]
 fn writes_an_else_before_a_statement(rt: HostRuntime) -> Result<(), Fail> {
-    let line = b"when write memo, read note do if memo has \"\" then else copy note to memo; end; end";
+    let line =
+        b"when write memo, read note do if memo has \"\" then else copy note to memo; end; end";
     let text = b"when write memo,read note do if memo has\"\"then else copy note to memo;end;end";
     assert!(rt; is_written(rt.alloc(), line, text)?);
     Ok(())
