@@ -70,13 +70,14 @@ module _ (names : KnownNames) where
       (tidy_body (λ j. get_or (unread_from names (k + 1) rest) (j - (k + 1)) no_when) part.body (λ j. tidy_from (k + 1) rest (j - (k + 1))))
   tidy_from k (part ∷ rest) (suc i) = tidy_from (k + 1) rest i
 
-  -- a line as it is read back has no `else` before a body of no statements, and the categories of its level in order
+  -- a rule as it is read back has the categories of its level in order
   tidy_rule : (asked : asked_rule.Rule) → IsTidyRule names.scheme (unread_rule names asked)
   tidy_rule (rule_of.Give subject doc mode) = tt
   tidy_rule (rule_of.Rescind subject doc mode) = tt
   tidy_rule (rule_of.Current level) = (level, refl)
   tidy_rule (rule_of.Classify doc level) = (level, refl)
 
+  -- a line as it is read back has no `else` before a body of no statements
   tidy_line : (asked : Line) → IsTidyLine names.scheme (unread_line names asked)
   tidy_line (line.Hello subject) = tt
   tidy_line line.Wait = tt

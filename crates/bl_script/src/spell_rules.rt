@@ -4,9 +4,8 @@ ghost use Rattle.bl_level.specs.declared.token.Sign.TheVariants.{Comma, Open};
 ghost use Rattle.bl_level.specs.LevelText.{held_names, spell_level, spell_categories, text_of};
 ghost use Rattle.bl_level.specs.Scheme.{Holds};
 ghost use Rattle.bl_level.specs.Token.{reserved, name};
-ghost use Rattle.bl_policy.specs.RuleEffect.{HasIdsBelow};
 ghost use Rattle.bl_script.specs.SpelledRules as spelled;
-ghost use Rattle.bl_script.specs.There.{HasHeldLevel, IsRuleThere};
+ghost use Rattle.bl_script.specs.There.{IsRuleThere};
 ghost use Rattle.bl_script.specs.Unread.{name_at, subject_at, unread_rule};
 
 use crate::names::Names;
