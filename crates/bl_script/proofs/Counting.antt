@@ -1,8 +1,7 @@
 -- What is counted token by token is the length of the canonical text, up to one more than a line has.
-use Rattle.std.proofs.Common.{◌≡◌, ℕ, ◌+◌, ◌≤◌, min, Bool, true, false, cond, leb, List, [], ◌∷◌, ◌++◌, length, refl, sym, ap, ◌∙◌, arith, length-append}
+use Rattle.std.proofs.Common.{◌≡◌, ℕ, ◌+◌, ◌≤◌, min, Bool, true, false, cond, List, [], ◌∷◌, ◌++◌, length, refl, sym, ap, ◌∙◌, arith, length-append}
 use Rattle.std.specs.Prelude.{◌↔◌, ◌&&◌, IsTrue}
 use Rattle.std.specs.List.{fold}
-use Rattle.std.proofs.lemmas.Bool.{leb-true, le-leb}
 use Rattle.bl_level.specs.Token.{Tok}
 use Rattle.bl_level.specs.Canonical.{spelled, is_word, canonical}
 use Rattle.bl_script.specs.Counting.{Counted, nothing_counted, bytes_behind, counted}
