@@ -1,8 +1,7 @@
 -- What is counted token by token is the length of the canonical text, up to one more than a line has.
-use Rattle.std.proofs.Common.{◌≡◌, ℕ, ◌+◌, ◌≤◌, min, Bool, true, false, cond, leb, List, [], ◌∷◌, ◌++◌, length, refl, sym, ap, ◌∙◌, arith, length-append}
+use Rattle.std.proofs.Common.{◌≡◌, ℕ, ◌+◌, ◌≤◌, min, Bool, true, false, cond, List, [], ◌∷◌, ◌++◌, length, refl, sym, ap, ◌∙◌, arith, length-append}
 use Rattle.std.specs.Prelude.{◌↔◌, ◌&&◌, IsTrue}
 use Rattle.std.specs.List.{fold}
-use Rattle.std.proofs.lemmas.Bool.{leb-true, le-leb}
 use Rattle.bl_level.specs.Token.{Tok}
 use Rattle.bl_level.specs.Canonical.{spelled, is_word, canonical}
 use Rattle.bl_script.specs.Counting.{Counted, nothing_counted, bytes_behind, counted}
@@ -33,12 +32,9 @@ pub counted_is : (ts : List Tok) → (fold counted nothing_counted ts).bytes ≡
 counted_is ts = counts ts nothing_counted nothing_written refl refl ∙ ap (λ l. min (length l) (most_line_bytes + 1)) (written_is_canonical ts)
 
 -- whether the canonical text is no longer than a line, by what is counted
-pub short_where : (ts : List Tok) (start end : Counted) (bytes : ℕ) → start ≡ nothing_counted → end ≡ fold counted start ts → bytes ≡ end.bytes
-    → IsTrue (leb bytes most_line_bytes) ↔ (length (canonical ts) ≤ most_line_bytes)
-short_where ts start end bytes first last is =
-    let same : bytes ≡ min (length (canonical ts)) (most_line_bytes + 1) =
-    is ∙ ap (λ (c : Counted). c.bytes) (last ∙ ap (λ c. fold counted c ts) first) ∙ counted_is ts in
-    (λ h. within (leb-true bytes most_line_bytes h) same, λ h. le-leb bytes most_line_bytes (omega (arith, h, same)))
-  where
-    within : bytes ≤ most_line_bytes → bytes ≡ min (length (canonical ts)) (most_line_bytes + 1) → length (canonical ts) ≤ most_line_bytes
-    within h e = omega (arith, h, e)
+pub short_where : (ts : List Tok) (start end : Counted) (short : Bool) → start ≡ nothing_counted → end ≡ fold counted start ts → IsTrue short ↔ (end.bytes ≤ most_line_bytes)
+    → IsTrue short ↔ (length (canonical ts) ≤ most_line_bytes)
+short_where ts start end short first last decides =
+    let same : end.bytes ≡ min (length (canonical ts)) (most_line_bytes + 1) =
+    ap (λ (c : Counted). c.bytes) (last ∙ ap (λ c. fold counted c ts) first) ∙ counted_is ts in
+    (λ h. let within : end.bytes ≤ most_line_bytes = decides.0 h in omega (arith, within, same), λ h. decides.1 (omega (arith, h, same)))

@@ -5,14 +5,14 @@ use Rattle.std.proofs.lemmas.Result.{err_from_is_err_and}
 use denote.Enum.Bare.{true_same}
 use Rattle.bl_level.specs.contracts.token.Keyword as keyword
 use Rattle.bl_level.specs.declared.token.Keyword.{Keyword}
-use Rattle.bl_level.specs.declared.token.Keyword.TheVariants.{Hello, When, End, Else, Then}
-use Rattle.bl_level.specs.declared.token.Sign.TheVariants.{Comma, Semicolon}
+use Rattle.bl_level.specs.declared.token.Keyword.TheVariants.{Hello, Give, Rescind, Current, Classify, When, End, Else, Then}
+use Rattle.bl_level.specs.declared.token.Sign.TheVariants.{Comma, Semicolon, Close}
 use Rattle.bl_level.specs.Token.{Tok, reserved, name, text, sign}
 use Rattle.bl_policy.specs.declared.access.Mode.{Mode}
 use Rattle.bl_script.specs.declared.script.Condition.{Condition}
 use Rattle.bl_script.specs.declared.raw.RawStatement.{RawStatement}
 use Rattle.bl_script.specs.Spelled.{SpelledAccess, SpelledBody, mode_word, asks_word, spell_access, spell_more, spell_body}
-use Rattle.bl_script.specs.Machine.{Due, word, a_sign, a_name, a_text, a_mode, is_or_has, more_accesses, a_body, rest_of_if, a_line, access_due, if_due, when_due, statement_due, body_due, more_due, rest_due, word_due, step, run, Refuses, Stops}
+use Rattle.bl_script.specs.Machine.{Due, word, a_sign, a_name, a_text, a_mode, is_or_has, more_accesses, a_body, rest_of_if, rest_of_categories, a_line, access_due, if_due, when_due, level_due, cell_due, category_due, sign_due, statement_due, body_due, more_due, rest_due, word_due, step, run, Refuses, Stops}
 use Rattle.bl_script.specs.Parsing.{Gives, Faults, BeginsNone, IsNotAt, start_word, start_due, spell_statement}
 use Rattle.bl_script.specs.declared.parse.Start.{Start}
 use Rattle.bl_script.specs.declared.parse.Start.TheVariants as start
@@ -196,6 +196,44 @@ behind_hello want rest tokens e split f = faults_behind (a_line ∷ want) (a_nam
 
 pub behind_when : (want : List Due) (rest tokens : List Tok) (e : Stop) → tokens ≡ reserved When ∷ rest → Faults (when_due want) rest e → Faults (a_line ∷ want) tokens e
 behind_when want rest tokens e split f = faults_behind (a_line ∷ want) (when_due want) (reserved When ∷ []) rest tokens e split (λ due more. refl) f
+
+pub behind_give : (want : List Due) (rest tokens : List Tok) (e : Stop) → tokens ≡ reserved Give ∷ rest → Faults (cell_due want) rest e → Faults (a_line ∷ want) tokens e
+behind_give want rest tokens e split f = faults_behind (a_line ∷ want) (cell_due want) (reserved Give ∷ []) rest tokens e split (λ due more. refl) f
+
+pub behind_rescind : (want : List Due) (rest tokens : List Tok) (e : Stop) → tokens ≡ reserved Rescind ∷ rest → Faults (cell_due want) rest e → Faults (a_line ∷ want) tokens e
+behind_rescind want rest tokens e split f = faults_behind (a_line ∷ want) (cell_due want) (reserved Rescind ∷ []) rest tokens e split (λ due more. refl) f
+
+pub behind_current : (want : List Due) (rest tokens : List Tok) (e : Stop) → tokens ≡ reserved Current ∷ rest → Faults (level_due want) rest e → Faults (a_line ∷ want) tokens e
+behind_current want rest tokens e split f = faults_behind (a_line ∷ want) (level_due want) (reserved Current ∷ []) rest tokens e split (λ due more. refl) f
+
+pub behind_classify : (want : List Due) (rest tokens : List Tok) (e : Stop) → tokens ≡ reserved Classify ∷ rest → Faults (a_name ∷ level_due want) rest e → Faults (a_line ∷ want) tokens e
+behind_classify want rest tokens e split f = faults_behind (a_line ∷ want) (a_name ∷ level_due want) (reserved Classify ∷ []) rest tokens e split (λ due more. refl) f
+
+-- where no comma stands, a fault at the closing brace of a level
+no_more_category : (t : Tok) (due : List Due) → t ≢ sign Comma → category_due t due ≡ sign_due Close t due
+no_more_category (sign Comma) due ne = absurd (ne refl)
+no_more_category (sign Close) due ne = refl
+no_more_category _ due ne = refl
+
+close_refuses : (due : List Due) (before after : List Tok) → IsNotAt (sign Comma) (before ++ after) → Refuses (run (Some (a_sign Close ∷ due)) before) after → Refuses (run (Some (rest_of_categories ∷ due)) before) after
+close_refuses due [] [] ne r = r
+close_refuses due [] (t ∷ ts) ne r = no_more_category t due ne ∙ r
+close_refuses due (t ∷ ts) after ne r = rw (no_more_category t due ne) r
+
+pub at_close : (want : List Due) (tokens : List Tok) (e : Stop) → IsNotAt (sign Comma) tokens → Faults (a_sign Close ∷ want) tokens e → Faults (rest_of_categories ∷ want) tokens e
+at_close want tokens Memory ne f = f
+at_close want tokens (At left) ne s = record {
+  before = s.before;
+  after = s.after;
+  split = s.split;
+  left_is = s.left_is;
+  refused = λ due. close_refuses (want ++ due) s.before s.after (subst (IsNotAt (sign Comma)) s.split ne) (s.refused due);
+}
+
+-- a fault of a further category
+pub behind_category_comma : (want : List Due) (rest tokens : List Tok) (e : Stop) → tokens ≡ sign Comma ∷ rest → Faults (a_name ∷ rest_of_categories ∷ want) rest e → Faults (rest_of_categories ∷ want) tokens e
+behind_category_comma want rest tokens e split f =
+    faults_behind (rest_of_categories ∷ want) (a_name ∷ rest_of_categories ∷ want) (sign Comma ∷ []) rest tokens e split (λ due more. refl) f
 
 -- what the exit of a `?` answers
 pub exits : {X : Type 0} (P : X → Type 0) (want : List Due) (tokens : List Tok) (r : Result X Stop) (e : Stop) → IsErrAnd r (λ y. y ≡ e) → Faults want tokens e → Gives P want tokens r

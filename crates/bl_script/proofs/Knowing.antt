@@ -13,7 +13,7 @@ use Rattle.bl_level.specs.Token.{Tok}
 use Rattle.bl_policy.specs.declared.access.Access.{Access}
 use Rattle.bl_script.specs.declared.line.Line.TheVariants as line
 use Rattle.bl_script.specs.declared.work.Work.TheVariants.{Behaviour}
-use Rattle.bl_script.specs.Grammar.{SpelledLine, hello, wait, when, spell}
+use Rattle.bl_script.specs.Grammar.{SpelledLine, hello, wait, when, rule, spell}
 use Rattle.bl_script.specs.Known.{IsKnown, canonical_script}
 use Rattle.bl_script.specs.LineGrammar.{Means, LineOf}
 use Rattle.bl_script.specs.Meaning.{whens, document_of, access_of, numbered, spawned_from, script_of}
@@ -121,6 +121,7 @@ of_line : CanonicalIsShortest → (names : KnownNames) (bytes : List ℕ) (scrip
     → IsOfLine names bytes script
 of_line shortest names bytes script (hello n) begins means = absurd means
 of_line shortest names bytes script wait begins means = absurd means
+of_line shortest names bytes script (rule asked) begins means = absurd means
 of_line shortest names bytes script (when f m b) begins (faultless, is) =
     subst (IsOfLine names bytes) (sym is) (of_when shortest names bytes f m b begins faultless.known)
 

@@ -5,17 +5,23 @@ use Rattle.std.specs.Str.{bytes_eq}
 use Rattle.std.proofs.lemmas.List.Elements.{All-cons, All-nil, All-head, All-tail, All-append}
 use Rattle.std.proofs.lemmas.List.Quantifiers.{position-Some}
 use Rattle.bl_policy.specs.declared.access.Access.{Access}
+use Rattle.bl_policy.specs.declared.rule.Rule as asked_rule
+use Rattle.bl_policy.specs.declared.rule.Rule.TheVariants as asked
+use Rattle.bl_policy.specs.RuleEffect.{HasIdsBelow}
 use Rattle.bl_script.specs.declared.line.Line.{Line}
 use Rattle.bl_script.specs.declared.line.Line.TheVariants as line
-use Rattle.bl_script.specs.declared.work.Work.TheVariants.{Behaviour}
+use Rattle.bl_script.specs.declared.work.Work.TheVariants.{Behaviour, Rule}
 use Rattle.bl_script.specs.Names.{KnownNames}
 use Rattle.bl_script.specs.Spelled.{SpelledAccess, SpelledBody, empty, show, say, add, set, copy, pour, if_then, if_else, spawn}
-use Rattle.bl_script.specs.Grammar.{SpelledLine, hello, wait, when}
+use Rattle.bl_script.specs.Grammar.{SpelledLine, hello, wait, when, rule}
 use Rattle.bl_script.specs.KnownLine.{IsKnownDocument, DeclaresKnown, AreKnown, IsKnownLine}
 use Rattle.bl_script.specs.LineGrammar.{Means, LineOf}
 use Rattle.bl_script.specs.Meaning.{whens, document_of, access_of, numbered, spawned_from, script_of}
+use Rattle.bl_script.specs.RuleMeaning.{MeansRule}
+use Rattle.bl_script.specs.SpelledRules.{SpelledRule, give, rescind, current, classify}
 use Rattle.bl_script.specs.WhenFaults.{documents_in, names_in, IsFaultless}
 use Rattle.bl_script.proofs.Behaviours.{all_left, all_right, has_place}
+use Rattle.bl_script.proofs.Widths.{place_within}
 
 module _ (names : KnownNames) where
   -- the name is a document's
@@ -74,6 +80,17 @@ module _ (names : KnownNames) where
       (accesses_known (first ∷ more) (all_left IsName (documents_in (first ∷ more)) (names_in body) faultless.known))
       (spawned_known body 1 (all_right IsName (documents_in (first ∷ more)) (names_in body) faultless.known))
 
+  -- what a spelled rule asks
+  rule_known : (spelled : SpelledRule) (r : asked_rule.Rule) → MeansRule names spelled r → HasIdsBelow (length names.subjects) (length names.documents) r
+  rule_known (give s o m) (asked.Give t d k) means = (place_within names.subjects s t means.0, place_within names.documents o d means.1)
+  rule_known (give s o m) _ means = absurd means
+  rule_known (rescind s o m) (asked.Rescind t d k) means = (place_within names.subjects s t means.0, place_within names.documents o d means.1)
+  rule_known (rescind s o m) _ means = absurd means
+  rule_known (current text) (asked.Current l) means = tt
+  rule_known (current text) _ means = absurd means
+  rule_known (classify o text) (asked.Classify d l) means = place_within names.documents o d means.0
+  rule_known (classify o text) _ means = absurd means
+
   -- what a spelled line asks
   means_known : (spelled : SpelledLine) (asked : Line) → Means names spelled asked → IsKnownLine names asked
   means_known (hello name) (line.Hello subject) means = (position-Some (bytes_eq name) names.subjects subject name means).0
@@ -82,6 +99,8 @@ module _ (names : KnownNames) where
   means_known wait _ means = absurd means
   means_known (when first more body) (line.Work (Behaviour script)) means = subst (AreKnown names) (sym means.1) (when_known first more body means.0)
   means_known (when first more body) _ means = absurd means
+  means_known (rule spelled) (line.Work (Rule r)) means = rule_known spelled r means
+  means_known (rule spelled) _ means = absurd means
 
   -- what the bytes of a line ask
   pub line_known : (bytes : List ℕ) (asked : Line) → LineOf names bytes asked → IsKnownLine names asked

@@ -4,6 +4,7 @@ pub mod Lists
 pub mod Theory
 pub mod Spellings
 pub mod Faults
+pub mod Categories
 pub mod Ends
 pub mod Places
 pub mod Whole
@@ -30,6 +31,8 @@ pub mod Firsts
 pub mod Joined
 pub mod Passes
 pub mod WhenFaults
+pub mod RuleNames
+pub mod RuleMeanings
 pub mod Declared
 pub mod Few
 pub mod Uses
@@ -41,3 +44,6 @@ pub mod Reread
 pub mod Faultless
 pub mod ReadAgain
 pub mod Counting
+pub mod Widths
+pub mod RulesWritten
+pub mod RulesSpelled

@@ -13,20 +13,22 @@ use Rattle.bl_script.specs.declared.line.Line.{Line}
 use Rattle.bl_script.specs.declared.line.Line.TheVariants as line
 use Rattle.bl_script.specs.declared.script.Condition.{Condition}
 use Rattle.bl_policy.specs.declared.rule.Rule as asked_rule
+use Rattle.bl_policy.specs.declared.rule.Rule.TheVariants as rule_of
 use Rattle.bl_script.specs.declared.work.Work.TheVariants.{Behaviour, Rule}
-use Rattle.bl_script.specs.CanonicalLine.{IsTidy, IsTidyLine, IsCanonicalOf, canonical_line}
-use Rattle.bl_script.specs.Grammar.{SpelledLine, hello, wait, when, spell}
-use Rattle.bl_script.specs.Known.{IsKnown, canonical_script}
+use Rattle.bl_script.specs.CanonicalLine.{IsTidy, IsTidyRule, IsTidyLine, IsCanonicalOf, canonical_line}
+use Rattle.bl_script.specs.Grammar.{SpelledLine, hello, wait, when, rule, spell}
+use Rattle.bl_script.specs.Known.{IsKnown, canonical_script, IsKnownRule, canonical_rule}
 use Rattle.bl_script.specs.LineGrammar.{most_line_bytes, Means, LineOf}
 use Rattle.bl_script.specs.Meaning.{script_of}
 use Rattle.bl_script.specs.Names.{KnownNames, AreNames}
 use Rattle.bl_script.specs.Script.{IsScript}
 use Rattle.bl_script.specs.Spelled.{SpelledBody, empty, show, say, add, set, copy, pour, if_then, if_else, spawn, spell_when}
 use Rattle.bl_script.specs.Statements.{Statements, Nothing, Show, Say, Add, Set, Copy, Pour, If, Spawn, Part}
-use Rattle.bl_script.specs.Unread.{SpelledWhen, no_when, unread_if, unread_body, unread_when, unread_from, unread, unread_line}
+use Rattle.bl_script.specs.Unread.{SpelledWhen, no_when, unread_if, unread_body, unread_when, unread_from, unread, unread_rule, unread_line}
 use Rattle.bl_script.proofs.Behaviours.{same_bytes, when_is_script}
 use Rattle.bl_script.proofs.Faultless.{faultless_is}
 use Rattle.bl_script.proofs.Reread.{script_is, names_known}
+use Rattle.bl_script.proofs.RulesWritten.{rule_means}
 use Rattle.bl_script.proofs.Texts.{line_contents}
 
 -- ---- no `else` before a body of no statements
@@ -68,12 +70,19 @@ module _ (names : KnownNames) where
       (tidy_body (λ j. get_or (unread_from names (k + 1) rest) (j - (k + 1)) no_when) part.body (λ j. tidy_from (k + 1) rest (j - (k + 1))))
   tidy_from k (part ∷ rest) (suc i) = tidy_from (k + 1) rest i
 
+  -- a rule as it is read back has the categories of its level in order
+  tidy_rule : (asked : asked_rule.Rule) → IsTidyRule names.scheme (unread_rule names asked)
+  tidy_rule (rule_of.Give subject doc mode) = tt
+  tidy_rule (rule_of.Rescind subject doc mode) = tt
+  tidy_rule (rule_of.Current level) = (level, refl)
+  tidy_rule (rule_of.Classify doc level) = (level, refl)
+
   -- a line as it is read back has no `else` before a body of no statements
-  tidy_line : (asked : Line) → IsTidyLine (unread_line names asked)
+  tidy_line : (asked : Line) → IsTidyLine names.scheme (unread_line names asked)
   tidy_line (line.Hello subject) = tt
   tidy_line line.Wait = tt
   tidy_line (line.Work (Behaviour script)) = tidy_from 0 script 0
-  tidy_line (line.Work (Rule rule)) = tt
+  tidy_line (line.Work (Rule asked)) = tidy_rule asked
 
 -- ---- what a line as it is read back asks
 
@@ -86,6 +95,7 @@ module _ (names : KnownNames) where
       go (hello name) means = (position-Some (bytes_eq name) names.subjects subject [] means).0
       go wait means = absurd means
       go (when first more body) means = absurd means
+      go (rule asked) means = absurd means
 
   -- a `hello` has one spelling
   hello_is : (name : List ℕ) (subject : ℕ) → place_of name names.subjects ≡ Some subject → name ≡ get_or names.subjects subject []
@@ -113,6 +123,29 @@ ScriptIsShortest = (names : KnownNames) (bytes : List ℕ) (script : List Part) 
 abbrev pub ScriptIsKnown : Type 0
 ScriptIsKnown = (names : KnownNames) (bytes : List ℕ) (script : List Part) → LineOf names bytes (line.Work (Behaviour script)) → IsKnown names script
 
+-- the same of a rule
+abbrev pub RuleReadsAgain : Type 0
+RuleReadsAgain = (names : KnownNames) (r : asked_rule.Rule) → AreNames names → IsKnownRule names r → LineOf names (canonical_rule names r) (line.Work (Rule r))
+
+abbrev pub RuleIsShortest : Type 0
+RuleIsShortest = (names : KnownNames) (bytes : List ℕ) (r : asked_rule.Rule) → AreNames names → LineOf names bytes (line.Work (Rule r))
+    → length (canonical_rule names r) ≤ length bytes
+
+abbrev pub RuleIsKnown : Type 0
+RuleIsKnown = (names : KnownNames) (bytes : List ℕ) (r : asked_rule.Rule) → AreNames names → LineOf names bytes (line.Work (Rule r)) → IsKnownRule names r
+
+-- what the laws say that a line is written by
+pub record AreLaws : Type 0 where
+  pub again : CanonicalReadsAgain
+  pub shortest : CanonicalIsShortest
+  pub proper : ReadTokensAreProper
+  pub script_again : ScriptReadsAgain
+  pub script_shortest : ScriptIsShortest
+  pub script_known : ScriptIsKnown
+  pub rule_again : RuleReadsAgain
+  pub rule_shortest : RuleIsShortest
+  pub rule_known : RuleIsKnown
+
 -- what is written of a line: the text reads as it, no text of it is shorter, and it is canonical
 pub record IsWritten (names : KnownNames) (asked : Line) (text : List ℕ) : Type 0 where
   pub reads : LineOf names text asked
@@ -121,7 +154,7 @@ pub record IsWritten (names : KnownNames) (asked : Line) (text : List ℕ) : Typ
 
 module _ (again : CanonicalReadsAgain) (shortest : CanonicalIsShortest) (proper : ReadTokensAreProper) (names : KnownNames) (asked : Line) (spelled : SpelledLine) where
   -- a line of one spelling is written so
-  one_spelling : ((bytes : List ℕ) → LineOf names bytes asked → Begins bytes (spell spelled) [] × Means names spelled asked) → IsTidyLine spelled
+  one_spelling : ((bytes : List ℕ) → LineOf names bytes asked → Begins bytes (spell spelled) [] × Means names spelled asked) → IsTidyLine names.scheme spelled
       → (bytes : List ℕ) → LineOf names bytes asked → IsWritten names asked (canonical (spell spelled))
   one_spelling only tidy bytes l =
       let least : (bytes : List ℕ) → LineOf names bytes asked → length (canonical (spell spelled)) ≤ length bytes =
@@ -152,6 +185,7 @@ module _ (names : KnownNames) where
           )
       go wait reads means = absurd means
       go (when first more body) reads means = absurd means
+      go (rule asked) reads means = absurd means
 
   -- each text of a `wait` has its token
   only_wait : (bytes : List ℕ) → LineOf names bytes line.Wait → Begins bytes (spell wait) [] × Means names wait line.Wait
@@ -161,6 +195,7 @@ module _ (names : KnownNames) where
       go (hello name) reads means = absurd means
       go wait reads means = (reads, tt)
       go (when first more body) reads means = absurd means
+      go (rule asked) reads means = absurd means
 
   -- the `when` that a known script is read back as asks the script
   script_means : (script : List Part) → AreNames names → IsScript script → IsKnown names script
@@ -184,30 +219,29 @@ module _ (names : KnownNames) where
           let short : length (canonical (spell_when first more body)) ≤ most_line_bytes = omega (arith, shortest (spell_when first more body) bytes [] reads, l.short) in
           let contents = line_contents (when first more body) most_line_bytes (lit≤ tt) (proper bytes [] (spell_when first more body) reads) short in
           subst IsScript (sym is) (when_is_script names first more body faultless contents)
+      go (rule asked) reads means = absurd means
 
-  -- no text reads as a rule
-  no_rule : (rule : asked_rule.Rule) (spelled : SpelledLine) → Means names spelled (line.Work (Rule rule)) → ⊥
-  no_rule rule (hello name) means = means
-  no_rule rule wait means = means
-  no_rule rule (when first more body) means = means
-
-  pub line_written : CanonicalReadsAgain → CanonicalIsShortest → ReadTokensAreProper → ScriptReadsAgain → ScriptIsShortest → ScriptIsKnown
-      → (asked : Line) → AreNames names → (bytes : List ℕ) → LineOf names bytes asked
-      → IsWritten names asked (canonical_line names asked)
-  line_written again shortest proper script_again script_shortest script_known (line.Hello subject) table bytes l =
-      one_spelling again shortest proper names (line.Hello subject) (hello (get_or names.subjects subject [])) (only_hello subject) tt bytes l
-  line_written again shortest proper script_again script_shortest script_known line.Wait table bytes l =
-      one_spelling again shortest proper names line.Wait wait only_wait tt bytes l
-  line_written again shortest proper script_again script_shortest script_known (line.Work (Behaviour script)) table bytes l =
+  pub line_written : AreLaws → (asked : Line) → AreNames names → (bytes : List ℕ) → LineOf names bytes asked → IsWritten names asked (canonical_line names asked)
+  line_written laws (line.Hello subject) table bytes l =
+      one_spelling laws.again laws.shortest laws.proper names (line.Hello subject) (hello (get_or names.subjects subject [])) (only_hello subject) tt bytes l
+  line_written laws line.Wait table bytes l =
+      one_spelling laws.again laws.shortest laws.proper names line.Wait wait only_wait tt bytes l
+  line_written laws (line.Work (Behaviour script)) table bytes l =
       let asked : Line = line.Work (Behaviour script) in
-      let known = script_known names bytes script l in
-      let is = line_script shortest proper bytes script l in
+      let known = laws.script_known names bytes script l in
+      let is = line_script laws.shortest laws.proper bytes script l in
       record {
-        reads = script_again names script table is known;
-        shortest = λ bytes l. script_shortest names bytes script l;
+        reads = laws.script_again names script table is known;
+        shortest = λ bytes l. laws.script_shortest names bytes script l;
         canonical = record { spelled = unread_line names asked; tidy = tidy_line names asked; means = script_means script table is known; text = refl };
       }
-  line_written again shortest proper script_again script_shortest script_known (line.Work (Rule rule)) table bytes l = absurd (no_rule rule l.spelled l.means)
+  line_written laws (line.Work (Rule r)) table bytes l =
+      let known = laws.rule_known names bytes r table l in
+      record {
+        reads = laws.rule_again names r table known;
+        shortest = λ bytes l. laws.rule_shortest names bytes r table l;
+        canonical = record { spelled = rule (unread_rule names r); tidy = tidy_rule names r; means = rule_means names table r known.there; text = refl };
+      }
 
 -- ---- what an answer says
 

@@ -9,15 +9,16 @@ use Rattle.std.proofs.lemmas.Result.{err_from_is_err_and}
 use Rattle.bl_level.specs.Table.{place_of}
 use Rattle.bl_script.specs.declared.line.Line.{Line}
 use Rattle.bl_script.specs.declared.line.Line.TheVariants as line
-use Rattle.bl_script.specs.declared.work.Work.TheVariants.{Behaviour}
+use Rattle.bl_script.specs.declared.work.Work.TheVariants.{Behaviour, Rule}
 use Rattle.bl_script.specs.declared.line.LineFault.{LineFault}
 use Rattle.bl_script.specs.declared.line.LineFault.TheVariants.{Long, Syntax, Deep, Many, Unknown, Twice, Mode, Memory}
 use Rattle.bl_script.specs.Names.{KnownNames}
-use Rattle.bl_script.specs.Grammar.{SpelledLine, hello, wait, when}
+use Rattle.bl_script.specs.Grammar.{SpelledLine, hello, wait, when, rule}
 use Rattle.bl_script.specs.Fault.{ReadsAs}
 use Rattle.bl_script.specs.LineGrammar.{most_line_bytes, Means, LineOf}
 use Rattle.bl_script.specs.LineFaults.{IsFaultOf, IsFaultOrMemory, IsLineFault, IsWantOfMemory}
 use Rattle.bl_script.proofs.WhenFaults.{faultless_no_fault}
+use Rattle.bl_script.proofs.RuleMeanings.{one_rule, meant_no_fault}
 
 -- a spelled line asks one thing
 pub means_one : (names : KnownNames) (s : SpelledLine) (l m : Line) → Means names s l → Means names s m → l ≡ m
@@ -30,6 +31,9 @@ means_one names wait _ _ p q = absurd p
 means_one names (when first more body) (line.Work (Behaviour a)) (line.Work (Behaviour b)) p q = ap (λ s. line.Work (Behaviour s)) (p.1 ∙ sym q.1)
 means_one names (when first more body) (line.Work (Behaviour a)) _ p q = absurd q
 means_one names (when first more body) _ _ p q = absurd p
+means_one names (rule r) (line.Work (Rule a)) (line.Work (Rule b)) p q = ap (λ x. line.Work (Rule x)) (one_rule names r a b p q)
+means_one names (rule r) (line.Work (Rule a)) _ p q = absurd q
+means_one names (rule r) _ _ p q = absurd p
 
 -- what an error of a `?` answers
 pub exits_with : {X E : Type 0} (P : E → Type 0) (r : Result X E) (e : E) → IsErrAnd r (λ y. y ≡ e) → P e → IfErr r P
@@ -48,6 +52,8 @@ means_no_fault names (hello n) _ fault m f = m
 means_no_fault names wait _ fault m f = f
 means_no_fault names (when first more body) (line.Work (Behaviour script)) fault m f = faultless_no_fault names first more body fault m.0 f
 means_no_fault names (when first more body) _ fault m f = m
+means_no_fault names (rule r) (line.Work (Rule a)) fault m f = meant_no_fault names r a fault m f
+means_no_fault names (rule r) _ fault m f = m
 
 -- a fault of a `when` is one of the line
 pub when_fault : (names : KnownNames) (s : SpelledLine) (fault : LineFault) → IsFaultOf names s fault → IsFaultOrMemory names s fault
@@ -86,11 +92,13 @@ no_syntax : (names : KnownNames) (s : SpelledLine) (place : ℕ) → IsFaultOf n
 no_syntax names (hello n) place f = cc
 no_syntax names wait place f = f
 no_syntax names (when first more body) place f = f
+no_syntax names (rule r) place f = f
 
 no_long : (names : KnownNames) (s : SpelledLine) → IsFaultOf names s Long → ⊥
 no_long names (hello n) f = cc
 no_long names wait f = f
 no_long names (when first more body) f = f
+no_long names (rule r) f = f
 
 fault_is : (names : KnownNames) (bytes : List ℕ) (s : SpelledLine) (fault : LineFault) → length bytes ≤ most_line_bytes → ReadsAs bytes s → IsFaultOrMemory names s fault → IsLineFault names bytes fault
 fault_is names bytes s Long short reads f = absurd (no_long names s f)

@@ -7,12 +7,13 @@ use Rattle.bl_script.specs.declared.line.Line.{Line}
 use Rattle.bl_script.specs.declared.line.LineFault.{LineFault}
 use Rattle.bl_script.specs.declared.line.LineFault.TheVariants.{Long, Syntax, Deep, Many, Unknown, Twice, Mode, Memory}
 use Rattle.bl_script.specs.Names.{KnownNames}
-use Rattle.bl_script.specs.Grammar.{SpelledLine, hello, wait, when, spell}
+use Rattle.bl_script.specs.Grammar.{SpelledLine, hello, wait, when, rule, spell}
 use Rattle.bl_script.specs.Fault.{ReadsAs, SyntaxFault}
 use Rattle.bl_script.specs.LineGrammar.{most_line_bytes, Means, LineOf}
 use Rattle.bl_script.specs.LineFaults.{IsFaultOf, HasFault, IsLineFault}
 use Rattle.bl_script.proofs.Unique.{same_line}
 use Rattle.bl_script.proofs.WhenFaults as of_when
+use Rattle.bl_script.proofs.RuleMeanings.{one_rule_fault}
 use Rattle.bl_script.proofs.Meanings.{means_one, means_no_fault}
 use Rattle.bl_script.proofs.OneFault.{reads_no_fault}
 
@@ -67,6 +68,7 @@ one_of_fault : (names : KnownNames) (s : SpelledLine) (f g : LineFault) → IsFa
 one_of_fault names (hello name) f g a b = a.0 ∙ sym b.0
 one_of_fault names wait f g a b = absurd a
 one_of_fault names (when first more body) f g a b = of_when.one_fault names first more body f g a b
+one_of_fault names (rule r) f g a b = one_rule_fault names r f g a b
 
 pub one_line_fault : ReadProper → OneReading → OneSyntaxFault → (names : KnownNames) (bytes : List ℕ) (f g : LineFault) → IsLineFault names bytes f → IsLineFault names bytes g
     → f ≢ Memory → g ≢ Memory → f ≡ g

@@ -8,7 +8,7 @@ use Rattle.bl_level.specs.Canonical.{canonical, spelled, gap}
 use Rattle.bl_script.specs.Content.{IsContent, most_bytes}
 use Rattle.bl_script.specs.Spelled.{SpelledAccess, SpelledBody, empty, show, say, add, set, copy, pour, if_then, if_else, spawn, spell_more, spell_body}
 use Rattle.bl_script.specs.WhenFaults.{AreContents}
-use Rattle.bl_script.specs.Grammar.{SpelledLine, hello, wait, when, spell}
+use Rattle.bl_script.specs.Grammar.{SpelledLine, hello, wait, when, rule, spell}
 use Rattle.bl_script.specs.Reading.{HasContents}
 
 -- a text is a content
@@ -84,6 +84,7 @@ body_contents (spawn first more body rest) (x, (y, (z, (u, behind_first)))) =
 line_fit : (l : SpelledLine) → AreFit (spell l) → HasContents l
 line_fit (hello subject) h = tt
 line_fit wait h = tt
+line_fit (rule asked) h = tt
 line_fit (when first more body) (x, (y, (z, behind_first))) =
     let d : AreFit (spell_body body ++ reserved End ∷ []) = behind (reserved Do) (spell_body body ++ reserved End ∷ []) (behind_more more (reserved Do ∷ (spell_body body ++ reserved End ∷ [])) behind_first) in
     let p = fit_split (spell_body body) (reserved End ∷ []) d in

@@ -1,24 +1,28 @@
 -- The machine takes exactly what goes on as a line.
-use Rattle.std.proofs.Common.{◌≡◌, ◌≢◌, ℕ, Bool, true, false, cond, List, [], ◌∷◌, ◌++◌, length, Option, Some, None, refl, sym, ap, subst, ◌∙◌, append_assoc, arith, rules}
+use Rattle.std.proofs.Common.{◌≡◌, ◌≢◌, ℕ, Bool, true, false, cond, bytes_eq, List, [], ◌∷◌, ◌++◌, length, Option, Some, None, refl, sym, ap, subst, ◌∙◌, append_assoc, arith, rules}
 use Rattle.std.proofs.lemmas.List.{append-nil}
+use Rattle.std.proofs.lemmas.Slice.Eq.{bytes_eq-Decides}
 use denote.Enum.Bare.{sameb, same_true}
 use Rattle.bl_level.specs.contracts.token.Keyword as keyword
 use Rattle.bl_level.specs.contracts.token.Sign as a_mark
 use Rattle.bl_level.specs.declared.token.Keyword.{Keyword}
 use Rattle.bl_level.specs.declared.token.Keyword.TheVariants.{Hello, Wait, Give, Rescind, Current, Classify, When, Read, Append, Write, Do, End, Show, Say, Add, Set, Copy, Pour, To, If, Is, Has, Then, Else, Spawn, Ranks, Categories, Subject, Greatest, Document, Allow, Trusted, Admin, Create, Delete, Reserve}
 use Rattle.bl_level.specs.declared.token.Sign.{Sign}
-use Rattle.bl_level.specs.declared.token.Sign.TheVariants.{Comma, Semicolon}
+use Rattle.bl_level.specs.declared.token.Sign.TheVariants.{Comma, Semicolon, Open, Close}
 use Rattle.bl_level.specs.Token.{Tok, reserved, name, text, sign}
 use Rattle.bl_level.specs.Lexing.{word_text}
+use Rattle.bl_level.specs.LevelText.{LevelText, spell_categories, spell_level}
+use Rattle.bl_level.specs.LevelText as of_level
 use Rattle.bl_level.specs.Name.{IsName, AreProper}
 use Rattle.bl_policy.specs.declared.access.Mode.{Mode}
 use Rattle.bl_policy.specs.declared.access.Mode.TheVariants as mode
 use Rattle.bl_script.specs.declared.script.Condition.{Condition}
 use Rattle.bl_script.specs.declared.script.Condition.TheVariants as asks
 use Rattle.bl_script.specs.Spelled.{SpelledAccess, SpelledBody, empty, show, say, add, set, copy, pour, if_then, if_else, spawn, mode_word, asks_word, spell_access, spell_more, spell_body}
-use Rattle.bl_script.specs.Grammar.{SpelledLine, hello, wait, when, spell, CanGoOn}
+use Rattle.bl_script.specs.SpelledRules.{SpelledRule, letter_of, give, rescind, current, classify}
+use Rattle.bl_script.specs.Grammar.{SpelledLine, hello, wait, when, rule, spell, CanGoOn}
 use Rattle.bl_script.specs.Fault.{Blocks, FirstFault}
-use Rattle.bl_script.specs.Machine.{Due, word, a_sign, a_name, a_text, a_mode, is_or_has, more_accesses, a_body, rest_of_if, a_line, access_due, when_due, if_due, statement_due, body_due, more_due, rest_due, mode_due, asks_due, step, run, ends, Refuses, Stops, word_due, sign_due, name_due, text_due, line_due}
+use Rattle.bl_script.specs.Machine.{Due, word, a_sign, a_name, a_text, a_mode, is_or_has, more_accesses, a_body, rest_of_if, a_letter, rest_of_level, rest_of_categories, a_line, access_due, when_due, if_due, level_due, cell_due, statement_due, body_due, more_due, rest_due, mode_due, asks_due, mode_of, letter_taken, letter_due, categories_due, category_due, step, run, ends, Refuses, Stops, word_due, sign_due, name_due, text_due, line_due}
 
 pub run_none : (ts : List Tok) → run None ts ≡ None
 run_none [] = refl
@@ -91,7 +95,51 @@ run_body (spawn first more body rest) due ts =
     ∙ run_body body (word End ∷ a_sign Semicolon ∷ a_body ∷ due) (reserved End ∷ sign Semicolon ∷ spell_body rest ++ ts)
     ∙ run_body rest due ts
 
-pub run_line : (l : SpelledLine) (due : List Due) → run (Some (a_line ∷ due)) (spell l) ≡ Some due
+pub run_letter : (m : Mode) (due : List Due) (ts : List Tok) → run (Some (a_letter ∷ due)) (name (letter_of m) ∷ ts) ≡ run (Some due) ts
+run_letter mode.Read due ts = refl
+run_letter mode.Append due ts = refl
+run_letter mode.Write due ts = refl
+
+-- further categories, up to the closing brace
+pub run_more_categories : (categories : List (List ℕ)) (due : List Due) (ts : List Tok) → run (Some (rest_of_categories ∷ due)) (of_level.spell_more categories ++ ts) ≡ run (Some due) ts
+run_more_categories [] due ts = refl
+run_more_categories (c ∷ categories) due ts = run_more_categories categories due ts
+
+-- what may still come behind a level: the categories of one that has none
+abbrev pub behind_level : List (List ℕ) → List Due
+behind_level [] = rest_of_level ∷ []
+behind_level (c ∷ categories) = []
+
+pub run_categories : (categories : List (List ℕ)) (due : List Due) (ts : List Tok)
+    → run (Some (rest_of_level ∷ due)) (spell_categories categories ++ ts) ≡ run (Some (behind_level categories ++ due)) ts
+run_categories [] due ts = refl
+run_categories (c ∷ categories) due ts = run_more_categories categories due ts
+
+pub run_level : (level : LevelText) (due : List Due) (ts : List Tok)
+    → run (Some (level_due due)) (spell_level level ++ ts) ≡ run (Some (behind_level level.categories ++ due)) ts
+run_level level due ts = run_categories level.categories due ts
+
+-- what may still come behind a line
+abbrev pub behind_rule : SpelledRule → List Due
+behind_rule (give subject document m) = []
+behind_rule (rescind subject document m) = []
+behind_rule (current level) = behind_level level.categories
+behind_rule (classify document level) = behind_level level.categories
+
+abbrev pub behind_line : SpelledLine → List Due
+behind_line (hello n) = []
+behind_line wait = []
+behind_line (when first more body) = []
+behind_line (rule r) = behind_rule r
+
+run_rule : (r : SpelledRule) (due : List Due) → run (Some (a_line ∷ due)) (spell (rule r)) ≡ Some (behind_rule r ++ due)
+run_rule (give subject document m) due = run_letter m due []
+run_rule (rescind subject document m) due = run_letter m due []
+run_rule (current level) due = ap (run (Some (level_due due))) (sym (append-nil (spell_level level))) ∙ run_level level due []
+run_rule (classify document level) due = ap (run (Some (level_due due))) (sym (append-nil (spell_level level))) ∙ run_level level due []
+
+pub run_line : (l : SpelledLine) (due : List Due) → run (Some (a_line ∷ due)) (spell l) ≡ Some (behind_line l ++ due)
+run_line (rule r) due = run_rule r due
 run_line (hello n) due = refl
 run_line wait due = refl
 run_line (when first more body) due =
@@ -120,6 +168,9 @@ Derives (is_or_has ∷ due) ts = (c : Condition) × (more : List Tok) × (ts ≡
 Derives (more_accesses ∷ due) ts = (accesses : List SpelledAccess) × (more : List Tok) × (ts ≡ spell_more accesses more) × Derives due more
 Derives (a_body ∷ due) ts = (b : SpelledBody) × (more : List Tok) × (ts ≡ spell_body b ++ more) × Derives due more
 Derives (rest_of_if ∷ due) ts = (r : IfRest) × (more : List Tok) × (ts ≡ spell_rest r more) × Derives due more
+Derives (a_letter ∷ due) ts = (m : Mode) × (more : List Tok) × (ts ≡ name (letter_of m) ∷ more) × Derives due more
+Derives (rest_of_level ∷ due) ts = (categories : List (List ℕ)) × (more : List Tok) × (ts ≡ spell_categories categories ++ more) × Derives due more
+Derives (rest_of_categories ∷ due) ts = (categories : List (List ℕ)) × (more : List Tok) × (ts ≡ of_level.spell_more categories ++ more) × Derives due more
 Derives (a_line ∷ due) ts = (l : SpelledLine) × (more : List Tok) × (ts ≡ spell l ++ more) × Derives due more
 
 -- whatever is due can come
@@ -134,6 +185,9 @@ completion (is_or_has ∷ due) = reserved Is ∷ completion due
 completion (more_accesses ∷ due) = completion due
 completion (a_body ∷ due) = completion due
 completion (rest_of_if ∷ due) = reserved End ∷ completion due
+completion (a_letter ∷ due) = name (97 ∷ []) ∷ completion due
+completion (rest_of_level ∷ due) = completion due
+completion (rest_of_categories ∷ due) = sign Close ∷ completion due
 completion (a_line ∷ due) = reserved Wait ∷ completion due
 
 pub completes : (due : List Due) → Derives due (completion due)
@@ -147,6 +201,9 @@ completes (is_or_has ∷ due) = (asks.Is, _, refl, completes due)
 completes (more_accesses ∷ due) = ([], _, refl, completes due)
 completes (a_body ∷ due) = (empty, _, refl, completes due)
 completes (rest_of_if ∷ due) = (no_else, _, refl, completes due)
+completes (a_letter ∷ due) = (mode.Append, _, refl, completes due)
+completes (rest_of_level ∷ due) = ([], _, refl, completes due)
+completes (rest_of_categories ∷ due) = ([], _, refl, completes due)
 completes (a_line ∷ due) = (wait, _, refl, completes due)
 
 -- no reserved word is `a`
@@ -202,6 +259,9 @@ completion_is_proper (is_or_has ∷ due) = (tt, completion_is_proper due)
 completion_is_proper (more_accesses ∷ due) = completion_is_proper due
 completion_is_proper (a_body ∷ due) = completion_is_proper due
 completion_is_proper (rest_of_if ∷ due) = (tt, completion_is_proper due)
+completion_is_proper (a_letter ∷ due) = (a_is_name, completion_is_proper due)
+completion_is_proper (rest_of_level ∷ due) = completion_is_proper due
+completion_is_proper (rest_of_categories ∷ due) = (tt, completion_is_proper due)
 completion_is_proper (a_line ∷ due) = (tt, completion_is_proper due)
 
 -- ---- what is taken derives
@@ -240,6 +300,44 @@ asks_step : (due : List Due) (t : Tok) (next : List Due) → asks_due t due ≡ 
 asks_step due (reserved Is) next e ts d = let q : next ≡ due = cc in (asks.Is, ts, refl, rw q at d)
 asks_step due (reserved Has) next e ts d = let q : next ≡ due = cc in (asks.Has, ts, refl, rw q at d)
 asks_step due _ next e ts d = absurd (cc)
+
+-- a letter is that of its mode
+pub letter_is : (n : List ℕ) (m : Mode) → mode_of n ≡ Some m → n ≡ letter_of m
+letter_is n m e = go (bytes_eq n (114 ∷ [])) (bytes_eq n (97 ∷ [])) (bytes_eq n (119 ∷ [])) refl refl refl e
+  where
+    go : (r a w : Bool) → bytes_eq n (114 ∷ []) ≡ r → bytes_eq n (97 ∷ []) ≡ a → bytes_eq n (119 ∷ []) ≡ w
+        → cond r (Some mode.Read) (cond a (Some mode.Append) (cond w (Some mode.Write) None)) ≡ Some m → n ≡ letter_of m
+    go true a w p q s f = let same : m ≡ mode.Read = cc in (bytes_eq-Decides n (114 ∷ [])).0 p ∙ ap letter_of (sym same)
+    go false true w p q s f = let same : m ≡ mode.Append = cc in (bytes_eq-Decides n (97 ∷ [])).0 q ∙ ap letter_of (sym same)
+    go false false true p q s f = let same : m ≡ mode.Write = cc in (bytes_eq-Decides n (119 ∷ [])).0 s ∙ ap letter_of (sym same)
+    go false false false p q s f = absurd (cc)
+
+letter_case : (n : List ℕ) (o : Option Mode) → mode_of n ≡ o → (due next : List Due) → letter_taken o due ≡ Some next → (ts : List Tok) → Derives next ts → Derives (a_letter ∷ due) (name n ∷ ts)
+letter_case n (Some m) is due next e ts d = let q : next ≡ due = cc in (m, ts, ap (λ x. name x ∷ ts) (letter_is n m is), rw q at d)
+letter_case n None is due next e ts d = absurd (cc)
+
+letter_step : (due : List Due) (t : Tok) (next : List Due) → letter_due t due ≡ Some next → (ts : List Tok) → Derives next ts → Derives (a_letter ∷ due) (t ∷ ts)
+letter_step due (name n) next e ts d = letter_case n (mode_of n) refl due next e ts d
+letter_step due _ next e ts d = absurd (cc)
+
+-- the first category of a level
+derives_open : (due : List Due) (ts : List Tok) → Derives (a_name ∷ rest_of_categories ∷ due) ts → Derives (rest_of_level ∷ due) (sign Open ∷ ts)
+derives_open due ts (n, m1, e1, (categories, more, e2, d)) = (n ∷ categories, more, cc, d)
+
+level_step : (due : List Due) (t : Tok) (next : List Due) → categories_due t due (step due t) ≡ Some next
+    → ((next : List Due) → step due t ≡ Some next → (ts : List Tok) → Derives next ts → Derives due (t ∷ ts))
+    → (ts : List Tok) → Derives next ts → Derives (rest_of_level ∷ due) (t ∷ ts)
+level_step due (sign Open) next e past ts d = let q : next ≡ (a_name ∷ rest_of_categories ∷ due) = cc in derives_open due ts (rw q at d)
+level_step due t next e past ts d = ([], t ∷ ts, refl, past next e ts d)
+
+-- one more category
+derives_category : (due : List Due) (ts : List Tok) → Derives (a_name ∷ rest_of_categories ∷ due) ts → Derives (rest_of_categories ∷ due) (sign Comma ∷ ts)
+derives_category due ts (n, m1, e1, (categories, more, e2, d)) = (n ∷ categories, more, cc, d)
+
+category_step : (due : List Due) (t : Tok) (next : List Due) → category_due t due ≡ Some next → (ts : List Tok) → Derives next ts → Derives (rest_of_categories ∷ due) (t ∷ ts)
+category_step due (sign Comma) next e ts d = let q : next ≡ (a_name ∷ rest_of_categories ∷ due) = cc in derives_category due ts (rw q at d)
+category_step due (sign Close) next e ts d = let q : next ≡ due = cc in ([], ts, refl, rw q at d)
+category_step due _ next e ts d = absurd (cc)
 
 derives_else : (due : List Due) (ts : List Tok) → Derives (a_body ∷ word End ∷ due) ts → Derives (rest_of_if ∷ due) (reserved Else ∷ ts)
 derives_else due ts (b, m, e, (m1, e1, d)) = (with_else b, m1, cc, d)
@@ -332,10 +430,27 @@ derives_when due ts (m, m1, e1, (n, m2, e2, (accesses, m3, e3, (m4, e4, (b, m5, 
   d,
 )
 
+derives_give : (due : List Due) (ts : List Tok) → Derives (cell_due due) ts → Derives (a_line ∷ due) (reserved Give ∷ ts)
+derives_give due ts (s, m1, e1, (o, m2, e2, (m, more, e3, d))) = (rule (give s o m), more, cc, d)
+
+derives_rescind : (due : List Due) (ts : List Tok) → Derives (cell_due due) ts → Derives (a_line ∷ due) (reserved Rescind ∷ ts)
+derives_rescind due ts (s, m1, e1, (o, m2, e2, (m, more, e3, d))) = (rule (rescind s o m), more, cc, d)
+
+derives_current : (due : List Due) (ts : List Tok) → Derives (level_due due) ts → Derives (a_line ∷ due) (reserved Current ∷ ts)
+derives_current due ts (n, m1, e1, (categories, more, e2, d)) = (rule (current (record { rank = n; categories = categories })), more, cc, d)
+
+derives_classify : (due : List Due) (ts : List Tok) → Derives (a_name ∷ level_due due) ts → Derives (a_line ∷ due) (reserved Classify ∷ ts)
+derives_classify due ts (o, m1, e1, (n, m2, e2, (categories, more, e3, d))) =
+    (rule (classify o (record { rank = n; categories = categories })), more, cc, d)
+
 line_step : (due : List Due) (t : Tok) (next : List Due) → line_due t due ≡ Some next → (ts : List Tok) → Derives next ts → Derives (a_line ∷ due) (t ∷ ts)
 line_step due (reserved Hello) next e ts d = let q : next ≡ (a_name ∷ due) = cc in derives_hello due ts (rw q at d)
 line_step due (reserved Wait) next e ts d = let q : next ≡ due = cc in (wait, ts, refl, rw q at d)
 line_step due (reserved When) next e ts d = let q : next ≡ when_due due = cc in derives_when due ts (rw q at d)
+line_step due (reserved Give) next e ts d = let q : next ≡ cell_due due = cc in derives_give due ts (rw q at d)
+line_step due (reserved Rescind) next e ts d = let q : next ≡ cell_due due = cc in derives_rescind due ts (rw q at d)
+line_step due (reserved Current) next e ts d = let q : next ≡ level_due due = cc in derives_current due ts (rw q at d)
+line_step due (reserved Classify) next e ts d = let q : next ≡ (a_name ∷ level_due due) = cc in derives_classify due ts (rw q at d)
 line_step due _ next e ts d = absurd (cc)
 
 pub derives_step : (due : List Due) (t : Tok) (next : List Due) → step due t ≡ Some next → (ts : List Tok) → Derives next ts → Derives due (t ∷ ts)
@@ -349,6 +464,9 @@ derives_step (is_or_has ∷ due) t next e ts d = asks_step due t next e ts d
 derives_step (more_accesses ∷ due) t next e ts d = more_step due t next e (derives_step due t) ts d
 derives_step (a_body ∷ due) t next e ts d = body_step (statement_due t) due t refl next e (derives_step due t) ts d
 derives_step (rest_of_if ∷ due) t next e ts d = rest_step due t next e ts d
+derives_step (a_letter ∷ due) t next e ts d = letter_step due t next e ts d
+derives_step (rest_of_level ∷ due) t next e ts d = level_step due t next e (derives_step due t) ts d
+derives_step (rest_of_categories ∷ due) t next e ts d = category_step due t next e ts d
 derives_step (a_line ∷ due) t next e ts d = line_step due t next e ts d
 
 derives_on : (o : Option (List Due)) (due : List Due) (t : Tok) (ts us : List Tok) (next : List Due) → step due t ≡ o → run o ts ≡ Some next
@@ -369,21 +487,38 @@ run_goes_on before due e = go (derives_run before (a_line ∷ []) due e (complet
     go : Derives (a_line ∷ []) (before ++ completion due) → CanGoOn before
     go (l, more, f, none) = (l, completion due, sym (append-nil (spell l)) ∙ ap (λ x. spell l ++ x) (sym none) ∙ sym f, completion_is_proper due)
 
-at_end : (due : List Due) → Some due ≡ Some [] → ends due ≡ false → ⊥
-at_end due e f = let q : due ≡ [] = cc in let r : true ≡ false = rw q at f in absurd (cc)
+-- nothing has to come behind a line
+level_over : (categories : List (List ℕ)) → ends (behind_level categories ++ []) ≡ true
+level_over [] = refl
+level_over (c ∷ categories) = refl
+
+rule_over : (r : SpelledRule) → ends (behind_rule r ++ []) ≡ true
+rule_over (give subject document m) = refl
+rule_over (rescind subject document m) = refl
+rule_over (current level) = level_over level.categories
+rule_over (classify document level) = level_over level.categories
+
+line_over : (l : SpelledLine) → ends (behind_line l ++ []) ≡ true
+line_over (hello n) = refl
+line_over wait = refl
+line_over (when first more body) = refl
+line_over (rule r) = rule_over r
+
+at_end : (due rest : List Due) → Some due ≡ Some rest → ends rest ≡ true → ends due ≡ false → ⊥
+at_end due rest e over f = let q : due ≡ rest = cc in let r : ends rest ≡ false = rw q at f in absurd (cc)
 
 pub refused_blocks : (before after : List Tok) → Refuses (run (Some (a_line ∷ [])) before) after → Blocks before after
 refused_blocks before [] r = go (run (Some (a_line ∷ [])) before) refl r
   where
     go : (o : Option (List Due)) → run (Some (a_line ∷ [])) before ≡ o → Refuses o [] → (line : SpelledLine) → spell line ≡ before → ⊥
     go None e r line f = absurd r
-    go (Some due) e r line f = at_end due (sym e ∙ ap (run (Some (a_line ∷ []))) (sym f) ∙ run_line line []) r
+    go (Some due) e r line f = at_end due (behind_line line ++ []) (sym e ∙ ap (run (Some (a_line ∷ []))) (sym f) ∙ run_line line []) (line_over line) r
 refused_blocks before (t ∷ more) r = go (run (Some (a_line ∷ [])) before) refl r
   where
     go : (o : Option (List Due)) → run (Some (a_line ∷ [])) before ≡ o → Refuses o (t ∷ more) → CanGoOn (before ++ t ∷ []) → ⊥
     go None e r w = absurd r
     go (Some due) e r (line, rest, f, proper) =
-        let taken : run (Some (a_line ∷ [])) (before ++ t ∷ rest) ≡ Some [] = ap (run (Some (a_line ∷ []))) (sym (append_assoc before (t ∷ []) rest) ∙ sym f) ∙ run_line line [] in
+        let taken : run (Some (a_line ∷ [])) (before ++ t ∷ rest) ≡ Some (behind_line line ++ []) = ap (run (Some (a_line ∷ []))) (sym (append_assoc before (t ∷ []) rest) ∙ sym f) ∙ run_line line [] in
         let refused : run (Some (a_line ∷ [])) (before ++ t ∷ rest) ≡ None = run_append (Some (a_line ∷ [])) before (t ∷ rest) ∙ ap (λ o. run o (t ∷ rest)) e ∙ ap (λ o. run o rest) r ∙ run_none rest in
         absurd (cc)
 

@@ -1,17 +1,22 @@
 -- Tokens spell one line, and those of a line have no fault.
-use Rattle.std.proofs.Common.{◌≡◌, ℕ, List, [], ◌∷◌, ◌++◌, refl, sym, ap, subst, ◌∙◌, append_assoc}
+use Rattle.std.proofs.Common.{◌≡◌, ℕ, List, [], ◌∷◌, ◌++◌, Some, refl, sym, ap, subst, ◌∙◌, append_assoc}
 use Rattle.std.proofs.lemmas.List.{append-nil}
-use Rattle.bl_level.specs.declared.token.Keyword.TheVariants.{Do, End, Else}
+use Rattle.bl_level.specs.declared.token.Keyword.{Keyword}
+use Rattle.bl_level.specs.declared.token.Keyword.TheVariants.{Hello, Wait, Give, Rescind, Current, Classify, When, Do, End, Else}
+use Rattle.bl_level.specs.LevelText.{LevelText, spell_categories, spell_level}
+use Rattle.bl_level.specs.LevelText as of_level
 use Rattle.bl_level.specs.declared.token.Sign.TheVariants.{Comma, Semicolon}
-use Rattle.bl_level.specs.Token.{Tok, reserved, sign}
+use Rattle.bl_level.specs.Token.{Tok, reserved, name, sign}
 use Rattle.bl_level.specs.Name.{AreProper}
 use Rattle.bl_policy.specs.declared.access.Mode.{Mode}
 use Rattle.bl_policy.specs.declared.access.Mode.TheVariants.{Read, Append, Write}
 use Rattle.bl_script.specs.declared.script.Condition.{Condition}
 use Rattle.bl_script.specs.declared.script.Condition.TheVariants.{Is, Has}
 use Rattle.bl_script.specs.Spelled.{SpelledAccess, SpelledBody, empty, show, say, add, set, copy, pour, if_then, if_else, spawn, mode_word, asks_word, spell_access, spell_more, spell_body}
-use Rattle.bl_script.specs.Grammar.{SpelledLine, hello, wait, when, spell}
+use Rattle.bl_script.specs.SpelledRules.{SpelledRule, letter_of, give, rescind, current, classify, spell_rule}
+use Rattle.bl_script.specs.Grammar.{SpelledLine, hello, wait, when, rule, spell}
 use Rattle.bl_script.specs.Fault.{Blocks, FirstFault}
+use Rattle.bl_script.specs.Machine.{mode_of}
 use Rattle.bl_script.specs.Parsing.{BeginsNone, IsNotAt}
 use Rattle.bl_script.proofs.Lists.{proper_behind}
 use Rattle.bl_script.proofs.Theory.{more_append}
@@ -235,9 +240,83 @@ same_body (if_then n c x a r) = same_if_then n c x a r (same_body a) (same_body 
 same_body (if_else n c x a b r) = same_if_else n c x a b r (same_body a) (same_body b) (same_body r)
 same_body (spawn a m b r) = same_spawn a m b r (same_body b) (same_body r)
 
+letter_again : (m : Mode) → mode_of (letter_of m) ≡ Some m
+letter_again Read = refl
+letter_again Append = refl
+letter_again Write = refl
+
+same_letter : (m n : Mode) → letter_of m ≡ letter_of n → m ≡ n
+same_letter m n e = let p : Some m ≡ Some n = sym (letter_again m) ∙ ap mode_of e ∙ letter_again n in cc
+
+-- tokens spell one list of further categories
+same_more_categories : (these those : List (List ℕ)) → of_level.spell_more these ≡ of_level.spell_more those → these ≡ those
+same_more_categories [] [] e = refl
+same_more_categories [] (d ∷ those) e = absurd (cc)
+same_more_categories (c ∷ these) [] e = absurd (cc)
+same_more_categories (c ∷ these) (d ∷ those) e =
+    let f : of_level.spell_more these ≡ of_level.spell_more those = cc in
+    let p = same_more_categories these those f in
+    cc
+
+same_categories : (these those : List (List ℕ)) → spell_categories these ≡ spell_categories those → these ≡ those
+same_categories [] [] e = refl
+same_categories [] (d ∷ those) e = absurd (cc)
+same_categories (c ∷ these) [] e = absurd (cc)
+same_categories (c ∷ these) (d ∷ those) e =
+    let f : of_level.spell_more these ≡ of_level.spell_more those = cc in
+    let p = same_more_categories these those f in
+    cc
+
+-- tokens spell one level
+same_level : (a b : LevelText) → spell_level a ≡ spell_level b → a ≡ b
+same_level a b e =
+    let p : a.rank ≡ b.rank = cc in
+    let q = same_categories a.categories b.categories (same_behind (name a.rank) (name b.rank) _ _ e) in
+    λ i. record { rank = p i; categories = q i }
+
+-- a word that begins a rule
+abbrev BeginsRule : Keyword → Type 0
+BeginsRule Give = Unit {0}
+BeginsRule Rescind = Unit {0}
+BeginsRule Current = Unit {0}
+BeginsRule Classify = Unit {0}
+BeginsRule _ = ⊥
+
+-- tokens spell one rule
+same_rule : (r s : SpelledRule) → spell_rule r ≡ spell_rule s → r ≡ s
+same_rule (give a o m) (give b p n) e =
+    let f : letter_of m ≡ letter_of n = cc in
+    let q = same_letter m n f in
+    cc
+same_rule (rescind a o m) (rescind b p n) e =
+    let f : letter_of m ≡ letter_of n = cc in
+    let q = same_letter m n f in
+    cc
+same_rule (current a) (current b) e = ap current (same_level a b (same_behind (reserved Current) (reserved Current) _ _ e))
+same_rule (classify o a) (classify p b) e =
+    let f : name o ∷ spell_level a ≡ name p ∷ spell_level b = same_behind (reserved Classify) (reserved Classify) _ _ e in
+    let q : o ≡ p = cc in
+    let s = same_level a b (same_behind (name o) (name p) _ _ f) in
+    λ i. classify (q i) (s i)
+same_rule _ _ e = absurd (cc)
+
+-- no other line begins as a rule
+is_no_rule : (r : SpelledRule) (k : Keyword) (ts : List Tok) → spell_rule r ≡ reserved k ∷ ts → BeginsRule k
+is_no_rule (give a o m) k ts e = let p : Give ≡ k = cc in subst BeginsRule p tt
+is_no_rule (rescind a o m) k ts e = let p : Rescind ≡ k = cc in subst BeginsRule p tt
+is_no_rule (current l) k ts e = let p : Current ≡ k = cc in subst BeginsRule p tt
+is_no_rule (classify o l) k ts e = let p : Classify ≡ k = cc in subst BeginsRule p tt
+
 pub same_line : (l m : SpelledLine) → spell l ≡ spell m → l ≡ m
 same_line (hello n) (hello k) e = cc
 same_line wait wait e = refl
+same_line (rule r) (rule s) e = ap rule (same_rule r s e)
+same_line (rule r) (hello n) e = absurd (is_no_rule r Hello _ e)
+same_line (rule r) wait e = absurd (is_no_rule r Wait _ e)
+same_line (rule r) (when a m b) e = absurd (is_no_rule r When _ e)
+same_line (hello n) (rule r) e = absurd (is_no_rule r Hello _ (sym e))
+same_line wait (rule r) e = absurd (is_no_rule r Wait _ (sym e))
+same_line (when a m b) (rule r) e = absurd (is_no_rule r When _ (sym e))
 same_line (when a m b) (when a' m' b') e =
     let f : spell_access a (spell_more m (reserved Do ∷ (spell_body b ++ reserved End ∷ []))) ≡ spell_access a' (spell_more m' (reserved Do ∷ (spell_body b' ++ reserved End ∷ []))) = cc in
     let p = same_access a a' (spell_more m (reserved Do ∷ (spell_body b ++ reserved End ∷ []))) (spell_more m' (reserved Do ∷ (spell_body b' ++ reserved End ∷ []))) f in

@@ -20,10 +20,10 @@ use Rattle.bl_script.proofs.FirstOnes.{one_first, none_first}
 
 -- ---- one fault at most
 
-one_named : {X : Type 0} (P : X → Type 0) (name_of : X → List ℕ) (xs : List X) (n m : List ℕ) → IsNameOfFirst P name_of xs n → IsNameOfFirst P name_of xs m → n ≡ m
+pub one_named : {X : Type 0} (P : X → Type 0) (name_of : X → List ℕ) (xs : List X) (n m : List ℕ) → IsNameOfFirst P name_of xs n → IsNameOfFirst P name_of xs m → n ≡ m
 one_named P name_of xs n m a b = sym a.name_is ∙ ap name_of (one_first P xs a.one b.one a.first b.first) ∙ b.name_is
 
-none_named : {X : Type 0} (P : X → Type 0) (name_of : X → List ℕ) (xs : List X) (n : List ℕ) → All P xs → IsNameOfFirst P name_of xs n → ⊥
+pub none_named : {X : Type 0} (P : X → Type 0) (name_of : X → List ℕ) (xs : List X) (n : List ℕ) → All P xs → IsNameOfFirst P name_of xs n → ⊥
 none_named P name_of xs n all f = none_first P xs f.one all f.first
 
 module _ (names : KnownNames) (first : SpelledAccess) (more : List SpelledAccess) (body : SpelledBody) where
@@ -211,7 +211,7 @@ use_names declared (spawn first more body rest) all =
 all_at : {X : Type 0} (P : X → Type 0) (before after : List X) (x : X) → All P (before ++ x ∷ after) → P x
 all_at P before after x all = All-head P x after (all_right P before (x ∷ after) all)
 
-named : {X : Type 0} (P : X → Type 0) (name_of : X → List ℕ) (xs : List X) (n : List ℕ) → All (λ x. IsName (name_of x)) xs → IsNameOfFirst P name_of xs n → IsName n
+pub named : {X : Type 0} (P : X → Type 0) (name_of : X → List ℕ) (xs : List X) (n : List ℕ) → All (λ x. IsName (name_of x)) xs → IsNameOfFirst P name_of xs n → IsName n
 named P name_of xs n all f =
     subst IsName f.name_is (all_at (λ x. IsName (name_of x)) f.first.before f.first.after f.one (subst (All (λ x. IsName (name_of x))) f.first.split all))
 

@@ -1,12 +1,16 @@
 -- The canonical text of a line: the bytes of its tokens, with one space between two words that follow each other and no other blank,
--- and with no `else` before a body of no statements.
+-- with no `else` before a body of no statements, and with the categories of a level in the scheme's order.
 use Rattle.std.specs.Prelude.{◌≡◌, ◌≢◌, ℕ, List}
 use Rattle.bl_level.specs.Canonical.{canonical}
+use Rattle.bl_level.specs.Level.{SecurityLevel}
+use Rattle.bl_level.specs.LevelText.{LevelText, text_of}
+use Rattle.bl_level.specs.Scheme.{SchemeNames}
 use Rattle.bl_script.specs.declared.line.Line.{Line}
-use Rattle.bl_script.specs.Grammar.{SpelledLine, hello, wait, when, spell}
+use Rattle.bl_script.specs.Grammar.{SpelledLine, hello, wait, when, rule, spell}
 use Rattle.bl_script.specs.LineGrammar.{Means}
 use Rattle.bl_script.specs.Names.{KnownNames}
 use Rattle.bl_script.specs.Spelled.{SpelledBody, empty, show, say, add, set, copy, pour, if_then, if_else, spawn}
+use Rattle.bl_script.specs.SpelledRules.{SpelledRule, give, rescind, current, classify}
 use Rattle.bl_script.specs.Unread.{unread_line}
 
 -- no `else` stands before a body of no statements
@@ -22,15 +26,27 @@ IsTidy (if_then document asks words then_body rest) = IsTidy then_body × IsTidy
 IsTidy (if_else document asks words then_body else_body rest) = (else_body ≢ empty) × IsTidy then_body × IsTidy else_body × IsTidy rest
 IsTidy (spawn first more body rest) = IsTidy body × IsTidy rest
 
-abbrev pub IsTidyLine : SpelledLine → Type 0
-IsTidyLine (hello subject) = Unit {0}
-IsTidyLine wait = Unit {0}
-IsTidyLine (when first more body) = IsTidy body
+-- the text is a level's canonical one: its categories stand in the scheme's order
+abbrev pub IsInOrder : SchemeNames → LevelText → Type 0
+IsInOrder scheme text = (level : SecurityLevel) × (text ≡ text_of scheme level)
+
+-- the categories of a rule's level stand in the scheme's order
+abbrev pub IsTidyRule : SchemeNames → SpelledRule → Type 0
+IsTidyRule scheme (give subject document mode) = Unit {0}
+IsTidyRule scheme (rescind subject document mode) = Unit {0}
+IsTidyRule scheme (current level) = IsInOrder scheme level
+IsTidyRule scheme (classify document level) = IsInOrder scheme level
+
+abbrev pub IsTidyLine : SchemeNames → SpelledLine → Type 0
+IsTidyLine scheme (hello subject) = Unit {0}
+IsTidyLine scheme wait = Unit {0}
+IsTidyLine scheme (when first more body) = IsTidy body
+IsTidyLine scheme (rule asked) = IsTidyRule scheme asked
 
 -- the bytes are the canonical text of a tidy line that asks this, by these names
 pub record IsCanonicalOf (names : KnownNames) (bytes : List ℕ) (asked : Line) : Type 0 where
   pub spelled : SpelledLine
-  pub tidy : IsTidyLine spelled
+  pub tidy : IsTidyLine names.scheme spelled
   pub means : Means names spelled asked
   pub text : bytes ≡ canonical (spell spelled)
 

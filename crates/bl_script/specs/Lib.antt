@@ -20,6 +20,10 @@ pub mod Body
 pub mod BodyFalls
 pub mod Names
 pub mod NameFaults
+pub mod SpelledRules
+pub mod RawRules
+pub mod RuleFaults
+pub mod RuleMeaning
 pub mod Grammar
 pub mod Fault
 pub mod RawView

@@ -3,16 +3,18 @@ use Rattle.std.specs.Prelude.{◌≡◌, ℕ, ◌<◌, ◌≤◌, List, length, 
 use Rattle.bl_script.specs.declared.line.LineFault.{LineFault}
 use Rattle.bl_script.specs.declared.line.LineFault.TheVariants.{Long, Syntax, Deep, Many, Unknown, Twice, Mode, Memory}
 use Rattle.bl_script.specs.Names.{KnownNames}
-use Rattle.bl_script.specs.Grammar.{SpelledLine, hello, wait, when}
+use Rattle.bl_script.specs.Grammar.{SpelledLine, hello, wait, when, rule}
 use Rattle.bl_script.specs.Fault.{ReadsAs, SyntaxFault}
 use Rattle.bl_script.specs.FirstWhenFault.{IsWhenFault}
+use Rattle.bl_script.specs.RuleFaults.{IsFaultOfRule}
 use Rattle.bl_script.specs.LineGrammar.{most_line_bytes}
 
--- a fault of what a line asks: of `hello`, that its subject is unknown; of a `when`, its first
+-- a fault of what a line asks: of `hello`, that its subject is unknown; of a `when` or a rule, its first
 abbrev pub IsFaultOf : KnownNames → SpelledLine → LineFault → Type 0
 IsFaultOf names (hello name) fault = (fault ≡ Unknown name) × (Contains names.subjects name → ⊥)
 IsFaultOf names wait fault = ⊥
 IsFaultOf names (when first more body) fault = IsWhenFault names first more body fault
+IsFaultOf names (rule asked) fault = IsFaultOfRule names asked fault
 
 -- the bytes read as a line that has this fault
 pub record HasFault (names : KnownNames) (bytes : List ℕ) (fault : LineFault) : Type 0 where

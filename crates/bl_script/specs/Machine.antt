@@ -4,12 +4,16 @@ use denote.Enum.Bare.{sameb}
 use Rattle.bl_level.specs.contracts.token.Keyword as keyword
 use Rattle.bl_level.specs.contracts.token.Sign as a_mark
 use Rattle.bl_level.specs.declared.token.Keyword.{Keyword}
-use Rattle.bl_level.specs.declared.token.Keyword.TheVariants.{Hello, Wait, When, Read, Append, Write, Do, End, Show, Say, Add, Set, Copy, Pour, To, If, Is, Has, Then, Else, Spawn}
+use Rattle.bl_level.specs.declared.token.Keyword.TheVariants.{Hello, Wait, Give, Rescind, Current, Classify, When, Read, Append, Write, Do, End, Show, Say, Add, Set, Copy, Pour, To, If, Is, Has, Then, Else, Spawn}
 use Rattle.bl_level.specs.declared.token.Sign.{Sign}
-use Rattle.bl_level.specs.declared.token.Sign.TheVariants.{Comma, Semicolon}
+use Rattle.bl_level.specs.declared.token.Sign.TheVariants.{Comma, Semicolon, Open, Close}
 use Rattle.bl_level.specs.Token.{Tok, reserved, name, text, sign}
+use Rattle.bl_policy.specs.declared.access.Mode.{Mode}
+use Rattle.bl_policy.specs.declared.access.Mode.TheVariants as mode
+use Rattle.std.specs.Str.{bytes_eq}
+use Rattle.bl_script.specs.SpelledRules.{letter_of}
 
--- A part of a line that has to come. Of more accesses and of a body nothing has to come.
+-- A part of a line that has to come. Of more accesses, of a body and of the rest of a level nothing has to come.
 pub data Due : Type 0 where
   word : Keyword → Due
   a_sign : Sign → Due
@@ -20,6 +24,9 @@ pub data Due : Type 0 where
   more_accesses : Due
   a_body : Due
   rest_of_if : Due
+  a_letter : Due
+  rest_of_level : Due
+  rest_of_categories : Due
   a_line : Due
 
 -- an access, and then these
@@ -33,6 +40,14 @@ when_due more = access_due (more_accesses ∷ word Do ∷ a_body ∷ word End �
 -- what is due behind `if`, up to its first body
 abbrev pub if_due : List Due → List Due
 if_due more = a_name ∷ is_or_has ∷ a_text ∷ word Then ∷ more
+
+-- a level, and then these
+abbrev pub level_due : List Due → List Due
+level_due more = a_name ∷ rest_of_level ∷ more
+
+-- what is due behind `give` and `rescind`
+abbrev pub cell_due : List Due → List Due
+cell_due more = a_name ∷ a_name ∷ a_letter ∷ more
 
 -- what is due behind the first token of a statement, where it begins one
 abbrev pub statement_due : Tok → Option (List Due)
@@ -60,6 +75,34 @@ abbrev pub rest_due : Tok → List Due → Option (List Due)
 rest_due (reserved End) due = Some due
 rest_due (reserved Else) due = Some (a_body ∷ word End ∷ due)
 rest_due _ due = None
+
+-- categories in braces; or there are none
+abbrev pub categories_due : Tok → List Due → Option (List Due) → Option (List Due)
+categories_due (sign Open) due next = Some (a_name ∷ rest_of_categories ∷ due)
+categories_due _ due next = next
+
+-- one more category behind a comma; or the closing brace
+abbrev pub category_due : Tok → List Due → Option (List Due)
+category_due (sign Comma) due = Some (a_name ∷ rest_of_categories ∷ due)
+category_due (sign Close) due = Some due
+category_due _ due = None
+
+-- the mode of a letter
+abbrev pub mode_of : List ℕ → Option Mode
+mode_of n =
+    if bytes_eq n (letter_of mode.Read) then Some mode.Read
+    else (if bytes_eq n (letter_of mode.Append) then Some mode.Append
+    else (if bytes_eq n (letter_of mode.Write) then Some mode.Write
+    else None))
+
+-- behind a letter
+abbrev pub letter_taken : Option Mode → List Due → Option (List Due)
+letter_taken (Some m) due = Some due
+letter_taken None due = None
+
+abbrev pub letter_due : Tok → List Due → Option (List Due)
+letter_due (name n) due = letter_taken (mode_of n) due
+letter_due _ due = None
 
 abbrev pub mode_due : Tok → List Due → Option (List Due)
 mode_due (reserved Read) due = Some due
@@ -92,6 +135,10 @@ abbrev pub line_due : Tok → List Due → Option (List Due)
 line_due (reserved Hello) due = Some (a_name ∷ due)
 line_due (reserved Wait) due = Some due
 line_due (reserved When) due = Some (when_due due)
+line_due (reserved Give) due = Some (cell_due due)
+line_due (reserved Rescind) due = Some (cell_due due)
+line_due (reserved Current) due = Some (level_due due)
+line_due (reserved Classify) due = Some (a_name ∷ level_due due)
 line_due _ due = None
 
 -- what is due behind a token, where it may come
@@ -106,6 +153,9 @@ step (is_or_has ∷ due) t = asks_due t due
 step (more_accesses ∷ due) t = more_due t due (step due t)
 step (a_body ∷ due) t = body_due (statement_due t) due (step due t)
 step (rest_of_if ∷ due) t = rest_due t due
+step (a_letter ∷ due) t = letter_due t due
+step (rest_of_level ∷ due) t = categories_due t due (step due t)
+step (rest_of_categories ∷ due) t = category_due t due
 step (a_line ∷ due) t = line_due t due
 
 -- what is due behind these tokens, where they may come
@@ -119,6 +169,7 @@ abbrev pub ends : List Due → Bool
 ends [] = true
 ends (more_accesses ∷ due) = ends due
 ends (a_body ∷ due) = ends due
+ends (rest_of_level ∷ due) = ends due
 ends _ = false
 
 -- where these are due, the tokens do not go on, or end too early

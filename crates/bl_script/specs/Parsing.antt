@@ -1,8 +1,9 @@
 -- What each part of the parser answers.
-use Rattle.std.specs.Prelude.{◌≡◌, ◌≢◌, List, [], ◌∷◌, ◌++◌, map, Result, Ok, Err, None}
+use Rattle.std.specs.Prelude.{◌≡◌, ◌≢◌, ℕ, List, [], ◌∷◌, ◌++◌, map, Result, Ok, Err, None}
 use Rattle.bl_level.specs.declared.token.Keyword.{Keyword}
-use Rattle.bl_level.specs.declared.token.Keyword.TheVariants.{Hello, Wait, When, Do, End, Show, Say, Add, Set, Copy, Pour, To, If, Then, Else, Spawn}
-use Rattle.bl_level.specs.Token.{Tok, toks, reserved, name, text}
+use Rattle.bl_level.specs.declared.token.Keyword.TheVariants.{Hello, Wait, Give, Rescind, Current, Classify, When, Do, End, Show, Say, Add, Set, Copy, Pour, To, If, Then, Else, Spawn}
+use Rattle.bl_level.specs.declared.token.Sign.TheVariants.{Open}
+use Rattle.bl_level.specs.Token.{Tok, toks, reserved, name, text, sign}
 use Rattle.bl_script.specs.declared.parse.Cursor.{Cursor}
 use Rattle.bl_script.specs.declared.parse.First.{First}
 use Rattle.bl_script.specs.declared.parse.First.TheVariants as first
@@ -13,6 +14,8 @@ use Rattle.bl_script.specs.declared.stop.Stop.TheVariants.{Memory, At}
 use Rattle.bl_script.specs.declared.raw.RawStatement.{RawStatement}
 use Rattle.bl_script.specs.declared.raw.RawStatement.TheVariants as raw
 use Rattle.bl_script.specs.Fault.{FirstFault}
+use Rattle.bl_script.specs.Grammar.{SpelledLine, hello, wait, when, rule}
+use Rattle.bl_script.specs.SpelledRules.{SpelledRule, give, rescind, current, classify}
 use Rattle.bl_script.specs.Machine.{Due, Stops, statement_due, if_due, when_due, word, a_name, a_text, a_body, rest_of_if}
 use Rattle.bl_script.specs.RawBodies.{raw_access}
 use Rattle.bl_script.specs.Spelled.{asks_word, spell_access, spell_more, spell_body}
@@ -46,10 +49,32 @@ abbrev pub BeginsNone : List Tok → Type 0
 BeginsNone [] = Unit {0}
 BeginsNone (t ∷ ts) = statement_due t ≡ None
 
+-- a level without categories is over where no brace opens
+abbrev pub LevelEnds : List (List ℕ) → List Tok → Type 0
+LevelEnds [] ts = IsNotAt (sign Open) ts
+LevelEnds (category ∷ categories) ts = Unit {0}
+
+-- where a rule ends with a level, the level is over
+abbrev pub RuleEnds : SpelledRule → List Tok → Type 0
+RuleEnds (give subject document mode) ts = Unit {0}
+RuleEnds (rescind subject document mode) ts = Unit {0}
+RuleEnds (current level) ts = LevelEnds level.categories ts
+RuleEnds (classify document level) ts = LevelEnds level.categories ts
+
+abbrev pub LineEnds : SpelledLine → List Tok → Type 0
+LineEnds (hello subject) ts = Unit {0}
+LineEnds wait ts = Unit {0}
+LineEnds (when first more body) ts = Unit {0}
+LineEnds (rule asked) ts = RuleEnds asked ts
+
 abbrev pub first_word : First → Keyword
 first_word first.Hello = Hello
 first_word first.Wait = Wait
 first_word first.When = When
+first_word first.Give = Give
+first_word first.Rescind = Rescind
+first_word first.Current = Current
+first_word first.Classify = Classify
 
 abbrev pub start_word : Start → Keyword
 start_word start.Show = Show

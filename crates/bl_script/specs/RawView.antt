@@ -1,7 +1,8 @@
 -- The line that a line as it was read stands for.
 use Rattle.std.specs.Prelude.{map}
-use Rattle.bl_script.specs.Grammar.{SpelledLine, hello, wait, when}
+use Rattle.bl_script.specs.Grammar.{SpelledLine, hello, wait, when, rule}
 use Rattle.bl_script.specs.RawBodies.{raw_access}
+use Rattle.bl_script.specs.RawRules.{raw_rule}
 use Rattle.bl_script.specs.declared.raw.RawLine.{RawLine}
 use Rattle.bl_script.specs.declared.raw.RawLine.TheVariants as raw
 
@@ -9,3 +10,4 @@ abbrev pub raw_view : RawLine → SpelledLine
 raw_view (raw.Hello subject) = hello subject.now
 raw_view raw.Wait = wait
 raw_view (raw.When first more body) = when (raw_access first) (map raw_access more.items) body
+raw_view (raw.Rule asked) = rule (raw_rule asked)

@@ -1,6 +1,6 @@
 -- What reading a line answers where it fails.
 use Rattle.std.specs.Prelude.{◌≡◌, ℕ, ◌-◌, List, length, if◌then◌else◌, ◌==◌, slice_index, unwrap_or, Option}
-use Rattle.bl_script.specs.Grammar.{SpelledLine, hello, wait, when}
+use Rattle.bl_script.specs.Grammar.{SpelledLine, hello, wait, when, rule}
 use Rattle.bl_script.specs.WhenFaults.{AreContents}
 use Rattle.bl_script.specs.Fault.{SyntaxFault}
 use Rattle.bl_script.specs.declared.read.RawFault.{RawFault}
@@ -23,3 +23,4 @@ abbrev pub HasContents : SpelledLine → Type 0
 HasContents (hello subject) = Unit {0}
 HasContents wait = Unit {0}
 HasContents (when first more body) = AreContents body
+HasContents (rule asked) = Unit {0}

@@ -1,16 +1,20 @@
 -- The way back from a line to how it is spelled, and from a script to its `when`.
 use Rattle.std.specs.Prelude.{ℕ, ◌+◌, ◌-◌, List, [], ◌∷◌, map, slice_index_or}
 use Rattle.bl_level.specs.declared.token.Keyword.TheVariants.{Else}
+use Rattle.bl_level.specs.LevelText.{text_of}
 use Rattle.bl_level.specs.Token.{Tok, reserved}
 use Rattle.bl_policy.specs.declared.access.Access.{Access}
 use Rattle.bl_policy.specs.declared.access.Mode.TheVariants.{Read}
+use Rattle.bl_policy.specs.declared.rule.Rule as asked_rule
+use Rattle.bl_policy.specs.declared.rule.Rule.TheVariants as asked
 use Rattle.bl_script.specs.Names.{KnownNames}
 use Rattle.bl_script.specs.declared.line.Line.{Line}
 use Rattle.bl_script.specs.declared.line.Line.TheVariants as line
 use Rattle.bl_script.specs.declared.script.Condition.{Condition}
 use Rattle.bl_script.specs.declared.work.Work.TheVariants.{Behaviour, Rule}
-use Rattle.bl_script.specs.Grammar.{SpelledLine, hello, wait, when}
+use Rattle.bl_script.specs.Grammar.{SpelledLine, hello, wait, when, rule}
 use Rattle.bl_script.specs.Spelled.{SpelledAccess, SpelledBody, empty, show, say, add, set, copy, pour, if_then, if_else, spawn, spell_body, spell_when}
+use Rattle.bl_script.specs.SpelledRules.{SpelledRule, give, rescind, current, classify}
 use Rattle.bl_script.specs.Statements.{Statements, Nothing, Show, Say, Add, Set, Copy, Pour, If, Spawn, Part}
 
 -- a `when` with all that stands in it
@@ -79,9 +83,20 @@ module _ (names : KnownNames) where
   abbrev pub unread : List Part → SpelledWhen
   unread script = unread_at script 0
 
-  -- The line, as it is spelled. Of a rule, which no text reads as, nothing is asked.
+  -- the name of a subject is the one at its place
+  abbrev pub subject_at : ℕ → List ℕ
+  subject_at subject = slice_index_or names.subjects subject []
+
+  -- own choice: a level is spelled as its canonical text, with its categories in the scheme's order
+  abbrev pub unread_rule : asked_rule.Rule → SpelledRule
+  unread_rule (asked.Give subject doc mode) = give (subject_at subject) (name_at doc) mode
+  unread_rule (asked.Rescind subject doc mode) = rescind (subject_at subject) (name_at doc) mode
+  unread_rule (asked.Current level) = current (text_of names.scheme level)
+  unread_rule (asked.Classify doc level) = classify (name_at doc) (text_of names.scheme level)
+
+  -- the line, as it is spelled
   abbrev pub unread_line : Line → SpelledLine
   unread_line (line.Hello subject) = hello (slice_index_or names.subjects subject [])
   unread_line line.Wait = wait
   unread_line (line.Work (Behaviour script)) = when (unread script).first (unread script).more (unread script).body
-  unread_line (line.Work (Rule rule)) = wait
+  unread_line (line.Work (Rule asked)) = rule (unread_rule asked)

@@ -1,26 +1,32 @@
-//! Which works some text reads as, by given names: those whose documents are among the names and whose canonical text is no longer
-//! than a line. The text is counted and not written, so that no memory is taken.
+//! Which works some text reads as, by given names: those whose subjects and documents are among the names, whose level the scheme
+//! holds, and whose canonical text is no longer than a line. The text is counted and not written, so that no memory is taken.
 ghost use Rattle.std.specs.Prelude.{◌≡◌, ◌↔◌, ◌≤◌, ℕ, List, length, IsTrue};
 ghost use Rattle.bl_level.specs.Token.{tok};
 ghost use Rattle.bl_level.specs.Canonical.{spelled};
 ghost use Rattle.bl_script.specs.Counting.{counted, nothing_counted};
-ghost use Rattle.bl_script.specs.Known.{canonical_script};
+ghost use Rattle.bl_script.specs.Known.{canonical_script, canonical_rule};
 ghost use Rattle.bl_script.specs.LineGrammar.{LineOf, most_line_bytes};
 ghost use Rattle.bl_script.specs.Script.{IsScript};
-ghost use Rattle.bl_script.specs.There.{AreIn, AreThere};
+ghost use Rattle.bl_script.specs.There.{AreIn, AreThere, HasHeldLevel, IsRuleThere};
 ghost use Rattle.bl_script.specs.declared.line.Line.TheVariants as asked;
-ghost use Rattle.bl_script.specs.declared.work.Work.TheVariants.{Behaviour};
+ghost use Rattle.bl_script.specs.declared.work.Work.TheVariants.{Behaviour, Rule as AskedRule};
 
-use crate::canonical::{canonical_script_is_shortest, canonical_script_reads_again};
+use crate::canonical::{
+    canonical_rule_is_shortest, canonical_rule_reads_again, canonical_script_is_shortest,
+    canonical_script_reads_again,
+};
 use crate::line::MOST_LINE_BYTES;
 use crate::names::Names;
 use crate::script::Script;
 use crate::sink::Sink;
 use crate::spell::put_when;
+use crate::spell_rules::put_rule;
 use crate::work::Work;
 use crate::write::is_word;
+use bl_level::scheme::Scheme;
 use bl_level::token::Token;
 use bl_policy::access::Access;
+use bl_policy::rule::Rule;
 use std::convert::Infallible;
 use std::marker::Model;
 
@@ -60,6 +66,13 @@ impl Length {
             bytes: 0,
             ends_with_word: false,
         }
+    }
+
+    /// Whether the text is no longer than a line.
+    fn fits(&self) -> bool
+        ensures { IsTrue result ↔ (self.now.bytes ≤ most_line_bytes) }
+    {
+        self.bytes <= MOST_LINE_BYTES
     }
 }
 
@@ -114,7 +127,7 @@ fn is_short(names: &Names, script: &Script) -> bool
 {
     let mut length = Length::new();
     match put_when(&mut length, names, script, 0) {
-        Ok(()) => length.bytes <= MOST_LINE_BYTES,
+        Ok(()) => length.fits(),
         Err(never) => match never {},
     }
 }
@@ -129,15 +142,54 @@ fn knows_script(names: &Names, script: &Script) -> bool
     are_there(names, script) && is_short(names, script)
 }
 
+/// Whether the scheme holds the rule's level, where it has one.
+fn has_held_level(scheme: &Scheme, rule: &Rule) -> bool
+    ensures { IsTrue result ↔ HasHeldLevel scheme.now rule.now }
+{
+    match rule {
+        Rule::Give { .. } | Rule::Rescind { .. } => true,
+        Rule::Current { level } | Rule::Classify { level, .. } => scheme.holds(level),
+    }
+}
+
+/// Whether the rule's subject and document are among the names, and its level is the scheme's.
+fn is_rule_there(names: &Names, rule: &Rule) -> bool
+    ensures { IsTrue result ↔ IsRuleThere names.now rule.now }
+{
+    rule.has_ids_below(names.subjects(), names.documents()) && has_held_level(names.scheme(), rule)
+}
+
+/// Whether the canonical text of the rule is no longer than a line.
+fn is_rule_short(names: &Names, rule: &Rule) -> bool
+    requires { IsRuleThere names.now rule.now }
+    ensures { IsTrue result ↔ (length (canonical_rule names.now rule.now) ≤ most_line_bytes) }
+{
+    let mut length = Length::new();
+    match put_rule(&mut length, names, *rule) {
+        Ok(()) => length.fits(),
+        Err(never) => match never {},
+    }
+}
+
+/// Whether some text reads as this rule by these names.
+fn knows_rule(names: &Names, rule: &Rule) -> bool
+    ensures { IsTrue result ↔ ((bytes : List ℕ) × LineOf names.now bytes (asked.Work (AskedRule rule.now))) }
+{
+    canonical_rule_reads_again();
+    canonical_rule_is_shortest();
+    let _ = names.scheme();
+    is_rule_there(names, rule) && is_rule_short(names, rule)
+}
+
 impl Names {
-    /// Whether some text reads as this work by these names: each document that it declares is among them, and its canonical text
-    /// has at most 8,192 bytes. It takes no memory.
+    /// Whether some text reads as this work by these names: each subject and document that it names is among them, its level is the
+    /// scheme's, and its canonical text has at most 8,192 bytes. It takes no memory.
     pub fn knows(&self, work: &Work) -> bool
         ensures { IsTrue result ↔ ((bytes : List ℕ) × LineOf self.now bytes (asked.Work work.now)) }
     {
         match work {
             Work::Behaviour(script) => knows_script(self, script),
-            Work::Rule(_) => false,
+            Work::Rule(rule) => knows_rule(self, rule),
         }
     }
 }

@@ -17,9 +17,11 @@ pub mod once;
 pub mod parse;
 pub mod raw;
 pub mod read;
+pub mod rules;
 pub mod script;
 pub mod sink;
 mod spell;
+mod spell_rules;
 pub mod stop;
 #[cfg(test)]
 mod tests;

@@ -5,8 +5,9 @@ ghost use Rattle.bl_script.specs.declared.line.Line.{Line as AskedLine};
 ghost use Rattle.bl_script.specs.declared.line.LineFault.TheVariants.{Memory};
 ghost use Rattle.bl_script.specs.declared.line.LineFault.{LineFault};
 ghost use Rattle.bl_script.specs.Names.{KnownNames};
-ghost use Rattle.bl_script.specs.Grammar.{when, spell};
+ghost use Rattle.bl_script.specs.Grammar.{when, rule as spelled_rule, spell};
 ghost use Rattle.bl_script.specs.RawBodies.{raw_access};
+ghost use Rattle.bl_script.specs.RawRules.{raw_rule};
 ghost use Rattle.bl_script.specs.RawView.{raw_view};
 ghost use Rattle.bl_script.specs.Reading.{HasContents};
 ghost use Rattle.bl_script.specs.KnownLine.{IsKnownLine};
@@ -16,8 +17,9 @@ ghost use Rattle.bl_script.specs.LineFaults.{IsFaultOrMemory, IsLineFault, IsWan
 use crate::build::build_script;
 use crate::check::{check_when, names_are_names, one_when_fault};
 use crate::names::Names;
-use crate::raw::{RawAccess, RawBody, RawLine};
+use crate::raw::{RawAccess, RawBody, RawLine, RawRule};
 use crate::read::{RawFault, one_fault, read_raw};
+use crate::rules::read_rule;
 use crate::work::Work;
 use bl_level::laws::{one_reading, read_tokens_are_proper};
 use bl_level::name::Name;
@@ -102,8 +104,19 @@ fn asked(alloc: Global, names: &Names, raw: RawLine<'_>) -> Result<Line, LineFau
             None => Err(LineFault::Unknown(Name::new(name).unwrap())),
         },
         RawLine::Wait => Ok(Line::Wait),
+        RawLine::Rule(rule) => change(names, &rule),
         RawLine::When { first, more, body } => behaviour(alloc, names, first, &more, &body),
     }
+}
+
+/// What a rule asks.
+fn change(names: &Names, rule: &RawRule<'_>) -> Result<Line, LineFault>
+    requires { AreProper (spell (spelled_rule (raw_rule rule.now))) }
+    ensures found { IfOk result (Means names.now (spelled_rule (raw_rule rule.now))) }
+    ensures fault { IfErr result (IsFaultOrMemory names.now (spelled_rule (raw_rule rule.now))) }
+{
+    let rule = read_rule(names, rule)?;
+    Ok(Line::Work(Work::Rule(rule)))
 }
 
 /// What a `when` asks.

@@ -1,18 +1,22 @@
 //! From tokens to a line, by recursive descent: a function for each part of the grammar. A token is looked at once, and
 //! once more where a part may be over.
-ghost use Rattle.std.specs.Prelude.{◌≡◌, ◌∷◌, ◌++◌, [], map, MatchResult, MatchOption, MatchBool, length};
+ghost use Rattle.std.specs.Prelude.{◌≡◌, ◌∷◌, ◌++◌, [], map, MatchResult, MatchOption, MatchBool, IfSome, length};
 ghost use Rattle.bl_level.specs.Token.{toks, reserved, name, text, sign};
 ghost use Rattle.bl_level.specs.declared.token.Keyword.TheVariants.{When, To, If, Then};
 ghost use Rattle.bl_level.specs.declared.token.Sign.TheVariants.{Comma};
+ghost use Rattle.bl_level.specs.LevelText.{spell_level, spell_categories};
 ghost use Rattle.bl_script.specs.Grammar.{spell};
 ghost use Rattle.bl_script.specs.Spelled.{mode_word, asks_word, spell_access, spell_more, spell_body, spell_when};
 ghost use Rattle.bl_script.specs.RawBodies.{raw_access};
+ghost use Rattle.bl_script.specs.RawRules.{raw_level, raw_names};
+ghost use Rattle.bl_script.specs.SpelledRules.{letter_of};
 ghost use Rattle.bl_script.specs.RawView.{raw_view};
-ghost use Rattle.bl_script.specs.Machine.{word, a_name, a_text, a_sign, a_mode, is_or_has, more_accesses, a_body, rest_of_if, a_line, access_due, if_due, when_due};
-ghost use Rattle.bl_script.specs.Parsing.{Gives, IsFirstFault, IsNotAt, BeginsNone, first_word, start_word, start_due, spell_statement, left};
+ghost use Rattle.bl_script.specs.Machine.{word, a_name, a_text, a_sign, a_mode, is_or_has, more_accesses, a_body, rest_of_if, a_letter, rest_of_level, a_line, access_due, if_due, when_due, cell_due, level_due};
+ghost use Rattle.bl_script.specs.Machine as machine;
+ghost use Rattle.bl_script.specs.Parsing.{Gives, IsFirstFault, IsNotAt, BeginsNone, first_word, start_word, start_due, spell_statement, left, LevelEnds, LineEnds};
 ghost use Rattle.bl_script.specs.declared.stop.Stop.TheVariants.{At};
 
-use crate::raw::{RawAccess, RawBody, RawLine, RawStatement};
+use crate::raw::{RawAccess, RawBody, RawLevel, RawLine, RawRight, RawRule, RawStatement};
 use crate::script::Condition;
 use crate::stop::Stop;
 use bl_level::token::{Keyword, Sign, Token};
@@ -25,6 +29,10 @@ enum First {
     Hello,
     Wait,
     When,
+    Give,
+    Rescind,
+    Current,
+    Classify,
 }
 
 /// The word that begins a statement.
@@ -54,6 +62,19 @@ struct Behaviour<'a> {
     first: RawAccess<'a>,
     more: Vec<RawAccess<'a>>,
     body: RawBody<'a>,
+}
+
+/// The mode of a letter: `r` for read, `a` for append, `w` for write.
+fn mode_of(letter: &[u8]) -> Option<Mode>
+    ensures value { result ≡ machine.mode_of letter.now }
+    ensures letter { IfSome result (λ m. letter_of m ≡ letter.now) }
+{
+    match letter {
+        b"r" => Some(Mode::Read),
+        b"a" => Some(Mode::Append),
+        b"w" => Some(Mode::Write),
+        _ => None,
+    }
 }
 
 /// The tokens that are left.
@@ -130,6 +151,22 @@ impl<'t, 'a> Cursor<'t, 'a> {
         Ok(mode)
     }
 
+    /// `r`, `a` or `w`.
+    fn letter(&mut self) -> Result<Mode, Stop>
+        ensures { Gives (λ m. left self.old ≡ name (letter_of m) ∷ left self.new) (a_letter ∷ []) (left self.old) result }
+    {
+        match self.rest {
+            [Token::Name(letter), rest @ ..] => match mode_of(letter) {
+                Some(mode) => {
+                    self.rest = rest;
+                    Ok(mode)
+                }
+                None => self.stop(),
+            },
+            _ => self.stop(),
+        }
+    }
+
     /// `is` or `has`.
     fn condition(&mut self) -> Result<Condition, Stop>
         ensures { Gives (λ c. left self.old ≡ reserved (asks_word c) ∷ left self.new) (is_or_has ∷ []) (left self.old) result }
@@ -157,18 +194,26 @@ impl<'t, 'a> Cursor<'t, 'a> {
         }
     }
 
-    /// Takes a comma where it is the next token.
-    fn takes_comma(&mut self) -> bool
-        ensures { MatchBool result (left self.old ≡ sign Comma ∷ left self.new)
-            ((left self.new ≡ left self.old) × IsNotAt (sign Comma) (left self.old)) }
+    /// Takes this sign where it is the next token.
+    fn takes_sign(&mut self, s: Sign) -> bool
+        ensures { MatchBool result (left self.old ≡ sign s ∷ left self.new)
+            ((left self.new ≡ left self.old) × IsNotAt (sign s) (left self.old)) }
     {
         match self.rest {
-            [Token::Sign(Sign::Comma), rest @ ..] => {
+            [Token::Sign(found), rest @ ..] if *found == s => {
                 self.rest = rest;
                 true
             }
             _ => false,
         }
+    }
+
+    /// Takes a comma where it is the next token.
+    fn takes_comma(&mut self) -> bool
+        ensures { MatchBool result (left self.old ≡ sign Comma ∷ left self.new)
+            ((left self.new ≡ left self.old) × IsNotAt (sign Comma) (left self.old)) }
+    {
+        self.takes_sign(Sign::Comma)
     }
 
     /// Takes the word that begins a statement, where one is the next token.
@@ -199,6 +244,10 @@ impl<'t, 'a> Cursor<'t, 'a> {
             [Token::Reserved(Keyword::Hello), ..] => First::Hello,
             [Token::Reserved(Keyword::Wait), ..] => First::Wait,
             [Token::Reserved(Keyword::When), ..] => First::When,
+            [Token::Reserved(Keyword::Give), ..] => First::Give,
+            [Token::Reserved(Keyword::Rescind), ..] => First::Rescind,
+            [Token::Reserved(Keyword::Current), ..] => First::Current,
+            [Token::Reserved(Keyword::Classify), ..] => First::Classify,
             _ => return self.stop(),
         };
         self.rest = &self.rest[1..];
@@ -357,9 +406,51 @@ impl<'t, 'a> Cursor<'t, 'a> {
         Ok(RawBody::new(statements))
     }
 
+    /// A subject, a document and a letter.
+    fn right(&mut self) -> Result<RawRight<'a>, Stop>
+        ensures { Gives (λ r. left self.old ≡ name r.subject.now ∷ name r.document.now ∷ name (letter_of r.mode) ∷ left self.new)
+            (cell_due []) (left self.old) result }
+    {
+        let subject = self.name()?;
+        let document = self.name()?;
+        let mode = self.letter()?;
+        Ok(RawRight {
+            subject,
+            document,
+            mode,
+        })
+    }
+
+    /// Categories in braces, where there are any.
+    fn categories(&mut self, alloc: Global) -> Result<Vec<&'a [u8]>, Stop>
+        ensures { Gives (λ cs. (left self.old ≡ spell_categories (raw_names cs.items) ++ left self.new) × LevelEnds (raw_names cs.items) (left self.new))
+            (rest_of_level ∷ []) (left self.old) result }
+    {
+        let mut categories = Vec::new(alloc);
+        if !self.takes_sign(Sign::Open) {
+            return Ok(categories);
+        }
+        categories.push(self.name()?)?;
+        while self.takes_sign(Sign::Comma) {
+            categories.push(self.name()?)?;
+        }
+        self.sign(Sign::Close)?;
+        Ok(categories)
+    }
+
+    /// A level.
+    fn level(&mut self, alloc: Global) -> Result<RawLevel<'a>, Stop>
+        ensures { Gives (λ l. (left self.old ≡ spell_level (raw_level l) ++ left self.new) × LevelEnds (raw_names l.categories.items) (left self.new))
+            (level_due []) (left self.old) result }
+    {
+        let rank = self.name()?;
+        let categories = self.categories(alloc)?;
+        Ok(RawLevel { rank, categories })
+    }
+
     /// A line.
     fn line(&mut self, alloc: Global) -> Result<RawLine<'a>, Stop>
-        ensures { Gives (λ l. left self.old ≡ spell (raw_view l) ++ left self.new) (a_line ∷ []) (left self.old) result }
+        ensures { Gives (λ l. (left self.old ≡ spell (raw_view l) ++ left self.new) × LineEnds (raw_view l) (left self.new)) (a_line ∷ []) (left self.old) result }
     {
         match self.first()? {
             First::Hello => Ok(RawLine::Hello(self.name()?)),
@@ -367,6 +458,14 @@ impl<'t, 'a> Cursor<'t, 'a> {
             First::When => {
                 let Behaviour { first, more, body } = self.when(alloc)?;
                 Ok(RawLine::When { first, more, body })
+            }
+            First::Give => Ok(RawLine::Rule(RawRule::Give(self.right()?))),
+            First::Rescind => Ok(RawLine::Rule(RawRule::Rescind(self.right()?))),
+            First::Current => Ok(RawLine::Rule(RawRule::Current(self.level(alloc)?))),
+            First::Classify => {
+                let document = self.name()?;
+                let level = self.level(alloc)?;
+                Ok(RawLine::Rule(RawRule::Classify { document, level }))
             }
         }
     }

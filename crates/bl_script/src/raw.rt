@@ -108,6 +108,37 @@ impl<'a> RawBody<'a> {
     }
 }
 
+/// A level: the name of a rank, and those of its categories.
+#[derive(Drop)]
+pub struct RawLevel<'a> {
+    pub rank: &'a [u8],
+    pub categories: Vec<&'a [u8]>,
+}
+
+/// What `give` and `rescind` name: a subject, a document, and the mode of a letter.
+#[derive(Drop)]
+pub struct RawRight<'a> {
+    pub subject: &'a [u8],
+    pub document: &'a [u8],
+    pub mode: Mode,
+}
+
+/// A rule.
+#[derive(Drop)]
+pub enum RawRule<'a> {
+    /// `give NAME NAME LETTER`.
+    Give(RawRight<'a>),
+    /// `rescind NAME NAME LETTER`.
+    Rescind(RawRight<'a>),
+    /// `current LEVEL`.
+    Current(RawLevel<'a>),
+    /// `classify NAME LEVEL`.
+    Classify {
+        document: &'a [u8],
+        level: RawLevel<'a>,
+    },
+}
+
 /// A line, which borrows its names and texts from the bytes that it was read in.
 #[derive(Drop)]
 pub enum RawLine<'a> {
@@ -115,6 +146,8 @@ pub enum RawLine<'a> {
     Hello(&'a [u8]),
     /// `wait`.
     Wait,
+    /// One of the rules.
+    Rule(RawRule<'a>),
     /// `when ACCESS, .. do BODY end`.
     When {
         first: RawAccess<'a>,

@@ -39,7 +39,7 @@ fn asks_word(test: Condition) -> Keyword
     }
 }
 
-fn name_of(names: &Names, document: DocId) -> &[u8]
+pub(crate) fn name_of(names: &Names, document: DocId) -> &[u8]
     requires { document < length names.now.documents }
     ensures { result.now ≡ name_at names.now document }
 {

@@ -2,6 +2,8 @@
 mod deepest;
 mod knows;
 mod lines;
+mod rule_texts;
+mod rules;
 mod write;
 
 use crate::answer::{Answer, Outputs};

@@ -1,25 +1,30 @@
-//! The canonical text of a line: one space between two words that follow each other, no other blank, and no `else` before an
-//! empty body.
+//! The canonical text of a line: one space between two words that follow each other, no other blank, no `else` before an empty
+//! body, and the categories of a level in the scheme's order.
 ghost use Rattle.std.specs.Prelude.{◌≡◌, ◌<◌, ◌≤◌, ℕ, List, [], ◌∷◌, ◌++◌, length, OnOk, IfOk};
 ghost use Rattle.bl_level.specs.Token.{tok, toks};
 ghost use Rattle.bl_level.specs.Canonical.{sign_byte as byte_of, is_word as is_a_word, spelled, canonical};
 ghost use Rattle.bl_script.specs.declared.line.Line.TheVariants as asked;
-ghost use Rattle.bl_script.specs.declared.work.Work.TheVariants.{Behaviour};
+ghost use Rattle.bl_script.specs.declared.work.Work.TheVariants.{Behaviour, Rule as AskedRule};
 ghost use Rattle.bl_script.specs.CanonicalLine.{IsCanonicalOf, canonical_line};
-ghost use Rattle.bl_script.specs.Known.{canonical_script};
+ghost use Rattle.bl_script.specs.Known.{canonical_script, canonical_rule};
 ghost use Rattle.bl_script.specs.LineGrammar.{LineOf};
 ghost use Rattle.bl_script.specs.Writing.{with_token, nothing_written};
 
-use crate::canonical::{canonical_script_is_shortest, canonical_script_reads_again};
+use crate::canonical::{
+    canonical_rule_is_shortest, canonical_rule_reads_again, canonical_script_is_shortest,
+    canonical_script_reads_again,
+};
 use crate::line::Line;
 use crate::names::Names;
 use crate::script::Script;
 use crate::sink::{Sink, put_all};
 use crate::spell::put_when;
+use crate::spell_rules::put_rule;
 use crate::work::Work;
 use bl_level::laws::{canonical_is_shortest, canonical_reads_again, read_tokens_are_proper};
 use bl_level::token::{Keyword, Sign, Token};
 use bl_policy::id::SubjectId;
+use bl_policy::rule::Rule;
 use std::alloc::{AllocError, Global};
 use std::marker::Model;
 
@@ -142,6 +147,18 @@ fn write_script(alloc: Global, names: &Names, script: &Script) -> Result<Vec<u8>
     Ok(text.into_bytes())
 }
 
+/// The text of a rule that some text reads as by these names.
+fn write_rule(alloc: Global, names: &Names, rule: Rule) -> Result<Vec<u8>, AllocError>
+    requires { (bytes : List ℕ) × LineOf names.now bytes (asked.Work (AskedRule rule)) }
+    ensures { IfOk result (λ text. text.items ≡ canonical_rule names.now rule) }
+{
+    canonical_rule_is_shortest();
+    let _ = names.scheme();
+    let mut text = Text::new(alloc);
+    put_rule(&mut text, names, rule)?;
+    Ok(text.into_bytes())
+}
+
 /// The text of a line that some text reads as by these names.
 fn text_of(alloc: Global, names: &Names, line: &Line) -> Result<Vec<u8>, AllocError>
     requires { (bytes : List ℕ) × LineOf names.now bytes line.now }
@@ -151,20 +168,20 @@ fn text_of(alloc: Global, names: &Names, line: &Line) -> Result<Vec<u8>, AllocEr
         Line::Hello(subject) => write_hello(alloc, names, *subject),
         Line::Wait => write_tokens(alloc, &[Token::Reserved(Keyword::Wait)]),
         Line::Work(Work::Behaviour(script)) => write_script(alloc, names, script),
-        // No text reads as a rule.
-        Line::Work(Work::Rule(_)) => Ok(Vec::new(alloc)),
+        Line::Work(Work::Rule(rule)) => write_rule(alloc, names, *rule),
     }
 }
 
 /// The canonical text of a line that some text reads as by these names: one space between two words that follow each other, no
-/// other blank, and no `else` before an empty body. It fails only where a growth is refused.
+/// other blank, no `else` before an empty body, and the categories of a level in the scheme's order. It fails only where a growth
+/// is refused.
 pub fn write_line(alloc: Global, names: &Names, line: &Line) -> Result<Vec<u8>, AllocError>
     requires { (bytes : List ℕ) × LineOf names.now bytes line.now }
     // The text reads as the line.
     ensures reads { IfOk result (λ text. LineOf names.now text.items line.now) }
     // No text that reads as the line is shorter.
     ensures shortest { IfOk result (λ text. (bytes : List ℕ) → LineOf names.now bytes line.now → length text.items ≤ length bytes) }
-    // The text has no blank but one space between two words, and no `else` before an empty body.
+    // The text has no blank but one space between two words, no `else` before an empty body, and categories in the scheme's order.
     ensures canonical { IfOk result (λ text. IsCanonicalOf names.now text.items line.now) }
 {
     let _ = names.scheme();
@@ -173,5 +190,7 @@ pub fn write_line(alloc: Global, names: &Names, line: &Line) -> Result<Vec<u8>, 
     read_tokens_are_proper();
     canonical_script_reads_again();
     canonical_script_is_shortest();
+    canonical_rule_reads_again();
+    canonical_rule_is_shortest();
     text_of(alloc, names, line)
 }

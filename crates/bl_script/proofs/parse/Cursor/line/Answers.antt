@@ -1,4 +1,6 @@
-use Rattle.bl_script.proofs.Faults.{exits, behind_hello, behind_when}
+use Rattle.std.proofs.Common.{◌∷◌, []}
+use Rattle.bl_script.specs.Machine.{a_name}
+use Rattle.bl_script.proofs.Faults.{exits, behind_hello, behind_when, behind_give, behind_rescind, behind_current, behind_classify, behind_name, first_due}
 use Rattle.bl_script.proofs.parse.Cursor.line.Goals as goal
 
 pub returns-in_err-name-in-Hello : goal.returns-in_err-name-in-Hello
@@ -8,3 +10,25 @@ returns-in_err-name-in-Hello c =
 pub returns-in_err-first-in-When : goal.returns-in_err-first-in-When
 returns-in_err-first-in-When c =
     exits _ _ _ _ _ c.from_residual-in_err-first-in-When.ensures.1 (behind_when _ _ _ _ (rw c.in-When.is at c.in_ok-first.ensures) c.in_err-first-in-When.ensures)
+
+pub returns-in_err-right-in-Give : goal.returns-in_err-right-in-Give
+returns-in_err-right-in-Give c =
+    exits _ _ _ _ _ c.from_residual-in_err-right-in-Give.ensures.1 (behind_give _ _ _ _ (rw c.in-Give.is at c.in_ok-first.ensures) c.in_err-right-in-Give.ensures)
+
+pub returns-in_err-right-in-Rescind : goal.returns-in_err-right-in-Rescind
+returns-in_err-right-in-Rescind c =
+    exits _ _ _ _ _ c.from_residual-in_err-right-in-Rescind.ensures.1 (behind_rescind _ _ _ _ (rw c.in-Rescind.is at c.in_ok-first.ensures) c.in_err-right-in-Rescind.ensures)
+
+pub returns-in_err-level-in-Current : goal.returns-in_err-level-in-Current
+returns-in_err-level-in-Current c =
+    exits _ _ _ _ _ c.from_residual-in_err-level-in-Current.ensures.1 (behind_current _ _ _ _ (rw c.in-Current.is at c.in_ok-first.ensures) c.in_err-level-in-Current.ensures)
+
+pub returns-in_err-document-in-Classify : goal.returns-in_err-document-in-Classify
+returns-in_err-document-in-Classify c =
+    exits _ _ _ _ _ c.from_residual-in_err-document-in-Classify.ensures.1
+    (behind_classify _ _ _ _ (rw c.in-Classify.is at c.in_ok-first.ensures) (first_due (a_name ∷ []) _ _ _ c.in_err-document-in-Classify.ensures))
+
+pub returns-in_err-level-in-Classify : goal.returns-in_err-level-in-Classify
+returns-in_err-level-in-Classify c =
+    exits _ _ _ _ _ c.from_residual-in_err-level-in-Classify.ensures.1
+    (behind_classify _ _ _ _ (rw c.in-Classify.is at c.in_ok-first.ensures) (behind_name _ _ _ _ _ c.in_ok-document-in-Classify.ensures c.in_err-level-in-Classify.ensures))

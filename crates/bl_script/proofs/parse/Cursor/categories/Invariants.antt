@@ -1,0 +1,12 @@
+use Rattle.std.proofs.Common.{length}
+use Rattle.bl_script.specs.RawRules.{raw_names}
+use Rattle.bl_script.specs.Parsing.{left}
+use Rattle.bl_script.proofs.Categories.{Listed}
+use Rattle.bl_script.proofs.parse.Cursor.categories.Given as goal
+
+-- what was taken are these categories, behind the opening brace
+abbrev pub invariant-loop-categories : goal.invariant-loop-categories
+invariant-loop-categories l = Listed (raw_names l.categories.items) (left l.fn.self) (left l.self)
+
+abbrev pub decreases-loop-categories : goal.decreases-loop-categories
+decreases-loop-categories l = length (left l.self)

@@ -1,0 +1,13 @@
+use Rattle.std.proofs.Common.{◌∷◌, []}
+use Rattle.bl_script.specs.Machine.{a_name}
+use Rattle.bl_script.proofs.Faults.{exits, behind_name, first_due}
+use Rattle.bl_script.proofs.parse.Cursor.right.Goals as goal
+
+pub returns-in_err-document : goal.returns-in_err-document
+returns-in_err-document c =
+    exits _ _ _ _ _ c.from_residual-in_err-document.ensures.1 (behind_name _ _ _ _ _ c.in_ok-subject.ensures (first_due (a_name ∷ []) _ _ _ c.in_err-document.ensures))
+
+pub returns-in_err-mode : goal.returns-in_err-mode
+returns-in_err-mode c =
+    exits _ _ _ _ _ c.from_residual-in_err-mode.ensures.1
+    (behind_name _ _ _ _ _ c.in_ok-subject.ensures (behind_name _ _ _ _ _ c.in_ok-document.ensures c.in_err-mode.ensures))
