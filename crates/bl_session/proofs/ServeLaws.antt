@@ -9,7 +9,7 @@ use Rattle.bl_level.specs.Table.{place_of}
 use Rattle.bl_script.specs.declared.line.Line.TheVariants as line
 use Rattle.bl_script.specs.declared.work.Work.{Work}
 use Rattle.bl_script.specs.Names.{KnownNames}
-use Rattle.bl_script.specs.Grammar.{SpelledLine, hello, wait, when}
+use Rattle.bl_script.specs.Grammar.{SpelledLine, hello, wait, when, rule}
 use Rattle.bl_script.specs.LineGrammar.{Means, LineOf}
 use Rattle.bl_setup.specs.Agreement.{Agree}
 use Rattle.bl_setup.specs.Order.{Setup}
@@ -107,6 +107,7 @@ subject_of : (names : KnownNames) (spelled : SpelledLine) (subject : ℕ) → Me
 subject_of names (hello name) subject means = place_within name names.subjects subject means
 subject_of names wait subject means = absurd means
 subject_of names (when first more body) subject means = absurd means
+subject_of names (rule asked) subject means = absurd means
 
 pub are_served : (setup : Setup) → Agree setup → ((bytes : List ℕ) (work : Work) → LineOf setup.names bytes (line.Work work) → KnowsWork setup work)
     → AreServed setup.names (λ subject. subject < length setup.policy.subjects) (KnowsWork setup)

@@ -8,3 +8,4 @@ mod ends;
 mod greetings;
 mod limits;
 mod refusals;
+mod rules;
