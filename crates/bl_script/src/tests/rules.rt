@@ -50,8 +50,9 @@ pub(crate) fn base_names(alloc: Global) -> Result<Names, Fail> {
 
 fn rule_of(alloc: Global, line: &[u8]) -> Result<Rule, Fail> {
     let names = base_names(alloc)?;
-    match read_line(alloc, &names, line)? {
-        Line::Work(Work::Rule(rule)) => Ok(rule),
+    let line = read_line(alloc, &names, line)?;
+    match &line {
+        Line::Work(Work::Rule(rule)) => Ok(*rule),
         _ => Err(Fail::new("no rule")),
     }
 }
