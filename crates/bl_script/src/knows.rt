@@ -138,6 +138,7 @@ fn knows_script(names: &Names, script: &Script) -> bool
 {
     canonical_script_reads_again();
     canonical_script_is_shortest();
+    // asked for the proof alone: no name stands twice in a table
     let _ = names.scheme();
     are_there(names, script) && is_short(names, script)
 }
@@ -177,6 +178,7 @@ fn knows_rule(names: &Names, rule: &Rule) -> bool
 {
     canonical_rule_reads_again();
     canonical_rule_is_shortest();
+    // asked for the proof alone: no name stands twice in a table
     let _ = names.scheme();
     is_rule_there(names, rule) && is_rule_short(names, rule)
 }

@@ -30,7 +30,7 @@ use std::marker::Model;
 
 /// Text that grows by tokens.
 #[derive(Drop)]
-pub struct Text {
+pub(crate) struct Text {
     bytes: Vec<u8>,
     ends_with_word: bool,
 }
@@ -67,7 +67,7 @@ pub(crate) fn is_word(token: Token<'_>) -> bool
 
 impl Text {
     /// No text.
-    pub fn new(alloc: Global) -> Text
+    pub(crate) fn new(alloc: Global) -> Text
         ensures { result ≡ nothing_written }
     {
         Text {
@@ -93,7 +93,7 @@ impl Text {
     }
 
     /// The bytes, which are the canonical text of the tokens that were written.
-    pub fn into_bytes(self) -> Vec<u8>
+    pub(crate) fn into_bytes(self) -> Vec<u8>
         ensures { result.items ≡ self.bytes }
     {
         self.bytes
@@ -141,6 +141,7 @@ fn write_script(alloc: Global, names: &Names, script: &Script) -> Result<Vec<u8>
     ensures { IfOk result (λ text. text.items ≡ canonical_script names.now script.now) }
 {
     canonical_script_is_shortest();
+    // asked for the proof alone: a script has a behaviour, and its accesses are declared as a script's are
     let _ = script.weight();
     let mut text = Text::new(alloc);
     put_when(&mut text, names, script, 0)?;
@@ -153,6 +154,7 @@ fn write_rule(alloc: Global, names: &Names, rule: Rule) -> Result<Vec<u8>, Alloc
     ensures { IfOk result (λ text. text.items ≡ canonical_rule names.now rule) }
 {
     canonical_rule_is_shortest();
+    // asked for the proof alone: no name stands twice in a table
     let _ = names.scheme();
     let mut text = Text::new(alloc);
     put_rule(&mut text, names, rule)?;
@@ -184,6 +186,7 @@ pub fn write_line(alloc: Global, names: &Names, line: &Line) -> Result<Vec<u8>, 
     // The text has no blank but one space between two words, no `else` before an empty body, and categories in the scheme's order.
     ensures canonical { IfOk result (λ text. IsCanonicalOf names.now text.items line.now) }
 {
+    // asked for the proof alone: no name stands twice in a table
     let _ = names.scheme();
     canonical_reads_again();
     canonical_is_shortest();

@@ -227,6 +227,7 @@ impl Behind for Alone {
     }
 
     fn settle(&self, state: &mut Pages, after: u32, ordinal: u32) -> Result<Block, AllocError> {
+        // the contract alone speaks of the ordinals: where the block begins and ends is kept in the pages
         let _ = (after, ordinal);
         let first = state.ended;
         let entered = state.entries.len();
