@@ -45,14 +45,14 @@ fn run_len(class: Class, bytes: &[u8]) -> usize
     end
 }
 
-/// The reserved words that begin with this byte.
+/// The reserved words that begin with this byte, those that lines have most often first.
 fn words_from(first: u8) -> &'static [Keyword]
     ensures { (rest : List ℕ) → spec.keyword_among result.now (first ∷ rest) ≡ spec.keyword_among spec.words (first ∷ rest) }
 {
     match first {
         b'a' => &[
-            Keyword::Append,
             Keyword::Add,
+            Keyword::Append,
             Keyword::Allow,
             Keyword::Admin,
         ],
@@ -70,8 +70,8 @@ fn words_from(first: u8) -> &'static [Keyword]
         b'i' => &[Keyword::If, Keyword::Is],
         b'p' => &[Keyword::Pour],
         b'r' => &[
-            Keyword::Rescind,
             Keyword::Read,
+            Keyword::Rescind,
             Keyword::Ranks,
             Keyword::Reserve,
         ],
@@ -83,7 +83,7 @@ fn words_from(first: u8) -> &'static [Keyword]
             Keyword::Subject,
         ],
         b't' => &[Keyword::To, Keyword::Then, Keyword::Trusted],
-        b'w' => &[Keyword::Wait, Keyword::When, Keyword::Write],
+        b'w' => &[Keyword::When, Keyword::Write, Keyword::Wait],
         _ => &[],
     }
 }

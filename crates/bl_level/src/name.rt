@@ -1,15 +1,23 @@
 //! A name: a word of 1 to 32 bytes that is not reserved.
 ghost use Rattle.std.specs.Prelude.{◌≡◌, ℕ, ◌↔◌, IsTrue, IsSome, IfSome, List, length, ◌≤◌};
-ghost use Rattle.std.specs.List.{list_all};
+ghost use Rattle.std.specs.List.{list_all, fold};
+ghost use Rattle.std.specs.Hash as fed;
+ghost use Rattle.std.specs.Hash.{same_Alike};
+ghost use Rattle.std.specs.Cmp.Lexicographic.{bytes_decides, nat_list_eq_equiv};
+ghost use Rattle.std.specs.Str.{bytes_eq};
+ghost use Rattle.std.specs.Cmp.Rules.{hashing};
+ghost use Rattle.std.proofs.Common.{ap, rules};
 ghost use Rattle.bl_level.specs.Lexing.{is_word_byte};
 ghost use Rattle.bl_level.specs.Name.{IsName, IsWord, begins_with_letter};
 
 use crate::lexer::{Class, is_in, keyword_of};
 use arrayvec::ArrayVec;
+use indexmap::Equivalent;
+use std::hash::{Hash, Hasher};
 use std::marker::Model;
 
 /// A name, which contracts see as its bytes.
-#[derive(PartialEq, Eq, Hash, Debug, Drop)]
+#[derive(PartialEq, Eq, Debug, Drop)]
 pub struct Name {
     bytes: ArrayVec<u8, 32>,
 }
@@ -57,6 +65,52 @@ impl Name {
     }
 }
 
+/// What a name's bytes feed a hasher: one write, in place of one for each byte.
+fn feed<H: Hasher>(bytes: &[u8], state: &mut H)
+    ensures { state.new ≡ fold H.write state.old (fed.str bytes.now) }
+{
+    state.write(bytes);
+    state.write_u8(0xff);
+}
+
+impl Hash for Name {
+    ghost hash_input = { fed.str };
+
+    ghost respects_eq = { (same_Alike fed.str bytes_decides).fed };
+
+    fn hash<H: Hasher>(&self, state: &mut H) {
+        feed(self.bytes(), state);
+    }
+}
+
+/// Bytes that a name is looked up by, whether they are a name or not.
+#[derive(Clone, Copy, PartialEq, Eq)]
+pub(crate) struct Spelled<'a> {
+    pub(crate) bytes: &'a [u8],
+}
+
+impl<'a> Hash for Spelled<'a> {
+    ghost hash_input = { λ s. fed.str s.bytes.now };
+
+    ghost respects_eq = { Prim.search (hashing, rules) };
+
+    fn hash<H: Hasher>(&self, state: &mut H) {
+        feed(self.bytes, state);
+    }
+}
+
+impl<'a> Equivalent<Name> for Spelled<'a> {
+    ghost equivalent = { λ s name. bytes_eq s.bytes.now name };
+
+    ghost respects_hash = { λ s name h. ap fed.str ((bytes_decides s.bytes.now name).0 h) };
+
+    ghost respects_eq = { λ s a b. nat_list_eq_equiv.congr s.bytes.now a b };
+
+    fn equivalent(&self, key: &Name) -> bool {
+        self.bytes == key.bytes()
+    }
+}
+
 /// Whether the bytes begin with a letter.
 fn begins_with_letter(bytes: &[u8]) -> bool
     ensures { result ≡ begins_with_letter bytes.now }
@@ -93,8 +147,6 @@ fn kept(bytes: &[u8]) -> ArrayVec<u8, 32>
     ensures { result.items ≡ bytes.now }
 {
     let mut kept = ArrayVec::new();
-    for byte in bytes {
-        kept.push(*byte);
-    }
+    kept.try_extend_from_slice(bytes).unwrap();
     kept
 }

@@ -3,7 +3,7 @@ ghost use Rattle.std.specs.Prelude.{◌≡◌, ◌==◌, ℕ, ◌↔◌, ◌<◌
 ghost use Rattle.bl_level.specs.Table.{IsTable, place_of};
 ghost use Rattle.bl_level.specs.TableFault.{IsTableFault};
 
-use crate::name::Name;
+use crate::name::{Name, Spelled};
 use indexmap::IndexSet;
 use std::alloc::{AllocError, Global};
 use std::marker::Model;
@@ -98,12 +98,7 @@ impl NameTable {
         ensures place { IfSome result (λ i. slice_get self.now i ≡ Some bytes.now) }
         ensures within { IfSome result (λ i. i < length self.now) }
     {
-        // read for the proof alone: each key of the table is a name, so bytes that are none are not there
-        let _ = &self.names;
-        match Name::new(bytes) {
-            Some(name) => self.position(&name),
-            None => None,
-        }
+        self.names.get_index_of(Spelled { bytes })
     }
 
     /// Adds a name behind the others. A fault leaves the table as it was.
