@@ -10,7 +10,7 @@ is_empty_look Blank = true
 is_empty_look BlankThenCr = true
 is_empty_look Filled = false
 
-filled-stays : (line : List ℕ) → fold look_after Filled line ≡ Filled
+pub filled-stays : (line : List ℕ) → fold look_after Filled line ≡ Filled
 filled-stays [] = refl
 filled-stays (b ∷ line) = filled-stays line
 

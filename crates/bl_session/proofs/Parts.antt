@@ -1,5 +1,5 @@
 -- Lines and their parts.
-use Rattle.std.proofs.Common.{◌≡◌, ◌≢◌, ℕ, ◌+◌, ◌-◌, ◌<◌, ◌≤◌, Bool, true, false, cond, List, [], ◌∷◌, ◌++◌, length, refl, sym, ap, subst, ◌∙◌, append_assoc, append-nil, arith, take, nat_lt, length-append, Option, Some, None, OnSome, zero, position, not, ◌==◌, get_or, get_or-take, length-take, length-take-le, eqb, eq-eqb, eqb-true, ltb-false, add-one, suc, min, ◌||◌}
+use Rattle.std.proofs.Common.{◌≡◌, ◌≢◌, ℕ, ◌+◌, ◌-◌, ◌<◌, ◌≤◌, Bool, true, false, cond, List, [], ◌∷◌, ◌++◌, length, refl, sym, ap, subst, ◌∙◌, append_assoc, append-nil, arith, take, nat_lt, length-append, Option, Some, None, OnSome, zero, position, not, ◌==◌, get_or, get_or-take, length-take, length-take-le, eqb, eq-eqb, eqb-true, ltb-false, add-one, suc, min, ◌||◌, true≢false}
 use Rattle.std.proofs.lemmas.Bool.Decides.{nat_tests}
 use Rattle.std.proofs.lemmas.List.Sums.{prefix_len_passes, prefix_len-le-length}
 use Rattle.std.specs.List.{prefix_len}
@@ -12,6 +12,7 @@ use Rattle.bl_session.specs.declared.held.Held.{Held}
 use Rattle.bl_session.specs.declared.lines.Next.TheVariants.{Whole, Last, End}
 use Rattle.bl_session.specs.declared.lines.Part.{Part}
 use Rattle.bl_session.specs.declared.lines.Part.TheVariants.{Ends, More, Nothing}
+use Rattle.memchr.specs.Find.{IsFirstByte, is_byte}
 use Rattle.bl_session.specs.Lines.{HasNoLf}
 use Rattle.bl_session.specs.Holds.{Holds}
 use Rattle.bl_session.specs.Reads.{IsBegun, TookPart, TookLine, Scanned, Keeping, BrokeOff, IsReadingFault, HasMore}
@@ -144,6 +145,22 @@ no_lf xs e k d h hit =
         go : (t : Bool) → nat_lt (prefix_len (λ b. not (b == 10)) xs) (length xs) ≡ t → cond t (Some (prefix_len (λ b. not (b == 10)) xs)) None ≡ None → prefix_len (λ b. not (b == 10)) xs ≡ length xs
         go true lt none = cc
         go false ge none = omega (arith, le, ltb-false _ _ ge)
+
+-- a search by a vector finds the place that a search from the left finds
+pub first_lf : (xs : List ℕ) (r : Option ℕ) → IsFirstByte (is_byte 10) xs r → r ≡ position (λ b. b == 10) xs
+first_lf xs r first = go r (position (λ b. b == 10) xs) refl first
+  where
+    go : (r o : Option ℕ) → position (λ b. b == 10) xs ≡ o → IsFirstByte (is_byte 10) xs r → r ≡ o
+    go None None e h = refl
+    go None (Some i) e h =
+        let at = position-Some (λ b. b == 10) xs i 0 e in
+        absurd (h i (omega arith) at.0 at.1)
+    go (Some k) None e h = absurd (no_lf xs e k 0 h.0.high (eqb-true _ _ h.1))
+    go (Some k) (Some i) e h =
+        let at = position-Some (λ b. b == 10) xs i 0 e in
+        let not_behind : ¬ (i < k) = λ lt. h.0.before i (omega arith) lt at.1 in
+        let not_before : ¬ (k < i) = λ lt. true≢false (sym h.1 ∙ at.2 k lt) in
+        ap Some (omega (arith, not_behind, not_before))
 
 pub took : (a c : Option (List ℕ)) (n : ℕ) (part : Part) (shown : List ℕ) (old new : Held) (was : ℕ) → Scanned n part shown old new was
     → Consumes a c (take n shown) → (length shown ≡ 0 → OnSome a (IsAtEnd c)) → TookPart part a c old new was (was - n)

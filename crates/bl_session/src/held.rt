@@ -47,7 +47,11 @@ fn look_on(look: Look, part: &[u8]) -> Look
 {
     let mut now = look;
     for byte in part {
-        now = next_look(now, *byte);
+        match now {
+            // no byte changes it any more
+            Look::Filled => return Look::Filled,
+            Look::Blank | Look::BlankThenCr => now = next_look(now, *byte),
+        }
     }
     now
 }

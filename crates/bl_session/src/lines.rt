@@ -5,6 +5,7 @@ ghost use Rattle.bl_session.specs.Reads.{TookLine, TookPart, Scanned, BrokeOff, 
 use crate::fault::SessionFault;
 use crate::held::Held;
 use crate::watched::Watched;
+use memchr::memchr;
 use std::io::BufRead;
 
 /// How a line ended.
@@ -32,7 +33,7 @@ pub enum Part {
 fn lf_place(bytes: &[u8]) -> Option<usize>
     ensures { result ≡ position (λ b. b == 10) bytes.now }
 {
-    bytes.iter().position(|b| *b == b'\n')
+    memchr(b'\n', bytes)
 }
 
 /// Looks at what the reader shows, up to an LF or `left` bytes, and says how many of the bytes
