@@ -41,7 +41,7 @@ fn perform(alloc: Global, grants: &mut Grants, statements: &[Stmt]) -> Result<Pe
     let Told { shown, spawned } = told;
     Ok(Performed {
         inputs,
-        outputs: Outputs::new(alloc, shown)?,
+        outputs: Outputs::new(shown),
         spawned,
     })
 }

@@ -42,7 +42,7 @@ fn done(
     let mut running = Run::new(alloc, accesses, contents)?;
     running.run(alloc, body)?;
     let changes = running.changes(alloc, accesses)?;
-    let outputs = Outputs::new(alloc, running.shown)?;
+    let outputs = Outputs::new(running.shown);
     Ok(Judged {
         answer: Answer::Done(outputs),
         fault: None,

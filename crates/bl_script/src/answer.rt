@@ -3,43 +3,40 @@ ghost use Rattle.std.specs.Prelude.{◌≡◌, IfOk};
 
 use crate::document::Document;
 use bl_policy::denial::Denial;
-use std::alloc::{AllocError, Global};
+use std::alloc::AllocError;
 use std::marker::Model;
-use std::sync::Arc;
 
 /// The texts that a behaviour showed, in order.
 #[derive(Drop)]
 pub struct Outputs {
-    texts: Arc<Vec<Document>, Global>,
+    texts: Vec<Document>,
 }
 
 impl Model for Outputs {
     ghost use Rattle.std.specs.Prelude.{List, ℕ};
-    ghost use Rattle.std.specs.Arc.{arc_value};
 
     ghost Value = { List (List ℕ) };
 
-    ghost view = { λ o. (arc_value o.texts).items };
+    ghost view = { λ o. o.texts.items };
 }
 
 impl Outputs {
     /// Outputs of these texts.
-    pub fn new(alloc: Global, texts: Vec<Document>) -> Result<Outputs, AllocError>
-        ensures { IfOk result (λ o. o ≡ texts.items) }
+    pub fn new(texts: Vec<Document>) -> Outputs
+        ensures { result ≡ texts.items }
     {
-        match Arc::new(alloc, texts) {
-            Ok(texts) => Ok(Outputs { texts }),
-            Err(_) => Err(AllocError),
-        }
+        Outputs { texts }
     }
 
-    /// One more owner of the same texts.
+    /// Equal outputs, each text with one more owner.
     pub fn share(&self) -> Result<Outputs, AllocError>
         ensures { IfOk result (λ o. o ≡ self.now) }
     {
-        Ok(Outputs {
-            texts: Arc::try_clone(&self.texts)?,
-        })
+        let mut texts = Vec::with_capacity(*self.texts.allocator(), self.texts.len())?;
+        for text in &self.texts {
+            texts.push(text.share()?)?;
+        }
+        Ok(Outputs { texts })
     }
 
     /// The texts, in the order in which they were shown.

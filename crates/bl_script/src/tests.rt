@@ -43,7 +43,7 @@ fn shares_a_work_of_one_read(rt: HostRuntime) -> Result<(), Fail> {
 fn shares_an_answer(rt: HostRuntime) -> Result<(), Fail> {
     let mut texts = Vec::new(rt.alloc());
     texts.push(Document::new(rt.alloc(), b"n1")?)?;
-    let answer = Answer::Done(Outputs::new(rt.alloc(), texts)?);
+    let answer = Answer::Done(Outputs::new(texts));
     let shared = answer.share()?;
     let Answer::Done(outputs) = shared else {
         return Err(Fail::new("not done"));

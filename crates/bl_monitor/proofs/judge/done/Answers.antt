@@ -14,7 +14,7 @@ returns c =
     c.in_ok-run.ensures (lent c.args.accesses.now (content_at c.args.contents.now)) []
     (stands_first c.args.contents.now c.args.accesses.now c.in_ok-running.running c.in_ok-running.ensures.texts c.in_ok-running.ensures.shown c.in_ok-running.ensures.spawned) in
     record {
-      answer = ap answer.Done (c.in_ok-outputs.ensures ∙ stands.shown);
+      answer = ap answer.Done (c.new-outputs.ensures ∙ stands.shown);
       fault = refl;
       ran = refl;
       spawned = stands.spawned;
