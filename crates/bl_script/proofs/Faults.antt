@@ -17,7 +17,7 @@ use Rattle.bl_script.specs.Parsing.{Gives, Faults, BeginsNone, IsNotAt, start_wo
 use Rattle.bl_script.specs.declared.parse.Start.{Start}
 use Rattle.bl_script.specs.declared.parse.Start.TheVariants as start
 use Rattle.bl_script.specs.declared.stop.Stop.{Stop}
-use Rattle.bl_script.specs.declared.stop.Stop.TheVariants.{Memory, At}
+use Rattle.bl_script.specs.declared.stop.Stop.TheVariants.{Memory, At, Broken}
 use Rattle.bl_script.proofs.Theory.{run_mode, run_asks, run_access, run_more, run_test, run_body}
 use Rattle.bl_script.proofs.Spellings.{run_statement}
 
@@ -38,10 +38,12 @@ pub faults_behind : (want next : List Due) (front rest tokens : List Tok) (e : S
     → Faults next rest e → Faults want tokens e
 faults_behind want next front rest tokens Memory split runs f = f
 faults_behind want next front rest tokens (At left) split runs f = stops_behind want next front rest tokens left split runs f
+faults_behind want next front rest tokens (Broken place) split runs f = absurd f
 
 -- a fault of what is due first
 pub first_due : (want more : List Due) (tokens : List Tok) (e : Stop) → Faults want tokens e → Faults (want ++ more) tokens e
 first_due want more tokens Memory f = f
+first_due want more tokens (Broken place) f = absurd f
 first_due want more tokens (At left) s = record {
   before = s.before;
   after = s.after;
@@ -96,6 +98,7 @@ no_comma_refuses due (t ∷ ts) after ne r = rw (not_comma t due ne) r
 
 no_comma : (want : List Due) (tokens : List Tok) (e : Stop) → IsNotAt (sign Comma) tokens → Faults want tokens e → Faults (more_accesses ∷ want) tokens e
 no_comma want tokens Memory ne f = f
+no_comma want tokens (Broken place) ne f = absurd f
 no_comma want tokens (At left) ne s = record {
   before = s.before;
   after = s.after;
@@ -127,6 +130,7 @@ no_more_refuses due (t ∷ ts) after none r = rw none r
 
 no_more : (want : List Due) (tokens : List Tok) (e : Stop) → BeginsNone tokens → Faults want tokens e → Faults (a_body ∷ want) tokens e
 no_more want tokens Memory none f = f
+no_more want tokens (Broken place) none f = absurd f
 no_more want tokens (At left) none s = record {
   before = s.before;
   after = s.after;
@@ -151,6 +155,7 @@ no_else_refuses due (t ∷ ts) after ne r = rw (not_else t due ne) r
 
 pub no_else : (want : List Due) (tokens : List Tok) (e : Stop) → IsNotAt (reserved Else) tokens → Faults (word End ∷ want) tokens e → Faults (rest_of_if ∷ want) tokens e
 no_else want tokens Memory ne f = f
+no_else want tokens (Broken place) ne f = absurd f
 no_else want tokens (At left) ne s = record {
   before = s.before;
   after = s.after;
@@ -222,6 +227,7 @@ close_refuses due (t ∷ ts) after ne r = rw (no_more_category t due ne) r
 
 pub at_close : (want : List Due) (tokens : List Tok) (e : Stop) → IsNotAt (sign Comma) tokens → Faults (a_sign Close ∷ want) tokens e → Faults (rest_of_categories ∷ want) tokens e
 at_close want tokens Memory ne f = f
+at_close want tokens (Broken place) ne f = absurd f
 at_close want tokens (At left) ne s = record {
   before = s.before;
   after = s.after;

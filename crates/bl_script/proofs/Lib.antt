@@ -5,6 +5,7 @@ pub mod Theory
 pub mod Spellings
 pub mod Faults
 pub mod Categories
+pub mod Tokens
 pub mod Ends
 pub mod Places
 pub mod Whole

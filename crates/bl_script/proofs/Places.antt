@@ -1,5 +1,5 @@
 -- From the faults of tokens to those of bytes.
-use Rattle.std.proofs.Common.{◌≡◌, ℕ, suc, ◌+◌, ◌-◌, cond, List, [], ◌∷◌, ◌++◌, length, get_or, Option, None, refl, ap, ◌∙◌, arith, length-append, true, false, eqb}
+use Rattle.std.proofs.Common.{◌≡◌, ℕ, suc, ◌+◌, ◌-◌, ◌≤◌, cond, List, [], ◌∷◌, ◌++◌, length, get_or, Option, None, refl, ap, ◌∙◌, arith, length-append, true, false, eqb}
 use Rattle.std.proofs.lemmas.Bool.Decides.{nat_tests}
 use Rattle.std.specs.Prelude.{unwrap_or}
 use Rattle.std.proofs.lemmas.List.{append-nil}
@@ -60,3 +60,10 @@ fault_cases (t ∷ after) total bytes ts before ks place left is cut split len g
 pub fault_of : (total : ℕ) (bytes : List ℕ) (ts : List Tok) (ks : List ℕ) (place : Option ℕ) (left : ℕ) → total ≡ length bytes → Cut total bytes ts ks place → FirstFault ts left
     → SyntaxFault bytes (fault_place total ks place left)
 fault_of total bytes ts ks place left is cut f = fault_cases f.after total bytes ts f.before ks place left is cut f.split f.left_is f.goes_on f.blocked
+
+-- there are no fewer tokens than those from the first at fault on
+pub left_within : (tokens : List Tok) (left : ℕ) → FirstFault tokens left → left ≤ length tokens
+left_within tokens left f =
+    let long : length tokens ≡ length f.before + length f.after = ap length f.split ∙ length-append f.before f.after in
+    let is : length f.after ≡ left = f.left_is in
+    omega arith

@@ -1,12 +1,18 @@
 -- The bytes of a line read as one line, or have a fault.
-use Rattle.std.proofs.Common.{◌≡◌, ℕ, List, [], ◌∷◌, length, Option, Some, None, refl, sym, ap, ◌∙◌}
+use Rattle.std.proofs.Common.{◌≡◌, ℕ, ◌+◌, List, [], ◌∷◌, length, Option, refl, sym, ap, subst, ◌∙◌}
 use Rattle.std.proofs.lemmas.List.{append-nil}
 use Rattle.bl_level.specs.Token.{Tok}
 use Rattle.bl_level.specs.Lexing.{Front, nothing, token, broken, front, Begins}
+use Rattle.bl_level.specs.Name.{AreProper}
 use Rattle.bl_level.specs.Cutting.{Cut, EndsAs}
 use Rattle.bl_script.specs.Grammar.{SpelledLine, spell}
-use Rattle.bl_script.specs.Fault.{ReadsAs, SyntaxFault}
-use Rattle.bl_script.proofs.Places.{cut_begins, fault_at_end}
+use Rattle.bl_script.specs.Fault.{ReadsAs, FirstFault, SyntaxFault}
+use Rattle.bl_level.proofs.Readings.{one_reading, read_proper}
+use Rattle.bl_script.specs.Tokens.{tokens_of, end_of}
+use Rattle.bl_script.proofs.Tokens.{IsOver, reaches, reads_whole, tokens_proper}
+use Rattle.bl_script.proofs.Places.{cut_begins}
+use Rattle.bl_script.proofs.Unique.{same_line, line_no_fault}
+use Rattle.bl_script.proofs.OneFault.{reads_no_fault}
 
 ends_no_token : (total : ℕ) (place : Option ℕ) (f : Front) → EndsAs total f place → (t : Tok) (more : List ℕ) → f ≡ token t more → ⊥
 ends_no_token total place nothing e t more f = cc
@@ -25,18 +31,55 @@ begins_one (t ∷ ts) (u ∷ us) bytes r s (more, f, b) n (more', f', c) m =
     let p = begins_one ts us more r s b n (rw same at c) m in
     (cc, p.1)
 
--- the bytes of a line are cut into its tokens and nothing else
-pub cut_one : (total : ℕ) (bytes : List ℕ) (ts : List Tok) (ks : List ℕ) (place : Option ℕ) (l : SpelledLine) → Cut total bytes ts ks place → ReadsAs bytes l → (ts ≡ spell l) × (place ≡ None)
-cut_one total bytes ts ks place l cut reads =
+not_over : (f : Front) → IsOver f → (t : Tok) (more : List ℕ) → f ≡ token t more → ⊥
+not_over nothing o t more e = cc
+not_over (broken from) o t more e = cc
+not_over (token u us) o t more e = absurd o
+
+-- bytes are cut into their tokens
+pub cut_tokens : (total : ℕ) (bytes : List ℕ) (ts : List Tok) (ks : List ℕ) (place : Option ℕ) → Cut total bytes ts ks place → ts ≡ tokens_of bytes
+cut_tokens total bytes ts ks place cut =
     let c = cut_begins total bytes ts ks place cut in
-    let p = begins_one ts (spell l) bytes c.0 [] c.1 (ends_no_token total place (front c.0) c.2) reads (λ t more f. absurd (never t more f)) in
-    (p.0, rw p.1 at c.2)
+    let r = reaches bytes in
+    (begins_one ts (tokens_of bytes) bytes c.0 r.rest c.1 (ends_no_token total place (front c.0) c.2) r.begins (λ t more f. not_over (end_of bytes) r.over t more (sym r.stands ∙ f))).0
+
+-- bytes whose tokens are those of a line, with nothing behind them, read as the line
+pub line_reads : (bytes : List ℕ) (l : SpelledLine) → tokens_of bytes ≡ spell l → end_of bytes ≡ nothing → ReadsAs bytes l
+line_reads bytes l same is = subst (λ ts. Begins bytes ts []) same (reads_whole bytes is)
+
+-- bytes read as one line
+pub reads_one : (bytes : List ℕ) (l m : SpelledLine) → ReadsAs bytes l → ReadsAs bytes m → l ≡ m
+reads_one bytes l m a b = same_line l m (one_reading bytes (spell l) (spell m) a b)
+
+pub reads_proper : (bytes : List ℕ) (l : SpelledLine) → ReadsAs bytes l → AreProper (spell l)
+reads_proper bytes l reads = read_proper bytes [] (spell l) reads
+
+-- the tokens of bytes that read as a line are its tokens
+line_tokens : (bytes : List ℕ) (l : SpelledLine) → ReadsAs bytes l → tokens_of bytes ≡ spell l
+line_tokens bytes l reads =
+    let r = reaches bytes in
+    (begins_one (tokens_of bytes) (spell l) bytes r.rest [] r.begins (λ t more f. not_over (end_of bytes) r.over t more (sym r.stands ∙ f)) reads (λ t more f. absurd (never t more f))).0
   where
     never : (t : Tok) (more : List ℕ) → front [] ≡ token t more → ⊥
     never t more f = cc
 
--- what stands behind the tokens of a line and is no token is a fault
-pub broken_fault : (total : ℕ) (bytes : List ℕ) (ts : List Tok) (ks : List ℕ) (place : Option ℕ) (k : ℕ) (l : SpelledLine) → total ≡ length bytes → Cut total bytes ts ks place → place ≡ Some k
-    → ts ≡ spell l → SyntaxFault bytes k
-broken_fault total bytes ts ks place k l is cut some e =
-    rw some at (fault_at_end total bytes ts ks place is cut (l, [], sym e ∙ sym (append-nil ts), tt) (λ none. absurd (cc)))
+-- among them no token is at fault, nor stands a lexical fault behind them
+pub reads_no_stop : (bytes : List ℕ) (l : SpelledLine) (left : ℕ) → ReadsAs bytes l → FirstFault (tokens_of bytes) left → ⊥
+reads_no_stop bytes l left reads fault = line_no_fault l (tokens_of bytes) left (tokens_proper bytes) (sym (line_tokens bytes l reads)) fault
+
+pub reads_not_broken : (bytes : List ℕ) (l : SpelledLine) (place : ℕ) → ReadsAs bytes l → SyntaxFault bytes place → ⊥
+reads_not_broken bytes l place reads fault = reads_no_fault read_proper bytes l place reads fault
+
+-- a lexical fault behind the tokens of a line is the first fault
+pub broken_fault : (bytes : List ℕ) (l : SpelledLine) (from : List ℕ) (place : ℕ) → tokens_of bytes ≡ spell l → end_of bytes ≡ broken from → place + length from ≡ length bytes → SyntaxFault bytes place
+broken_fault bytes l from place same is at =
+    let r = reaches bytes in
+    record {
+      before = tokens_of bytes;
+      rest = r.rest;
+      left = length from;
+      begins = r.begins;
+      goes_on = (l, [], sym same ∙ sym (append-nil (tokens_of bytes)), tt);
+      fault = rw (r.stands ∙ is) refl;
+      place_is = at;
+    }

@@ -28,6 +28,7 @@ pub mod Grammar
 pub mod Fault
 pub mod RawView
 pub mod Machine
+pub mod Tokens
 pub mod Parsing
 pub mod Reading
 pub mod LineGrammar

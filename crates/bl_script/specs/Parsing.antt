@@ -3,41 +3,51 @@ use Rattle.std.specs.Prelude.{◌≡◌, ◌≢◌, ℕ, List, [], ◌∷◌, �
 use Rattle.bl_level.specs.declared.token.Keyword.{Keyword}
 use Rattle.bl_level.specs.declared.token.Keyword.TheVariants.{Hello, Wait, Give, Rescind, Current, Classify, When, Do, End, Show, Say, Add, Set, Copy, Pour, To, If, Then, Else, Spawn}
 use Rattle.bl_level.specs.declared.token.Sign.TheVariants.{Open}
-use Rattle.bl_level.specs.Token.{Tok, toks, reserved, name, text, sign}
+use Rattle.bl_level.specs.Token.{Tok, reserved, name, text, sign}
+use Rattle.bl_level.specs.Lexing.{Front}
+use Rattle.bl_level.specs.FrontView.{front_view}
 use Rattle.bl_script.specs.declared.parse.Cursor.{Cursor}
 use Rattle.bl_script.specs.declared.parse.First.{First}
 use Rattle.bl_script.specs.declared.parse.First.TheVariants as first
 use Rattle.bl_script.specs.declared.parse.Start.{Start}
 use Rattle.bl_script.specs.declared.parse.Start.TheVariants as start
 use Rattle.bl_script.specs.declared.stop.Stop.{Stop}
-use Rattle.bl_script.specs.declared.stop.Stop.TheVariants.{Memory, At}
+use Rattle.bl_script.specs.declared.stop.Stop.TheVariants.{Memory, At, Broken}
 use Rattle.bl_script.specs.declared.raw.RawStatement.{RawStatement}
 use Rattle.bl_script.specs.declared.raw.RawStatement.TheVariants as raw
-use Rattle.bl_script.specs.Fault.{FirstFault}
+use Rattle.bl_script.specs.Fault.{FirstFault, SyntaxFault}
 use Rattle.bl_script.specs.Grammar.{SpelledLine, hello, wait, when, rule}
 use Rattle.bl_script.specs.SpelledRules.{SpelledRule, give, rescind, current, classify}
 use Rattle.bl_script.specs.Machine.{Due, Stops, statement_due, if_due, when_due, word, a_name, a_text, a_body, rest_of_if}
 use Rattle.bl_script.specs.RawBodies.{raw_access}
 use Rattle.bl_script.specs.Spelled.{asks_word, spell_access, spell_more, spell_body}
+use Rattle.bl_script.specs.Tokens.{tokens_of, tokens_from, end_from}
 
 -- the tokens that are left
 abbrev pub left : Cursor → List Tok
-left c = toks c.rest.now
+left c = tokens_from (front_view c.front)
 
--- a fault is the first where these are due; of want of memory nothing is said
+-- what stands behind the tokens that are left: nothing, or a lexical fault
+abbrev pub ending : Cursor → Front
+ending c = end_from (front_view c.front)
+
+-- A fault is the first where these are due; of want of memory nothing is said. Before a line is over none tells what stands behind it.
 abbrev pub Faults : List Due → List Tok → Stop → Type 0
 Faults want tokens Memory = Unit {0}
 Faults want tokens (At left) = Stops want tokens left
+Faults want tokens (Broken place) = ⊥
 
 -- what is found is so, and a fault is the first where these are due
 abbrev pub Gives : {X : Type 0} → (X → Type 0) → List Due → List Tok → Result X Stop → Type 0
 Gives P want tokens (Ok x) = P x
 Gives P want tokens (Err e) = Faults want tokens e
 
--- a fault is the first of a line; of want of memory nothing is said
-abbrev pub IsFirstFault : List Tok → Stop → Type 0
-IsFirstFault tokens Memory = Unit {0}
-IsFirstFault tokens (At left) = FirstFault tokens left
+-- A fault is the first of these bytes, which are to be a line: the first of their tokens at fault, or the place of a lexical fault.
+-- Of want of memory nothing is said.
+abbrev pub IsFirstFault : List ℕ → Stop → Type 0
+IsFirstFault bytes Memory = Unit {0}
+IsFirstFault bytes (At left) = FirstFault (tokens_of bytes) left
+IsFirstFault bytes (Broken place) = SyntaxFault bytes place
 
 -- the next token is not this one
 abbrev pub IsNotAt : Tok → List Tok → Type 0

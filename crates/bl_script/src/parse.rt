@@ -1,11 +1,13 @@
-//! From tokens to a line, by recursive descent: a function for each part of the grammar. A token is looked at once, and
-//! once more where a part may be over.
-ghost use Rattle.std.specs.Prelude.{◌≡◌, ◌∷◌, ◌++◌, [], map, MatchResult, MatchOption, MatchBool, IfSome, length};
-ghost use Rattle.bl_level.specs.Token.{toks, reserved, name, text, sign};
+//! From bytes to a line, by recursive descent: a function for each part of the grammar. A token is cut from the bytes when
+//! the one before it is taken, so that none is kept. It is looked at once, and once more where a part may be over.
+ghost use Rattle.std.specs.Prelude.{◌≡◌, ◌<◌, ◌^◌, ◌∷◌, ◌++◌, [], map, MatchResult, MatchOption, MatchBool, IfSome, length};
+ghost use Rattle.bl_level.specs.Token.{reserved, name, text, sign};
 ghost use Rattle.bl_level.specs.declared.token.Keyword.TheVariants.{When, To, If, Then};
 ghost use Rattle.bl_level.specs.declared.token.Sign.TheVariants.{Comma};
 ghost use Rattle.bl_level.specs.LevelText.{spell_level, spell_categories};
 ghost use Rattle.bl_script.specs.Grammar.{spell};
+ghost use Rattle.bl_script.specs.Fault.{ReadsAs};
+ghost use Rattle.bl_script.specs.Tokens.{tokens_of, end_of};
 ghost use Rattle.bl_script.specs.Spelled.{mode_word, asks_word, spell_access, spell_more, spell_body, spell_when};
 ghost use Rattle.bl_script.specs.RawBodies.{raw_access};
 ghost use Rattle.bl_script.specs.RawRules.{raw_level, raw_names};
@@ -13,12 +15,13 @@ ghost use Rattle.bl_script.specs.SpelledRules.{letter_of};
 ghost use Rattle.bl_script.specs.RawView.{raw_view};
 ghost use Rattle.bl_script.specs.Machine.{word, a_name, a_text, a_sign, a_mode, is_or_has, more_accesses, a_body, rest_of_if, a_letter, rest_of_level, a_line, access_due, if_due, when_due, cell_due, level_due};
 ghost use Rattle.bl_script.specs.Machine as machine;
-ghost use Rattle.bl_script.specs.Parsing.{Gives, IsFirstFault, IsNotAt, BeginsNone, first_word, start_word, start_due, spell_statement, left, LevelEnds, LineEnds};
+ghost use Rattle.bl_script.specs.Parsing.{Gives, IsFirstFault, IsNotAt, BeginsNone, first_word, start_word, start_due, spell_statement, left, ending, LevelEnds, LineEnds};
 ghost use Rattle.bl_script.specs.declared.stop.Stop.TheVariants.{At};
 
 use crate::raw::{RawAccess, RawBody, RawLevel, RawLine, RawRight, RawRule, RawStatement};
 use crate::script::Condition;
 use crate::stop::Stop;
+use bl_level::lexer::{Front, next_token};
 use bl_level::token::{Keyword, Sign, Token};
 use bl_policy::access::Mode;
 use std::alloc::Global;
@@ -77,25 +80,65 @@ fn mode_of(letter: &[u8]) -> Option<Mode>
     }
 }
 
-/// The tokens that are left.
-#[derive(Drop)]
-struct Cursor<'t, 'a> {
-    rest: &'t [Token<'a>],
+/// How many tokens stand in bytes, up to the first lexical fault or the end.
+fn count_of(bytes: &[u8]) -> usize
+    ensures value { result ≡ length (tokens_of bytes.now) }
+    // One more can be counted.
+    ensures room { result < 2 ^ 63 }
+{
+    let mut count = 0;
+    let mut rest = bytes;
+    while let Front::Token(_, more) = next_token(rest) {
+        count += 1;
+        rest = more;
+    }
+    count
 }
 
-impl<'t, 'a> Cursor<'t, 'a> {
+/// The tokens that are left: what stands at the front, with the bytes behind it.
+#[derive(Drop)]
+struct Cursor<'a> {
+    front: Front<'a>,
+}
+
+impl<'a> Cursor<'a> {
+    /// All the tokens of these bytes are left.
+    fn new(bytes: &'a [u8]) -> Cursor<'a>
+        ensures left { left result ≡ tokens_of bytes.now }
+        ensures ending { ending result ≡ end_of bytes.now }
+    {
+        Cursor {
+            front: next_token(bytes),
+        }
+    }
+
+    /// Goes on to these bytes.
+    fn advance(&mut self, more: &'a [u8])
+        ensures left { left self.new ≡ tokens_of more.now }
+        ensures ending { ending self.new ≡ end_of more.now }
+    {
+        *self = Cursor::new(more);
+    }
+
+    /// The token at the front is at fault.
     fn stop<X>(&self) -> Result<X, Stop>
         ensures { result ≡ Err (At (length (left self.now))) }
     {
-        Err(Stop::At(self.rest.len()))
+        let left = match self.front {
+            Front::Token(_, more) => 1 + count_of(more),
+            Front::Nothing | Front::Broken(_) => 0,
+        };
+        Err(Stop::At(left))
     }
 
     fn key(&mut self, k: Keyword) -> Result<(), Stop>
-        ensures { Gives (λ _. left self.old ≡ reserved k ∷ left self.new) (word k ∷ []) (left self.old) result }
+        ensures gives { Gives (λ _. left self.old ≡ reserved k ∷ left self.new) (word k ∷ []) (left self.old) result }
+        ensures ending { ending self.new ≡ ending self.old }
     {
-        match self.rest {
-            [Token::Reserved(w), rest @ ..] if *w == k => {
-                self.rest = rest;
+        let front = self.front;
+        match front {
+            Front::Token(Token::Reserved(w), more) if w == k => {
+                self.advance(more);
                 Ok(())
             }
             _ => self.stop(),
@@ -103,11 +146,13 @@ impl<'t, 'a> Cursor<'t, 'a> {
     }
 
     fn sign(&mut self, s: Sign) -> Result<(), Stop>
-        ensures { Gives (λ _. left self.old ≡ sign s ∷ left self.new) (a_sign s ∷ []) (left self.old) result }
+        ensures gives { Gives (λ _. left self.old ≡ sign s ∷ left self.new) (a_sign s ∷ []) (left self.old) result }
+        ensures ending { ending self.new ≡ ending self.old }
     {
-        match self.rest {
-            [Token::Sign(t), rest @ ..] if *t == s => {
-                self.rest = rest;
+        let front = self.front;
+        match front {
+            Front::Token(Token::Sign(t), more) if t == s => {
+                self.advance(more);
                 Ok(())
             }
             _ => self.stop(),
@@ -115,11 +160,12 @@ impl<'t, 'a> Cursor<'t, 'a> {
     }
 
     fn name(&mut self) -> Result<&'a [u8], Stop>
-        ensures { Gives (λ n. left self.old ≡ name n.now ∷ left self.new) (a_name ∷ []) (left self.old) result }
+        ensures gives { Gives (λ n. left self.old ≡ name n.now ∷ left self.new) (a_name ∷ []) (left self.old) result }
+        ensures ending { ending self.new ≡ ending self.old }
     {
-        match self.rest {
-            [Token::Name(n), rest @ ..] => {
-                self.rest = rest;
+        match self.front {
+            Front::Token(Token::Name(n), more) => {
+                self.advance(more);
                 Ok(n)
             }
             _ => self.stop(),
@@ -127,11 +173,12 @@ impl<'t, 'a> Cursor<'t, 'a> {
     }
 
     fn text(&mut self) -> Result<&'a [u8], Stop>
-        ensures { Gives (λ x. left self.old ≡ text x.now ∷ left self.new) (a_text ∷ []) (left self.old) result }
+        ensures gives { Gives (λ x. left self.old ≡ text x.now ∷ left self.new) (a_text ∷ []) (left self.old) result }
+        ensures ending { ending self.new ≡ ending self.old }
     {
-        match self.rest {
-            [Token::Text(x), rest @ ..] => {
-                self.rest = rest;
+        match self.front {
+            Front::Token(Token::Text(x), more) => {
+                self.advance(more);
                 Ok(x)
             }
             _ => self.stop(),
@@ -139,26 +186,28 @@ impl<'t, 'a> Cursor<'t, 'a> {
     }
 
     fn mode(&mut self) -> Result<Mode, Stop>
-        ensures { Gives (λ m. left self.old ≡ reserved (mode_word m) ∷ left self.new) (a_mode ∷ []) (left self.old) result }
+        ensures gives { Gives (λ m. left self.old ≡ reserved (mode_word m) ∷ left self.new) (a_mode ∷ []) (left self.old) result }
+        ensures ending { ending self.new ≡ ending self.old }
     {
-        let mode = match self.rest {
-            [Token::Reserved(Keyword::Read), ..] => Mode::Read,
-            [Token::Reserved(Keyword::Append), ..] => Mode::Append,
-            [Token::Reserved(Keyword::Write), ..] => Mode::Write,
+        let (mode, more) = match self.front {
+            Front::Token(Token::Reserved(Keyword::Read), more) => (Mode::Read, more),
+            Front::Token(Token::Reserved(Keyword::Append), more) => (Mode::Append, more),
+            Front::Token(Token::Reserved(Keyword::Write), more) => (Mode::Write, more),
             _ => return self.stop(),
         };
-        self.rest = &self.rest[1..];
+        self.advance(more);
         Ok(mode)
     }
 
     /// `r`, `a` or `w`.
     fn letter(&mut self) -> Result<Mode, Stop>
-        ensures { Gives (λ m. left self.old ≡ name (letter_of m) ∷ left self.new) (a_letter ∷ []) (left self.old) result }
+        ensures gives { Gives (λ m. left self.old ≡ name (letter_of m) ∷ left self.new) (a_letter ∷ []) (left self.old) result }
+        ensures ending { ending self.new ≡ ending self.old }
     {
-        match self.rest {
-            [Token::Name(letter), rest @ ..] => match mode_of(letter) {
+        match self.front {
+            Front::Token(Token::Name(letter), more) => match mode_of(letter) {
                 Some(mode) => {
-                    self.rest = rest;
+                    self.advance(more);
                     Ok(mode)
                 }
                 None => self.stop(),
@@ -169,25 +218,28 @@ impl<'t, 'a> Cursor<'t, 'a> {
 
     /// `is` or `has`.
     fn condition(&mut self) -> Result<Condition, Stop>
-        ensures { Gives (λ c. left self.old ≡ reserved (asks_word c) ∷ left self.new) (is_or_has ∷ []) (left self.old) result }
+        ensures gives { Gives (λ c. left self.old ≡ reserved (asks_word c) ∷ left self.new) (is_or_has ∷ []) (left self.old) result }
+        ensures ending { ending self.new ≡ ending self.old }
     {
-        let condition = match self.rest {
-            [Token::Reserved(Keyword::Is), ..] => Condition::Is,
-            [Token::Reserved(Keyword::Has), ..] => Condition::Has,
+        let (condition, more) = match self.front {
+            Front::Token(Token::Reserved(Keyword::Is), more) => (Condition::Is, more),
+            Front::Token(Token::Reserved(Keyword::Has), more) => (Condition::Has, more),
             _ => return self.stop(),
         };
-        self.rest = &self.rest[1..];
+        self.advance(more);
         Ok(condition)
     }
 
     /// Takes this word where it is the next token.
     fn takes(&mut self, k: Keyword) -> bool
-        ensures { MatchBool result (left self.old ≡ reserved k ∷ left self.new)
+        ensures gives { MatchBool result (left self.old ≡ reserved k ∷ left self.new)
             ((left self.new ≡ left self.old) × IsNotAt (reserved k) (left self.old)) }
+        ensures ending { ending self.new ≡ ending self.old }
     {
-        match self.rest {
-            [Token::Reserved(w), rest @ ..] if *w == k => {
-                self.rest = rest;
+        let front = self.front;
+        match front {
+            Front::Token(Token::Reserved(w), more) if w == k => {
+                self.advance(more);
                 true
             }
             _ => false,
@@ -196,12 +248,14 @@ impl<'t, 'a> Cursor<'t, 'a> {
 
     /// Takes this sign where it is the next token.
     fn takes_sign(&mut self, s: Sign) -> bool
-        ensures { MatchBool result (left self.old ≡ sign s ∷ left self.new)
+        ensures gives { MatchBool result (left self.old ≡ sign s ∷ left self.new)
             ((left self.new ≡ left self.old) × IsNotAt (sign s) (left self.old)) }
+        ensures ending { ending self.new ≡ ending self.old }
     {
-        match self.rest {
-            [Token::Sign(found), rest @ ..] if *found == s => {
-                self.rest = rest;
+        let front = self.front;
+        match front {
+            Front::Token(Token::Sign(found), more) if found == s => {
+                self.advance(more);
                 true
             }
             _ => false,
@@ -210,52 +264,56 @@ impl<'t, 'a> Cursor<'t, 'a> {
 
     /// Takes a comma where it is the next token.
     fn takes_comma(&mut self) -> bool
-        ensures { MatchBool result (left self.old ≡ sign Comma ∷ left self.new)
+        ensures gives { MatchBool result (left self.old ≡ sign Comma ∷ left self.new)
             ((left self.new ≡ left self.old) × IsNotAt (sign Comma) (left self.old)) }
+        ensures ending { ending self.new ≡ ending self.old }
     {
         self.takes_sign(Sign::Comma)
     }
 
     /// Takes the word that begins a statement, where one is the next token.
     fn start(&mut self) -> Option<Start>
-        ensures { MatchOption result ((left self.new ≡ left self.old) × BeginsNone (left self.old))
+        ensures gives { MatchOption result ((left self.new ≡ left self.old) × BeginsNone (left self.old))
             (λ s. left self.old ≡ reserved (start_word s) ∷ left self.new) }
+        ensures ending { ending self.new ≡ ending self.old }
     {
-        let start = match self.rest {
-            [Token::Reserved(Keyword::Show), ..] => Start::Show,
-            [Token::Reserved(Keyword::Say), ..] => Start::Say,
-            [Token::Reserved(Keyword::Add), ..] => Start::Add,
-            [Token::Reserved(Keyword::Set), ..] => Start::Set,
-            [Token::Reserved(Keyword::Copy), ..] => Start::Copy,
-            [Token::Reserved(Keyword::Pour), ..] => Start::Pour,
-            [Token::Reserved(Keyword::If), ..] => Start::If,
-            [Token::Reserved(Keyword::Spawn), ..] => Start::Spawn,
+        let (start, more) = match self.front {
+            Front::Token(Token::Reserved(Keyword::Show), more) => (Start::Show, more),
+            Front::Token(Token::Reserved(Keyword::Say), more) => (Start::Say, more),
+            Front::Token(Token::Reserved(Keyword::Add), more) => (Start::Add, more),
+            Front::Token(Token::Reserved(Keyword::Set), more) => (Start::Set, more),
+            Front::Token(Token::Reserved(Keyword::Copy), more) => (Start::Copy, more),
+            Front::Token(Token::Reserved(Keyword::Pour), more) => (Start::Pour, more),
+            Front::Token(Token::Reserved(Keyword::If), more) => (Start::If, more),
+            Front::Token(Token::Reserved(Keyword::Spawn), more) => (Start::Spawn, more),
             _ => return None,
         };
-        self.rest = &self.rest[1..];
+        self.advance(more);
         Some(start)
     }
 
     /// Takes the word that begins a line.
     fn first(&mut self) -> Result<First, Stop>
-        ensures { Gives (λ f. left self.old ≡ reserved (first_word f) ∷ left self.new) (a_line ∷ []) (left self.old) result }
+        ensures gives { Gives (λ f. left self.old ≡ reserved (first_word f) ∷ left self.new) (a_line ∷ []) (left self.old) result }
+        ensures ending { ending self.new ≡ ending self.old }
     {
-        let first = match self.rest {
-            [Token::Reserved(Keyword::Hello), ..] => First::Hello,
-            [Token::Reserved(Keyword::Wait), ..] => First::Wait,
-            [Token::Reserved(Keyword::When), ..] => First::When,
-            [Token::Reserved(Keyword::Give), ..] => First::Give,
-            [Token::Reserved(Keyword::Rescind), ..] => First::Rescind,
-            [Token::Reserved(Keyword::Current), ..] => First::Current,
-            [Token::Reserved(Keyword::Classify), ..] => First::Classify,
+        let (first, more) = match self.front {
+            Front::Token(Token::Reserved(Keyword::Hello), more) => (First::Hello, more),
+            Front::Token(Token::Reserved(Keyword::Wait), more) => (First::Wait, more),
+            Front::Token(Token::Reserved(Keyword::When), more) => (First::When, more),
+            Front::Token(Token::Reserved(Keyword::Give), more) => (First::Give, more),
+            Front::Token(Token::Reserved(Keyword::Rescind), more) => (First::Rescind, more),
+            Front::Token(Token::Reserved(Keyword::Current), more) => (First::Current, more),
+            Front::Token(Token::Reserved(Keyword::Classify), more) => (First::Classify, more),
             _ => return self.stop(),
         };
-        self.rest = &self.rest[1..];
+        self.advance(more);
         Ok(first)
     }
 
     fn access(&mut self) -> Result<RawAccess<'a>, Stop>
-        ensures { Gives (λ a. left self.old ≡ spell_access (raw_access a) (left self.new)) (access_due []) (left self.old) result }
+        ensures gives { Gives (λ a. left self.old ≡ spell_access (raw_access a) (left self.new)) (access_due []) (left self.old) result }
+        ensures ending { ending self.new ≡ ending self.old }
     {
         let mode = self.mode()?;
         let document = self.name()?;
@@ -264,8 +322,9 @@ impl<'t, 'a> Cursor<'t, 'a> {
 
     /// Further accesses, each behind a comma, as many as there are.
     fn more_accesses(&mut self, alloc: Global) -> Result<Vec<RawAccess<'a>>, Stop>
-        ensures { Gives (λ more. (left self.old ≡ spell_more (map raw_access more.items) (left self.new)) × IsNotAt (sign Comma) (left self.new))
+        ensures gives { Gives (λ more. (left self.old ≡ spell_more (map raw_access more.items) (left self.new)) × IsNotAt (sign Comma) (left self.new))
             (more_accesses ∷ []) (left self.old) result }
+        ensures ending { ending self.new ≡ ending self.old }
     {
         let mut accesses = Vec::new(alloc);
         while self.takes_comma() {
@@ -277,7 +336,8 @@ impl<'t, 'a> Cursor<'t, 'a> {
 
     /// A document and a text.
     fn name_and_text(&mut self) -> Result<(&'a [u8], &'a [u8]), Stop>
-        ensures { Gives (λ both. left self.old ≡ name both.0.now ∷ text both.1.now ∷ left self.new) (a_name ∷ a_text ∷ []) (left self.old) result }
+        ensures gives { Gives (λ both. left self.old ≡ name both.0.now ∷ text both.1.now ∷ left self.new) (a_name ∷ a_text ∷ []) (left self.old) result }
+        ensures ending { ending self.new ≡ ending self.old }
     {
         let document = self.name()?;
         let text = self.text()?;
@@ -286,8 +346,9 @@ impl<'t, 'a> Cursor<'t, 'a> {
 
     /// A document, `to` and a document.
     fn from_and_to(&mut self) -> Result<(&'a [u8], &'a [u8]), Stop>
-        ensures { Gives (λ both. left self.old ≡ name both.0.now ∷ reserved To ∷ name both.1.now ∷ left self.new)
+        ensures gives { Gives (λ both. left self.old ≡ name both.0.now ∷ reserved To ∷ name both.1.now ∷ left self.new)
             (a_name ∷ word To ∷ a_name ∷ []) (left self.old) result }
+        ensures ending { ending self.new ≡ ending self.old }
     {
         let from = self.name()?;
         self.key(Keyword::To)?;
@@ -297,8 +358,9 @@ impl<'t, 'a> Cursor<'t, 'a> {
 
     /// An `if` behind its first word, up to its first body.
     fn test(&mut self) -> Result<Test<'a>, Stop>
-        ensures { Gives (λ t. left self.old ≡ name t.document.now ∷ reserved (asks_word t.test) ∷ text t.text.now ∷ reserved Then ∷ left self.new)
+        ensures gives { Gives (λ t. left self.old ≡ name t.document.now ∷ reserved (asks_word t.test) ∷ text t.text.now ∷ reserved Then ∷ left self.new)
             (if_due []) (left self.old) result }
+        ensures ending { ending self.new ≡ ending self.old }
     {
         let document = self.name()?;
         let test = self.condition()?;
@@ -314,8 +376,9 @@ impl<'t, 'a> Cursor<'t, 'a> {
     /// A statement behind its first word, up to its semicolon.
     #[cycle(parser)]
     fn statement(&mut self, alloc: Global, start: Start) -> Result<RawStatement<'a>, Stop>
-        ensures { Gives (λ s. reserved (start_word start) ∷ left self.old ≡ spell_statement s ++ left self.new)
+        ensures gives { Gives (λ s. reserved (start_word start) ∷ left self.old ≡ spell_statement s ++ left self.new)
             (start_due start) (left self.old) result }
+        ensures ending { ending self.new ≡ ending self.old }
     {
         match start {
             Start::Show => Ok(RawStatement::Show(self.name()?)),
@@ -348,8 +411,9 @@ impl<'t, 'a> Cursor<'t, 'a> {
     /// An `if` behind its first word.
     #[cycle(parser)]
     fn choice(&mut self, alloc: Global) -> Result<RawStatement<'a>, Stop>
-        ensures { Gives (λ s. reserved If ∷ left self.old ≡ spell_statement s ++ left self.new)
+        ensures gives { Gives (λ s. reserved If ∷ left self.old ≡ spell_statement s ++ left self.new)
             (if_due (a_body ∷ rest_of_if ∷ [])) (left self.old) result }
+        ensures ending { ending self.new ≡ ending self.old }
     {
         let Test {
             document,
@@ -381,8 +445,9 @@ impl<'t, 'a> Cursor<'t, 'a> {
     /// A behaviour behind its `when`.
     #[cycle(parser)]
     fn when(&mut self, alloc: Global) -> Result<Behaviour<'a>, Stop>
-        ensures { Gives (λ w. reserved When ∷ left self.old ≡ spell_when (raw_access w.first) (map raw_access w.more.items) w.body ++ left self.new)
+        ensures gives { Gives (λ w. reserved When ∷ left self.old ≡ spell_when (raw_access w.first) (map raw_access w.more.items) w.body ++ left self.new)
             (when_due []) (left self.old) result }
+        ensures ending { ending self.new ≡ ending self.old }
     {
         let first = self.access()?;
         let more = self.more_accesses(alloc)?;
@@ -395,7 +460,8 @@ impl<'t, 'a> Cursor<'t, 'a> {
     /// Statements, as many as there are.
     #[cycle(parser)]
     fn body(&mut self, alloc: Global) -> Result<RawBody<'a>, Stop>
-        ensures { Gives (λ b. (left self.old ≡ spell_body b ++ left self.new) × BeginsNone (left self.new)) (a_body ∷ []) (left self.old) result }
+        ensures gives { Gives (λ b. (left self.old ≡ spell_body b ++ left self.new) × BeginsNone (left self.new)) (a_body ∷ []) (left self.old) result }
+        ensures ending { ending self.new ≡ ending self.old }
     {
         let mut statements = Vec::new(alloc);
         while let Some(start) = self.start() {
@@ -408,8 +474,9 @@ impl<'t, 'a> Cursor<'t, 'a> {
 
     /// A subject, a document and a letter.
     fn right(&mut self) -> Result<RawRight<'a>, Stop>
-        ensures { Gives (λ r. left self.old ≡ name r.subject.now ∷ name r.document.now ∷ name (letter_of r.mode) ∷ left self.new)
+        ensures gives { Gives (λ r. left self.old ≡ name r.subject.now ∷ name r.document.now ∷ name (letter_of r.mode) ∷ left self.new)
             (cell_due []) (left self.old) result }
+        ensures ending { ending self.new ≡ ending self.old }
     {
         let subject = self.name()?;
         let document = self.name()?;
@@ -423,8 +490,9 @@ impl<'t, 'a> Cursor<'t, 'a> {
 
     /// Categories in braces, where there are any.
     fn categories(&mut self, alloc: Global) -> Result<Vec<&'a [u8]>, Stop>
-        ensures { Gives (λ cs. (left self.old ≡ spell_categories (raw_names cs.items) ++ left self.new) × LevelEnds (raw_names cs.items) (left self.new))
+        ensures gives { Gives (λ cs. (left self.old ≡ spell_categories (raw_names cs.items) ++ left self.new) × LevelEnds (raw_names cs.items) (left self.new))
             (rest_of_level ∷ []) (left self.old) result }
+        ensures ending { ending self.new ≡ ending self.old }
     {
         let mut categories = Vec::new(alloc);
         if !self.takes_sign(Sign::Open) {
@@ -440,8 +508,9 @@ impl<'t, 'a> Cursor<'t, 'a> {
 
     /// A level.
     fn level(&mut self, alloc: Global) -> Result<RawLevel<'a>, Stop>
-        ensures { Gives (λ l. (left self.old ≡ spell_level (raw_level l) ++ left self.new) × LevelEnds (raw_names l.categories.items) (left self.new))
+        ensures gives { Gives (λ l. (left self.old ≡ spell_level (raw_level l) ++ left self.new) × LevelEnds (raw_names l.categories.items) (left self.new))
             (level_due []) (left self.old) result }
+        ensures ending { ending self.new ≡ ending self.old }
     {
         let rank = self.name()?;
         let categories = self.categories(alloc)?;
@@ -450,7 +519,8 @@ impl<'t, 'a> Cursor<'t, 'a> {
 
     /// A line.
     fn line(&mut self, alloc: Global) -> Result<RawLine<'a>, Stop>
-        ensures { Gives (λ l. (left self.old ≡ spell (raw_view l) ++ left self.new) × LineEnds (raw_view l) (left self.new)) (a_line ∷ []) (left self.old) result }
+        ensures gives { Gives (λ l. (left self.old ≡ spell (raw_view l) ++ left self.new) × LineEnds (raw_view l) (left self.new)) (a_line ∷ []) (left self.old) result }
+        ensures ending { ending self.new ≡ ending self.old }
     {
         match self.first()? {
             First::Hello => Ok(RawLine::Hello(self.name()?)),
@@ -471,15 +541,15 @@ impl<'t, 'a> Cursor<'t, 'a> {
     }
 }
 
-/// The line that the tokens spell, with nothing behind it; or else the first fault from the left.
-pub fn parse_line<'a>(alloc: Global, tokens: &[Token<'a>]) -> Result<RawLine<'a>, Stop>
-    ensures { MatchResult result (λ l. toks tokens.now ≡ spell (raw_view l)) (λ e. IsFirstFault (toks tokens.now) e) }
+/// The line that the bytes spell, with nothing behind it; or else the first fault from the left.
+pub fn parse_line<'a>(alloc: Global, bytes: &'a [u8]) -> Result<RawLine<'a>, Stop>
+    ensures { MatchResult result (λ l. ReadsAs bytes.now (raw_view l)) (λ e. IsFirstFault bytes.now e) }
 {
-    let mut cursor = Cursor { rest: tokens };
+    let mut cursor = Cursor::new(bytes);
     let line = cursor.line(alloc)?;
-    if cursor.rest.is_empty() {
-        Ok(line)
-    } else {
-        cursor.stop()
+    match cursor.front {
+        Front::Nothing => Ok(line),
+        Front::Broken(from) => Err(Stop::Broken(bytes.len() - from.len())),
+        Front::Token(_, _) => cursor.stop(),
     }
 }

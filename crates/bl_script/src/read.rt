@@ -60,19 +60,17 @@ pub fn read_raw<'a>(alloc: Global, bytes: &'a [u8]) -> Result<RawLine<'a>, RawFa
     // Which fault it is.
     ensures fault { IfErr result (IsRawFault bytes.now) }
 {
-    let lexed = lex(alloc, bytes)?;
-    match parse_line(alloc, &lexed.tokens) {
-        Ok(line) => match lexed.broken {
-            None => {
-                canonical_is_shortest();
-                Ok(line)
-            }
-            Some(place) => Err(RawFault::Syntax(place)),
-        },
-        Err(stop) => match stop {
-            Stop::Memory => Err(RawFault::Memory),
-            Stop::At(left) => Err(RawFault::Syntax(place_of(&lexed, bytes.len(), left))),
-        },
+    match parse_line(alloc, bytes) {
+        Ok(line) => {
+            canonical_is_shortest();
+            Ok(line)
+        }
+        Err(Stop::Memory) => Err(RawFault::Memory),
+        Err(Stop::Broken(place)) => Err(RawFault::Syntax(place)),
+        Err(Stop::At(left)) => {
+            let lexed = lex(alloc, bytes)?;
+            Err(RawFault::Syntax(place_of(&lexed, bytes.len(), left)))
+        }
     }
 }
 

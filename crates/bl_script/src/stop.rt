@@ -1,16 +1,19 @@
-//! Where tokens stop being a line.
+//! Where bytes stop being a line.
 ghost use Rattle.std.specs.Prelude.{◌≡◌};
 ghost use Rattle.bl_script.specs.declared.stop.Stop.TheVariants.{Memory};
 
 use std::alloc::{AllocError, AllocFailed};
 
-/// Why tokens were not read as a line.
+/// Why bytes were not read as a line.
 #[derive(Clone, Copy, Debug, PartialEq, Eq)]
 pub enum Stop {
     /// A growth was refused.
     Memory,
-    /// The first fault from the left, by the number of tokens from it on: 0 where the line ends too early.
+    /// The first token that no line goes on with, by the number of tokens from it on: 0 where some line goes on with all of them
+    /// and none ends there.
     At(usize),
+    /// The lexical fault that stands behind the tokens of a line, by the number of bytes before its place.
+    Broken(usize),
 }
 
 impl From<AllocError> for Stop {

@@ -1,7 +1,7 @@
 use Rattle.std.proofs.Common.{◌≡◌, ◌++◌, ◌+◌, ◌*◌, length}
 use Rattle.bl_script.specs.Spelled.{spell_body}
 use Rattle.bl_script.specs.RawBodies.{raw_body}
-use Rattle.bl_script.specs.Parsing.{left}
+use Rattle.bl_script.specs.Parsing.{left, ending}
 use Rattle.bl_script.proofs.parse.Cursor.+parser.Given as goal
 
 abbrev pub decreases-body : goal.decreases-body
@@ -16,9 +16,12 @@ decreases-statement l = 3 * length (left l.self.now) + 1
 abbrev pub decreases-when : goal.decreases-when
 decreases-when l = 3 * length (left l.self.now)
 
--- what was taken are these statements
+-- what was taken are these statements, and what stands behind all tokens is the same
 abbrev pub invariant-body-loop-start : goal.invariant-body-loop-start
-invariant-body-loop-start l = left l.fn.self ≡ spell_body (raw_body l.statements.items) ++ left l.self
+invariant-body-loop-start l = record {
+  taken : left l.fn.self ≡ spell_body (raw_body l.statements.items) ++ left l.self;
+  ending : ending l.self ≡ ending l.fn.self;
+}
 
 abbrev pub decreases-body-loop-start : goal.decreases-body-loop-start
 decreases-body-loop-start l = length (left l.self)

@@ -1,12 +1,15 @@
-use Rattle.std.proofs.Common.{length}
+use Rattle.std.proofs.Common.{◌≡◌, length}
 use Rattle.bl_script.specs.RawRules.{raw_names}
-use Rattle.bl_script.specs.Parsing.{left}
+use Rattle.bl_script.specs.Parsing.{left, ending}
 use Rattle.bl_script.proofs.Categories.{Listed}
 use Rattle.bl_script.proofs.parse.Cursor.categories.Given as goal
 
--- what was taken are these categories, behind the opening brace
+-- what was taken are these categories, behind the opening brace, and what stands behind all tokens is the same
 abbrev pub invariant-loop-categories : goal.invariant-loop-categories
-invariant-loop-categories l = Listed (raw_names l.categories.items) (left l.fn.self) (left l.self)
+invariant-loop-categories l = record {
+  taken : Listed (raw_names l.categories.items) (left l.fn.self) (left l.self);
+  ending : ending l.self ≡ ending l.fn.self;
+}
 
 abbrev pub decreases-loop-categories : goal.decreases-loop-categories
 decreases-loop-categories l = length (left l.self)

@@ -4,10 +4,10 @@ use Rattle.bl_script.specs.Machine.{word}
 use Rattle.bl_script.proofs.Faults.{exits, behind_name, behind_word, first_due}
 use Rattle.bl_script.proofs.parse.Cursor.from_and_to.Goals as goal
 
-pub returns-in_err-key : goal.returns-in_err-key
-returns-in_err-key c =
-    exits _ _ _ _ _ c.from_residual-in_err-key.ensures.1 (behind_name _ _ _ _ _ c.in_ok-from.ensures (first_due (word To ∷ []) _ _ _ c.in_err-key.ensures))
+pub returns-in_err-key-clause-gives : goal.returns-in_err-key-clause-gives
+returns-in_err-key-clause-gives c =
+    exits _ _ _ _ _ c.from_residual-in_err-key.ensures.1 (behind_name _ _ _ _ _ c.in_ok-from.ensures.gives (first_due (word To ∷ []) _ _ _ c.in_err-key.ensures.gives))
 
-pub returns-in_err-to : goal.returns-in_err-to
-returns-in_err-to c =
-    exits _ _ _ _ _ c.from_residual-in_err-to.ensures.1 (behind_name _ _ _ _ _ c.in_ok-from.ensures (behind_word To _ _ _ _ c.in_ok-key.ensures c.in_err-to.ensures))
+pub returns-in_err-to-clause-gives : goal.returns-in_err-to-clause-gives
+returns-in_err-to-clause-gives c =
+    exits _ _ _ _ _ c.from_residual-in_err-to.ensures.1 (behind_name _ _ _ _ _ c.in_ok-from.ensures.gives (behind_word To _ _ _ _ c.in_ok-key.ensures.gives c.in_err-to.ensures.gives))

@@ -1,15 +1,17 @@
-use Rattle.std.proofs.Common.{[]}
+use Rattle.std.proofs.Common.{[], ◌∙◌}
 use Rattle.bl_script.specs.Machine.{access_due}
 use Rattle.bl_script.proofs.Faults.{exits, in_more, behind_comma, first_due}
 use Rattle.bl_script.proofs.Spellings.{more_pushed}
 use Rattle.bl_script.proofs.parse.Cursor.more_accesses.Goals as goal
 
-pub returns-in_err-access : goal.returns-in_err-access
-returns-in_err-access c =
+pub returns-in_err-access-clause-gives : goal.returns-in_err-access-clause-gives
+returns-in_err-access-clause-gives c =
     exits _ _ _ _ _ c.from_residual.ensures.1
-    (in_more [] _ _ _ _ c.loop-self.invariant (behind_comma [] _ _ _ c.loop-self-test.ensures (first_due (access_due []) _ _ _ c.in_err-access.ensures)))
+    (in_more [] _ _ _ _ c.loop-self.invariant.taken (behind_comma [] _ _ _ c.loop-self-test.ensures.gives (first_due (access_due []) _ _ _ c.in_err-access.ensures.gives)))
 
 pub loop-self-preserved : goal.loop-self-preserved
-loop-self-preserved c =
-    rw c.in_ok-push.ensures.items
-    (more_pushed c.loop-self.accesses.items c.in_ok-access.access _ _ _ _ c.loop-self.invariant c.loop-self-test.ensures c.in_ok-access.ensures)
+loop-self-preserved c = record {
+  taken = rw c.in_ok-push.ensures.items
+      (more_pushed c.loop-self.accesses.items c.in_ok-access.access _ _ _ _ c.loop-self.invariant.taken c.loop-self-test.ensures.gives c.in_ok-access.ensures.gives);
+  ending = c.in_ok-access.ensures.ending ∙ c.loop-self-test.ensures.ending ∙ c.loop-self.invariant.ending;
+}
