@@ -1,5 +1,5 @@
 -- What a monitor answers to the entries of the one session.
-use Rattle.std.proofs.Common.{◌≡◌, ℕ, zero, suc, ◌<◌, ◌≤◌, Bool, true, false, cond, ◌&&◌, ◌==◌, List, [], ◌∷◌, ◌++◌, map, length, take, drop, refl, sym, ap, subst, ◌∙◌, arith, inl, inr, ◌⊎◌, slice_index_or, nat_lt, Some, None, min, length-append}
+use Rattle.std.proofs.Common.{◌≡◌, ℕ, zero, suc, ◌+◌, ◌<◌, ◌≤◌, Bool, true, false, cond, ◌&&◌, ◌==◌, List, [], ◌∷◌, ◌++◌, map, length, take, drop, refl, sym, ap, subst, ◌∙◌, arith, inl, inr, ◌⊎◌, slice_index_or, nat_lt, Some, None, min, length-append}
 use mathlib.Core.Path.{fun_ext}
 use Rattle.std.proofs.Math.ListN.{get_or-append, take-append-drop, length-take}
 use Rattle.std.proofs.Math.Seq.{take-suc}
@@ -75,10 +75,10 @@ get_false [] (suc n) none = refl
 get_false (b ∷ l) zero none = none zero
 get_false (b ∷ l) (suc n) none = get_false l n (λ k. none (suc k))
 
-module _ (setup : Setup) (h : Heard) (order : List Entry) (answers : List Answer) (are : AreAnswered setup h order answers) (o : Origin) (ordinal : ℕ)
-    (more : length answers < length order) (at : slice_index_or order (length answers) no_entry ≡ entry_from o ordinal) where
+module _ (setup : Setup) (h : Heard) (order : List Entry) (from : ℕ) (answers : List Answer) (are : AreAnswered setup h order from answers) (o : Origin) (ordinal : ℕ)
+    (more : from + length answers < length order) (at : slice_index_or order (from + length answers) no_entry ≡ entry_from o ordinal) where
   abbrev m : ℕ
-  m = length answers
+  m = from + length answers
 
   abbrev next : Heard
   next = with_entry h (told_of o)
@@ -104,33 +104,38 @@ module _ (setup : Setup) (h : Heard) (order : List Entry) (answers : List Answer
   next_said = heard-said setup next order (suc m) m are.setup_is next_order next_kept more (omega arith)
 
   -- one entry more is answered
-  pub answered_more : (answer : Answer) → answer ≡ answer_at next (length h.order) → KnowsAnswer setup answer → AreAnswered setup next order (answers ++ answer ∷ [])
+  pub answered_more : (answer : Answer) → answer ≡ answer_at next (length h.order) → KnowsAnswer setup answer → AreAnswered setup next order from (answers ++ answer ∷ [])
   answered_more answer is known = record {
     setup_is = are.setup_is;
-    told = next_order ∙ ap (λ k. map unnamed (take k order)) (sym (long answers answer));
+    told = next_order ∙ ap (λ k. map unnamed (take k order)) (sym (long_from answer));
     kept = next_kept;
-    are = λ n d lt. here n d lt (eqb_tells n m);
-    known = λ n d lt. knows n d lt (eqb_tells n m);
-    few = let e : length (answers ++ answer ∷ []) ≡ suc m = long answers answer in omega (arith, e, more);
+    are = λ n d lt. here n d lt (eqb_tells n (length answers));
+    known = λ n d lt. knows n d lt (eqb_tells n (length answers));
+    few = omega (arith, long_from answer, more);
   }
     where
       long : (l : List Answer) (a : Answer) → length (l ++ a ∷ []) ≡ suc (length l)
       long [] a = refl
       long (x ∷ l) a = ap suc (long l a)
 
-      here : (n : ℕ) (d : Answer) → n < length (answers ++ answer ∷ []) → (((n == m) ≡ true) × (n ≡ m)) ⊎ (((n == m) ≡ false) × (n ≡ m → ⊥))
-          → slice_index_or (answers ++ answer ∷ []) n d ≡ (said setup order n).answer
+      long_from : (a : Answer) → from + length (answers ++ a ∷ []) ≡ suc m
+      long_from a = let e : length (answers ++ a ∷ []) ≡ suc (length answers) = long answers a in omega (arith, e)
+
+      here : (n : ℕ) (d : Answer) → n < length (answers ++ answer ∷ [])
+          → (((n == length answers) ≡ true) × (n ≡ length answers)) ⊎ (((n == length answers) ≡ false) × (n ≡ length answers → ⊥))
+          → slice_index_or (answers ++ answer ∷ []) n d ≡ (said setup order (from + n)).answer
       here n d lt (inl t) =
-          get_or_push answers answer d n (sym t.1) ∙ is ∙ ap (λ k. answer_at next k) told_length ∙ ap (λ (p : Past). p.answer) next_said ∙ ap (λ k. (said setup order k).answer) (sym t.1)
+          get_or_push answers answer d n (sym t.1) ∙ is ∙ ap (λ k. answer_at next k) told_length ∙ ap (λ (p : Past). p.answer) next_said ∙ ap (λ k. (said setup order (from + k)).answer) (sym t.1)
       here n d lt (inr t) =
-          let before : n < m = omega (arith, lt, long answers answer, t.1) in
+          let before : n < length answers = omega (arith, lt, long answers answer, t.1) in
           get_or-append answers (answer ∷ []) d n before ∙ are.are n d before
 
-      knows : (n : ℕ) (d : Answer) → n < length (answers ++ answer ∷ []) → (((n == m) ≡ true) × (n ≡ m)) ⊎ (((n == m) ≡ false) × (n ≡ m → ⊥))
+      knows : (n : ℕ) (d : Answer) → n < length (answers ++ answer ∷ [])
+          → (((n == length answers) ≡ true) × (n ≡ length answers)) ⊎ (((n == length answers) ≡ false) × (n ≡ length answers → ⊥))
           → KnowsAnswer setup (slice_index_or (answers ++ answer ∷ []) n d)
       knows n d lt (inl t) = subst (KnowsAnswer setup) (sym (get_or_push answers answer d n (sym t.1))) known
       knows n d lt (inr t) =
-          let before : n < m = omega (arith, lt, long answers answer, t.1) in
+          let before : n < length answers = omega (arith, lt, long answers answer, t.1) in
           subst (KnowsAnswer setup) (sym (get_or-append answers (answer ∷ []) d n before)) (are.known n d before)
 
   -- the number of its children
@@ -147,12 +152,13 @@ module _ (setup : Setup) (h : Heard) (order : List Entry) (answers : List Answer
           long (x ∷ l) a = ap suc (long l a)
 
 -- where the order grows the answers stay
-pub answered_grown : (setup : Setup) (h : Heard) (order more : List Entry) (answers : List Answer) → AreAnswered setup h order answers → AreAnswered setup h (order ++ more) answers
-answered_grown setup h order more answers are = record {
+pub answered_grown : (setup : Setup) (h : Heard) (order more : List Entry) (from : ℕ) (answers : List Answer) → AreAnswered setup h order from answers
+    → AreAnswered setup h (order ++ more) from answers
+answered_grown setup h order more from answers are = record {
   setup_is = are.setup_is;
-  told = are.told ∙ ap (map unnamed) (sym (take_front order more (length answers) are.few));
+  told = are.told ∙ ap (map unnamed) (sym (take_front order more (from + length answers) are.few));
   kept = are.kept;
-  are = λ n d lt. are.are n d lt ∙ ap (λ (p : Past). p.answer) (sym (said-grown setup order more n (omega (arith, lt, are.few))));
+  are = λ n d lt. are.are n d lt ∙ ap (λ (p : Past). p.answer) (sym (said-grown setup order more (from + n) (omega (arith, lt, are.few))));
   known = are.known;
   few = omega (arith, are.few, length-append order more);
 }
@@ -161,3 +167,17 @@ answered_grown setup h order more answers are = record {
     take_front A B zero le = refl
     take_front [] B (suc m) le = absurd (omega arith)
     take_front (x ∷ A) B (suc m) le = ap (λ l. x ∷ l) (take_front A B m (omega arith))
+
+-- where all places before one are answered, and no answer is kept, they are answered from that place on
+pub answered_let_go : (setup : Setup) (h : Heard) (order : List Entry) (from ended : ℕ) (answers : List Answer) → AreAnswered setup h order from answers
+    → ended ≡ from + length answers → AreAnswered setup h order ended []
+answered_let_go setup h order from ended answers are all =
+    let same : from + length answers ≡ ended + length {A = Answer} [] = omega (arith, all) in
+    record {
+      setup_is = are.setup_is;
+      told = are.told ∙ ap (λ k. map unnamed (take k order)) same;
+      kept = are.kept;
+      are = λ n d lt. absurd (omega (arith, lt));
+      known = λ n d lt. absurd (omega (arith, lt));
+      few = omega (arith, are.few, same);
+    }

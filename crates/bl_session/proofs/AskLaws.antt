@@ -77,8 +77,8 @@ module _ (setup : Setup) (limit : ℕ) (s : Pages) (n : ℕ) (w : IsWhole setup 
     known = subst (AreKnown setup) (sym is)
         (each_more old new (λ p e. KnowsOrigin setup e.origin) w.known
         (subst (KnowsOrigin setup) (sym from) (subst (λ (o : Option ℕ). IfSome o (λ k. k < length setup.policy.subjects)) speaks w.subject, knows)));
-    answered = subst (λ o. AreAnswered setup s.monitor o s.answers.items) (sym asked_order)
-        (answered_grown setup s.monitor (order_of old) (Line 0 ordinal subject work ∷ []) s.answers.items w.answered);
+    answered = subst (λ o. AreAnswered setup s.monitor o s.first s.answers.items) (sym asked_order)
+        (answered_grown setup s.monitor (order_of old) (Line 0 ordinal subject work ∷ []) s.first s.answers.items w.answered);
     ended = w.ended;
     room = omega (arith, ap length is, longer_by_one old new, room);
     weight = heavier ∙ ap (λ k. k + weight_of work) w.weight ∙ sym asked_sum;

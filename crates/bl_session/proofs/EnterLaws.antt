@@ -72,39 +72,39 @@ no_kids : (b : Bool) (k : ℕ) → None ≡ cond b (Some k) None → b ≡ false
 no_kids true k is = cc
 no_kids false k is = refl
 
-module _ (h : Heard) (old : List Entered) (answers : List Answer) (are : AreAnswered h.setup h (order_of old) answers) (x : Entered)
-    (more : length answers < length old) (at : x ≡ slice_index_or old (length answers) x) where
-  inside : length answers < length (order_of old)
+module _ (h : Heard) (old : List Entered) (from : ℕ) (answers : List Answer) (are : AreAnswered h.setup h (order_of old) from answers) (x : Entered)
+    (more : from + length answers < length old) (at : x ≡ slice_index_or old (from + length answers) x) where
+  inside : from + length answers < length (order_of old)
   inside = omega (arith, more, length-order old)
 
-  here : slice_index_or (order_of old) (length answers) no_entry ≡ entry_from x.origin x.ordinal
-  here = order-at old (length answers) x more ∙ ap entry_of (sym at)
+  here : slice_index_or (order_of old) (from + length answers) no_entry ≡ entry_from x.origin x.ordinal
+  here = order-at old (from + length answers) x more ∙ ap entry_of (sym at)
 
   pub next_answered : (next : Heard) (answer : Answer) → next ≡ with_entry h (told_of x.origin) → answer ≡ answer_at next (length h.order) → KnowsAnswer h.setup answer
-      → AreAnswered next.setup next (order_of old) (answers ++ answer ∷ [])
+      → AreAnswered next.setup next (order_of old) from (answers ++ answer ∷ [])
   next_answered next answer is by known =
-      subst (λ (k : Heard). AreAnswered k.setup k (order_of old) (answers ++ answer ∷ [])) (sym is)
-      (answered_more h.setup h (order_of old) answers are x.origin x.ordinal inside here answer (by ∙ ap (λ (k : Heard). answer_at k (length h.order)) is) known)
+      subst (λ (k : Heard). AreAnswered k.setup k (order_of old) from (answers ++ answer ∷ [])) (sym is)
+      (answered_more h.setup h (order_of old) from answers are x.origin x.ordinal inside here answer (by ∙ ap (λ (k : Heard). answer_at k (length h.order)) is) known)
 
   told_kids : (next : Heard) → next ≡ with_entry h (told_of x.origin)
-      → children_of next (length answers) ≡ cond (is_done (said h.setup (order_of old) (length answers)).answer) (Some (length (children (said h.setup (order_of old) (length answers)).effects))) None
-  told_kids next is = ap (λ (k : Heard). children_of k (length answers)) is ∙ children_told h.setup h (order_of old) answers are x.origin x.ordinal inside here
+      → children_of next (from + length answers) ≡ cond (is_done (said h.setup (order_of old) (from + length answers)).answer) (Some (length (children (said h.setup (order_of old) (from + length answers)).effects))) None
+  told_kids next is = ap (λ (k : Heard). children_of k (from + length answers)) is ∙ children_told h.setup h (order_of old) from answers are x.origin x.ordinal inside here
 
-  pub next_some : (next : Heard) (n : ℕ) → next ≡ with_entry h (told_of x.origin) → Some n ≡ children_of next (length answers)
-      → n ≡ length (children (said h.setup (order_of old) (length answers)).effects)
-  next_some next n is some = some_kids (is_done (said h.setup (order_of old) (length answers)).answer) n _ (some ∙ told_kids next is)
+  pub next_some : (next : Heard) (n : ℕ) → next ≡ with_entry h (told_of x.origin) → Some n ≡ children_of next (from + length answers)
+      → n ≡ length (children (said h.setup (order_of old) (from + length answers)).effects)
+  next_some next n is some = some_kids (is_done (said h.setup (order_of old) (from + length answers)).answer) n _ (some ∙ told_kids next is)
 
-  pub next_none : (next : Heard) → next ≡ with_entry h (told_of x.origin) → None ≡ children_of next (length answers)
-      → 0 ≡ length (children (said h.setup (order_of old) (length answers)).effects)
+  pub next_none : (next : Heard) → next ≡ with_entry h (told_of x.origin) → None ≡ children_of next (from + length answers)
+      → 0 ≡ length (children (said h.setup (order_of old) (from + length answers)).effects)
   next_none next is none =
-      let no : is_done (said h.setup (order_of old) (length answers)).answer ≡ false = no_kids (is_done (said h.setup (order_of old) (length answers)).answer) _ (none ∙ told_kids next is) in
-      sym (ap length (no_children h.setup (order_of old) (length answers) no))
+      let no : is_done (said h.setup (order_of old) (from + length answers)).answer ≡ false = no_kids (is_done (said h.setup (order_of old) (from + length answers)).answer) _ (none ∙ told_kids next is) in
+      sym (ap length (no_children h.setup (order_of old) (from + length answers) no))
 
 -- where children enter the answers stay
-pub answered_entered : (setup : Setup) (h : Heard) (parent n : ℕ) (old now : List Entered) (answers : List Answer) → HasEntered parent n old now
-    → AreAnswered setup h (order_of old) answers → AreAnswered setup h (order_of now) answers
-answered_entered setup h parent n old now answers grown are =
-    subst (λ o. AreAnswered setup h o answers) (sym grown.order) (answered_grown setup h (order_of old) (first_children parent n) answers are)
+pub answered_entered : (setup : Setup) (h : Heard) (parent n : ℕ) (old now : List Entered) (from : ℕ) (answers : List Answer) → HasEntered parent n old now
+    → AreAnswered setup h (order_of old) from answers → AreAnswered setup h (order_of now) from answers
+answered_entered setup h parent n old now from answers grown are =
+    subst (λ o. AreAnswered setup h o from answers) (sym grown.order) (answered_grown setup h (order_of old) (first_children parent n) from answers are)
 
 -- one place more has run
 pub run_more : (setup : Setup) (limit : ℕ) (A : List Entry) (e m : ℕ) (old now : List Entered) → m < length old → m < limit → HasRun setup limit A e (order_of old) m

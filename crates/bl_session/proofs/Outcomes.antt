@@ -22,6 +22,10 @@ pub if_ok-map : {A E : Type 0} (r : Result A E) {P Q : A → Type 0} → ((a : A
 if_ok-map (Ok x) f p = f x p
 if_ok-map (Err e) f p = tt
 
+pub if_ok-both : {A E : Type 0} (r : Result A E) {P Q S : A → Type 0} → ((a : A) → P a → Q a → S a) → IfOk r P → IfOk r Q → IfOk r S
+if_ok-both (Ok x) f p q = f x p q
+if_ok-both (Err e) f p q = tt
+
 -- what is added is added still under another name of it
 pub said_full : {A E : Type 0} (r : Result A E) (new old text said : List ℕ) → text ≡ said → OnOk r (new ≡ old ++ text) → OnOk r (new ≡ old ++ said)
 said_full (Ok x) new old text said is added = added ∙ ap (λ l. old ++ l) is

@@ -18,10 +18,10 @@ use Rattle.bl_session.specs.declared.block.Block.{Block}
 use Rattle.bl_session.specs.Texts.{refusal}
 use Rattle.bl_session.specs.Named.{NamesAnswer}
 use Rattle.bl_session.specs.Replies.{Reply, Tag, tag, reply_text, replies_to, line_or_full}
-use Rattle.bl_session.specs.Orders.{reply_at, at_rest, told_text, ordinal_of, AreLater}
+use Rattle.bl_session.specs.Orders.{said, reply_at, at_rest, told_text, ordinal_of, AreLater}
 use Rattle.bl_session.specs.Entries.{order_of, StandsBelow}
 use Rattle.bl_session.specs.Whole.{IsWhole}
-use Rattle.bl_session.specs.Blocks.{IsBlock, AreKin, NoLine, Gives}
+use Rattle.bl_session.specs.Blocks.{IsBlock, AreKin, NoLine, Gives, IsLastBlock}
 use Rattle.bl_session.proofs.OrderLaws.{replies-other}
 use Rattle.bl_session.proofs.EntryLaws.{length-order}
 
@@ -62,10 +62,11 @@ pub member : {A : Type 0} (l : List A) (p : ℕ) → p < length l → A
 member [] p lt = absurd (omega arith)
 member (x ∷ l) p lt = x
 
--- the place of a line of the block that has the ordinal
-pub record Placed (entries : List Entered) (answers : List Answer) (block : Block) (ordinal place : ℕ) : Type 0 where
+-- the place of a line of the block that has the ordinal, and of its answer among those from the place `first` on
+pub record Placed (entries : List Entered) (first : ℕ) (answers : List Answer) (block : Block) (ordinal place : ℕ) : Type 0 where
   pub there : place < length entries
-  pub answered : place < length answers
+  pub kept : first ≤ place
+  pub answered : place - first < length answers
   pub has : (d : Entered) → (slice_index_or entries place d).ordinal ≡ ordinal
   pub at : block.first + (place - block.first) ≡ place
   pub inside : place - block.first < length block.kin.items
@@ -78,35 +79,38 @@ module _ (setup : Setup) (limit : ℕ) (s : Pages) (n m ordinal : ℕ) (w : IsWh
   numbered p d lt = ap ordinal_of (w.labelled.tags p d lt)
 
   -- a place below the line of an ordinal that stands is answered
-  pub is_answered : (p : ℕ) (d : Entered) → p < length entries → (slice_index_or entries p d).ordinal ≡ ordinal → p < length s.answers.items
-  is_answered p d lt is = go (nat_lt p s.ended) refl
+  pub is_answered : (p : ℕ) (d : Entered) → s.first ≤ p → p < length entries → (slice_index_or entries p d).ordinal ≡ ordinal → p - s.first < length s.answers.items
+  is_answered p d low lt is = go (nat_lt p s.ended) refl
     where
       at_least : nat_lt p s.ended ≡ false → s.ended ≤ p
       at_least e = grind (arith, nat_tests)
 
-      go : (b : Bool) → nat_lt p s.ended ≡ b → p < length s.answers.items
-      go true e = omega (arith, ltb-true p s.ended e, w.ended)
+      go : (b : Bool) → nat_lt p s.ended ≡ b → p - s.first < length s.answers.items
+      go true e = omega (arith, ltb-true p s.ended e, w.ended, low)
       go false e =
           let late : m < ordinal_of (tag (order_of entries) p) = later p (at_least e) (omega (arith, lt, length-order entries)) in
           absurd (omega (arith, late, numbered p d lt, is, le))
 
-  -- the reply of a place that is answered
-  pub reply_said : (p : ℕ) (x : Entered) (a : Answer) → p < length s.answers.items → x ≡ slice_index_or entries p x → a ≡ slice_index_or s.answers.items p a
+  -- the reply of a place whose answer is kept
+  pub reply_said : (p : ℕ) (x : Entered) (a : Answer) → s.first ≤ p → p - s.first < length s.answers.items → x ≡ slice_index_or entries p x → a ≡ slice_index_or s.answers.items (p - s.first) a
       → record { label = x.ordinal ∷ x.path.items; answer = a } ≡ reply_at setup (order_of entries) p
-  reply_said p x a lt x_is a_is =
-      let there : p < length entries = omega (arith, lt, w.answered.few, length-order entries) in
+  reply_said p x a low lt x_is a_is =
+      let there : p < length entries = omega (arith, low, lt, w.answered.few, length-order entries) in
       let labels : x.ordinal ∷ x.path.items ≡ (tag (order_of entries) p).label = ap (λ (e : Entered). e.ordinal ∷ e.path.items) x_is ∙ ap (λ (t : Tag). t.label) (sym (w.labelled.tags p x there)) in
-      λ i. record { label = labels i; answer = (a_is ∙ w.answered.are p a lt) i }
+      let at : s.first + (p - s.first) ≡ p = omega (arith, low) in
+      let says : a ≡ (said setup (order_of entries) p).answer = a_is ∙ w.answered.are (p - s.first) a lt ∙ ap (λ k. (said setup (order_of entries) k).answer) at in
+      λ i. record { label = labels i; answer = says i }
 
-  pub text_said : (names : KnownNames) → names ≡ setup.names → (p : ℕ) (x : Entered) (a : Answer) → p < length s.answers.items → x ≡ slice_index_or entries p x → a ≡ slice_index_or s.answers.items p a
+  pub text_said : (names : KnownNames) → names ≡ setup.names → (p : ℕ) (x : Entered) (a : Answer) → s.first ≤ p → p - s.first < length s.answers.items
+      → x ≡ slice_index_or entries p x → a ≡ slice_index_or s.answers.items (p - s.first) a
       → reply_text names (record { label = x.ordinal ∷ x.path.items; answer = a }) ≡ reply_text setup.names (reply_at setup (order_of entries) p)
-  text_said names same p x a lt x_is a_is =
-      ap (λ (k : KnownNames). reply_text k (record { label = x.ordinal ∷ x.path.items; answer = a })) same ∙ ap (reply_text setup.names) (reply_said p x a lt x_is a_is)
+  text_said names same p x a low lt x_is a_is =
+      ap (λ (k : KnownNames). reply_text k (record { label = x.ordinal ∷ x.path.items; answer = a })) same ∙ ap (reply_text setup.names) (reply_said p x a low lt x_is a_is)
 
-  pub names_known : (names : KnownNames) → names ≡ setup.names → (p : ℕ) (a : Answer) → p < length s.answers.items → a ≡ slice_index_or s.answers.items p a → NamesAnswer names a
-  names_known names same p a lt is =
-      subst (λ (k : KnownNames). NamesAnswer k a) (sym same)
-      (subst (NamesAnswer setup.names) (sym is) (names_answer setup w.agree (slice_index_or s.answers.items p a) (w.answered.known p a lt)))
+  pub names_known : (names : KnownNames) → names ≡ setup.names → (k : ℕ) (a : Answer) → k < length s.answers.items → a ≡ slice_index_or s.answers.items k a → NamesAnswer names a
+  names_known names same k a lt is =
+      subst (λ (l : KnownNames). NamesAnswer l a) (sym same)
+      (subst (NamesAnswer setup.names) (sym is) (names_answer setup w.agree (slice_index_or s.answers.items k a) (w.answered.known k a lt)))
 
   pub found_text : (first i : ℕ) (v : Vec ℕ Global) (d : Entered) (kin : List (Vec ℕ Global)) → AreKin setup entries first (length entries) kin → i < length kin
       → (slice_index_or entries (first + i) d).ordinal ≡ ordinal
@@ -118,35 +122,40 @@ module _ (setup : Setup) (limit : ℕ) (s : Pages) (n m ordinal : ℕ) (w : IsWh
       ∙ ap (replies_to (at_rest setup (order_of entries)) 0 ordinal) (sym (length-order entries)))
 
   -- the line that was found
-  pub placed : (es : List Entered) → es ≡ entries → (block : Block) (next k : ℕ) → Gives setup entries block k → block.next ≤ next → (place : ℕ)
-      → (place ≡ next) × (place < block.first + length block.kin.items) × ((d : Entered) → (slice_index_or es place d).ordinal ≡ ordinal) → Placed entries s.answers.items block ordinal place
-  placed es same block next k g from place found =
+  pub placed : (es : List Entered) → es ≡ entries → (block : Block) (next k : ℕ) → IsLastBlock setup s block k → block.next ≤ next → (place : ℕ)
+      → (place ≡ next) × (place < block.first + length block.kin.items) × ((d : Entered) → (slice_index_or es place d).ordinal ≡ ordinal) → Placed entries s.first s.answers.items block ordinal place
+  placed es same block next k last from place found =
+      let g : Gives setup entries block k = last.gives in
       let there : place < length entries = omega (arith, found.1, g.block_is.within) in
       let has : (d : Entered) → (slice_index_or entries place d).ordinal ≡ ordinal = λ d. ap (λ (l : List Entered). (slice_index_or l place d).ordinal) (sym same) ∙ found.2 d in
       let d : Entered = member entries place there in
+      let kept : s.first ≤ place = omega (arith, found.0, from, g.from, last.first) in
       record {
         there = there;
-        answered = is_answered place d there (has d);
+        kept = kept;
+        answered = is_answered place d kept there (has d);
         has = has;
         at = omega (arith, found.0, from, g.from);
         inside = omega (arith, found.1, found.0, from, g.from);
       }
 
   -- the descendants of a line have its ordinal
-  pub kin_placed : (block : Block) (k place : ℕ) → Gives setup entries block k → Placed entries s.answers.items block ordinal place
+  pub kin_placed : (block : Block) (k place : ℕ) → IsLastBlock setup s block k → Placed entries s.first s.answers.items block ordinal place
       → (l : List ℕ) → ((v : Vec ℕ Global) → l ≡ (slice_index_or block.kin.items (place - block.first) v).items)
-      → (i e : ℕ) → i < length l → (slice_index_or l i e < length entries) × (slice_index_or l i e < length s.answers.items)
-  kin_placed block k place g p l is i e lt =
+      → (i e : ℕ) → i < length l → (slice_index_or l i e < length entries) × (s.first ≤ slice_index_or l i e) × (slice_index_or l i e - s.first < length s.answers.items)
+  kin_placed block k place last p l is i e lt =
+      let g : Gives setup entries block k = last.gives in
       let v : Vec ℕ Global = member block.kin.items (place - block.first) p.inside in
       let h : (slice_index_or l i e < length entries) × ((d : Entered) → (slice_index_or entries (slice_index_or l i e) d).line ≡ block.first + (place - block.first)) =
       subst (λ (m : List ℕ). (slice_index_or m i e < length entries) × ((d : Entered) → (slice_index_or entries (slice_index_or m i e) d).line ≡ block.first + (place - block.first))) (sym (is v))
       (g.kin.there (place - block.first) v p.inside i e (omega (arith, lt, ap length (is v)))) in
       let d : Entered = member entries (slice_index_or l i e) h.0 in
       let b : StandsBelow entries (slice_index_or l i e) (slice_index_or entries (slice_index_or l i e) d) = w.labelled.below (slice_index_or l i e) d h.0 in
-      (h.0, is_answered (slice_index_or l i e) d h.0 (sym (b.same d) ∙ ap (λ q. (slice_index_or entries q d).ordinal) (h.1 d ∙ p.at) ∙ p.has d))
+      let low : s.first ≤ slice_index_or l i e = omega (arith, p.kept, p.at, h.1 d, b.behind) in
+      (h.0, low, is_answered (slice_index_or l i e) d low h.0 (sym (b.same d) ∙ ap (λ q. (slice_index_or entries q d).ordinal) (h.1 d ∙ p.at) ∙ p.has d))
 
   -- where all replies to the line have been added
-  pub all_text : (block : Block) (k place : ℕ) → Gives setup entries block k → Placed entries s.answers.items block ordinal place
+  pub all_text : (block : Block) (k place : ℕ) → Gives setup entries block k → Placed entries s.first s.answers.items block ordinal place
       → (l : List ℕ) → ((v : Vec ℕ Global) → l ≡ (slice_index_or block.kin.items (place - block.first) v).items) → (n : ℕ) → length l ≤ n
       → flat_map (reply_text setup.names) (map (reply_at setup (order_of entries)) (place ∷ take n l)) ≡ told_text setup (order_of entries) ordinal
   all_text block k place g p l is n le =

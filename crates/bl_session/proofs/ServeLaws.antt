@@ -46,7 +46,7 @@ none_labelled = record {
 none_known : (setup : Setup) → AreKnown setup []
 none_known setup n d lt = absurd (omega arith)
 
-none_answered : (setup : Setup) → AreAnswered setup (record { setup = setup; order = []; lost = [] }) [] []
+none_answered : (setup : Setup) → AreAnswered setup (record { setup = setup; order = []; lost = [] }) [] 0 []
 none_answered setup = record {
   setup_is = refl;
   told = refl;
@@ -69,17 +69,18 @@ none_mirrors setup limit = record {
   waits = λ p le. refl;
 }
 
-module _ (setup : Setup) (limit : ℕ) (s : Pages) (entries : s.entries.items ≡ []) (subject : s.subject ≡ None) (ended : s.ended ≡ 0) where
+module _ (setup : Setup) (limit : ℕ) (s : Pages) (entries : s.entries.items ≡ []) (subject : s.subject ≡ None) (first : s.first ≡ 0) (ended : s.ended ≡ 0) where
   pub start_whole : Agree setup → s.answers.items ≡ [] → s.weight ≡ 0 → s.monitor ≡ record { setup = setup; order = []; lost = [] } → IsWhole setup limit s 0
   start_whole agree answers weight monitor = record {
     agree = agree;
     labelled = subst AreLabelled (sym entries) none_labelled;
     known = subst (AreKnown setup) (sym entries) (none_known setup);
     answered =
-        subst (λ l. AreAnswered setup s.monitor (order_of l) s.answers.items) (sym entries)
-        (subst (AreAnswered setup s.monitor []) (sym answers)
-        (subst (λ (h : Heard). AreAnswered setup h [] []) (sym monitor) (none_answered setup)));
-    ended = ended ∙ ap length (sym answers);
+        subst (λ l. AreAnswered setup s.monitor (order_of l) s.first s.answers.items) (sym entries)
+        (subst (λ k. AreAnswered setup s.monitor [] k s.answers.items) (sym first)
+        (subst (AreAnswered setup s.monitor [] 0) (sym answers)
+        (subst (λ (h : Heard). AreAnswered setup h [] 0 []) (sym monitor) (none_answered setup))));
+    ended = omega (arith, ended, first, ap length answers);
     room = omega (arith, ap length entries);
     weight = weight ∙ ap (λ l. sum_by entry_weight (order_of l)) (sym entries);
     fits = omega (arith, weight);

@@ -106,13 +106,13 @@ module _ (setup : Setup) (limit : ℕ) (s : Pages) (n : ℕ) (w : IsWhole setup 
       omega (arith, w.weight, e, no_weight more children)
 
   pub settled_whole : (ordinal : ℕ) (h : Heard) (es : Vec Entered Global) (answers : Vec Answer Global) → es.items ≡ now → s.last ≤ ordinal → AreKnown setup now
-      → AreAnswered setup h (order_of now) answers.items → length now ≡ length answers.items → length now ≤ limit
-      → IsWhole setup limit (record s { monitor = h; entries = es; answers = answers; ended = length es.items }) ordinal
+      → AreAnswered setup h (order_of now) s.ended answers.items → length now ≡ s.ended + length answers.items → length now ≤ limit
+      → IsWhole setup limit (record s { monitor = h; entries = es; answers = answers; first = s.ended; ended = length es.items }) ordinal
   settled_whole ordinal h es answers these le known answered all room = record {
     agree = w.agree;
     labelled = subst AreLabelled (sym these) labelled;
     known = subst (AreKnown setup) (sym these) known;
-    answered = subst (λ l. AreAnswered setup h (order_of l) answers.items) (sym these) answered;
+    answered = subst (λ l. AreAnswered setup h (order_of l) s.ended answers.items) (sym these) answered;
     ended = ap length these ∙ all;
     room = subst (λ l. length l ≤ limit) (sym these) room;
     weight = sum_kept ∙ ap (λ l. sum_by entry_weight (order_of l)) (sym these);
@@ -165,10 +165,14 @@ settled_came setup limit subject A B e t run all le told came =
 pub ended_before : (setup : Setup) (limit : ℕ) (s : Pages) (n : ℕ) → IsWhole setup limit s n → s.ended ≤ length (order_of s.entries.items)
 ended_before setup limit s n w = omega (arith, w.ended, w.answered.few)
 
+-- where no answer is kept, the next place is the one that they begin at
+pub none_kept : (first : ℕ) (answers : List Answer) → answers ≡ [] → first + length answers ≡ first
+none_kept first answers none = omega (arith, ap length none)
+
 -- all places have run
-pub ran_all : (setup : Setup) (limit : ℕ) (s : Pages) (n : ℕ) → IsWhole setup limit s n → (own : Setup) (now : List Entered) (t : ℕ) → own ≡ setup → t ≡ length now
-    → HasRun own limit (order_of s.entries.items) (length s.answers.items) (order_of now) t → HasRun setup limit (order_of s.entries.items) s.ended (order_of now) (length (order_of now))
-ran_all setup limit s n w own now t same all run =
+pub ran_all : (setup : Setup) (limit : ℕ) (s : Pages) (own : Setup) (now : List Entered) (from t : ℕ) → own ≡ setup → from ≡ s.ended → t ≡ length now
+    → HasRun own limit (order_of s.entries.items) from (order_of now) t → HasRun setup limit (order_of s.entries.items) s.ended (order_of now) (length (order_of now))
+ran_all setup limit s own now from t same begin all run =
     subst (λ (k : Setup). HasRun k limit (order_of s.entries.items) s.ended (order_of now) (length (order_of now))) same
-    (subst (λ k. HasRun own limit (order_of s.entries.items) k (order_of now) (length (order_of now))) (sym w.ended)
-    (subst (HasRun own limit (order_of s.entries.items) (length s.answers.items) (order_of now)) (all ∙ sym (length-order now)) run))
+    (subst (λ k. HasRun own limit (order_of s.entries.items) k (order_of now) (length (order_of now))) begin
+    (subst (HasRun own limit (order_of s.entries.items) from (order_of now)) (all ∙ sym (length-order now)) run))

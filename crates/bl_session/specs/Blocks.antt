@@ -4,6 +4,7 @@ use Rattle.std.specs.Global.{Global}
 use Rattle.bl_setup.specs.Order.{Setup}
 use Rattle.bl_session.specs.declared.label.Entered.{Entered}
 use Rattle.bl_session.specs.declared.block.Block.{Block}
+use Rattle.bl_session.specs.declared.entries.Pages.{Pages}
 use Rattle.bl_session.specs.Replies.{replies_to}
 use Rattle.bl_session.specs.Orders.{reply_at, at_rest}
 use Rattle.bl_session.specs.Entries.{order_of, is_line}
@@ -48,3 +49,8 @@ pub record Gives (setup : Setup) (entries : List Entered) (block : Block) (n : �
   pub from : block.first ≤ block.next
   pub upto : block.next ≤ block.first + length block.kin.items
   pub taken : (m : ℕ) (d : Entered) → m < block.next → (slice_index_or entries m d).ordinal ≤ n
+
+-- the block begins where the kept answers begin, and the replies to the lines above an ordinal are still to be taken from it
+pub record IsLastBlock (setup : Setup) (s : Pages) (block : Block) (n : ℕ) : Type 0 where
+  pub first : s.first ≡ block.first
+  pub gives : Gives setup s.entries.items block n

@@ -1,5 +1,5 @@
 -- The entries that the machine of one worker keeps, as the definitions see them.
-use Rattle.std.specs.Prelude.{◌≡◌, ℕ, zero, suc, ◌<◌, ◌≤◌, Bool, true, false, List, [], ◌∷◌, ◌++◌, map, length, take, slice_index_or, ⊤}
+use Rattle.std.specs.Prelude.{◌≡◌, ℕ, zero, suc, ◌+◌, ◌<◌, ◌≤◌, Bool, true, false, List, [], ◌∷◌, ◌++◌, map, length, take, slice_index_or, ⊤}
 use Rattle.bl_script.specs.declared.answer.Answer.{Answer}
 use Rattle.bl_setup.specs.Order.{Setup, Entry, Line, Child}
 use Rattle.bl_monitor.specs.Heard.{Heard, KnowsWork, KnowsAnswer}
@@ -65,14 +65,15 @@ abbrev pub unnamed : Entry → Entry
 unnamed (Line session ordinal subject work) = Line 0 0 subject work
 unnamed (Child parent which) = Child parent which
 
--- the first entries are answered: a monitor was told them, none as lost, and these are its answers
-pub record AreAnswered (setup : Setup) (h : Heard) (order : List Entry) (answers : List Answer) : Type 0 where
+-- The first entries are answered: a monitor was told them, none as lost, and these are its answers from one place on. The
+-- answers before that place have been let go.
+pub record AreAnswered (setup : Setup) (h : Heard) (order : List Entry) (from : ℕ) (answers : List Answer) : Type 0 where
   pub setup_is : h.setup ≡ setup
-  pub told : h.order ≡ map unnamed (take (length answers) order)
+  pub told : h.order ≡ map unnamed (take (from + length answers) order)
   pub kept : (n : ℕ) → heard.is_lost h n ≡ false
-  pub are : (n : ℕ) (d : Answer) → n < length answers → slice_index_or answers n d ≡ (said setup order n).answer
+  pub are : (n : ℕ) (d : Answer) → n < length answers → slice_index_or answers n d ≡ (said setup order (from + n)).answer
   pub known : (n : ℕ) (d : Answer) → n < length answers → KnowsAnswer setup (slice_index_or answers n d)
-  pub few : length answers ≤ length order
+  pub few : from + length answers ≤ length order
 
 -- the children of a place up to this one
 abbrev pub first_children : ℕ → ℕ → List Entry

@@ -1,5 +1,5 @@
 -- How the pages of the machine of one worker stand between two calls.
-use Rattle.std.specs.Prelude.{◌≡◌, ℕ, ◌-◌, ◌<◌, ◌≤◌, List, ◌++◌, length, slice_index_or, true, false, All, Option, sum_by, IfSome}
+use Rattle.std.specs.Prelude.{◌≡◌, ℕ, ◌+◌, ◌-◌, ◌<◌, ◌≤◌, List, ◌++◌, length, slice_index_or, true, false, All, Option, sum_by, IfSome}
 use Rattle.bl_setup.specs.Agreement.{Agree}
 use Rattle.bl_setup.specs.Order.{Setup, Entry}
 use Rattle.bl_setup.specs.Machine.{State, state_after, start, entry_weight}
@@ -34,8 +34,8 @@ pub record IsWhole (setup : Setup) (limit : ℕ) (s : Pages) (n : ℕ) : Type 0 
   pub agree : Agree setup
   pub labelled : AreLabelled s.entries.items
   pub known : AreKnown setup s.entries.items
-  pub answered : AreAnswered setup s.monitor (order_of s.entries.items) s.answers.items
-  pub ended : s.ended ≡ length s.answers.items
+  pub answered : AreAnswered setup s.monitor (order_of s.entries.items) s.first s.answers.items
+  pub ended : s.ended ≡ s.first + length s.answers.items
   pub room : length s.entries.items ≤ limit
   pub weight : s.weight ≡ sum_by entry_weight (order_of s.entries.items)
   pub fits : s.weight ≤ limit

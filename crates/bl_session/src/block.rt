@@ -42,7 +42,8 @@ impl Block {
     ) -> Result<Block, AllocError>
         requires labelled { AreLabelled entries.now }
         requires block { IsBlock entries.now first entered }
-        ensures { IfOk result (λ block. (setup : Setup) (n : ℕ) → SplitsAt entries.now first n → Gives setup entries.now block n) }
+        ensures first { IfOk result (λ block. block.first ≡ first) }
+        ensures gives { IfOk result (λ block. (setup : Setup) (n : ℕ) → SplitsAt entries.now first n → Gives setup entries.now block n) }
     {
         let mut kin = Vec::with_capacity(alloc, entered - first)?;
         'lines: for _ in first..entered {

@@ -1,5 +1,6 @@
 //! The machine of one worker. Lines enter an admission order without being run. When a block ends, a monitor answers the
-//! entries by rising place, and the children of an entry enter at its end, behind all that entered before.
+//! entries by rising place, and the children of an entry enter at its end, behind all that entered before. The answers of a
+//! block are kept until the next one is settled.
 ghost use Rattle.std.specs.Prelude.{◌≡◌, ◌+◌, ◌<◌, ◌≤◌, ◌++◌, ℕ, [], List, All, false, OnOk, IfOk, None, length};
 ghost use Rattle.std.specs.Arc.{arc_value};
 ghost use Rattle.bl_script.specs.Effects.{children};
@@ -8,7 +9,7 @@ ghost use Rattle.bl_monitor.specs.Heard.{KnowsWork};
 ghost use Rattle.bl_session.specs.Orders.{said, told_text, AreLater};
 ghost use Rattle.bl_session.specs.Entries.{order_of, told_of, is_line, AreLabelled, AreAnswered};
 ghost use Rattle.bl_session.specs.Whole.{AreKnown, HasEntered, HasRun, IsWhole, Came};
-ghost use Rattle.bl_session.specs.Blocks.{Gives};
+ghost use Rattle.bl_session.specs.Blocks.{IsLastBlock};
 
 use crate::behind::Behind;
 use crate::block::Block;
@@ -31,14 +32,16 @@ pub struct Alone {
     pub limit: u32,
 }
 
-/// The session's subject once it is open, the admission order with the answers of its first entries, the weight of its
-/// lines, and how many entries had ended before the open block.
+/// The session's subject once it is open, the admission order, the answers of its entries from the place `first` on, the
+/// weight of its lines, and how many entries had ended before the open block. At `first` the block begins that was settled
+/// last: the answers of earlier blocks have been let go.
 #[derive(Drop)]
 pub struct Pages {
     pub subject: Option<SubjectId>,
     pub monitor: Monitor,
     pub entries: Vec<Entered>,
     pub answers: Vec<Answer>,
+    pub first: usize,
     pub weight: u32,
     pub last: u32,
     pub ended: usize,
@@ -100,26 +103,27 @@ fn enter(
     Ok(())
 }
 
-/// Has the next entry answered, and lets its children enter.
+/// Has the next entry answered, and lets its children enter. The answers are those from the place `first` on.
 fn run_next(
     alloc: Global,
     room: u32,
     monitor: &mut Monitor,
     entries: &mut Vec<Entered>,
+    first: usize,
     answers: &mut Vec<Answer>,
 ) -> Result<(), AllocError>
-    requires more { length answers.old.items < length entries.old.items }
+    requires more { first + length answers.old.items < length entries.old.items }
     requires room { length entries.old.items ≤ room }
     requires known { AreKnown monitor.old.setup entries.old.items }
-    requires answered { AreAnswered monitor.old.setup monitor.old (order_of entries.old.items) answers.old.items }
+    requires answered { AreAnswered monitor.old.setup monitor.old (order_of entries.old.items) first answers.old.items }
     ensures setup { monitor.new.setup ≡ monitor.old.setup }
-    ensures some { (n : ℕ) × HasEntered (length answers.old.items) n entries.old.items entries.new.items }
-    ensures entered { OnOk result (HasEntered (length answers.old.items) (length (children (said monitor.old.setup (order_of entries.old.items) (length answers.old.items)).effects)) entries.old.items entries.new.items) }
-    ensures answered { OnOk result (AreAnswered monitor.new.setup monitor.new (order_of entries.new.items) answers.new.items) }
+    ensures some { (n : ℕ) × HasEntered (first + length answers.old.items) n entries.old.items entries.new.items }
+    ensures entered { OnOk result (HasEntered (first + length answers.old.items) (length (children (said monitor.old.setup (order_of entries.old.items) (first + length answers.old.items)).effects)) entries.old.items entries.new.items) }
+    ensures answered { OnOk result (AreAnswered monitor.new.setup monitor.new (order_of entries.new.items) first answers.new.items) }
     ensures count { OnOk result (length answers.new.items ≡ length answers.old.items + 1) }
     ensures room { length entries.new.items ≤ room }
 {
-    let place = answers.len();
+    let place = first + answers.len();
     let entry = told(&entries[place].origin)?;
     answers.reserve(1)?;
     let answer = match monitor.next(entry) {
@@ -133,28 +137,29 @@ fn run_next(
     }
 }
 
-/// Has all entries answered.
+/// Has all entries answered. The answers are those from the place `first` on.
 fn run(
     alloc: Global,
     room: u32,
     monitor: &mut Monitor,
     entries: &mut Vec<Entered>,
+    first: usize,
     answers: &mut Vec<Answer>,
 ) -> Result<(), AllocError>
     requires room { length entries.old.items ≤ room }
     requires known { AreKnown monitor.old.setup entries.old.items }
-    requires answered { AreAnswered monitor.old.setup monitor.old (order_of entries.old.items) answers.old.items }
+    requires answered { AreAnswered monitor.old.setup monitor.old (order_of entries.old.items) first answers.old.items }
     ensures setup { monitor.new.setup ≡ monitor.old.setup }
     ensures more { (more : List Entered) × (entries.new.items ≡ entries.old.items ++ more) × All (λ e. is_line e.origin ≡ false) more }
-    ensures all { OnOk result (length answers.new.items ≡ length entries.new.items) }
-    ensures answered { OnOk result (AreAnswered monitor.new.setup monitor.new (order_of entries.new.items) answers.new.items) }
+    ensures all { OnOk result (first + length answers.new.items ≡ length entries.new.items) }
+    ensures answered { OnOk result (AreAnswered monitor.new.setup monitor.new (order_of entries.new.items) first answers.new.items) }
     ensures labelled { AreLabelled entries.old.items → AreLabelled entries.new.items }
     ensures known { AreKnown monitor.old.setup entries.new.items }
-    ensures ran { OnOk result (HasRun monitor.old.setup room (order_of entries.old.items) (length answers.old.items) (order_of entries.new.items) (length answers.new.items)) }
+    ensures ran { OnOk result (HasRun monitor.old.setup room (order_of entries.old.items) (first + length answers.old.items) (order_of entries.new.items) (first + length answers.new.items)) }
     ensures room { length entries.new.items ≤ room }
 {
-    'places: while answers.len() < entries.len() {
-        run_next(alloc, room, monitor, entries, answers)?;
+    'places: while first + answers.len() < entries.len() {
+        run_next(alloc, room, monitor, entries, first, answers)?;
     }
     Ok(())
 }
@@ -165,6 +170,7 @@ impl Pages {
         ensures monitor { result.monitor ≡ monitor }
         ensures empty { (result.entries.items ≡ []) × (result.answers.items ≡ []) }
         ensures subject { result.subject ≡ None }
+        ensures first { result.first ≡ 0 }
         ensures counts { (result.weight ≡ 0) × (result.last ≡ 0) × (result.ended ≡ 0) }
     {
         Pages {
@@ -172,6 +178,7 @@ impl Pages {
             monitor,
             entries: Vec::new(alloc),
             answers: Vec::new(alloc),
+            first: 0,
             weight: 0,
             last: 0,
             ended: 0,
@@ -198,7 +205,7 @@ impl Behind for Alone {
 
     ghost last = { λ a s. s.last };
 
-    ghost gives = { λ a s block n. Gives (arc_value a.setup) s.entries.items block n };
+    ghost gives = { λ a s block n. IsLastBlock (arc_value a.setup) s block n };
 
     fn open(&self, state: &mut Pages, subject: SubjectId) -> Result<(), AllocError> {
         state.subject = Some(subject);
@@ -229,13 +236,16 @@ impl Behind for Alone {
     fn settle(&self, state: &mut Pages, after: u32, ordinal: u32) -> Result<Block, AllocError> {
         // the contract alone speaks of the ordinals: where the block begins and ends is kept in the pages
         let _ = (after, ordinal);
-        let first = state.ended;
+        // the answers of the block before are let go, and those of this one begin where it begins
+        state.answers.clear();
+        state.first = state.ended;
         let entered = state.entries.len();
         let ran = run(
             self.alloc,
             self.limit,
             &mut state.monitor,
             &mut state.entries,
+            state.first,
             &mut state.answers,
         );
         if let Err(fault) = ran {
@@ -243,7 +253,7 @@ impl Behind for Alone {
             return Err(fault);
         }
         state.ended = state.entries.len();
-        Block::new(self.alloc, &state.entries, first, entered)
+        Block::new(self.alloc, &state.entries, state.first, entered)
     }
 
     fn answer(
@@ -257,10 +267,12 @@ impl Behind for Alone {
             return push_refused(out, ordinal, b"full");
         };
         let names = self.setup.names();
-        push_reply(out, names, &state.entries[place], &state.answers[place])?;
+        let answer = &state.answers[place - state.first];
+        push_reply(out, names, &state.entries[place], answer)?;
         let kin = block.kin(place);
         for below in kin {
-            push_reply(out, names, &state.entries[*below], &state.answers[*below])?;
+            let answer = &state.answers[*below - state.first];
+            push_reply(out, names, &state.entries[*below], answer)?;
         }
         Ok(())
     }

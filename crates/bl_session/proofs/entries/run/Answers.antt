@@ -1,4 +1,4 @@
-use Rattle.std.proofs.Common.{rules, ◌≡◌, ◌∙◌, ◌<◌, ◌++◌, [], refl, ap, sym, subst, length, false, append-nil, append_assoc, arith}
+use Rattle.std.proofs.Common.{◌≡◌, ◌∙◌, ◌+◌, ◌<◌, ◌++◌, [], refl, ap, sym, subst, length, false, append-nil, append_assoc, arith}
 use Rattle.std.proofs.lemmas.List.Elements.{All-append}
 use Rattle.bl_script.specs.Effects.{children}
 use Rattle.bl_setup.specs.Order.{Setup}
@@ -17,7 +17,7 @@ places-init c = record {
   answered = c.requires.answered;
   labelled = λ are. are;
   known = c.requires.known;
-  ran = has_run_start c.args.monitor.now.setup c.args.room (order_of c.args.entries.now.items) (length c.args.answers.now.items);
+  ran = has_run_start c.args.monitor.now.setup c.args.room (order_of c.args.entries.now.items) (c.args.first + length c.args.answers.now.items);
   room = c.requires.room;
 }
 
@@ -25,22 +25,23 @@ pub places-preserved : goal.places-preserved
 places-preserved c =
     let inv = c.places.invariant in
     let old = c.places.entries.items in
-    let answers = c.places.answers.items in
+    let m = c.args.first + length c.places.answers.items in
     let now = c.run_next.new.entries.items in
     let e = c.in_ok-run_next.ensures in
     let grown = e.entered in
-    let same : HasEntered (length answers) (length (children (said c.args.monitor.now.setup (order_of old) (length answers)).effects)) old now =
-    subst (λ (s : Setup). HasEntered (length answers) (length (children (said s (order_of old) (length answers)).effects)) old now) inv.setup grown in
-    let lt : length answers < length old = search rules in
-    let room : length answers < c.args.room = omega (arith, lt, inv.room) in
+    let same : HasEntered m (length (children (said c.args.monitor.now.setup (order_of old) m).effects)) old now =
+    subst (λ (s : Setup). HasEntered m (length (children (said s (order_of old) m).effects)) old now) inv.setup grown in
+    let lt : m < length old = omega (arith, c.places-test.true) in
+    let room : m < c.args.room = omega (arith, lt, inv.room) in
+    let count : c.args.first + length c.run_next.new.answers.items ≡ m + 1 = omega (arith, e.count) in
     record {
       setup = c.run_next.ensures.setup ∙ inv.setup;
       more = (inv.more.0 ++ grown.more, grown.is ∙ ap (λ l. l ++ grown.more) inv.more.1 ∙ append_assoc c.args.entries.now.items inv.more.0 grown.more, All-append (λ (e : Entered). is_line e.origin ≡ false) inv.more.0 grown.more inv.more.2 grown.children);
       answered = e.answered;
       labelled = λ are. grown.labelled (inv.labelled are);
       known = grown.known c.args.monitor.now.setup inv.known;
-      ran = subst (λ k. HasRun c.args.monitor.now.setup c.args.room (order_of c.args.entries.now.items) (length c.args.answers.now.items) (order_of now) k) (sym e.count)
-          (run_more c.args.monitor.now.setup c.args.room (order_of c.args.entries.now.items) (length c.args.answers.now.items) (length answers) old now lt room inv.ran same);
+      ran = subst (λ k. HasRun c.args.monitor.now.setup c.args.room (order_of c.args.entries.now.items) (c.args.first + length c.args.answers.now.items) (order_of now) k) (sym count)
+          (run_more c.args.monitor.now.setup c.args.room (order_of c.args.entries.now.items) (c.args.first + length c.args.answers.now.items) m old now lt room inv.ran same);
       room = c.run_next.ensures.room;
     }
 

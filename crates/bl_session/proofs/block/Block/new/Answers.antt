@@ -107,8 +107,8 @@ children-preserved c =
       subst (λ m. (setup : Setup) (n : ℕ) → SplitsAt entries first n → AreKin setup entries first m (slice_set kin i w)) (sym (add-one place)) kept,
     )
 
-pub returns : goal.returns
-returns c =
+pub returns-clause-gives : goal.returns-clause-gives
+returns-clause-gives c =
     let entries = c.args.entries.now in
     let first = c.args.first in
     let kin = c.children.kin.items in

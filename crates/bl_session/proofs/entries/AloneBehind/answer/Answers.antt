@@ -1,4 +1,4 @@
-use Rattle.std.proofs.Common.{rules, ◌≡◌, ◌∙◌, ◌<◌, ◌-◌, ◌++◌, ◌∷◌, ap, codes, sym, length, map, take, slice_index_or, append_assoc, append-nil, ℕ, Vec}
+use Rattle.std.proofs.Common.{rules, ◌≡◌, ◌∙◌, ◌<◌, ◌≤◌, ◌-◌, ◌++◌, ◌∷◌, ap, codes, sym, length, map, take, slice_index_or, append_assoc, append-nil, ℕ, Vec}
 use Rattle.std.specs.Global.{Global}
 use Rattle.std.specs.Arc.{arc_value}
 use Rattle.std.specs.List.{flat_map}
@@ -17,15 +17,15 @@ returns-in_default-clause-text c =
     let none = rw c.in_default.is at c.line.ensures.found in
     said_full c.push_refused.result c.push_refused.new.out.items c.args.out.now.items (refusal c.args.ordinal (codes "full")) (told_text (arc_value c.args.self.now.setup) (order_of c.args.state.now.entries.items) c.args.ordinal)
     (missing (arc_value c.args.self.now.setup) c.args.self.now.limit c.args.state.now r.whole.0 r.settled.0 c.args.ordinal r.whole.1 r.settled.2 r.settled.1
-    c.deref.result.now c.deref.ensures.value c.args.block.now c.line.new.self.next r.gives.0 r.gives.2 r.gives.1 c.line.ensures.from c.line.ensures.passed none)
+    c.deref.result.now c.deref.ensures.value c.args.block.now c.line.new.self.next r.gives.0 r.gives.2.gives r.gives.1 c.line.ensures.from c.line.ensures.passed none)
     c.push_refused.ensures
 
-pub index-requires-2 : goal.index-requires-2
-index-requires-2 c =
+pub index-answer-requires : goal.index-answer-requires
+index-answer-requires c =
     let r = c.requires in
     let p = placed (arc_value c.args.self.now.setup) c.args.self.now.limit c.args.state.now r.whole.0 r.settled.0 c.args.ordinal r.whole.1 r.settled.2 r.settled.1
     c.deref.result.now c.deref.ensures.value c.args.block.now c.line.new.self.next r.gives.0 r.gives.2 c.line.ensures.from c.in-Some.place (rw c.in-Some.is at c.line.ensures.found) in
-    let lt : c.in-Some.place < length c.args.state.now.answers.items = p.answered in
+    let lt : c.in-Some.place - c.args.state.now.first < length c.args.state.now.answers.items = p.answered in
     search rules
 
 pub push_reply-requires : goal.push_reply-requires
@@ -34,7 +34,7 @@ push_reply-requires c =
     let p = placed (arc_value c.args.self.now.setup) c.args.self.now.limit c.args.state.now r.whole.0 r.settled.0 c.args.ordinal r.whole.1 r.settled.2 r.settled.1
     c.deref.result.now c.deref.ensures.value c.args.block.now c.line.new.self.next r.gives.0 r.gives.2 c.line.ensures.from c.in-Some.place (rw c.in-Some.is at c.line.ensures.found) in
     names_known (arc_value c.args.self.now.setup) c.args.self.now.limit c.args.state.now r.whole.0 r.settled.0 c.args.ordinal r.whole.1 r.settled.2 r.settled.1
-    c.names-names.result.now (c.names-names.ensures.value ∙ ap (λ (s : Setup). s.names) c.deref-2.ensures) c.in-Some.place c.index-2.result.now p.answered c.index-2.ensures
+    c.names-names.result.now (c.names-names.ensures.value ∙ ap (λ (s : Setup). s.names) c.deref-2.ensures) (c.in-Some.place - c.args.state.now.first) c.index-answer.result.now p.answered c.index-answer.ensures
 
 pub loop-below-init : goal.loop-below-init
 loop-below-init c =
@@ -43,7 +43,7 @@ loop-below-init c =
     let p = placed setup c.args.self.now.limit c.args.state.now r.whole.0 r.settled.0 c.args.ordinal r.whole.1 r.settled.2 r.settled.1
     c.deref.result.now c.deref.ensures.value c.args.block.now c.line.new.self.next r.gives.0 r.gives.2 c.line.ensures.from c.in-Some.place (rw c.in-Some.is at c.line.ensures.found) in
     let said = text_said setup c.args.self.now.limit c.args.state.now r.whole.0 r.settled.0 c.args.ordinal r.whole.1 r.settled.2 r.settled.1
-    c.names-names.result.now (c.names-names.ensures.value ∙ ap (λ (s : Setup). s.names) c.deref-2.ensures) c.in-Some.place c.index.result.now c.index-2.result.now p.answered c.index.ensures c.index-2.ensures in
+    c.names-names.result.now (c.names-names.ensures.value ∙ ap (λ (s : Setup). s.names) c.deref-2.ensures) c.in-Some.place c.index.result.now c.index-answer.result.now p.kept p.answered c.index.ensures c.index-answer.ensures in
     c.in_ok-push_reply.ensures ∙ ap (λ l. c.args.out.now.items ++ l) (said ∙ sym (append-nil (reply_text setup.names (reply_at setup (order_of c.args.state.now.entries.items) c.in-Some.place))))
 
 pub index-requires-in-loop-below : goal.index-requires-in-loop-below
@@ -60,8 +60,8 @@ index-requires-in-loop-below c =
     let lt : slice_index_or c.kin-kin.result.now c.loop-below.below-index 0 < length c.args.state.now.entries.items = below.0 in
     search rules
 
-pub index-requires-in-loop-below-2 : goal.index-requires-in-loop-below-2
-index-requires-in-loop-below-2 c =
+pub overflow_sub-below : goal.overflow_sub-below
+overflow_sub-below c =
     let r = c.requires in
     let setup = arc_value c.args.self.now.setup in
     let p = placed setup c.args.self.now.limit c.args.state.now r.whole.0 r.settled.0 c.args.ordinal r.whole.1 r.settled.2 r.settled.1
@@ -71,7 +71,21 @@ index-requires-in-loop-below-2 c =
     ∙ ap (λ f. (slice_index_or c.args.block.now.kin.items (c.in-Some.place - f) v).items) c.line.ensures.first in
     let below = kin_placed setup c.args.self.now.limit c.args.state.now r.whole.0 r.settled.0 c.args.ordinal r.whole.1 r.settled.2 r.settled.1
     c.args.block.now r.gives.0 c.in-Some.place r.gives.2 p c.kin-kin.result.now kin c.loop-below.below-index 0 c.loop-below-test.true in
-    let lt : slice_index_or c.kin-kin.result.now c.loop-below.below-index 0 < length c.args.state.now.answers.items = below.1 in
+    let low : c.args.state.now.first ≤ slice_index_or c.kin-kin.result.now c.loop-below.below-index 0 = below.1 in
+    search rules
+
+pub index-answer-requires-in-loop-below : goal.index-answer-requires-in-loop-below
+index-answer-requires-in-loop-below c =
+    let r = c.requires in
+    let setup = arc_value c.args.self.now.setup in
+    let p = placed setup c.args.self.now.limit c.args.state.now r.whole.0 r.settled.0 c.args.ordinal r.whole.1 r.settled.2 r.settled.1
+    c.deref.result.now c.deref.ensures.value c.args.block.now c.line.new.self.next r.gives.0 r.gives.2 c.line.ensures.from c.in-Some.place (rw c.in-Some.is at c.line.ensures.found) in
+    let kin : (v : Vec ℕ Global) → c.kin-kin.result.now ≡ (slice_index_or c.args.block.now.kin.items (c.in-Some.place - c.args.block.now.first) v).items =
+    λ v. c.kin-kin.ensures v ∙ ap (λ (k : Vec (Vec ℕ Global) Global). (slice_index_or k.items (c.in-Some.place - c.line.new.self.first) v).items) c.line.ensures.kin
+    ∙ ap (λ f. (slice_index_or c.args.block.now.kin.items (c.in-Some.place - f) v).items) c.line.ensures.first in
+    let below = kin_placed setup c.args.self.now.limit c.args.state.now r.whole.0 r.settled.0 c.args.ordinal r.whole.1 r.settled.2 r.settled.1
+    c.args.block.now r.gives.0 c.in-Some.place r.gives.2 p c.kin-kin.result.now kin c.loop-below.below-index 0 c.loop-below-test.true in
+    let lt : slice_index_or c.kin-kin.result.now c.loop-below.below-index 0 - c.args.state.now.first < length c.args.state.now.answers.items = below.2 in
     search rules
 
 pub push_reply-requires-in-loop-below : goal.push_reply-requires-in-loop-below
@@ -86,7 +100,7 @@ push_reply-requires-in-loop-below c =
     let below = kin_placed setup c.args.self.now.limit c.args.state.now r.whole.0 r.settled.0 c.args.ordinal r.whole.1 r.settled.2 r.settled.1
     c.args.block.now r.gives.0 c.in-Some.place r.gives.2 p c.kin-kin.result.now kin c.loop-below.below-index 0 c.loop-below-test.true in
     names_known setup c.args.self.now.limit c.args.state.now r.whole.0 r.settled.0 c.args.ordinal r.whole.1 r.settled.2 r.settled.1
-    c.names-names.result.now (c.names-names.ensures.value ∙ ap (λ (s : Setup). s.names) c.deref-2.ensures) (slice_index_or c.kin-kin.result.now c.loop-below.below-index 0) c.index-in-loop-below-2.result.now below.1 c.index-in-loop-below-2.ensures
+    c.names-names.result.now (c.names-names.ensures.value ∙ ap (λ (s : Setup). s.names) c.deref-2.ensures) (slice_index_or c.kin-kin.result.now c.loop-below.below-index 0 - c.args.state.now.first) c.index-answer-in-loop-below.result.now below.2 c.index-answer-in-loop-below.ensures
 
 pub loop-below-preserved : goal.loop-below-preserved
 loop-below-preserved c =
@@ -102,9 +116,9 @@ loop-below-preserved c =
     c.args.block.now r.gives.0 c.in-Some.place r.gives.2 p c.kin-kin.result.now kin c.loop-below.below-index 0 c.loop-below-test.true in
     let said = text_said setup c.args.self.now.limit c.args.state.now r.whole.0 r.settled.0 c.args.ordinal r.whole.1 r.settled.2 r.settled.1
     c.names-names.result.now (c.names-names.ensures.value ∙ ap (λ (s : Setup). s.names) c.deref-2.ensures) (slice_index_or c.kin-kin.result.now c.loop-below.below-index 0)
-    c.index-in-loop-below.result.now c.index-in-loop-below-2.result.now below.1 c.index-in-loop-below.ensures c.index-in-loop-below-2.ensures in
+    c.index-in-loop-below.result.now c.index-answer-in-loop-below.result.now below.1 below.2 c.index-in-loop-below.ensures c.index-answer-in-loop-below.ensures in
     let so_far = flat_map (reply_text setup.names) (map (reply_at setup order) (c.in-Some.place ∷ take c.loop-below.below-index c.kin-kin.result.now)) in
-    let text = reply_text c.names-names.result.now (record { label = c.index-in-loop-below.result.now.ordinal ∷ c.index-in-loop-below.result.now.path.items; answer = c.index-in-loop-below-2.result.now }) in
+    let text = reply_text c.names-names.result.now (record { label = c.index-in-loop-below.result.now.ordinal ∷ c.index-in-loop-below.result.now.path.items; answer = c.index-answer-in-loop-below.result.now }) in
     c.in_ok-push_reply-2.ensures
     ∙ ap (λ l. l ++ text) c.loop-below.invariant
     ∙ append_assoc c.args.out.now.items so_far text
@@ -122,10 +136,13 @@ returns-clause-text c =
     c.loop-below.invariant
     ∙ ap (λ l. c.args.out.now.items ++ l)
     (all_text setup c.args.self.now.limit c.args.state.now r.whole.0 r.settled.0 c.args.ordinal r.whole.1 r.settled.2 r.settled.1
-    c.args.block.now r.gives.0 c.in-Some.place r.gives.2 p c.kin-kin.result.now kin c.loop-below.below-index c.loop-below-test.false)
+    c.args.block.now r.gives.0 c.in-Some.place r.gives.2.gives p c.kin-kin.result.now kin c.loop-below.below-index c.loop-below-test.false)
 
 pub returns-clause-gives : goal.returns-clause-gives
 returns-clause-gives c =
     let r = c.requires in
-    gives_on (arc_value c.args.self.now.setup) c.args.self.now.limit c.args.state.now r.whole.0 r.settled.0 c.args.ordinal r.whole.1 r.settled.2 r.settled.1
-    c.deref.result.now c.deref.ensures.value c.args.block.now c.line.new.self r.gives.0 r.gives.2 r.gives.1 c.line.ensures.first c.line.ensures.kin c.line.ensures.from c.line.ensures.upto c.line.ensures.passed
+    record {
+      first = r.gives.2.first ∙ sym c.line.ensures.first;
+      gives = gives_on (arc_value c.args.self.now.setup) c.args.self.now.limit c.args.state.now r.whole.0 r.settled.0 c.args.ordinal r.whole.1 r.settled.2 r.settled.1
+          c.deref.result.now c.deref.ensures.value c.args.block.now c.line.new.self r.gives.0 r.gives.2.gives r.gives.1 c.line.ensures.first c.line.ensures.kin c.line.ensures.from c.line.ensures.upto c.line.ensures.passed;
+    }
