@@ -89,16 +89,23 @@ impl Model for Behaviour {
     ghost view = { λ b. record { accesses = b.accesses.items; body = b.body } };
 }
 
+/// The behaviours of one line: the outermost, and those that it spawns. Most lines have one, which needs no list.
+#[derive(Drop)]
+struct Behaviours {
+    first: Behaviour,
+    more: Vec<Behaviour>,
+}
+
 /// The behaviours of one line, in pre-order: the outermost has number 0, and a spawn names a later one.
 /// A script has the form of a line's: 1 to 32 behaviours, nested at most 8 deep, each with 1 to 8 accesses of different
 /// documents and with statements that keep to them.
 #[derive(Drop)]
 pub struct Script {
-    behaviours: Arc<Vec<Behaviour>, Global>,
+    behaviours: Arc<Behaviours, Global>,
 }
 
 impl Model for Script {
-    ghost use Rattle.std.specs.Prelude.{List};
+    ghost use Rattle.std.specs.Prelude.{List, ◌∷◌};
     ghost use Rattle.std.specs.Coded.{coded_list};
     ghost use Rattle.std.specs.Arc.{arc_value};
     ghost use Rattle.bl_script.specs.Statements.{Part};
@@ -109,9 +116,9 @@ impl Model for Script {
 
     ghost coded = { coded_list coded_part };
 
-    ghost view = { λ s. (arc_value s.behaviours).items };
+    ghost view = { λ s. (arc_value s.behaviours).first ∷ (arc_value s.behaviours).more.items };
 
-    ghost invariant = { λ s. IsScript (arc_value s.behaviours).items };
+    ghost invariant = { λ s. IsScript ((arc_value s.behaviours).first ∷ (arc_value s.behaviours).more.items) };
 }
 
 impl Body {
@@ -239,6 +246,21 @@ impl Behaviour {
     }
 }
 
+/// Whether these are the same behaviours.
+fn are_alike(behaviours: &[Behaviour], others: &[Behaviour]) -> bool
+    ensures { IsTrue result ↔ (behaviours.now ≡ others.now) }
+{
+    if behaviours.len() != others.len() {
+        return false;
+    }
+    for (i, behaviour) in behaviours.iter().enumerate() {
+        if !behaviour.is_same(&others[i]) {
+            return false;
+        }
+    }
+    true
+}
+
 impl Script {
     ghost use Rattle.std.specs.Prelude.{◌≡◌, ◌<◌, ◌↔◌, length, slice_index_or, IfOk, IsTrue, [], ◌∷◌};
     ghost use Rattle.bl_policy.specs.declared.access.Mode.TheVariants.{Read};
@@ -251,7 +273,12 @@ impl Script {
         requires { IsScript behaviours.items }
         ensures { IfOk result (λ s. s ≡ behaviours.items) }
     {
-        match Arc::new(alloc, behaviours) {
+        let mut more = behaviours;
+        let first = more.remove(0);
+        if more.is_empty() {
+            more = Vec::new(alloc);
+        }
+        match Arc::new(alloc, Behaviours { first, more }) {
             Ok(behaviours) => Ok(Script { behaviours }),
             Err(_) => Err(AllocError),
         }
@@ -278,7 +305,7 @@ impl Script {
         ensures number { result ≡ length self.now }
         ensures script { IsScript self.now }
     {
-        self.behaviours.len()
+        1 + self.behaviours.more.len()
     }
 
     /// One more owner of the same behaviours.
@@ -294,15 +321,20 @@ impl Script {
     pub fn is_same(&self, other: &Script) -> bool
         ensures { IsTrue result ↔ (self.now ≡ other.now) }
     {
-        if self.behaviours.len() != other.behaviours.len() {
-            return false;
+        self.behaviours.first.is_same(&other.behaviours.first)
+            && are_alike(&self.behaviours.more, &other.behaviours.more)
+    }
+
+    /// The behaviour of a number.
+    fn behaviour(&self, index: usize) -> &Behaviour
+        requires { index < length self.now }
+        ensures value { result.now ≡ slice_index_or self.now index no_part }
+        ensures behaviour { IsBehaviour (slice_index_or self.now index no_part) }
+    {
+        match index {
+            0 => &self.behaviours.first,
+            _ => &self.behaviours.more[index - 1],
         }
-        for (i, behaviour) in self.behaviours.iter().enumerate() {
-            if !behaviour.is_same(&other.behaviours[i]) {
-                return false;
-            }
-        }
-        true
     }
 
     /// The accesses that a behaviour declares, in order.
@@ -310,7 +342,7 @@ impl Script {
         requires { index < length self.now }
         ensures { result.now ≡ (slice_index_or self.now index no_part).accesses }
     {
-        let behaviour = &self.behaviours[index];
+        let behaviour = self.behaviour(index);
         behaviour.accesses.as_slice()
     }
 
@@ -320,7 +352,7 @@ impl Script {
         ensures value { statements_of result.now ≡ (slice_index_or self.now index no_part).body }
         ensures behaviour { IsBehaviour (slice_index_or self.now index no_part) }
     {
-        let behaviour = &self.behaviours[index];
+        let behaviour = self.behaviour(index);
         behaviour.body.statements()
     }
 }
