@@ -130,6 +130,7 @@ module _ (setup : Setup) (limit : ℕ) (s : Pages) (start rest first kept : Opti
     took = done.took;
     within = done.within;
     whole = done.whole;
+    stops = done.stops;
     are = done.are;
     put = subst (λ (f : ℕ → List ℕ). Appends first kept (session_text f done.turns))
         (fun_ext (one_whole setup limit s.subject (order_of s.entries.items) s.ended done.turns done.came)) done.put;

@@ -9,7 +9,7 @@ use Rattle.bl_session.specs.declared.fault.SessionFault.TheVariants.{Read, Write
 use Rattle.bl_session.specs.declared.turn.Turn.{Turn}
 use Rattle.bl_session.specs.declared.turn.Turn.TheVariants.{Skip, Wait, Greets, Bad, Ask}
 use Rattle.bl_session.specs.declared.turn.Pending.{Pending}
-use Rattle.bl_session.specs.Turns.{AreSkips, IsOpening, IsRefusal, is_skip, greeted}
+use Rattle.bl_session.specs.Turns.{AreSkips, IsOpening, IsRefusal, StopsAtRefusal, is_skip, greeted}
 use Rattle.bl_session.specs.Told.{Told, Opens, Settles, told_of, told_by, SameUpTo}
 use Rattle.bl_session.specs.Texts.{text_of, session_text, ok_line, bye_line, refused_hello}
 use Rattle.bl_session.specs.Spoken.{Begins, BlockFailed, IsOwnFault, TakesTurn, FailsTurn, block_text}
@@ -63,20 +63,38 @@ skipped_told (Greets named ∷ skips) quiet = absurd quiet
 skipped_told (Bad fault ∷ skips) quiet = absurd quiet
 skipped_told (Ask work ∷ skips) quiet = absurd quiet
 
+-- a session that was opened, or of which no line was heard, had no refused first line
+stops_opened : (subject : ℕ) (head turns : List Turn) → IsOpening subject head → StopsAtRefusal (head ++ turns)
+stops_opened subject [] turns opens = absurd opens
+stops_opened subject (Skip ∷ head) turns opens = stops_opened subject head turns opens
+stops_opened subject (Greets named ∷ head) turns opens = tt
+stops_opened subject (Wait ∷ head) turns opens = absurd opens
+stops_opened subject (Bad fault ∷ head) turns opens = absurd opens
+stops_opened subject (Ask work ∷ head) turns opens = absurd opens
+
+pub stops_skipped : (skips : List Turn) → AreSkips skips → StopsAtRefusal skips
+stops_skipped [] quiet = tt
+stops_skipped (Skip ∷ skips) quiet = stops_skipped skips quiet
+stops_skipped (Wait ∷ skips) quiet = absurd quiet
+stops_skipped (Greets named ∷ skips) quiet = absurd quiet
+stops_skipped (Bad fault ∷ skips) quiet = absurd quiet
+stops_skipped (Ask work ∷ skips) quiet = absurd quiet
+
 -- a first line that is no greeting is refused
 pub record Refuses (turns : List Turn) : Type 0 where
   pub text : (r : ℕ → List ℕ) → session_text r turns ≡ refused_hello ++ bye_line
   pub told : told_by turns ≡ []
   pub last : IsRefusal turns
+  pub stops : StopsAtRefusal turns
 
 pub refuses_after : (skips : List Turn) (t : Turn) → AreSkips skips → is_skip t ≡ false → greeted t ≡ None → Refuses (skips ++ t ∷ [])
 refuses_after [] Skip quiet some none' = cc
-refuses_after [] Wait quiet some none' = record { text = λ r. refl; told = refl; last = refl }
+refuses_after [] Wait quiet some none' = record { text = λ r. refl; told = refl; last = refl; stops = refl }
 refuses_after [] (Greets named) quiet some none' = cc
-refuses_after [] (Bad fault) quiet some none' = record { text = λ r. refl; told = refl; last = refl }
-refuses_after [] (Ask work) quiet some none' = record { text = λ r. refl; told = refl; last = refl }
+refuses_after [] (Bad fault) quiet some none' = record { text = λ r. refl; told = refl; last = refl; stops = refl }
+refuses_after [] (Ask work) quiet some none' = record { text = λ r. refl; told = refl; last = refl; stops = refl }
 refuses_after (Skip ∷ skips) t quiet some none' =
-    let rest = refuses_after skips t quiet some none' in record { text = rest.text; told = rest.told; last = rest.last }
+    let rest = refuses_after skips t quiet some none' in record { text = rest.text; told = rest.told; last = rest.last; stops = rest.stops }
 refuses_after (Wait ∷ skips) t quiet some none' = absurd quiet
 refuses_after (Greets named ∷ skips) t quiet some none' = absurd quiet
 refuses_after (Bad fault ∷ skips) t quiet some none' = absurd quiet
@@ -217,6 +235,7 @@ module _ (names : KnownNames) (start r first w : Option (List ℕ)) (f : ℕ →
           took = st.read.took;
           within = omega (arith, st.read.count);
           whole = inl st.read.cut.1;
+          stops = stops_opened st.subject st.head st.turns st.opened;
           are = now_are false names start r left turns st.read;
           put = subst (Appends first w') (sym
               (opened_text g st.subject st.head st.turns st.opened
@@ -295,13 +314,15 @@ module _ (names : KnownNames) (start r first : Option (List ℕ)) (Settled : ℕ
   -- a session that is never opened ends with fixed words
   module _ (again : Bool) (left : ℕ) (turns : List Turn) (read : Cutting again names start r left turns) (w' : Option (List ℕ)) (text : List ℕ)
       (text_is : (later : ℕ → List ℕ) → session_text later turns ≡ text) (told_is : told_by turns ≡ []) where
-    pub closed_done : OnSome start (IsAtEnd r) ⊎ (AreLines read.bytes (lines_of read.bytes) × IsRefusal turns) → Appends first w' text → Finished names start r first w' f Settled Came
-    closed_done heard put = record {
+    pub closed_done : OnSome start (IsAtEnd r) ⊎ (AreLines read.bytes (lines_of read.bytes) × IsRefusal turns) → StopsAtRefusal turns → Appends first w' text
+        → Finished names start r first w' f Settled Came
+    closed_done heard stops put = record {
       bytes = read.bytes;
       turns = turns;
       took = read.took;
       within = omega (arith, read.count);
       whole = heard;
+      stops = stops;
       are = now_are again names start r left turns read;
       put = subst (Appends first w') (sym (text_is f)) put;
       came = subst Came (sym told_is) came;

@@ -6,20 +6,21 @@ use Rattle.bl_session.specs.declared.fault.SessionFault.{SessionFault}
 use Rattle.bl_session.specs.declared.fault.SessionFault.TheVariants.{Read, TooLong}
 use Rattle.bl_session.specs.declared.turn.Turn.{Turn}
 use Rattle.bl_session.specs.Lines.{lines_of, AreLines}
-use Rattle.bl_session.specs.Turns.{AreTurns, IsRefusal}
+use Rattle.bl_session.specs.Turns.{AreTurns, IsRefusal, StopsAtRefusal}
 use Rattle.bl_session.specs.Spoken.{Begins}
 use Rattle.bl_session.specs.Stages.{Broken, AreWhole}
 use Rattle.bl_session.specs.Replies.{line_text}
 use Rattle.bl_session.specs.One.{one_state}
 use Rattle.bl_session.specs.Transcript.{transcript}
 
--- The input was read to its end, or to the end of a first line that was refused, and its transcript is written.
+-- The input was read to its end, or to the end of a first line that was refused and no further, and its transcript is written.
 pub record IsServed (setup : Setup) (limit : ℕ) (start rest first kept : Option (List ℕ)) : Type 0 where
   pub bytes : List ℕ
   pub turns : List Turn
   pub took : Consumes start rest bytes
   pub within : length bytes ≤ 16777216
   pub whole : OnSome start (IsAtEnd rest) ⊎ (AreLines bytes (lines_of bytes) × IsRefusal turns)
+  pub stops : StopsAtRefusal turns
   pub are : AreTurns setup.names (lines_of bytes) turns
   pub put : Appends first kept (transcript setup limit turns)
 

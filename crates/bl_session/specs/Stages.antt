@@ -8,7 +8,7 @@ use Rattle.bl_session.specs.declared.fault.SessionFault.{SessionFault}
 use Rattle.bl_session.specs.declared.fault.SessionFault.TheVariants.{Read, Write, TooLong, Memory, Clash}
 use Rattle.bl_session.specs.declared.turn.Turn.{Turn}
 use Rattle.bl_session.specs.declared.turn.Pending.{Pending}
-use Rattle.bl_session.specs.Turns.{AreTurns, AreSkips, IsOpening, IsRefusal, HasNoWait, is_skip}
+use Rattle.bl_session.specs.Turns.{AreTurns, AreSkips, IsOpening, IsRefusal, StopsAtRefusal, HasNoWait, is_skip}
 use Rattle.bl_session.specs.Told.{Told, Settles, told_by, SameUpTo}
 use Rattle.bl_session.specs.Texts.{text_of, session_text, ok_line}
 use Rattle.bl_session.specs.Spoken.{Spoken, Begins}
@@ -65,13 +65,14 @@ pub record Stage (again : Bool) (names : KnownNames) (start rest first kept : Op
   pub put : Appends first kept (ok_line ++ written)
   pub spoken : Spoken replies Settled Came subject after pending turns written
 
--- The input was read to its end, or to the end of a first line that was refused, and its transcript is written.
+-- The input was read to its end, or to the end of a first line that was refused and no further, and its transcript is written.
 pub record Finished (names : KnownNames) (start rest first kept : Option (List ℕ)) (replies : ℕ → List ℕ) (Settled : ℕ → Type 0) (Came : List Told → Type 0) : Type 0 where
   pub bytes : List ℕ
   pub turns : List Turn
   pub took : Consumes start rest bytes
   pub within : length bytes ≤ 16777216
   pub whole : OnSome start (IsAtEnd rest) ⊎ (AreLines bytes (lines_of bytes) × IsRefusal turns)
+  pub stops : StopsAtRefusal turns
   pub are : AreTurns names (lines_of bytes) turns
   pub put : Appends first kept (session_text replies turns)
   pub came : Came (told_by turns)

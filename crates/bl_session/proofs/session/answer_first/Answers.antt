@@ -24,7 +24,7 @@ returns-clause-ok g c = on_ok-map c.say.result
     (λ put start heard.
     let none_greets : greeted c.args.turn ≡ None = search rules in
     let refused = refuses_after heard.turns c.args.turn heard.quiet c.requires.spoken none_greets in
-    closed_done _ start _ _ (g.B.Behind.settled c.args.behind.now c.args.state.now) _ _ c.requires.settled c.requires.came _ _ _ heard.read _ _ refused.text refused.told (heard_whole _ _ start _ _ _ heard.read refused.last) put)
+    closed_done _ start _ _ (g.B.Behind.settled c.args.behind.now c.args.state.now) _ _ c.requires.settled c.requires.came _ _ _ heard.read _ _ refused.text refused.told (heard_whole _ _ start _ _ _ heard.read refused.last) refused.stops put)
     c.say.ensures.ok
 
 pub returns-clause-err : goal.returns-clause-err

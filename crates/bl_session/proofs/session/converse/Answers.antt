@@ -1,7 +1,7 @@
 use Rattle.std.proofs.Common.{inl, true, refl, []}
 use Rattle.bl_session.proofs.Outcomes.{on_ok-map, if_err-map}
 use Rattle.bl_session.proofs.Cuttings.{cutting_start, broken_after}
-use Rattle.bl_session.proofs.Stages.{stopped_unheard, closed_done, closed_failed, skipped_text, skipped_told}
+use Rattle.bl_session.proofs.Stages.{stopped_unheard, closed_done, closed_failed, skipped_text, skipped_told, stops_skipped}
 use Rattle.bl_session.proofs.session.converse.Goals as goal
 
 pub returns-in-Err-clause-err : goal.returns-in-Err-clause-err
@@ -27,7 +27,7 @@ pub returns-in-Ok-None-clause-ok : goal.returns-in-Ok-None-clause-ok
 returns-in-Ok-None-clause-ok g c =
     let unheard = (rw c.in-Ok-None.field-0-is at c.in-Ok-None.ensures).ok (g.R.Read.remaining c.args.reader.now.inner) (record { turns = []; read = cutting_start _ _ _ refl; quiet = tt }) in
     on_ok-map c.say.result
-    (λ put. closed_done _ _ _ _ (g.B.Behind.settled c.args.behind.now c.args.state.now) _ _ c.requires.settled c.requires.came _ _ _ unheard.read _ _ (λ later. skipped_text later unheard.turns unheard.quiet) (skipped_told unheard.turns unheard.quiet) (inl unheard.read.cut.1) put)
+    (λ put. closed_done _ _ _ _ (g.B.Behind.settled c.args.behind.now c.args.state.now) _ _ c.requires.settled c.requires.came _ _ _ unheard.read _ _ (λ later. skipped_text later unheard.turns unheard.quiet) (skipped_told unheard.turns unheard.quiet) (inl unheard.read.cut.1) (stops_skipped unheard.turns unheard.quiet) put)
     c.say.ensures.ok
 
 pub returns-in-Ok-None-clause-err : goal.returns-in-Ok-None-clause-err
