@@ -91,12 +91,18 @@ IsCause Clash start rest read_failed write_failed taken = ⊥
 abbrev pub IsDropped : SessionFault → List ℕ → Type 0
 IsDropped fault part = HasNoLf part ⊎ ((fault ≡ Memory) × ((line : List ℕ) × HasNoLf line × (part ≡ line ++ 10 ∷ [])))
 
+-- the bytes are whole lines, or where it wasn't reading that stopped they may be all of an input whose last line has no LF
+abbrev pub AreWholeLines : SessionFault → List ℕ → List ℕ → Option (List ℕ) → Option (List ℕ) → Type 0
+AreWholeLines fault bytes part start rest =
+    AreLines bytes (lines_of bytes) ⊎ (((fault ≡ Write) ⊎ (fault ≡ Memory)) × (part ≡ []) × OnSome start (IsAtEnd rest))
+
 -- these turns were read whole, and then a part that is dropped
 pub record Broken (fault : SessionFault) (names : KnownNames) (start rest : Option (List ℕ)) (read_failed write_failed : Bool) (turns : List Turn) : Type 0 where
   pub bytes : List ℕ
   pub part : List ℕ
   pub took : Consumes start rest (bytes ++ part)
   pub within : length (bytes ++ part) ≤ 16777216
+  pub lines : AreWholeLines fault bytes part start rest
   pub dropped : IsDropped fault part
   pub are : AreTurns names (lines_of bytes) turns
   pub why : IsCause fault start rest read_failed write_failed (length (bytes ++ part))
