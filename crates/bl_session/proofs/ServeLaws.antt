@@ -151,7 +151,7 @@ module _ (setup : Setup) (limit : ℕ) (s : Pages) (start rest first kept : Opti
         heard = off.heard;
         heard_is = off.heard_is;
         begins = off.begins (line_text (one_state setup limit off.heard) 0) same;
-        closed = λ which. off.closed which (line_text (one_state setup limit off.heard) 0) same;
+        closed = off.closed (line_text (one_state setup limit off.heard) 0) same;
       }
 
 -- a session for which memory was refused before it began
@@ -164,5 +164,5 @@ unserved setup limit start kept read_failed write_failed = record {
   heard = [];
   heard_is = ([], refl);
   begins = (transcript setup limit [], refl);
-  closed = λ which. inl (tt, refl);
+  closed = ([], [], omega arith, refl, inl (tt, refl));
 }

@@ -10,7 +10,7 @@ use Rattle.bl_session.specs.declared.turn.Turn.{Turn}
 use Rattle.bl_session.specs.declared.turn.Pending.{Pending}
 use Rattle.bl_session.specs.Turns.{AreTurns, AreSkips, IsOpening, IsRefusal, StopsAtRefusal, HasNoWait, is_skip}
 use Rattle.bl_session.specs.Told.{Told, Settles, told_by, SameUpTo}
-use Rattle.bl_session.specs.Texts.{text_of, session_text, ok_line}
+use Rattle.bl_session.specs.Texts.{text_of, session_text, ok_line, bye_line, refused_hello}
 use Rattle.bl_session.specs.Spoken.{Spoken, Begins}
 
 -- the lines that were consumed: more may come, or these are all
@@ -122,6 +122,30 @@ pub record AreBlocks (replies : ℕ → List ℕ) (turns : List Turn) (written :
 abbrev pub AreWhole : (ℕ → List ℕ) → List Turn → List ℕ → Type 0
 AreWhole replies turns written = (AreSkips turns × (written ≡ [])) ⊎ AreBlocks replies turns written
 
+-- all blocks are written whole, but perhaps one that the last line closes
+abbrev pub AreWholeBefore : (ℕ → List ℕ) → List Turn → List ℕ → Type 0
+AreWholeBefore replies turns written =
+    (front last : List Turn) × (length last ≤ 1) × (turns ≡ front ++ last) × AreWhole replies front written
+
+-- what is written of these lines, whatever comes behind them
+abbrev pub IsDue : (ℕ → List ℕ) → List Turn → List ℕ → Type 0
+IsDue replies turns text = AreWhole replies turns text ⊎ (IsRefusal turns × (text ≡ refused_hello ++ bye_line))
+
+-- a part of what is written whatever comes, or of the last words at the end of the input
+abbrev pub IsDuePart : (ℕ → List ℕ) → (start rest : Option (List ℕ)) → List Turn → List ℕ → Type 0
+IsDuePart replies start rest heard written = OnSome start (IsAtEnd rest) ⊎ ((text : List ℕ) × IsDue replies heard text × Begins written text)
+
+-- What a session that ended early has written. Where reading stopped it is all blocks whose `wait` came. Where memory was
+-- refused it is they as well, but the block that the last line closes may be lacking. Where writing failed a part of what is
+-- written next may follow.
+abbrev pub IsPutAt : SessionFault → (ℕ → List ℕ) → (start rest : Option (List ℕ)) → (turns heard : List Turn) → List ℕ → Type 0
+IsPutAt Read replies start rest turns heard written = AreWhole replies turns written
+IsPutAt TooLong replies start rest turns heard written = AreWhole replies turns written
+IsPutAt Memory replies start rest turns heard written = AreWholeBefore replies turns written
+IsPutAt Write replies start rest turns heard written =
+    ((done : List ℕ) × AreWholeBefore replies turns done × Begins done written) × IsDuePart replies start rest heard written
+IsPutAt Clash replies start rest turns heard written = ⊥
+
 -- The session ended early. What is written begins the transcript of the lines that were heard, which are those that were
 -- read but perhaps the last, whatever is answered later. What was told is what these lines tell, but for settling.
 pub record Stopped (fault : SessionFault) (names : KnownNames) (start rest first kept : Option (List ℕ)) (read_failed write_failed : Bool) (replies : ℕ → List ℕ) (Settled : ℕ → Type 0) (Came : List Told → Type 0) : Type 0 where
@@ -138,4 +162,4 @@ pub record Stopped (fault : SessionFault) (names : KnownNames) (start rest first
   pub settles : ℕ
   pub told_is : told_by heard ≡ told ++ replicate settles Settles
   pub begins : (later : ℕ → List ℕ) → SameUpTo upto replies later → Begins written (session_text later heard)
-  pub closed : (fault ≡ Read) ⊎ (fault ≡ TooLong) → (later : ℕ → List ℕ) → SameUpTo upto replies later → AreWhole later turns written
+  pub closed : (later : ℕ → List ℕ) → SameUpTo upto replies later → IsPutAt fault later start rest turns heard written
