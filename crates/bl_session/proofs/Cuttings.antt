@@ -95,6 +95,11 @@ module _ (b : Bool) (names : KnownNames) (start r : Option (List ℕ)) (left : �
       why TooLong own = absurd own
       why Clash own = absurd own
 
+  -- no line was begun behind them
+  pub after_nothing : (fault : SessionFault) (read_failed write_failed : Bool) (own : IsOwnFault write_failed fault) → (broken_after fault read_failed write_failed own).part ≡ []
+  unfolding broken_after
+  after_nothing fault read_failed write_failed own = refl
+
 module _ (names : KnownNames) (start r r' : Option (List ℕ)) (was left : ℕ) (turns : List Turn) (so_far : Cutting true names start r was turns) where
   pub cutting_end : (held : Held) (next : Next) → next ≡ End → TookLine next r r' held was left → Cutting false names start r' left turns
   cutting_end held next is it =

@@ -146,6 +146,8 @@ module _ (setup : Setup) (limit : ℕ) (s : Pages) (start rest first kept : Opti
       record {
         turns = off.turns;
         read = off.read;
+        stops = off.stops;
+        unread = off.unread;
         written = off.written;
         put = off.put;
         heard = off.heard;
@@ -159,6 +161,8 @@ pub unserved : (setup : Setup) (limit : ℕ) (start kept : Option (List ℕ)) (r
 unserved setup limit start kept read_failed write_failed = record {
   turns = [];
   read = broken_after true _ _ _ 16777216 [] (cutting_start setup.names start 16777216 refl) Memory read_failed write_failed tt;
+  stops = tt;
+  unread = λ refused. absurd refused;
   written = [];
   put = Appends-nil kept;
   heard = [];

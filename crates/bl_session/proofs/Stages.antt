@@ -15,7 +15,7 @@ use Rattle.bl_session.specs.Texts.{text_of, session_text, ok_line, bye_line, ref
 use Rattle.bl_session.specs.Spoken.{Begins, AreSaid, BlockFailed, IsOwnFault, TakesTurn, FailsTurn, block_text}
 use Rattle.bl_session.specs.Stages.{Cutting, Unheard, Stage, Finished, Broken, Stopped, IsCause, AreWhole, IsDuePart, IsPutAt}
 use Rattle.bl_session.proofs.Steps.{whole, block_part, said}
-use Rattle.bl_session.proofs.Cuttings.{cut-now, now_are, broken_after}
+use Rattle.bl_session.proofs.Cuttings.{cut-now, now_are, broken_after, after_nothing}
 
 -- what opens a session is skipped lines and a greeting
 pub opened_text : (r : ℕ → List ℕ) (subject : ℕ) (head turns : List Turn) → IsOpening subject head → session_text r (head ++ turns) ≡ ok_line ++ (text_of r 0 turns ++ bye_line)
@@ -79,6 +79,23 @@ stops_skipped (Wait ∷ skips) quiet = absurd quiet
 stops_skipped (Greets named ∷ skips) quiet = absurd quiet
 stops_skipped (Bad fault ∷ skips) quiet = absurd quiet
 stops_skipped (Ask work ∷ skips) quiet = absurd quiet
+
+-- nor is the last line one
+not_refused_opened : (subject : ℕ) (head turns : List Turn) → IsOpening subject head → IsRefusal (head ++ turns) → ⊥
+not_refused_opened subject [] turns opens refused = opens
+not_refused_opened subject (Skip ∷ head) turns opens refused = not_refused_opened subject head turns opens refused
+not_refused_opened subject (Greets named ∷ head) turns opens refused = refused
+not_refused_opened subject (Wait ∷ head) turns opens refused = opens
+not_refused_opened subject (Bad fault ∷ head) turns opens refused = opens
+not_refused_opened subject (Ask work ∷ head) turns opens refused = opens
+
+not_refused_skipped : (skips : List Turn) → AreSkips skips → IsRefusal skips → ⊥
+not_refused_skipped [] quiet refused = refused
+not_refused_skipped (Skip ∷ skips) quiet refused = not_refused_skipped skips quiet refused
+not_refused_skipped (Wait ∷ skips) quiet refused = quiet
+not_refused_skipped (Greets named ∷ skips) quiet refused = quiet
+not_refused_skipped (Bad fault ∷ skips) quiet refused = quiet
+not_refused_skipped (Ask work ∷ skips) quiet refused = quiet
 
 -- a first line that is no greeting is refused
 pub record Refuses (turns : List Turn) : Type 0 where
@@ -188,6 +205,8 @@ module _ (names : KnownNames) (start r first w : Option (List ℕ)) (f : ℕ →
     stopped_reading r' fault read_failed write_failed broken = record {
       turns = st.head ++ st.turns;
       read = broken;
+      stops = stops_opened st.subject st.head st.turns st.opened;
+      unread = λ refused. absurd (not_refused_opened st.subject st.head st.turns st.opened refused);
       written = ok_line ++ st.written;
       put = st.put;
       upto = after;
@@ -234,6 +253,8 @@ module _ (names : KnownNames) (start r first w : Option (List ℕ)) (f : ℕ →
           record {
             turns = st.head ++ turns;
             read = broken_after next names start r' left' (st.head ++ turns) read_on fault read_failed write_failed own;
+            stops = stops_opened st.subject st.head turns st.opened;
+            unread = λ refused. absurd (not_refused_opened st.subject st.head turns st.opened refused);
             written = ok_line ++ (st.written ++ step.0);
             put = subst (Appends first w') (append_assoc ok_line st.written step.0) (Appends-trans first w w' (ok_line ++ st.written) step.0 st.put step.1);
             upto = failed.upto;
@@ -306,6 +327,8 @@ module _ (names : KnownNames) (start r first w : Option (List ℕ)) (f : ℕ →
             record {
               turns = st.head ++ st.turns;
               read = broken_after false names start r left (st.head ++ st.turns) st.read fault read_failed write_failed own;
+              stops = stops_opened st.subject st.head st.turns st.opened;
+              unread = λ refused. absurd (not_refused_opened st.subject st.head st.turns st.opened refused);
               written = ok_line ++ (st.written ++ text);
               put = subst (Appends first w') (append_assoc ok_line st.written text) (Appends-trans first w w' (ok_line ++ st.written) text st.put failed.put);
               upto = part.upto;
@@ -337,6 +360,8 @@ module _ (names : KnownNames) (start r first : Option (List ℕ)) (Settled : ℕ
   stopped_unheard fault read_failed write_failed unheard = record {
     turns = unheard.0;
     read = unheard.2;
+    stops = stops_skipped unheard.0 unheard.1;
+    unread = λ refused. absurd (not_refused_skipped unheard.0 unheard.1 refused);
     written = [];
     put = Appends-nil first;
     upto = 0;
@@ -370,12 +395,14 @@ module _ (names : KnownNames) (start r first : Option (List ℕ)) (Settled : ℕ
       settled = settled;
     }
 
-    pub closed_failed : (front last : List Turn) → AreSkips front → length last ≤ 1 → turns ≡ front ++ last → OnSome start (IsAtEnd r) ⊎ (IsRefusal turns × (text ≡ refused_hello ++ bye_line))
+    pub closed_failed : (front last : List Turn) → StopsAtRefusal turns → AreSkips front → length last ≤ 1 → turns ≡ front ++ last → OnSome start (IsAtEnd r) ⊎ (IsRefusal turns × (text ≡ refused_hello ++ bye_line))
         → (fault : SessionFault) (read_failed write_failed : Bool) → IsOwnFault write_failed fault → fault ≡ Write → (much : ℕ) → Appends first w' (take much text)
         → Stopped fault names start r first w' read_failed write_failed f Settled Came
-    closed_failed front last quiet few split heard fault read_failed write_failed own write much put = record {
+    closed_failed front last stops quiet few split heard fault read_failed write_failed own write much put = record {
       turns = turns;
       read = broken_after again names start r left turns read fault read_failed write_failed own;
+      stops = stops;
+      unread = λ refused. after_nothing again names start r left turns read fault read_failed write_failed own;
       written = take much text;
       put = put;
       upto = 0;
@@ -421,6 +448,9 @@ module _ (again : Bool) (names : KnownNames) (start r first : Option (List ℕ))
     spoken = record { done = []; open_turns = []; split = refl; block = refl; in_block = tt; text = refl; settled = settled; count = refl; came = came };
   }
 
+  stops_greeted : StopsAtRefusal (skips ++ t ∷ [])
+  stops_greeted = subst StopsAtRefusal (append-nil (skips ++ t ∷ [])) (stops_opened subject (skips ++ t ∷ []) [] opens)
+
   only_opened : (later : ℕ → List ℕ) → AreWhole later (skips ++ t ∷ []) ok_line
   only_opened later = inr (record {
     subject = subject;
@@ -440,6 +470,8 @@ module _ (again : Bool) (names : KnownNames) (start r first : Option (List ℕ))
   stopped_greeting w f Settled Came fault read_failed write_failed own settled (inl before) = record {
     turns = skips ++ t ∷ [];
     read = broken_after again names start r left (skips ++ t ∷ []) read fault read_failed write_failed own;
+    stops = stops_greeted;
+    unread = λ refused. after_nothing again names start r left (skips ++ t ∷ []) read fault read_failed write_failed own;
     written = [];
     put = before.1;
     upto = 0;
@@ -457,6 +489,8 @@ module _ (again : Bool) (names : KnownNames) (start r first : Option (List ℕ))
   stopped_greeting w f Settled Came fault read_failed write_failed own settled (inr after) = record {
     turns = skips ++ t ∷ [];
     read = broken_after again names start r left (skips ++ t ∷ []) read fault read_failed write_failed own;
+    stops = stops_greeted;
+    unread = λ refused. after_nothing again names start r left (skips ++ t ∷ []) read fault read_failed write_failed own;
     written = take after.2.0 ok_line;
     put = after.2.1;
     upto = 0;

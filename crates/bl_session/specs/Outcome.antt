@@ -1,5 +1,5 @@
 -- What a session with one worker ends with.
-use Rattle.std.specs.Prelude.{◌≡◌, ℕ, ◌≤◌, Bool, List, length, Option, OnSome, ◌⊎◌}
+use Rattle.std.specs.Prelude.{◌≡◌, ℕ, ◌≤◌, Bool, List, [], length, Option, OnSome, ◌⊎◌}
 use Rattle.std.specs.Io.KnownBytes.{Consumes, Appends, IsAtEnd}
 use Rattle.bl_setup.specs.Order.{Setup}
 use Rattle.bl_session.specs.declared.fault.SessionFault.{SessionFault}
@@ -25,10 +25,13 @@ pub record IsServed (setup : Setup) (limit : ℕ) (start rest first kept : Optio
 
 -- The session ended early. What is written begins the transcript of the lines that were read, but perhaps the last. Where
 -- reading failed it is all blocks whose `wait` came. Where memory was refused it is they as well, but the block that the last
--- line closes may be lacking. Where writing failed a part of what is written next may follow.
+-- line closes may be lacking. Where writing failed a part of what is written next may follow. Of what stands behind a first
+-- line that was refused nothing was read.
 pub record IsCutShort (setup : Setup) (limit : ℕ) (fault : SessionFault) (start rest first kept : Option (List ℕ)) (read_failed write_failed : Bool) : Type 0 where
   pub turns : List Turn
   pub read : Broken fault setup.names start rest read_failed write_failed turns
+  pub stops : StopsAtRefusal turns
+  pub unread : IsRefusal turns → read.part ≡ []
   pub written : List ℕ
   pub put : Appends first kept written
   pub heard : List Turn

@@ -147,10 +147,13 @@ IsPutAt Write replies start rest turns heard written =
 IsPutAt Clash replies start rest turns heard written = ⊥
 
 -- The session ended early. What is written begins the transcript of the lines that were heard, which are those that were
--- read but perhaps the last, whatever is answered later. What was told is what these lines tell, but for settling.
+-- read but perhaps the last, whatever is answered later. What was told is what these lines tell, but for settling. Nothing
+-- was read behind a first line that was refused.
 pub record Stopped (fault : SessionFault) (names : KnownNames) (start rest first kept : Option (List ℕ)) (read_failed write_failed : Bool) (replies : ℕ → List ℕ) (Settled : ℕ → Type 0) (Came : List Told → Type 0) : Type 0 where
   pub turns : List Turn
   pub read : Broken fault names start rest read_failed write_failed turns
+  pub stops : StopsAtRefusal turns
+  pub unread : IsRefusal turns → read.part ≡ []
   pub written : List ℕ
   pub put : Appends first kept written
   pub upto : ℕ

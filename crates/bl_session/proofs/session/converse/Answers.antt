@@ -35,7 +35,7 @@ returns-in-Ok-None-clause-err g c =
     let unheard = (rw c.in-Ok-None.field-0-is at c.in-Ok-None.ensures).ok (g.R.Read.remaining c.args.reader.now.inner) (record { turns = []; read = cutting_start _ _ _ refl; quiet = tt }) in
     if_err-both c.say.result
     (λ fault own write. closed_failed _ _ _ _ _ _ _ c.requires.settled c.requires.came _ _ _ unheard.read _ _ (λ later. skipped_text later unheard.turns unheard.quiet) (skipped_told unheard.turns unheard.quiet)
-    unheard.turns [] unheard.quiet (omega arith) (sym (append-nil unheard.turns)) (inl unheard.read.cut.1) fault _ _ own write c.say.ensures.part.0 c.say.ensures.part.1)
+    unheard.turns [] (stops_skipped unheard.turns unheard.quiet) unheard.quiet (omega arith) (sym (append-nil unheard.turns)) (inl unheard.read.cut.1) fault _ _ own write c.say.ensures.part.0 c.say.ensures.part.1)
     c.say.ensures.fault c.say.ensures.write
 
 pub returns-clause-err : goal.returns-clause-err
