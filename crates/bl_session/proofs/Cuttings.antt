@@ -1,5 +1,5 @@
 -- Reading on, line by line.
-use Rattle.std.proofs.Common.{◌≡◌, ℕ, ◌<◌, Bool, true, false, inl, inr, List, [], ◌∷◌, ◌++◌, length, length-append, refl, sym, ap, subst, ◌∙◌, append-nil, arith, Option}
+use Rattle.std.proofs.Common.{◌≡◌, ℕ, ◌<◌, Bool, true, false, ◌⊎◌, inl, inr, List, [], ◌∷◌, ◌++◌, length, length-append, refl, sym, ap, subst, ◌∙◌, append-nil, arith, Option}
 use Rattle.std.proofs.lemmas.List.Elements.{All-nil}
 use Rattle.std.specs.Io.KnownBytes.{Consumes}
 use Rattle.std.proofs.KnownBytes.{Consumes-trans, Consumes-nil}
@@ -15,7 +15,7 @@ use Rattle.bl_session.specs.declared.fault.SessionFault.TheVariants.{Read, Write
 use Rattle.bl_session.specs.declared.turn.Turn.{Turn}
 use Rattle.bl_session.specs.Turns.{IsTurn, AreTurns}
 use Rattle.bl_session.specs.Spoken.{IsOwnFault}
-use Rattle.bl_session.specs.Stages.{IsCut, Cutting, Broken, IsCause, IsDropped}
+use Rattle.bl_session.specs.Stages.{IsCut, Cutting, Broken, IsCause, IsDropped, AreWholeLines}
 use Rattle.bl_session.proofs.LineLaws.{AreLines-whole, AreLines-append, AreLines-nil, lines-last}
 use Rattle.bl_session.proofs.Parts.{known_on, reading_on}
 
@@ -43,6 +43,18 @@ pub cut-now : (b : Bool) (bytes : List ℕ) (lines : List (List ℕ)) (before af
 cut-now true bytes lines before after cut = lines-now bytes lines cut
 cut-now false bytes lines before after cut = cut.0
 
+-- so these are the lines of the bytes, whatever comes
+whole_lines : (bytes : List ℕ) (lines : List (List ℕ)) → AreLines bytes lines → AreLines bytes (lines_of bytes)
+whole_lines bytes lines cut = subst (AreLines bytes) (sym (lines-now bytes lines cut)) cut
+
+-- a fault that came of no reading
+own_fault : (w : Bool) (fault : SessionFault) → IsOwnFault w fault → (fault ≡ Write) ⊎ (fault ≡ Memory)
+own_fault w Write own = inl refl
+own_fault w Memory own = inr refl
+own_fault w Read own = absurd own
+own_fault w TooLong own = absurd own
+own_fault w Clash own = absurd own
+
 -- nothing was read
 pub cutting_start : (names : KnownNames) (a : Option (List ℕ)) (left : ℕ) → left ≡ 16777216 → Cutting true names a a left []
 cutting_start names a left is = record {
@@ -66,17 +78,27 @@ module _ (b : Bool) (names : KnownNames) (start r : Option (List ℕ)) (left : �
     part = [];
     took = subst (Consumes start r) (sym (append-nil so_far.bytes)) so_far.took;
     within = omega (arith, so_far.count, ap length (append-nil so_far.bytes));
+    lines = lines b so_far.cut;
     dropped = inl (All-nil (λ y. y ≡ 10 → ⊥));
     are = now_are;
     why = why fault own;
   }
     where
+      lines : (b : Bool) → IsCut b so_far.bytes so_far.lines start r → AreWholeLines fault so_far.bytes [] start r
+      lines true cut = inl (whole_lines so_far.bytes so_far.lines cut)
+      lines false cut = inr (own_fault write_failed fault own, refl, cut.1)
+
       why : (fault : SessionFault) → IsOwnFault write_failed fault → IsCause fault start r read_failed write_failed (length (so_far.bytes ++ []))
       why Write own = own
       why Memory own = tt
       why Read own = absurd own
       why TooLong own = absurd own
       why Clash own = absurd own
+
+  -- no line was begun behind them
+  pub after_nothing : (fault : SessionFault) (read_failed write_failed : Bool) (own : IsOwnFault write_failed fault) → (broken_after fault read_failed write_failed own).part ≡ []
+  unfolding broken_after
+  after_nothing fault read_failed write_failed own = refl
 
 module _ (names : KnownNames) (start r r' : Option (List ℕ)) (was left : ℕ) (turns : List Turn) (so_far : Cutting true names start r was turns) where
   pub cutting_end : (held : Held) (next : Next) → next ≡ End → TookLine next r r' held was left → Cutting false names start r' left turns
@@ -121,6 +143,7 @@ module _ (names : KnownNames) (start r r' : Option (List ℕ)) (was left : ℕ) 
     part = off.part;
     took = Consumes-trans start r r' so_far.bytes off.part so_far.took off.bytes;
     within = omega (arith, so_far.count, off.count, length-append so_far.bytes off.part);
+    lines = inl (whole_lines so_far.bytes so_far.lines so_far.cut);
     dropped = inl off.plain;
     are = now_are true names start r was turns so_far;
     why = why fault (reading_on fault start r r' read_failed left so_far.bytes so_far.took off.why);
@@ -143,6 +166,7 @@ module _ (names : KnownNames) (start r r' : Option (List ℕ)) (was left : ℕ) 
     part = ended next took.line;
     took = Consumes-trans start r r' so_far.bytes (ended next took.line) so_far.took took.bytes;
     within = omega (arith, so_far.count, took.count, length-append so_far.bytes (ended next took.line));
+    lines = inl (whole_lines so_far.bytes so_far.lines so_far.cut);
     dropped = dropped next took.line took.plain;
     are = now_are true names start r was turns so_far;
     why = tt;

@@ -9,6 +9,10 @@ pub if_err-map : {A E : Type 0} (r : Result A E) {P Q : E → Type 0} → ((e : 
 if_err-map (Ok x) f p = tt
 if_err-map (Err e) f p = f e p
 
+pub if_err-both : {A E : Type 0} (r : Result A E) {P Q S : E → Type 0} → ((e : E) → P e → Q e → S e) → IfErr r P → IfErr r Q → IfErr r S
+if_err-both (Ok x) f p q = tt
+if_err-both (Err e) f p q = f e p q
+
 -- what holds holds of each result
 pub on_ok-all : {A E : Type 0} (r : Result A E) {P : Type 0} → P → OnOk r P
 on_ok-all (Ok a) p = p

@@ -130,6 +130,7 @@ module _ (setup : Setup) (limit : ℕ) (s : Pages) (start rest first kept : Opti
     took = done.took;
     within = done.within;
     whole = done.whole;
+    stops = done.stops;
     are = done.are;
     put = subst (λ (f : ℕ → List ℕ). Appends first kept (session_text f done.turns))
         (fun_ext (one_whole setup limit s.subject (order_of s.entries.items) s.ended done.turns done.came)) done.put;
@@ -145,12 +146,14 @@ module _ (setup : Setup) (limit : ℕ) (s : Pages) (start rest first kept : Opti
       record {
         turns = off.turns;
         read = off.read;
+        stops = off.stops;
+        unread = off.unread;
         written = off.written;
         put = off.put;
         heard = off.heard;
         heard_is = off.heard_is;
         begins = off.begins (line_text (one_state setup limit off.heard) 0) same;
-        closed = λ which. off.closed which (line_text (one_state setup limit off.heard) 0) same;
+        closed = off.closed (line_text (one_state setup limit off.heard) 0) same;
       }
 
 -- a session for which memory was refused before it began
@@ -158,10 +161,12 @@ pub unserved : (setup : Setup) (limit : ℕ) (start kept : Option (List ℕ)) (r
 unserved setup limit start kept read_failed write_failed = record {
   turns = [];
   read = broken_after true _ _ _ 16777216 [] (cutting_start setup.names start 16777216 refl) Memory read_failed write_failed tt;
+  stops = tt;
+  unread = λ refused. absurd refused;
   written = [];
   put = Appends-nil kept;
   heard = [];
   heard_is = ([], refl);
   begins = (transcript setup limit [], refl);
-  closed = λ which. inl (tt, refl);
+  closed = ([], [], omega arith, refl, inl (tt, refl));
 }

@@ -1,5 +1,5 @@
 -- How a session goes on, from its first byte.
-use Rattle.std.proofs.Common.{◌≡◌, ℕ, ◌+◌, Bool, true, false, ◌⊎◌, inl, inr, List, [], ◌∷◌, ◌++◌, length, refl, sym, ap, subst, ◌∙◌, append_assoc, append-nil, arith, Option, Some, None, OnSome, take, drop, take-append-drop, replicate}
+use Rattle.std.proofs.Common.{◌≡◌, ℕ, ◌+◌, ◌≤◌, Bool, true, false, ◌⊎◌, inl, inr, List, [], ◌∷◌, ◌++◌, length, refl, sym, ap, subst, ◌∙◌, append_assoc, append-nil, arith, Option, Some, None, OnSome, take, drop, take-append-drop, replicate}
 use Rattle.std.specs.Io.KnownBytes.{Appends, IsAtEnd}
 use Rattle.std.proofs.KnownBytes.{Appends-trans, Appends-nil}
 use Rattle.bl_script.specs.Names.{KnownNames}
@@ -9,13 +9,13 @@ use Rattle.bl_session.specs.declared.fault.SessionFault.TheVariants.{Read, Write
 use Rattle.bl_session.specs.declared.turn.Turn.{Turn}
 use Rattle.bl_session.specs.declared.turn.Turn.TheVariants.{Skip, Wait, Greets, Bad, Ask}
 use Rattle.bl_session.specs.declared.turn.Pending.{Pending}
-use Rattle.bl_session.specs.Turns.{AreSkips, IsOpening, IsRefusal, is_skip, greeted}
+use Rattle.bl_session.specs.Turns.{AreSkips, IsOpening, IsRefusal, StopsAtRefusal, is_skip, greeted}
 use Rattle.bl_session.specs.Told.{Told, Opens, Settles, told_of, told_by, SameUpTo}
 use Rattle.bl_session.specs.Texts.{text_of, session_text, ok_line, bye_line, refused_hello}
-use Rattle.bl_session.specs.Spoken.{Begins, BlockFailed, IsOwnFault, TakesTurn, FailsTurn, block_text}
-use Rattle.bl_session.specs.Stages.{Cutting, Unheard, Stage, Finished, Broken, Stopped}
-use Rattle.bl_session.proofs.Steps.{whole, block_part, stands}
-use Rattle.bl_session.proofs.Cuttings.{cut-now, now_are, broken_after}
+use Rattle.bl_session.specs.Spoken.{Begins, AreSaid, BlockFailed, IsOwnFault, TakesTurn, FailsTurn, block_text}
+use Rattle.bl_session.specs.Stages.{Cutting, Unheard, Stage, Finished, Broken, Stopped, IsCause, AreWhole, IsDuePart, IsPutAt}
+use Rattle.bl_session.proofs.Steps.{whole, block_part, said}
+use Rattle.bl_session.proofs.Cuttings.{cut-now, now_are, broken_after, after_nothing}
 
 -- what opens a session is skipped lines and a greeting
 pub opened_text : (r : ℕ → List ℕ) (subject : ℕ) (head turns : List Turn) → IsOpening subject head → session_text r (head ++ turns) ≡ ok_line ++ (text_of r 0 turns ++ bye_line)
@@ -63,20 +63,55 @@ skipped_told (Greets named ∷ skips) quiet = absurd quiet
 skipped_told (Bad fault ∷ skips) quiet = absurd quiet
 skipped_told (Ask work ∷ skips) quiet = absurd quiet
 
+-- a session that was opened, or of which no line was heard, had no refused first line
+stops_opened : (subject : ℕ) (head turns : List Turn) → IsOpening subject head → StopsAtRefusal (head ++ turns)
+stops_opened subject [] turns opens = absurd opens
+stops_opened subject (Skip ∷ head) turns opens = stops_opened subject head turns opens
+stops_opened subject (Greets named ∷ head) turns opens = tt
+stops_opened subject (Wait ∷ head) turns opens = absurd opens
+stops_opened subject (Bad fault ∷ head) turns opens = absurd opens
+stops_opened subject (Ask work ∷ head) turns opens = absurd opens
+
+pub stops_skipped : (skips : List Turn) → AreSkips skips → StopsAtRefusal skips
+stops_skipped [] quiet = tt
+stops_skipped (Skip ∷ skips) quiet = stops_skipped skips quiet
+stops_skipped (Wait ∷ skips) quiet = absurd quiet
+stops_skipped (Greets named ∷ skips) quiet = absurd quiet
+stops_skipped (Bad fault ∷ skips) quiet = absurd quiet
+stops_skipped (Ask work ∷ skips) quiet = absurd quiet
+
+-- nor is the last line one
+not_refused_opened : (subject : ℕ) (head turns : List Turn) → IsOpening subject head → IsRefusal (head ++ turns) → ⊥
+not_refused_opened subject [] turns opens refused = opens
+not_refused_opened subject (Skip ∷ head) turns opens refused = not_refused_opened subject head turns opens refused
+not_refused_opened subject (Greets named ∷ head) turns opens refused = refused
+not_refused_opened subject (Wait ∷ head) turns opens refused = opens
+not_refused_opened subject (Bad fault ∷ head) turns opens refused = opens
+not_refused_opened subject (Ask work ∷ head) turns opens refused = opens
+
+not_refused_skipped : (skips : List Turn) → AreSkips skips → IsRefusal skips → ⊥
+not_refused_skipped [] quiet refused = refused
+not_refused_skipped (Skip ∷ skips) quiet refused = not_refused_skipped skips quiet refused
+not_refused_skipped (Wait ∷ skips) quiet refused = quiet
+not_refused_skipped (Greets named ∷ skips) quiet refused = quiet
+not_refused_skipped (Bad fault ∷ skips) quiet refused = quiet
+not_refused_skipped (Ask work ∷ skips) quiet refused = quiet
+
 -- a first line that is no greeting is refused
 pub record Refuses (turns : List Turn) : Type 0 where
   pub text : (r : ℕ → List ℕ) → session_text r turns ≡ refused_hello ++ bye_line
   pub told : told_by turns ≡ []
   pub last : IsRefusal turns
+  pub stops : StopsAtRefusal turns
 
 pub refuses_after : (skips : List Turn) (t : Turn) → AreSkips skips → is_skip t ≡ false → greeted t ≡ None → Refuses (skips ++ t ∷ [])
 refuses_after [] Skip quiet some none' = cc
-refuses_after [] Wait quiet some none' = record { text = λ r. refl; told = refl; last = refl }
+refuses_after [] Wait quiet some none' = record { text = λ r. refl; told = refl; last = refl; stops = refl }
 refuses_after [] (Greets named) quiet some none' = cc
-refuses_after [] (Bad fault) quiet some none' = record { text = λ r. refl; told = refl; last = refl }
-refuses_after [] (Ask work) quiet some none' = record { text = λ r. refl; told = refl; last = refl }
+refuses_after [] (Bad fault) quiet some none' = record { text = λ r. refl; told = refl; last = refl; stops = refl }
+refuses_after [] (Ask work) quiet some none' = record { text = λ r. refl; told = refl; last = refl; stops = refl }
 refuses_after (Skip ∷ skips) t quiet some none' =
-    let rest = refuses_after skips t quiet some none' in record { text = rest.text; told = rest.told; last = rest.last }
+    let rest = refuses_after skips t quiet some none' in record { text = rest.text; told = rest.told; last = rest.last; stops = rest.stops }
 refuses_after (Wait ∷ skips) t quiet some none' = absurd quiet
 refuses_after (Greets named ∷ skips) t quiet some none' = absurd quiet
 refuses_after (Bad fault ∷ skips) t quiet some none' = absurd quiet
@@ -100,14 +135,48 @@ pub unheard_more : (b c : Bool) (names : KnownNames) (start rest : Option (List 
 unheard_more b c names start rest left skips t quiet skip is read =
     record { turns = skips ++ t ∷ []; read = subst (λ x. Cutting x names start rest left (skips ++ t ∷ [])) is read; quiet = skips-more skips t quiet skip }
 
-not_own : (w : Bool) (e : SessionFault) → IsOwnFault w e → (e ≡ Read) ⊎ (e ≡ TooLong) → ⊥
-not_own w Read own which = own
-not_own w TooLong own which = own
-not_own w Clash own which = own
-not_own w Write own (inl is) = cc
-not_own w Write own (inr is) = cc
-not_own w Memory own (inl is) = cc
-not_own w Memory own (inr is) = cc
+-- the blocks of a session are those behind its greeting
+blocks_of : (r : ℕ → List ℕ) (subject : ℕ) (head turns : List Turn) (ws : List ℕ) → IsOpening subject head → AreSaid r turns ws → AreWhole r (head ++ turns) (ok_line ++ ws)
+blocks_of r subject head turns ws opens said = inr (record {
+  subject = subject;
+  head = head;
+  done = said.done;
+  open_turns = said.open_turns;
+  split = ap (λ l. head ++ l) said.split;
+  opened = opens;
+  in_block = said.in_block;
+  text = ap (λ l. ok_line ++ l) said.is;
+})
+
+-- nothing was written but whole blocks
+put_whole : (fault : SessionFault) (r : ℕ → List ℕ) (start rest : Option (List ℕ)) (read_failed write_failed : Bool) (taken : ℕ) (turns : List Turn) (written : List ℕ)
+    → IsCause fault start rest read_failed write_failed taken → AreWhole r turns written → IsPutAt fault r start rest turns turns written
+put_whole Read r start rest read_failed write_failed taken turns written why are = are
+put_whole TooLong r start rest read_failed write_failed taken turns written why are = are
+put_whole Memory r start rest read_failed write_failed taken turns written why are = (turns, [], omega arith, sym (append-nil turns), are)
+put_whole Write r start rest read_failed write_failed taken turns written why are = (
+  (written, (turns, [], omega arith, sym (append-nil turns), are), ([], sym (append-nil written))),
+  inr (written, inl are, ([], sym (append-nil written))),
+)
+put_whole Clash r start rest read_failed write_failed taken turns written why are = absurd why
+
+-- behind the whole blocks nothing was written where memory was refused, and a part of what comes next where writing failed
+module _ (r : ℕ → List ℕ) (start rest : Option (List ℕ)) (front last turns heard : List Turn) (done more : List ℕ) (few : length last ≤ 1) (split : turns ≡ front ++ last)
+    (are : AreWhole r front done) where
+  put_part : (fault : SessionFault) (write_failed : Bool) → IsOwnFault write_failed fault → (fault ≡ Memory → more ≡ []) → IsDuePart r start rest heard (done ++ more)
+      → IsPutAt fault r start rest turns heard (done ++ more)
+  put_part Memory write_failed own none due = (front, last, few, split, subst (AreWhole r front) (sym (ap (λ l. done ++ l) (none refl) ∙ append-nil done)) are)
+  put_part Write write_failed own none due = ((done, (front, last, few, split, are), (more, refl)), due)
+  put_part Read write_failed own none due = absurd own
+  put_part TooLong write_failed own none due = absurd own
+  put_part Clash write_failed own none due = absurd own
+
+write-memory : (fault : SessionFault) (more : List ℕ) → fault ≡ Write → fault ≡ Memory → more ≡ []
+write-memory Read more one two = cc
+write-memory Write more one two = cc
+write-memory TooLong more one two = cc
+write-memory Memory more one two = cc
+write-memory Clash more one two = cc
 
 -- from a beginning of the text after the greeting to one of the whole
 begins_opened : (r : ℕ → List ℕ) (subject : ℕ) (head turns : List Turn) (ws : List ℕ) → IsOpening subject head → Begins ws (text_of r 0 turns ++ bye_line) → Begins (ok_line ++ ws) (session_text r (head ++ turns))
@@ -136,6 +205,8 @@ module _ (names : KnownNames) (start r first w : Option (List ℕ)) (f : ℕ →
     stopped_reading r' fault read_failed write_failed broken = record {
       turns = st.head ++ st.turns;
       read = broken;
+      stops = stops_opened st.subject st.head st.turns st.opened;
+      unread = λ refused. absurd (not_refused_opened st.subject st.head st.turns st.opened refused);
       written = ok_line ++ st.written;
       put = st.put;
       upto = after;
@@ -147,16 +218,8 @@ module _ (names : KnownNames) (start r first w : Option (List ℕ)) (f : ℕ →
       settles = 1;
       told_is = opened_told st.subject st.head st.turns st.opened;
       begins = due;
-      closed = λ which later kept. inr (record {
-        subject = st.subject;
-        head = st.head;
-        done = st.spoken.done;
-        open_turns = st.spoken.open_turns;
-        split = ap (λ l. st.head ++ l) st.spoken.split;
-        opened = st.opened;
-        in_block = st.spoken.in_block;
-        text = ap (λ l. ok_line ++ l) (stands f later Settled Came st.subject after pending st.turns st.written st.spoken kept);
-      });
+      closed = λ later kept. put_whole fault later start r' read_failed write_failed (length (broken.bytes ++ broken.part)) (st.head ++ st.turns) (ok_line ++ st.written) broken.why
+          (blocks_of later st.subject st.head st.turns st.written st.opened (said f later Settled Came st.subject after pending st.turns st.written st.spoken kept));
     }
 
     module _ (r' w' : Option (List ℕ)) (left' : ℕ) (t : Turn) (next : Bool) (g : ℕ → List ℕ) (Settled' : ℕ → Type 0) (Came' : List Told → Type 0)
@@ -181,7 +244,7 @@ module _ (names : KnownNames) (start r first w : Option (List ℕ)) (f : ℕ →
           }
 
       -- a line was read, and taking it failed
-      pub stopped_turn : (fault : SessionFault) (read_failed write_failed : Bool) → IsOwnFault write_failed fault → FailsTurn f g Settled Settled' Came Came' after pending w w' t
+      pub stopped_turn : (fault : SessionFault) (read_failed write_failed : Bool) → IsOwnFault write_failed fault → FailsTurn fault f g Settled Settled' Came Came' after pending w w' t
           → Stopped fault names start r' first w' read_failed write_failed g Settled' Came'
       stopped_turn fault read_failed write_failed own fails =
           let step = fails st.subject st.turns st.written st.spoken in
@@ -190,6 +253,8 @@ module _ (names : KnownNames) (start r first w : Option (List ℕ)) (f : ℕ →
           record {
             turns = st.head ++ turns;
             read = broken_after next names start r' left' (st.head ++ turns) read_on fault read_failed write_failed own;
+            stops = stops_opened st.subject st.head turns st.opened;
+            unread = λ refused. absurd (not_refused_opened st.subject st.head turns st.opened refused);
             written = ok_line ++ (st.written ++ step.0);
             put = subst (Appends first w') (append_assoc ok_line st.written step.0) (Appends-trans first w w' (ok_line ++ st.written) step.0 st.put step.1);
             upto = failed.upto;
@@ -202,7 +267,17 @@ module _ (names : KnownNames) (start r first w : Option (List ℕ)) (f : ℕ →
             told_is = opened_told st.subject st.head failed.heard st.opened ∙ failed.told_is;
             begins = λ later kept. begins_opened later st.subject st.head failed.heard (st.written ++ step.0) st.opened
                 (begins-append (st.written ++ step.0) (text_of later 0 failed.heard) bye_line (failed.begins later kept));
-            closed = λ which. absurd (not_own write_failed fault own which);
+            closed = λ later kept.
+                let due = failed.due later kept in
+                subst (IsPutAt fault later start r' (st.head ++ turns) (st.head ++ failed.heard)) (append_assoc ok_line st.written step.0)
+                (put_part later start r' (st.head ++ st.turns) (t ∷ []) (st.head ++ turns) (st.head ++ failed.heard) (ok_line ++ st.written) step.0 (omega arith)
+                (sym (append_assoc st.head st.turns (t ∷ [])))
+                (blocks_of later st.subject st.head st.turns st.written st.opened (failed.said later kept)) fault write_failed own failed.none
+                (inr (
+                  ok_line ++ due.0,
+                  inl (blocks_of later st.subject st.head failed.heard due.0 st.opened due.1),
+                  (due.2.0, ap (λ l. ok_line ++ l) due.2.1 ∙ sym (append_assoc ok_line (st.written ++ step.0) due.2.0) ∙ ap (λ l. l ++ due.2.0) (sym (append_assoc ok_line st.written step.0))),
+                )));
           }
 
   module _ (left : ℕ) (st : Stage false names start r first w left f Settled Came after pending) (w' : Option (List ℕ)) (g : ℕ → List ℕ) (Settled' : ℕ → Type 0) (Came' : List Told → Type 0) (same : SameUpTo after f g) where
@@ -217,6 +292,7 @@ module _ (names : KnownNames) (start r first w : Option (List ℕ)) (f : ℕ →
           took = st.read.took;
           within = omega (arith, st.read.count);
           whole = inl st.read.cut.1;
+          stops = stops_opened st.subject st.head st.turns st.opened;
           are = now_are false names start r left turns st.read;
           put = subst (Appends first w') (sym
               (opened_text g st.subject st.head st.turns st.opened
@@ -231,7 +307,7 @@ module _ (names : KnownNames) (start r first w : Option (List ℕ)) (f : ℕ →
 
     -- part of the last block is written
     pub stage_failed : (fault : SessionFault) (read_failed write_failed : Bool) → IsOwnFault write_failed fault → (ordinal : ℕ) → ordinal ≡ after + length pending → Settled' after
-        → BlockFailed Settled' w w' ordinal (block_text g after pending ++ bye_line)
+        → BlockFailed fault Settled' w w' ordinal (block_text g after pending ++ bye_line)
         → ((told : List Told) → Came told → Came' told ⊎ Came' (told ++ Settles ∷ []))
         → Stopped fault names start r first w' read_failed write_failed g Settled' Came'
     stage_failed fault read_failed write_failed own ordinal count settled failed came =
@@ -246,11 +322,13 @@ module _ (names : KnownNames) (start r first w : Option (List ℕ)) (f : ℕ →
 
         made : (told : List Told) → Came' told → (settles : ℕ) → told_by (st.head ++ st.turns) ≡ told ++ replicate settles Settles → Stopped fault names start r first w' read_failed write_failed g Settled' Came'
         made told came settles is =
-            let part = block_part f g Settled Settled' Came st.subject after pending st.turns st.written st.spoken same bye_line w w' ordinal count settled failed in
+            let part = block_part f g Settled Settled' Came st.subject after pending st.turns st.written st.spoken same fault bye_line w w' ordinal count settled failed in
             let text = take failed.much (block_text g after pending ++ bye_line) in
             record {
               turns = st.head ++ st.turns;
               read = broken_after false names start r left (st.head ++ st.turns) st.read fault read_failed write_failed own;
+              stops = stops_opened st.subject st.head st.turns st.opened;
+              unread = λ refused. absurd (not_refused_opened st.subject st.head st.turns st.opened refused);
               written = ok_line ++ (st.written ++ text);
               put = subst (Appends first w') (append_assoc ok_line st.written text) (Appends-trans first w w' (ok_line ++ st.written) text st.put failed.put);
               upto = part.upto;
@@ -262,7 +340,11 @@ module _ (names : KnownNames) (start r first w : Option (List ℕ)) (f : ℕ →
               settles = settles;
               told_is = is;
               begins = λ later kept. begins_opened later st.subject st.head st.turns (st.written ++ text) st.opened (part.begins later kept);
-              closed = λ which. absurd (not_own write_failed fault own which);
+              closed = λ later kept.
+                  subst (IsPutAt fault later start r turns turns) (append_assoc ok_line st.written text)
+                  (put_part later start r turns [] turns turns (ok_line ++ st.written) text (omega arith) (sym (append-nil turns))
+                  (blocks_of later st.subject st.head st.turns st.written st.opened (said f later Settled Came st.subject after pending st.turns st.written st.spoken (part.kept later kept)))
+                  fault write_failed own (λ is. ap (λ n. take n (block_text g after pending ++ bye_line)) (failed.none is)) (inl st.read.cut.1));
             }
 
 -- all lines were read
@@ -278,6 +360,8 @@ module _ (names : KnownNames) (start r first : Option (List ℕ)) (Settled : ℕ
   stopped_unheard fault read_failed write_failed unheard = record {
     turns = unheard.0;
     read = unheard.2;
+    stops = stops_skipped unheard.0 unheard.1;
+    unread = λ refused. absurd (not_refused_skipped unheard.0 unheard.1 refused);
     written = [];
     put = Appends-nil first;
     upto = 0;
@@ -289,19 +373,21 @@ module _ (names : KnownNames) (start r first : Option (List ℕ)) (Settled : ℕ
     settles = 0;
     told_is = skipped_told unheard.0 unheard.1;
     begins = λ later kept. (session_text later unheard.0, refl);
-    closed = λ which later kept. inl (unheard.1, refl);
+    closed = λ later kept. put_whole fault later start r read_failed write_failed (length (unheard.2.bytes ++ unheard.2.part)) unheard.0 [] unheard.2.why (inl (unheard.1, refl));
   }
 
   -- a session that is never opened ends with fixed words
   module _ (again : Bool) (left : ℕ) (turns : List Turn) (read : Cutting again names start r left turns) (w' : Option (List ℕ)) (text : List ℕ)
       (text_is : (later : ℕ → List ℕ) → session_text later turns ≡ text) (told_is : told_by turns ≡ []) where
-    pub closed_done : OnSome start (IsAtEnd r) ⊎ (AreLines read.bytes (lines_of read.bytes) × IsRefusal turns) → Appends first w' text → Finished names start r first w' f Settled Came
-    closed_done heard put = record {
+    pub closed_done : OnSome start (IsAtEnd r) ⊎ (AreLines read.bytes (lines_of read.bytes) × IsRefusal turns) → StopsAtRefusal turns → Appends first w' text
+        → Finished names start r first w' f Settled Came
+    closed_done heard stops put = record {
       bytes = read.bytes;
       turns = turns;
       took = read.took;
       within = omega (arith, read.count);
       whole = heard;
+      stops = stops;
       are = now_are again names start r left turns read;
       put = subst (Appends first w') (sym (text_is f)) put;
       came = subst Came (sym told_is) came;
@@ -309,11 +395,14 @@ module _ (names : KnownNames) (start r first : Option (List ℕ)) (Settled : ℕ
       settled = settled;
     }
 
-    pub closed_failed : (fault : SessionFault) (read_failed write_failed : Bool) → IsOwnFault write_failed fault → (much : ℕ) → Appends first w' (take much text)
+    pub closed_failed : (front last : List Turn) → StopsAtRefusal turns → AreSkips front → length last ≤ 1 → turns ≡ front ++ last → OnSome start (IsAtEnd r) ⊎ (IsRefusal turns × (text ≡ refused_hello ++ bye_line))
+        → (fault : SessionFault) (read_failed write_failed : Bool) → IsOwnFault write_failed fault → fault ≡ Write → (much : ℕ) → Appends first w' (take much text)
         → Stopped fault names start r first w' read_failed write_failed f Settled Came
-    closed_failed fault read_failed write_failed own much put = record {
+    closed_failed front last stops quiet few split heard fault read_failed write_failed own write much put = record {
       turns = turns;
       read = broken_after again names start r left turns read fault read_failed write_failed own;
+      stops = stops;
+      unread = λ refused. after_nothing again names start r left turns read fault read_failed write_failed own;
       written = take much text;
       put = put;
       upto = 0;
@@ -325,8 +414,13 @@ module _ (names : KnownNames) (start r first : Option (List ℕ)) (Settled : ℕ
       settles = 0;
       told_is = told_is;
       begins = λ later kept. (drop much text, text_is later ∙ sym (take-append-drop much text));
-      closed = λ which. absurd (not_own write_failed fault own which);
+      closed = λ later kept. put_part later start r front last turns turns [] (take much text) few split (inl (quiet, refl)) fault write_failed own
+          (write-memory fault (take much text) write) (due later heard);
     }
+      where
+        due : (later : ℕ → List ℕ) → OnSome start (IsAtEnd r) ⊎ (IsRefusal turns × (text ≡ refused_hello ++ bye_line)) → IsDuePart later start r turns (take much text)
+        due later (inl end) = inl end
+        due later (inr refused) = inr (text, inr refused, (drop much text, sym (take-append-drop much text)))
 
 -- the whole input was read, or the refused line was read to its end
 pub heard_whole : (again : Bool) (names : KnownNames) (start r : Option (List ℕ)) (left : ℕ) (turns : List Turn) → (read : Cutting again names start r left turns) → IsRefusal turns
@@ -354,13 +448,30 @@ module _ (again : Bool) (names : KnownNames) (start r first : Option (List ℕ))
     spoken = record { done = []; open_turns = []; split = refl; block = refl; in_block = tt; text = refl; settled = settled; count = refl; came = came };
   }
 
+  stops_greeted : StopsAtRefusal (skips ++ t ∷ [])
+  stops_greeted = subst StopsAtRefusal (append-nil (skips ++ t ∷ [])) (stops_opened subject (skips ++ t ∷ []) [] opens)
+
+  only_opened : (later : ℕ → List ℕ) → AreWhole later (skips ++ t ∷ []) ok_line
+  only_opened later = inr (record {
+    subject = subject;
+    head = skips ++ t ∷ [];
+    done = [];
+    open_turns = [];
+    split = sym (append-nil (skips ++ t ∷ []));
+    opened = opens;
+    in_block = tt;
+    text = sym (append-nil ok_line);
+  })
+
   -- the session couldn't be opened, or its first reply couldn't be written
   pub stopped_greeting : (w : Option (List ℕ)) (f : ℕ → List ℕ) (Settled : ℕ → Type 0) (Came : List Told → Type 0) → (fault : SessionFault) (read_failed write_failed : Bool) → IsOwnFault write_failed fault
-      → Settled 0 → (Came [] × Appends first w []) ⊎ (Came (Opens subject ∷ []) × ((much : ℕ) × Appends first w (take much ok_line)))
+      → Settled 0 → (Came [] × Appends first w []) ⊎ ((fault ≡ Write) × Came (Opens subject ∷ []) × ((much : ℕ) × Appends first w (take much ok_line)))
       → Stopped fault names start r first w read_failed write_failed f Settled Came
   stopped_greeting w f Settled Came fault read_failed write_failed own settled (inl before) = record {
     turns = skips ++ t ∷ [];
     read = broken_after again names start r left (skips ++ t ∷ []) read fault read_failed write_failed own;
+    stops = stops_greeted;
+    unread = λ refused. after_nothing again names start r left (skips ++ t ∷ []) read fault read_failed write_failed own;
     written = [];
     put = before.1;
     upto = 0;
@@ -372,25 +483,30 @@ module _ (again : Bool) (names : KnownNames) (start r first : Option (List ℕ))
     settles = 0;
     told_is = skipped_told skips quiet;
     begins = λ later kept. (session_text later skips, refl);
-    closed = λ which. absurd (not_own write_failed fault own which);
+    closed = λ later kept. put_part later start r skips (t ∷ []) (skips ++ t ∷ []) skips [] [] (omega arith) refl (inl (quiet, refl)) fault write_failed own (λ is. refl)
+        (inr ([], inl (inl (quiet, refl)), ([], refl)));
   }
   stopped_greeting w f Settled Came fault read_failed write_failed own settled (inr after) = record {
     turns = skips ++ t ∷ [];
     read = broken_after again names start r left (skips ++ t ∷ []) read fault read_failed write_failed own;
-    written = take after.1.0 ok_line;
-    put = after.1.1;
+    stops = stops_greeted;
+    unread = λ refused. after_nothing again names start r left (skips ++ t ∷ []) read fault read_failed write_failed own;
+    written = take after.2.0 ok_line;
+    put = after.2.1;
     upto = 0;
     settled = settled;
     told = Opens subject ∷ [];
-    came = after.0;
+    came = after.1;
     heard = skips ++ t ∷ [];
     heard_is = ([], sym (append-nil (skips ++ t ∷ [])));
     settles = 1;
     told_is = ap told_by (sym (append-nil (skips ++ t ∷ []))) ∙ opened_told subject (skips ++ t ∷ []) [] opens;
     begins = λ later kept. (
-      drop after.1.0 ok_line ++ bye_line,
+      drop after.2.0 ok_line ++ bye_line,
       ap (session_text later) (sym (append-nil (skips ++ t ∷ []))) ∙ opened_text later subject (skips ++ t ∷ []) [] opens
-          ∙ ap (λ l. l ++ bye_line) (sym (take-append-drop after.1.0 ok_line)) ∙ append_assoc (take after.1.0 ok_line) (drop after.1.0 ok_line) bye_line,
+          ∙ ap (λ l. l ++ bye_line) (sym (take-append-drop after.2.0 ok_line)) ∙ append_assoc (take after.2.0 ok_line) (drop after.2.0 ok_line) bye_line,
     );
-    closed = λ which. absurd (not_own write_failed fault own which);
+    closed = λ later kept. put_part later start r skips (t ∷ []) (skips ++ t ∷ []) (skips ++ t ∷ []) [] (take after.2.0 ok_line) (omega arith) refl (inl (quiet, refl)) fault write_failed own
+        (write-memory fault (take after.2.0 ok_line) after.0)
+        (inr (ok_line, inl (only_opened later), (drop after.2.0 ok_line, sym (take-append-drop after.2.0 ok_line))));
   }

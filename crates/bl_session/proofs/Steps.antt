@@ -1,20 +1,22 @@
 -- What one line does to how far a session has come.
-use Rattle.std.proofs.Common.{◌≡◌, ℕ, zero, suc, ◌+◌, ◌<◌, ◌⊎◌, inl, inr, List, [], ◌∷◌, ◌++◌, length, refl, sym, ap, subst, ◌∙◌, append_assoc, append-nil, arith, take, drop, take-append-drop, Option, Result, Ok, Err, OnErr, replicate}
+use Rattle.std.proofs.Common.{◌≡◌, ℕ, zero, suc, ◌+◌, ◌<◌, ◌⊎◌, inl, inr, List, [], ◌∷◌, ◌++◌, length, refl, sym, ap, subst, ◌∙◌, append_assoc, append-nil, arith, take, drop, take-append-drop, Option, Result, Ok, Err, IfErr, replicate}
 use Rattle.std.specs.Io.KnownBytes.{Appends}
 use Rattle.std.proofs.KnownBytes.{Appends-nil}
 use Rattle.bl_script.specs.declared.work.Work.{Work}
+use Rattle.bl_session.specs.declared.fault.SessionFault.{SessionFault}
+use Rattle.bl_session.specs.declared.fault.SessionFault.TheVariants.{Memory}
 use Rattle.bl_session.specs.declared.turn.Turn.{Turn}
 use Rattle.bl_session.specs.declared.turn.Turn.TheVariants.{Wait, Ask}
 use Rattle.bl_session.specs.declared.turn.Pending.{Pending}
 use Rattle.bl_session.specs.Told.{Told, Opens, Admits, Settles, told_of, SameUpTo}
 use Rattle.bl_session.specs.Texts.{text_of, ordinal_after, ok_line}
 use Rattle.bl_session.specs.Turns.{HasNoWait}
-use Rattle.bl_session.specs.Spoken.{Spoken, pending_of, block_text, Begins, TurnFailed, BlockFailed, FailsTurn}
+use Rattle.bl_session.specs.Spoken.{Spoken, AreSaid, pending_of, block_text, Begins, TurnFailed, BlockFailed, FailsTurn}
 use Rattle.bl_session.proofs.Texts.{text-append, ordinal-append, told-append, text-same, text-block, ordinal-block, pending-append, no_wait-append, block-same, same_trans}
 
-pub on_err : {A E : Type 0} (r : Result A E) (P : Type 0) → P → OnErr r P
-on_err (Ok x) P p = tt
-on_err (Err e) P p = p
+pub if_err-all : {A E : Type 0} (r : Result A E) {P : E → Type 0} → ((e : E) → P e) → IfErr r P
+if_err-all (Ok x) p = tt
+if_err-all (Err e) p = p e
 
 -- what is told of one turn more
 told-more : (subject : ℕ) (turns : List Turn) (t : Turn) → (Opens subject ∷ told_of 0 (turns ++ t ∷ [])) ≡ (Opens subject ∷ told_of 0 turns) ++ told_of (ordinal_after 0 turns) (t ∷ [])
@@ -31,6 +33,19 @@ module _ (f g : ℕ → List ℕ) (Settled : ℕ → Type 0) (Came : List Told �
   -- what was written still stands
   pub stands : ws ≡ text_of g 0 was.done
   stands = was.text ∙ sym (text-same after f g same 0 was.done (omega (arith, was.count)))
+
+  -- the blocks that ended are written
+  pub said : AreSaid g turns ws
+  said = record { done = was.done; open_turns = was.open_turns; split = was.split; in_block = was.in_block; is = stands }
+
+  said_ask : (w : Work) → AreSaid g (turns ++ Ask w ∷ []) ws
+  said_ask w = record {
+    done = was.done;
+    open_turns = was.open_turns ++ Ask w ∷ [];
+    split = ap (λ l. l ++ Ask w ∷ []) was.split ∙ append_assoc was.done was.open_turns (Ask w ∷ []);
+    in_block = no_wait-append was.open_turns (Ask w ∷ []) was.in_block tt;
+    is = stands;
+  }
 
   -- the text of all turns is what was written and the open block
   pub whole : text_of g 0 turns ≡ ws ++ block_text g after pending
@@ -104,12 +119,14 @@ module _ (f g : ℕ → List ℕ) (Settled Settled' : ℕ → Type 0) (Came : Li
   pub record Part (closing : List ℕ) (much : ℕ) : Type 0 where
     pub upto : ℕ
     pub settled : Settled' upto
+    pub kept : (later : ℕ → List ℕ) → SameUpTo upto g later → SameUpTo after f later
     pub begins : (later : ℕ → List ℕ) → SameUpTo upto g later → Begins (ws ++ take much (block_text g after pending ++ closing)) (text_of later 0 turns ++ closing)
 
   part_of : (closing : List ℕ) (much ordinal : ℕ) → ordinal ≡ after + length pending → Settled' after → (0 < much → Settled' ordinal) → Part closing much
   part_of closing zero ordinal count settled some = record {
     upto = after;
     settled = settled;
+    kept = λ later kept. same_trans after f g later same kept;
     begins = λ later kept. (
       block_text later after pending ++ closing,
       ap (λ l. l ++ closing) (whole f later Settled Came subject after pending turns ws was (same_trans after f g later same kept))
@@ -120,6 +137,7 @@ module _ (f g : ℕ → List ℕ) (Settled Settled' : ℕ → Type 0) (Came : Li
   part_of closing (suc k) ordinal count settled some = record {
     upto = ordinal;
     settled = some (omega arith);
+    kept = λ later kept n le. kept n (omega (arith, le, count)) ∙ same n le;
     begins = λ later kept.
         let all = block_text g after pending ++ closing in (
           drop (suc k) all,
@@ -130,14 +148,20 @@ module _ (f g : ℕ → List ℕ) (Settled Settled' : ℕ → Type 0) (Came : Li
         );
   }
 
-  pub block_part : (closing : List ℕ) (a b : Option (List ℕ)) (ordinal : ℕ) → ordinal ≡ after + length pending → Settled' after
-      → (failed : BlockFailed Settled' a b ordinal (block_text g after pending ++ closing)) → Part closing failed.much
-  block_part closing a b ordinal count settled failed = part_of closing failed.much ordinal count settled failed.some
+  pub block_part : (fault : SessionFault) (closing : List ℕ) (a b : Option (List ℕ)) (ordinal : ℕ) → ordinal ≡ after + length pending → Settled' after
+      → (failed : BlockFailed fault Settled' a b ordinal (block_text g after pending ++ closing)) → Part closing failed.much
+  block_part fault closing a b ordinal count settled failed = part_of closing failed.much ordinal count settled failed.some
 
-  module _ (Came' : List Told → Type 0) (a b : Option (List ℕ)) (u : Turn) where
+  module _ (fault : SessionFault) (Came' : List Told → Type 0) (a b : Option (List ℕ)) (u : Turn) where
+    said_later : (later : ℕ → List ℕ) → SameUpTo after g later → AreSaid later turns ws
+    said_later later kept = said f later Settled Came subject after pending turns ws was (same_trans after f g later same kept)
+
+    all_of_it : Begins (ws ++ []) ws
+    all_of_it = ([], sym (append-nil (ws ++ []) ∙ append-nil ws))
+
     -- nothing was written, and the turn was not taken
     pub not_taken : Settled' after → ((told : List Told) → Came told → Came' told)
-        → (more : List ℕ) × Appends a a more × TurnFailed g Settled' Came' subject (turns ++ u ∷ []) (ws ++ more)
+        → (more : List ℕ) × Appends a a more × TurnFailed fault g Settled' Came' subject turns u ws more
     not_taken settled came = (
       [],
       Appends-nil a,
@@ -155,12 +179,15 @@ module _ (f g : ℕ → List ℕ) (Settled Settled' : ℕ → Type 0) (Came : Li
           whole f later Settled Came subject after pending turns ws was (same_trans after f g later same kept)
               ∙ ap (λ l. l ++ block_text later after pending) (sym (append-nil ws)),
         );
+        said = λ later kept. said_later later kept;
+        due = λ later kept. (ws, said_later later kept, all_of_it);
+        none = λ is. refl;
       },
     )
 
     -- nothing was written, and the turn was told
     pub not_kept : Settled' after → (w : Work) → u ≡ Ask w → Came' (Opens subject ∷ told_of 0 (turns ++ Ask w ∷ []))
-        → (more : List ℕ) × Appends a a more × TurnFailed g Settled' Came' subject (turns ++ u ∷ []) (ws ++ more)
+        → (more : List ℕ) × Appends a a more × TurnFailed fault g Settled' Came' subject turns u ws more
     not_kept settled w is came = (
       [],
       Appends-nil a,
@@ -178,28 +205,36 @@ module _ (f g : ℕ → List ℕ) (Settled Settled' : ℕ → Type 0) (Came : Li
           whole-more f later Settled Came subject after pending turns ws was (same_trans after f g later same kept) (Ask w)
               ∙ ap (λ l. l ++ (block_text later after pending ++ text_of later (ordinal_after 0 turns) (Ask w ∷ []))) (sym (append-nil ws)),
         );
+        said = λ later kept. said_later later kept;
+        due = λ later kept. (ws, said_ask f later Settled Came subject after pending turns ws was (same_trans after f g later same kept) w, all_of_it);
+        none = λ is. refl;
       },
     )
 
     -- part of the replies at a `wait` was written
     pub wait_failed : u ≡ Wait → (ordinal : ℕ) → ordinal ≡ after + length pending → Settled' after
-        → BlockFailed Settled' a b ordinal (block_text g after pending ++ ok_line)
+        → BlockFailed fault Settled' a b ordinal (block_text g after pending ++ ok_line)
         → ((told : List Told) → Came told → Came' told ⊎ Came' (told ++ Settles ∷ []))
-        → (more : List ℕ) × Appends a b more × TurnFailed g Settled' Came' subject (turns ++ u ∷ []) (ws ++ more)
+        → (more : List ℕ) × Appends a b more × TurnFailed fault g Settled' Came' subject turns u ws more
     wait_failed is ordinal count settled failed came =
-        let part = block_part ok_line a b ordinal count settled failed in (
+        let part = block_part fault ok_line a b ordinal count settled failed in (
           take failed.much (block_text g after pending ++ ok_line),
           failed.put,
-          subst (λ x. TurnFailed g Settled' Came' subject (turns ++ x ∷ []) (ws ++ take failed.much (block_text g after pending ++ ok_line))) (sym is)
+          subst (λ x. TurnFailed fault g Settled' Came' subject turns x ws (take failed.much (block_text g after pending ++ ok_line))) (sym is)
               (elim (came (Opens subject ∷ told_of 0 turns) was.came) [
-                | inl before ↦ made part (Opens subject ∷ told_of 0 turns) before 2 (ap (λ l. l ++ Settles ∷ []) (told-more subject turns Wait) ∙ append_assoc (Opens subject ∷ told_of 0 turns) (Settles ∷ []) (Settles ∷ []))
-                | inr settles ↦ made part ((Opens subject ∷ told_of 0 turns) ++ Settles ∷ []) settles 1 (ap (λ l. l ++ Settles ∷ []) (told-more subject turns Wait))
+                | inl before ↦ made part failed.none (Opens subject ∷ told_of 0 turns) before 2 (ap (λ l. l ++ Settles ∷ []) (told-more subject turns Wait) ∙ append_assoc (Opens subject ∷ told_of 0 turns) (Settles ∷ []) (Settles ∷ []))
+                | inr settles ↦ made part failed.none ((Opens subject ∷ told_of 0 turns) ++ Settles ∷ []) settles 1 (ap (λ l. l ++ Settles ∷ []) (told-more subject turns Wait))
               ]),
         )
       where
-        made : {much : ℕ} → Part ok_line much → (told : List Told) → Came' told → (settles : ℕ) → (Opens subject ∷ (told_of 0 (turns ++ Wait ∷ []) ++ Settles ∷ [])) ≡ told ++ replicate settles Settles
-            → TurnFailed g Settled' Came' subject (turns ++ Wait ∷ []) (ws ++ take much (block_text g after pending ++ ok_line))
-        made part told came settles is = record {
+        begun : {much : ℕ} → (part : Part ok_line much) → (later : ℕ → List ℕ) → SameUpTo part.upto g later
+            → Begins (ws ++ take much (block_text g after pending ++ ok_line)) (text_of later 0 (turns ++ Wait ∷ []))
+        begun part later kept =
+            let b = part.begins later kept in (b.0, text-append later 0 turns (Wait ∷ []) ∙ ap (λ l. text_of later 0 turns ++ l) (append-nil ok_line) ∙ b.1)
+
+        made : {much : ℕ} → Part ok_line much → (fault ≡ Memory → much ≡ 0) → (told : List Told) → Came' told → (settles : ℕ) → (Opens subject ∷ (told_of 0 (turns ++ Wait ∷ []) ++ Settles ∷ [])) ≡ told ++ replicate settles Settles
+            → TurnFailed fault g Settled' Came' subject turns Wait ws (take much (block_text g after pending ++ ok_line))
+        made part none told came settles is = record {
           upto = part.upto;
           settled = part.settled;
           told = told;
@@ -208,24 +243,31 @@ module _ (f g : ℕ → List ℕ) (Settled Settled' : ℕ → Type 0) (Came : Li
           heard_is = ([], sym (append-nil (turns ++ Wait ∷ [])));
           settles = settles;
           told_is = is;
-          begins = λ later kept. let b = part.begins later kept in (b.0, text-append later 0 turns (Wait ∷ []) ∙ ap (λ l. text_of later 0 turns ++ l) (append-nil ok_line) ∙ b.1);
+          begins = λ later kept. begun part later kept;
+          said = λ later kept. said f later Settled Came subject after pending turns ws was (part.kept later kept);
+          due = λ later kept. (
+            text_of later 0 (turns ++ Wait ∷ []),
+            record { done = turns ++ Wait ∷ []; open_turns = []; split = sym (append-nil (turns ++ Wait ∷ [])); in_block = tt; is = refl },
+            begun part later kept,
+          );
+          none = λ memory. ap (λ n. take n (block_text g after pending ++ ok_line)) (none memory);
         }
 
 -- the same as clauses
-module _ {A E : Type 0} (r : Result A E) (f g : ℕ → List ℕ) (Settled Settled' : ℕ → Type 0) (Came Came' : List Told → Type 0) (after : ℕ) (pending : List Pending) (a : Option (List ℕ)) (u : Turn) (same : SameUpTo after f g) (settled : Settled' after) where
-  pub all_not_taken : ((told : List Told) → Came told → Came' told) → OnErr r (FailsTurn f g Settled Settled' Came Came' after pending a a u)
-  all_not_taken came = on_err r (FailsTurn f g Settled Settled' Came Came' after pending a a u)
-      (λ subject turns ws was. not_taken f g Settled Settled' Came subject after pending turns ws was same Came' a a u settled came)
+module _ {A : Type 0} (r : Result A SessionFault) (f g : ℕ → List ℕ) (Settled Settled' : ℕ → Type 0) (Came Came' : List Told → Type 0) (after : ℕ) (pending : List Pending) (a : Option (List ℕ)) (u : Turn) (same : SameUpTo after f g) (settled : Settled' after) where
+  pub all_not_taken : ((told : List Told) → Came told → Came' told) → IfErr r (λ fault. FailsTurn fault f g Settled Settled' Came Came' after pending a a u)
+  all_not_taken came = if_err-all r
+      (λ fault subject turns ws was. not_taken f g Settled Settled' Came subject after pending turns ws was same fault Came' a a u settled came)
 
   pub all_not_kept : (ordinal : ℕ) (w : Work) → u ≡ Ask w → ordinal ≡ after + length pending → ((told : List Told) → Came told → Came' (told ++ Admits (ordinal + 1) w ∷ []))
-      → OnErr r (FailsTurn f g Settled Settled' Came Came' after pending a a u)
-  all_not_kept ordinal w is count came = on_err r (FailsTurn f g Settled Settled' Came Came' after pending a a u)
-      (λ subject turns ws was. not_kept f g Settled Settled' Came subject after pending turns ws was same Came' a a u settled w is
+      → IfErr r (λ fault. FailsTurn fault f g Settled Settled' Came Came' after pending a a u)
+  all_not_kept ordinal w is count came = if_err-all r
+      (λ fault subject turns ws was. not_kept f g Settled Settled' Came subject after pending turns ws was same fault Came' a a u settled w is
       (told-ask f g Settled Came subject after pending turns ws was same Came' ordinal w count came))
 
-  pub all_wait_failed : (b : Option (List ℕ)) → u ≡ Wait → (ordinal : ℕ) → ordinal ≡ after + length pending
-      → BlockFailed Settled' a b ordinal (block_text g after pending ++ ok_line)
+  pub all_wait_failed : (fault : SessionFault) (b : Option (List ℕ)) → u ≡ Wait → (ordinal : ℕ) → ordinal ≡ after + length pending
+      → BlockFailed fault Settled' a b ordinal (block_text g after pending ++ ok_line)
       → ((told : List Told) → Came told → Came' told ⊎ Came' (told ++ Settles ∷ []))
-      → FailsTurn f g Settled Settled' Came Came' after pending a b u
-  all_wait_failed b is ordinal count failed came subject turns ws was =
-      wait_failed f g Settled Settled' Came subject after pending turns ws was same Came' a b u is ordinal count settled failed came
+      → FailsTurn fault f g Settled Settled' Came Came' after pending a b u
+  all_wait_failed fault b is ordinal count failed came subject turns ws was =
+      wait_failed f g Settled Settled' Came subject after pending turns ws was same fault Came' a b u is ordinal count settled failed came

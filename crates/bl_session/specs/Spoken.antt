@@ -54,23 +54,36 @@ IsOwnFault failed Read = ⊥
 IsOwnFault failed TooLong = ⊥
 IsOwnFault failed Clash = ⊥
 
--- A turn failed: what is written begins the text of the turns that were heard, whatever is answered later. All of them
--- were told, and they tell no more but to settle.
-pub record TurnFailed (replies : ℕ → List ℕ) (Settled : ℕ → Type 0) (Came : List Told → Type 0) (subject : ℕ) (turns : List Turn) (written : List ℕ) : Type 0 where
+-- each block whose `wait` came is this text, and nothing else
+pub record AreSaid (replies : ℕ → List ℕ) (turns : List Turn) (text : List ℕ) : Type 0 where
+  pub done : List Turn
+  pub open_turns : List Turn
+  pub split : turns ≡ done ++ open_turns
+  pub in_block : HasNoWait open_turns
+  pub is : text ≡ text_of replies 0 done
+
+-- A turn failed: what is written begins the text of the turns that were heard, whatever is answered later and whatever
+-- comes behind them. All of them were told, and they tell no more but to settle. Before the turn all blocks were written
+-- whole, and where memory was refused nothing more is.
+pub record TurnFailed (fault : SessionFault) (replies : ℕ → List ℕ) (Settled : ℕ → Type 0) (Came : List Told → Type 0) (subject : ℕ) (turns : List Turn) (turn : Turn) (written more : List ℕ) : Type 0 where
   pub upto : ℕ
   pub settled : Settled upto
   pub told : List Told
   pub came : Came told
   pub heard : List Turn
-  pub heard_is : Begins heard turns
+  pub heard_is : Begins heard (turns ++ turn ∷ [])
   pub settles : ℕ
   pub told_is : (Opens subject ∷ (told_of 0 heard ++ Settles ∷ [])) ≡ told ++ replicate settles Settles
-  pub begins : (later : ℕ → List ℕ) → SameUpTo upto replies later → Begins written (text_of later 0 heard)
+  pub begins : (later : ℕ → List ℕ) → SameUpTo upto replies later → Begins (written ++ more) (text_of later 0 heard)
+  pub said : (later : ℕ → List ℕ) → SameUpTo upto replies later → AreSaid later turns written
+  pub due : (later : ℕ → List ℕ) → SameUpTo upto replies later → (text : List ℕ) × AreSaid later heard text × Begins (written ++ more) text
+  pub none : fault ≡ Memory → more ≡ []
 
--- A block failed: of its text and the closing line so much is written, none unless it is settled.
-pub record BlockFailed (Settled : ℕ → Type 0) (before after : Option (List ℕ)) (ordinal : ℕ) (text : List ℕ) : Type 0 where
+-- A block failed: of its text and the closing line so much is written, none unless it is settled, nor where memory was refused.
+pub record BlockFailed (fault : SessionFault) (Settled : ℕ → Type 0) (before after : Option (List ℕ)) (ordinal : ℕ) (text : List ℕ) : Type 0 where
   pub much : ℕ
   pub some : 0 < much → Settled ordinal
+  pub none : fault ≡ Memory → much ≡ 0
   pub put : Appends before after (take much text)
 
 -- taking a turn goes from one point of a session to another
@@ -80,7 +93,7 @@ TakesTurn f g Settled Settled' Came Came' after after' pending pending' kept kep
     → (more : List ℕ) × Appends kept kept' more × Spoken g Settled' Came' subject after' pending' (turns ++ turn ∷ []) (written ++ more)
 
 -- taking a turn failed
-abbrev pub FailsTurn : (f g : ℕ → List ℕ) → (Settled Settled' : ℕ → Type 0) → (Came Came' : List Told → Type 0) → (after : ℕ) → (pending : List Pending) → (kept kept' : Option (List ℕ)) → Turn → Type 0
-FailsTurn f g Settled Settled' Came Came' after pending kept kept' turn =
+abbrev pub FailsTurn : SessionFault → (f g : ℕ → List ℕ) → (Settled Settled' : ℕ → Type 0) → (Came Came' : List Told → Type 0) → (after : ℕ) → (pending : List Pending) → (kept kept' : Option (List ℕ)) → Turn → Type 0
+FailsTurn fault f g Settled Settled' Came Came' after pending kept kept' turn =
     (subject : ℕ) (turns : List Turn) (written : List ℕ) → Spoken f Settled Came subject after pending turns written
-    → (more : List ℕ) × Appends kept kept' more × TurnFailed g Settled' Came' subject (turns ++ turn ∷ []) (written ++ more)
+    → (more : List ℕ) × Appends kept kept' more × TurnFailed fault g Settled' Came' subject turns turn written more

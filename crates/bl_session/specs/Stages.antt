@@ -8,9 +8,9 @@ use Rattle.bl_session.specs.declared.fault.SessionFault.{SessionFault}
 use Rattle.bl_session.specs.declared.fault.SessionFault.TheVariants.{Read, Write, TooLong, Memory, Clash}
 use Rattle.bl_session.specs.declared.turn.Turn.{Turn}
 use Rattle.bl_session.specs.declared.turn.Pending.{Pending}
-use Rattle.bl_session.specs.Turns.{AreTurns, AreSkips, IsOpening, IsRefusal, HasNoWait, is_skip}
+use Rattle.bl_session.specs.Turns.{AreTurns, AreSkips, IsOpening, IsRefusal, StopsAtRefusal, HasNoWait, is_skip}
 use Rattle.bl_session.specs.Told.{Told, Settles, told_by, SameUpTo}
-use Rattle.bl_session.specs.Texts.{text_of, session_text, ok_line}
+use Rattle.bl_session.specs.Texts.{text_of, session_text, ok_line, bye_line, refused_hello}
 use Rattle.bl_session.specs.Spoken.{Spoken, Begins}
 
 -- the lines that were consumed: more may come, or these are all
@@ -65,13 +65,14 @@ pub record Stage (again : Bool) (names : KnownNames) (start rest first kept : Op
   pub put : Appends first kept (ok_line ++ written)
   pub spoken : Spoken replies Settled Came subject after pending turns written
 
--- The input was read to its end, or to the end of a first line that was refused, and its transcript is written.
+-- The input was read to its end, or to the end of a first line that was refused and no further, and its transcript is written.
 pub record Finished (names : KnownNames) (start rest first kept : Option (List ℕ)) (replies : ℕ → List ℕ) (Settled : ℕ → Type 0) (Came : List Told → Type 0) : Type 0 where
   pub bytes : List ℕ
   pub turns : List Turn
   pub took : Consumes start rest bytes
   pub within : length bytes ≤ 16777216
   pub whole : OnSome start (IsAtEnd rest) ⊎ (AreLines bytes (lines_of bytes) × IsRefusal turns)
+  pub stops : StopsAtRefusal turns
   pub are : AreTurns names (lines_of bytes) turns
   pub put : Appends first kept (session_text replies turns)
   pub came : Came (told_by turns)
@@ -90,12 +91,18 @@ IsCause Clash start rest read_failed write_failed taken = ⊥
 abbrev pub IsDropped : SessionFault → List ℕ → Type 0
 IsDropped fault part = HasNoLf part ⊎ ((fault ≡ Memory) × ((line : List ℕ) × HasNoLf line × (part ≡ line ++ 10 ∷ [])))
 
+-- the bytes are whole lines, or where it wasn't reading that stopped they may be all of an input whose last line has no LF
+abbrev pub AreWholeLines : SessionFault → List ℕ → List ℕ → Option (List ℕ) → Option (List ℕ) → Type 0
+AreWholeLines fault bytes part start rest =
+    AreLines bytes (lines_of bytes) ⊎ (((fault ≡ Write) ⊎ (fault ≡ Memory)) × (part ≡ []) × OnSome start (IsAtEnd rest))
+
 -- these turns were read whole, and then a part that is dropped
 pub record Broken (fault : SessionFault) (names : KnownNames) (start rest : Option (List ℕ)) (read_failed write_failed : Bool) (turns : List Turn) : Type 0 where
   pub bytes : List ℕ
   pub part : List ℕ
   pub took : Consumes start rest (bytes ++ part)
   pub within : length (bytes ++ part) ≤ 16777216
+  pub lines : AreWholeLines fault bytes part start rest
   pub dropped : IsDropped fault part
   pub are : AreTurns names (lines_of bytes) turns
   pub why : IsCause fault start rest read_failed write_failed (length (bytes ++ part))
@@ -115,11 +122,38 @@ pub record AreBlocks (replies : ℕ → List ℕ) (turns : List Turn) (written :
 abbrev pub AreWhole : (ℕ → List ℕ) → List Turn → List ℕ → Type 0
 AreWhole replies turns written = (AreSkips turns × (written ≡ [])) ⊎ AreBlocks replies turns written
 
+-- all blocks are written whole, but perhaps one that the last line closes
+abbrev pub AreWholeBefore : (ℕ → List ℕ) → List Turn → List ℕ → Type 0
+AreWholeBefore replies turns written =
+    (front last : List Turn) × (length last ≤ 1) × (turns ≡ front ++ last) × AreWhole replies front written
+
+-- what is written of these lines, whatever comes behind them
+abbrev pub IsDue : (ℕ → List ℕ) → List Turn → List ℕ → Type 0
+IsDue replies turns text = AreWhole replies turns text ⊎ (IsRefusal turns × (text ≡ refused_hello ++ bye_line))
+
+-- a part of what is written whatever comes, or of the last words at the end of the input
+abbrev pub IsDuePart : (ℕ → List ℕ) → (start rest : Option (List ℕ)) → List Turn → List ℕ → Type 0
+IsDuePart replies start rest heard written = OnSome start (IsAtEnd rest) ⊎ ((text : List ℕ) × IsDue replies heard text × Begins written text)
+
+-- What a session that ended early has written. Where reading stopped it is all blocks whose `wait` came. Where memory was
+-- refused it is they as well, but the block that the last line closes may be lacking. Where writing failed a part of what is
+-- written next may follow.
+abbrev pub IsPutAt : SessionFault → (ℕ → List ℕ) → (start rest : Option (List ℕ)) → (turns heard : List Turn) → List ℕ → Type 0
+IsPutAt Read replies start rest turns heard written = AreWhole replies turns written
+IsPutAt TooLong replies start rest turns heard written = AreWhole replies turns written
+IsPutAt Memory replies start rest turns heard written = AreWholeBefore replies turns written
+IsPutAt Write replies start rest turns heard written =
+    ((done : List ℕ) × AreWholeBefore replies turns done × Begins done written) × IsDuePart replies start rest heard written
+IsPutAt Clash replies start rest turns heard written = ⊥
+
 -- The session ended early. What is written begins the transcript of the lines that were heard, which are those that were
--- read but perhaps the last, whatever is answered later. What was told is what these lines tell, but for settling.
+-- read but perhaps the last, whatever is answered later. What was told is what these lines tell, but for settling. Nothing
+-- was read behind a first line that was refused.
 pub record Stopped (fault : SessionFault) (names : KnownNames) (start rest first kept : Option (List ℕ)) (read_failed write_failed : Bool) (replies : ℕ → List ℕ) (Settled : ℕ → Type 0) (Came : List Told → Type 0) : Type 0 where
   pub turns : List Turn
   pub read : Broken fault names start rest read_failed write_failed turns
+  pub stops : StopsAtRefusal turns
+  pub unread : IsRefusal turns → read.part ≡ []
   pub written : List ℕ
   pub put : Appends first kept written
   pub upto : ℕ
@@ -131,4 +165,4 @@ pub record Stopped (fault : SessionFault) (names : KnownNames) (start rest first
   pub settles : ℕ
   pub told_is : told_by heard ≡ told ++ replicate settles Settles
   pub begins : (later : ℕ → List ℕ) → SameUpTo upto replies later → Begins written (session_text later heard)
-  pub closed : (fault ≡ Read) ⊎ (fault ≡ TooLong) → (later : ℕ → List ℕ) → SameUpTo upto replies later → AreWhole later turns written
+  pub closed : (later : ℕ → List ℕ) → SameUpTo upto replies later → IsPutAt fault later start rest turns heard written

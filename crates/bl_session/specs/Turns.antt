@@ -51,6 +51,15 @@ IsRefusal (Wait ∷ turns) = turns ≡ []
 IsRefusal (Bad fault ∷ turns) = turns ≡ []
 IsRefusal (Ask work ∷ turns) = turns ≡ []
 
+-- behind a first line that is refused there is none
+abbrev pub StopsAtRefusal : List Turn → Type 0
+StopsAtRefusal [] = Unit {0}
+StopsAtRefusal (Skip ∷ turns) = StopsAtRefusal turns
+StopsAtRefusal (Greets subject ∷ turns) = Unit {0}
+StopsAtRefusal (Wait ∷ turns) = turns ≡ []
+StopsAtRefusal (Bad fault ∷ turns) = turns ≡ []
+StopsAtRefusal (Ask work ∷ turns) = turns ≡ []
+
 -- lines that are skipped, and then the one that opens the session
 abbrev pub IsOpening : ℕ → List Turn → Type 0
 IsOpening subject [] = ⊥

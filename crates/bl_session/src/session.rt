@@ -2,6 +2,7 @@
 //! it, and writes the replies of a block at each `wait` and at the end of the input.
 ghost use Rattle.std.specs.Prelude.{◌≡◌, take, ◌≤◌, ◌<◌, ◌+◌, ◌^◌, ◌++◌, ◌∷◌, [], ◌⊎◌, List, ℕ, Bool, true, false, Option, OnOk, OnErr, IfOk, IfErr, IfSome, OnSome, length};
 ghost use Rattle.std.specs.Io.KnownBytes.{Consumes, Appends, IsAtEnd};
+ghost use Rattle.bl_session.specs.declared.fault.SessionFault.TheVariants.{Write};
 ghost use Rattle.bl_session.specs.Turns.{AreSkips, is_skip, IsServed, AreServed, StandsIn};
 ghost use Rattle.bl_session.specs.declared.turn.Turn.{Turn};
 ghost use Rattle.bl_session.specs.Told.{Told, Opens, Settles, SameUpTo};
@@ -61,7 +62,7 @@ fn end_block<B: Behind, W: Write>(
     ensures whole { OnOk result (B.whole behind.now state.new talk.new.after) }
 
     ensures fault { IfErr result (IsOwnFault writer.new.failed) }
-    ensures part { OnErr result (BlockFailed (B.settled behind.now state.new) (W.contents writer.old.inner) (W.contents writer.new.inner)
+    ensures part { IfErr result (λ fault. BlockFailed fault (B.settled behind.now state.new) (W.contents writer.old.inner) (W.contents writer.new.inner)
         talk.old.ordinal (block_text (B.replies behind.now state.new) talk.old.after talk.old.pending.items ++ closing.now)) }
     ensures told { OnErr result ((told : List Told) → B.came behind.now state.old told → B.came behind.now state.new told ⊎ B.came behind.now state.new (told ++ Settles ∷ [])) }
 {
@@ -114,7 +115,7 @@ fn take_turn<B: Behind, W: Write>(
     ensures small { OnOk result (talk.new.ordinal ≤ talk.old.ordinal + 1) }
 
     ensures fault { IfErr result (IsOwnFault writer.new.failed) }
-    ensures err { OnErr result (FailsTurn (B.replies behind.now state.old) (B.replies behind.now state.new)
+    ensures err { IfErr result (λ fault. FailsTurn fault (B.replies behind.now state.old) (B.replies behind.now state.new)
         (B.settled behind.now state.old) (B.settled behind.now state.new) (B.came behind.now state.old) (B.came behind.now state.new)
         talk.old.after talk.old.pending.items (W.contents writer.old.inner) (W.contents writer.new.inner) turn) }
 {
@@ -302,6 +303,7 @@ fn say<W: Write>(writer: &mut Watched<W>, words: &[u8]) -> Result<(), SessionFau
     ensures ok { OnOk result (Appends (W.contents writer.old.inner) (W.contents writer.new.inner) words.now) }
     ensures same { OnOk result (writer.new.failed ≡ writer.old.failed) }
     ensures fault { IfErr result (IsOwnFault writer.new.failed) }
+    ensures write { IfErr result (λ fault. fault ≡ Write) }
     ensures part { (much : ℕ) × Appends (W.contents writer.old.inner) (W.contents writer.new.inner) (take much words.now) }
 {
     if put_out(writer, words) {
@@ -329,8 +331,8 @@ fn greet<B: Behind, W: Write>(
     ensures came { OnOk result (B.came behind.now state.new (Opens subject ∷ [])) }
     ensures last { OnOk result (B.last behind.now state.new ≡ 0) }
     ensures fault { IfErr result (IsOwnFault writer.new.failed) }
-    ensures told { OnErr result ((B.came behind.now state.new [] × Appends (W.contents writer.old.inner) (W.contents writer.new.inner) [])
-        ⊎ (B.came behind.now state.new (Opens subject ∷ []) × ((much : ℕ) × Appends (W.contents writer.old.inner) (W.contents writer.new.inner) (take much ok_line)))) }
+    ensures told { IfErr result (λ fault. (B.came behind.now state.new [] × Appends (W.contents writer.old.inner) (W.contents writer.new.inner) [])
+        ⊎ ((fault ≡ Write) × B.came behind.now state.new (Opens subject ∷ []) × ((much : ℕ) × Appends (W.contents writer.old.inner) (W.contents writer.new.inner) (take much ok_line)))) }
 {
     match behind.open(state, subject) {
         Ok(()) => {}

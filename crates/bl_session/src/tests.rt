@@ -5,6 +5,7 @@ mod children;
 mod contents;
 mod decisions;
 mod ends;
+mod flushes;
 mod greetings;
 mod limits;
 mod refusals;

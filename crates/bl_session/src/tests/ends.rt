@@ -174,6 +174,22 @@ fn read_fails_in_a_line(rt: HostRuntime) -> Result<(), Fail> {
     Ok(())
 }
 
+/// A `wait` without its LF is no line where reading failed behind it.
+#[test]
+fn read_fails_behind_a_line_without_lf(rt: HostRuntime) -> Result<(), Fail> {
+    let alloc = rt.alloc();
+    let input = GivesThenFails {
+        bytes: b"hello ann\nwhen read memo do show memo; end\nwait",
+    };
+    let mut reader = Watched::new(BufReader::new(alloc, input)?);
+    let mut writer = Watched::new(Vec::new(alloc));
+    let result = serve_alone(alloc, base(alloc)?, 10_000, &mut reader, &mut writer);
+    assert!(rt; result == Err(SessionFault::Read));
+    assert!(rt; reader.failed());
+    assert!(rt; writer.inner.as_slice() == b"ok\n".as_slice());
+    Ok(())
+}
+
 /// Takes so many bytes, and then fails or takes nothing.
 #[derive(Drop)]
 struct TakesThenFails {

@@ -1,6 +1,6 @@
-use Rattle.std.proofs.Common.{rules, ◌≡◌, None}
+use Rattle.std.proofs.Common.{rules, ◌≡◌, None, inr, refl, arith, [], ◌∷◌}
 use Rattle.bl_session.specs.Turns.{greeted}
-use Rattle.bl_session.proofs.Outcomes.{on_ok-map, if_err-map}
+use Rattle.bl_session.proofs.Outcomes.{on_ok-map, if_err-map, if_err-both}
 use Rattle.bl_session.proofs.Stages.{stage_start, stopped_greeting, refuses_after, closed_done, closed_failed, heard_whole}
 use Rattle.bl_session.proofs.session.answer_first.Goals as goal
 
@@ -24,13 +24,14 @@ returns-clause-ok g c = on_ok-map c.say.result
     (λ put start heard.
     let none_greets : greeted c.args.turn ≡ None = search rules in
     let refused = refuses_after heard.turns c.args.turn heard.quiet c.requires.spoken none_greets in
-    closed_done _ start _ _ (g.B.Behind.settled c.args.behind.now c.args.state.now) _ _ c.requires.settled c.requires.came _ _ _ heard.read _ _ refused.text refused.told (heard_whole _ _ start _ _ _ heard.read refused.last) put)
+    closed_done _ start _ _ (g.B.Behind.settled c.args.behind.now c.args.state.now) _ _ c.requires.settled c.requires.came _ _ _ heard.read _ _ refused.text refused.told (heard_whole _ _ start _ _ _ heard.read refused.last) refused.stops put)
     c.say.ensures.ok
 
 pub returns-clause-err : goal.returns-clause-err
-returns-clause-err g c = if_err-map c.say.result
-    (λ fault own start heard.
+returns-clause-err g c = if_err-both c.say.result
+    (λ fault own write start heard.
     let none_greets : greeted c.args.turn ≡ None = search rules in
     let refused = refuses_after heard.turns c.args.turn heard.quiet c.requires.spoken none_greets in
-    closed_failed _ start _ _ _ _ _ c.requires.settled c.requires.came _ _ _ heard.read _ _ refused.text refused.told fault _ _ own c.say.ensures.part.0 c.say.ensures.part.1)
-    c.say.ensures.fault
+    closed_failed _ start _ _ _ _ _ c.requires.settled c.requires.came _ _ _ heard.read _ _ refused.text refused.told
+    heard.turns (c.args.turn ∷ []) refused.stops heard.quiet (omega arith) refl (inr (refused.last, refl)) fault _ _ own write c.say.ensures.part.0 c.say.ensures.part.1)
+    c.say.ensures.fault c.say.ensures.write

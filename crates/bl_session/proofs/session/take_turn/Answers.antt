@@ -52,4 +52,4 @@ returns-in-Ok-clause-ok g c subject turns ws was =
 pub returns-in-Err-clause-err : goal.returns-in-Err-clause-err
 returns-in-Err-clause-err g c =
     let kept = c.end_block.ensures.settled c.args.talk.now.after c.requires.settled in
-    all_wait_failed c.end_block.result _ _ _ _ _ _ _ _ _ _ kept.1 kept.0 _ c.in-Wait.is _ c.requires.count c.in-Err.ensures.part c.in-Err.ensures.told
+    all_wait_failed c.end_block.result _ _ _ _ _ _ _ _ _ _ kept.1 kept.0 c.in-Err.fault _ c.in-Wait.is _ c.requires.count c.in-Err.ensures.part c.in-Err.ensures.told
