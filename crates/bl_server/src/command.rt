@@ -1,7 +1,7 @@
 //! The command line.
 ghost use Rattle.std.specs.Prelude.{◌≡◌, ◌≢◌, ◌≤◌, ◌⊎◌, IfOk, IfErr, IfSome};
 ghost use Rattle.clap.specs.Values.{kind_of};
-ghost use Rattle.bl_server.specs.Words.{IsInRange};
+ghost use Rattle.bl_server.specs.Words.{IsInRange, HasNumber, IsOf};
 
 use clap::error::ErrorKind;
 use clap::{Arg, ArgAction, ArgMatches, Command as Parser, Error, value_parser};
@@ -55,7 +55,8 @@ fn parser<'a>(alloc: Global) -> Result<Parser<'a>, AllocError> {
 
 /// The number of an option, where it is 1 to `most`.
 fn number(found: &ArgMatches<'_>, name: &str, most: u32) -> Option<u32>
-    ensures { IfSome result (λ n. (1 ≤ n) × (n ≤ most)) }
+    ensures range { IfSome result (λ n. (1 ≤ n) × (n ≤ most)) }
+    ensures written { IfSome result (HasNumber found.now name.now) }
 {
     let number = found.get_one::<u32>(name)?;
     if number < 1 || number > most {
@@ -66,7 +67,8 @@ fn number(found: &ArgMatches<'_>, name: &str, most: u32) -> Option<u32>
 
 /// The command that the matches name, where they are matches of `parser`.
 fn command_of<'a>(found: &ArgMatches<'a>) -> Option<Command<'a>>
-    ensures { IfSome result IsInRange }
+    ensures range { IfSome result IsInRange }
+    ensures written { IfSome result (IsOf found.now) }
 {
     let (name, options) = found.subcommand()?;
     match name {
