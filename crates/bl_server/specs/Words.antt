@@ -1,10 +1,11 @@
 -- What the words of a command line name.
-use Rattle.std.specs.Prelude.{◌≡◌, ◌≤◌, ℕ, List, Some, codes}
+use Rattle.std.specs.Prelude.{◌≡◌, ◌≤◌, ℕ, List, Option, Some, codes}
 use Rattle.std.specs.Str.Parse.{IsNumeral, digits_value, without_leading_plus}
 use Rattle.clap.specs.Matches.{found_of, first_value, one_text}
-use Rattle.clap.specs.Simple.{subcommand_rows_of}
-use Rattle.clap.specs.Walk.{rows_of}
+use Rattle.clap.specs.Simple.{subcommand_of, subcommand_rows_of}
+use Rattle.clap.specs.Walk.{Row, rows_of}
 use Rattle.clap.specs.declared.parser.matches.ArgMatches.{ArgMatches}
+use Rattle.bl_server.specs.CommandLine.{server_app}
 use Rattle.bl_server.specs.declared.command.Command.{Command}
 use Rattle.bl_server.specs.declared.command.Command.TheVariants.{Alone}
 
@@ -29,7 +30,19 @@ abbrev pub HasOptions : ArgMatches → Command → Type 0
 HasOptions options (Alone setup limit) =
     (first_value (found_of options) (codes "setup") ≡ Some setup.now) × HasNumber options (codes "limit") limit
 
--- the matches of a command line are of the command's word, and what they have of its options is the command
+-- a subcommand's word and what was found of its options are those of the command
+abbrev pub IsEntered : Option (List ℕ × List Row) → Command → Type 0
+IsEntered entered command = (options : ArgMatches)
+    × (entered ≡ Some (word_of command, rows_of (found_of options))) × HasOptions options command
+
+-- the matches of a command line are of the command
 abbrev pub IsOf : ArgMatches → Command → Type 0
-IsOf found command = (options : ArgMatches)
-    × (subcommand_rows_of found ≡ Some (word_of command, rows_of (found_of options))) × HasOptions options command
+IsOf found command = IsEntered (subcommand_rows_of found) command
+
+-- the subcommand that the program's command line has in these words, of which the first is the program's name
+unfoldable pub entered_by : List (List ℕ) → Option (List ℕ × List Row)
+entered_by words = subcommand_of server_app words
+
+-- the words name the command
+abbrev pub Name : List (List ℕ) → Command → Type 0
+Name words command = IsEntered (entered_by words) command
