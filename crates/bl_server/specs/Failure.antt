@@ -3,6 +3,7 @@ use Rattle.std.specs.Prelude.{◌≡◌, ◌≢◌, ℕ, Bool, List, Option, [],
 use Rattle.std.specs.Io.KnownBytes.{Keeps}
 use Rattle.bl_setup.specs.Order as order
 use Rattle.bl_setup.specs.Faults.{UnlessMemory}
+use Rattle.bl_setup.specs.FirstFault.{FirstFault, IsReadAt}
 use Rattle.bl_setup.specs.Grammar.{IsSetup}
 use Rattle.bl_setup.specs.declared.fault.SetupFault.{SetupFault}
 use Rattle.bl_setup.specs.declared.fault.SetupFaultKind.{SetupFaultKind}
@@ -39,13 +40,16 @@ IsOfSession failing.TooLong fault = fault ≡ TooLong
 IsOfSession failing.Memory fault = fault ≡ NoMemory
 IsOfSession failing.Clash fault = ⊥
 
--- No session began: nothing was read or written, and the text is no setup, unless memory was refused. The fault is told.
+-- No session began: nothing was read or written. The fault that is told is the first of the text, with its line and kind, and
+-- the text is no setup, unless memory was refused; and that was at a line that is read, with the lines before it right.
 pub record IsNotBegun (setup : List ℕ) (fault : ProgramFault) (start rest first kept : Option (List ℕ)) : Type 0 where
   pub unread : Keeps start rest
   pub unwritten : Keeps first kept
   pub of : SetupFault
   pub named : IsOfSetup of fault
   pub why : UnlessMemory of.kind ((begun : order.Setup) → IsSetup setup begun → ⊥)
+  pub earliest : UnlessMemory of.kind (FirstFault setup of)
+  pub refused : of.kind ≡ kinds.Memory → IsReadAt setup of.line
 
 -- A session of the setup that the text is began, and ended early by the fault that is told.
 pub record IsEnded (setup : List ℕ) (limit : ℕ) (fault : ProgramFault) (start rest first kept : Option (List ℕ)) (read_failed write_failed : Bool) : Type 0 where

@@ -2,3 +2,4 @@ pub mod Words
 pub mod Status
 pub mod Failure
 pub mod Message
+pub mod CommandLine

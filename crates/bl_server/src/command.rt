@@ -1,7 +1,9 @@
 //! The command line.
-ghost use Rattle.std.specs.Prelude.{◌≡◌, ◌≢◌, ◌≤◌, ◌⊎◌, IfOk, IfErr, IfSome};
-ghost use Rattle.clap.specs.Values.{kind_of};
-ghost use Rattle.bl_server.specs.Words.{IsInRange};
+ghost use Rattle.std.specs.Prelude.{◌≡◌, ◌≢◌, ◌≤◌, ◌⊎◌, false, map, string_bytes, IfOk, IfErr, IfSome};
+ghost use Rattle.clap.specs.Words.{kind_of, rule_of, app_of};
+ghost use Rattle.clap.specs.declared.builder.command.Command.TheViews.{out-Command as fields_of};
+ghost use Rattle.bl_server.specs.CommandLine.{setup_rule, limit_rule, alone_app, server_app};
+ghost use Rattle.bl_server.specs.Words.{IsInRange, HasNumber, IsOf, Name};
 
 use clap::error::ErrorKind;
 use clap::{Arg, ArgAction, ArgMatches, Command as Parser, Error, value_parser};
@@ -22,7 +24,10 @@ pub enum Command<'a> {
 /// The weight of the lines that may be admitted in one run, at most.
 const MOST_LIMIT: u32 = 100_000;
 
-fn setup_option<'a>(alloc: Global) -> Arg<'a> {
+fn setup_option<'a>(alloc: Global) -> Arg<'a>
+    ensures rule { rule_of result ≡ setup_rule }
+    ensures own { result.global ≡ false }
+{
     Arg::new(alloc, "setup")
         .long("setup")
         .required(true)
@@ -30,7 +35,10 @@ fn setup_option<'a>(alloc: Global) -> Arg<'a> {
         .help("The setup file")
 }
 
-fn limit_option<'a>(alloc: Global) -> Arg<'a> {
+fn limit_option<'a>(alloc: Global) -> Arg<'a>
+    ensures rule { rule_of result ≡ limit_rule }
+    ensures own { result.global ≡ false }
+{
     Arg::new(alloc, "limit")
         .long("limit")
         .action(ArgAction::Set)
@@ -39,14 +47,19 @@ fn limit_option<'a>(alloc: Global) -> Arg<'a> {
         .help("The weight of the lines that are admitted, 1 to 100000")
 }
 
-fn alone_parser<'a>(alloc: Global) -> Result<Parser<'a>, AllocError> {
+fn alone_parser<'a>(alloc: Global) -> Result<Parser<'a>, AllocError>
+    ensures app { IfOk result (λ parser. app_of parser ≡ alone_app) }
+    ensures own { IfOk result (λ parser. (fields_of parser).has_globals ≡ false) }
+{
     Parser::new(alloc, "alone")
         .about("One session on standard input and output")
         .arg(setup_option(alloc))?
         .arg(limit_option(alloc))
 }
 
-fn parser<'a>(alloc: Global) -> Result<Parser<'a>, AllocError> {
+fn parser<'a>(alloc: Global) -> Result<Parser<'a>, AllocError>
+    ensures { IfOk result (λ parser. app_of parser ≡ server_app) }
+{
     Parser::new(alloc, "bl_server")
         .about("A document server that enforces Bell and La Padula")
         .subcommand_required(true)
@@ -55,7 +68,8 @@ fn parser<'a>(alloc: Global) -> Result<Parser<'a>, AllocError> {
 
 /// The number of an option, where it is 1 to `most`.
 fn number(found: &ArgMatches<'_>, name: &str, most: u32) -> Option<u32>
-    ensures { IfSome result (λ n. (1 ≤ n) × (n ≤ most)) }
+    ensures range { IfSome result (λ n. (1 ≤ n) × (n ≤ most)) }
+    ensures written { IfSome result (HasNumber found.now name.now) }
 {
     let number = found.get_one::<u32>(name)?;
     if number < 1 || number > most {
@@ -66,7 +80,8 @@ fn number(found: &ArgMatches<'_>, name: &str, most: u32) -> Option<u32>
 
 /// The command that the matches name, where they are matches of `parser`.
 fn command_of<'a>(found: &ArgMatches<'a>) -> Option<Command<'a>>
-    ensures { IfSome result IsInRange }
+    ensures range { IfSome result IsInRange }
+    ensures written { IfSome result (IsOf found.now) }
 {
     let (name, options) = found.subcommand()?;
     match name {
@@ -82,7 +97,8 @@ fn command_of<'a>(found: &ArgMatches<'a>) -> Option<Command<'a>>
 /// Reads the words of a command line, of which the first is the program's name. The error's text
 /// is for whoever gave the words; a call for help is an error too.
 pub fn parse_words<'a>(alloc: Global, words: &'a [String]) -> Result<Command<'a>, Error>
-    ensures { IfOk result IsInRange }
+    ensures range { IfOk result IsInRange }
+    ensures written { IfOk result (Name (map (λ word. string_bytes word) words.entry.now)) }
 {
     let matches = parser(alloc)?.try_get_matches_from(words)?;
     match command_of(&matches) {
@@ -111,6 +127,7 @@ pub fn status_of(error: &Error) -> u8
 /// status of the run.
 pub fn read_words<'a>(alloc: Global, words: &'a [String]) -> Result<Command<'a>, u8>
     ensures ok { IfOk result IsInRange }
+    ensures written { IfOk result (Name (map (λ word. string_bytes word) words.entry.now)) }
     ensures err { IfErr result (λ status. (status ≡ 0) ⊎ ((status ≡ 2) ⊎ (status ≡ 4))) }
 {
     match parse_words(alloc, words) {

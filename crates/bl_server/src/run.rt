@@ -62,8 +62,9 @@ fn say<E: Write>(errors: &mut Watched<E>, fault: &ProgramFault)
 ///
 /// The result is the status of the run: 0 where the session was served, 3 for a fault of the setup
 /// or of the session, and 4 for want of memory. The words of a fault go to `errors` and nothing else
-/// does. Where the bytes are no setup nothing is read or written; after a fault of the session what
-/// was written begins a transcript.
+/// does. Where the bytes are no setup nothing is read or written, and the words name the first fault
+/// of the text, its line and what is wrong with it; after a fault of the session what was written
+/// begins a transcript.
 pub fn alone_on<R: BufRead, W: Write, E: Write>(
     alloc: Global,
     setup: &[u8],

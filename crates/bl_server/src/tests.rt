@@ -11,6 +11,12 @@ use std::test::Fail;
 
 const ONE_SUBJECT: &str = "ranks u\ncategories\nsubject ann greatest u current u\n";
 
+/// The current level of bob is above the greatest, and the line behind it is at fault too.
+const FOURTH_LINE_AT_FAULT: &str = "ranks u c s t\ncategories nato crypto\n\
+    subject ann greatest s{nato} current s{nato}\n\
+    subject bob greatest s{nato} current t\n\
+    subject ann greatest s{crypto} current s{crypto}\n";
+
 fn words(alloc: Global, given: &[&str]) -> Result<Vec<String>, AllocError> {
     let mut words = Vec::new(alloc);
     for word in given {
@@ -33,6 +39,60 @@ fn reads_alone(rt: HostRuntime) -> Result<(), Fail> {
         }
         Err(_) => assert!(rt; false),
     }
+    Ok(())
+}
+
+#[test]
+fn reads_a_limit_before_and_behind_the_setup(rt: HostRuntime) -> Result<(), Fail> {
+    let alloc = rt.alloc();
+    for (text, number) in [("7", 7), ("1", 1), ("100000", 100_000)] {
+        let before = ["bl_server", "alone", "--limit", text, "--setup", "base.txt"];
+        let behind = ["bl_server", "alone", "--setup", "base.txt", "--limit", text];
+        for given in [before, behind] {
+            let given = words(alloc, given.as_slice())?;
+            match read_words(alloc, given.as_slice()) {
+                Ok(Command::Alone { setup, limit }) => {
+                    assert_eq!(rt; setup, "base.txt");
+                    assert_eq!(rt; limit, number, "at {text}");
+                }
+                Err(_) => assert!(rt; false, "at {text}"),
+            }
+        }
+    }
+    Ok(())
+}
+
+/// The status that a run of these words ends with, where they are no command.
+fn status_without_a_command(alloc: Global, given: &[&str]) -> Result<Option<u8>, AllocError> {
+    let given = words(alloc, given)?;
+    Ok(read_words(alloc, given.as_slice()).err())
+}
+
+#[test]
+fn ends_where_no_command_is_given(rt: HostRuntime) -> Result<(), Fail> {
+    let alloc = rt.alloc();
+    let no_setup = ["bl_server", "alone", "--limit", "7"];
+    assert_eq!(rt;
+        status_without_a_command(alloc, no_setup.as_slice())?,
+        Some(2)
+    );
+    let unknown = ["bl_server", "many", "--setup", "base.txt"];
+    assert_eq!(rt;
+        status_without_a_command(alloc, unknown.as_slice())?,
+        Some(2)
+    );
+    let nothing = ["bl_server"];
+    assert_eq!(rt;
+        status_without_a_command(alloc, nothing.as_slice())?,
+        Some(2)
+    );
+    let help = ["bl_server", "--help"];
+    assert_eq!(rt; status_without_a_command(alloc, help.as_slice())?, Some(0));
+    let help_of_alone = ["bl_server", "alone", "--help"];
+    assert_eq!(rt;
+        status_without_a_command(alloc, help_of_alone.as_slice())?,
+        Some(0)
+    );
     Ok(())
 }
 
@@ -97,6 +157,27 @@ fn names_a_fault_of_the_setup(rt: HostRuntime) -> Result<(), Fail> {
     assert_eq!(rt; status, 3);
     assert!(rt; writer.inner.is_empty());
     assert!(rt; errors.inner.as_slice() == b"setup 1: syntax\n".as_slice());
+    Ok(())
+}
+
+#[test]
+fn names_the_first_fault_of_the_setup(rt: HostRuntime) -> Result<(), Fail> {
+    let alloc = rt.alloc();
+    let mut reader = Watched::new(&b"hello ann\n"[..]);
+    let mut writer = Watched::new(Vec::new(alloc));
+    let mut errors = Watched::new(Vec::new(alloc));
+    let status = alone_on(
+        alloc,
+        FOURTH_LINE_AT_FAULT.as_bytes(),
+        10_000,
+        &mut reader,
+        &mut writer,
+        &mut errors,
+    );
+    assert_eq!(rt; status, 3);
+    assert!(rt; reader.inner == b"hello ann\n".as_slice());
+    assert!(rt; writer.inner.is_empty());
+    assert!(rt; errors.inner.as_slice() == b"setup 4: current above greatest\n".as_slice());
     Ok(())
 }
 
