@@ -23,12 +23,30 @@ pub(crate) enum Class {
     Text,
 }
 
+// Each byte of a word stands at its own place, and a point at every other place.
+static WORD_BYTES: [u8; 256] = *b"\
+    ................................\
+    ................0123456789......\
+    ..............................._\
+    .abcdefghijklmnopqrstuvwxyz.....\
+    ................................\
+    ................................\
+    ................................\
+    ................................";
+
+/// Whether the byte may stand in a word. Most bytes of a text are asked this, so a table answers it.
+fn is_word_byte(b: u8) -> bool
+    ensures { result ≡ spec.is_word_byte b }
+{
+    WORD_BYTES[b as usize] != b'.'
+}
+
 pub(crate) fn is_in(class: Class, b: u8) -> bool
     ensures { result ≡ spec.is_in class b }
 {
     match class {
         Class::Blank => b == b' ' || b == b'\t',
-        Class::Word => b.is_ascii_lowercase() || b.is_ascii_digit() || b == b'_',
+        Class::Word => is_word_byte(b),
         Class::Text => b' ' <= b && b <= b'~' && b != b'"' && b != b'\\',
     }
 }
@@ -40,6 +58,18 @@ fn run_len(class: Class, bytes: &[u8]) -> usize
 {
     let mut end = 0;
     while end < bytes.len() && is_in(class, bytes[end]) {
+        end += 1;
+    }
+    end
+}
+
+/// The length of the longest run of bytes of a word at the front. It asks one question a byte, and no class.
+fn word_run_len(bytes: &[u8]) -> usize
+    ensures value { result ≡ spec.run_len Class.Word bytes.now }
+    ensures within { result ≤ length bytes.now }
+{
+    let mut end = 0;
+    while end < bytes.len() && is_word_byte(bytes[end]) {
         end += 1;
     }
     end
@@ -164,7 +194,7 @@ fn word_token<'a>(word: &'a [u8]) -> Token<'a>
 fn word_front<'a>(bytes: &'a [u8]) -> Front<'a>
     ensures { front_view result ≡ spec.word_front bytes.now }
 {
-    let (word, behind) = bytes.split_at(run_len(Class::Word, bytes));
+    let (word, behind) = bytes.split_at(word_run_len(bytes));
     if word.len() <= 32 {
         Front::Token(word_token(word), behind)
     } else {
