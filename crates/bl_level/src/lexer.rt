@@ -1,6 +1,6 @@
 // From bytes to tokens. A token is the longest that its first byte can begin, and blanks stand between tokens.
 
-ghost use Rattle.std.specs.Prelude.{◌≡◌, ◌≢◌, ℕ, ◌≤◌, ◌<◌, List, ◌∷◌, [], length, drop, take, Some, None, IfSome, IfNone, IfOk};
+ghost use Rattle.std.specs.Prelude.{◌≡◌, ◌≢◌, ◌≤◌, ◌∷◌, [], length, Some, None, IfSome, IfNone, IfOk};
 ghost use Rattle.bl_level.specs.declared.token.Keyword.{Keyword};
 ghost use Rattle.bl_level.specs.Token.{tok, toks};
 ghost use Rattle.bl_level.specs.Lexing as spec;
@@ -34,7 +34,7 @@ static WORD_BYTES: [u8; 256] = *b"\
     ................................\
     ................................";
 
-/// Whether the byte may stand in a word. Most bytes of a text are asked this, so a table answers it.
+/// Whether the byte may stand in a word. Nearly each byte of a line is asked this, so a table answers it.
 fn is_word_byte(b: u8) -> bool
     ensures { result ≡ spec.is_word_byte b }
 {
@@ -63,7 +63,7 @@ fn run_len(class: Class, bytes: &[u8]) -> usize
     end
 }
 
-/// The length of the longest run of bytes of a word at the front. It asks one question a byte, and no class.
+/// The length of the longest run of bytes of a word at the front: `run_len` without asking the class at each byte.
 fn word_run_len(bytes: &[u8]) -> usize
     ensures value { result ≡ spec.run_len Class.Word bytes.now }
     ensures within { result ≤ length bytes.now }
@@ -75,67 +75,179 @@ fn word_run_len(bytes: &[u8]) -> usize
     end
 }
 
-/// The reserved words that begin with this byte, those that lines have most often first.
-fn words_from(first: u8) -> &'static [Keyword]
-    ensures { (rest : List ℕ) → spec.keyword_among result.now (first ∷ rest) ≡ spec.keyword_among spec.words (first ∷ rest) }
+// The reserved words by their first letter. A literal pattern is tested in place, a few bytes at most, where `==` on
+// slices would be a call for each word.
+
+/// The reserved word that `a` and the bytes behind it are.
+fn behind_a(rest: &[u8]) -> Option<Keyword>
+    ensures { result ≡ spec.keyword_among spec.words (97 ∷ rest.now) }
 {
-    match first {
-        b'a' => &[
-            Keyword::Add,
-            Keyword::Append,
-            Keyword::Allow,
-            Keyword::Admin,
-        ],
-        b'c' => &[
-            Keyword::Current,
-            Keyword::Classify,
-            Keyword::Copy,
-            Keyword::Categories,
-            Keyword::Create,
-        ],
-        b'd' => &[Keyword::Do, Keyword::Document, Keyword::Delete],
-        b'e' => &[Keyword::End, Keyword::Else],
-        b'g' => &[Keyword::Give, Keyword::Greatest],
-        b'h' => &[Keyword::Hello, Keyword::Has],
-        b'i' => &[Keyword::If, Keyword::Is],
-        b'p' => &[Keyword::Pour],
-        b'r' => &[
-            Keyword::Read,
-            Keyword::Rescind,
-            Keyword::Ranks,
-            Keyword::Reserve,
-        ],
-        b's' => &[
-            Keyword::Show,
-            Keyword::Say,
-            Keyword::Set,
-            Keyword::Spawn,
-            Keyword::Subject,
-        ],
-        b't' => &[Keyword::To, Keyword::Then, Keyword::Trusted],
-        b'w' => &[Keyword::When, Keyword::Write, Keyword::Wait],
-        _ => &[],
+    match rest {
+        b"dd" => Some(Keyword::Add),
+        b"ppend" => Some(Keyword::Append),
+        b"llow" => Some(Keyword::Allow),
+        b"dmin" => Some(Keyword::Admin),
+        _ => None,
     }
 }
 
-/// Which of these reserved words the bytes are.
-fn among(mut words: &[Keyword], word: &[u8]) -> Option<Keyword>
-    ensures { result ≡ spec.keyword_among words.entry.now word.now }
+/// The reserved word that `c` and the bytes behind it are.
+fn behind_c(rest: &[u8]) -> Option<Keyword>
+    ensures { result ≡ spec.keyword_among spec.words (99 ∷ rest.now) }
 {
-    while let [k, rest @ ..] = words {
-        if k.text() == word {
-            return Some(*k);
-        }
-        words = rest;
+    match rest {
+        b"urrent" => Some(Keyword::Current),
+        b"lassify" => Some(Keyword::Classify),
+        b"opy" => Some(Keyword::Copy),
+        b"ategories" => Some(Keyword::Categories),
+        b"reate" => Some(Keyword::Create),
+        _ => None,
     }
-    None
+}
+
+/// The reserved word that `d` and the bytes behind it are.
+fn behind_d(rest: &[u8]) -> Option<Keyword>
+    ensures { result ≡ spec.keyword_among spec.words (100 ∷ rest.now) }
+{
+    match rest {
+        b"o" => Some(Keyword::Do),
+        b"ocument" => Some(Keyword::Document),
+        b"elete" => Some(Keyword::Delete),
+        _ => None,
+    }
+}
+
+/// The reserved word that `e` and the bytes behind it are.
+fn behind_e(rest: &[u8]) -> Option<Keyword>
+    ensures { result ≡ spec.keyword_among spec.words (101 ∷ rest.now) }
+{
+    match rest {
+        b"nd" => Some(Keyword::End),
+        b"lse" => Some(Keyword::Else),
+        _ => None,
+    }
+}
+
+/// The reserved word that `g` and the bytes behind it are.
+fn behind_g(rest: &[u8]) -> Option<Keyword>
+    ensures { result ≡ spec.keyword_among spec.words (103 ∷ rest.now) }
+{
+    match rest {
+        b"ive" => Some(Keyword::Give),
+        b"reatest" => Some(Keyword::Greatest),
+        _ => None,
+    }
+}
+
+/// The reserved word that `h` and the bytes behind it are.
+fn behind_h(rest: &[u8]) -> Option<Keyword>
+    ensures { result ≡ spec.keyword_among spec.words (104 ∷ rest.now) }
+{
+    match rest {
+        b"ello" => Some(Keyword::Hello),
+        b"as" => Some(Keyword::Has),
+        _ => None,
+    }
+}
+
+/// The reserved word that `i` and the bytes behind it are.
+fn behind_i(rest: &[u8]) -> Option<Keyword>
+    ensures { result ≡ spec.keyword_among spec.words (105 ∷ rest.now) }
+{
+    match rest {
+        b"f" => Some(Keyword::If),
+        b"s" => Some(Keyword::Is),
+        _ => None,
+    }
+}
+
+/// The reserved word that `p` and the bytes behind it are.
+fn behind_p(rest: &[u8]) -> Option<Keyword>
+    ensures { result ≡ spec.keyword_among spec.words (112 ∷ rest.now) }
+{
+    match rest {
+        b"our" => Some(Keyword::Pour),
+        _ => None,
+    }
+}
+
+/// The reserved word that `r` and the bytes behind it are.
+fn behind_r(rest: &[u8]) -> Option<Keyword>
+    ensures { result ≡ spec.keyword_among spec.words (114 ∷ rest.now) }
+{
+    match rest {
+        b"ead" => Some(Keyword::Read),
+        b"escind" => Some(Keyword::Rescind),
+        b"anks" => Some(Keyword::Ranks),
+        b"eserve" => Some(Keyword::Reserve),
+        _ => None,
+    }
+}
+
+/// The reserved word that `s` and the bytes behind it are.
+fn behind_s(rest: &[u8]) -> Option<Keyword>
+    ensures { result ≡ spec.keyword_among spec.words (115 ∷ rest.now) }
+{
+    match rest {
+        b"how" => Some(Keyword::Show),
+        b"ay" => Some(Keyword::Say),
+        b"et" => Some(Keyword::Set),
+        b"pawn" => Some(Keyword::Spawn),
+        b"ubject" => Some(Keyword::Subject),
+        _ => None,
+    }
+}
+
+/// The reserved word that `t` and the bytes behind it are.
+fn behind_t(rest: &[u8]) -> Option<Keyword>
+    ensures { result ≡ spec.keyword_among spec.words (116 ∷ rest.now) }
+{
+    match rest {
+        b"o" => Some(Keyword::To),
+        b"hen" => Some(Keyword::Then),
+        b"rusted" => Some(Keyword::Trusted),
+        _ => None,
+    }
+}
+
+/// The reserved word that `w` and the bytes behind it are.
+fn behind_w(rest: &[u8]) -> Option<Keyword>
+    ensures { result ≡ spec.keyword_among spec.words (119 ∷ rest.now) }
+{
+    match rest {
+        b"hen" => Some(Keyword::When),
+        b"rite" => Some(Keyword::Write),
+        b"ait" => Some(Keyword::Wait),
+        _ => None,
+    }
+}
+
+/// The reserved word that a byte and the bytes behind it are.
+fn behind(first: u8, rest: &[u8]) -> Option<Keyword>
+    ensures { result ≡ spec.keyword_among spec.words (first ∷ rest.now) }
+{
+    match first {
+        b'a' => behind_a(rest),
+        b'c' => behind_c(rest),
+        b'd' => behind_d(rest),
+        b'e' => behind_e(rest),
+        b'g' => behind_g(rest),
+        b'h' => behind_h(rest),
+        b'i' => behind_i(rest),
+        b'p' => behind_p(rest),
+        b'r' => behind_r(rest),
+        b's' => behind_s(rest),
+        b't' => behind_t(rest),
+        b'w' => behind_w(rest),
+        _ => None,
+    }
 }
 
 fn reserved(word: &[u8]) -> Option<Keyword>
     ensures { result ≡ spec.keyword_among spec.words word.now }
 {
     match word {
-        [first, ..] => among(words_from(*first), word),
+        [first, rest @ ..] => behind(*first, rest),
         [] => None,
     }
 }
