@@ -11,13 +11,13 @@ ghost use Rattle.bl_server.specs.declared.fault.ProgramFault as program;
 
 use crate::command::{Command, parse_words, status_of};
 use crate::fault::{ProgramFault, of_session, of_setup};
-use bl_session::alone::serve_alone;
+use bl_session::alone::serve_and_keep;
 use bl_session::watched::Watched;
 use bl_setup::reader::read_setup;
 use std::alloc::Global;
 use std::io::{BufRead, BufReader, BufWriter, Read, Write};
 use std::rt::{Env, Files};
-use std::{env, fs, io, str};
+use std::{env, fs, io, mem, str};
 
 /// How many bytes a setup file has at most.
 const MOST_SETUP: u64 = 16_777_216;
@@ -42,7 +42,10 @@ fn serve_setup<R: BufRead, W: Write>(
         Ok(setup) => setup,
         Err(fault) => return Err(of_setup(fault)),
     };
-    match serve_alone(alloc, setup, limit, reader, writer) {
+    let (served, kept) = serve_and_keep(alloc, setup, limit, reader, writer);
+    // the process ends next, and what the session kept goes with its memory
+    mem::forget(kept);
+    match served {
         Ok(()) => Ok(()),
         Err(fault) => Err(of_session(fault)),
     }

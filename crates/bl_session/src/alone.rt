@@ -14,6 +14,14 @@ use bl_setup::setup::Setup;
 use std::alloc::Global;
 use std::io::{BufRead, Write};
 
+/// What a session kept to its end: its setup, its entries and what they were answered. To drop it takes a step for each
+/// entry; a process that ends behind its session may forget it, and leave the memory to the system.
+#[derive(Drop)]
+pub struct Kept {
+    behind: Alone,
+    pages: Pages,
+}
+
 /// Serves one session over a reader and a writer. The admitted lines weigh at most `limit` together, one for each `when`.
 ///
 /// At `Ok` the input was read to its end, or to the end of a first line that was refused, and its
@@ -35,13 +43,33 @@ pub fn serve_alone<R: BufRead, W: Write>(
         reader.new.failed writer.new.failed) }
     ensures never { IfErr result (λ fault. fault ≢ Clash) }
 {
+    let (served, _kept) = serve_and_keep(alloc, setup, limit, reader, writer);
+    served
+}
+
+/// Serves one session as `serve_alone` does, and hands back what it kept where there was memory for it to begin.
+pub fn serve_and_keep<R: BufRead, W: Write>(
+    alloc: Global,
+    setup: Setup,
+    limit: u32,
+    reader: &mut Watched<R>,
+    writer: &mut Watched<W>,
+) -> (Result<(), SessionFault>, Option<Kept>)
+    requires reader { reader.old.failed ≡ false }
+    requires writer { writer.old.failed ≡ false }
+    ensures ok { OnOk result.0 (IsServed setup limit (R.remaining reader.old.inner) (R.remaining reader.new.inner) (W.contents writer.old.inner) (W.contents writer.new.inner)) }
+    ensures fine { OnOk result.0 ((reader.new.failed ≡ false) × (writer.new.failed ≡ false)) }
+    ensures err { IfErr result.0 (λ fault. IsCutShort setup limit fault (R.remaining reader.old.inner) (R.remaining reader.new.inner) (W.contents writer.old.inner) (W.contents writer.new.inner)
+        reader.new.failed writer.new.failed) }
+    ensures never { IfErr result.0 (λ fault. fault ≢ Clash) }
+{
     let monitor = match Monitor::new(alloc, setup) {
         Ok(monitor) => monitor,
-        Err(_) => return Err(SessionFault::Memory),
+        Err(_) => return (Err(SessionFault::Memory), None),
     };
     let setup = match monitor.share_setup() {
         Ok(setup) => setup,
-        Err(_) => return Err(SessionFault::Memory),
+        Err(_) => return (Err(SessionFault::Memory), None),
     };
     read_lines_are_in_the_setup();
     let behind = Alone {
@@ -50,15 +78,13 @@ pub fn serve_alone<R: BufRead, W: Write>(
         limit,
     };
     let mut pages = Pages::new(alloc, monitor);
-    match converse(
+    let served = converse(
         alloc,
         behind.setup.names(),
         &behind,
         &mut pages,
         reader,
         writer,
-    ) {
-        Ok(()) => Ok(()),
-        Err(fault) => Err(fault),
-    }
+    );
+    (served, Some(Kept { behind, pages }))
 }

@@ -11,7 +11,7 @@ use Rattle.bl_session.specs.Whole.{Came}
 use Rattle.bl_session.specs.Stages.{Finished, Stopped}
 use Rattle.bl_session.specs.Outcome.{IsServed, IsCutShort}
 use Rattle.bl_session.proofs.ServeLaws.{are_served, served_whole, served_part, unserved}
-use Rattle.bl_session.proofs.alone.serve_alone.Goals as goal
+use Rattle.bl_session.proofs.alone.serve_and_keep.Goals as goal
 
 pub returns-in-Err-clause-err : goal.returns-in-Err-clause-err
 returns-in-Err-clause-err g c = unserved c.args.setup c.args.limit _ _ _ _
