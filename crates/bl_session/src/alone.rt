@@ -78,13 +78,15 @@ pub fn serve_and_keep<R: BufRead, W: Write>(
         limit,
     };
     let mut pages = Pages::new(alloc, monitor);
-    let served = converse(
+    match converse(
         alloc,
         behind.setup.names(),
         &behind,
         &mut pages,
         reader,
         writer,
-    );
-    (served, Some(Kept { behind, pages }))
+    ) {
+        Ok(()) => (Ok(()), Some(Kept { behind, pages })),
+        Err(fault) => (Err(fault), Some(Kept { behind, pages })),
+    }
 }

@@ -41,8 +41,8 @@ returns-in-Ok-converse-clause-ok g c =
     (subst (λ (k : KnownNames). Finished k (R c.args.reader.now.inner) (R c.converse.new.reader.inner) (W c.args.writer.now.inner) (W c.converse.new.writer.inner)
     (told_text own (order_of s.entries.items)) Settled (Came own c.args.limit s)) names c.in-Ok-converse.ensures.ok))
 
-pub returns-clause-err : goal.returns-clause-err
-returns-clause-err g c =
+pub returns-in-Err-converse-clause-err : goal.returns-in-Err-converse-clause-err
+returns-in-Err-converse-clause-err g c =
     let own = arc_value c.in-Ok-share_setup.setup in
     let is : own ≡ c.args.setup = c.in-Ok-share_setup.ensures ∙ ap (λ (h : Heard). h.setup) c.in-Ok.ensures in
     let names : c.names.result.now ≡ own.names = c.names.ensures.value ∙ ap (λ (s : Setup). s.names) c.deref.ensures in
