@@ -33,11 +33,12 @@ pub(super) fn add_document(names: &mut Names, name: &[u8]) -> Result<(), Fail> {
 /// The subjects ann and bob, and the documents memo, note and log.
 pub(super) fn known_names(alloc: Global) -> Result<Names, Fail> {
     let mut names = no_names(alloc)?;
-    add_subject(&mut names, b"ann")?;
-    add_subject(&mut names, b"bob")?;
-    add_document(&mut names, b"memo")?;
-    add_document(&mut names, b"note")?;
-    add_document(&mut names, b"log")?;
+    for subject in [b"ann", b"bob"] {
+        add_subject(&mut names, subject)?;
+    }
+    for document in [b"memo".as_slice(), b"note", b"log"] {
+        add_document(&mut names, document)?;
+    }
     Ok(names)
 }
 
