@@ -14,7 +14,7 @@ use bl_setup::setup::Setup;
 use std::alloc::Global;
 use std::io::{BufRead, Write};
 
-/// What a session kept to its end: its setup, its entries and what they were answered. To drop it takes a step for each
+/// What a session kept to its end: its setup, its entries and what its monitor keeps of them. To drop it takes a step for each
 /// entry; a process that ends behind its session may forget it, and leave the memory to the system.
 #[derive(Drop)]
 pub struct Kept {
@@ -47,7 +47,7 @@ pub fn serve_alone<R: BufRead, W: Write>(
     served
 }
 
-/// Serves one session as `serve_alone` does, and hands back what it kept where there was memory for it to begin.
+/// Serves one session as `serve_alone` does, and hands back what it kept; nothing where there was no memory for it to begin.
 pub fn serve_and_keep<R: BufRead, W: Write>(
     alloc: Global,
     setup: Setup,
