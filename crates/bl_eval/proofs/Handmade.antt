@@ -3,13 +3,13 @@ use Rattle.std.proofs.Common.{◌≡◌, ◌≢◌, ℕ, zero, suc, ◌+◌, ◌
 use Rattle.std.specs.Prelude.{codes, sum_by, slice_index_or}
 use Rattle.bl_policy.specs.declared.access.Access.{Access}
 use Rattle.bl_policy.specs.declared.access.Mode.TheVariants.{Read, Append, Write}
-use Rattle.bl_script.specs.declared.script.Condition.TheVariants.{Is, Has}
-use Rattle.bl_script.specs.Statements.{Part, Nothing, Show, Say, Add, Set, Pour, If, no_part}
+use Rattle.bl_work.specs.declared.script.Condition.TheVariants.{Is, Has}
+use Rattle.bl_work.specs.Statements.{Part, Nothing, Show, Say, Add, Set, Pour, If, no_part}
 use Rattle.std.specs.Prelude.{IsTrue}
 use Rattle.std.specs.List.{list_all}
-use Rattle.bl_script.specs.Content.{is_content_byte, most_bytes, IsContent}
-use Rattle.bl_script.specs.Nesting.{spawned, depth_at, AreNumbered}
-use Rattle.bl_script.specs.Script.{AreApart, IsBehaviour, IsScript}
+use Rattle.bl_work.specs.Content.{is_content_byte, most_bytes, IsContent}
+use Rattle.bl_work.specs.Nesting.{spawned, depth_at, AreNumbered}
+use Rattle.bl_work.specs.Script.{AreApart, IsBehaviour, IsScript}
 use Rattle.bl_grant.specs.Loans.{loans, entry_of}
 use Rattle.bl_eval.specs.Loan.{AreFor}
 use Rattle.bl_eval.proofs.Loans.{lent-contents}

@@ -4,7 +4,7 @@ use Rattle.std.specs.Prelude.{◌==◌, map}
 use mathlib.Core.Path.{fun_ext}
 use Rattle.std.proofs.lemmas.List.{length-map}
 use Rattle.bl_policy.specs.declared.access.Access.{Access}
-use Rattle.bl_script.specs.Effects.{Effect, after}
+use Rattle.bl_work.specs.Effects.{Effect, after}
 use Rattle.bl_grant.specs.Loaned.{Loaned, loan, as_lent, back_of}
 use Rattle.bl_grant.specs.Loans.{loans, content_of, accesses_of, lent_of}
 use Rattle.bl_eval.specs.Loan.{input_at, backs, AreFor}

@@ -1,7 +1,7 @@
 -- A piece that occurs at some place stands in the text, and the other way round.
 use Rattle.std.proofs.Common.{◌≡◌, ℕ, zero, suc, ◌+◌, ◌<◌, ◌≤◌, Bool, true, false, List, [], ◌∷◌, ◌++◌, length, get_or, drop, refl, ap, sym, ◌∙◌, arith, length-append, zero-add}
 use Rattle.bstr.specs.Find.{OccursAt}
-use Rattle.bl_script.specs.Piece.{StandsIn}
+use Rattle.bl_work.specs.Piece.{StandsIn}
 
 front : (hay needle : List ℕ) → length needle ≤ length hay → ((j : ℕ) → j < length needle → get_or hay j 0 ≡ get_or needle j 0) → hay ≡ needle ++ drop (length needle) hay
 front hay [] le reads = refl

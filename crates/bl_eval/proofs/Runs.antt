@@ -1,17 +1,17 @@
 -- Statements one after another.
 use Rattle.std.proofs.Common.{◌≡◌, ℕ, zero, suc, ◌+◌, ◌<◌, ◌≤◌, Bool, true, false, cond, List, [], ◌∷◌, ◌++◌, length, get_or, take, refl, ap, sym, ◌∙◌, subst, arith, add-one, append-nil}
 use Rattle.bl_policy.specs.declared.access.Access.{Access}
-use Rattle.bl_script.specs.Modes.{declares, observes, KeepsModes}
-use Rattle.bl_script.specs.Script.{AreApart, HasContents}
-use Rattle.bl_script.specs.Content.{added}
-use Rattle.bl_script.specs.Statements as statement
-use Rattle.bl_script.specs.Statements.{Statements}
-use Rattle.bl_script.specs.Body.{statements_of, depth}
-use Rattle.bl_script.specs.declared.script.Condition.{Condition}
-use Rattle.bl_script.specs.declared.script.Stmt.{Stmt}
-use Rattle.bl_script.specs.declared.script.Stmt.TheVariants.{Show, Say, Add, Set, Copy, Pour, If, Spawn}
-use Rattle.bl_script.specs.Effects as effect
-use Rattle.bl_script.specs.Effects.{Effect, after, seen, effects_from, effects_of, holds_of, outputs, children}
+use Rattle.bl_work.specs.Modes.{declares, observes, KeepsModes}
+use Rattle.bl_work.specs.Script.{AreApart, HasContents}
+use Rattle.bl_work.specs.Content.{added}
+use Rattle.bl_work.specs.Statements as statement
+use Rattle.bl_work.specs.Statements.{Statements}
+use Rattle.bl_work.specs.Body.{statements_of, depth}
+use Rattle.bl_work.specs.declared.script.Condition.{Condition}
+use Rattle.bl_work.specs.declared.script.Stmt.{Stmt}
+use Rattle.bl_work.specs.declared.script.Stmt.TheVariants.{Show, Say, Add, Set, Copy, Pour, If, Spawn}
+use Rattle.bl_work.specs.Effects as effect
+use Rattle.bl_work.specs.Effects.{Effect, after, seen, effects_from, effects_of, holds_of, outputs, children}
 use Rattle.bl_grant.specs.Loaned.{Loaned}
 use Rattle.bl_grant.specs.Loans.{accesses_of, content_of, changed}
 use Rattle.bl_eval.specs.Told.{IsAfter, HasRun}

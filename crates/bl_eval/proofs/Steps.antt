@@ -5,10 +5,10 @@ use Rattle.std.proofs.lemmas.Bool.{or_cases}
 use Rattle.std.proofs.lemmas.Bool.Decides.{eqb_tells}
 use Rattle.bl_policy.specs.declared.access.Access.{Access}
 use Rattle.bl_policy.specs.declared.access.Mode.{Mode}
-use Rattle.bl_script.specs.Modes.{declares}
-use Rattle.bl_script.specs.Script.{AreApart}
-use Rattle.bl_script.specs.Content.{added}
-use Rattle.bl_script.specs.Effects.{Effect, Out, Put, Add, Child, after, outputs, children}
+use Rattle.bl_work.specs.Modes.{declares}
+use Rattle.bl_work.specs.Script.{AreApart}
+use Rattle.bl_work.specs.Content.{added}
+use Rattle.bl_work.specs.Effects.{Effect, Out, Put, Add, Child, after, outputs, children}
 use Rattle.bl_grant.specs.Loaned.{Loaned, holding, as_lent}
 use Rattle.bl_grant.specs.Loans.{accesses_of, content_of, changed}
 use Rattle.bl_eval.specs.Told.{changed_by}

@@ -1,6 +1,6 @@
 -- What each value of an evaluation keeps.
 use Rattle.std.specs.Prelude.{◌≡◌, ◌<◌, length}
-use Rattle.bl_script.specs.Effects.{outputs, children}
+use Rattle.bl_work.specs.Effects.{outputs, children}
 use Rattle.bl_grant.specs.Loans.{lent_of}
 use Rattle.bl_eval.specs.Loan.{Loan, part_of, effects_on, backs, AreFor}
 use Rattle.bl_eval.specs.declared.lent.Lent.TheInside as lent

@@ -1,8 +1,8 @@
 -- What was lent to a behaviour, and what comes back of it.
 use Rattle.std.specs.Prelude.{◌≡◌, ℕ, if◌then◌else◌, ◌==◌, List, [], ◌∷◌, length, slice_index_or}
 use Rattle.bl_policy.specs.declared.access.Access.{Access}
-use Rattle.bl_script.specs.Statements.{Part, no_part}
-use Rattle.bl_script.specs.Effects.{Effect, effects_of, after}
+use Rattle.bl_work.specs.Statements.{Part, no_part}
+use Rattle.bl_work.specs.Effects.{Effect, effects_of, after}
 use Rattle.bl_grant.specs.Loaned.{Loaned, Back}
 use Rattle.bl_grant.specs.Loans.{loans, lent_of}
 

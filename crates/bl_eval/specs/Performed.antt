@@ -1,7 +1,7 @@
 -- What a whole body did.
 use Rattle.std.specs.Prelude.{◌≡◌, List}
-use Rattle.bl_script.specs.Statements.{Statements}
-use Rattle.bl_script.specs.Effects.{effects_of, outputs, children}
+use Rattle.bl_work.specs.Statements.{Statements}
+use Rattle.bl_work.specs.Effects.{effects_of, outputs, children}
 use Rattle.bl_grant.specs.Loaned.{Loaned}
 use Rattle.bl_grant.specs.Loans.{content_of, lent_of}
 use Rattle.bl_eval.specs.Told.{changed_by}

@@ -1,7 +1,7 @@
 -- How far a body has run.
 use Rattle.std.specs.Prelude.{◌≡◌, List, map}
-use Rattle.bl_script.specs.Statements.{Statements}
-use Rattle.bl_script.specs.Effects.{Effect, after, effects_from, outputs, children}
+use Rattle.bl_work.specs.Statements.{Statements}
+use Rattle.bl_work.specs.Effects.{Effect, after, effects_from, outputs, children}
 use Rattle.bl_grant.specs.Loaned.{Loaned, holding}
 use Rattle.bl_grant.specs.Loans.{content_of}
 use Rattle.bl_eval.specs.declared.told.Told.{Told}

@@ -1,8 +1,8 @@
 //! The evaluation of one behaviour.
 ghost use Rattle.std.specs.Prelude.{◌≡◌, [], List, map, IsTrue, IfOk, MatchResult};
-ghost use Rattle.bl_script.specs.Modes.{KeepsModes};
-ghost use Rattle.bl_script.specs.Script.{AreApart, HasContents};
-ghost use Rattle.bl_script.specs.Body.{statements_of};
+ghost use Rattle.bl_work.specs.Modes.{KeepsModes};
+ghost use Rattle.bl_work.specs.Script.{AreApart, HasContents};
+ghost use Rattle.bl_work.specs.Body.{statements_of};
 ghost use Rattle.bl_grant.specs.Loaned.{Loaned, as_lent};
 ghost use Rattle.bl_grant.specs.Loans.{accesses_of, lent_of};
 ghost use Rattle.bl_eval.specs.Performed.{HasPerformed};
@@ -10,9 +10,9 @@ ghost use Rattle.bl_eval.specs.Performed.{HasPerformed};
 use crate::lent::{Done, Lent, Unrun};
 use crate::told::Told;
 use bl_grant::grants::Grants;
-use bl_script::answer::Outputs;
-use bl_script::document::Document;
-use bl_script::script::Stmt;
+use bl_work::answer::Outputs;
+use bl_work::document::Document;
+use bl_work::script::Stmt;
 use std::alloc::{AllocError, Global};
 
 /// What a whole body was lent, showed and spawned.

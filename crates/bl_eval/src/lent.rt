@@ -2,16 +2,16 @@
 //!
 //! None of these types has `Drop`: each is taken apart.
 ghost use Rattle.std.specs.Prelude.{◌≡◌, ◌<◌, ◌↔◌, length, slice_index_or, IsTrue};
-ghost use Rattle.bl_script.specs.Statements.{no_part};
-ghost use Rattle.bl_script.specs.Effects.{outputs, children};
+ghost use Rattle.bl_work.specs.Statements.{no_part};
+ghost use Rattle.bl_work.specs.Effects.{outputs, children};
 ghost use Rattle.bl_grant.specs.Loans.{loans, lent_of, entry_of};
 ghost use Rattle.bl_eval.specs.Loan.{part_of, effects_on, backs, AreFor};
 
 use bl_grant::grant::Returned;
 use bl_grant::grants::Grants;
-use bl_script::answer::Outputs;
-use bl_script::document::Document;
-use bl_script::script::Script;
+use bl_work::answer::Outputs;
+use bl_work::document::Document;
+use bl_work::script::Script;
 use std::marker::Model;
 
 /// A behaviour with its grants. Its value is what was lent, and to whom.
@@ -24,7 +24,7 @@ pub struct Lent {
 
 impl Model for Lent {
     ghost use Rattle.std.specs.Coded.{codes};
-    ghost use Rattle.bl_script.specs.Codes.{coded_part};
+    ghost use Rattle.bl_work.specs.Codes.{coded_part};
     ghost use Rattle.bl_eval.specs.Loan.{Loan};
 
     ghost Value = { Loan };
@@ -51,7 +51,7 @@ pub struct Done {
 
 impl Model for Done {
     ghost use Rattle.std.specs.Coded.{codes};
-    ghost use Rattle.bl_script.specs.Codes.{coded_part};
+    ghost use Rattle.bl_work.specs.Codes.{coded_part};
     ghost use Rattle.bl_eval.specs.Loan.{Loan};
 
     ghost Value = { Loan };
@@ -75,7 +75,7 @@ pub struct Unrun {
 
 impl Model for Unrun {
     ghost use Rattle.std.specs.Coded.{codes};
-    ghost use Rattle.bl_script.specs.Codes.{coded_part};
+    ghost use Rattle.bl_work.specs.Codes.{coded_part};
     ghost use Rattle.bl_eval.specs.Loan.{Loan};
 
     ghost Value = { Loan };

@@ -1,11 +1,11 @@
 // Behaviours built by hand, and what they do.
 ghost use Rattle.std.specs.Prelude.{◌≡◌, ◌≤◌, [], ◌∷◌, codes, IfOk};
 ghost use Rattle.bl_policy.specs.declared.access.Mode.TheVariants.{Read, Append, Write};
-ghost use Rattle.bl_script.specs.declared.script.Condition.TheVariants.{Is, Has};
-ghost use Rattle.bl_script.specs.Script.{IsBehaviour};
-ghost use Rattle.bl_script.specs.Statements as statement;
-ghost use Rattle.bl_script.specs.Nesting.{spawned, depth_at};
-ghost use Rattle.bl_script.specs.Content.{IsContent};
+ghost use Rattle.bl_work.specs.declared.script.Condition.TheVariants.{Is, Has};
+ghost use Rattle.bl_work.specs.Script.{IsBehaviour};
+ghost use Rattle.bl_work.specs.Statements as statement;
+ghost use Rattle.bl_work.specs.Nesting.{spawned, depth_at};
+ghost use Rattle.bl_work.specs.Content.{IsContent};
 
 use crate::evaluate::eval;
 use crate::lent::{DoneParts, Lent, UnrunParts};
@@ -13,8 +13,8 @@ use bl_grant::grant::Returned;
 use bl_grant::grants::Grants;
 use bl_policy::access::{Access, Mode};
 use bl_policy::id::DocId;
-use bl_script::document::Document;
-use bl_script::script::{Behaviour, Body, Condition, Script, Stmt};
+use bl_work::document::Document;
+use bl_work::script::{Behaviour, Body, Condition, Script, Stmt};
 use std::alloc::{AllocError, Global};
 use std::process::Abort;
 use std::test::Fail;

@@ -1,12 +1,12 @@
 //! A body's statements, run one after another over the grants of its behaviour.
 ghost use Rattle.std.specs.Prelude.{◌≡◌, [], ◌∷◌, List, map, IsTrue, OnOk};
-ghost use Rattle.bl_script.specs.Modes.{declares, observes, alters, is_write, KeepsModes};
-ghost use Rattle.bl_script.specs.Script.{AreApart, HasContents};
-ghost use Rattle.bl_script.specs.Statements as statement;
-ghost use Rattle.bl_script.specs.Effects.{holds_of};
-ghost use Rattle.bl_script.specs.declared.script.Condition.TheVariants.{Has};
-ghost use Rattle.bl_script.specs.Body.{statements_of};
-ghost use Rattle.bl_script.specs.Content.{is_content_byte};
+ghost use Rattle.bl_work.specs.Modes.{declares, observes, alters, is_write, KeepsModes};
+ghost use Rattle.bl_work.specs.Script.{AreApart, HasContents};
+ghost use Rattle.bl_work.specs.Statements as statement;
+ghost use Rattle.bl_work.specs.Effects.{holds_of};
+ghost use Rattle.bl_work.specs.declared.script.Condition.TheVariants.{Has};
+ghost use Rattle.bl_work.specs.Body.{statements_of};
+ghost use Rattle.bl_work.specs.Content.{is_content_byte};
 ghost use Rattle.std.specs.List.{list_all};
 ghost use Rattle.bl_grant.specs.Loaned.{Loaned, as_lent};
 ghost use Rattle.bl_grant.specs.Loans.{accesses_of, content_of};
@@ -15,9 +15,9 @@ ghost use Rattle.bl_eval.specs.declared.told.Told.{Told};
 
 use bl_grant::grants::Grants;
 use bl_policy::id::DocId;
-use bl_script::document::Document;
-use bl_script::laws;
-use bl_script::script::{Condition, Stmt};
+use bl_work::document::Document;
+use bl_work::laws;
+use bl_work::script::{Condition, Stmt};
 use bstr::ByteSlice;
 use std::alloc::{AllocError, Global};
 

@@ -7,8 +7,8 @@ use Rattle.std.proofs.lemmas.Bool.Decides.{eqb_tells}
 use Rattle.std.proofs.lemmas.List.{length-map, get_or-map, map-set, set-get_or}
 use Rattle.bl_policy.specs.declared.access.Access.{Access}
 use Rattle.bl_policy.specs.declared.access.Mode.{Mode}
-use Rattle.bl_script.specs.Modes.{declares}
-use Rattle.bl_script.specs.Script.{AreApart}
+use Rattle.bl_work.specs.Modes.{declares}
+use Rattle.bl_work.specs.Script.{AreApart}
 use Rattle.bl_grant.specs.Loaned.{Loaned, holding, no_loan}
 use Rattle.bl_grant.specs.Loans.{accesses_of, content_of, changed, IsPlace}
 use Rattle.bl_grant.specs.Granted.{loaned_of}

@@ -1,7 +1,7 @@
 -- What the grants of a behaviour keep.
 use Rattle.std.specs.Prelude.{◌≡◌, ◌≤◌, [], length, vec_len}
 use Rattle.std.specs.Vec.{vec_capacity}
-use Rattle.bl_script.specs.Script.{most_accesses}
+use Rattle.bl_work.specs.Script.{most_accesses}
 use Rattle.bl_grant.specs.declared.grants.Grants.TheInside.{Inside}
 
 -- there are not too many grants, and there is room for what each of them gives back

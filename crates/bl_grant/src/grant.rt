@@ -3,15 +3,15 @@
 ghost use Rattle.std.specs.Prelude.{◌≡◌, ◌↔◌, IsTrue, IfOk, OnOk, OnErr};
 ghost use Rattle.std.specs.List.{list_all};
 ghost use Rattle.bl_policy.specs.declared.access.Mode.TheVariants.{Read, Append, Write};
-ghost use Rattle.bl_script.specs.Content.{IsContent, is_content_byte, added};
-ghost use Rattle.bl_script.specs.Modes.{observes, alters, is_write};
+ghost use Rattle.bl_work.specs.Content.{IsContent, is_content_byte, added};
+ghost use Rattle.bl_work.specs.Modes.{observes, alters, is_write};
 ghost use Rattle.bl_grant.specs.Loaned.{loan, as_lent, holding, back_of};
 
 use crate::held::Held;
 pub use crate::returned::Returned;
 use bl_policy::access::{Access, Mode};
 use bl_policy::id::DocId;
-use bl_script::document::Document;
+use bl_work::document::Document;
 use std::alloc::{AllocError, Global};
 use std::marker::Model;
 

@@ -3,9 +3,9 @@ ghost use Rattle.std.specs.Prelude.{◌≡◌, ◌+◌, ◌<◌, ◌≤◌, ◌�
 ghost use Rattle.std.specs.List.{list_all, list_any};
 ghost use Rattle.std.specs.Vec.{vec_capacity};
 ghost use Rattle.bl_policy.specs.declared.access.Access.{Access};
-ghost use Rattle.bl_script.specs.Content.{IsContent, is_content_byte, added};
-ghost use Rattle.bl_script.specs.Modes.{declares, observes, alters, is_write};
-ghost use Rattle.bl_script.specs.Script.{AreApart, most_accesses};
+ghost use Rattle.bl_work.specs.Content.{IsContent, is_content_byte, added};
+ghost use Rattle.bl_work.specs.Modes.{declares, observes, alters, is_write};
+ghost use Rattle.bl_work.specs.Script.{AreApart, most_accesses};
 ghost use Rattle.bl_grant.specs.Loaned.{Loaned, as_lent, back_of};
 ghost use Rattle.bl_grant.specs.Loans.{loans, accesses_of, lent_of, entry_of, content_of, changed, IsPlace};
 ghost use Rattle.bl_grant.specs.Granted.{loaned_of};
@@ -13,7 +13,7 @@ ghost use Rattle.bl_grant.specs.Granted.{loaned_of};
 use crate::grant::{Grant, Returned};
 use bl_policy::access::Access;
 use bl_policy::id::DocId;
-use bl_script::document::Document;
+use bl_work::document::Document;
 use std::alloc::{AllocError, Global};
 use std::marker::Model;
 

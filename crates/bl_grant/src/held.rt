@@ -1,9 +1,9 @@
 //! What a grant that may be altered holds: the content as it was lent, and what it has become.
 ghost use Rattle.std.specs.Prelude.{◌≡◌, IsTrue, OnOk, OnErr};
 ghost use Rattle.std.specs.List.{list_all};
-ghost use Rattle.bl_script.specs.Content.{is_content_byte, added};
+ghost use Rattle.bl_work.specs.Content.{is_content_byte, added};
 
-use bl_script::document::Document;
+use bl_work::document::Document;
 use std::alloc::{AllocError, Global};
 use std::marker::Model;
 

@@ -2,7 +2,7 @@
 ghost use Rattle.std.specs.Prelude.{◌≡◌};
 
 use bl_policy::access::Access;
-use bl_script::document::Document;
+use bl_work::document::Document;
 use std::marker::Model;
 
 /// What a closed grant gives back. Its content has to be taken.

@@ -1,15 +1,15 @@
 //! What no clause says: that each call can succeed, and what the examples say of grants.
 ghost use Rattle.std.specs.Prelude.{◌≡◌, [], ◌∷◌, length, IsTrue, IfOk};
 ghost use Rattle.bl_policy.specs.declared.access.Mode.TheVariants.{Read, Append};
-ghost use Rattle.bl_script.specs.Modes.{declares, observes, alters};
-ghost use Rattle.bl_script.specs.Script.{AreApart};
+ghost use Rattle.bl_work.specs.Modes.{declares, observes, alters};
+ghost use Rattle.bl_work.specs.Script.{AreApart};
 ghost use Rattle.bl_grant.specs.Loans.{accesses_of};
 
 use crate::grant::{AppendGrant, Grant, ReadGrant, Returned, WriteGrant};
 use crate::grants::Grants;
 use bl_policy::access::{Access, Mode};
 use bl_policy::id::DocId;
-use bl_script::document::Document;
+use bl_work::document::Document;
 use std::alloc::{AllocError, Global};
 use std::process::Abort;
 use std::test::Fail;

@@ -7,9 +7,9 @@ use Rattle.std.proofs.lemmas.Bool.Decides.{eqb_tells}
 use Rattle.std.proofs.lemmas.List.{get_or-set_same, get_or-set_other, length-set}
 use Rattle.std.proofs.lemmas.List.Elements.{All-nil, All-cons, All-head, All-tail}
 use Rattle.bl_policy.specs.declared.access.Access.{Access}
-use Rattle.bl_script.specs.Modes.{alters}
-use Rattle.bl_script.specs.Effects.{after}
-use Rattle.bl_script.specs.Statements.{Statements}
+use Rattle.bl_work.specs.Modes.{alters}
+use Rattle.bl_work.specs.Effects.{after}
+use Rattle.bl_work.specs.Statements.{Statements}
 use Rattle.bl_setup.specs.Order.{is_declared, is_altered}
 use Rattle.bl_setup.specs.Past.{lent}
 use Rattle.bl_setup.proofs.Conflicts.{altered_is_declared}

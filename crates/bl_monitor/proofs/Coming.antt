@@ -7,9 +7,9 @@ use Rattle.bl_policy.proofs.Rules.{AsMany}
 use Rattle.std.proofs.lemmas.Bool.Decides.{nat_tests}
 use Rattle.std.proofs.lemmas.List.{get_or_default}
 use Rattle.std.proofs.lemmas.List.Elements.{All-get_or}
-use Rattle.bl_script.specs.Effects.{children}
-use Rattle.bl_script.specs.declared.work.Work.{Work}
-use Rattle.bl_script.specs.declared.work.Work.TheVariants as work
+use Rattle.bl_work.specs.Effects.{children}
+use Rattle.bl_work.specs.declared.work.Work.{Work}
+use Rattle.bl_work.specs.declared.work.Work.TheVariants as work
 use Rattle.bl_setup.specs.Order.{Setup, Task, accesses_of}
 use Rattle.bl_setup.specs.Past.{at_place, is_done, changed, subject_of, task_of, first_task, child_task, fault_of_task, deeds}
 use Rattle.bl_setup.proofs.Places.{at_place-earlier}

@@ -12,10 +12,10 @@ use Rattle.bl_policy.specs.declared.denial.Clause.TheVariants as failing
 use Rattle.bl_policy.specs.declared.rule.Rule.{Rule}
 use Rattle.bl_policy.specs.declared.rule.Rule.TheVariants.{Give, Rescind, Current, Classify}
 use Rattle.bl_policy.specs.declared.denial.Denial.{Denial}
-use Rattle.bl_script.specs.Effects.{Effect}
-use Rattle.bl_script.specs.Statements.{Part, no_part}
-use Rattle.bl_script.specs.declared.work.Work.{Work}
-use Rattle.bl_script.specs.declared.work.Work.TheVariants as work
+use Rattle.bl_work.specs.Effects.{Effect}
+use Rattle.bl_work.specs.Statements.{Part, no_part}
+use Rattle.bl_work.specs.declared.work.Work.{Work}
+use Rattle.bl_work.specs.declared.work.Work.TheVariants as work
 use Rattle.bl_setup.specs.Order.{Setup, Task, Runs, Applies}
 use Rattle.bl_setup.specs.Past.{answer_of, fault_of_task, first_task, child_task}
 use Rattle.bl_monitor.specs.Heard.{KnowsDenial, KnowsAnswer}

@@ -10,11 +10,11 @@ use Rattle.bl_policy.specs.Policy.{SecurityPolicy}
 use Rattle.bl_policy.specs.RuleEffect.{after_rule}
 use Rattle.bl_policy.proofs.Rules.{AsMany, as_many-after}
 use Rattle.bl_policy.specs.declared.access.Access.{Access}
-use Rattle.bl_script.specs.Effects.{Effect, after, effects_of}
-use Rattle.bl_script.specs.Statements.{Part, no_part}
-use Rattle.bl_script.specs.declared.answer.Answer.{Answer}
-use Rattle.bl_script.specs.declared.work.Work.{Work}
-use Rattle.bl_script.specs.declared.work.Work.TheVariants as work
+use Rattle.bl_work.specs.Effects.{Effect, after, effects_of}
+use Rattle.bl_work.specs.Statements.{Part, no_part}
+use Rattle.bl_work.specs.declared.answer.Answer.{Answer}
+use Rattle.bl_work.specs.declared.work.Work.{Work}
+use Rattle.bl_work.specs.declared.work.Work.TheVariants as work
 use Rattle.bl_setup.specs.Order.{Setup, Entry, Task, Runs, Applies, accesses_of, is_declared, is_altered}
 use Rattle.bl_setup.specs.Past.{Past, at_place, was_lost, changed, policy_of, content_of, earlier, place, past_of, judged, deeds, lent, is_done, subject_of, task_of, first_task, child_task, no_entry}
 use Rattle.bl_setup.proofs.Places.{earlier-grown}

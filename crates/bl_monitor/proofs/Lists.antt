@@ -3,7 +3,7 @@ use Rattle.std.proofs.Common.{◌≡◌, ℕ, ◌+◌, ◌<◌, Bool, true, fals
 use Rattle.std.proofs.Math.Seq.{take-suc}
 use Rattle.std.specs.Prelude.{slice_index_or}
 use Rattle.bl_policy.specs.declared.access.Access.{Access}
-use Rattle.bl_script.specs.Modes.{alters}
+use Rattle.bl_work.specs.Modes.{alters}
 use Rattle.bl_monitor.specs.declared.run.Text.{Text}
 use Rattle.bl_monitor.specs.Texts.{text_of, texts_of, changes_of}
 

@@ -2,7 +2,7 @@
 use Rattle.std.proofs.Common.{◌≡◌, ℕ, suc, ◌<◌, List, length, drop, sym, ◌∙◌, ap, drop-cons}
 use Rattle.std.specs.Prelude.{nat_eq, ◌||◌}
 use Rattle.std.specs.List.{starts_with}
-use Rattle.bl_script.specs.Piece.{has_piece}
+use Rattle.bl_work.specs.Piece.{has_piece}
 
 -- the piece stands at the first byte, or behind it
 pub piece_later : (content piece : List ℕ) (i : ℕ) → i < length content

@@ -1,13 +1,13 @@
 -- What a read line names is in the setup whose names it was read under.
 use Rattle.std.proofs.Common.{ℕ, ◌<◌, List, length, subst}
 use Rattle.bl_policy.specs.RuleEffect.{HasIdsBelow}
-use Rattle.bl_script.specs.LineGrammar.{LineOf}
-use Rattle.bl_script.specs.KnownLine.{IsKnownLine}
-use Rattle.bl_script.specs.declared.line.Line.{Line}
-use Rattle.bl_script.specs.declared.line.Line.TheVariants as asked
-use Rattle.bl_script.specs.declared.work.Work.{Work}
-use Rattle.bl_script.specs.declared.work.Work.TheVariants.{Behaviour, Rule}
-use Rattle.bl_script.specs.Names.{KnownNames}
+use Rattle.bl_work.specs.LineGrammar.{LineOf}
+use Rattle.bl_work.specs.KnownLine.{IsKnownLine}
+use Rattle.bl_work.specs.declared.asked.Line.{Line}
+use Rattle.bl_work.specs.declared.asked.Line.TheVariants as asked
+use Rattle.bl_work.specs.declared.work.Work.{Work}
+use Rattle.bl_work.specs.declared.work.Work.TheVariants.{Behaviour, Rule}
+use Rattle.bl_work.specs.Names.{KnownNames}
 use Rattle.bl_setup.specs.Agreement.{Agree}
 use Rattle.bl_setup.specs.Order.{Setup}
 use Rattle.bl_monitor.specs.Heard.{KnowsWork}

@@ -3,12 +3,12 @@ use Rattle.std.proofs.Common.{◌≡◌, ℕ, zero, suc, ◌<◌, true, false, c
 use Rattle.std.specs.Prelude.{◌==◌}
 use Rattle.std.proofs.Math.Seq.{take-suc}
 use Rattle.std.proofs.lemmas.Bool.Decides.{eqb_tells}
-use Rattle.bl_script.specs.Content.{added}
-use Rattle.bl_script.specs.Effects.{Effect, Out, Put, Add, Child, after, outputs, children, effects_from}
-use Rattle.bl_script.specs.Statements as statement
-use Rattle.bl_script.specs.Body.{statements_of, depth}
-use Rattle.bl_script.specs.declared.script.Stmt.{Stmt}
-use Rattle.bl_script.specs.declared.script.Stmt.TheVariants as stmt
+use Rattle.bl_work.specs.Content.{added}
+use Rattle.bl_work.specs.Effects.{Effect, Out, Put, Add, Child, after, outputs, children, effects_from}
+use Rattle.bl_work.specs.Statements as statement
+use Rattle.bl_work.specs.Body.{statements_of, depth}
+use Rattle.bl_work.specs.declared.script.Stmt.{Stmt}
+use Rattle.bl_work.specs.declared.script.Stmt.TheVariants as stmt
 use Rattle.bl_monitor.specs.declared.run.Text.{Text}
 use Rattle.bl_monitor.specs.declared.run.Run.{Run}
 use Rattle.bl_monitor.specs.Texts.{text_of, IsPut}

@@ -2,11 +2,11 @@
 use Rattle.std.proofs.Common.{◌≡◌, ℕ, zero, suc, ◌+◌, ◌-◌, ◌<◌, ◌≤◌, Bool, true, false, cond, List, [], ◌∷◌, ◌++◌, length, refl, sym, ◌∙◌, ap, subst, arith, length-append}
 use Rattle.std.specs.Prelude.{All, slice_index_or}
 use Rattle.std.proofs.lemmas.List.Elements.{All-nil, All-cons}
-use Rattle.bl_script.specs.Effects.{Effect, Out, Put, Add, Child, effects_from, effects_of, holds_of, seen, children}
-use Rattle.bl_script.specs.Nesting.{spawned, sizes_from, size_at, AreNumbered}
-use Rattle.bl_script.specs.Script.{IsScript}
-use Rattle.bl_script.specs.Statements as statement
-use Rattle.bl_script.specs.Statements.{Statements, Part, no_part}
+use Rattle.bl_work.specs.Effects.{Effect, Out, Put, Add, Child, effects_from, effects_of, holds_of, seen, children}
+use Rattle.bl_work.specs.Nesting.{spawned, sizes_from, size_at, AreNumbered}
+use Rattle.bl_work.specs.Script.{IsScript}
+use Rattle.bl_work.specs.Statements as statement
+use Rattle.bl_work.specs.Statements.{Statements, Part, no_part}
 
 -- by recursion, for what follows
 abbrev Each : (ℕ → Type 0) → List ℕ → Type 0

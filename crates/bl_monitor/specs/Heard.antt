@@ -4,10 +4,10 @@ use Rattle.bl_policy.specs.FirstFault.{first_fault}
 use Rattle.bl_policy.specs.Policy.{SecurityPolicy}
 use Rattle.bl_policy.specs.RuleEffect.{IsRuleOf}
 use Rattle.bl_policy.specs.declared.denial.Denial.{Denial}
-use Rattle.bl_script.specs.declared.answer.Answer.{Answer}
-use Rattle.bl_script.specs.declared.answer.Answer.TheVariants as answer
-use Rattle.bl_script.specs.declared.work.Work.{Work}
-use Rattle.bl_script.specs.declared.work.Work.TheVariants as work
+use Rattle.bl_work.specs.declared.answer.Answer.{Answer}
+use Rattle.bl_work.specs.declared.answer.Answer.TheVariants as answer
+use Rattle.bl_work.specs.declared.work.Work.{Work}
+use Rattle.bl_work.specs.declared.work.Work.TheVariants as work
 use Rattle.bl_setup.specs.Order as order
 use Rattle.bl_setup.specs.Order.{Setup, accesses_of}
 use Rattle.bl_setup.specs.Past.{Past, place, policy_before, is_done}

@@ -7,10 +7,10 @@ use Rattle.bl_policy.specs.declared.access.Mode.{Mode}
 use Rattle.bl_policy.specs.declared.access.Mode.TheVariants.{Read}
 use Rattle.bl_policy.specs.declared.rule.Rule.{Rule}
 use Rattle.bl_policy.specs.declared.rule.Rule.TheVariants as rule
-use Rattle.bl_script.specs.Codes.{coded_mode, coded_part}
-use Rattle.bl_script.specs.Statements.{Part}
-use Rattle.bl_script.specs.declared.work.Work.{Work}
-use Rattle.bl_script.specs.declared.work.Work.TheVariants as work
+use Rattle.bl_work.specs.Codes.{coded_mode, coded_part}
+use Rattle.bl_work.specs.Statements.{Part}
+use Rattle.bl_work.specs.declared.work.Work.{Work}
+use Rattle.bl_work.specs.declared.work.Work.TheVariants as work
 use Rattle.bl_setup.specs.Order.{Entry, Line, Child}
 
 -- a rule: which it is, its subject, its document, its mode, and the rank and the categories of its level

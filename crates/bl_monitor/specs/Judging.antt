@@ -5,12 +5,12 @@ use Rattle.bl_policy.specs.Policy.{SecurityPolicy}
 use Rattle.bl_policy.specs.RuleEffect.{HasIdsBelow}
 use Rattle.bl_policy.specs.declared.access.Access.{Access}
 use Rattle.bl_policy.specs.declared.denial.Denial.{Denial}
-use Rattle.bl_script.specs.Effects.{Effect, effects_of, after, outputs, children}
-use Rattle.bl_script.specs.Statements.{Statements, Part}
-use Rattle.bl_script.specs.declared.answer.Answer.{Answer}
-use Rattle.bl_script.specs.declared.answer.Answer.TheVariants as answer
-use Rattle.bl_script.specs.declared.work.Work.{Work}
-use Rattle.bl_script.specs.declared.work.Work.TheVariants as work
+use Rattle.bl_work.specs.Effects.{Effect, effects_of, after, outputs, children}
+use Rattle.bl_work.specs.Statements.{Statements, Part}
+use Rattle.bl_work.specs.declared.answer.Answer.{Answer}
+use Rattle.bl_work.specs.declared.answer.Answer.TheVariants as answer
+use Rattle.bl_work.specs.declared.work.Work.{Work}
+use Rattle.bl_work.specs.declared.work.Work.TheVariants as work
 use Rattle.bl_setup.specs.Order.{Task, accesses_of, is_altered}
 use Rattle.bl_setup.specs.Past.{Past, judged, deeds, lent, is_done}
 use Rattle.bl_monitor.specs.Kept.{spawned_of}

@@ -1,9 +1,9 @@
 -- What is kept of a place.
 use Rattle.std.specs.Prelude.{◌≡◌, ℕ, ◌<◌, ◌≤◌, true, false, List, [], None, is_some, length, slice_index_or, ⊤}
-use Rattle.bl_script.specs.Script.{IsScript}
-use Rattle.bl_script.specs.Statements.{Part}
-use Rattle.bl_script.specs.declared.work.Work.{Work}
-use Rattle.bl_script.specs.declared.work.Work.TheVariants as work
+use Rattle.bl_work.specs.Script.{IsScript}
+use Rattle.bl_work.specs.Statements.{Part}
+use Rattle.bl_work.specs.declared.work.Work.{Work}
+use Rattle.bl_work.specs.declared.work.Work.TheVariants as work
 use Rattle.bl_setup.specs.Order as order
 use Rattle.bl_setup.specs.Past.{first_task, child_task}
 use Rattle.bl_monitor.specs.Kept.{spawned_of}

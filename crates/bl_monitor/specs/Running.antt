@@ -1,7 +1,7 @@
 -- How far a run has come.
 use Rattle.std.specs.Prelude.{◌≡◌, ℕ, List}
-use Rattle.bl_script.specs.Effects.{Effect, after, outputs, children, effects_from}
-use Rattle.bl_script.specs.Statements.{Statements}
+use Rattle.bl_work.specs.Effects.{Effect, after, outputs, children, effects_from}
+use Rattle.bl_work.specs.Statements.{Statements}
 use Rattle.bl_monitor.specs.Texts.{text_of, IsPut}
 use Rattle.bl_monitor.specs.declared.run.Text.{Text}
 use Rattle.bl_monitor.specs.declared.run.Run.{Run}

@@ -1,6 +1,6 @@
 -- What a monitor keeps.
 use Rattle.std.specs.Prelude.{◌≡◌, ℕ, ◌-◌, ◌<◌, ◌≤◌, List, length, map, slice_index_or, is_some, All}
-use Rattle.bl_script.specs.Effects.{children}
+use Rattle.bl_work.specs.Effects.{children}
 use Rattle.bl_policy.specs.FirstFault.{first_fault}
 use Rattle.bl_policy.specs.Policy.{SecurityPolicy}
 use Rattle.bl_setup.specs.Agreement.{Agree}

@@ -1,7 +1,7 @@
 -- The texts that a run works on.
 use Rattle.std.specs.Prelude.{◌≡◌, ℕ, if◌then◌else◌, ◌==◌, List, [], ◌∷◌, slice_index_or, slice_set}
 use Rattle.bl_policy.specs.declared.access.Access.{Access}
-use Rattle.bl_script.specs.Modes.{alters}
+use Rattle.bl_work.specs.Modes.{alters}
 use Rattle.bl_monitor.specs.declared.run.Text.{Text}
 
 -- a document's text, which is empty where it has none

@@ -2,7 +2,7 @@
 ghost use Rattle.std.specs.Prelude.{◌≡◌, ◌<◌, ℕ, List, All, length, IfOk, OnErr};
 ghost use Rattle.bl_policy.specs.declared.access.Access.{Access};
 ghost use Rattle.bl_policy.specs.RuleEffect.{IsRuleOf};
-ghost use Rattle.bl_script.specs.Body.{statements_of};
+ghost use Rattle.bl_work.specs.Body.{statements_of};
 ghost use Rattle.bl_setup.specs.Order.{Runs, Applies};
 ghost use Rattle.bl_setup.specs.Past.{changed};
 ghost use Rattle.bl_monitor.specs.Judging.{AreBelow, IsKnown, IsJudged, IsDone, IsIdle};
@@ -14,10 +14,10 @@ use bl_policy::access::Access;
 use bl_policy::denial::Denial;
 use bl_policy::policy::Policy;
 use bl_policy::rule::Rule;
-use bl_script::answer::{Answer, Outputs};
-use bl_script::document::Document;
-use bl_script::script::{Script, Stmt};
-use bl_script::work::Work;
+use bl_work::answer::{Answer, Outputs};
+use bl_work::document::Document;
+use bl_work::script::{Script, Stmt};
+use bl_work::work::Work;
 use std::alloc::{AllocError, Global};
 
 /// What comes of an entry, before any of it is kept.

@@ -5,7 +5,7 @@ ghost use Rattle.bl_monitor.specs.Places.{no_place, HasChild};
 
 use bl_policy::denial::Denial;
 use bl_policy::id::SubjectId;
-use bl_script::work::Work;
+use bl_work::work::Work;
 
 /// Where an entry comes from.
 #[derive(Clone, Copy)]

@@ -3,18 +3,18 @@
 ghost use Rattle.std.specs.Prelude.{◌≡◌, ◌==◌, ◌<◌, ◌++◌, ◌∷◌, [], All, length, IfOk, OnOk};
 ghost use Rattle.std.specs.List.{position_from};
 ghost use Rattle.bl_policy.specs.declared.access.Access.{Access};
-ghost use Rattle.bl_script.specs.Body.{statements_of};
-ghost use Rattle.bl_script.specs.Content.{IsContent};
-ghost use Rattle.bl_script.specs.Modes.{alters};
-ghost use Rattle.bl_script.specs.Statements as statement;
+ghost use Rattle.bl_work.specs.Body.{statements_of};
+ghost use Rattle.bl_work.specs.Content.{IsContent};
+ghost use Rattle.bl_work.specs.Modes.{alters};
+ghost use Rattle.bl_work.specs.Statements as statement;
 ghost use Rattle.bl_monitor.specs.Texts.{text_of, texts_of, changes_of};
 ghost use Rattle.bl_monitor.specs.Running.{GoesOn, PutsText};
 
 use crate::text::holds;
 use bl_policy::access::{Access, Mode};
 use bl_policy::id::DocId;
-use bl_script::document::Document;
-use bl_script::script::Stmt;
+use bl_work::document::Document;
+use bl_work::script::Stmt;
 use std::alloc::{AllocError, Global};
 
 /// A document's text.

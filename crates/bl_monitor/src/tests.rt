@@ -6,10 +6,11 @@ use crate::laws::read_lines_are_in_the_setup;
 use crate::monitor::{Entry, Monitor, MonitorFault};
 use bl_policy::denial::{Clause, Denial};
 use bl_policy::id::{DocId, SubjectId};
-use bl_script::answer::Answer;
-use bl_script::line::{Line, read_line};
+use bl_read::line::read_line;
 use bl_setup::reader::read_setup;
 use bl_setup::setup::Setup;
+use bl_work::answer::Answer;
+use bl_work::asked::Line;
 use std::alloc::Global;
 use std::test::Fail;
 

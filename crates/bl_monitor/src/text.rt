@@ -1,9 +1,9 @@
 //! What a condition asks of a plain text.
 ghost use Rattle.std.specs.Prelude.{◌≡◌};
-ghost use Rattle.bl_script.specs.Effects.{holds_of};
-ghost use Rattle.bl_script.specs.Piece.{has_piece};
+ghost use Rattle.bl_work.specs.Effects.{holds_of};
+ghost use Rattle.bl_work.specs.Piece.{has_piece};
 
-use bl_script::script::Condition;
+use bl_work::script::Condition;
 
 /// Whether the piece stands somewhere in the content.
 fn contains(content: &[u8], piece: &[u8]) -> bool

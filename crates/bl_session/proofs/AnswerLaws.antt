@@ -5,8 +5,8 @@ use Rattle.std.proofs.Math.ListN.{get_or-append, take-append-drop, length-take}
 use Rattle.std.proofs.Math.Seq.{take-suc}
 use Rattle.std.proofs.lemmas.List.{get_or_push, map-append}
 use Rattle.std.proofs.lemmas.Bool.Decides.{nat_tests, eqb_tells}
-use Rattle.bl_script.specs.Effects.{children}
-use Rattle.bl_script.specs.declared.answer.Answer.{Answer}
+use Rattle.bl_work.specs.Effects.{children}
+use Rattle.bl_work.specs.declared.answer.Answer.{Answer}
 use Rattle.bl_setup.specs.Order.{Setup, Entry, Line, Child}
 use Rattle.bl_setup.specs.Past.{Past, past_of, earlier, place, no_entry, is_done}
 use Rattle.bl_monitor.specs.Heard.{Heard, place_at, answer_at, children_of, with_entry, KnowsAnswer}

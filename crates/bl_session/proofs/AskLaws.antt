@@ -4,7 +4,7 @@ use Rattle.std.specs.Global.{Global}
 use Rattle.std.proofs.Math.ListN.{get_or-append}
 use Rattle.std.proofs.lemmas.List.Sums.{sum_by_push}
 use Rattle.std.proofs.lemmas.Bool.Decides.{nat_tests}
-use Rattle.bl_script.specs.declared.work.Work.{Work}
+use Rattle.bl_work.specs.declared.work.Work.{Work}
 use Rattle.bl_setup.specs.Order.{Setup, Line}
 use Rattle.bl_setup.specs.Machine.{State, state_after, start, weight_of, entry_weight}
 use Rattle.bl_monitor.specs.Heard.{KnowsWork}

@@ -1,7 +1,7 @@
 -- Laws of the calls by which entries enter and are answered.
 use Rattle.std.proofs.Common.{◌≡◌, ℕ, zero, suc, ◌+◌, ◌<◌, Bool, true, false, cond, List, [], ◌∷◌, ◌++◌, length, refl, sym, ap, subst, ◌∙◌, arith, append-nil, add-one, slice_index_or, Some, None}
-use Rattle.bl_script.specs.Effects.{children}
-use Rattle.bl_script.specs.declared.answer.Answer.{Answer}
+use Rattle.bl_work.specs.Effects.{children}
+use Rattle.bl_work.specs.declared.answer.Answer.{Answer}
 use Rattle.bl_setup.specs.Order.{Setup, Entry, Child}
 use Rattle.bl_setup.specs.Past.{no_entry, is_done}
 use Rattle.bl_monitor.specs.Heard.{Heard, answer_at, children_of, with_entry, Knows, KnowsAnswer}

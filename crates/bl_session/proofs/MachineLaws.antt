@@ -1,7 +1,7 @@
 -- What was told and what the machine of one worker holds.
 use Rattle.std.proofs.Common.{◌≡◌, ℕ, suc, ◌+◌, ◌-◌, ◌<◌, ◌≤◌, true, false, cond, List, [], ◌∷◌, ◌++◌, length, refl, sym, ap, subst, ◌∙◌, arith, Option, Some, None, nat_le, sum_by, replicate}
-use Rattle.bl_script.specs.Effects.{children}
-use Rattle.bl_script.specs.declared.work.Work.{Work}
+use Rattle.bl_work.specs.Effects.{children}
+use Rattle.bl_work.specs.declared.work.Work.{Work}
 use Rattle.bl_setup.specs.Order.{Setup, Entry, Line}
 use Rattle.bl_setup.specs.Machine.{State, Event, change, state_after, start, child_entries, entry_weight, weight_of}
 use Rattle.bl_setup.specs.Machine as machine

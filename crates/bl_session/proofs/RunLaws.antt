@@ -2,8 +2,8 @@
 use Rattle.std.proofs.Common.{◌≡◌, ℕ, zero, suc, ◌+◌, ◌-◌, ◌<◌, ◌≤◌, Bool, true, false, cond, List, [], ◌∷◌, ◌++◌, length, refl, sym, ap, subst, ◌∙◌, arith, append-nil, length-append, slice_index_or, slice_set, nat_lt, ltb-true, replicate, true≢false, Option, Some, None}
 use Rattle.std.proofs.Math.ListN.{length-set, length-replicate}
 use Rattle.std.proofs.lemmas.Bool.Decides.{nat_tests}
-use Rattle.bl_script.specs.Effects.{children}
-use Rattle.bl_script.specs.declared.work.Work.{Work}
+use Rattle.bl_work.specs.Effects.{children}
+use Rattle.bl_work.specs.declared.work.Work.{Work}
 use Rattle.bl_setup.specs.Order.{Setup, Entry, Line}
 use Rattle.bl_setup.specs.Past.{Past, is_done, earlier, no_entry, deeds, task_of, content_of}
 use Rattle.bl_setup.specs.Machine.{State, Event, Session, Phase, Waiting, Running, Ended, Gone, is_gone, is_over, is_running, is_lost, past_at, phase_at, change, state_after, start, children_at, child_entries, runs, has_ended, with_phase}

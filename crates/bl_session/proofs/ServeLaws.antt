@@ -6,11 +6,11 @@ use Rattle.std.proofs.KnownBytes.{Appends-nil}
 use Rattle.std.specs.Str.{bytes_eq}
 use Rattle.std.proofs.lemmas.List.Quantifiers.{position-Some}
 use Rattle.bl_level.specs.Table.{place_of}
-use Rattle.bl_script.specs.declared.line.Line.TheVariants as line
-use Rattle.bl_script.specs.declared.work.Work.{Work}
-use Rattle.bl_script.specs.Names.{KnownNames}
-use Rattle.bl_script.specs.Grammar.{SpelledLine, hello, wait, when, rule}
-use Rattle.bl_script.specs.LineGrammar.{Means, LineOf}
+use Rattle.bl_work.specs.declared.asked.Line.TheVariants as line
+use Rattle.bl_work.specs.declared.work.Work.{Work}
+use Rattle.bl_work.specs.Names.{KnownNames}
+use Rattle.bl_work.specs.Grammar.{SpelledLine, hello, wait, when, rule}
+use Rattle.bl_work.specs.LineGrammar.{Means, LineOf}
 use Rattle.bl_setup.specs.Agreement.{Agree}
 use Rattle.bl_setup.specs.Order.{Setup}
 use Rattle.bl_setup.specs.Machine.{start, entry_weight}

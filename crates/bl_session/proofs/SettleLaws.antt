@@ -6,7 +6,7 @@ use Rattle.std.proofs.lemmas.List.{map-append}
 use Rattle.std.proofs.lemmas.List.Sums.{sum_by-append, sum_by-cons}
 use Rattle.std.proofs.lemmas.List.Elements.{All-head, All-tail}
 use Rattle.std.proofs.lemmas.Bool.Decides.{nat_tests}
-use Rattle.bl_script.specs.declared.answer.Answer.{Answer}
+use Rattle.bl_work.specs.declared.answer.Answer.{Answer}
 use Rattle.bl_setup.specs.Order.{Setup, Entry}
 use Rattle.bl_setup.specs.Machine.{State, state_after, start, entry_weight}
 use Rattle.bl_monitor.specs.Heard.{Heard}

@@ -2,7 +2,7 @@
 use Rattle.std.proofs.Common.{◌≡◌, ℕ, ◌+◌, ◌≤◌, Bool, true, false, ◌⊎◌, inl, inr, List, [], ◌∷◌, ◌++◌, length, refl, sym, ap, subst, ◌∙◌, append_assoc, append-nil, arith, Option, Some, None, OnSome, take, drop, take-append-drop, replicate}
 use Rattle.std.specs.Io.KnownBytes.{Appends, IsAtEnd}
 use Rattle.std.proofs.KnownBytes.{Appends-trans, Appends-nil}
-use Rattle.bl_script.specs.Names.{KnownNames}
+use Rattle.bl_work.specs.Names.{KnownNames}
 use Rattle.bl_session.specs.Lines.{lines_of, AreLines}
 use Rattle.bl_session.specs.declared.fault.SessionFault.{SessionFault}
 use Rattle.bl_session.specs.declared.fault.SessionFault.TheVariants.{Read, Write, TooLong, Memory, Clash}

@@ -2,8 +2,8 @@
 use Rattle.std.proofs.Common.{◌≡◌, ℕ, ◌<◌, true, false, List, length, sym, ap, ◌∙◌, arith, subst, take, take_all, ltb-false, Result, Ok, Err, IfOk}
 use Rattle.bl_session.specs.declared.held.Held.{Held}
 use Rattle.bl_session.specs.Holds.{Holds}
-use Rattle.bl_script.specs.Names.{KnownNames}
-use Rattle.bl_script.specs.declared.line.LineFault.TheVariants.{Long}
+use Rattle.bl_work.specs.Names.{KnownNames}
+use Rattle.bl_work.specs.declared.asked.LineFault.TheVariants.{Long}
 use Rattle.bl_session.specs.Lines.{without_cr, is_blank}
 use Rattle.bl_session.specs.Look.{look_of}
 use Rattle.bl_session.specs.declared.held.Look.{Look}

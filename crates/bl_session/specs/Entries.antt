@@ -1,6 +1,6 @@
 -- The entries that the machine of one worker keeps, as the definitions see them.
 use Rattle.std.specs.Prelude.{◌≡◌, ℕ, zero, suc, ◌+◌, ◌<◌, ◌≤◌, Bool, true, false, List, [], ◌∷◌, ◌++◌, map, length, take, slice_index_or, ⊤}
-use Rattle.bl_script.specs.declared.answer.Answer.{Answer}
+use Rattle.bl_work.specs.declared.answer.Answer.{Answer}
 use Rattle.bl_setup.specs.Order.{Setup, Entry, Line, Child}
 use Rattle.bl_monitor.specs.Heard.{Heard, KnowsWork, KnowsAnswer}
 use Rattle.bl_monitor.specs.Heard as heard

@@ -1,9 +1,9 @@
 -- That what an answer names has a name.
 use Rattle.std.specs.Prelude.{◌<◌, length, IfSome, ⊤}
 use Rattle.bl_policy.specs.declared.denial.Denial.{Denial}
-use Rattle.bl_script.specs.Names.{KnownNames}
-use Rattle.bl_script.specs.declared.answer.Answer.{Answer}
-use Rattle.bl_script.specs.declared.answer.Answer.TheVariants.{Done, RuleDone, Denied, Lost}
+use Rattle.bl_work.specs.Names.{KnownNames}
+use Rattle.bl_work.specs.declared.answer.Answer.{Answer}
+use Rattle.bl_work.specs.declared.answer.Answer.TheVariants.{Done, RuleDone, Denied, Lost}
 
 -- the subject and the document of a denial have names
 pub record NamesDenial (names : KnownNames) (denial : Denial) : Type 0 where

@@ -1,6 +1,6 @@
 -- One: the trail of one session and one worker, where nothing is lost.
 use Rattle.std.specs.Prelude.{ℕ, zero, suc, ◌+◌, Bool, if◌then◌else◌, nat_lt, nat_le, List, [], ◌∷◌, ◌++◌, length, sum_by}
-use Rattle.bl_script.specs.declared.work.Work.{Work}
+use Rattle.bl_work.specs.declared.work.Work.{Work}
 use Rattle.bl_setup.specs.Order.{Setup}
 use Rattle.bl_setup.specs.Machine.{State, Event, runs, has_ended, change, start, state_after, weight_of, entry_weight}
 use Rattle.bl_setup.specs.Machine as machine

@@ -2,9 +2,9 @@
 use Rattle.std.specs.Prelude.{ℕ, zero, suc, Bool, true, false, ◌&&◌, ◌||◌, if◌then◌else◌, ◌==◌, nat_lt, List, [], ◌∷◌, ◌++◌, length, slice_index_or, codes, decimal, Option, Some, None}
 use Rattle.std.specs.List.{flat_map}
 use Rattle.bl_policy.specs.Denial.{word_of}
-use Rattle.bl_script.specs.Names.{KnownNames}
-use Rattle.bl_script.specs.declared.answer.Answer.{Answer}
-use Rattle.bl_script.specs.declared.answer.Answer.TheVariants.{Done, RuleDone, Denied, Lost}
+use Rattle.bl_work.specs.Names.{KnownNames}
+use Rattle.bl_work.specs.declared.answer.Answer.{Answer}
+use Rattle.bl_work.specs.declared.answer.Answer.TheVariants.{Done, RuleDone, Denied, Lost}
 use Rattle.bl_setup.specs.Order.{Entry, Line, Child}
 use Rattle.bl_setup.specs.Past.{no_entry}
 use Rattle.bl_setup.specs.Machine.{State, past_at}

@@ -1,7 +1,7 @@
 -- How far a session has come, from its first byte on.
 use Rattle.std.specs.Prelude.{◌≡◌, ℕ, ◌+◌, ◌≤◌, ◌<◌, Bool, true, false, List, [], ◌∷◌, ◌++◌, length, ⊤, Option, Some, None, OnSome, ◌⊎◌, replicate}
 use Rattle.std.specs.Io.KnownBytes.{Consumes, Appends, IsAtEnd}
-use Rattle.bl_script.specs.Names.{KnownNames}
+use Rattle.bl_work.specs.Names.{KnownNames}
 use Rattle.bl_session.specs.Lines.{lines_of, AreLines, HasNoLf}
 use Rattle.bl_session.specs.Reads.{HasMore}
 use Rattle.bl_session.specs.declared.fault.SessionFault.{SessionFault}

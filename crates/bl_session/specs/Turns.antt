@@ -1,11 +1,11 @@
 -- What a line is to a session.
 use Rattle.std.specs.Prelude.{◌≡◌, ◌≢◌, ℕ, Bool, true, false, List, [], ◌∷◌, Option, Some, None, ⊤}
-use Rattle.bl_script.specs.Names.{KnownNames}
-use Rattle.bl_script.specs.declared.line.Line.TheVariants as lines
-use Rattle.bl_script.specs.declared.line.LineFault.TheVariants.{Memory}
-use Rattle.bl_script.specs.LineGrammar.{LineOf}
-use Rattle.bl_script.specs.LineFaults.{IsLineFault}
-use Rattle.bl_script.specs.declared.work.Work.{Work}
+use Rattle.bl_work.specs.Names.{KnownNames}
+use Rattle.bl_work.specs.declared.asked.Line.TheVariants as lines
+use Rattle.bl_work.specs.declared.asked.LineFault.TheVariants.{Memory}
+use Rattle.bl_work.specs.LineGrammar.{LineOf}
+use Rattle.bl_read.specs.LineFaults.{IsLineFault}
+use Rattle.bl_work.specs.declared.work.Work.{Work}
 use Rattle.bl_session.specs.Lines.{without_cr, is_blank}
 use Rattle.bl_session.specs.declared.turn.Turn.{Turn}
 use Rattle.bl_session.specs.declared.turn.Turn.TheVariants.{Skip, Wait, Greets, Bad, Ask}

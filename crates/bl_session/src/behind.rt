@@ -1,10 +1,10 @@
 //! What stands behind a session: a machine that admits works and answers them.
 ghost use Rattle.std.specs.Prelude.{◌≡◌, ◌≤◌, ◌<◌, ◌++◌, ◌∷◌, [], ◌⊎◌, List, ℕ, OnOk, OnErr, IfOk};
-ghost use Rattle.bl_script.specs.declared.work.Work.{Work};
+ghost use Rattle.bl_work.specs.declared.work.Work.{Work};
 ghost use Rattle.bl_session.specs.Told.{Told, Opens, Admits, Settles, SameUpTo};
 
 use bl_policy::id::SubjectId;
-use bl_script::work::Work;
+use bl_work::work::Work;
 use std::alloc::AllocError;
 
 /// A machine that admits the works of one session, has them answered, and gives the texts of the

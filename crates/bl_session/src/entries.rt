@@ -3,7 +3,7 @@
 //! block are kept until the next one is settled.
 ghost use Rattle.std.specs.Prelude.{◌≡◌, ◌+◌, ◌<◌, ◌≤◌, ◌++◌, ℕ, [], List, All, false, OnOk, IfOk, None, length};
 ghost use Rattle.std.specs.Arc.{arc_value};
-ghost use Rattle.bl_script.specs.Effects.{children};
+ghost use Rattle.bl_work.specs.Effects.{children};
 ghost use Rattle.bl_setup.specs.Machine.{weight_of};
 ghost use Rattle.bl_monitor.specs.Heard.{KnowsWork};
 ghost use Rattle.bl_session.specs.Orders.{said, told_text, AreLater};
@@ -18,9 +18,9 @@ use crate::reply::push_refused;
 use crate::words::push_reply;
 use bl_monitor::monitor::{Entry, Monitor};
 use bl_policy::id::SubjectId;
-use bl_script::answer::Answer;
-use bl_script::work::Work;
 use bl_setup::setup::Setup;
+use bl_work::answer::Answer;
+use bl_work::work::Work;
 use std::alloc::{AllocError, Global};
 use std::sync::Arc;
 

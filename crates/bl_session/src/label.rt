@@ -5,7 +5,7 @@ ghost use Rattle.bl_session.specs.Entries.{is_line};
 ghost use Rattle.bl_session.specs.declared.label.Origin.TheVariants as origin;
 
 use bl_policy::id::SubjectId;
-use bl_script::work::Work;
+use bl_work::work::Work;
 use std::alloc::{AllocError, Global};
 
 /// Where an entry comes from.

@@ -5,7 +5,7 @@ ghost use Rattle.bl_session.specs.Spoken.{block_text, reply_to};
 
 use crate::behind::Behind;
 use crate::turn::Pending;
-use bl_script::line::LineFault;
+use bl_work::asked::LineFault;
 use itoa::Buffer;
 use std::alloc::{AllocError, Global};
 

@@ -19,7 +19,7 @@ use crate::reply::text_block;
 use crate::turn::{Pending, Turn, turn_held};
 use crate::watched::Watched;
 use bl_policy::id::SubjectId;
-use bl_script::names::Names;
+use bl_work::names::Names;
 use std::alloc::{AllocError, Global};
 use std::io::{BufRead, Write};
 

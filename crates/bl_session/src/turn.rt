@@ -4,9 +4,10 @@ ghost use Rattle.bl_session.specs.Lines.{without_cr};
 
 use crate::held::{Held, Look};
 use bl_policy::id::SubjectId;
-use bl_script::line::{Line, LineFault, read_line};
-use bl_script::names::Names;
-use bl_script::work::Work;
+use bl_read::line::read_line;
+use bl_work::asked::{Line, LineFault};
+use bl_work::names::Names;
+use bl_work::work::Work;
 use std::alloc::{AllocError, Global};
 
 /// What one line of the input is to the session.
@@ -117,5 +118,5 @@ pub fn turn_held(alloc: Global, names: &Names, held: &Held) -> Result<Turn, Allo
 
 ghost use Rattle.bl_session.specs.Holds.{Holds};
 ghost use Rattle.bl_session.specs.Turns.{IsSaid, IsTurn, is_skip, greeted};
-ghost use Rattle.bl_script.specs.Names.{KnownNames};
-ghost use Rattle.bl_script.specs.LineGrammar.{LineOf};
+ghost use Rattle.bl_work.specs.Names.{KnownNames};
+ghost use Rattle.bl_work.specs.LineGrammar.{LineOf};

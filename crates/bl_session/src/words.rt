@@ -1,6 +1,6 @@
 //! The texts of answers.
 ghost use Rattle.std.specs.Prelude.{◌≡◌, ◌<◌, ◌++◌, ◌∷◌, [], OnOk, IfSome, length, codes, slice_index_or};
-ghost use Rattle.bl_script.specs.declared.answer.Answer.TheVariants.{Done, Denied};
+ghost use Rattle.bl_work.specs.declared.answer.Answer.TheVariants.{Done, Denied};
 ghost use Rattle.bl_session.specs.Replies.{label_text, answer_text, object_text, reply_text};
 ghost use Rattle.bl_session.specs.Named.{NamesDenial, NamesAnswer};
 
@@ -8,8 +8,8 @@ use crate::label::Entered;
 use crate::reply::push_number;
 use bl_policy::denial::Denial;
 use bl_policy::id::DocId;
-use bl_script::answer::{Answer, Outputs};
-use bl_script::names::Names;
+use bl_work::answer::{Answer, Outputs};
+use bl_work::names::Names;
 use std::alloc::AllocError;
 
 /// Adds an entry's label.

@@ -5,7 +5,7 @@ use Rattle.bl_level.specs.Level.{SecurityLevel, Dominates, dominates}
 use Rattle.bl_level.proofs.Dominance.{dominates-sets}
 use Rattle.bl_policy.specs.declared.policy.AddFault.{AddFault}
 use Rattle.bl_policy.specs.declared.policy.AddFault.TheVariants as add
-use Rattle.bl_script.specs.Names.{KnownNames}
+use Rattle.bl_work.specs.Names.{KnownNames}
 use Rattle.bl_policy.specs.Policy.{SecurityPolicy}
 use Rattle.bl_setup.specs.Order.{Setup}
 

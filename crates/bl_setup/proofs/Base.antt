@@ -3,17 +3,17 @@ use Rattle.std.specs.Prelude.{ℕ, suc, Bool, true, false, List, [], ◌∷◌, 
 use Rattle.bl_level.specs.Level.{SecurityLevel}
 use Rattle.bl_policy.specs.Policy.{SecurityPolicy, Clearance, no_policy, with_subject, with_document, with_modes}
 use Rattle.bl_policy.specs.declared.access.ModeSet.{ModeSet}
-use Rattle.bl_script.specs.Names.{KnownNames}
+use Rattle.bl_work.specs.Names.{KnownNames}
 use Rattle.bl_policy.specs.declared.access.Access.{Access}
 use Rattle.bl_policy.specs.declared.access.Mode.{Mode}
 use Rattle.bl_policy.specs.declared.access.Mode.TheVariants.{Read}
 use Rattle.bl_policy.specs.declared.denial.Clause.{Clause}
 use Rattle.bl_policy.specs.declared.rule.Rule.{Rule}
-use Rattle.bl_script.specs.Statements.{Statements, Part, Nothing, Show}
-use Rattle.bl_script.specs.declared.work.Work.{Work}
-use Rattle.bl_script.specs.declared.work.Work.TheVariants as work
-use Rattle.bl_script.specs.declared.answer.Answer.{Answer}
-use Rattle.bl_script.specs.declared.answer.Answer.TheVariants.{Denied}
+use Rattle.bl_work.specs.Statements.{Statements, Part, Nothing, Show}
+use Rattle.bl_work.specs.declared.work.Work.{Work}
+use Rattle.bl_work.specs.declared.work.Work.TheVariants as work
+use Rattle.bl_work.specs.declared.answer.Answer.{Answer}
+use Rattle.bl_work.specs.declared.answer.Answer.TheVariants.{Denied}
 use Rattle.bl_setup.specs.Order.{Setup, Entry, Line}
 use Rattle.bl_setup.specs.Past.{place}
 

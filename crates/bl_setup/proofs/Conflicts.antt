@@ -4,7 +4,7 @@ use Rattle.std.specs.Prelude.{◌==◌}
 use Rattle.std.specs.List.{list_any}
 use Rattle.std.proofs.lemmas.Bool.Decides.{nat_tests}
 use Rattle.bl_policy.specs.declared.access.Access.{Access}
-use Rattle.bl_script.specs.Modes.{alters}
+use Rattle.bl_work.specs.Modes.{alters}
 use Rattle.bl_setup.specs.Order.{Task, Runs, Applies, OfPolicy, OfDocument, is_rule, claims_of, excludes, conflict, is_altered, is_declared, accesses_of}
 
 pub or_right : (a b : Bool) → b ≡ true → (a || b) ≡ true

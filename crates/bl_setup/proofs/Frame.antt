@@ -1,7 +1,7 @@
 use Rattle.std.proofs.Common.{◌≡◌, ℕ, zero, suc, ◌<◌, ◌≤◌, Bool, true, false, cond, ◌&&◌, List, [], length, refl, sym, ◌∙◌, ap, subst, inl, inr, arith, ◌⊎◌, get_or}
 use mathlib.Core.Path.{fun_ext}
 use Rattle.std.specs.Prelude.{◌-◌, slice_index_or}
-use Rattle.bl_script.specs.Effects.{effects_of, children, after}
+use Rattle.bl_work.specs.Effects.{effects_of, children, after}
 use Rattle.bl_setup.specs.Order.{Setup, Entry, Line, Child, Task, conflict, is_altered, is_declared, accesses_of, body_of}
 use Rattle.bl_setup.specs.Past.{Past, earlier, place, no_entry, at_place, policy_of, content_of, changed, is_done, subject_of, task_of, child_task, deeds, judged}
 use Rattle.bl_setup.proofs.Sound.{HasParent, HaveParents}

@@ -6,8 +6,8 @@ use Rattle.bl_policy.specs.Policy.{SecurityPolicy}
 use Rattle.bl_policy.specs.Properties.{IsSecure}
 use Rattle.bl_policy.specs.declared.access.Access.{Access}
 use Rattle.bl_policy.specs.declared.denial.Denial.{Denial}
-use Rattle.bl_script.specs.declared.work.Work.{Work}
-use Rattle.bl_script.specs.Effects.{Effect}
+use Rattle.bl_work.specs.declared.work.Work.{Work}
+use Rattle.bl_work.specs.Effects.{Effect}
 use Rattle.bl_setup.specs.Order.{Task, Runs, Applies, accesses_of}
 use Rattle.bl_setup.specs.Past.{is_done, fault_of_task, answer_of}
 use Rattle.bl_setup.specs.Machine.{State, Phase, Waiting, Running, Ended, Gone, is_waiting, is_running, is_over, phase_at, is_lost, has_ended, runs, past_at, MayStart, start, Hold, held_below}

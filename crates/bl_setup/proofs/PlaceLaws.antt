@@ -5,8 +5,8 @@ use Rattle.bl_policy.specs.Policy.{SecurityPolicy}
 use Rattle.bl_policy.specs.RuleEffect.{rule_fault, rule_makes, unless_failed, after_rule}
 use Rattle.bl_policy.specs.declared.denial.Denial.{Denial}
 use Rattle.bl_policy.specs.declared.rule.Rule.{Rule}
-use Rattle.bl_script.specs.Effects.{Effect, after, children}
-use Rattle.bl_script.specs.declared.answer.Answer.TheVariants.{RuleDone, Denied, Lost}
+use Rattle.bl_work.specs.Effects.{Effect, after, children}
+use Rattle.bl_work.specs.declared.answer.Answer.TheVariants.{RuleDone, Denied, Lost}
 use Rattle.bl_setup.specs.Order.{Setup, Entry, Child, Task, Runs, Applies, is_rule, conflict, is_altered, accesses_of, Line}
 use Rattle.bl_setup.specs.Past.{earlier, place, past_of, no_entry, policy_of, content_of, is_done, subject_of, task_of, child_task, deeds, answer_of, was_lost, fault_of_task, changed}
 use Rattle.bl_setup.specs.Laws.{IsAnswered, IsClosed, RulesMakeThePolicy, fault_at}

@@ -3,14 +3,14 @@ use Rattle.std.proofs.Common.{◌≡◌, ◌≢◌, ℕ, zero, suc, ◌<◌, ◌
 use Rattle.std.specs.Prelude.{IsTrue, Option, Some, None}
 use Rattle.bl_policy.specs.Policy.{SecurityPolicy}
 use Rattle.bl_policy.specs.declared.denial.Denial.{Denial}
-use Rattle.bl_script.specs.Effects.{Effect, after}
+use Rattle.bl_work.specs.Effects.{Effect, after}
 use Rattle.bl_setup.specs.Machine.{session_at}
 use Rattle.bl_setup.specs.Order.{Setup, Entry, Line, Task, Runs, Applies, conflict, is_altered, accesses_of}
 use Rattle.bl_setup.specs.Past.{Past, earlier, place, policy_of, content_of, changed, is_done, answer_of, judged, deeds}
-use Rattle.bl_script.specs.declared.work.Work.{Work}
+use Rattle.bl_work.specs.declared.work.Work.{Work}
 use Rattle.std.proofs.Common.{length-append}
-use Rattle.bl_script.specs.declared.answer.Answer.{Answer}
-use Rattle.bl_script.specs.declared.answer.Answer.TheVariants.{Lost}
+use Rattle.bl_work.specs.declared.answer.Answer.{Answer}
+use Rattle.bl_work.specs.declared.answer.Answer.TheVariants.{Lost}
 use Rattle.bl_setup.specs.Machine.{State, Phase, is_over, is_gone, phase_at, is_lost, has_ended, runs, past_at, MayStart, Starts, Ends, Admits, change, with_phase, Gone, Ended, Running}
 use Rattle.bl_setup.specs.Now.{ended_before, ended_places, policy_now, content_now}
 use Rattle.bl_setup.proofs.Sound.{IsSound, has_begun}

@@ -5,13 +5,13 @@ use Rattle.bl_policy.specs.declared.access.Mode.TheVariants.{Read, Append, Write
 use Rattle.bl_policy.specs.declared.denial.Clause.TheVariants.{Simple, Star, Discretionary, Admin, Trusted, Greatest}
 use Rattle.bl_policy.specs.declared.rule.Rule.TheVariants.{Give, Rescind, Current, Classify}
 use Rattle.bl_policy.specs.Policy.{allows}
-use Rattle.bl_script.specs.declared.script.Condition.TheVariants.{Is, Has}
-use Rattle.bl_script.specs.Content.{added}
-use Rattle.bl_script.specs.Statements.{Nothing, Show, Say, Add, Set, Pour, If, Spawn}
-use Rattle.bl_script.specs.declared.work.Work.{Work}
-use Rattle.bl_script.specs.declared.work.Work.TheVariants as work
-use Rattle.bl_script.specs.declared.answer.Answer.{Answer}
-use Rattle.bl_script.specs.declared.answer.Answer.TheVariants.{Done, RuleDone, Denied, Lost}
+use Rattle.bl_work.specs.declared.script.Condition.TheVariants.{Is, Has}
+use Rattle.bl_work.specs.Content.{added}
+use Rattle.bl_work.specs.Statements.{Nothing, Show, Say, Add, Set, Pour, If, Spawn}
+use Rattle.bl_work.specs.declared.work.Work.{Work}
+use Rattle.bl_work.specs.declared.work.Work.TheVariants as work
+use Rattle.bl_work.specs.declared.answer.Answer.{Answer}
+use Rattle.bl_work.specs.declared.answer.Answer.TheVariants.{Done, RuleDone, Denied, Lost}
 use Rattle.bl_setup.specs.Order.{Entry, Child}
 use Rattle.bl_setup.specs.Past.{place, policy_before, content_before}
 use Rattle.bl_setup.specs.Machine.{State, Event, IsTrail, Opens, Admits, Starts, Ends, Loses, start, state_after, may_start, past_at, has_ended, held, weight_of}

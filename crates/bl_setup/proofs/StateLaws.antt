@@ -1,8 +1,8 @@
 -- The policy and the contents now, where a place has not ended.
 use Rattle.std.proofs.Common.{◌≡◌, ℕ, ◌<◌, ◌≤◌, Bool, true, false, cond, ◌&&◌, List, [], ◌∷◌, length, refl, sym, ◌∙◌, ap, inl, inr, arith, ◌⊎◌, true≢false}
 use Rattle.bl_policy.specs.Policy.{SecurityPolicy}
-use Rattle.bl_script.specs.Effects.{after}
-use Rattle.bl_script.specs.declared.answer.Answer.{Answer}
+use Rattle.bl_work.specs.Effects.{after}
+use Rattle.bl_work.specs.declared.answer.Answer.{Answer}
 use Rattle.bl_setup.specs.Order.{Setup, Task, Runs, Applies, is_rule, conflict, is_altered, is_declared, accesses_of}
 use Rattle.bl_setup.specs.Past.{Past, earlier, policy_of, content_of, changed, is_done}
 use Rattle.bl_setup.specs.Machine.{State, past_at, has_ended, runs, is_lost, Phase, Waiting, Running, Ended, Gone, is_waiting, is_over}

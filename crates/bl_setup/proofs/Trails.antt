@@ -5,8 +5,8 @@ use Rattle.std.proofs.Math.ListN.{get_or-append}
 use Rattle.std.proofs.Math.Seq.{get_or-append_seam}
 use Rattle.std.proofs.lemmas.Bool.Decides.{eqb_tells}
 use Rattle.std.proofs.lemmas.List.{length-replicate, get_or-append_right}
-use Rattle.bl_script.specs.declared.work.Work.{Work}
-use Rattle.bl_script.specs.Effects.{children}
+use Rattle.bl_work.specs.declared.work.Work.{Work}
+use Rattle.bl_work.specs.Effects.{children}
 use Rattle.bl_setup.specs.Order.{Setup, Entry, Line, conflict}
 use Rattle.bl_setup.specs.Past.{place, no_entry, is_done}
 use Rattle.bl_setup.specs.Machine.{State, Event, Opens, Admits, Starts, Ends, Loses, Phase, Waiting, Running, Ended, Gone, is_running, is_over, is_gone, phase_at, is_lost, has_ended, runs, past_at, MayStart, Needs, change, with_phase, children_at, session_at, start, state_after}

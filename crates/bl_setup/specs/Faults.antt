@@ -8,8 +8,8 @@ use Rattle.bl_level.specs.declared.table.TableFault.{TableFault}
 use Rattle.bl_level.specs.declared.table.TableFault.TheVariants as table
 use Rattle.bl_policy.specs.declared.policy.AddFault.{AddFault}
 use Rattle.bl_policy.specs.declared.policy.AddFault.TheVariants as add
-use Rattle.bl_script.specs.declared.names.NameFault.{NameFault}
-use Rattle.bl_script.specs.declared.names.NameFault.TheVariants as name
+use Rattle.bl_work.specs.declared.names.NameFault.{NameFault}
+use Rattle.bl_work.specs.declared.names.NameFault.TheVariants as name
 use Rattle.bl_setup.specs.declared.fault.SetupFaultKind.{SetupFaultKind}
 use Rattle.bl_setup.specs.declared.fault.SetupFaultKind.TheVariants.{Syntax, Unknown, Repeated, CurrentAboveGreatest, TooMany, Memory}
 

@@ -1,8 +1,8 @@
 -- What holds of every state that a trail leads to.
 use Rattle.std.specs.Prelude.{◌≡◌, ℕ, ◌<◌, ◌≤◌, Bool, false, IsTrue, ◌⊎◌, List, length, All, if◌then◌else◌}
 use Rattle.bl_policy.specs.Properties.{IsSecure}
-use Rattle.bl_script.specs.declared.work.Work.{Work}
-use Rattle.bl_script.specs.Effects.{after}
+use Rattle.bl_work.specs.declared.work.Work.{Work}
+use Rattle.bl_work.specs.Effects.{after}
 use Rattle.bl_setup.specs.Order.{Setup, accesses_of, is_altered, is_declared}
 use Rattle.bl_setup.specs.Past.{changed}
 use Rattle.bl_setup.specs.Machine.{State, Event, Opens, Admits, Starts, Ends, Loses, Hold, past_at, is_lost, has_ended, runs, MayStart, Needs, IsTrail, change, start, state_after, held}

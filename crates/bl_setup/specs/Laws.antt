@@ -3,8 +3,8 @@ use Rattle.std.specs.Prelude.{◌≡◌, ℕ, suc, ◌-◌, ◌<◌, ◌≤◌, 
 use Rattle.bl_policy.specs.RuleEffect.{rule_makes, after_rule}
 use Rattle.bl_policy.specs.declared.denial.Denial.{Denial}
 use Rattle.bl_policy.specs.declared.rule.Rule.{Rule}
-use Rattle.bl_script.specs.Effects.{after, children}
-use Rattle.bl_script.specs.declared.answer.Answer.TheVariants.{RuleDone, Denied, Lost}
+use Rattle.bl_work.specs.Effects.{after, children}
+use Rattle.bl_work.specs.declared.answer.Answer.TheVariants.{RuleDone, Denied, Lost}
 use Rattle.bl_setup.specs.Order.{Setup, Entry, Task, Applies, is_rule, is_altered, accesses_of, conflict, Child}
 use Rattle.bl_setup.specs.Past.{place, policy_before, content_before, is_done, child_task, deeds, fault_of_task, granted}
 

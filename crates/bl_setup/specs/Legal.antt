@@ -1,7 +1,7 @@
 -- Which orders may come about.
 use Rattle.std.specs.Prelude.{◌≡◌, ℕ, suc, ◌+◌, ◌<◌, ◌≤◌, Bool, IsTrue, List, length, Some, slice_get}
-use Rattle.bl_script.specs.Effects.{children}
-use Rattle.bl_script.specs.declared.work.Work.{Work}
+use Rattle.bl_work.specs.Effects.{children}
+use Rattle.bl_work.specs.declared.work.Work.{Work}
 use Rattle.bl_setup.specs.Order.{Setup, Entry, Line, Child}
 use Rattle.bl_setup.specs.Past.{place, is_done}
 

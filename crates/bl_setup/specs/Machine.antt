@@ -2,9 +2,9 @@
 use Rattle.std.specs.Prelude.{ℕ, zero, suc, ◌+◌, ◌<◌, ◌≤◌, ◌^◌, Bool, true, false, ◌&&◌, ◌||◌, not, ◌⊎◌, IsTrue, if◌then◌else◌, nat_lt, List, [], ◌∷◌, ◌++◌, length, map, replicate, sum_by, slice_index_or, slice_set}
 use Rattle.bl_policy.specs.declared.access.Access.{Access}
 use Rattle.bl_policy.specs.declared.access.Mode.{Mode}
-use Rattle.bl_script.specs.Effects.{children}
-use Rattle.bl_script.specs.declared.work.Work.{Work}
-use Rattle.bl_script.specs.declared.work.Work.TheVariants as work
+use Rattle.bl_work.specs.Effects.{children}
+use Rattle.bl_work.specs.declared.work.Work.{Work}
+use Rattle.bl_work.specs.declared.work.Work.TheVariants as work
 use Rattle.bl_setup.specs.Order.{Setup, Entry, Line, Child, Task, accesses_of, conflict}
 use Rattle.bl_setup.specs.Past.{Past, place, is_done}
 

@@ -4,10 +4,10 @@ use Rattle.std.specs.List.{list_any}
 use Rattle.bl_policy.specs.Policy.{SecurityPolicy}
 use Rattle.bl_policy.specs.declared.access.Access.{Access}
 use Rattle.bl_policy.specs.declared.rule.Rule.{Rule}
-use Rattle.bl_script.specs.Names.{KnownNames}
-use Rattle.bl_script.specs.Statements.{Statements, Part, Nothing, no_part}
-use Rattle.bl_script.specs.Modes.{alters}
-use Rattle.bl_script.specs.declared.work.Work.{Work}
+use Rattle.bl_work.specs.Names.{KnownNames}
+use Rattle.bl_work.specs.Statements.{Statements, Part, Nothing, no_part}
+use Rattle.bl_work.specs.Modes.{alters}
+use Rattle.bl_work.specs.declared.work.Work.{Work}
 
 -- what a run begins with: the names, the policy, and each document's content
 pub record Setup : Type 0 where

@@ -6,11 +6,11 @@ use Rattle.bl_policy.specs.FirstFault.{first_fault}
 use Rattle.bl_policy.specs.RuleEffect.{rule_fault, after_rule}
 use Rattle.bl_policy.specs.declared.access.Access.{Access}
 use Rattle.bl_policy.specs.declared.denial.Denial.{Denial}
-use Rattle.bl_script.specs.Effects.{Effect, effects_of, after, outputs, children}
-use Rattle.bl_script.specs.declared.work.Work.{Work}
-use Rattle.bl_script.specs.declared.work.Work.TheVariants as work
-use Rattle.bl_script.specs.declared.answer.Answer.{Answer}
-use Rattle.bl_script.specs.declared.answer.Answer.TheVariants.{Done, RuleDone, Denied, Lost}
+use Rattle.bl_work.specs.Effects.{Effect, effects_of, after, outputs, children}
+use Rattle.bl_work.specs.declared.work.Work.{Work}
+use Rattle.bl_work.specs.declared.work.Work.TheVariants as work
+use Rattle.bl_work.specs.declared.answer.Answer.{Answer}
+use Rattle.bl_work.specs.declared.answer.Answer.TheVariants.{Done, RuleDone, Denied, Lost}
 use Rattle.bl_setup.specs.Order.{Setup, Entry, Line, Child, Task, Runs, Applies, accesses_of, body_of, is_declared, is_altered}
 
 -- the record of a place

@@ -5,7 +5,7 @@ ghost use Rattle.bl_level.specs.Name.{IsName, AreProper};
 ghost use Rattle.bl_level.specs.LevelText.{Means};
 ghost use Rattle.bl_policy.specs.declared.access.Mode.{Mode};
 ghost use Rattle.bl_policy.specs.Mode.{has_mode};
-ghost use Rattle.bl_script.specs.Content.{is_content_byte};
+ghost use Rattle.bl_work.specs.Content.{is_content_byte};
 ghost use Rattle.bl_setup.specs.Declaration.{spell_declaration};
 ghost use Rattle.bl_setup.specs.Grammar.{Adds, AddsSubject, AddsDocument, AddsModes, LineAdds};
 ghost use Rattle.bl_setup.specs.Faults.{UnlessMemory};
@@ -26,8 +26,8 @@ use bl_level::name::Name;
 use bl_level::scheme::Scheme;
 use bl_policy::access::{Mode, ModeSet};
 use bl_policy::policy::Policy;
-use bl_script::document::{Document, MOST_BYTES};
-use bl_script::names::{MOST_DOCUMENTS, MOST_SUBJECTS, Names};
+use bl_work::document::{Document, MOST_BYTES};
+use bl_work::names::{MOST_DOCUMENTS, MOST_SUBJECTS, Names};
 use std::alloc::{AllocError, Global};
 
 /// Names, a policy over their places, and the contents of the documents.

@@ -5,7 +5,7 @@ ghost use Rattle.bl_setup.specs.declared.fault.SetupFaultKind.TheVariants.{Memor
 use bl_level::scheme::{LevelFault, SchemeFault};
 use bl_level::table::TableFault;
 use bl_policy::policy::AddFault;
-use bl_script::names::NameFault;
+use bl_work::names::NameFault;
 use std::alloc::{AllocError, AllocFailed};
 
 /// What is wrong with a line. Where several hold, the first is answered.

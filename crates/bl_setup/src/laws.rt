@@ -1,6 +1,6 @@
 //! What holds of the admission order and of the machine over it, whoever runs it.
 ghost use Rattle.std.specs.Prelude.{◌≡◌, ◌↔◌, ℕ, ◌<◌, Bool, IsTrue, List, slice_get, Some};
-ghost use Rattle.bl_script.specs.declared.work.Work.{Work};
+ghost use Rattle.bl_work.specs.declared.work.Work.{Work};
 ghost use Rattle.bl_setup.specs.Headline.{Holds, IsReached, MovesOn};
 ghost use Rattle.bl_setup.specs.Laws.{FollowsItsParent, IsAnswered, IsClosed, KeepsPlaces, LeavesThePolicy, LooksBack, RestsOnEnded, RestsOnLossesBefore, RulesMakeThePolicy, RulesStandAlone};
 ghost use Rattle.bl_setup.specs.Machine.{MayStart, State, may_start};

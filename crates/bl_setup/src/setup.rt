@@ -4,8 +4,8 @@ ghost use Rattle.bl_setup.specs.Agreement.{Agree};
 
 use crate::draft::Draft;
 use bl_policy::policy::Policy;
-use bl_script::document::Document;
-use bl_script::names::Names;
+use bl_work::document::Document;
+use bl_work::names::Names;
 use std::alloc::AllocError;
 use std::marker::Model;
 

@@ -9,9 +9,9 @@ use bl_policy::access::Mode;
 use bl_policy::denial::Clause;
 use bl_policy::id::{DocId, SubjectId};
 use bl_policy::rule::Rule;
-use bl_script::answer::Answer;
-use bl_script::work::Work;
 use bl_setup::setup::Setup;
+use bl_work::answer::Answer;
+use bl_work::work::Work;
 use std::alloc::Global;
 use std::test::Fail;
 

@@ -1,11 +1,11 @@
 use Rattle.std.proofs.Common.{◌≡◌, ℕ, List, ap, sym, ◌∙◌, subst}
 use Rattle.std.specs.Prelude.{map, slice_index_or}
 use Rattle.bl_policy.specs.declared.access.Access.{Access}
-use Rattle.bl_script.specs.Modes.{KeepsModes}
-use Rattle.bl_script.specs.Script.{AreApart, IsBehaviour}
-use Rattle.bl_script.specs.Statements.{Statements, no_part}
-use Rattle.bl_script.specs.Body.{statements_of}
-use Rattle.bl_script.specs.Effects.{Effect, effects_of, outputs, children}
+use Rattle.bl_work.specs.Modes.{KeepsModes}
+use Rattle.bl_work.specs.Script.{AreApart, IsBehaviour}
+use Rattle.bl_work.specs.Statements.{Statements, no_part}
+use Rattle.bl_work.specs.Body.{statements_of}
+use Rattle.bl_work.specs.Effects.{Effect, effects_of, outputs, children}
 use Rattle.bl_grant.specs.Loaned.{back_of}
 use Rattle.bl_grant.specs.Loans.{accesses_of, lent_of, content_of}
 use Rattle.bl_eval.specs.Loan.{part_of, input_at, backs}

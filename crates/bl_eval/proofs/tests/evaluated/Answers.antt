@@ -1,7 +1,7 @@
 use Rattle.std.proofs.Common.{◌<◌, List, length, ap, sym, ◌∙◌, subst, arith}
 use Rattle.std.specs.Prelude.{slice_index_or}
 use Rattle.bl_policy.specs.declared.access.Access.{Access}
-use Rattle.bl_script.specs.Statements.{Part, no_part}
+use Rattle.bl_work.specs.Statements.{Part, no_part}
 use Rattle.bl_grant.specs.Loaned.{Loaned}
 use Rattle.bl_grant.specs.Loans.{entry_of}
 use Rattle.bl_eval.specs.Loan.{AreFor}

@@ -1,6 +1,6 @@
 use Rattle.std.proofs.Common.{◌≡◌, List, [], ◌∷◌, ◌++◌, ap, sym, ◌∙◌, subst}
-use Rattle.bl_script.specs.Statements.{Part}
-use Rattle.bl_script.specs.Script.{IsScript}
+use Rattle.bl_work.specs.Statements.{Part}
+use Rattle.bl_work.specs.Script.{IsScript}
 use Rattle.bl_eval.proofs.Handmade.{one-script}
 use Rattle.bl_eval.proofs.tests.one.Goals as goal
 

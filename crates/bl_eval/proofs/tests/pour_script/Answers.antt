@@ -1,7 +1,7 @@
 use Rattle.std.proofs.Common.{◌≡◌, ◌≤◌, [], ◌∷◌, ap, sym, subst, lit≤}
-use Rattle.bl_script.specs.Statements.{Part}
-use Rattle.bl_script.specs.Nesting.{spawned, depth_at}
-use Rattle.bl_script.specs.Script.{IsBehaviour}
+use Rattle.bl_work.specs.Statements.{Part}
+use Rattle.bl_work.specs.Nesting.{spawned, depth_at}
+use Rattle.bl_work.specs.Script.{IsBehaviour}
 use Rattle.bl_eval.proofs.Handmade.{pour_part, pour-right}
 use Rattle.bl_eval.proofs.tests.pour_script.Goals as goal
 

@@ -1,6 +1,6 @@
 use Rattle.std.proofs.Common.{List, ℕ, length, sym, subst}
-use Rattle.bl_script.specs.Effects.{holds_of}
-use Rattle.bl_script.specs.declared.script.Condition.TheVariants.{Has}
+use Rattle.bl_work.specs.Effects.{holds_of}
+use Rattle.bl_work.specs.declared.script.Condition.TheVariants.{Has}
 use Rattle.bstr.specs.Text.{Contains}
 use Rattle.bl_eval.proofs.Pieces.{stands_where, occurs_where, same_tests}
 use Rattle.bl_eval.proofs.told.has.Goals as goal

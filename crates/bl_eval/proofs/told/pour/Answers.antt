@@ -1,6 +1,6 @@
 use Rattle.std.proofs.Common.{ap, ◌∙◌}
 use Rattle.std.proofs.lemmas.Result.{on_ok_weaker}
-use Rattle.bl_script.specs.Content.{added}
+use Rattle.bl_work.specs.Content.{added}
 use Rattle.bl_grant.specs.Loans.{changed}
 use Rattle.bl_eval.proofs.Steps.{tried-kept}
 use Rattle.bl_eval.proofs.Runs.{pour-run}

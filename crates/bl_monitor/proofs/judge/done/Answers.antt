@@ -1,7 +1,7 @@
 use Rattle.std.proofs.Common.{[], ◌∙◌, ap, refl}
-use Rattle.bl_script.specs.declared.answer.Answer.TheVariants as answer
-use Rattle.bl_script.specs.Effects.{effects_of}
-use Rattle.bl_script.specs.Body.{statements_of}
+use Rattle.bl_work.specs.declared.answer.Answer.TheVariants as answer
+use Rattle.bl_work.specs.Effects.{effects_of}
+use Rattle.bl_work.specs.Body.{statements_of}
 use Rattle.bl_setup.specs.Past.{lent}
 use Rattle.bl_monitor.specs.Judging.{content_at}
 use Rattle.bl_monitor.specs.Running.{StandsAfter}

@@ -2,7 +2,7 @@ use Rattle.std.proofs.Common.{◌≡◌, ◌-◌, suc, length, take, drop, sym, 
 use Rattle.std.specs.Prelude.{◌||◌, nat_eq}
 use Rattle.std.specs.List.{starts_with}
 use Rattle.std.proofs.lemmas.List.{take_all}
-use Rattle.bl_script.specs.Piece.{has_piece}
+use Rattle.bl_work.specs.Piece.{has_piece}
 use Rattle.bl_monitor.proofs.Pieces.{piece_later}
 use Rattle.bl_monitor.proofs.text.contains.Goals as goal
 

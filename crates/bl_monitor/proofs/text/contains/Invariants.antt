@@ -1,5 +1,5 @@
 use Rattle.std.proofs.Common.{◌≡◌, drop}
-use Rattle.bl_script.specs.Piece.{has_piece}
+use Rattle.bl_work.specs.Piece.{has_piece}
 use Rattle.bl_monitor.proofs.text.contains.Given as goal
 
 abbrev pub invariant-loop-start : goal.invariant-loop-start

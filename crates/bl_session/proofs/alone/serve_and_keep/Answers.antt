@@ -1,6 +1,6 @@
 use Rattle.std.proofs.Common.{◌≡◌, ◌∙◌, ◌<◌, ap, sym, subst, length, ℕ}
 use Rattle.std.specs.Arc.{arc_value}
-use Rattle.bl_script.specs.Names.{KnownNames}
+use Rattle.bl_work.specs.Names.{KnownNames}
 use Rattle.bl_setup.specs.Agreement.{Agree}
 use Rattle.bl_setup.specs.Order.{Setup}
 use Rattle.bl_monitor.specs.Heard.{Heard, KnowsWork}

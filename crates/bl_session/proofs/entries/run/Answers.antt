@@ -1,6 +1,6 @@
 use Rattle.std.proofs.Common.{◌≡◌, ◌∙◌, ◌+◌, ◌<◌, ◌++◌, [], refl, ap, sym, subst, length, false, append-nil, append_assoc, arith}
 use Rattle.std.proofs.lemmas.List.Elements.{All-append}
-use Rattle.bl_script.specs.Effects.{children}
+use Rattle.bl_work.specs.Effects.{children}
 use Rattle.bl_setup.specs.Order.{Setup}
 use Rattle.bl_session.specs.declared.label.Entered.{Entered}
 use Rattle.bl_session.specs.Orders.{said}

@@ -1,5 +1,5 @@
 use Rattle.std.proofs.Common.{rules, ◌≡◌, ◌∙◌, ◌+◌, ◌++◌, ◌∷◌, [], ap, sym, subst, length, slice_index_or, Some, None}
-use Rattle.bl_script.specs.Effects.{children}
+use Rattle.bl_work.specs.Effects.{children}
 use Rattle.bl_monitor.specs.Heard.{with_entry, children_of}
 use Rattle.bl_session.specs.Orders.{said}
 use Rattle.bl_session.specs.Entries.{order_of, told_of, AreAnswered}

@@ -1,7 +1,7 @@
 use Rattle.std.proofs.Common.{◌≡◌, ℕ, List, length, ap, sym, ◌∙◌, subst}
 use Rattle.std.specs.Prelude.{map, slice_index_or}
 use Rattle.bl_policy.specs.declared.access.Access.{Access}
-use Rattle.bl_script.specs.Statements.{no_part}
+use Rattle.bl_work.specs.Statements.{no_part}
 use Rattle.bl_grant.specs.Loaned.{as_lent}
 use Rattle.bl_grant.specs.Loans.{loans, lent_of}
 use Rattle.bl_eval.specs.Loan.{Loan, part_of}

@@ -2,11 +2,11 @@ use Rattle.std.proofs.Common.{[], ◌∷◌, ap, sym, ◌∙◌, subst, arith}
 use Rattle.std.specs.Prelude.{List}
 use Rattle.std.proofs.lemmas.Result.{on_ok_weaker}
 use Rattle.bl_policy.specs.declared.access.Access.{Access}
-use Rattle.bl_script.specs.Modes.{KeepsModes}
-use Rattle.bl_script.specs.Script.{AreApart, HasContents}
-use Rattle.bl_script.specs.Statements.{Statements}
-use Rattle.bl_script.specs.Body.{statements_of, depth}
-use Rattle.bl_script.specs.declared.script.Stmt.{Stmt}
+use Rattle.bl_work.specs.Modes.{KeepsModes}
+use Rattle.bl_work.specs.Script.{AreApart, HasContents}
+use Rattle.bl_work.specs.Statements.{Statements}
+use Rattle.bl_work.specs.Body.{statements_of, depth}
+use Rattle.bl_work.specs.declared.script.Stmt.{Stmt}
 use Rattle.bl_grant.specs.Loans.{accesses_of}
 use Rattle.bl_eval.specs.Told.{HasRun}
 use Rattle.bl_eval.proofs.Steps.{accesses-kept}

@@ -1,6 +1,6 @@
 use Rattle.std.proofs.Common.{◌≡◌, ◌+◌, ◌*◌, [], ◌∷◌, take}
 use Rattle.std.specs.Prelude.{map}
-use Rattle.bl_script.specs.Body.{statements_of, depth}
+use Rattle.bl_work.specs.Body.{statements_of, depth}
 use Rattle.bl_grant.specs.Loaned.{as_lent}
 use Rattle.bl_eval.specs.Told.{HasRun}
 use Rattle.bl_eval.proofs.told.Told.+run.Given as goal

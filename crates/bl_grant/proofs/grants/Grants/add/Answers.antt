@@ -4,9 +4,9 @@ use Rattle.std.specs.List.{list_any}
 use Rattle.std.proofs.lemmas.List.{length-map}
 use Rattle.std.proofs.lemmas.Result.{on_ok_weaker, on_err_weaker}
 use Rattle.bl_policy.specs.declared.access.Access.{Access}
-use Rattle.bl_script.specs.Modes.{declares, alters}
-use Rattle.bl_script.specs.Script.{AreApart}
-use Rattle.bl_script.specs.Content.{added}
+use Rattle.bl_work.specs.Modes.{declares, alters}
+use Rattle.bl_work.specs.Script.{AreApart}
+use Rattle.bl_work.specs.Content.{added}
 use Rattle.bl_grant.specs.Loaned.{Loaned}
 use Rattle.bl_grant.specs.Loans.{accesses_of, changed, IsPlace}
 use Rattle.bl_grant.specs.Granted.{loaned_of}

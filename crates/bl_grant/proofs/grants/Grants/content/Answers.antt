@@ -3,8 +3,8 @@ use Rattle.std.specs.Prelude.{◌==◌, map, IsTrue}
 use Rattle.std.specs.List.{list_any}
 use Rattle.std.proofs.lemmas.List.{length-map}
 use Rattle.bl_policy.specs.declared.access.Access.{Access}
-use Rattle.bl_script.specs.Modes.{declares, observes}
-use Rattle.bl_script.specs.Script.{AreApart}
+use Rattle.bl_work.specs.Modes.{declares, observes}
+use Rattle.bl_work.specs.Script.{AreApart}
 use Rattle.bl_grant.specs.Loaned.{Loaned}
 use Rattle.bl_grant.specs.Loans.{accesses_of, content_of, IsPlace}
 use Rattle.bl_grant.specs.Granted.{loaned_of}

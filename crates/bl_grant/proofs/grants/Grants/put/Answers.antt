@@ -2,8 +2,8 @@ use Rattle.std.proofs.Common.{List, ap, sym, ◌∙◌, subst}
 use Rattle.std.specs.Prelude.{◌==◌, map, IsTrue}
 use Rattle.std.specs.List.{list_any}
 use Rattle.bl_policy.specs.declared.access.Access.{Access}
-use Rattle.bl_script.specs.Modes.{declares, is_write}
-use Rattle.bl_script.specs.Script.{AreApart}
+use Rattle.bl_work.specs.Modes.{declares, is_write}
+use Rattle.bl_work.specs.Script.{AreApart}
 use Rattle.bl_grant.specs.Loaned.{Loaned}
 use Rattle.bl_grant.specs.Loans.{accesses_of, changed, IsPlace}
 use Rattle.bl_grant.specs.Granted.{loaned_of}

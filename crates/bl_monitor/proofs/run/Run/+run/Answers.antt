@@ -1,5 +1,5 @@
 use Rattle.std.proofs.Common.{◌≤◌, [], ◌∷◌, arith}
-use Rattle.bl_script.specs.Body.{statements_of, depth}
+use Rattle.bl_work.specs.Body.{statements_of, depth}
 use Rattle.bl_monitor.proofs.Runs.{goes_on_more, depth_of_one}
 use Rattle.bl_monitor.proofs.run.Run.+run.Goals as goal
 

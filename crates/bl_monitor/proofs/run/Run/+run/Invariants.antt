@@ -1,6 +1,6 @@
 use Rattle.std.proofs.Common.{ℕ, ◌+◌, ◌*◌, ◌∷◌, [], List, take}
-use Rattle.bl_script.specs.Effects.{Effect, effects_from}
-use Rattle.bl_script.specs.Body.{statements_of, depth}
+use Rattle.bl_work.specs.Effects.{Effect, effects_from}
+use Rattle.bl_work.specs.Body.{statements_of, depth}
 use Rattle.bl_monitor.specs.Running.{StandsAfter}
 use Rattle.bl_monitor.proofs.run.Run.+run.Given as goal
 

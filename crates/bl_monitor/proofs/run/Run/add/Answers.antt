@@ -1,6 +1,6 @@
 use Rattle.std.proofs.Common.{◌∙◌, ap, subst}
 use Rattle.std.proofs.lemmas.Result.{on_ok_weaker}
-use Rattle.bl_script.specs.Content.{added}
+use Rattle.bl_work.specs.Content.{added}
 use Rattle.bl_monitor.specs.Running.{PutsText}
 use Rattle.bl_monitor.proofs.Runs.{run_added}
 use Rattle.bl_monitor.proofs.run.Run.add.Goals as goal

@@ -1,6 +1,6 @@
 use Rattle.std.proofs.Common.{subst}
 use Rattle.std.proofs.lemmas.Result.{on_ok_weaker}
-use Rattle.bl_script.specs.Statements as statement
+use Rattle.bl_work.specs.Statements as statement
 use Rattle.bl_monitor.specs.Running.{GoesOn}
 use Rattle.bl_monitor.proofs.Runs.{poured}
 use Rattle.bl_monitor.proofs.run.Run.pour.Goals as goal

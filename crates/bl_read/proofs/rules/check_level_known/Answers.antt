@@ -1,0 +1,17 @@
+use Rattle.std.proofs.Common.{[], ◌∷◌}
+use Rattle.bl_read.specs.declared.rules.Role.TheVariants.{Rank}
+use Rattle.bl_read.specs.RuleFaults.{mentioned, IsKnown}
+use Rattle.bl_read.proofs.Firsts.{first_before, finds_behind, exits}
+use Rattle.bl_read.proofs.RuleNames.{mentions_of}
+use Rattle.bl_read.proofs.rules.check_level_known.Goals as goal
+
+pub returns-in_err-check_known : goal.returns-in_err-check_known
+returns-in_err-check_known c =
+    let known = IsKnown c.args.names.now in
+    exits known mentioned _ _ _ c.from_residual.ensures.1
+    (first_before known mentioned (record { role = Rank; word = c.args.level.now.rank.now } ∷ []) (mentions_of c.args.level.now.categories.items) _ c.in_err-check_known.ensures)
+
+pub returns : goal.returns
+returns c =
+    finds_behind (IsKnown c.args.names.now) mentioned (record { role = Rank; word = c.args.level.now.rank.now } ∷ []) (mentions_of c.args.level.now.categories.items) _
+    c.in_ok-check_known.ensures (rw c.deref.ensures.value at c.check_categories_known.ensures)

@@ -1,0 +1,20 @@
+//! From the bytes of a line to what it asks, by the names of the server, or its first fault.
+//!
+//!     line     reads a line
+//!     check    the faults of a `when`, in their order
+//!     count    too deep, too many
+//!     known    unknown documents
+//!     once     documents declared twice
+//!     modes    documents used in a mode that is not declared
+//!     build    the script that a `when` stands for
+//!     rules    the rule that a line stands for
+#![tactic(auto)]
+
+pub mod build;
+pub mod check;
+pub mod count;
+pub mod known;
+pub mod line;
+pub mod modes;
+pub mod once;
+pub mod rules;

@@ -1,5 +1,0 @@
-use Rattle.bl_script.proofs.OneFault.{one_fault}
-use Rattle.bl_script.proofs.read.one_fault.Goals as goal
-
-pub returns : goal.returns
-returns c = one_fault c.read_tokens_are_proper.ensures

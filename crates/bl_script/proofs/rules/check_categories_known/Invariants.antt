@@ -1,9 +1,0 @@
-use Rattle.std.proofs.Common.{take}
-use Rattle.std.specs.Prelude.{All}
-use Rattle.bl_script.specs.RuleFaults.{IsKnown}
-use Rattle.bl_script.proofs.RuleNames.{mentions_of}
-use Rattle.bl_script.proofs.rules.check_categories_known.Given as goal
-
--- the categories so far are known
-abbrev pub invariant-loop-category : goal.invariant-loop-category
-invariant-loop-category l = All (IsKnown l.names) (mentions_of (take l.category-index l.categories))

@@ -1,7 +1,0 @@
-use Rattle.std.proofs.Common.{◌≡◌, take}
-use Rattle.bl_script.specs.Body.{statements_of}
-use Rattle.bl_script.proofs.script.+same.Given as goal
-
--- the statements so far are the same
-abbrev pub invariant-Body::is_same-loop-i : goal.invariant-Body::is_same-loop-i
-invariant-Body::is_same-loop-i l = statements_of (take l.i l.statement-items) ≡ statements_of (take l.i l.other-inside.statements.items)

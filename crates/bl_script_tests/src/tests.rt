@@ -1,0 +1,68 @@
+//! Each call that grows, once with ample memory.
+mod deepest;
+mod knows;
+mod lines;
+mod rule_texts;
+mod rules;
+mod write;
+
+use bl_work::answer::{Answer, Outputs};
+use bl_work::document::Document;
+use bl_work::script::{Script, Stmt};
+use bl_work::work::Work;
+use bl_policy::access::Mode;
+use bl_policy::id::{DocId, SubjectId};
+use bl_policy::rule::Rule;
+use std::test::Fail;
+
+#[test]
+fn shares_a_document(rt: HostRuntime) -> Result<(), Fail> {
+    let document = Document::new(rt.alloc(), b"m1")?;
+    let shared = document.share()?;
+    assert!(rt; shared == document);
+    let other = Document::new(rt.alloc(), b"")?;
+    assert!(rt; other != document);
+    Ok(())
+}
+
+#[test]
+fn shares_a_work_of_one_read(rt: HostRuntime) -> Result<(), Fail> {
+    let memo = DocId::new(3);
+    let work = Work::Behaviour(Script::one_read(rt.alloc(), memo)?);
+    let Work::Behaviour(script) = work.share()? else {
+        return Err(Fail::new("not a behaviour"));
+    };
+    assert_eq!(rt; script.weight(), 1);
+    assert_eq!(rt; script.accesses(0).len(), 1);
+    assert_eq!(rt; script.accesses(0)[0].mode, Mode::Read);
+    assert!(rt; matches!(script.body(0), [Stmt::Show(doc)] if *doc == memo));
+    Ok(())
+}
+
+#[test]
+fn shares_an_answer(rt: HostRuntime) -> Result<(), Fail> {
+    let mut texts = Vec::new(rt.alloc());
+    texts.push(Document::new(rt.alloc(), b"n1")?)?;
+    let answer = Answer::Done(Outputs::new(texts));
+    let shared = answer.share()?;
+    let Answer::Done(outputs) = shared else {
+        return Err(Fail::new("not done"));
+    };
+    assert_eq!(rt; outputs.texts().len(), 1);
+    Ok(())
+}
+
+#[test]
+fn shares_a_work_of_a_rule(rt: HostRuntime) -> Result<(), Fail> {
+    let rule = Rule::Give {
+        subject: SubjectId::new(1),
+        doc: DocId::new(2),
+        mode: Mode::Append,
+    };
+    let Work::Rule(shared) = Work::Rule(rule).share()? else {
+        return Err(Fail::new("no rule"));
+    };
+    assert!(rt; shared == rule);
+    assert!(rt; matches!(Answer::RuleDone.share()?, Answer::RuleDone));
+    Ok(())
+}

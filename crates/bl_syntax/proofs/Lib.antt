@@ -1,0 +1,9 @@
+pub mod Spellings
+pub mod Faults
+pub mod Categories
+pub mod Tokens
+pub mod Ends
+pub mod Places
+pub mod Whole
+pub mod OneFault
+pub mod Unique

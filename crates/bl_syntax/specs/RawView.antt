@@ -1,0 +1,13 @@
+-- The line that a line as it was read stands for.
+use Rattle.std.specs.Prelude.{map}
+use Rattle.bl_work.specs.Grammar.{SpelledLine, hello, wait, when, rule}
+use Rattle.bl_syntax.specs.RawBodies.{raw_access}
+use Rattle.bl_syntax.specs.RawRules.{raw_rule}
+use Rattle.bl_syntax.specs.declared.raw.RawLine.{RawLine}
+use Rattle.bl_syntax.specs.declared.raw.RawLine.TheVariants as raw
+
+abbrev pub raw_view : RawLine → SpelledLine
+raw_view (raw.Hello subject) = hello subject.now
+raw_view raw.Wait = wait
+raw_view (raw.When first more body) = when (raw_access first) (map raw_access more.items) body
+raw_view (raw.Rule asked) = rule (raw_rule asked)

@@ -1,0 +1,19 @@
+//! What is asked in a session and what it is answered, without any text: names, works with their documents, answers; and the
+//! definitions of the lines' grammar and meaning.
+//!
+//!     names       the names of subjects and documents
+//!     document    the bytes of a content, shared
+//!     script      the behaviours of a line
+//!     work        what an entry does: a behaviour or a rule
+//!     answer      what an entry is answered
+//!     asked       what a line asks, and why one is refused
+//!     laws        what holds of scripts, their effects, and lines
+#![tactic(auto)]
+
+pub mod answer;
+pub mod asked;
+pub mod document;
+pub mod laws;
+pub mod names;
+pub mod script;
+pub mod work;

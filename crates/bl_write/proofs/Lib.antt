@@ -1,0 +1,13 @@
+pub mod Writing
+pub mod Unreading
+pub mod Walking
+pub mod LinesWritten
+pub mod Tidy
+pub mod ReadBack
+pub mod Knowing
+pub mod Reread
+pub mod Faultless
+pub mod ReadAgain
+pub mod Counting
+pub mod RulesWritten
+pub mod RulesSpelled

@@ -1,0 +1,252 @@
+-- The text of a line as it is read back: it reads as the line, it is canonical, and no text of the line is shorter.
+use Rattle.std.proofs.Common.{◌≡◌, ℕ, zero, suc, ◌+◌, ◌-◌, ◌<◌, ◌≤◌, List, [], ◌∷◌, length, get_or, Some, Ok, Err, refl, sym, subst, arith, lit≤}
+use Rattle.std.specs.Prelude.{Result, IfOk}
+use Rattle.std.specs.Str.{bytes_eq}
+use Rattle.std.proofs.lemmas.List.Quantifiers.{position-Some}
+use Rattle.bl_level.specs.Canonical.{canonical}
+use Rattle.bl_level.specs.Lexing.{Begins}
+use Rattle.bl_level.specs.Name.{AreProper}
+use Rattle.bl_level.specs.Table.{place_of}
+use Rattle.bl_level.specs.Token.{Tok}
+use Rattle.bl_policy.specs.declared.access.Access.{Access}
+use Rattle.bl_work.specs.declared.asked.Line.{Line}
+use Rattle.bl_work.specs.declared.asked.Line.TheVariants as line
+use Rattle.bl_work.specs.declared.script.Condition.{Condition}
+use Rattle.bl_policy.specs.declared.rule.Rule as asked_rule
+use Rattle.bl_policy.specs.declared.rule.Rule.TheVariants as rule_of
+use Rattle.bl_work.specs.declared.work.Work.TheVariants.{Behaviour, Rule}
+use Rattle.bl_write.specs.CanonicalLine.{IsTidy, IsTidyRule, IsTidyLine, IsCanonicalOf, canonical_line}
+use Rattle.bl_work.specs.Grammar.{SpelledLine, hello, wait, when, rule, spell}
+use Rattle.bl_write.specs.Known.{IsKnown, canonical_script, IsKnownRule, canonical_rule}
+use Rattle.bl_work.specs.LineGrammar.{most_line_bytes, Means, LineOf}
+use Rattle.bl_work.specs.Meaning.{script_of}
+use Rattle.bl_work.specs.Names.{KnownNames, AreNames}
+use Rattle.bl_work.specs.Script.{IsScript}
+use Rattle.bl_work.specs.Spelled.{SpelledBody, empty, show, say, add, set, copy, pour, if_then, if_else, spawn, spell_when}
+use Rattle.bl_work.specs.Statements.{Statements, Nothing, Show, Say, Add, Set, Copy, Pour, If, Spawn, Part}
+use Rattle.bl_write.specs.Unread.{SpelledWhen, no_when, unread_if, unread_body, unread_when, unread_from, unread, unread_rule, unread_line}
+use Rattle.bl_work.proofs.Behaviours.{same_bytes, when_is_script}
+use Rattle.bl_write.proofs.Faultless.{faultless_is}
+use Rattle.bl_write.proofs.Reread.{script_is, names_known}
+use Rattle.bl_write.proofs.RulesWritten.{rule_means}
+use Rattle.bl_work.proofs.Texts.{line_contents}
+
+-- ---- no `else` before a body of no statements
+
+module _ (names : KnownNames) where
+  tidy_if : (document : List ℕ) (asks : Condition) (words : List ℕ) (t e rest : SpelledBody) → IsTidy t → IsTidy e → IsTidy rest
+      → IsTidy (unread_if names document asks words t e rest)
+  tidy_if document asks words t empty rest ht he hr = (ht, hr)
+  tidy_if document asks words t (show a r) rest ht he hr = (λ p. cc, ht, he, hr)
+  tidy_if document asks words t (say a r) rest ht he hr = (λ p. cc, ht, he, hr)
+  tidy_if document asks words t (add a b r) rest ht he hr = (λ p. cc, ht, he, hr)
+  tidy_if document asks words t (set a b r) rest ht he hr = (λ p. cc, ht, he, hr)
+  tidy_if document asks words t (copy a b r) rest ht he hr = (λ p. cc, ht, he, hr)
+  tidy_if document asks words t (pour a b r) rest ht he hr = (λ p. cc, ht, he, hr)
+  tidy_if document asks words t (if_then a b c d r) rest ht he hr = (λ p. cc, ht, he, hr)
+  tidy_if document asks words t (if_else a b c d f r) rest ht he hr = (λ p. cc, ht, he, hr)
+  tidy_if document asks words t (spawn a b c r) rest ht he hr = (λ p. cc, ht, he, hr)
+
+  tidy_body : (below : ℕ → SpelledWhen) (b : Statements) → ((j : ℕ) → IsTidy (below j).body) → IsTidy (unread_body names below b)
+  tidy_body below Nothing h = tt
+  tidy_body below (Show doc rest) h = tidy_body below rest h
+  tidy_body below (Say words rest) h = tidy_body below rest h
+  tidy_body below (Add doc words rest) h = tidy_body below rest h
+  tidy_body below (Set doc words rest) h = tidy_body below rest h
+  tidy_body below (Copy from to rest) h = tidy_body below rest h
+  tidy_body below (Pour from to rest) h = tidy_body below rest h
+  tidy_body below (If doc asks words t e rest) h =
+      tidy_if _ asks words (unread_body names below t) (unread_body names below e) (unread_body names below rest) (tidy_body below t h) (tidy_body below e h) (tidy_body below rest h)
+  tidy_body below (Spawn behaviour rest) h = (h behaviour, tidy_body below rest h)
+
+  tidy_when : (accesses : List Access) (b : SpelledBody) → IsTidy b → IsTidy (unread_when names accesses b).body
+  tidy_when [] b h = h
+  tidy_when (a ∷ more) b h = h
+
+  tidy_from : (k : ℕ) (parts : List Part) (i : ℕ) → IsTidy (get_or (unread_from names k parts) i no_when).body
+  tidy_from k [] i = tt
+  tidy_from k (part ∷ rest) zero =
+      tidy_when part.accesses (unread_body names (λ j. get_or (unread_from names (k + 1) rest) (j - (k + 1)) no_when) part.body)
+      (tidy_body (λ j. get_or (unread_from names (k + 1) rest) (j - (k + 1)) no_when) part.body (λ j. tidy_from (k + 1) rest (j - (k + 1))))
+  tidy_from k (part ∷ rest) (suc i) = tidy_from (k + 1) rest i
+
+  -- a rule as it is read back has the categories of its level in order
+  tidy_rule : (asked : asked_rule.Rule) → IsTidyRule names.scheme (unread_rule names asked)
+  tidy_rule (rule_of.Give subject doc mode) = tt
+  tidy_rule (rule_of.Rescind subject doc mode) = tt
+  tidy_rule (rule_of.Current level) = (level, refl)
+  tidy_rule (rule_of.Classify doc level) = (level, refl)
+
+  -- a line as it is read back has no `else` before a body of no statements
+  tidy_line : (asked : Line) → IsTidyLine names.scheme (unread_line names asked)
+  tidy_line (line.Hello subject) = tt
+  tidy_line line.Wait = tt
+  tidy_line (line.Work (Behaviour script)) = tidy_from 0 script 0
+  tidy_line (line.Work (Rule asked)) = tidy_rule asked
+
+-- ---- what a line as it is read back asks
+
+module _ (names : KnownNames) where
+  -- the subject of a line is there
+  pub subject_there : (bytes : List ℕ) (subject : ℕ) → LineOf names bytes (line.Hello subject) → subject < length names.subjects
+  subject_there bytes subject l = go l.spelled l.means
+    where
+      go : (spelled : SpelledLine) → Means names spelled (line.Hello subject) → subject < length names.subjects
+      go (hello name) means = (position-Some (bytes_eq name) names.subjects subject [] means).0
+      go wait means = absurd means
+      go (when first more body) means = absurd means
+      go (rule asked) means = absurd means
+
+  -- a `hello` has one spelling
+  hello_is : (name : List ℕ) (subject : ℕ) → place_of name names.subjects ≡ Some subject → name ≡ get_or names.subjects subject []
+  hello_is name subject means = same_bytes name (get_or names.subjects subject []) (position-Some (bytes_eq name) names.subjects subject [] means).1
+
+-- what the laws of tokens say
+abbrev pub CanonicalReadsAgain : Type 0
+CanonicalReadsAgain = (ts : List Tok) → AreProper ts → Begins (canonical ts) ts []
+
+abbrev pub CanonicalIsShortest : Type 0
+CanonicalIsShortest = (ts : List Tok) (bytes rest : List ℕ) → Begins bytes ts rest → length (canonical ts) ≤ length bytes
+
+abbrev pub ReadTokensAreProper : Type 0
+ReadTokensAreProper = (bytes rest : List ℕ) (ts : List Tok) → Begins bytes ts rest → AreProper ts
+
+-- the same of a script
+abbrev pub ScriptReadsAgain : Type 0
+ScriptReadsAgain = (names : KnownNames) (script : List Part) → AreNames names → IsScript script → IsKnown names script
+    → LineOf names (canonical_script names script) (line.Work (Behaviour script))
+
+abbrev pub ScriptIsShortest : Type 0
+ScriptIsShortest = (names : KnownNames) (bytes : List ℕ) (script : List Part) → LineOf names bytes (line.Work (Behaviour script))
+    → length (canonical_script names script) ≤ length bytes
+
+abbrev pub ScriptIsKnown : Type 0
+ScriptIsKnown = (names : KnownNames) (bytes : List ℕ) (script : List Part) → LineOf names bytes (line.Work (Behaviour script)) → IsKnown names script
+
+-- the same of a rule
+abbrev pub RuleReadsAgain : Type 0
+RuleReadsAgain = (names : KnownNames) (r : asked_rule.Rule) → AreNames names → IsKnownRule names r → LineOf names (canonical_rule names r) (line.Work (Rule r))
+
+abbrev pub RuleIsShortest : Type 0
+RuleIsShortest = (names : KnownNames) (bytes : List ℕ) (r : asked_rule.Rule) → AreNames names → LineOf names bytes (line.Work (Rule r))
+    → length (canonical_rule names r) ≤ length bytes
+
+abbrev pub RuleIsKnown : Type 0
+RuleIsKnown = (names : KnownNames) (bytes : List ℕ) (r : asked_rule.Rule) → AreNames names → LineOf names bytes (line.Work (Rule r)) → IsKnownRule names r
+
+-- what the laws say that a line is written by
+pub record AreLaws : Type 0 where
+  pub again : CanonicalReadsAgain
+  pub shortest : CanonicalIsShortest
+  pub proper : ReadTokensAreProper
+  pub script_again : ScriptReadsAgain
+  pub script_shortest : ScriptIsShortest
+  pub script_known : ScriptIsKnown
+  pub rule_again : RuleReadsAgain
+  pub rule_shortest : RuleIsShortest
+  pub rule_known : RuleIsKnown
+
+-- what is written of a line: the text reads as it, no text of it is shorter, and it is canonical
+pub record IsWritten (names : KnownNames) (asked : Line) (text : List ℕ) : Type 0 where
+  pub reads : LineOf names text asked
+  pub shortest : (bytes : List ℕ) → LineOf names bytes asked → length text ≤ length bytes
+  pub canonical : IsCanonicalOf names text asked
+
+module _ (again : CanonicalReadsAgain) (shortest : CanonicalIsShortest) (proper : ReadTokensAreProper) (names : KnownNames) (asked : Line) (spelled : SpelledLine) where
+  -- a line of one spelling is written so
+  one_spelling : ((bytes : List ℕ) → LineOf names bytes asked → Begins bytes (spell spelled) [] × Means names spelled asked) → IsTidyLine names.scheme spelled
+      → (bytes : List ℕ) → LineOf names bytes asked → IsWritten names asked (canonical (spell spelled))
+  one_spelling only tidy bytes l =
+      let least : (bytes : List ℕ) → LineOf names bytes asked → length (canonical (spell spelled)) ≤ length bytes =
+      λ bytes l. shortest (spell spelled) bytes [] (only bytes l).0 in
+      record {
+        reads = record {
+          short = omega (arith, least bytes l, l.short);
+          spelled = spelled;
+          reads = again (spell spelled) (proper bytes [] (spell spelled) (only bytes l).0);
+          means = (only bytes l).1;
+        };
+        shortest = least;
+        canonical = record { spelled = spelled; tidy = tidy; means = (only bytes l).1; text = refl };
+      }
+
+module _ (names : KnownNames) where
+  -- each text of a `hello` has its tokens
+  only_hello : (subject : ℕ) (bytes : List ℕ) → LineOf names bytes (line.Hello subject)
+      → Begins bytes (spell (hello (get_or names.subjects subject []))) [] × Means names (hello (get_or names.subjects subject [])) (line.Hello subject)
+  only_hello subject bytes l = go l.spelled l.reads l.means
+    where
+      go : (spelled : SpelledLine) → Begins bytes (spell spelled) [] → Means names spelled (line.Hello subject)
+          → Begins bytes (spell (hello (get_or names.subjects subject []))) [] × Means names (hello (get_or names.subjects subject [])) (line.Hello subject)
+      go (hello name) reads means =
+          let is = hello_is names name subject means in (
+            subst (λ n. Begins bytes (spell (hello n)) []) is reads,
+            subst (λ n. place_of n names.subjects ≡ Some subject) is means,
+          )
+      go wait reads means = absurd means
+      go (when first more body) reads means = absurd means
+      go (rule asked) reads means = absurd means
+
+  -- each text of a `wait` has its token
+  only_wait : (bytes : List ℕ) → LineOf names bytes line.Wait → Begins bytes (spell wait) [] × Means names wait line.Wait
+  only_wait bytes l = go l.spelled l.reads l.means
+    where
+      go : (spelled : SpelledLine) → Begins bytes (spell spelled) [] → Means names spelled line.Wait → Begins bytes (spell wait) [] × Means names wait line.Wait
+      go (hello name) reads means = absurd means
+      go wait reads means = (reads, tt)
+      go (when first more body) reads means = absurd means
+      go (rule asked) reads means = absurd means
+
+  -- the `when` that a known script is read back as asks the script
+  script_means : (script : List Part) → AreNames names → IsScript script → IsKnown names script
+      → Means names (unread_line names (line.Work (Behaviour script))) (line.Work (Behaviour script))
+  script_means script table is known =
+      let first = (unread names script).first in
+      let more = (unread names script).more in
+      let body = (unread names script).body in
+      let same : script ≡ script_of names first more body = script_is names table.documents.distinct script is.preorder is.each known.there in
+      let documents = names_known names table.documents.distinct script is.preorder is.each known.there in
+      (faultless_is names first more body (subst IsScript same is) documents, same)
+
+  -- what a line asks to be run is a script
+  line_script : CanonicalIsShortest → ReadTokensAreProper → (bytes : List ℕ) (script : List Part) → LineOf names bytes (line.Work (Behaviour script)) → IsScript script
+  line_script shortest proper bytes script l = go l.spelled l.reads l.means
+    where
+      go : (spelled : SpelledLine) → Begins bytes (spell spelled) [] → Means names spelled (line.Work (Behaviour script)) → IsScript script
+      go (hello name) reads means = absurd means
+      go wait reads means = absurd means
+      go (when first more body) reads (faultless, is) =
+          let short : length (canonical (spell_when first more body)) ≤ most_line_bytes = omega (arith, shortest (spell_when first more body) bytes [] reads, l.short) in
+          let contents = line_contents (when first more body) most_line_bytes (lit≤ tt) (proper bytes [] (spell_when first more body) reads) short in
+          subst IsScript (sym is) (when_is_script names first more body faultless contents)
+      go (rule asked) reads means = absurd means
+
+  pub line_written : AreLaws → (asked : Line) → AreNames names → (bytes : List ℕ) → LineOf names bytes asked → IsWritten names asked (canonical_line names asked)
+  line_written laws (line.Hello subject) table bytes l =
+      one_spelling laws.again laws.shortest laws.proper names (line.Hello subject) (hello (get_or names.subjects subject [])) (only_hello subject) tt bytes l
+  line_written laws line.Wait table bytes l =
+      one_spelling laws.again laws.shortest laws.proper names line.Wait wait only_wait tt bytes l
+  line_written laws (line.Work (Behaviour script)) table bytes l =
+      let asked : Line = line.Work (Behaviour script) in
+      let known = laws.script_known names bytes script l in
+      let is = line_script laws.shortest laws.proper bytes script l in
+      record {
+        reads = laws.script_again names script table is known;
+        shortest = λ bytes l. laws.script_shortest names bytes script l;
+        canonical = record { spelled = unread_line names asked; tidy = tidy_line names asked; means = script_means script table is known; text = refl };
+      }
+  line_written laws (line.Work (Rule r)) table bytes l =
+      let known = laws.rule_known names bytes r table l in
+      record {
+        reads = laws.rule_again names r table known;
+        shortest = λ bytes l. laws.rule_shortest names bytes r table l;
+        canonical = record { spelled = rule (unread_rule names r); tidy = tidy_rule names r; means = rule_means names table r known.there; text = refl };
+      }
+
+-- ---- what an answer says
+
+-- what holds of these bytes holds of the text that is answered
+pub along_text : {T E : Type 0} (r : Result T E) (items : T → List ℕ) (P : List ℕ → Type 0) (bytes : List ℕ) → IfOk r (λ t. items t ≡ bytes) → P bytes
+    → IfOk r (λ t. P (items t))
+along_text (Ok t) items P bytes is p = subst P (sym is) p
+along_text (Err e) items P bytes is p = tt

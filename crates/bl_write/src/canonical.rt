@@ -1,0 +1,48 @@
+//! Laws of the canonical text of a script or a rule: it is read again from it, and no text of it is shorter.
+ghost use Rattle.std.specs.Prelude.{◌≤◌, ℕ, List, All, length};
+ghost use Rattle.bl_work.specs.Names.{KnownNames, AreNames};
+ghost use Rattle.bl_work.specs.Statements.{Part};
+ghost use Rattle.bl_work.specs.Script.{IsScript};
+ghost use Rattle.bl_work.specs.LineGrammar.{LineOf};
+ghost use Rattle.bl_policy.specs.declared.rule.Rule as asked_rule;
+ghost use Rattle.bl_write.specs.Known.{canonical_script, IsKnown, canonical_rule, IsKnownRule};
+ghost use Rattle.bl_work.specs.declared.asked.Line.TheVariants.{Work};
+ghost use Rattle.bl_work.specs.declared.work.Work.TheVariants.{Behaviour, Rule};
+
+use bl_level::laws::{canonical_is_shortest, canonical_reads_again, read_tokens_are_proper};
+
+/// The canonical text of a script that the names know reads as the script.
+pub fn canonical_script_reads_again()
+    ensures { (names : KnownNames) (script : List Part) → AreNames names → IsScript script → IsKnown names script
+        → LineOf names (canonical_script names script) (Work (Behaviour script)) }
+{
+    canonical_reads_again();
+}
+
+/// The names know each script that some text reads as by them, and its canonical text is no longer than the text.
+pub fn canonical_script_is_shortest()
+    ensures known { (names : KnownNames) (bytes : List ℕ) (script : List Part) → LineOf names bytes (Work (Behaviour script)) → IsKnown names script }
+    ensures shortest { (names : KnownNames) (bytes : List ℕ) (script : List Part) → LineOf names bytes (Work (Behaviour script))
+        → length (canonical_script names script) ≤ length bytes }
+{
+    canonical_is_shortest();
+}
+
+/// The canonical text of a rule that the names know reads as the rule.
+pub fn canonical_rule_reads_again()
+    ensures { (names : KnownNames) (rule : asked_rule.Rule) → AreNames names → IsKnownRule names rule
+        → LineOf names (canonical_rule names rule) (Work (Rule rule)) }
+{
+    canonical_reads_again();
+    read_tokens_are_proper();
+}
+
+/// The names know each rule that some text reads as by them, and its canonical text is no longer than the text.
+pub fn canonical_rule_is_shortest()
+    ensures known { (names : KnownNames) (bytes : List ℕ) (rule : asked_rule.Rule) → AreNames names → LineOf names bytes (Work (Rule rule))
+        → IsKnownRule names rule }
+    ensures shortest { (names : KnownNames) (bytes : List ℕ) (rule : asked_rule.Rule) → AreNames names → LineOf names bytes (Work (Rule rule))
+        → length (canonical_rule names rule) ≤ length bytes }
+{
+    canonical_is_shortest();
+}

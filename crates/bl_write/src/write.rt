@@ -1,0 +1,199 @@
+//! The canonical text of a line: one space between two words that follow each other, no other blank, no `else` before an empty
+//! body, and the categories of a level in the scheme's order.
+ghost use Rattle.std.specs.Prelude.{◌≡◌, ◌<◌, ◌≤◌, ℕ, List, [], ◌∷◌, ◌++◌, length, OnOk, IfOk};
+ghost use Rattle.bl_level.specs.Token.{tok, toks};
+ghost use Rattle.bl_level.specs.Canonical.{sign_byte as byte_of, is_word as is_a_word, spelled, canonical};
+ghost use Rattle.bl_work.specs.declared.asked.Line.TheVariants as asked;
+ghost use Rattle.bl_work.specs.declared.work.Work.TheVariants.{Behaviour, Rule as AskedRule};
+ghost use Rattle.bl_write.specs.CanonicalLine.{IsCanonicalOf, canonical_line};
+ghost use Rattle.bl_write.specs.Known.{canonical_script, canonical_rule};
+ghost use Rattle.bl_work.specs.LineGrammar.{LineOf};
+ghost use Rattle.bl_write.specs.Writing.{with_token, nothing_written};
+
+use crate::canonical::{
+    canonical_rule_is_shortest, canonical_rule_reads_again, canonical_script_is_shortest,
+    canonical_script_reads_again,
+};
+use crate::sink::{Sink, put_all};
+use crate::spell::put_when;
+use crate::spell_rules::put_rule;
+use bl_level::laws::{canonical_is_shortest, canonical_reads_again, read_tokens_are_proper};
+use bl_level::token::{Keyword, Sign, Token};
+use bl_policy::id::SubjectId;
+use bl_policy::rule::Rule;
+use bl_work::asked::Line;
+use bl_work::names::Names;
+use bl_work::script::Script;
+use bl_work::work::Work;
+use std::alloc::{AllocError, Global};
+use std::marker::Model;
+
+/// Text that grows by tokens.
+#[derive(Drop)]
+pub(crate) struct Text {
+    bytes: Vec<u8>,
+    ends_with_word: bool,
+}
+
+impl Model for Text {
+    ghost use Rattle.bl_write.specs.Writing.{Written};
+
+    ghost Value = { Written };
+
+    ghost view = { λ t. record { bytes = t.bytes.items; word = t.ends_with_word } };
+}
+
+/// The bytes of a sign.
+fn sign_text(sign: Sign) -> &'static [u8]
+    ensures { result.now ≡ byte_of sign ∷ [] }
+{
+    match sign {
+        Sign::Comma => b",",
+        Sign::Semicolon => b";",
+        Sign::Open => b"{",
+        Sign::Close => b"}",
+    }
+}
+
+/// Whether the token is a reserved word or a name.
+pub(crate) fn is_word(token: Token<'_>) -> bool
+    ensures { result ≡ is_a_word (tok token.entry) }
+{
+    match token {
+        Token::Reserved(_) | Token::Name(_) => true,
+        Token::Text(_) | Token::Sign(_) => false,
+    }
+}
+
+impl Text {
+    /// No text.
+    pub(crate) fn new(alloc: Global) -> Text
+        ensures { result ≡ nothing_written }
+    {
+        Text {
+            bytes: Vec::new(alloc),
+            ends_with_word: false,
+        }
+    }
+
+    /// Writes the bytes of a token.
+    fn put_bytes(&mut self, token: Token<'_>) -> Result<(), AllocError>
+        ensures { OnOk result (self.new ≡ record self.old { bytes = self.old.bytes ++ spelled (tok token.entry) }) }
+    {
+        match token {
+            Token::Reserved(word) => self.bytes.extend_from_slice(word.text()),
+            Token::Name(name) => self.bytes.extend_from_slice(name),
+            Token::Text(text) => {
+                self.bytes.push(b'"')?;
+                self.bytes.extend_from_slice(text)?;
+                self.bytes.extend_from_slice(b"\"")
+            }
+            Token::Sign(sign) => self.bytes.extend_from_slice(sign_text(sign)),
+        }
+    }
+
+    /// The bytes, which are the canonical text of the tokens that were written.
+    pub(crate) fn into_bytes(self) -> Vec<u8>
+        ensures { result.items ≡ self.bytes }
+    {
+        self.bytes
+    }
+}
+
+impl Sink for Text {
+    type Refusal = AllocError;
+
+    ghost taken = { with_token };
+
+    /// Writes a token, behind a space where it follows a word and is one.
+    fn put(&mut self, token: Token<'_>) -> Result<(), AllocError> {
+        if self.ends_with_word && is_word(token) {
+            self.bytes.push(b' ')?;
+        }
+        self.put_bytes(token)?;
+        self.ends_with_word = is_word(token);
+        Ok(())
+    }
+}
+
+/// The canonical text of tokens.
+pub fn write_tokens(alloc: Global, tokens: &[Token<'_>]) -> Result<Vec<u8>, AllocError>
+    ensures { IfOk result (λ text. text.items ≡ canonical (toks tokens.now)) }
+{
+    let mut text = Text::new(alloc);
+    put_all(&mut text, tokens)?;
+    Ok(text.into_bytes())
+}
+
+/// The text of a `hello` of a subject that is there.
+fn write_hello(alloc: Global, names: &Names, subject: SubjectId) -> Result<Vec<u8>, AllocError>
+    requires { subject < length names.now.subjects }
+    ensures { IfOk result (λ text. text.items ≡ canonical_line names.now (asked.Hello subject)) }
+{
+    let name = names.subject_name(subject).bytes();
+    let tokens = [Token::Reserved(Keyword::Hello), Token::Name(name)];
+    write_tokens(alloc, &tokens)
+}
+
+/// The text of a script that some text reads as by these names.
+fn write_script(alloc: Global, names: &Names, script: &Script) -> Result<Vec<u8>, AllocError>
+    requires { (bytes : List ℕ) × LineOf names.now bytes (asked.Work (Behaviour script.now)) }
+    ensures { IfOk result (λ text. text.items ≡ canonical_script names.now script.now) }
+{
+    canonical_script_is_shortest();
+    // asked for the proof alone: a script has a behaviour, and its accesses are declared as a script's are
+    let _ = script.weight();
+    let mut text = Text::new(alloc);
+    put_when(&mut text, names, script, 0)?;
+    Ok(text.into_bytes())
+}
+
+/// The text of a rule that some text reads as by these names.
+fn write_rule(alloc: Global, names: &Names, rule: Rule) -> Result<Vec<u8>, AllocError>
+    requires { (bytes : List ℕ) × LineOf names.now bytes (asked.Work (AskedRule rule)) }
+    ensures { IfOk result (λ text. text.items ≡ canonical_rule names.now rule) }
+{
+    canonical_rule_is_shortest();
+    // asked for the proof alone: no name stands twice in a table
+    let _ = names.scheme();
+    let mut text = Text::new(alloc);
+    put_rule(&mut text, names, rule)?;
+    Ok(text.into_bytes())
+}
+
+/// The text of a line that some text reads as by these names.
+fn text_of(alloc: Global, names: &Names, line: &Line) -> Result<Vec<u8>, AllocError>
+    requires { (bytes : List ℕ) × LineOf names.now bytes line.now }
+    ensures { IfOk result (λ text. text.items ≡ canonical_line names.now line.now) }
+{
+    match line {
+        Line::Hello(subject) => write_hello(alloc, names, *subject),
+        Line::Wait => write_tokens(alloc, &[Token::Reserved(Keyword::Wait)]),
+        Line::Work(Work::Behaviour(script)) => write_script(alloc, names, script),
+        Line::Work(Work::Rule(rule)) => write_rule(alloc, names, *rule),
+    }
+}
+
+/// The canonical text of a line that some text reads as by these names: one space between two words that follow each other, no
+/// other blank, no `else` before an empty body, and the categories of a level in the scheme's order. It fails only where a growth
+/// is refused.
+pub fn write_line(alloc: Global, names: &Names, line: &Line) -> Result<Vec<u8>, AllocError>
+    requires { (bytes : List ℕ) × LineOf names.now bytes line.now }
+    // The text reads as the line.
+    ensures reads { IfOk result (λ text. LineOf names.now text.items line.now) }
+    // No text that reads as the line is shorter.
+    ensures shortest { IfOk result (λ text. (bytes : List ℕ) → LineOf names.now bytes line.now → length text.items ≤ length bytes) }
+    // The text has no blank but one space between two words, no `else` before an empty body, and categories in the scheme's order.
+    ensures canonical { IfOk result (λ text. IsCanonicalOf names.now text.items line.now) }
+{
+    // asked for the proof alone: no name stands twice in a table
+    let _ = names.scheme();
+    canonical_reads_again();
+    canonical_is_shortest();
+    read_tokens_are_proper();
+    canonical_script_reads_again();
+    canonical_script_is_shortest();
+    canonical_rule_reads_again();
+    canonical_rule_is_shortest();
+    text_of(alloc, names, line)
+}
