@@ -10,9 +10,9 @@ use Rattle.bl_policy.specs.declared.access.Access.{Access}
 use Rattle.bl_work.specs.Modes.{alters}
 use Rattle.bl_work.specs.Effects.{after}
 use Rattle.bl_work.specs.Statements.{Statements}
-use Rattle.bl_setup.specs.Order.{is_declared, is_altered}
-use Rattle.bl_setup.specs.Past.{lent}
-use Rattle.bl_setup.proofs.Conflicts.{altered_is_declared}
+use Rattle.bl_order.specs.Order.{is_declared, is_altered}
+use Rattle.bl_order.specs.Past.{lent}
+use Rattle.bl_order.proofs.Conflicts.{altered_is_declared}
 use Rattle.bl_monitor.specs.declared.run.Text.{Text}
 use Rattle.bl_monitor.specs.declared.run.Run.{Run}
 use Rattle.bl_monitor.specs.Running.{StandsAfter}

@@ -10,9 +10,10 @@ use Rattle.std.proofs.lemmas.List.Elements.{All-get_or}
 use Rattle.bl_work.specs.Effects.{children}
 use Rattle.bl_work.specs.declared.work.Work.{Work}
 use Rattle.bl_work.specs.declared.work.Work.TheVariants as work
-use Rattle.bl_setup.specs.Order.{Setup, Task, accesses_of}
-use Rattle.bl_setup.specs.Past.{at_place, is_done, changed, subject_of, task_of, first_task, child_task, fault_of_task, deeds}
-use Rattle.bl_setup.proofs.Places.{at_place-earlier}
+use Rattle.bl_setup.specs.Setup.{Setup}
+use Rattle.bl_order.specs.Order.{Task, accesses_of}
+use Rattle.bl_order.specs.Past.{at_place, is_done, changed, subject_of, task_of, first_task, child_task, fault_of_task, deeds}
+use Rattle.bl_order.proofs.Places.{at_place-earlier}
 use Rattle.bl_monitor.specs.declared.monitor.Entry.{Entry}
 use Rattle.bl_monitor.specs.declared.monitor.Entry.TheVariants as entry
 use Rattle.bl_monitor.specs.declared.place.Admitted.{Admitted}

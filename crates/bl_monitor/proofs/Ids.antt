@@ -16,8 +16,9 @@ use Rattle.bl_work.specs.Effects.{Effect}
 use Rattle.bl_work.specs.Statements.{Part, no_part}
 use Rattle.bl_work.specs.declared.work.Work.{Work}
 use Rattle.bl_work.specs.declared.work.Work.TheVariants as work
-use Rattle.bl_setup.specs.Order.{Setup, Task, Runs, Applies}
-use Rattle.bl_setup.specs.Past.{answer_of, fault_of_task, first_task, child_task}
+use Rattle.bl_setup.specs.Setup.{Setup}
+use Rattle.bl_order.specs.Order.{Task, Runs, Applies}
+use Rattle.bl_order.specs.Past.{answer_of, fault_of_task, first_task, child_task}
 use Rattle.bl_monitor.specs.Heard.{KnowsDenial, KnowsAnswer}
 use Rattle.bl_monitor.specs.Judging.{HasBelow}
 

@@ -15,10 +15,11 @@ use Rattle.bl_work.specs.Statements.{Part, no_part}
 use Rattle.bl_work.specs.declared.answer.Answer.{Answer}
 use Rattle.bl_work.specs.declared.work.Work.{Work}
 use Rattle.bl_work.specs.declared.work.Work.TheVariants as work
-use Rattle.bl_setup.specs.Order.{Setup, Entry, Task, Runs, Applies, accesses_of, is_declared, is_altered}
-use Rattle.bl_setup.specs.Past.{Past, at_place, was_lost, changed, policy_of, content_of, earlier, place, past_of, judged, deeds, lent, is_done, subject_of, task_of, first_task, child_task, no_entry}
-use Rattle.bl_setup.proofs.Places.{earlier-grown}
-use Rattle.bl_setup.proofs.PlaceLaws.{earlier-lost}
+use Rattle.bl_setup.specs.Setup.{Setup}
+use Rattle.bl_order.specs.Order.{Entry, Task, Runs, Applies, accesses_of, is_declared, is_altered}
+use Rattle.bl_order.specs.Past.{Past, at_place, was_lost, changed, policy_of, content_of, earlier, place, past_of, judged, deeds, lent, is_done, subject_of, task_of, first_task, child_task, no_entry}
+use Rattle.bl_order.proofs.Places.{earlier-grown}
+use Rattle.bl_order.proofs.PlaceLaws.{earlier-lost}
 use Rattle.bl_monitor.specs.declared.place.Admitted.{Admitted}
 use Rattle.bl_monitor.specs.declared.place.Place.{Place}
 use Rattle.bl_monitor.specs.declared.judge.Judged.{Judged}

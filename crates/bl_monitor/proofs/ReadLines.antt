@@ -9,7 +9,7 @@ use Rattle.bl_work.specs.declared.work.Work.{Work}
 use Rattle.bl_work.specs.declared.work.Work.TheVariants.{Behaviour, Rule}
 use Rattle.bl_work.specs.Names.{KnownNames}
 use Rattle.bl_setup.specs.Agreement.{Agree}
-use Rattle.bl_setup.specs.Order.{Setup}
+use Rattle.bl_setup.specs.Setup.{Setup}
 use Rattle.bl_monitor.specs.Heard.{KnowsWork}
 use Rattle.bl_monitor.specs.Judging.{AreBelow}
 

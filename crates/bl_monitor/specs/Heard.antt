@@ -8,10 +8,11 @@ use Rattle.bl_work.specs.declared.answer.Answer.{Answer}
 use Rattle.bl_work.specs.declared.answer.Answer.TheVariants as answer
 use Rattle.bl_work.specs.declared.work.Work.{Work}
 use Rattle.bl_work.specs.declared.work.Work.TheVariants as work
-use Rattle.bl_setup.specs.Order as order
-use Rattle.bl_setup.specs.Order.{Setup, accesses_of}
-use Rattle.bl_setup.specs.Past.{Past, place, policy_before, is_done}
-use Rattle.bl_setup.specs.Legal.{child_count}
+use Rattle.bl_order.specs.Order as order
+use Rattle.bl_setup.specs.Setup.{Setup}
+use Rattle.bl_order.specs.Order.{accesses_of}
+use Rattle.bl_order.specs.Past.{Past, place, policy_before, is_done}
+use Rattle.bl_order.specs.Legal.{child_count}
 use Rattle.bl_monitor.specs.Judging.{AreBelow}
 use Rattle.bl_monitor.specs.declared.monitor.Entry.{Entry}
 use Rattle.bl_monitor.specs.declared.monitor.Entry.TheVariants as entry

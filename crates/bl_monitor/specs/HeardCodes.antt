@@ -11,7 +11,7 @@ use Rattle.bl_work.specs.Codes.{coded_mode, coded_part}
 use Rattle.bl_work.specs.Statements.{Part}
 use Rattle.bl_work.specs.declared.work.Work.{Work}
 use Rattle.bl_work.specs.declared.work.Work.TheVariants as work
-use Rattle.bl_setup.specs.Order.{Entry, Line, Child}
+use Rattle.bl_order.specs.Order.{Entry, Line, Child}
 
 -- a rule: which it is, its subject, its document, its mode, and the rank and the categories of its level
 abbrev ToldRule : Type 0

@@ -11,8 +11,8 @@ use Rattle.bl_work.specs.declared.answer.Answer.{Answer}
 use Rattle.bl_work.specs.declared.answer.Answer.TheVariants as answer
 use Rattle.bl_work.specs.declared.work.Work.{Work}
 use Rattle.bl_work.specs.declared.work.Work.TheVariants as work
-use Rattle.bl_setup.specs.Order.{Task, accesses_of, is_altered}
-use Rattle.bl_setup.specs.Past.{Past, judged, deeds, lent, is_done}
+use Rattle.bl_order.specs.Order.{Task, accesses_of, is_altered}
+use Rattle.bl_order.specs.Past.{Past, judged, deeds, lent, is_done}
 use Rattle.bl_monitor.specs.Kept.{spawned_of}
 use Rattle.bl_monitor.specs.Texts.{applied}
 use Rattle.bl_monitor.specs.declared.run.Text.{Text}

@@ -4,8 +4,8 @@ use Rattle.bl_work.specs.Script.{IsScript}
 use Rattle.bl_work.specs.Statements.{Part}
 use Rattle.bl_work.specs.declared.work.Work.{Work}
 use Rattle.bl_work.specs.declared.work.Work.TheVariants as work
-use Rattle.bl_setup.specs.Order as order
-use Rattle.bl_setup.specs.Past.{first_task, child_task}
+use Rattle.bl_order.specs.Order as order
+use Rattle.bl_order.specs.Past.{first_task, child_task}
 use Rattle.bl_monitor.specs.Kept.{spawned_of}
 use Rattle.bl_monitor.specs.declared.place.Origin.{Origin}
 use Rattle.bl_monitor.specs.declared.place.Origin.TheVariants as origin

@@ -4,8 +4,9 @@ use Rattle.bl_work.specs.Effects.{children}
 use Rattle.bl_policy.specs.FirstFault.{first_fault}
 use Rattle.bl_policy.specs.Policy.{SecurityPolicy}
 use Rattle.bl_setup.specs.Agreement.{Agree}
-use Rattle.bl_setup.specs.Order.{Setup, accesses_of}
-use Rattle.bl_setup.specs.Past.{Past, earlier, at_place, policy_before, policy_of, content_of, is_done}
+use Rattle.bl_setup.specs.Setup.{Setup}
+use Rattle.bl_order.specs.Order.{accesses_of}
+use Rattle.bl_order.specs.Past.{Past, earlier, at_place, policy_before, policy_of, content_of, is_done}
 use Rattle.bl_monitor.specs.Heard.{Heard, is_lost}
 use Rattle.bl_monitor.specs.Judging.{HasBelow, content_at}
 use Rattle.bl_monitor.specs.Kept.{spawned_of}

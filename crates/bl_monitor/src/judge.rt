@@ -3,8 +3,8 @@ ghost use Rattle.std.specs.Prelude.{◌≡◌, ◌<◌, ℕ, List, All, length, 
 ghost use Rattle.bl_policy.specs.declared.access.Access.{Access};
 ghost use Rattle.bl_policy.specs.RuleEffect.{IsRuleOf};
 ghost use Rattle.bl_work.specs.Body.{statements_of};
-ghost use Rattle.bl_setup.specs.Order.{Runs, Applies};
-ghost use Rattle.bl_setup.specs.Past.{changed};
+ghost use Rattle.bl_order.specs.Order.{Runs, Applies};
+ghost use Rattle.bl_order.specs.Past.{changed};
 ghost use Rattle.bl_monitor.specs.Judging.{AreBelow, IsKnown, IsJudged, IsDone, IsIdle};
 ghost use Rattle.bl_monitor.specs.Places.{task_of};
 

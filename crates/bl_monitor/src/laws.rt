@@ -5,7 +5,7 @@ ghost use Rattle.bl_work.specs.LineGrammar.{LineOf};
 ghost use Rattle.bl_work.specs.declared.asked.Line.TheVariants as asked;
 ghost use Rattle.bl_work.specs.declared.work.Work.{Work};
 ghost use Rattle.bl_setup.specs.Agreement.{Agree};
-ghost use Rattle.bl_setup.specs.Order.{Setup};
+ghost use Rattle.bl_setup.specs.Setup.{Setup};
 
 use bl_work::laws::read_lines_are_known;
 

@@ -12,11 +12,11 @@ ghost use Rattle.bl_work.specs.FirstWhenFault.{IsWhenFault};
 
 use crate::count::{MOST_DEPTH, are_few, is_body_shallow};
 use crate::known::check_when_known;
-use crate::line::LineFault;
 use crate::modes::check_declared;
 use crate::once::check_when_once;
 use bl_level::name::Name;
 use bl_syntax::raw::{RawAccess, RawBody};
+use bl_work::asked::LineFault;
 use bl_work::names::Names;
 
 /// The fault of a `when` of these parts: the first of Deep, Many, Unknown, Twice and Mode that it has, and Ok where it has none.

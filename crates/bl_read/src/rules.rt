@@ -10,11 +10,11 @@ ghost use Rattle.bl_read.specs.RuleFaults.{category_mention, right_mentions, men
 ghost use Rattle.bl_work.specs.RuleMeaning.{MeansRule};
 ghost use Rattle.bl_work.specs.SpelledRules.{spell_rule};
 
-use crate::line::LineFault;
 use bl_level::level::Level;
 use bl_level::name::Name;
 use bl_policy::rule::Rule;
 use bl_syntax::raw::{RawLevel, RawRight, RawRule};
+use bl_work::asked::LineFault;
 use bl_work::names::Names;
 
 /// What the place of a name in a rule asks it to be.

@@ -1,14 +1,9 @@
 //! The program `bl_server`: sessions of a document server that enforces Bell and La Padula.
 #![tactic(auto)]
 
-mod command;
-mod fault;
-mod run;
-#[cfg(test)]
-mod tests;
-
+use bl_command::run::run;
 use std::process::ExitCode;
 
 fn main(rt: HostRuntime) -> ExitCode {
-    ExitCode::from(run::run(&rt))
+    ExitCode::from(run(&rt))
 }

@@ -7,14 +7,15 @@ use Rattle.std.proofs.lemmas.List.{get_or_push, map-append}
 use Rattle.std.proofs.lemmas.Bool.Decides.{nat_tests, eqb_tells}
 use Rattle.bl_work.specs.Effects.{children}
 use Rattle.bl_work.specs.declared.answer.Answer.{Answer}
-use Rattle.bl_setup.specs.Order.{Setup, Entry, Line, Child}
-use Rattle.bl_setup.specs.Past.{Past, past_of, earlier, place, no_entry, is_done}
+use Rattle.bl_setup.specs.Setup.{Setup}
+use Rattle.bl_order.specs.Order.{Entry, Line, Child}
+use Rattle.bl_order.specs.Past.{Past, past_of, earlier, place, no_entry, is_done}
 use Rattle.bl_monitor.specs.Heard.{Heard, place_at, answer_at, children_of, with_entry, KnowsAnswer}
 use Rattle.bl_monitor.specs.Heard as heard
-use Rattle.bl_session.specs.declared.label.Origin.{Origin}
-use Rattle.bl_session.specs.declared.label.Origin.TheVariants as origin
-use Rattle.bl_session.specs.Orders.{said}
-use Rattle.bl_session.specs.Entries.{entry_from, told_of, unnamed, AreAnswered}
+use Rattle.bl_wire.specs.declared.label.Origin.{Origin}
+use Rattle.bl_wire.specs.declared.label.Origin.TheVariants as origin
+use Rattle.bl_wire.specs.Orders.{said}
+use Rattle.bl_wire.specs.Entries.{entry_from, told_of, unnamed, AreAnswered}
 use Rattle.bl_session.proofs.OrderLaws.{said-grown}
 
 -- ---- sessions and ordinals bear on no answer

@@ -5,16 +5,17 @@ use Rattle.std.proofs.Math.ListN.{get_or-append}
 use Rattle.std.proofs.lemmas.List.Sums.{sum_by_push}
 use Rattle.std.proofs.lemmas.Bool.Decides.{nat_tests}
 use Rattle.bl_work.specs.declared.work.Work.{Work}
-use Rattle.bl_setup.specs.Order.{Setup, Line}
-use Rattle.bl_setup.specs.Machine.{State, state_after, start, weight_of, entry_weight}
+use Rattle.bl_setup.specs.Setup.{Setup}
+use Rattle.bl_order.specs.Order.{Line}
+use Rattle.bl_order.specs.Machine.{State, state_after, start, weight_of, entry_weight}
 use Rattle.bl_monitor.specs.Heard.{KnowsWork}
-use Rattle.bl_session.specs.declared.label.Origin.TheVariants as origin
-use Rattle.bl_session.specs.declared.label.Entered.{Entered}
+use Rattle.bl_wire.specs.declared.label.Origin.TheVariants as origin
+use Rattle.bl_wire.specs.declared.label.Entered.{Entered}
 use Rattle.bl_session.specs.declared.entries.Pages.{Pages}
-use Rattle.bl_session.specs.Told.{Told, Opens, Admits, SameUpTo}
+use Rattle.bl_wire.specs.Told.{Told, Opens, Admits, SameUpTo}
 use Rattle.bl_session.specs.One.{events_of}
-use Rattle.bl_session.specs.Orders.{told_text, AreLater, Mirrors}
-use Rattle.bl_session.specs.Entries.{entry_from, entry_of, order_of, is_line, KnowsOrigin, Each, AreLabelled, AreAnswered}
+use Rattle.bl_wire.specs.Orders.{told_text, AreLater, Mirrors}
+use Rattle.bl_wire.specs.Entries.{entry_from, entry_of, order_of, is_line, KnowsOrigin, Each, AreLabelled, AreAnswered}
 use Rattle.bl_session.specs.Whole.{AreKnown, IsWhole, Came}
 use Rattle.bl_session.proofs.OrderLaws.{later-line, text-later}
 use Rattle.bl_session.proofs.EntryLaws.{length-order, order-more, longer_by_one, each_more, labelled_line}

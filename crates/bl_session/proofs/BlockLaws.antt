@@ -8,14 +8,15 @@ use Rattle.std.proofs.Math.ListN.{length-set, get_or-append}
 use Rattle.std.proofs.lemmas.List.{get_or_default, get_or_push}
 use Rattle.std.proofs.lemmas.List.Elements.{All-nil, All-append, All-take, All-drop, All-cons, All-weaker, All-get_or}
 use Rattle.std.proofs.lemmas.Bool.Decides.{nat_tests, eqb_tells}
-use Rattle.bl_setup.specs.Order.{Setup, Entry}
-use Rattle.bl_session.specs.declared.label.Entered.{Entered}
-use Rattle.bl_session.specs.Replies.{Tag, Reply, tag, is_of, is_before, put_in, replies_to}
-use Rattle.bl_session.specs.Orders.{reply_at, at_rest, ordinal_of}
-use Rattle.bl_session.specs.Entries.{order_of, StandsBelow, AreLabelled}
+use Rattle.bl_setup.specs.Setup.{Setup}
+use Rattle.bl_order.specs.Order.{Entry}
+use Rattle.bl_wire.specs.declared.label.Entered.{Entered}
+use Rattle.bl_wire.specs.Replies.{Tag, Reply, tag, is_of, is_before, put_in, replies_to}
+use Rattle.bl_wire.specs.Orders.{reply_at, at_rest, ordinal_of}
+use Rattle.bl_wire.specs.Entries.{order_of, StandsBelow, AreLabelled}
 use Rattle.bl_session.specs.Blocks.{IsBlock, AreKin, SplitsAt, StandsUnder, AreUnder}
 use Rattle.bl_session.proofs.OrderLaws.{replies-other, not_of}
-use Rattle.bl_session.proofs.WordLaws.{no_before}
+use Rattle.bl_wire.proofs.WordLaws.{no_before}
 
 -- a reply is put behind those that its label is not before
 pub put_rank : (ra : ℕ → Reply) (new : Reply) (place : ℕ) (kin : List ℕ) (r : ℕ) → ra place ≡ new → r ≤ length kin

@@ -4,20 +4,20 @@ use Rattle.std.proofs.lemmas.List.Elements.{All-nil}
 use Rattle.std.specs.Io.KnownBytes.{Consumes}
 use Rattle.std.proofs.KnownBytes.{Consumes-trans, Consumes-nil}
 use Rattle.bl_work.specs.Names.{KnownNames}
-use Rattle.bl_session.specs.Lines.{lines_of, AreLines, HasNoLf}
-use Rattle.bl_session.specs.Holds.{Holds}
-use Rattle.bl_session.specs.Reads.{TookLine, BrokeOff, ended, IsReadingFault}
-use Rattle.bl_session.specs.declared.held.Held.{Held}
-use Rattle.bl_session.specs.declared.lines.Next.{Next}
-use Rattle.bl_session.specs.declared.lines.Next.TheVariants.{Whole, Last, End}
-use Rattle.bl_session.specs.declared.fault.SessionFault.{SessionFault}
-use Rattle.bl_session.specs.declared.fault.SessionFault.TheVariants.{Read, Write, TooLong, Memory, Clash}
-use Rattle.bl_session.specs.declared.turn.Turn.{Turn}
-use Rattle.bl_session.specs.Turns.{IsTurn, AreTurns}
-use Rattle.bl_session.specs.Spoken.{IsOwnFault}
+use Rattle.bl_wire.specs.Lines.{lines_of, AreLines, HasNoLf}
+use Rattle.bl_wire.specs.Holds.{Holds}
+use Rattle.bl_wire.specs.Reads.{TookLine, BrokeOff, ended, IsReadingFault}
+use Rattle.bl_wire.specs.declared.held.Held.{Held}
+use Rattle.bl_wire.specs.declared.lines.Next.{Next}
+use Rattle.bl_wire.specs.declared.lines.Next.TheVariants.{Whole, Last, End}
+use Rattle.bl_wire.specs.declared.fault.SessionFault.{SessionFault}
+use Rattle.bl_wire.specs.declared.fault.SessionFault.TheVariants.{Read, Write, TooLong, Memory, Clash}
+use Rattle.bl_wire.specs.declared.turn.Turn.{Turn}
+use Rattle.bl_wire.specs.Turns.{IsTurn, AreTurns}
+use Rattle.bl_wire.specs.Spoken.{IsOwnFault}
 use Rattle.bl_session.specs.Stages.{IsCut, Cutting, Broken, IsCause, IsDropped, AreWholeLines}
 use Rattle.bl_session.proofs.LineLaws.{AreLines-whole, AreLines-append, AreLines-nil, lines-last}
-use Rattle.bl_session.proofs.Parts.{known_on, reading_on}
+use Rattle.bl_wire.proofs.Parts.{known_on, reading_on}
 
 -- that more may come
 abbrev pub goes_on : Next → Bool

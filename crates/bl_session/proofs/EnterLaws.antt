@@ -2,14 +2,15 @@
 use Rattle.std.proofs.Common.{◌≡◌, ℕ, zero, suc, ◌+◌, ◌<◌, Bool, true, false, cond, List, [], ◌∷◌, ◌++◌, length, refl, sym, ap, subst, ◌∙◌, arith, append-nil, add-one, slice_index_or, Some, None}
 use Rattle.bl_work.specs.Effects.{children}
 use Rattle.bl_work.specs.declared.answer.Answer.{Answer}
-use Rattle.bl_setup.specs.Order.{Setup, Entry, Child}
-use Rattle.bl_setup.specs.Past.{no_entry, is_done}
+use Rattle.bl_setup.specs.Setup.{Setup}
+use Rattle.bl_order.specs.Order.{Entry, Child}
+use Rattle.bl_order.specs.Past.{no_entry, is_done}
 use Rattle.bl_monitor.specs.Heard.{Heard, answer_at, children_of, with_entry, Knows, KnowsAnswer}
-use Rattle.bl_session.specs.declared.label.Origin.{Origin}
-use Rattle.bl_session.specs.declared.label.Origin.TheVariants as origin
-use Rattle.bl_session.specs.declared.label.Entered.{Entered}
-use Rattle.bl_session.specs.Orders.{said}
-use Rattle.bl_session.specs.Entries.{entry_from, entry_of, order_of, told_of, is_line, KnowsOrigin, AreAnswered, first_children}
+use Rattle.bl_wire.specs.declared.label.Origin.{Origin}
+use Rattle.bl_wire.specs.declared.label.Origin.TheVariants as origin
+use Rattle.bl_wire.specs.declared.label.Entered.{Entered}
+use Rattle.bl_wire.specs.Orders.{said}
+use Rattle.bl_wire.specs.Entries.{entry_from, entry_of, order_of, told_of, is_line, KnowsOrigin, AreAnswered, first_children}
 use Rattle.bl_session.specs.Whole.{HasEntered, HasRun}
 use Rattle.bl_session.proofs.OrderLaws.{join}
 use Rattle.bl_session.proofs.EntryLaws.{length-order, order-more, each_more, labelled_child, children_all}

@@ -1,7 +1,4 @@
 pub mod LineLaws
-pub mod Parts
-pub mod HeldLines
-pub mod TurnLaws
 pub mod Texts
 pub mod Steps
 pub mod Cuttings
@@ -12,7 +9,6 @@ pub mod RunLaws
 pub mod EntryLaws
 pub mod AnswerLaws
 pub mod BlockLaws
-pub mod WordLaws
 pub mod MachineLaws
 pub mod EnterLaws
 pub mod AskLaws

@@ -1,7 +1,7 @@
 -- Laws of lines.
 use Rattle.std.proofs.Common.{◌≡◌, ◌≢◌, ℕ, false, cond, List, [], ◌∷◌, ◌++◌, refl, sym, ap, ◌∙◌, append_assoc, ne_eqb, eqb}
 use Rattle.std.proofs.lemmas.List.Elements.{All-head, All-tail}
-use Rattle.bl_session.specs.Lines.{onto, lines_of, AreLines, HasNoLf}
+use Rattle.bl_wire.specs.Lines.{onto, lines_of, AreLines, HasNoLf}
 
 pub head_plain : (b : ℕ) (line : List ℕ) → HasNoLf (b ∷ line) → eqb b 10 ≡ false
 head_plain b line h = ne_eqb b 10 (All-head (λ y. y ≢ 10) b line h)

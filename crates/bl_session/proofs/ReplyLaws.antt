@@ -10,16 +10,16 @@ use Rattle.bl_work.specs.Names.{KnownNames}
 use Rattle.bl_work.specs.declared.answer.Answer.{Answer}
 use Rattle.bl_work.specs.declared.answer.Answer.TheVariants.{Done, RuleDone, Denied, Lost}
 use Rattle.bl_setup.specs.Agreement.{Agree}
-use Rattle.bl_setup.specs.Order.{Setup}
+use Rattle.bl_setup.specs.Setup.{Setup}
 use Rattle.bl_monitor.specs.Heard.{KnowsAnswer}
-use Rattle.bl_session.specs.declared.label.Entered.{Entered}
+use Rattle.bl_wire.specs.declared.label.Entered.{Entered}
 use Rattle.bl_session.specs.declared.entries.Pages.{Pages}
 use Rattle.bl_session.specs.declared.block.Block.{Block}
-use Rattle.bl_session.specs.Texts.{refusal}
-use Rattle.bl_session.specs.Named.{NamesAnswer}
-use Rattle.bl_session.specs.Replies.{Reply, Tag, tag, reply_text, replies_to, line_or_full}
-use Rattle.bl_session.specs.Orders.{said, reply_at, at_rest, told_text, ordinal_of, AreLater}
-use Rattle.bl_session.specs.Entries.{order_of, StandsBelow}
+use Rattle.bl_wire.specs.Texts.{refusal}
+use Rattle.bl_wire.specs.Named.{NamesAnswer}
+use Rattle.bl_wire.specs.Replies.{Reply, Tag, tag, reply_text, replies_to, line_or_full}
+use Rattle.bl_wire.specs.Orders.{said, reply_at, at_rest, told_text, ordinal_of, AreLater}
+use Rattle.bl_wire.specs.Entries.{order_of, StandsBelow}
 use Rattle.bl_session.specs.Whole.{IsWhole}
 use Rattle.bl_session.specs.Blocks.{IsBlock, AreKin, NoLine, Gives, IsLastBlock}
 use Rattle.bl_session.proofs.OrderLaws.{replies-other}

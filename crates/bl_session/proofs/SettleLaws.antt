@@ -7,17 +7,18 @@ use Rattle.std.proofs.lemmas.List.Sums.{sum_by-append, sum_by-cons}
 use Rattle.std.proofs.lemmas.List.Elements.{All-head, All-tail}
 use Rattle.std.proofs.lemmas.Bool.Decides.{nat_tests}
 use Rattle.bl_work.specs.declared.answer.Answer.{Answer}
-use Rattle.bl_setup.specs.Order.{Setup, Entry}
-use Rattle.bl_setup.specs.Machine.{State, state_after, start, entry_weight}
+use Rattle.bl_setup.specs.Setup.{Setup}
+use Rattle.bl_order.specs.Order.{Entry}
+use Rattle.bl_order.specs.Machine.{State, state_after, start, entry_weight}
 use Rattle.bl_monitor.specs.Heard.{Heard}
-use Rattle.bl_session.specs.declared.label.Origin.{Origin}
-use Rattle.bl_session.specs.declared.label.Origin.TheVariants as origin
-use Rattle.bl_session.specs.declared.label.Entered.{Entered}
+use Rattle.bl_wire.specs.declared.label.Origin.{Origin}
+use Rattle.bl_wire.specs.declared.label.Origin.TheVariants as origin
+use Rattle.bl_wire.specs.declared.label.Entered.{Entered}
 use Rattle.bl_session.specs.declared.entries.Pages.{Pages}
-use Rattle.bl_session.specs.Told.{Told, Settles}
+use Rattle.bl_wire.specs.Told.{Told, Settles}
 use Rattle.bl_session.specs.One.{run_from, events_of}
-use Rattle.bl_session.specs.Orders.{AreLater, Mirrors, ordinal_of}
-use Rattle.bl_session.specs.Entries.{entry_from, entry_of, order_of, is_line, Each, StandsBelow, AreLabelled, AreAnswered}
+use Rattle.bl_wire.specs.Orders.{AreLater, Mirrors, ordinal_of}
+use Rattle.bl_wire.specs.Entries.{entry_from, entry_of, order_of, is_line, Each, StandsBelow, AreLabelled, AreAnswered}
 use Rattle.bl_session.specs.Whole.{AreKnown, HasRun, IsWhole}
 use Rattle.bl_session.specs.Blocks.{IsBlock, SplitsAt}
 use Rattle.bl_session.proofs.EntryLaws.{length-order}

@@ -1,16 +1,4 @@
-pub mod Lines
-pub mod Look
-pub mod Holds
-pub mod Reads
-pub mod Turns
-pub mod Told
-pub mod Texts
-pub mod Spoken
 pub mod Stages
-pub mod Replies
-pub mod Named
-pub mod Orders
-pub mod Entries
 pub mod One
 pub mod Whole
 pub mod Blocks

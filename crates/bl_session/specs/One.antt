@@ -1,11 +1,11 @@
 -- One: the trail of one session and one worker, where nothing is lost.
 use Rattle.std.specs.Prelude.{ℕ, zero, suc, ◌+◌, Bool, if◌then◌else◌, nat_lt, nat_le, List, [], ◌∷◌, ◌++◌, length, sum_by}
 use Rattle.bl_work.specs.declared.work.Work.{Work}
-use Rattle.bl_setup.specs.Order.{Setup}
-use Rattle.bl_setup.specs.Machine.{State, Event, runs, has_ended, change, start, state_after, weight_of, entry_weight}
-use Rattle.bl_setup.specs.Machine as machine
-use Rattle.bl_session.specs.declared.turn.Turn.{Turn}
-use Rattle.bl_session.specs.Told.{Told, Opens, Admits, Settles, told_by}
+use Rattle.bl_setup.specs.Setup.{Setup}
+use Rattle.bl_order.specs.Machine.{State, Event, runs, has_ended, change, start, state_after, weight_of, entry_weight}
+use Rattle.bl_order.specs.Machine as machine
+use Rattle.bl_wire.specs.declared.turn.Turn.{Turn}
+use Rattle.bl_wire.specs.Told.{Told, Opens, Admits, Settles, told_by}
 
 -- a place that hasn't ended starts, and ends if it runs
 abbrev pub place_events : State → ℕ → List Event

@@ -1,14 +1,14 @@
 -- What a session with one worker ends with.
 use Rattle.std.specs.Prelude.{◌≡◌, ℕ, ◌≤◌, Bool, List, [], length, Option, OnSome, ◌⊎◌}
 use Rattle.std.specs.Io.KnownBytes.{Consumes, Appends, IsAtEnd}
-use Rattle.bl_setup.specs.Order.{Setup}
-use Rattle.bl_session.specs.declared.fault.SessionFault.{SessionFault}
-use Rattle.bl_session.specs.declared.turn.Turn.{Turn}
-use Rattle.bl_session.specs.Lines.{lines_of, AreLines}
-use Rattle.bl_session.specs.Turns.{AreTurns, IsRefusal, StopsAtRefusal}
-use Rattle.bl_session.specs.Spoken.{Begins}
+use Rattle.bl_setup.specs.Setup.{Setup}
+use Rattle.bl_wire.specs.declared.fault.SessionFault.{SessionFault}
+use Rattle.bl_wire.specs.declared.turn.Turn.{Turn}
+use Rattle.bl_wire.specs.Lines.{lines_of, AreLines}
+use Rattle.bl_wire.specs.Turns.{AreTurns, IsRefusal, StopsAtRefusal}
+use Rattle.bl_wire.specs.Spoken.{Begins}
 use Rattle.bl_session.specs.Stages.{Broken, IsPutAt}
-use Rattle.bl_session.specs.Replies.{line_text}
+use Rattle.bl_wire.specs.Replies.{line_text}
 use Rattle.bl_session.specs.One.{one_state}
 use Rattle.bl_session.specs.Transcript.{transcript}
 

@@ -2,16 +2,16 @@
 use Rattle.std.specs.Prelude.{◌≡◌, ℕ, ◌+◌, ◌≤◌, ◌<◌, Bool, true, false, List, [], ◌∷◌, ◌++◌, length, ⊤, Option, Some, None, OnSome, ◌⊎◌, replicate}
 use Rattle.std.specs.Io.KnownBytes.{Consumes, Appends, IsAtEnd}
 use Rattle.bl_work.specs.Names.{KnownNames}
-use Rattle.bl_session.specs.Lines.{lines_of, AreLines, HasNoLf}
-use Rattle.bl_session.specs.Reads.{HasMore}
-use Rattle.bl_session.specs.declared.fault.SessionFault.{SessionFault}
-use Rattle.bl_session.specs.declared.fault.SessionFault.TheVariants.{Read, Write, TooLong, Memory, Clash}
-use Rattle.bl_session.specs.declared.turn.Turn.{Turn}
-use Rattle.bl_session.specs.declared.turn.Pending.{Pending}
-use Rattle.bl_session.specs.Turns.{AreTurns, AreSkips, IsOpening, IsRefusal, StopsAtRefusal, HasNoWait, is_skip}
-use Rattle.bl_session.specs.Told.{Told, Settles, told_by, SameUpTo}
-use Rattle.bl_session.specs.Texts.{text_of, session_text, ok_line, bye_line, refused_hello}
-use Rattle.bl_session.specs.Spoken.{Spoken, Begins}
+use Rattle.bl_wire.specs.Lines.{lines_of, AreLines, HasNoLf}
+use Rattle.bl_wire.specs.Reads.{HasMore}
+use Rattle.bl_wire.specs.declared.fault.SessionFault.{SessionFault}
+use Rattle.bl_wire.specs.declared.fault.SessionFault.TheVariants.{Read, Write, TooLong, Memory, Clash}
+use Rattle.bl_wire.specs.declared.turn.Turn.{Turn}
+use Rattle.bl_wire.specs.declared.turn.Pending.{Pending}
+use Rattle.bl_wire.specs.Turns.{AreTurns, AreSkips, IsOpening, IsRefusal, StopsAtRefusal, HasNoWait, is_skip}
+use Rattle.bl_wire.specs.Told.{Told, Settles, told_by, SameUpTo}
+use Rattle.bl_wire.specs.Texts.{text_of, session_text, ok_line, bye_line, refused_hello}
+use Rattle.bl_wire.specs.Spoken.{Spoken, Begins}
 
 -- the lines that were consumed: more may come, or these are all
 abbrev pub IsCut : Bool → List ℕ → List (List ℕ) → Option (List ℕ) → Option (List ℕ) → Type 0

@@ -1,9 +1,9 @@
 -- Transcript: what a session writes for its input.
 use Rattle.std.specs.Prelude.{ℕ, List}
-use Rattle.bl_setup.specs.Order.{Setup}
-use Rattle.bl_session.specs.declared.turn.Turn.{Turn}
-use Rattle.bl_session.specs.Texts.{session_text}
-use Rattle.bl_session.specs.Replies.{line_text}
+use Rattle.bl_setup.specs.Setup.{Setup}
+use Rattle.bl_wire.specs.declared.turn.Turn.{Turn}
+use Rattle.bl_wire.specs.Texts.{session_text}
+use Rattle.bl_wire.specs.Replies.{line_text}
 use Rattle.bl_session.specs.One.{one_state}
 
 -- the transcript of these lines by the trail of one session and one worker

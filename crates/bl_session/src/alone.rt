@@ -2,15 +2,15 @@
 //! `wait` and at the end of the input they are answered in admission order.
 ghost use Rattle.std.specs.Prelude.{◌≡◌, ◌≢◌, false, OnOk, IfErr};
 ghost use Rattle.bl_session.specs.Outcome.{IsServed, IsCutShort};
-ghost use Rattle.bl_session.specs.declared.fault.SessionFault.TheVariants.{Clash};
+ghost use Rattle.bl_wire.specs.declared.fault.SessionFault.TheVariants.{Clash};
 
 use crate::entries::{Alone, Pages};
-use crate::fault::SessionFault;
 use crate::session::converse;
-use crate::watched::Watched;
 use bl_monitor::laws::read_lines_are_in_the_setup;
 use bl_monitor::monitor::Monitor;
 use bl_setup::setup::Setup;
+use bl_wire::fault::SessionFault;
+use bl_wire::watched::Watched;
 use std::alloc::Global;
 use std::io::{BufRead, Write};
 

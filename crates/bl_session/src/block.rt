@@ -1,12 +1,12 @@
 //! The entries of a block, line by line and sorted by label.
 ghost use Rattle.std.specs.Prelude.{◌≡◌, ℕ, ◌+◌, ◌-◌, ◌<◌, ◌≤◌, All, IfOk, MatchOption, length, slice_index_or, true, false};
-ghost use Rattle.bl_setup.specs.Order.{Setup};
-ghost use Rattle.bl_session.specs.declared.label.Entered.{Entered};
-ghost use Rattle.bl_session.specs.Replies.{is_before};
-ghost use Rattle.bl_session.specs.Entries.{AreLabelled, is_line};
+ghost use Rattle.bl_setup.specs.Setup.{Setup};
+ghost use Rattle.bl_wire.specs.declared.label.Entered.{Entered};
+ghost use Rattle.bl_wire.specs.Replies.{is_before};
+ghost use Rattle.bl_wire.specs.Entries.{AreLabelled, is_line};
 ghost use Rattle.bl_session.specs.Blocks.{IsBlock, SplitsAt, NoLine, Gives};
 
-use crate::label::{Entered, is_before};
+use bl_wire::label::{Entered, is_before};
 use std::alloc::{AllocError, Global};
 
 /// The lines of a block, which stand from the place `first` on, with the places of their descendants in order of their

@@ -4,21 +4,21 @@
 ghost use Rattle.std.specs.Prelude.{◌≡◌, ◌+◌, ◌<◌, ◌≤◌, ◌++◌, ℕ, [], List, All, false, OnOk, IfOk, None, length};
 ghost use Rattle.std.specs.Arc.{arc_value};
 ghost use Rattle.bl_work.specs.Effects.{children};
-ghost use Rattle.bl_setup.specs.Machine.{weight_of};
+ghost use Rattle.bl_order.specs.Machine.{weight_of};
 ghost use Rattle.bl_monitor.specs.Heard.{KnowsWork};
-ghost use Rattle.bl_session.specs.Orders.{said, told_text, AreLater};
-ghost use Rattle.bl_session.specs.Entries.{order_of, told_of, is_line, AreLabelled, AreAnswered};
+ghost use Rattle.bl_wire.specs.Orders.{said, told_text, AreLater};
+ghost use Rattle.bl_wire.specs.Entries.{order_of, told_of, is_line, AreLabelled, AreAnswered};
 ghost use Rattle.bl_session.specs.Whole.{AreKnown, HasEntered, HasRun, IsWhole, Came};
 ghost use Rattle.bl_session.specs.Blocks.{IsLastBlock};
 
 use crate::behind::Behind;
 use crate::block::Block;
-use crate::label::{Entered, Origin};
-use crate::reply::push_refused;
-use crate::words::push_reply;
 use bl_monitor::monitor::{Entry, Monitor};
 use bl_policy::id::SubjectId;
 use bl_setup::setup::Setup;
+use bl_wire::label::{Entered, Origin};
+use bl_wire::reply::push_refused;
+use bl_wire::words::push_reply;
 use bl_work::answer::Answer;
 use bl_work::work::Work;
 use std::alloc::{AllocError, Global};

@@ -2,23 +2,23 @@
 //! it, and writes the replies of a block at each `wait` and at the end of the input.
 ghost use Rattle.std.specs.Prelude.{◌≡◌, take, ◌≤◌, ◌<◌, ◌+◌, ◌^◌, ◌++◌, ◌∷◌, [], ◌⊎◌, List, ℕ, Bool, true, false, Option, OnOk, OnErr, IfOk, IfErr, IfSome, OnSome, length};
 ghost use Rattle.std.specs.Io.KnownBytes.{Consumes, Appends, IsAtEnd};
-ghost use Rattle.bl_session.specs.declared.fault.SessionFault.TheVariants.{Write};
-ghost use Rattle.bl_session.specs.Turns.{AreSkips, is_skip, IsServed, AreServed, StandsIn};
-ghost use Rattle.bl_session.specs.declared.turn.Turn.{Turn};
-ghost use Rattle.bl_session.specs.Told.{Told, Opens, Settles, SameUpTo};
-ghost use Rattle.bl_session.specs.Texts.{ok_line};
-ghost use Rattle.bl_session.specs.Spoken.{block_text, IsOwnFault, BlockFailed, TakesTurn, FailsTurn};
+ghost use Rattle.bl_wire.specs.declared.fault.SessionFault.TheVariants.{Write};
+ghost use Rattle.bl_wire.specs.Turns.{AreSkips, is_skip, IsServed, AreServed, StandsIn};
+ghost use Rattle.bl_wire.specs.declared.turn.Turn.{Turn};
+ghost use Rattle.bl_wire.specs.Told.{Told, Opens, Settles, SameUpTo};
+ghost use Rattle.bl_wire.specs.Texts.{ok_line};
+ghost use Rattle.bl_wire.specs.Spoken.{block_text, IsOwnFault, BlockFailed, TakesTurn, FailsTurn};
 ghost use Rattle.bl_session.specs.Stages.{Cutting, ReadsOn, IsNearer, Unheard, IsFirst, Heard, Stage, Finished, Broken, Stopped};
 
 use crate::behind::Behind;
-use crate::fault::SessionFault;
-use crate::held::Held;
-use crate::lines::{Next, next_line};
-use crate::put::put_out;
-use crate::reply::text_block;
-use crate::turn::{Pending, Turn, turn_held};
-use crate::watched::Watched;
+use crate::replies::text_block;
 use bl_policy::id::SubjectId;
+use bl_wire::fault::SessionFault;
+use bl_wire::held::Held;
+use bl_wire::lines::{Next, next_line};
+use bl_wire::put::put_out;
+use bl_wire::turn::{Pending, Turn, turn_held};
+use bl_wire::watched::Watched;
 use bl_work::names::Names;
 use std::alloc::{AllocError, Global};
 use std::io::{BufRead, Write};

@@ -7,7 +7,7 @@ use Rattle.bl_policy.specs.declared.policy.AddFault.{AddFault}
 use Rattle.bl_policy.specs.declared.policy.AddFault.TheVariants as add
 use Rattle.bl_work.specs.Names.{KnownNames}
 use Rattle.bl_policy.specs.Policy.{SecurityPolicy}
-use Rattle.bl_setup.specs.Order.{Setup}
+use Rattle.bl_setup.specs.Setup.{Setup}
 
 pub same_setup : {n n' : KnownNames} {p p' : SecurityPolicy} {c c' : List (List ℕ)} → n ≡ n' → p ≡ p' → c ≡ c'
     → ◌≡◌ {A = Setup} (record { names = n; policy = p; contents = c }) (record { names = n'; policy = p'; contents = c' })

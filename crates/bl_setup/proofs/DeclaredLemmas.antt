@@ -4,7 +4,7 @@ use Rattle.std.proofs.lemmas.List.{append-nil}
 use Rattle.bl_level.specs.Level.{SecurityLevel}
 use Rattle.bl_level.specs.Scheme.{SchemeNames}
 use Rattle.bl_policy.specs.Policy.{Clearance}
-use Rattle.bl_setup.specs.Order.{Setup}
+use Rattle.bl_setup.specs.Setup.{Setup}
 use Rattle.bl_setup.specs.Agreement.{of_scheme}
 use Rattle.bl_setup.specs.Declaration.{Declaration, SubjectText, DocumentText, AllowText, ranks, categories, subject, document, allow}
 use Rattle.bl_setup.specs.Grammar.{AddsSubject, AddsDocument, AddsModes, Leads, IsSetup}

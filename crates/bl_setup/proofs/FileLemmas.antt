@@ -2,7 +2,7 @@
 use Rattle.std.proofs.Common.{◌≡◌, ℕ, ◌≤◌, List, [], ◌∷◌, length, refl, sym, subst, ◌∙◌}
 use Rattle.bl_level.specs.Lexing.{Begins}
 use Rattle.bl_level.specs.Scheme.{SchemeNames, IsScheme}
-use Rattle.bl_setup.specs.Order.{Setup}
+use Rattle.bl_setup.specs.Setup.{Setup}
 use Rattle.bl_setup.specs.Agreement.{of_scheme}
 use Rattle.bl_setup.specs.Declaration.{Declaration, ranks, categories, spell_declaration}
 use Rattle.bl_setup.specs.Grammar.{IsSetup, Spells, Leads}

@@ -10,7 +10,7 @@ use Rattle.bl_setup.specs.FirstFault.{SoFar, nothing, ranked, declared, IsDue, D
 use Rattle.bl_setup.specs.Grammar.{IsSetup, Adds, AddsSubject, AddsDocument, AddsModes, Leads, Spells}
 use Rattle.bl_setup.specs.Heads.{DeclaresRanks, DeclaresCategories}
 use Rattle.bl_setup.specs.Lines.{is_skipped, kept, lines_read, file_lines}
-use Rattle.bl_setup.specs.Order.{Setup}
+use Rattle.bl_setup.specs.Setup.{Setup}
 use Rattle.bl_setup.specs.declared.fault.SetupFault.{SetupFault}
 use Rattle.bl_setup.specs.declared.fault.SetupFaultKind.{SetupFaultKind}
 use Rattle.bl_setup.proofs.FaultLemmas.{fails_not, fails_one, hold_both, distinct_hold, level_holds}

@@ -7,7 +7,7 @@ use Rattle.bl_setup.specs.Faults.{UnlessMemory, OfSyntax}
 use Rattle.bl_setup.specs.FirstFault.{SoFar, nothing, IsDue, IsBegun, Declares, LeadTo, LineFault, FaultNext, ReadsNext, LeadOn, StopsAt, FirstFault, IsReadAt, asked}
 use Rattle.bl_setup.specs.Grammar.{IsSetup}
 use Rattle.bl_setup.specs.Lines.{is_skipped, file_lines, lines_of, lines_read, kept, without_cr}
-use Rattle.bl_setup.specs.Order.{Setup}
+use Rattle.bl_setup.specs.Setup.{Setup}
 use Rattle.bl_setup.specs.Taking.{AreSkipped, Skips, Takes, EndsEarly, Stops, Refuses}
 use Rattle.bl_setup.specs.declared.fault.SetupFault.{SetupFault}
 use Rattle.bl_setup.specs.declared.fault.SetupFaultKind.{SetupFaultKind}

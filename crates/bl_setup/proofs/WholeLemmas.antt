@@ -5,7 +5,7 @@ use Rattle.bl_level.specs.Token.{Tok, text}
 use Rattle.bl_level.specs.Name.{AreProper, IsProper}
 use Rattle.bl_level.specs.LevelText.{spell_level}
 use Rattle.bl_policy.specs.Policy.{with_modes}
-use Rattle.bl_setup.specs.Order.{Setup}
+use Rattle.bl_setup.specs.Setup.{Setup}
 use Rattle.bl_setup.specs.Declaration.{Declaration, SubjectText, DocumentText, AllowText, ranks, categories, subject, document, allow, spell_declaration, spell_document}
 use Rattle.bl_setup.specs.Grammar.{Adds, AddsSubject, AddsDocument, AddsModes, LineAdds, Leads, Spells}
 use Rattle.bl_setup.specs.Heads.{Remain}

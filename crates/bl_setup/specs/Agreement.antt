@@ -1,7 +1,7 @@
 -- That a setup is one whole, and the setup that a scheme alone is.
 use Rattle.std.specs.Prelude.{◌≡◌, [], length}
 use Rattle.bl_level.specs.Scheme.{SchemeNames}
-use Rattle.bl_setup.specs.Order.{Setup}
+use Rattle.bl_setup.specs.Setup.{Setup}
 use Rattle.bl_policy.specs.Policy.{no_policy}
 
 -- the policy and the contents are of the subjects and documents that have names

@@ -9,7 +9,7 @@ use Rattle.bl_setup.specs.Declaration.{Declaration, ranks, categories, subject, 
 use Rattle.bl_setup.specs.Grammar.{LineAdds, IsSetup}
 use Rattle.bl_setup.specs.Heads.{DeclaresRanks, DeclaresCategories}
 use Rattle.bl_setup.specs.Lines.{is_skipped, file_lines}
-use Rattle.bl_setup.specs.Order.{Setup}
+use Rattle.bl_setup.specs.Setup.{Setup}
 use Rattle.bl_setup.specs.declared.fault.SetupFault.{SetupFault}
 use Rattle.bl_setup.specs.declared.fault.SetupFaultKind.{SetupFaultKind}
 use Rattle.bl_setup.specs.declared.fault.SetupFaultKind.TheVariants.{Syntax, Unknown, Repeated, CurrentAboveGreatest, TooMany}

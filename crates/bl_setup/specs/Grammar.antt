@@ -11,7 +11,7 @@ use Rattle.bl_policy.specs.Mode.{has_mode}
 use Rattle.bl_policy.specs.Policy.{with_subject, with_document, with_modes}
 use Rattle.bl_setup.specs.Lines.{lines_read}
 use Rattle.bl_setup.specs.Declaration.{Declaration, SubjectText, DocumentText, AllowText, ranks, categories, subject, document, allow, spell_declaration}
-use Rattle.bl_setup.specs.Order.{Setup}
+use Rattle.bl_setup.specs.Setup.{Setup}
 use Rattle.bl_setup.specs.Agreement.{of_scheme}
 
 -- The subject's name is new, and there is room for it; its texts mean two levels, the greatest of which dominates the

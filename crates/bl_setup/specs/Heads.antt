@@ -3,7 +3,7 @@ use Rattle.std.specs.Prelude.{◌≡◌, ℕ, ◌≤◌, List, [], ◌∷◌, le
 use Rattle.bl_level.specs.Lexing.{Begins}
 use Rattle.bl_level.specs.Table.{IsTable}
 use Rattle.bl_level.specs.Scheme.{SchemeNames, IsScheme}
-use Rattle.bl_setup.specs.Order.{Setup}
+use Rattle.bl_setup.specs.Setup.{Setup}
 use Rattle.bl_setup.specs.Grammar.{Spells, Leads}
 use Rattle.bl_setup.specs.Declaration.{Declaration, ranks, categories, spell_declaration}
 

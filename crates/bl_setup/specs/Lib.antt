@@ -1,10 +1,4 @@
-pub mod Order
-pub mod Past
-pub mod Machine
-pub mod Laws
-pub mod Now
-pub mod Legal
-pub mod Headline
+pub mod Setup
 pub mod Lines
 pub mod Declaration
 pub mod Agreement

@@ -4,7 +4,7 @@ use Rattle.bl_level.specs.Level.{SecurityLevel, Dominates}
 use Rattle.bl_level.specs.Scheme.{SchemeNames}
 use Rattle.bl_level.specs.LevelText.{Means}
 use Rattle.bl_policy.specs.Policy.{Clearance}
-use Rattle.bl_setup.specs.Order.{Setup}
+use Rattle.bl_setup.specs.Setup.{Setup}
 use Rattle.bl_setup.specs.Declaration.{Declaration, SubjectText, DocumentText, ranks, categories, subject, document, allow}
 use Rattle.bl_setup.specs.Grammar.{Spells}
 use Rattle.bl_setup.specs.Lines.{lines_read}

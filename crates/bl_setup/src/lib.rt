@@ -1,10 +1,9 @@
-//! The setup file, and the definitions that everything above speaks in: the admission order and the machine over it.
+//! The setup file: what a run begins with.
 //!
 //!     reader        from the bytes of a setup file to a setup
 //!     setup         names, policy and contents, as they are at the start
 //!     declared      what a setup file declares, as whole lists
 //!     fault         why a file is refused
-//!     laws          what holds of the order and of the machine
 //!     lines, line   the lines that are read, and the declaration of each
 //!     parser, declaration   from tokens to a declaration
 //!     head, draft   the scheme, and a setup while it is read
@@ -15,11 +14,8 @@ pub mod declared;
 mod draft;
 pub mod fault;
 mod head;
-pub mod laws;
 mod line;
 mod lines;
 mod parser;
 pub mod reader;
 pub mod setup;
-#[cfg(test)]
-mod tests;

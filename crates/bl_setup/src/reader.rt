@@ -1,6 +1,6 @@
 //! Reads a setup file, line by line.
 ghost use Rattle.std.specs.Prelude.{◌≡◌, ◌<◌, ◌∷◌, [], MatchResult, OnOk, IfOk, IfErr};
-ghost use Rattle.bl_setup.specs.Order as order;
+ghost use Rattle.bl_setup.specs.Setup as setups;
 ghost use Rattle.bl_setup.specs.Agreement.{Agree, of_scheme};
 ghost use Rattle.bl_setup.specs.Draft.{setup_of};
 ghost use Rattle.bl_setup.specs.Faults.{UnlessMemory};
@@ -72,7 +72,7 @@ impl<'a> Lines<'a> {
     fn read_into(&mut self, alloc: Global, draft: &mut Draft) -> Result<(), SetupFault>
         requires { Agree (setup_of draft.old) }
         ensures ok { OnOk result (Remain (lines_read self.old.rest.now) (setup_of draft.old) (setup_of draft.new)) }
-        ensures only { OnOk result ((after : order.Setup) → Remain (lines_read self.old.rest.now) (setup_of draft.old) after → after ≡ setup_of draft.new) }
+        ensures only { OnOk result ((after : setups.Setup) → Remain (lines_read self.old.rest.now) (setup_of draft.old) after → after ≡ setup_of draft.new) }
         ensures agree { OnOk result (Agree (setup_of draft.new)) }
         ensures fault { IfErr result (λ fault. StopsAt (Stops fault.kind) (first.declared (setup_of draft.old)) self.old.number (file_lines self.old.rest.now) fault.line) }
     {
@@ -95,13 +95,13 @@ impl<'a> Lines<'a> {
 /// lines and one. A mode that is given twice is no fault. `Memory` comes with the line that was being read.
 pub fn read_setup(alloc: Global, bytes: &[u8]) -> Result<Setup, SetupFault>
     ensures setup { IfOk result (IsSetup bytes.now) }
-    ensures only { IfOk result (λ setup. (other : order.Setup) → IsSetup bytes.now other → other ≡ setup) }
+    ensures only { IfOk result (λ setup. (other : setups.Setup) → IsSetup bytes.now other → other ≡ setup) }
     // Any fault but want of memory is the first of the text.
     ensures first { IfErr result (λ fault. UnlessMemory fault.kind (FirstFault bytes.now fault)) }
     // Want of memory names a line that is read, and the lines before it are right.
     ensures memory { IfErr result (λ fault. fault.kind ≡ Memory → IsReadAt bytes.now fault.line) }
     // Any fault but want of memory means that the text is no setup.
-    ensures fault { IfErr result (λ fault. UnlessMemory fault.kind ((setup : order.Setup) → IsSetup bytes.now setup → ⊥)) }
+    ensures fault { IfErr result (λ fault. UnlessMemory fault.kind ((setup : setups.Setup) → IsSetup bytes.now setup → ⊥)) }
 {
     if bytes.len() > MOST_BYTES {
         return Err(SetupFault {

@@ -21,9 +21,9 @@ pub struct Setup {
 impl Model for Setup {
     ghost use Rattle.std.specs.Coded.{codes};
     ghost use Rattle.bl_policy.specs.Codes.{matrix_code};
-    ghost use Rattle.bl_setup.specs.Order as order;
+    ghost use Rattle.bl_setup.specs.Setup as setups;
 
-    ghost Value = { order.Setup };
+    ghost Value = { setups.Setup };
 
     ghost coded = { Prim.hlevel (codes, matrix_code) };
 

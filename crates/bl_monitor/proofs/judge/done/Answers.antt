@@ -2,7 +2,7 @@ use Rattle.std.proofs.Common.{[], ◌∙◌, ap, refl}
 use Rattle.bl_work.specs.declared.answer.Answer.TheVariants as answer
 use Rattle.bl_work.specs.Effects.{effects_of}
 use Rattle.bl_work.specs.Body.{statements_of}
-use Rattle.bl_setup.specs.Past.{lent}
+use Rattle.bl_order.specs.Past.{lent}
 use Rattle.bl_monitor.specs.Judging.{content_at}
 use Rattle.bl_monitor.specs.Running.{StandsAfter}
 use Rattle.bl_monitor.proofs.Changes.{stands_first, run_leaves}

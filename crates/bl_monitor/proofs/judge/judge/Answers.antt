@@ -1,5 +1,5 @@
 use Rattle.std.proofs.Common.{sym, subst}
-use Rattle.bl_setup.specs.Past.{first_task, child_task}
+use Rattle.bl_order.specs.Past.{first_task, child_task}
 use Rattle.bl_monitor.specs.Judging.{IsJudged}
 use Rattle.bl_monitor.proofs.judge.judge.Goals as goal
 

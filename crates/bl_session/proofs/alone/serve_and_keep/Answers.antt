@@ -2,11 +2,11 @@ use Rattle.std.proofs.Common.{◌≡◌, ◌∙◌, ◌<◌, ap, sym, subst, len
 use Rattle.std.specs.Arc.{arc_value}
 use Rattle.bl_work.specs.Names.{KnownNames}
 use Rattle.bl_setup.specs.Agreement.{Agree}
-use Rattle.bl_setup.specs.Order.{Setup}
+use Rattle.bl_setup.specs.Setup.{Setup}
 use Rattle.bl_monitor.specs.Heard.{Heard, KnowsWork}
-use Rattle.bl_session.specs.Turns.{AreServed}
-use Rattle.bl_session.specs.Orders.{told_text, AreLater}
-use Rattle.bl_session.specs.Entries.{order_of}
+use Rattle.bl_wire.specs.Turns.{AreServed}
+use Rattle.bl_wire.specs.Orders.{told_text, AreLater}
+use Rattle.bl_wire.specs.Entries.{order_of}
 use Rattle.bl_session.specs.Whole.{Came}
 use Rattle.bl_session.specs.Stages.{Finished, Stopped}
 use Rattle.bl_session.specs.Outcome.{IsServed, IsCutShort}

@@ -1,6 +1,6 @@
 use Rattle.std.proofs.Common.{◌≡◌, ◌≤◌, ◌<◌, ◌-◌, ℕ, length, false, slice_index_or}
-use Rattle.bl_session.specs.declared.label.Entered.{Entered}
-use Rattle.bl_session.specs.Replies.{is_before}
+use Rattle.bl_wire.specs.declared.label.Entered.{Entered}
+use Rattle.bl_wire.specs.Replies.{is_before}
 use Rattle.bl_session.proofs.block.rank.Given as goal
 
 abbrev pub invariant-loop-i : goal.invariant-loop-i

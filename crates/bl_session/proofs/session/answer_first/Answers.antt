@@ -1,5 +1,5 @@
 use Rattle.std.proofs.Common.{rules, ◌≡◌, None, inr, refl, arith, [], ◌∷◌}
-use Rattle.bl_session.specs.Turns.{greeted}
+use Rattle.bl_wire.specs.Turns.{greeted}
 use Rattle.bl_session.proofs.Outcomes.{on_ok-map, if_err-map, if_err-both}
 use Rattle.bl_session.proofs.Stages.{stage_start, stopped_greeting, refuses_after, closed_done, closed_failed, heard_whole}
 use Rattle.bl_session.proofs.session.answer_first.Goals as goal

@@ -1,5 +1,5 @@
 use Rattle.std.proofs.Common.{rules, ◌≡◌, ◌∙◌, arith, true, false}
-use Rattle.bl_session.specs.Turns.{is_skip}
+use Rattle.bl_wire.specs.Turns.{is_skip}
 use Rattle.bl_session.proofs.Stages.{unheard_more}
 use Rattle.bl_session.proofs.session.first_turn.Goals as goal
 

@@ -1,5 +1,5 @@
 use Rattle.std.proofs.Common.{◌≡◌, ◌∙◌, ap, sym}
-use Rattle.bl_session.specs.declared.lines.Next.TheVariants.{End}
+use Rattle.bl_wire.specs.declared.lines.Next.TheVariants.{End}
 use Rattle.bl_session.proofs.Cuttings.{cutting_line, cutting_end, broken_reading, broken_memory, goes_on}
 use Rattle.bl_session.proofs.session.next_turn.Goals as goal
 use Rattle.bl_session.proofs.session.next_turn.Goals.{in-Last, in-Whole}

@@ -1,5 +1,5 @@
 use Rattle.std.proofs.Common.{sym, refl, append-nil, arith}
-use Rattle.bl_session.specs.declared.turn.Turn.TheVariants.{Skip, Greets, Bad, Ask}
+use Rattle.bl_wire.specs.declared.turn.Turn.TheVariants.{Skip, Greets, Bad, Ask}
 use Rattle.bl_session.proofs.Texts.{same_refl}
 use Rattle.bl_session.proofs.Steps.{quiet, waited, told-same, told-ask, all_not_taken, all_not_kept, all_wait_failed}
 use Rattle.bl_session.proofs.session.take_turn.Goals as goal

@@ -1,5 +1,5 @@
 use Rattle.std.proofs.Common.{◌≡◌, ◌≤◌, ◌<◌, ◌-◌, ◌+◌, ℕ, length, slice_index_or}
-use Rattle.bl_session.specs.declared.label.Entered.{Entered}
+use Rattle.bl_wire.specs.declared.label.Entered.{Entered}
 use Rattle.bl_session.proofs.block.Block.line.Given as goal
 
 abbrev pub invariant-lines : goal.invariant-lines

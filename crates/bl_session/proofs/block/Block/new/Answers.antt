@@ -1,9 +1,9 @@
 use Rattle.std.proofs.Common.{◌≡◌, ◌∙◌, ℕ, suc, ◌+◌, ◌-◌, ◌<◌, ◌≤◌, ◌++◌, ◌∷◌, [], All, List, length, length-append, length-set, take, drop, slice_index_or, slice_set, ap, sym, subst, arith, add-one, true, false, Vec, vec_len}
 use Rattle.std.specs.Global.{Global}
 use Rattle.std.proofs.lemmas.List.{get_or_default}
-use Rattle.bl_setup.specs.Order.{Setup}
-use Rattle.bl_session.specs.declared.label.Entered.{Entered}
-use Rattle.bl_session.specs.Replies.{is_before}
+use Rattle.bl_setup.specs.Setup.{Setup}
+use Rattle.bl_wire.specs.declared.label.Entered.{Entered}
+use Rattle.bl_wire.specs.Replies.{is_before}
 use Rattle.bl_session.specs.Blocks.{IsBlock, SplitsAt, StandsUnder, AreUnder, AreKin}
 use Rattle.bl_session.proofs.BlockLaws.{empty_more, row_within, under_start, under_step, kin_start, kin_step}
 use Rattle.bl_session.proofs.block.Block.new.Goals as goal

@@ -1,6 +1,6 @@
 use Rattle.std.proofs.Common.{◌≡◌, ◌<◌, ◌-◌, ◌+◌, ℕ, [], length, slice_index_or, Vec}
 use Rattle.std.specs.Global.{Global}
-use Rattle.bl_setup.specs.Order.{Setup}
+use Rattle.bl_setup.specs.Setup.{Setup}
 use Rattle.bl_session.specs.Blocks.{SplitsAt, AreUnder, AreKin}
 use Rattle.bl_session.proofs.block.Block.new.Given as goal
 

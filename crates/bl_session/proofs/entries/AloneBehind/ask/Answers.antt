@@ -1,6 +1,6 @@
 use Rattle.std.proofs.Common.{rules, ◌≡◌, ◌∙◌, ◌<◌, ◌≤◌, ◌+◌, ◌++◌, ◌∷◌, [], ap, length, arith, Some}
 use Rattle.std.specs.Arc.{arc_value}
-use Rattle.bl_setup.specs.Machine.{weight_of}
+use Rattle.bl_order.specs.Machine.{weight_of}
 use Rattle.bl_session.proofs.AskLaws.{asked_whole, asked_came, asked_settled, refused_came}
 use Rattle.bl_session.proofs.entries.AloneBehind.ask.Goals as goal
 

@@ -1,5 +1,5 @@
 use Rattle.std.proofs.Common.{length}
-use Rattle.bl_setup.specs.Order as order
+use Rattle.bl_setup.specs.Setup as setups
 use Rattle.bl_setup.specs.Agreement.{Agree}
 use Rattle.bl_setup.specs.Draft.{setup_of}
 use Rattle.bl_setup.specs.Heads.{Remain}
@@ -10,8 +10,8 @@ use Rattle.bl_setup.proofs.lines.Lines.read_into.Given as goal
 abbrev pub invariant-loop-line : goal.invariant-loop-line
 invariant-loop-line l = record {
   agree : Agree (setup_of l.draft);
-  there : (after : order.Setup) → Remain (lines_read l.self.rest.now) (setup_of l.draft) after → Remain (lines_read l.fn.self.rest.now) (setup_of l.fn.draft) after;
-  back : (after : order.Setup) → Remain (lines_read l.fn.self.rest.now) (setup_of l.fn.draft) after → Remain (lines_read l.self.rest.now) (setup_of l.draft) after;
+  there : (after : setups.Setup) → Remain (lines_read l.self.rest.now) (setup_of l.draft) after → Remain (lines_read l.fn.self.rest.now) (setup_of l.fn.draft) after;
+  back : (after : setups.Setup) → Remain (lines_read l.fn.self.rest.now) (setup_of l.fn.draft) after → Remain (lines_read l.self.rest.now) (setup_of l.draft) after;
   leads : LeadOn (declared (setup_of l.fn.draft)) l.fn.self.number (file_lines l.fn.self.rest.now) (declared (setup_of l.draft)) l.self.number (file_lines l.self.rest.now);
 }
 

@@ -1,0 +1,137 @@
+//! The command line.
+ghost use Rattle.std.specs.Prelude.{◌≡◌, ◌≢◌, ◌≤◌, ◌⊎◌, false, map, string_bytes, IfOk, IfErr, IfSome};
+ghost use Rattle.clap.specs.Words.{kind_of, rule_of, app_of};
+ghost use Rattle.clap.specs.declared.builder.command.Command.TheViews.{out-Command as fields_of};
+ghost use Rattle.bl_command.specs.CommandLine.{setup_rule, limit_rule, alone_app, server_app};
+ghost use Rattle.bl_command.specs.Words.{IsInRange, HasNumber, IsOf, Name};
+
+use clap::error::ErrorKind;
+use clap::{Arg, ArgAction, ArgMatches, Command as Parser, Error, value_parser};
+use std::alloc::{AllocError, Global};
+
+/// A command of the program, with its options.
+#[derive(Debug, Drop)]
+pub enum Command<'a> {
+    /// One session on standard input and output.
+    Alone {
+        /// The name of the setup file.
+        setup: &'a str,
+        /// The weight of the lines that are admitted at most, 1 to 100,000.
+        limit: u32,
+    },
+}
+
+/// The weight of the lines that may be admitted in one run, at most.
+const MOST_LIMIT: u32 = 100_000;
+
+fn setup_option<'a>(alloc: Global) -> Arg<'a>
+    ensures rule { rule_of result ≡ setup_rule }
+    ensures own { result.global ≡ false }
+{
+    Arg::new(alloc, "setup")
+        .long("setup")
+        .required(true)
+        .action(ArgAction::Set)
+        .help("The setup file")
+}
+
+fn limit_option<'a>(alloc: Global) -> Arg<'a>
+    ensures rule { rule_of result ≡ limit_rule }
+    ensures own { result.global ≡ false }
+{
+    Arg::new(alloc, "limit")
+        .long("limit")
+        .action(ArgAction::Set)
+        .value_parser(value_parser!(u32).range(1..=100_000))
+        .default_value("10000")
+        .help("The weight of the lines that are admitted, 1 to 100000")
+}
+
+fn alone_parser<'a>(alloc: Global) -> Result<Parser<'a>, AllocError>
+    ensures app { IfOk result (λ parser. app_of parser ≡ alone_app) }
+    ensures own { IfOk result (λ parser. (fields_of parser).has_globals ≡ false) }
+{
+    Parser::new(alloc, "alone")
+        .about("One session on standard input and output")
+        .arg(setup_option(alloc))?
+        .arg(limit_option(alloc))
+}
+
+fn parser<'a>(alloc: Global) -> Result<Parser<'a>, AllocError>
+    ensures { IfOk result (λ parser. app_of parser ≡ server_app) }
+{
+    Parser::new(alloc, "bl_server")
+        .about("A document server that enforces Bell and La Padula")
+        .subcommand_required(true)
+        .subcommand(alone_parser(alloc)?)
+}
+
+/// The number of an option, where it is 1 to `most`.
+fn number(found: &ArgMatches<'_>, name: &str, most: u32) -> Option<u32>
+    ensures range { IfSome result (λ n. (1 ≤ n) × (n ≤ most)) }
+    ensures written { IfSome result (HasNumber found.now name.now) }
+{
+    let number = found.get_one::<u32>(name)?;
+    if number < 1 || number > most {
+        return None;
+    }
+    Some(number)
+}
+
+/// The command that the matches name, where they are matches of `parser`.
+fn command_of<'a>(found: &ArgMatches<'a>) -> Option<Command<'a>>
+    ensures range { IfSome result IsInRange }
+    ensures written { IfSome result (IsOf found.now) }
+{
+    let (name, options) = found.subcommand()?;
+    match name {
+        "alone" => {
+            let setup = options.get_str("setup")?;
+            let limit = number(options, "limit", MOST_LIMIT)?;
+            Some(Command::Alone { setup, limit })
+        }
+        _ => None,
+    }
+}
+
+/// Reads the words of a command line, of which the first is the program's name. The error's text
+/// is for whoever gave the words; a call for help is an error too.
+pub fn parse_words<'a>(alloc: Global, words: &'a [String]) -> Result<Command<'a>, Error>
+    ensures range { IfOk result IsInRange }
+    ensures written { IfOk result (Name (map (λ word. string_bytes word) words.entry.now)) }
+{
+    let matches = parser(alloc)?.try_get_matches_from(words)?;
+    match command_of(&matches) {
+        Some(command) => Ok(command),
+        None => Err(parser(alloc)?.error(ErrorKind::InvalidValue, "no such command")?),
+    }
+}
+
+/// The status of a run that ends with this error: 4 for want of memory, 0 for a call for help or for
+/// the version, and 2 for anything else.
+pub fn status_of(error: &Error) -> u8
+    ensures status { (result ≡ 0) ⊎ ((result ≡ 2) ⊎ (result ≡ 4)) }
+    ensures memory { kind_of error.now ≡ ErrorKind.OutOfMemory → result ≡ 4 }
+    ensures help { (kind_of error.now ≡ ErrorKind.DisplayHelp) ⊎ (kind_of error.now ≡ ErrorKind.DisplayVersion) → result ≡ 0 }
+    ensures bad { kind_of error.now ≢ ErrorKind.OutOfMemory → kind_of error.now ≢ ErrorKind.DisplayHelp →
+        kind_of error.now ≢ ErrorKind.DisplayVersion → result ≡ 2 }
+{
+    match error.kind() {
+        ErrorKind::OutOfMemory => 4,
+        ErrorKind::DisplayHelp | ErrorKind::DisplayVersion => 0,
+        _ => 2,
+    }
+}
+
+/// Reads the words of a command line, of which the first is the program's name, or gives the
+/// status of the run.
+pub fn read_words<'a>(alloc: Global, words: &'a [String]) -> Result<Command<'a>, u8>
+    ensures ok { IfOk result IsInRange }
+    ensures written { IfOk result (Name (map (λ word. string_bytes word) words.entry.now)) }
+    ensures err { IfErr result (λ status. (status ≡ 0) ⊎ ((status ≡ 2) ⊎ (status ≡ 4))) }
+{
+    match parse_words(alloc, words) {
+        Ok(command) => Ok(command),
+        Err(error) => Err(status_of(&error)),
+    }
+}

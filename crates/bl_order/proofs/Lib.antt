@@ -1,0 +1,14 @@
+mod Base
+mod Rows
+pub mod Conflicts
+pub mod Places
+pub mod Sound
+pub mod StateLaws
+pub mod Frame
+pub mod Steps
+pub mod Trails
+pub mod Lawful
+pub mod Secure
+pub mod HeadlineProof
+pub mod PlaceLaws
+pub mod Present

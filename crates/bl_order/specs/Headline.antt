@@ -1,0 +1,64 @@
+-- What holds of every state that a trail leads to.
+use Rattle.std.specs.Prelude.{◌≡◌, ℕ, ◌<◌, ◌≤◌, Bool, false, IsTrue, ◌⊎◌, List, length, All, if◌then◌else◌}
+use Rattle.bl_policy.specs.Properties.{IsSecure}
+use Rattle.bl_work.specs.declared.work.Work.{Work}
+use Rattle.bl_work.specs.Effects.{after}
+use Rattle.bl_setup.specs.Setup.{Setup}
+use Rattle.bl_order.specs.Order.{accesses_of, is_altered, is_declared}
+use Rattle.bl_order.specs.Past.{changed}
+use Rattle.bl_order.specs.Machine.{State, Event, Opens, Admits, Starts, Ends, Loses, Hold, past_at, is_lost, has_ended, runs, MayStart, Needs, IsTrail, change, start, state_after, held}
+use Rattle.bl_order.specs.Now.{policy_at, policy_now, content_at, content_now, IsFirstToAlter}
+use Rattle.bl_order.specs.Legal.{IsLegal}
+
+-- some trail leads to the state
+pub record IsReached (knows : Work → Bool) (x : State) : Type 0 where
+  pub setup : Setup
+  pub limit : ℕ
+  pub events : List Event
+  pub trail : IsTrail knows (start setup limit) events
+  pub leads : x ≡ state_after (start setup limit) events
+
+-- The headline, of a state: what is held is secure, places find the policy and the contents of their place, nothing is stuck, and
+-- what has ended stays as it is.
+pub record Holds (knows : Work → Bool) (x : State) : Type 0 where
+  -- Bell and La Padula 1976: every access that is held has the three properties, under the policy now
+  pub secure : All (λ (h : Hold). IsSecure (policy_now x) h.subject h.doc h.mode) (held x)
+  -- the policy now is the policy at each running place, and at each that may start
+  pub at_running : (n : ℕ) → n < length x.order → IsTrue (runs x n) → policy_now x ≡ policy_at x n
+  pub at_ready : (n : ℕ) → MayStart x n → policy_now x ≡ policy_at x n
+  -- a place that may start finds of each document that it declares the content at that place
+  pub content_at_ready : (n doc : ℕ) → MayStart x n → IsTrue (is_declared (accesses_of (past_at x n).task) doc)
+      → content_now x doc ≡ content_at x doc n
+  -- the content now is the content at the first place that is still to alter it
+  pub content_at_first : (doc m : ℕ) → IsFirstToAlter x doc m → content_now x doc ≡ content_at x doc m
+  -- where a place has not ended, one at or before it runs or may start
+  pub not_stuck : (n : ℕ) → n < length x.order → has_ended x n ≡ false → (m : ℕ) × (m ≤ n) × (IsTrue (runs x m) ⊎ MayStart x m)
+  -- no event changes what is said of a place that has ended
+  pub for_good : (event : Event) → Needs knows x event → (n : ℕ) → n < length x.order → IsTrue (has_ended x n)
+      → past_at (change x event) n ≡ past_at x n
+  -- the order is legal
+  pub legal : IsLegal x.setup (is_lost x) x.order
+
+-- how the policy and the contents now move with each event
+pub record MovesOn (knows : Work → Bool) (x : State) : Type 0 where
+  -- a start changes the policy as its place's answer says, and no content
+  pub start_policy : (n : ℕ) → MayStart x n
+      → policy_now (change x (Starts n)) ≡ changed (past_at x n).answer (past_at x n).task (past_at x n).subject (policy_now x)
+  pub start_content : (n doc : ℕ) → MayStart x n → content_now (change x (Starts n)) doc ≡ content_now x doc
+  -- an end changes no policy, and by the place's effects each document that it declares append or write
+  pub end_policy : (n : ℕ) → IsTrue (runs x n) → policy_now (change x (Ends n)) ≡ policy_now x
+  pub end_content : (n doc : ℕ) → IsTrue (runs x n)
+      → content_now (change x (Ends n)) doc
+      ≡ (if is_altered (accesses_of (past_at x n).task) doc
+      then after (content_now x doc) (past_at x n).effects doc
+      else content_now x doc)
+  -- a loss, a line and an opening change neither
+  pub loss_policy : (n : ℕ) → Needs knows x (Loses n) → policy_now (change x (Loses n)) ≡ policy_now x
+  pub loss_content : (n doc : ℕ) → Needs knows x (Loses n) → content_now (change x (Loses n)) doc ≡ content_now x doc
+  pub line_policy : (session ordinal : ℕ) (work : Work) → Needs knows x (Admits session ordinal work)
+      → policy_now (change x (Admits session ordinal work)) ≡ policy_now x
+  pub line_content : (session ordinal : ℕ) (work : Work) (doc : ℕ) → Needs knows x (Admits session ordinal work)
+      → content_now (change x (Admits session ordinal work)) doc ≡ content_now x doc
+  pub opening_policy : (subject : ℕ) → Needs knows x (Opens subject) → policy_now (change x (Opens subject)) ≡ policy_now x
+  pub opening_content : (subject doc : ℕ) → Needs knows x (Opens subject)
+      → content_now (change x (Opens subject)) doc ≡ content_now x doc

@@ -1,0 +1,92 @@
+-- What is said of places, in the words of their answers, contents and children.
+use Rattle.std.specs.Prelude.{◌≡◌, ℕ, suc, ◌-◌, ◌<◌, ◌≤◌, Bool, true, false, ◌&&◌, List, [], ◌++◌, length, slice_index_or, Option, Some, None, slice_get}
+use Rattle.bl_policy.specs.RuleEffect.{rule_makes, after_rule}
+use Rattle.bl_policy.specs.declared.denial.Denial.{Denial}
+use Rattle.bl_policy.specs.declared.rule.Rule.{Rule}
+use Rattle.bl_work.specs.Effects.{after, children}
+use Rattle.bl_work.specs.declared.answer.Answer.TheVariants.{RuleDone, Denied, Lost}
+use Rattle.bl_setup.specs.Setup.{Setup}
+use Rattle.bl_order.specs.Order.{Entry, Task, Applies, is_rule, is_altered, accesses_of, conflict, Child}
+use Rattle.bl_order.specs.Past.{place, policy_before, content_before, is_done, child_task, deeds, fault_of_task, granted}
+
+-- the places of an order keep their records where more entries come
+abbrev pub KeepsPlaces : Setup → (ℕ → Bool) → List Entry → List Entry → Type 0
+KeepsPlaces setup lost order more = (n : ℕ) → n < length order → place setup lost (order ++ more) n ≡ place setup lost order n
+
+-- what is said of a place is the same for two sets of lost places that agree up to it
+abbrev pub RestsOnLossesBefore : Setup → List Entry → ℕ → Type 0
+RestsOnLossesBefore setup order n =
+    (lost others : ℕ → Bool) → ((k : ℕ) → k ≤ n → lost k ≡ others k) → place setup lost order n ≡ place setup others order n
+
+module _ (setup : Setup) (lost : ℕ → Bool) (order : List Entry) where
+  -- what the policy at a place has against what it does
+  abbrev pub fault_at : ℕ → Option Denial
+  fault_at n = fault_of_task (policy_before setup lost order n) (place setup lost order n).subject (place setup lost order n).task
+
+  -- the place ran, and it declares the document append or write
+  abbrev pub wrote : ℕ → ℕ → Bool
+  wrote doc n = is_done (place setup lost order n).answer && is_altered (accesses_of (place setup lost order n).task) doc
+
+-- A lost place answers so; another is denied with what the policy at its place has against it, or granted where that is
+-- nothing. What ran did its deeds on the contents at its place, and what did not run did nothing.
+pub record IsAnswered (setup : Setup) (lost : ℕ → Bool) (order : List Entry) (n : ℕ) : Type 0 where
+  pub gone : lost n ≡ true → (place setup lost order n).answer ≡ Lost
+  pub refused : (denial : Denial) → lost n ≡ false → fault_at setup lost order n ≡ Some denial
+      → (place setup lost order n).answer ≡ Denied denial
+  pub let_run : lost n ≡ false → fault_at setup lost order n ≡ None
+      → (place setup lost order n).answer
+      ≡ granted (place setup lost order n).task (deeds (place setup lost order n).task (λ doc. content_before setup lost order doc n))
+  pub deeds_done : is_done (place setup lost order n).answer ≡ true
+      → (place setup lost order n).effects ≡ deeds (place setup lost order n).task (λ doc. content_before setup lost order doc n)
+  pub nothing_done : is_done (place setup lost order n).answer ≡ false → (place setup lost order n).effects ≡ []
+
+-- The content at a place is the setup's where no place before it wrote the document; otherwise the last place that did has
+-- changed what stood there at its own place.
+pub record LooksBack (setup : Setup) (lost : ℕ → Bool) (order : List Entry) (doc n : ℕ) : Type 0 where
+  pub untouched : ((k : ℕ) → k < n → wrote setup lost order doc k ≡ false)
+      → content_before setup lost order doc n ≡ slice_index_or setup.contents doc []
+  pub last : (m : ℕ) → m < n → wrote setup lost order doc m ≡ true → ((k : ℕ) → m < k → k < n → wrote setup lost order doc k ≡ false)
+      → content_before setup lost order doc n
+      ≡ after (content_before setup lost order doc m) (place setup lost order m).effects doc
+
+-- How the policy goes on from place to place: a rule changes it as rules do, one that is done makes its change, and what is
+-- refused, lost or no rule changes nothing.
+pub record RulesMakeThePolicy (setup : Setup) (lost : ℕ → Bool) (order : List Entry) (n : ℕ) : Type 0 where
+  pub at_first : policy_before setup lost order 0 ≡ setup.policy
+  pub by_a_rule : (rule : Rule) → (place setup lost order n).task ≡ Applies rule → lost n ≡ false
+      → policy_before setup lost order (suc n) ≡ after_rule (policy_before setup lost order n) (place setup lost order n).subject rule
+  pub by_one_that_is_done : (rule : Rule) → (place setup lost order n).task ≡ Applies rule → (place setup lost order n).answer ≡ RuleDone
+      → policy_before setup lost order (suc n) ≡ rule_makes (policy_before setup lost order n) (place setup lost order n).subject rule
+  pub by_none_refused : (denial : Denial) → (place setup lost order n).answer ≡ Denied denial
+      → policy_before setup lost order (suc n) ≡ policy_before setup lost order n
+  pub by_none_lost : lost n ≡ true → policy_before setup lost order (suc n) ≡ policy_before setup lost order n
+  pub by_no_behaviour : is_rule (place setup lost order n).task ≡ false
+      → policy_before setup lost order (suc n) ≡ policy_before setup lost order n
+
+-- a rule conflicts with every task, before it and behind it
+abbrev pub RulesStandAlone : Type 0
+RulesStandAlone = (rule task : Task) → is_rule rule ≡ true → (conflict rule task ≡ true) × (conflict task rule ≡ true)
+
+-- where no rule stands before a place, the policy there is the setup's
+abbrev pub LeavesThePolicy : Setup → (ℕ → Bool) → List Entry → ℕ → Type 0
+LeavesThePolicy setup lost order n =
+    ((k : ℕ) → k < n → is_rule (place setup lost order k).task ≡ false) → policy_before setup lost order n ≡ setup.policy
+
+-- a child speaks for its parent's subject, and runs the behaviour that its parent's spawn of its number named
+pub record FollowsItsParent (setup : Setup) (lost : ℕ → Bool) (order : List Entry) (n parent which : ℕ) : Type 0 where
+  pub subject : (place setup lost order n).subject ≡ (place setup lost order parent).subject
+  pub task : (place setup lost order n).task
+      ≡ child_task (place setup lost order parent).task (slice_index_or (children (place setup lost order parent).effects) (which - 1) 0)
+
+-- A set of ended places is closed: where a place has ended, so has each earlier one that it conflicts with, and each child
+-- stands behind its parent, which has ended.
+pub record IsClosed (setup : Setup) (lost : ℕ → Bool) (order : List Entry) (ended : ℕ → Bool) : Type 0 where
+  pub conflicts : (m n : ℕ) → m < n → n < length order → ended n ≡ true
+      → conflict (place setup lost order m).task (place setup lost order n).task ≡ true → ended m ≡ true
+  pub parents : (n parent which : ℕ) → slice_get order n ≡ Some (Child parent which) → (parent < n) × (ended parent ≡ true)
+
+-- what is said of ended places rests on which of them are lost, and not on what becomes of the others
+abbrev pub RestsOnEnded : Setup → List Entry → (ℕ → Bool) → (ℕ → Bool) → Type 0
+RestsOnEnded setup order ended lost =
+    (others : ℕ → Bool) → ((k : ℕ) → ended k ≡ true → lost k ≡ others k)
+    → (n : ℕ) → n < length order → ended n ≡ true → place setup lost order n ≡ place setup others order n

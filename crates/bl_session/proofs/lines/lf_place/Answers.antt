@@ -1,5 +1,0 @@
-use Rattle.bl_session.proofs.Parts.{first_lf}
-use Rattle.bl_session.proofs.lines.lf_place.Goals as goal
-
-pub returns : goal.returns
-returns c = first_lf c.args.bytes.now c.memchr.result c.memchr.ensures

@@ -1,0 +1,75 @@
+//! The setup of the worked examples, and sessions over it.
+use crate::alone::serve_alone;
+use bl_wire::watched::Watched;
+use bl_setup::reader::read_setup;
+use bl_setup::setup::Setup;
+use std::alloc::Global;
+use std::test::Fail;
+
+/// The behaviour that reads the memo and shows it.
+pub const SHOW_MEMO: &str = "when read memo do show memo; end";
+
+/// The base setup up to the content of the note.
+const BEFORE_NOTE: &str = "ranks u c s t\n\
+categories nato crypto\n\
+subject ann greatest s{nato} current s{nato}\n\
+subject bob greatest s{nato} current u\n\
+subject cat greatest s{crypto} current s{crypto}\n\
+subject root greatest t{nato,crypto} current u trusted admin\n\
+document memo s{nato} \"m1\"\n\
+document note u \"";
+
+/// The base setup behind the content of the note.
+const BEHIND_NOTE: &str = "\"\n\
+document log t{nato,crypto} \"\"\n\
+allow ann memo r w\n\
+allow ann note r w\n\
+allow ann log r a\n\
+allow bob memo r w a\n\
+allow bob note r w\n\
+allow cat memo r\n\
+allow root note r w\n";
+
+/// The bytes of some texts, one behind the other.
+pub fn joined(alloc: Global, texts: &[&str]) -> Result<Vec<u8>, Fail> {
+    let mut bytes = Vec::new(alloc);
+    for text in texts {
+        bytes.extend_from_slice(text.as_bytes())?;
+    }
+    Ok(bytes)
+}
+
+/// The base setup, with this content of the note.
+pub fn setup_with(alloc: Global, note: &str) -> Result<Setup, Fail> {
+    let text = joined(alloc, [BEFORE_NOTE, note, BEHIND_NOTE].as_slice())?;
+    Ok(read_setup(alloc, &text)?)
+}
+
+/// The base setup.
+pub fn base(alloc: Global) -> Result<Setup, Fail> {
+    setup_with(alloc, "n1")
+}
+
+/// Serves the input over a setup. The bytes that were written, and how many were left unread.
+pub fn served(
+    alloc: Global,
+    setup: Setup,
+    limit: u32,
+    input: &[u8],
+) -> Result<(Vec<u8>, usize), Fail> {
+    let mut reader = Watched::new(input);
+    let mut writer = Watched::new(Vec::new(alloc));
+    serve_alone(alloc, setup, limit, &mut reader, &mut writer)?;
+    Ok((writer.inner, reader.inner.len()))
+}
+
+/// What is written to this input over the base setup, under a limit.
+pub fn said_under(alloc: Global, limit: u32, input: &[u8]) -> Result<String, Fail> {
+    let (written, _) = served(alloc, base(alloc)?, limit, input)?;
+    Ok(String::from_utf8(written)?)
+}
+
+/// What is written to this input over the base setup.
+pub fn said(alloc: Global, input: &str) -> Result<String, Fail> {
+    said_under(alloc, 10_000, input.as_bytes())
+}

@@ -1,8 +1,0 @@
-use Rattle.bl_setup.proofs.PlaceLaws.{subject-child, task-child}
-use Rattle.bl_setup.proofs.laws.children_follow_their_parent.Goals as goal
-
-pub returns : goal.returns
-returns c setup lost order n parent which lt stands = record {
-  subject = subject-child setup lost order n parent which lt stands;
-  task = task-child setup lost order n parent which lt stands;
-}

@@ -1,5 +1,0 @@
-use Rattle.bl_setup.proofs.Present.{moves_on-reached}
-use Rattle.bl_setup.proofs.laws.events_move_the_present.Goals as goal
-
-pub returns : goal.returns
-returns c = moves_on-reached

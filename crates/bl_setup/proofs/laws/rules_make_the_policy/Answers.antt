@@ -1,5 +1,0 @@
-use Rattle.bl_setup.proofs.PlaceLaws.{rules-make}
-use Rattle.bl_setup.proofs.laws.rules_make_the_policy.Goals as goal
-
-pub returns : goal.returns
-returns c = rules-make

@@ -1,0 +1,4 @@
+pub mod Parts
+pub mod HeldLines
+pub mod TurnLaws
+pub mod WordLaws

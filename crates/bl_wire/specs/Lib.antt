@@ -1,0 +1,12 @@
+pub mod Lines
+pub mod Look
+pub mod Holds
+pub mod Reads
+pub mod Turns
+pub mod Told
+pub mod Texts
+pub mod Spoken
+pub mod Replies
+pub mod Named
+pub mod Orders
+pub mod Entries

@@ -1,0 +1,28 @@
+//! Why a session ends early.
+ghost use Rattle.std.specs.Prelude.{◌≡◌};
+ghost use Rattle.bl_wire.specs.declared.fault.SessionFault.TheVariants.{Memory};
+
+use std::alloc::AllocError;
+
+/// What ended a session before its input did.
+#[derive(Clone, Copy, Debug, PartialEq, Eq)]
+pub enum SessionFault {
+    /// The reader failed.
+    Read,
+    /// The writer failed, or took nothing.
+    Write,
+    /// The session read as many bytes as it may, and another one is there.
+    TooLong,
+    /// Memory was refused.
+    Memory,
+    /// Somebody else spoke for this session.
+    Clash,
+}
+
+impl From<AllocError> for SessionFault {
+    ghost from_gives = { λ _ fault. fault ≡ Memory };
+
+    fn from(_: AllocError) -> SessionFault {
+        SessionFault::Memory
+    }
+}

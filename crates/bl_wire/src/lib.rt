@@ -1,0 +1,22 @@
+//! What goes between a client and a session: lines cut from a reader's bytes, and the texts of replies.
+//!
+//!     watched    readers and writers that remember whether they failed
+//!     fault      why a session ends early
+//!     lines      cuts a reader's bytes into lines
+//!     held       a line while it comes
+//!     turn       what a line is to a session
+//!     label      entries with their labels
+//!     words      the texts of answers
+//!     reply      the texts of refusals
+//!     put        writes the whole of some bytes
+#![tactic(auto)]
+
+pub mod fault;
+pub mod held;
+pub mod label;
+pub mod lines;
+pub mod put;
+pub mod reply;
+pub mod turn;
+pub mod watched;
+pub mod words;
