@@ -14,8 +14,8 @@ use Rattle.bl_monitor.specs.Heard.{Heard, place_at, answer_at, children_of, with
 use Rattle.bl_monitor.specs.Heard as heard
 use Rattle.bl_wire.specs.declared.label.Origin.{Origin}
 use Rattle.bl_wire.specs.declared.label.Origin.TheVariants as origin
-use Rattle.bl_wire.specs.Orders.{said}
-use Rattle.bl_wire.specs.Entries.{entry_from, told_of, unnamed, AreAnswered}
+use Rattle.bl_session.specs.Orders.{said}
+use Rattle.bl_session.specs.Entries.{entry_from, told_of, unnamed, AreAnswered}
 use Rattle.bl_session.proofs.OrderLaws.{said-grown}
 
 -- ---- sessions and ordinals bear on no answer

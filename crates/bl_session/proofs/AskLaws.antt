@@ -12,10 +12,10 @@ use Rattle.bl_monitor.specs.Heard.{KnowsWork}
 use Rattle.bl_wire.specs.declared.label.Origin.TheVariants as origin
 use Rattle.bl_wire.specs.declared.label.Entered.{Entered}
 use Rattle.bl_session.specs.declared.entries.Pages.{Pages}
-use Rattle.bl_wire.specs.Told.{Told, Opens, Admits, SameUpTo}
+use Rattle.bl_session.specs.Told.{Told, Opens, Admits, SameUpTo}
 use Rattle.bl_session.specs.One.{events_of}
-use Rattle.bl_wire.specs.Orders.{told_text, AreLater, Mirrors}
-use Rattle.bl_wire.specs.Entries.{entry_from, entry_of, order_of, is_line, KnowsOrigin, Each, AreLabelled, AreAnswered}
+use Rattle.bl_session.specs.Orders.{told_text, AreLater, Mirrors}
+use Rattle.bl_session.specs.Entries.{entry_from, entry_of, order_of, is_line, KnowsOrigin, Each, AreLabelled, AreAnswered}
 use Rattle.bl_session.specs.Whole.{AreKnown, IsWhole, Came}
 use Rattle.bl_session.proofs.OrderLaws.{later-line, text-later}
 use Rattle.bl_session.proofs.EntryLaws.{length-order, order-more, longer_by_one, each_more, labelled_line}

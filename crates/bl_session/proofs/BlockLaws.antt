@@ -12,8 +12,8 @@ use Rattle.bl_setup.specs.Setup.{Setup}
 use Rattle.bl_order.specs.Order.{Entry}
 use Rattle.bl_wire.specs.declared.label.Entered.{Entered}
 use Rattle.bl_wire.specs.Replies.{Tag, Reply, tag, is_of, is_before, put_in, replies_to}
-use Rattle.bl_wire.specs.Orders.{reply_at, at_rest, ordinal_of}
-use Rattle.bl_wire.specs.Entries.{order_of, StandsBelow, AreLabelled}
+use Rattle.bl_session.specs.Orders.{reply_at, at_rest, ordinal_of}
+use Rattle.bl_session.specs.Entries.{order_of, StandsBelow, AreLabelled}
 use Rattle.bl_session.specs.Blocks.{IsBlock, AreKin, SplitsAt, StandsUnder, AreUnder}
 use Rattle.bl_session.proofs.OrderLaws.{replies-other, not_of}
 use Rattle.bl_wire.proofs.WordLaws.{no_before}

@@ -14,7 +14,7 @@ use Rattle.bl_wire.specs.declared.fault.SessionFault.{SessionFault}
 use Rattle.bl_wire.specs.declared.fault.SessionFault.TheVariants.{Read, Write, TooLong, Memory, Clash}
 use Rattle.bl_wire.specs.declared.turn.Turn.{Turn}
 use Rattle.bl_wire.specs.Turns.{IsTurn, AreTurns}
-use Rattle.bl_wire.specs.Spoken.{IsOwnFault}
+use Rattle.bl_session.specs.Spoken.{IsOwnFault}
 use Rattle.bl_session.specs.Stages.{IsCut, Cutting, Broken, IsCause, IsDropped, AreWholeLines}
 use Rattle.bl_session.proofs.LineLaws.{AreLines-whole, AreLines-append, AreLines-nil, lines-last}
 use Rattle.bl_wire.proofs.Parts.{known_on, reading_on}

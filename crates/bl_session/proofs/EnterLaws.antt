@@ -9,8 +9,8 @@ use Rattle.bl_monitor.specs.Heard.{Heard, answer_at, children_of, with_entry, Kn
 use Rattle.bl_wire.specs.declared.label.Origin.{Origin}
 use Rattle.bl_wire.specs.declared.label.Origin.TheVariants as origin
 use Rattle.bl_wire.specs.declared.label.Entered.{Entered}
-use Rattle.bl_wire.specs.Orders.{said}
-use Rattle.bl_wire.specs.Entries.{entry_from, entry_of, order_of, told_of, is_line, KnowsOrigin, AreAnswered, first_children}
+use Rattle.bl_session.specs.Orders.{said}
+use Rattle.bl_session.specs.Entries.{entry_from, entry_of, order_of, told_of, is_line, KnowsOrigin, AreAnswered, first_children}
 use Rattle.bl_session.specs.Whole.{HasEntered, HasRun}
 use Rattle.bl_session.proofs.OrderLaws.{join}
 use Rattle.bl_session.proofs.EntryLaws.{length-order, order-more, each_more, labelled_child, children_all}

@@ -9,7 +9,7 @@ use Rattle.bl_order.specs.Machine.{child_entries}
 use Rattle.bl_wire.specs.declared.label.Origin.TheVariants as origin
 use Rattle.bl_wire.specs.declared.label.Entered.{Entered}
 use Rattle.bl_wire.specs.Replies.{Tag, tag}
-use Rattle.bl_wire.specs.Entries.{entry_from, entry_of, order_of, is_line, tag_of, Each, StandsBelow, AreLabelled, first_children}
+use Rattle.bl_session.specs.Entries.{entry_from, entry_of, order_of, is_line, tag_of, Each, StandsBelow, AreLabelled, first_children}
 use Rattle.bl_session.proofs.OrderLaws.{tag-grown, tag-line, tag-child, join}
 
 pub length-order : (entries : List Entered) → length (order_of entries) ≡ length entries

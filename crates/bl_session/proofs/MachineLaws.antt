@@ -7,10 +7,10 @@ use Rattle.bl_order.specs.Order.{Entry, Line}
 use Rattle.bl_order.specs.Machine.{State, Event, change, state_after, start, child_entries, entry_weight, weight_of}
 use Rattle.bl_order.specs.Machine as machine
 use Rattle.bl_wire.specs.declared.turn.Turn.{Turn}
-use Rattle.bl_wire.specs.Told.{Told, Opens, Admits, Settles, SameUpTo, told_by}
+use Rattle.bl_session.specs.Told.{Told, Opens, Admits, Settles, SameUpTo, told_by}
 use Rattle.bl_wire.specs.Replies.{line_text}
 use Rattle.bl_session.specs.One.{place_events, run_from, fits, events_of, one_state}
-use Rattle.bl_wire.specs.Orders.{said, told_text, AreLater, Mirrors}
+use Rattle.bl_session.specs.Orders.{said, told_text, AreLater, Mirrors}
 use Rattle.bl_session.specs.Whole.{HasRun}
 use Rattle.bl_session.proofs.RunLaws.{goes_run, mirror_place, mirror_line, mirror_text, mirror_goes, run-skip, run-one, run-none, told_append, settled, goes_settles, goes_same, run_same, some_state, some_mirrors}
 

@@ -18,8 +18,8 @@ use Rattle.bl_session.specs.declared.block.Block.{Block}
 use Rattle.bl_wire.specs.Texts.{refusal}
 use Rattle.bl_wire.specs.Named.{NamesAnswer}
 use Rattle.bl_wire.specs.Replies.{Reply, Tag, tag, reply_text, replies_to, line_or_full}
-use Rattle.bl_wire.specs.Orders.{said, reply_at, at_rest, told_text, ordinal_of, AreLater}
-use Rattle.bl_wire.specs.Entries.{order_of, StandsBelow}
+use Rattle.bl_session.specs.Orders.{said, reply_at, at_rest, told_text, ordinal_of, AreLater}
+use Rattle.bl_session.specs.Entries.{order_of, StandsBelow}
 use Rattle.bl_session.specs.Whole.{IsWhole}
 use Rattle.bl_session.specs.Blocks.{IsBlock, AreKin, NoLine, Gives, IsLastBlock}
 use Rattle.bl_session.proofs.OrderLaws.{replies-other}

@@ -9,10 +9,10 @@ use Rattle.bl_order.specs.Order.{Entry, Line}
 use Rattle.bl_order.specs.Past.{Past, is_done, earlier, no_entry, deeds, task_of, content_of}
 use Rattle.bl_order.specs.Machine.{State, Event, Session, Phase, Waiting, Running, Ended, Gone, is_gone, is_over, is_running, is_lost, past_at, phase_at, change, state_after, start, children_at, child_entries, runs, has_ended, with_phase}
 use Rattle.bl_order.specs.Machine as machine
-use Rattle.bl_wire.specs.Told.{Told, Opens, Admits, Settles, SameUpTo}
+use Rattle.bl_session.specs.Told.{Told, Opens, Admits, Settles, SameUpTo}
 use Rattle.bl_wire.specs.Replies.{line_text}
 use Rattle.bl_session.specs.One.{place_events, run_from, settling, fits, events_of}
-use Rattle.bl_wire.specs.Orders.{said, told_text, AreLater, IsSession, Mirrors}
+use Rattle.bl_session.specs.Orders.{said, told_text, AreLater, IsSession, Mirrors}
 use Rattle.bl_session.proofs.OrderLaws.{join, later-children, past-calm, text-calm, text-later}
 
 pub state_after-append : (x : State) (a b : List Event) → state_after x (a ++ b) ≡ state_after (state_after x a) b

@@ -20,15 +20,15 @@ use Rattle.bl_wire.specs.declared.turn.Turn.TheVariants.{Skip, Wait, Greets, Bad
 use Rattle.bl_wire.specs.declared.fault.SessionFault.{SessionFault}
 use Rattle.bl_wire.specs.declared.fault.SessionFault.TheVariants.{Memory}
 use Rattle.bl_wire.specs.Turns.{AreServed}
-use Rattle.bl_wire.specs.Told.{SameUpTo}
+use Rattle.bl_session.specs.Told.{SameUpTo}
 use Rattle.bl_wire.specs.Texts.{session_text}
 use Rattle.bl_session.specs.Stages.{Finished, Stopped}
 use Rattle.bl_session.specs.Outcome.{IsServed, IsCutShort}
 use Rattle.bl_wire.specs.Replies.{line_text}
 use Rattle.bl_session.specs.Transcript.{transcript}
 use Rattle.bl_session.specs.One.{one_state}
-use Rattle.bl_wire.specs.Orders.{told_text, AreLater, Mirrors}
-use Rattle.bl_wire.specs.Entries.{order_of, AreLabelled, AreAnswered}
+use Rattle.bl_session.specs.Orders.{told_text, AreLater, Mirrors}
+use Rattle.bl_session.specs.Entries.{order_of, AreLabelled, AreAnswered}
 use Rattle.bl_session.specs.Whole.{AreKnown, IsWhole, Came}
 use Rattle.bl_session.proofs.Cuttings.{cutting_start, broken_after}
 use Rattle.bl_session.proofs.MachineLaws.{one_whole, one_part}

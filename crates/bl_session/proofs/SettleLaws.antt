@@ -15,10 +15,10 @@ use Rattle.bl_wire.specs.declared.label.Origin.{Origin}
 use Rattle.bl_wire.specs.declared.label.Origin.TheVariants as origin
 use Rattle.bl_wire.specs.declared.label.Entered.{Entered}
 use Rattle.bl_session.specs.declared.entries.Pages.{Pages}
-use Rattle.bl_wire.specs.Told.{Told, Settles}
+use Rattle.bl_session.specs.Told.{Told, Settles}
 use Rattle.bl_session.specs.One.{run_from, events_of}
-use Rattle.bl_wire.specs.Orders.{AreLater, Mirrors, ordinal_of}
-use Rattle.bl_wire.specs.Entries.{entry_from, entry_of, order_of, is_line, Each, StandsBelow, AreLabelled, AreAnswered}
+use Rattle.bl_session.specs.Orders.{AreLater, Mirrors, ordinal_of}
+use Rattle.bl_session.specs.Entries.{entry_from, entry_of, order_of, is_line, Each, StandsBelow, AreLabelled, AreAnswered}
 use Rattle.bl_session.specs.Whole.{AreKnown, HasRun, IsWhole}
 use Rattle.bl_session.specs.Blocks.{IsBlock, SplitsAt}
 use Rattle.bl_session.proofs.EntryLaws.{length-order}

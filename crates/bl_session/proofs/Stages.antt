@@ -10,9 +10,9 @@ use Rattle.bl_wire.specs.declared.turn.Turn.{Turn}
 use Rattle.bl_wire.specs.declared.turn.Turn.TheVariants.{Skip, Wait, Greets, Bad, Ask}
 use Rattle.bl_wire.specs.declared.turn.Pending.{Pending}
 use Rattle.bl_wire.specs.Turns.{AreSkips, IsOpening, IsRefusal, StopsAtRefusal, is_skip, greeted}
-use Rattle.bl_wire.specs.Told.{Told, Opens, Settles, told_of, told_by, SameUpTo}
+use Rattle.bl_session.specs.Told.{Told, Opens, Settles, told_of, told_by, SameUpTo}
 use Rattle.bl_wire.specs.Texts.{text_of, session_text, ok_line, bye_line, refused_hello}
-use Rattle.bl_wire.specs.Spoken.{Begins, AreSaid, BlockFailed, IsOwnFault, TakesTurn, FailsTurn, block_text}
+use Rattle.bl_session.specs.Spoken.{Begins, AreSaid, BlockFailed, IsOwnFault, TakesTurn, FailsTurn, block_text}
 use Rattle.bl_session.specs.Stages.{Cutting, Unheard, Stage, Finished, Broken, Stopped, IsCause, AreWhole, IsDuePart, IsPutAt}
 use Rattle.bl_session.proofs.Steps.{whole, block_part, said}
 use Rattle.bl_session.proofs.Cuttings.{cut-now, now_are, broken_after, after_nothing}

@@ -8,10 +8,10 @@ use Rattle.bl_wire.specs.declared.fault.SessionFault.TheVariants.{Memory}
 use Rattle.bl_wire.specs.declared.turn.Turn.{Turn}
 use Rattle.bl_wire.specs.declared.turn.Turn.TheVariants.{Wait, Ask}
 use Rattle.bl_wire.specs.declared.turn.Pending.{Pending}
-use Rattle.bl_wire.specs.Told.{Told, Opens, Admits, Settles, told_of, SameUpTo}
+use Rattle.bl_session.specs.Told.{Told, Opens, Admits, Settles, told_of, SameUpTo}
 use Rattle.bl_wire.specs.Texts.{text_of, ordinal_after, ok_line}
 use Rattle.bl_wire.specs.Turns.{HasNoWait}
-use Rattle.bl_wire.specs.Spoken.{Spoken, AreSaid, pending_of, block_text, Begins, TurnFailed, BlockFailed, FailsTurn}
+use Rattle.bl_session.specs.Spoken.{Spoken, AreSaid, pending_of, block_text, Begins, TurnFailed, BlockFailed, FailsTurn}
 use Rattle.bl_session.proofs.Texts.{text-append, ordinal-append, told-append, text-same, text-block, ordinal-block, pending-append, no_wait-append, block-same, same_trans}
 
 pub if_err-all : {A E : Type 0} (r : Result A E) {P : E → Type 0} → ((e : E) → P e) → IfErr r P

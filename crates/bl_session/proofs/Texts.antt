@@ -2,12 +2,12 @@
 use Rattle.std.proofs.Common.{◌≡◌, ℕ, ◌+◌, ◌≤◌, List, [], ◌∷◌, ◌++◌, length, refl, sym, ap, ◌∙◌, append_assoc, arith, codes}
 use Rattle.bl_wire.specs.declared.turn.Turn.{Turn}
 use Rattle.bl_wire.specs.declared.turn.Turn.TheVariants.{Skip, Wait, Greets, Bad, Ask}
-use Rattle.bl_wire.specs.Told.{told_of, Admits, Settles, SameUpTo}
+use Rattle.bl_session.specs.Told.{told_of, Admits, Settles, SameUpTo}
 use Rattle.bl_wire.specs.Texts.{text_of, ordinal_after, refusal, ok_line, fault_words}
 use Rattle.bl_wire.specs.Turns.{HasNoWait}
 use Rattle.bl_wire.specs.declared.turn.Pending.{Pending}
 use Rattle.bl_wire.specs.declared.turn.Pending.TheVariants.{Again, Refused, Asked}
-use Rattle.bl_wire.specs.Spoken.{pending_of, block_text}
+use Rattle.bl_session.specs.Spoken.{pending_of, block_text}
 
 -- one reply in front
 front : (a x y z : List ℕ) → x ≡ y ++ z → a ++ x ≡ (a ++ y) ++ z

@@ -6,8 +6,8 @@ use Rattle.bl_wire.specs.declared.label.Entered.{Entered}
 use Rattle.bl_session.specs.declared.block.Block.{Block}
 use Rattle.bl_session.specs.declared.entries.Pages.{Pages}
 use Rattle.bl_wire.specs.Replies.{replies_to}
-use Rattle.bl_wire.specs.Orders.{reply_at, at_rest}
-use Rattle.bl_wire.specs.Entries.{order_of, is_line}
+use Rattle.bl_session.specs.Orders.{reply_at, at_rest}
+use Rattle.bl_session.specs.Entries.{order_of, is_line}
 
 -- from one place to another stand the lines of a block, and behind them their descendants alone
 pub record IsBlock (entries : List Entered) (first entered : ℕ) : Type 0 where

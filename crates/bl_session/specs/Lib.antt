@@ -4,3 +4,7 @@ pub mod Whole
 pub mod Blocks
 pub mod Transcript
 pub mod Outcome
+pub mod Entries
+pub mod Orders
+pub mod Spoken
+pub mod Told

@@ -5,7 +5,7 @@ use Rattle.bl_setup.specs.Setup.{Setup}
 use Rattle.bl_order.specs.Machine.{State, Event, runs, has_ended, change, start, state_after, weight_of, entry_weight}
 use Rattle.bl_order.specs.Machine as machine
 use Rattle.bl_wire.specs.declared.turn.Turn.{Turn}
-use Rattle.bl_wire.specs.Told.{Told, Opens, Admits, Settles, told_by}
+use Rattle.bl_session.specs.Told.{Told, Opens, Admits, Settles, told_by}
 
 -- a place that hasn't ended starts, and ends if it runs
 abbrev pub place_events : State → ℕ → List Event

@@ -6,7 +6,7 @@ use Rattle.bl_wire.specs.declared.fault.SessionFault.{SessionFault}
 use Rattle.bl_wire.specs.declared.turn.Turn.{Turn}
 use Rattle.bl_wire.specs.Lines.{lines_of, AreLines}
 use Rattle.bl_wire.specs.Turns.{AreTurns, IsRefusal, StopsAtRefusal}
-use Rattle.bl_wire.specs.Spoken.{Begins}
+use Rattle.bl_session.specs.Spoken.{Begins}
 use Rattle.bl_session.specs.Stages.{Broken, IsPutAt}
 use Rattle.bl_wire.specs.Replies.{line_text}
 use Rattle.bl_session.specs.One.{one_state}

@@ -9,9 +9,9 @@ use Rattle.bl_wire.specs.declared.fault.SessionFault.TheVariants.{Read, Write, T
 use Rattle.bl_wire.specs.declared.turn.Turn.{Turn}
 use Rattle.bl_wire.specs.declared.turn.Pending.{Pending}
 use Rattle.bl_wire.specs.Turns.{AreTurns, AreSkips, IsOpening, IsRefusal, StopsAtRefusal, HasNoWait, is_skip}
-use Rattle.bl_wire.specs.Told.{Told, Settles, told_by, SameUpTo}
+use Rattle.bl_session.specs.Told.{Told, Settles, told_by, SameUpTo}
 use Rattle.bl_wire.specs.Texts.{text_of, session_text, ok_line, bye_line, refused_hello}
-use Rattle.bl_wire.specs.Spoken.{Spoken, Begins}
+use Rattle.bl_session.specs.Spoken.{Spoken, Begins}
 
 -- the lines that were consumed: more may come, or these are all
 abbrev pub IsCut : Bool → List ℕ → List (List ℕ) → Option (List ℕ) → Option (List ℕ) → Type 0

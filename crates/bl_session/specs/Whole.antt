@@ -6,10 +6,10 @@ use Rattle.bl_order.specs.Order.{Entry}
 use Rattle.bl_order.specs.Machine.{State, state_after, start, entry_weight}
 use Rattle.bl_wire.specs.declared.label.Entered.{Entered}
 use Rattle.bl_session.specs.declared.entries.Pages.{Pages}
-use Rattle.bl_wire.specs.Told.{Told}
+use Rattle.bl_session.specs.Told.{Told}
 use Rattle.bl_session.specs.One.{run_from, events_of}
-use Rattle.bl_wire.specs.Orders.{Mirrors}
-use Rattle.bl_wire.specs.Entries.{Each, KnowsOrigin, order_of, is_line, AreLabelled, AreAnswered, first_children}
+use Rattle.bl_session.specs.Orders.{Mirrors}
+use Rattle.bl_session.specs.Entries.{Each, KnowsOrigin, order_of, is_line, AreLabelled, AreAnswered, first_children}
 
 -- the ids of all lines are in the setup
 abbrev pub AreKnown : Setup → List Entered → Type 0

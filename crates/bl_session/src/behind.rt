@@ -1,7 +1,7 @@
 //! What stands behind a session: a machine that admits works and answers them.
 ghost use Rattle.std.specs.Prelude.{◌≡◌, ◌≤◌, ◌<◌, ◌++◌, ◌∷◌, [], ◌⊎◌, List, ℕ, OnOk, OnErr, IfOk};
 ghost use Rattle.bl_work.specs.declared.work.Work.{Work};
-ghost use Rattle.bl_wire.specs.Told.{Told, Opens, Admits, Settles, SameUpTo};
+ghost use Rattle.bl_session.specs.Told.{Told, Opens, Admits, Settles, SameUpTo};
 
 use bl_policy::id::SubjectId;
 use bl_work::work::Work;

@@ -3,7 +3,7 @@ ghost use Rattle.std.specs.Prelude.{◌≡◌, ℕ, ◌+◌, ◌-◌, ◌<◌, �
 ghost use Rattle.bl_setup.specs.Setup.{Setup};
 ghost use Rattle.bl_wire.specs.declared.label.Entered.{Entered};
 ghost use Rattle.bl_wire.specs.Replies.{is_before};
-ghost use Rattle.bl_wire.specs.Entries.{AreLabelled, is_line};
+ghost use Rattle.bl_session.specs.Entries.{AreLabelled, is_line};
 ghost use Rattle.bl_session.specs.Blocks.{IsBlock, SplitsAt, NoLine, Gives};
 
 use bl_wire::label::{Entered, is_before};

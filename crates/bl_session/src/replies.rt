@@ -1,7 +1,7 @@
 //! The replies to the lines of a block.
 ghost use Rattle.std.specs.Prelude.{◌≡◌, ◌+◌, ◌≤◌, ◌^◌, ◌<◌, ◌++◌, ℕ, OnOk, IfOk, length, codes};
 ghost use Rattle.bl_wire.specs.Texts.{refusal};
-ghost use Rattle.bl_wire.specs.Spoken.{block_text, reply_to};
+ghost use Rattle.bl_session.specs.Spoken.{block_text, reply_to};
 
 use crate::behind::Behind;
 use bl_wire::reply::{push_bad, push_refused};

@@ -5,9 +5,9 @@ ghost use Rattle.std.specs.Io.KnownBytes.{Consumes, Appends, IsAtEnd};
 ghost use Rattle.bl_wire.specs.declared.fault.SessionFault.TheVariants.{Write};
 ghost use Rattle.bl_wire.specs.Turns.{AreSkips, is_skip, IsServed, AreServed, StandsIn};
 ghost use Rattle.bl_wire.specs.declared.turn.Turn.{Turn};
-ghost use Rattle.bl_wire.specs.Told.{Told, Opens, Settles, SameUpTo};
+ghost use Rattle.bl_session.specs.Told.{Told, Opens, Settles, SameUpTo};
 ghost use Rattle.bl_wire.specs.Texts.{ok_line};
-ghost use Rattle.bl_wire.specs.Spoken.{block_text, IsOwnFault, BlockFailed, TakesTurn, FailsTurn};
+ghost use Rattle.bl_session.specs.Spoken.{block_text, IsOwnFault, BlockFailed, TakesTurn, FailsTurn};
 ghost use Rattle.bl_session.specs.Stages.{Cutting, ReadsOn, IsNearer, Unheard, IsFirst, Heard, Stage, Finished, Broken, Stopped};
 
 use crate::behind::Behind;

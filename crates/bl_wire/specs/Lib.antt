@@ -3,10 +3,6 @@ pub mod Look
 pub mod Holds
 pub mod Reads
 pub mod Turns
-pub mod Told
 pub mod Texts
-pub mod Spoken
 pub mod Replies
 pub mod Named
-pub mod Orders
-pub mod Entries

@@ -1,7 +1,6 @@
 //! The entries of an admission order with their labels.
 ghost use Rattle.std.specs.Prelude.{◌≡◌, ◌++◌, ◌∷◌, [], IfOk};
 ghost use Rattle.bl_wire.specs.Replies.{is_before};
-ghost use Rattle.bl_wire.specs.Entries.{is_line};
 ghost use Rattle.bl_wire.specs.declared.label.Origin.TheVariants as origin;
 
 use bl_policy::id::SubjectId;
@@ -64,22 +63,6 @@ impl Entered {
             ordinal: self.ordinal,
             path,
         })
-    }
-
-    /// Whether the entry is a line.
-    pub fn is_line(&self) -> bool
-        ensures { result ≡ is_line self.now.origin }
-    {
-        match &self.origin {
-            Origin::Line {
-                subject: _,
-                work: _,
-            } => true,
-            Origin::Child {
-                parent: _,
-                which: _,
-            } => false,
-        }
     }
 }
 

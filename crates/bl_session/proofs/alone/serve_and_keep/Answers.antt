@@ -5,8 +5,8 @@ use Rattle.bl_setup.specs.Agreement.{Agree}
 use Rattle.bl_setup.specs.Setup.{Setup}
 use Rattle.bl_monitor.specs.Heard.{Heard, KnowsWork}
 use Rattle.bl_wire.specs.Turns.{AreServed}
-use Rattle.bl_wire.specs.Orders.{told_text, AreLater}
-use Rattle.bl_wire.specs.Entries.{order_of}
+use Rattle.bl_session.specs.Orders.{told_text, AreLater}
+use Rattle.bl_session.specs.Entries.{order_of}
 use Rattle.bl_session.specs.Whole.{Came}
 use Rattle.bl_session.specs.Stages.{Finished, Stopped}
 use Rattle.bl_session.specs.Outcome.{IsServed, IsCutShort}

@@ -3,8 +3,8 @@ use Rattle.std.proofs.lemmas.List.Elements.{All-append}
 use Rattle.bl_work.specs.Effects.{children}
 use Rattle.bl_setup.specs.Setup.{Setup}
 use Rattle.bl_wire.specs.declared.label.Entered.{Entered}
-use Rattle.bl_wire.specs.Orders.{said}
-use Rattle.bl_wire.specs.Entries.{order_of, is_line}
+use Rattle.bl_session.specs.Orders.{said}
+use Rattle.bl_session.specs.Entries.{order_of, is_line}
 use Rattle.bl_session.specs.Whole.{HasEntered, HasRun}
 use Rattle.bl_session.proofs.EnterLaws.{run_more}
 use Rattle.bl_session.proofs.MachineLaws.{has_run_start}

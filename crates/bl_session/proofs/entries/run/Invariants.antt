@@ -1,6 +1,6 @@
 use Rattle.std.proofs.Common.{◌≡◌, ◌+◌, ◌-◌, ◌≤◌, ◌++◌, List, length, All, false}
 use Rattle.bl_wire.specs.declared.label.Entered.{Entered}
-use Rattle.bl_wire.specs.Entries.{order_of, is_line, AreLabelled, AreAnswered}
+use Rattle.bl_session.specs.Entries.{order_of, is_line, AreLabelled, AreAnswered}
 use Rattle.bl_session.specs.Whole.{AreKnown, HasRun}
 use Rattle.bl_session.proofs.entries.run.Given as goal
 

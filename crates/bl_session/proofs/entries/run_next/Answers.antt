@@ -1,8 +1,8 @@
 use Rattle.std.proofs.Common.{rules, ◌≡◌, ◌∙◌, ◌+◌, ◌++◌, ◌∷◌, [], ap, sym, subst, length, slice_index_or, Some, None}
 use Rattle.bl_work.specs.Effects.{children}
 use Rattle.bl_monitor.specs.Heard.{with_entry, children_of}
-use Rattle.bl_wire.specs.Orders.{said}
-use Rattle.bl_wire.specs.Entries.{order_of, told_of, AreAnswered}
+use Rattle.bl_session.specs.Orders.{said}
+use Rattle.bl_session.specs.Entries.{order_of, told_of, AreAnswered}
 use Rattle.bl_session.specs.Whole.{HasEntered}
 use Rattle.bl_session.proofs.Outcomes.{on_ok-map}
 use Rattle.bl_session.proofs.EnterLaws.{entered_none, answered_entered, next_answered, next_some, next_none}

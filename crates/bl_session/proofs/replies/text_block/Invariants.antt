@@ -1,5 +1,5 @@
 use Rattle.std.proofs.Common.{◌≡◌, ◌≤◌, ◌+◌, ◌++◌, ℕ, drop}
-use Rattle.bl_wire.specs.Spoken.{block_text}
+use Rattle.bl_session.specs.Spoken.{block_text}
 use Rattle.bl_session.proofs.replies.text_block.Given as goal
 
 abbrev pub invariant-loop-line : goal.invariant-loop-line

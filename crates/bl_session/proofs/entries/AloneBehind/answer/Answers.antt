@@ -5,8 +5,8 @@ use Rattle.std.specs.List.{flat_map}
 use Rattle.bl_setup.specs.Setup.{Setup}
 use Rattle.bl_wire.specs.Replies.{reply_text}
 use Rattle.bl_wire.specs.Texts.{refusal}
-use Rattle.bl_wire.specs.Orders.{reply_at, told_text}
-use Rattle.bl_wire.specs.Entries.{order_of}
+use Rattle.bl_session.specs.Orders.{reply_at, told_text}
+use Rattle.bl_session.specs.Entries.{order_of}
 use Rattle.bl_session.proofs.Outcomes.{said_full}
 use Rattle.bl_session.proofs.ReplyLaws.{kin_text, text_said, names_known, placed, kin_placed, all_text, missing, gives_on}
 use Rattle.bl_session.proofs.entries.AloneBehind.answer.Goals as goal

@@ -2,8 +2,8 @@ use Rattle.std.proofs.Common.{◌≡◌, ◌++◌, ◌∷◌, map, take}
 use Rattle.std.specs.Arc.{arc_value}
 use Rattle.std.specs.List.{flat_map}
 use Rattle.bl_wire.specs.Replies.{reply_text}
-use Rattle.bl_wire.specs.Orders.{reply_at}
-use Rattle.bl_wire.specs.Entries.{order_of}
+use Rattle.bl_session.specs.Orders.{reply_at}
+use Rattle.bl_session.specs.Entries.{order_of}
 use Rattle.bl_session.proofs.entries.AloneBehind.answer.Given as goal
 
 abbrev pub invariant-loop-below : goal.invariant-loop-below

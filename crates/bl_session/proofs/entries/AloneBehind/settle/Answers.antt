@@ -4,10 +4,10 @@ use Rattle.bl_setup.specs.Setup.{Setup}
 use Rattle.bl_order.specs.Machine.{state_after, start}
 use Rattle.bl_wire.specs.declared.label.Entered.{Entered}
 use Rattle.bl_session.specs.declared.block.Block.{Block}
-use Rattle.bl_wire.specs.Told.{Settles}
+use Rattle.bl_session.specs.Told.{Settles}
 use Rattle.bl_session.specs.One.{events_of}
-use Rattle.bl_wire.specs.Orders.{Mirrors}
-use Rattle.bl_wire.specs.Entries.{order_of, AreAnswered}
+use Rattle.bl_session.specs.Orders.{Mirrors}
+use Rattle.bl_session.specs.Entries.{order_of, AreAnswered}
 use Rattle.bl_session.specs.Whole.{AreKnown, IsWhole}
 use Rattle.bl_session.specs.Blocks.{IsBlock, SplitsAt, Gives}
 use Rattle.bl_session.proofs.Outcomes.{on_ok-all, on_err-all, if_ok-both}

@@ -11,7 +11,7 @@ use Rattle.bl_wire.specs.declared.label.Origin.{Origin}
 use Rattle.bl_wire.specs.declared.label.Origin.TheVariants as origin
 use Rattle.bl_wire.specs.declared.label.Entered.{Entered}
 use Rattle.bl_wire.specs.Replies.{Tag, tag}
-use Rattle.bl_wire.specs.Orders.{said}
+use Rattle.bl_session.specs.Orders.{said}
 
 -- an entry of the one session
 abbrev pub entry_from : Origin → ℕ → Entry

@@ -8,7 +8,7 @@ use Rattle.bl_wire.specs.declared.turn.Turn.TheVariants.{Skip, Wait, Greets, Bad
 use Rattle.bl_wire.specs.declared.turn.Pending.{Pending}
 use Rattle.bl_wire.specs.declared.turn.Pending.TheVariants.{Again, Refused, Asked}
 use Rattle.bl_wire.specs.Turns.{HasNoWait}
-use Rattle.bl_wire.specs.Told.{Told, Opens, Settles, told_of, SameUpTo}
+use Rattle.bl_session.specs.Told.{Told, Opens, Settles, told_of, SameUpTo}
 use Rattle.bl_wire.specs.Texts.{text_of, refusal, fault_words, ordinal_after}
 
 -- what is kept of the lines of an open block
