@@ -3,6 +3,7 @@ ghost use Rattle.std.specs.Prelude.{◌≡◌, ◌≢◌, ℕ, List, map, IfOk, 
 ghost use Rattle.bl_level.specs.Name.{AreProper};
 ghost use Rattle.bl_work.specs.declared.asked.Line.{Line as AskedLine};
 ghost use Rattle.bl_work.specs.declared.asked.LineFault.{LineFault};
+ghost use Rattle.bl_work.specs.declared.asked.LineFault.TheVariants.{Memory};
 ghost use Rattle.bl_work.specs.Names.{KnownNames};
 ghost use Rattle.bl_work.specs.Grammar.{when, rule as spelled_rule, spell};
 ghost use Rattle.bl_syntax.specs.RawBodies.{raw_access};
