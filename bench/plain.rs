@@ -2,7 +2,7 @@
 //! and writes the same bytes for lines whose statements are `show`, `say` and `add`. Nothing of it is proved, and what the comparison does
 //! not need (branches, spawns, rules, faults of the setup) is left out.
 //!
-//!     rustc -O bench/plain.rs && ./plain examples/base.txt < session
+//!     rustc -O bench/plain.rs && ./plain examples/setups/base.txt < session
 
 use std::collections::{HashMap, HashSet};
 use std::io::{self, BufRead, BufReader, BufWriter, Write};
