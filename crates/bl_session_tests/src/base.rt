@@ -1,9 +1,10 @@
 //! The setup of the worked examples, and sessions over it.
-use crate::alone::serve_alone;
-use bl_wire::watched::Watched;
+use bl_session::alone::serve_alone;
 use bl_setup::reader::read_setup;
 use bl_setup::setup::Setup;
+use bl_wire::watched::Watched;
 use std::alloc::Global;
+use std::process::Abort;
 use std::test::Fail;
 
 /// The behaviour that reads the memo and shows it.
@@ -51,25 +52,39 @@ pub fn base(alloc: Global) -> Result<Setup, Fail> {
 }
 
 /// Serves the input over a setup. The bytes that were written, and how many were left unread.
-pub fn served(
-    alloc: Global,
-    setup: Setup,
-    limit: u32,
-    input: &[u8],
-) -> Result<(Vec<u8>, usize), Fail> {
+fn served(alloc: Global, setup: Setup, limit: u32, input: &[u8]) -> Result<(Vec<u8>, usize), Fail> {
     let mut reader = Watched::new(input);
     let mut writer = Watched::new(Vec::new(alloc));
     serve_alone(alloc, setup, limit, &mut reader, &mut writer)?;
     Ok((writer.inner, reader.inner.len()))
 }
 
-/// What is written to this input over the base setup, under a limit.
-pub fn said_under(alloc: Global, limit: u32, input: &[u8]) -> Result<String, Fail> {
-    let (written, _) = served(alloc, base(alloc)?, limit, input)?;
-    Ok(String::from_utf8(written)?)
+/// Asserts what is written to this input over a setup, and gives how many of its bytes were left unread.
+pub fn assert_served<R: AllocGlobal + Abort>(
+    rt: &R,
+    setup: Setup,
+    limit: u32,
+    input: &[u8],
+    output: &str,
+) -> Result<usize, Fail> {
+    let (written, left) = served(rt.alloc(), setup, limit, input)?;
+    let said = String::from_utf8(written)?;
+    assert_eq!(rt; said.as_str(), output);
+    Ok(left)
 }
 
-/// What is written to this input over the base setup.
-pub fn said(alloc: Global, input: &str) -> Result<String, Fail> {
-    said_under(alloc, 10_000, input.as_bytes())
+/// Asserts what is written to this input over the base setup, under a limit.
+pub fn assert_said_under<R: AllocGlobal + Abort>(
+    rt: &R,
+    limit: u32,
+    input: &[u8],
+    output: &str,
+) -> Result<(), Fail> {
+    assert_served(rt, base(rt.alloc())?, limit, input, output)?;
+    Ok(())
+}
+
+/// Asserts what is written to this input over the base setup.
+pub fn assert_said<R: AllocGlobal + Abort>(rt: &R, input: &str, output: &str) -> Result<(), Fail> {
+    assert_said_under(rt, 10_000, input.as_bytes(), output)
 }

@@ -1,5 +1,5 @@
 //! The replies of each block, and what stays from one block to the next.
-use crate::tests::base::said;
+use crate::base::assert_said;
 use std::test::Fail;
 
 /// The second block has its own replies alone, and finds what the first one left.
@@ -16,8 +16,7 @@ fn two_blocks(rt: HostRuntime) -> Result<(), Fail> {
         1 done\n1.1 done \"m1a\"\n2 done \"m1a\"\nok\n\
         3 done\n3.1 done \"m1ab\"\n4 done \"m1ab\"\nok\n\
         bye\n";
-    assert_eq!(rt; said(rt.alloc(), input)?.as_str(), output);
-    Ok(())
+    assert_said(&rt, input, output)
 }
 
 /// Refused lines take ordinals, and stand among the replies of their block. A block may be empty.
@@ -36,6 +35,5 @@ fn refused_lines_among_blocks(rt: HostRuntime) -> Result<(), Fail> {
         ok\n\
         1 refused syntax 5\n2 done\n2.1 done \"n1\"\n3 refused hello\nok\n\
         4 refused unknown zed\n5 denied star ann note\nbye\n";
-    assert_eq!(rt; said(rt.alloc(), input)?.as_str(), output);
-    Ok(())
+    assert_said(&rt, input, output)
 }

@@ -1,5 +1,5 @@
 //! When children enter, and the order of their labels.
-use crate::tests::base::said;
+use crate::base::assert_said;
 use std::test::Fail;
 
 #[test]
@@ -9,8 +9,7 @@ fn child_enters_after_admitted_line(rt: HostRuntime) -> Result<(), Fail> {
         when write memo do add memo \"b\"; end\n\
         wait\n";
     let output = "ok\n1 done\n1.1 done \"m1ab\"\n2 done\nok\nbye\n";
-    assert_eq!(rt; said(rt.alloc(), input)?.as_str(), output);
-    Ok(())
+    assert_said(&rt, input, output)
 }
 
 /// The grandchild enters behind the second line and behind its parent, and is told between them.
@@ -22,8 +21,7 @@ fn three_levels(rt: HostRuntime) -> Result<(), Fail> {
         spawn when read memo do show memo; end; end; end\n\
         when write memo do add memo \"c\"; show memo; end\n";
     let output = "ok\n1 done\n1.1 done\n1.1.1 done \"m1acb\"\n2 done \"m1ac\"\nbye\n";
-    assert_eq!(rt; said(rt.alloc(), input)?.as_str(), output);
-    Ok(())
+    assert_said(&rt, input, output)
 }
 
 /// Eleven children, of which the first, the second and the tenth have one of their own. All of these enter behind the
@@ -51,8 +49,7 @@ fn labels_in_numeric_order(rt: HostRuntime) -> Result<(), Fail> {
         1.7 done \"7\"\n1.8 done \"8\"\n1.9 done \"9\"\n\
         1.10 done\n1.10.1 done \"below 10\"\n\
         1.11 done \"11\"\nbye\n";
-    assert_eq!(rt; said(rt.alloc(), input)?.as_str(), output);
-    Ok(())
+    assert_said(&rt, input, output)
 }
 
 /// A spawn of a branch that didn't run has no number.
@@ -64,8 +61,7 @@ fn child_of_the_branch_that_ran(rt: HostRuntime) -> Result<(), Fail> {
         else spawn when read note do say \"else\"; end; end; \
         spawn when read note do say \"last\"; end; end\n";
     let output = "ok\n1 done\n1.1 done \"else\"\n1.2 done \"last\"\nbye\n";
-    assert_eq!(rt; said(rt.alloc(), input)?.as_str(), output);
-    Ok(())
+    assert_said(&rt, input, output)
 }
 
 /// A child is decided by its own accesses, and what is denied has no children.
@@ -76,6 +72,5 @@ fn child_denied(rt: HostRuntime) -> Result<(), Fail> {
         spawn when write note do spawn when read note do say \"never\"; end; end; \
         spawn when read memo do show memo; end; end\n";
     let output = "ok\n1 done\n1.1 denied star ann note\n1.2 done \"m1\"\nbye\n";
-    assert_eq!(rt; said(rt.alloc(), input)?.as_str(), output);
-    Ok(())
+    assert_said(&rt, input, output)
 }

@@ -1,5 +1,5 @@
 //! What a behaviour shows and leaves.
-use crate::tests::base::{said, served, setup_with};
+use crate::base::{assert_said, assert_served, setup_with};
 use std::test::Fail;
 
 const CHOOSE_AND_POUR: &str = "hello ann\n\
@@ -10,15 +10,13 @@ const CHOOSE_AND_POUR: &str = "hello ann\n\
 #[test]
 fn choose_and_pour(rt: HostRuntime) -> Result<(), Fail> {
     let output = "ok\n1 done \"m1n1\" \"yes\"\nbye\n";
-    assert_eq!(rt; said(rt.alloc(), CHOOSE_AND_POUR)?.as_str(), output);
-    Ok(())
+    assert_said(&rt, CHOOSE_AND_POUR, output)
 }
 
 #[test]
 fn choose_and_pour_else(rt: HostRuntime) -> Result<(), Fail> {
-    let alloc = rt.alloc();
+    let setup = setup_with(rt.alloc(), "n2")?;
     let input = CHOOSE_AND_POUR.as_bytes();
-    let (written, _) = served(alloc, setup_with(alloc, "n2")?, 10_000, input)?;
-    assert!(rt; written.as_slice() == b"ok\n1 done \"no\"\nbye\n".as_slice());
+    assert_served(&rt, setup, 10_000, input, "ok\n1 done \"no\"\nbye\n")?;
     Ok(())
 }

@@ -1,11 +1,12 @@
 //! Readers and writers that fail in mid-stream.
-use crate::alone::serve_alone;
+use crate::base::base;
+use bl_session::alone::serve_alone;
 use bl_wire::fault::SessionFault;
-use crate::tests::base::base;
 use bl_wire::watched::Watched;
 use std::alloc::Global;
 use std::io;
-use std::io::{BufRead, BufReader, Read, Write};
+use std::io::{BufReader, Read, Write};
+use std::process::Abort;
 use std::test::Fail;
 
 /// A session of four lines, of which the first adds to the memo and spawns a reader.
@@ -159,34 +160,38 @@ impl Read for GivesThenFails<'_> {
     }
 }
 
-#[test]
-fn read_fails_in_a_line(rt: HostRuntime) -> Result<(), Fail> {
-    let alloc = rt.alloc();
-    let input = GivesThenFails {
-        bytes: b"hello ann\nwhen read memo do show memo; end\nwa",
-    };
-    let mut reader = Watched::new(BufReader::new(alloc, input)?);
+/// Serves a session of which reading fails behind these bytes.
+fn serve_cut(alloc: Global, bytes: &[u8]) -> Result<Ended, Fail> {
+    let mut reader = Watched::new(BufReader::new(alloc, GivesThenFails { bytes })?);
     let mut writer = Watched::new(Vec::new(alloc));
     let result = serve_alone(alloc, base(alloc)?, 10_000, &mut reader, &mut writer);
-    assert!(rt; result == Err(SessionFault::Read));
-    assert!(rt; reader.failed());
-    assert!(rt; writer.inner.as_slice() == b"ok\n".as_slice());
+    Ok(Ended {
+        result,
+        read_failed: reader.failed(),
+        write_failed: writer.failed(),
+        written: writer.inner,
+    })
+}
+
+/// Asserts that reading failed, and that the session's first reply alone was written.
+fn assert_read_failed<R: Abort>(rt: &R, ended: &Ended) {
+    assert!(rt; ended.result == Err(SessionFault::Read));
+    assert!(rt; ended.read_failed);
+    assert!(rt; ended.written.as_slice() == b"ok\n".as_slice());
+}
+
+#[test]
+fn read_fails_in_a_line(rt: HostRuntime) -> Result<(), Fail> {
+    let bytes = b"hello ann\nwhen read memo do show memo; end\nwa";
+    assert_read_failed(&rt, &serve_cut(rt.alloc(), bytes)?);
     Ok(())
 }
 
 /// A `wait` without its LF is no line where reading failed behind it.
 #[test]
 fn read_fails_behind_a_line_without_lf(rt: HostRuntime) -> Result<(), Fail> {
-    let alloc = rt.alloc();
-    let input = GivesThenFails {
-        bytes: b"hello ann\nwhen read memo do show memo; end\nwait",
-    };
-    let mut reader = Watched::new(BufReader::new(alloc, input)?);
-    let mut writer = Watched::new(Vec::new(alloc));
-    let result = serve_alone(alloc, base(alloc)?, 10_000, &mut reader, &mut writer);
-    assert!(rt; result == Err(SessionFault::Read));
-    assert!(rt; reader.failed());
-    assert!(rt; writer.inner.as_slice() == b"ok\n".as_slice());
+    let bytes = b"hello ann\nwhen read memo do show memo; end\nwait";
+    assert_read_failed(&rt, &serve_cut(rt.alloc(), bytes)?);
     Ok(())
 }
 
@@ -214,20 +219,34 @@ impl Write for TakesThenFails {
     }
 }
 
+/// Serves a session to a writer that has room for five bytes.
+fn serve_narrow(alloc: Global, fails: bool) -> Result<Ended, Fail> {
+    let mut reader = Watched::new(&b"hello ann\nwhen read memo do show memo; end\nwait\n"[..]);
+    let mut writer = Watched::new(TakesThenFails {
+        taken: Vec::new(alloc),
+        room: 5,
+        fails,
+    });
+    let result = serve_alone(alloc, base(alloc)?, 10_000, &mut reader, &mut writer);
+    Ok(Ended {
+        result,
+        read_failed: reader.failed(),
+        write_failed: writer.failed(),
+        written: writer.inner.taken,
+    })
+}
+
+/// Asserts that writing failed behind five bytes.
+fn assert_write_failed<R: Abort>(rt: &R, ended: &Ended) {
+    assert!(rt; ended.result == Err(SessionFault::Write));
+    assert!(rt; ended.write_failed);
+    assert!(rt; ended.written.as_slice() == b"ok\n1 ".as_slice());
+}
+
 #[test]
 fn write_fails_after_five_bytes(rt: HostRuntime) -> Result<(), Fail> {
-    let alloc = rt.alloc();
     for fails in [false, true] {
-        let mut reader = Watched::new(&b"hello ann\nwhen read memo do show memo; end\nwait\n"[..]);
-        let mut writer = Watched::new(TakesThenFails {
-            taken: Vec::new(alloc),
-            room: 5,
-            fails,
-        });
-        let result = serve_alone(alloc, base(alloc)?, 10_000, &mut reader, &mut writer);
-        assert!(rt; result == Err(SessionFault::Write));
-        assert!(rt; writer.failed());
-        assert!(rt; writer.inner.taken.as_slice() == b"ok\n1 ".as_slice());
+        assert_write_failed(&rt, &serve_narrow(rt.alloc(), fails)?);
     }
     Ok(())
 }

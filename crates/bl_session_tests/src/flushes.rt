@@ -1,12 +1,13 @@
 //! That replies are flushed before the next line is read, and a flush that fails.
-use crate::alone::serve_alone;
+use crate::base::base;
+use bl_session::alone::serve_alone;
 use bl_wire::fault::SessionFault;
-use crate::tests::base::base;
 use bl_wire::watched::Watched;
 use std::alloc::Global;
 use std::cell::Cell;
 use std::io;
 use std::io::{BufReader, Read, Write};
+use std::process::Abort;
 use std::test::Fail;
 
 /// The lines of a session of two blocks, of which the second is empty.
@@ -104,25 +105,33 @@ fn serve_seen(alloc: Global, left: Option<usize>) -> Result<Ended, Fail> {
     })
 }
 
-/// Each `ok` is seen before the next line is read, and `bye` at the end.
-#[test]
-fn replies_are_seen_before_the_next_line(rt: HostRuntime) -> Result<(), Fail> {
-    let ended = serve_seen(rt.alloc(), None)?;
+/// Asserts that the session came to its end, and that before each read what was written was flushed.
+fn assert_seen<R: Abort>(rt: &R, ended: &Ended) {
     assert!(rt; ended.result == Ok(()));
     assert!(rt; ended.written.as_slice() == OUTPUT);
     assert!(rt; ended.seen.as_slice() == [0, 3, 3, 18, 21].as_slice());
     assert_eq!(rt; ended.flushed, 25);
+}
+
+/// Each `ok` is seen before the next line is read, and `bye` at the end.
+#[test]
+fn replies_are_seen_before_the_next_line(rt: HostRuntime) -> Result<(), Fail> {
+    assert_seen(&rt, &serve_seen(rt.alloc(), None)?);
     Ok(())
+}
+
+/// Asserts that the session ended for a failure of its writer, and that this is what it wrote.
+fn assert_cut<R: Abort>(rt: &R, ended: &Ended, written: &[u8]) {
+    assert!(rt; ended.result == Err(SessionFault::Write));
+    assert!(rt; ended.write_failed);
+    assert!(rt; ended.written.as_slice() == written);
 }
 
 /// Each flush fails in turn: the session ends, and nothing more is written.
 #[test]
 fn flush_each_fails(rt: HostRuntime) -> Result<(), Fail> {
     for k in 0..ENDS.len() {
-        let ended = serve_seen(rt.alloc(), Some(k))?;
-        assert!(rt; ended.result == Err(SessionFault::Write));
-        assert!(rt; ended.write_failed);
-        assert!(rt; ended.written.as_slice() == &OUTPUT[..ENDS[k]]);
+        assert_cut(&rt, &serve_seen(rt.alloc(), Some(k))?, &OUTPUT[..ENDS[k]]);
     }
     assert!(rt; serve_seen(rt.alloc(), Some(ENDS.len()))?.result == Ok(()));
     Ok(())

@@ -1,7 +1,7 @@
 //! Long input, and a bad byte behind many blanks.
-use crate::alone::serve_alone;
+use crate::base::{SHOW_MEMO, assert_said_under, base, joined};
+use bl_session::alone::serve_alone;
 use bl_wire::fault::SessionFault;
-use crate::tests::base::{SHOW_MEMO, base, joined, said_under};
 use bl_wire::watched::Watched;
 use std::alloc::Global;
 use std::test::Fail;
@@ -29,7 +29,7 @@ fn is_too_long(alloc: Global, input: &[u8]) -> Result<bool, Fail> {
 #[test]
 fn input_at_its_limit(rt: HostRuntime) -> Result<(), Fail> {
     let mut input = words_and_bytes(rt.alloc(), "", b'\n', MOST)?;
-    assert_eq!(rt; said_under(rt.alloc(), 10_000, &input)?.as_str(), "bye\n");
+    assert_said_under(&rt, 10_000, &input, "bye\n")?;
     input.push(b'\n')?;
     assert!(rt; is_too_long(rt.alloc(), &input)?);
     Ok(())
@@ -39,8 +39,7 @@ fn input_at_its_limit(rt: HostRuntime) -> Result<(), Fail> {
 fn one_line_to_the_limit(rt: HostRuntime) -> Result<(), Fail> {
     let input = words_and_bytes(rt.alloc(), "hello ann\n", b'x', MOST - 10)?;
     let output = "ok\n1 refused long\nbye\n";
-    assert_eq!(rt; said_under(rt.alloc(), 10_000, &input)?.as_str(), output);
-    Ok(())
+    assert_said_under(&rt, 10_000, &input, output)
 }
 
 #[test]
@@ -50,6 +49,5 @@ fn blanks_before_a_bad_byte(rt: HostRuntime) -> Result<(), Fail> {
     input.extend_from_slice(SHOW_MEMO.as_bytes())?;
     input.push(0x80)?;
     let output = "ok\n1 refused syntax 32\nbye\n";
-    assert_eq!(rt; said_under(rt.alloc(), 10_000, &input)?.as_str(), output);
-    Ok(())
+    assert_said_under(&rt, 10_000, &input, output)
 }
