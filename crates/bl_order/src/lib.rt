@@ -2,6 +2,16 @@
 //! them.
 //!
 //!     laws    what holds of the order and of the machine, with the headline
+//!
+//! The definitions stand in specs/:
+//!
+//!     Order       the entries of the order, their tasks, and which tasks conflict
+//!     Past        what is said of each place: its subject, its answer, its effects, its policy and its contents
+//!     Legal       which orders may come about
+//!     Machine     the states, the events that may come next in each, and trails
+//!     Now         the policy and the contents, at a place and now
+//!     Headline    what holds of each state that a trail leads to
+//!     Laws        what the laws say of places
 #![tactic(auto)]
 
 pub mod laws;

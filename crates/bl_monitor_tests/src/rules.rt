@@ -2,9 +2,9 @@
 ghost use Rattle.std.specs.Prelude.{IfOk};
 ghost use Rattle.bl_monitor.specs.Heard.{Knows};
 
-use super::{SHOW_MEMO, ann_is_shown, answer_to, base_monitor, is_done, monitor_over};
-use crate::monitor::{Entry, Monitor};
+use super::base::{SHOW_MEMO, ann_is_shown, answer_to, base_monitor, is_shown, monitor_over};
 use bl_level::level::Level;
+use bl_monitor::monitor::{Entry, Monitor};
 use bl_policy::access::Mode;
 use bl_policy::denial::Clause;
 use bl_policy::id::{DocId, SubjectId};
@@ -68,6 +68,14 @@ fn is_made(monitor: &mut Monitor, subject: u16, rule: Rule) -> Result<bool, Fail
     match answer_of(monitor, subject, rule, false)? {
         Answer::RuleDone => Ok(true),
         Answer::Done(_) | Answer::Denied(_) | Answer::Lost => Ok(false),
+    }
+}
+
+/// Whether a rule that is lost is answered so.
+fn is_lost_rule(monitor: &mut Monitor, subject: u16, rule: Rule) -> Result<bool, Fail> {
+    match answer_of(monitor, subject, rule, true)? {
+        Answer::Lost => Ok(true),
+        Answer::Done(_) | Answer::RuleDone | Answer::Denied(_) => Ok(false),
     }
 }
 
@@ -200,8 +208,7 @@ const APPEND_B: &[u8] = b"when append memo do add memo \"b\"; end";
 fn write_does_not_stand_for_append(rt: HostRuntime) -> Result<(), Fail> {
     let mut monitor = base_monitor(rt.alloc())?;
     assert!(rt; is_made(&mut monitor, BOB, current(S, NATO)?)?);
-    let answer = answer_to(&mut monitor, rt.alloc(), b"hello bob", APPEND_B, false)?;
-    assert!(rt; is_done(&answer, &[]));
+    assert!(rt; is_shown(&mut monitor, rt.alloc(), b"hello bob", APPEND_B, &[])?);
     assert!(rt; is_made(&mut monitor, ROOT, rescind_memo(BOB, Mode::Append))?);
     assert!(rt;
         is_refused_to_bob(
@@ -237,8 +244,7 @@ fn rescind_between_reads(rt: HostRuntime) -> Result<(), Fail> {
 #[test]
 fn lost_rule_changes_nothing(rt: HostRuntime) -> Result<(), Fail> {
     let mut monitor = base_monitor(rt.alloc())?;
-    let answer = answer_of(&mut monitor, ROOT, rescind_memo(ANN, Mode::Read), true)?;
-    assert!(rt; matches!(answer, Answer::Lost));
+    assert!(rt; is_lost_rule(&mut monitor, ROOT, rescind_memo(ANN, Mode::Read))?);
     assert!(rt; ann_is_shown(&mut monitor, rt.alloc(), SHOW_MEMO, &[b"m1"])?);
     Ok(())
 }

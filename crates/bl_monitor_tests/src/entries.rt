@@ -1,0 +1,116 @@
+//! Entries of an order, read from the lines of a session, and each answered as the worked examples have it.
+use super::base::{
+    ADD_AND_SPAWN, SHOW_MEMO, ann_is_denied_note, ann_is_shown, are_no_children, base_monitor,
+    child_is_shown, is_lost, is_shown, monitor_over, star_ann_note,
+};
+use std::test::Fail;
+
+#[test]
+fn write_needs_equal_levels(rt: HostRuntime) -> Result<(), Fail> {
+    let mut monitor = base_monitor(rt.alloc())?;
+    assert!(rt; ann_is_denied_note(&mut monitor, rt.alloc(), b"when write note do end")?);
+    assert_eq!(rt; monitor.fault(0), star_ann_note());
+    assert_eq!(rt; monitor.children(0), None);
+    Ok(())
+}
+
+#[test]
+fn denial_changes_nothing(rt: HostRuntime) -> Result<(), Fail> {
+    let mut monitor = base_monitor(rt.alloc())?;
+    let line = b"when write memo, write note do set memo \"z\"; end";
+    assert!(rt; ann_is_denied_note(&mut monitor, rt.alloc(), line)?);
+    assert!(rt; ann_is_shown(&mut monitor, rt.alloc(), SHOW_MEMO, &[b"m1"])?);
+    assert_eq!(rt; monitor.fault(1), None);
+    assert_eq!(rt; monitor.children(1), Some(0));
+    Ok(())
+}
+
+#[test]
+fn append_upward(rt: HostRuntime) -> Result<(), Fail> {
+    let mut monitor = monitor_over(rt.alloc(), b"\"n1\"", b"allow root log r\n")?;
+    let line = b"when append log do add log \"x\"; end";
+    assert!(rt; ann_is_shown(&mut monitor, rt.alloc(), line, &[])?);
+    let line = b"when read log do show log; end";
+    assert!(rt; is_shown(&mut monitor, rt.alloc(), b"hello root", line, &[b"x"])?);
+    Ok(())
+}
+
+const CHOOSE_AND_POUR: &[u8] =
+    b"when read note, write memo do if note is \"n1\" then pour note to memo; else set memo \"no\"; end; \
+show memo; if memo has \"1n\" then say \"yes\"; end; end";
+
+#[test]
+fn choose_and_pour(rt: HostRuntime) -> Result<(), Fail> {
+    let mut monitor = base_monitor(rt.alloc())?;
+    assert!(rt;
+        ann_is_shown(
+            &mut monitor,
+            rt.alloc(),
+            CHOOSE_AND_POUR,
+            &[b"m1n1", b"yes"]
+        )?
+    );
+    Ok(())
+}
+
+#[test]
+fn choose_and_pour_else(rt: HostRuntime) -> Result<(), Fail> {
+    let mut monitor = monitor_over(rt.alloc(), b"\"n2\"", b"")?;
+    assert!(rt; ann_is_shown(&mut monitor, rt.alloc(), CHOOSE_AND_POUR, &[b"no"])?);
+    Ok(())
+}
+
+#[test]
+fn child_enters_after_admitted_line(rt: HostRuntime) -> Result<(), Fail> {
+    let mut monitor = base_monitor(rt.alloc())?;
+    assert!(rt; ann_is_shown(&mut monitor, rt.alloc(), ADD_AND_SPAWN, &[])?);
+    let line = b"when write memo do add memo \"b\"; end";
+    assert!(rt; ann_is_shown(&mut monitor, rt.alloc(), line, &[])?);
+    assert!(rt; child_is_shown(&mut monitor, 0, 1, &[b"m1ab"])?);
+    Ok(())
+}
+
+/// The children of the branch that did not run aren't counted.
+#[test]
+fn counts_children_that_were_spawned(rt: HostRuntime) -> Result<(), Fail> {
+    let mut monitor = base_monitor(rt.alloc())?;
+    let line = b"when read note do if note is \"n2\" then spawn when read memo do show memo; end; \
+else spawn when read note do show note; end; end; end";
+    assert!(rt; ann_is_shown(&mut monitor, rt.alloc(), line, &[])?);
+    assert_eq!(rt; monitor.children(0), Some(1));
+    assert!(rt; child_is_shown(&mut monitor, 0, 1, &[b"n1"])?);
+    assert_eq!(rt; monitor.children(1), Some(0));
+    Ok(())
+}
+
+/// Number 0, a number that is too large, and a parent that is not there.
+#[test]
+fn no_child(rt: HostRuntime) -> Result<(), Fail> {
+    let mut monitor = base_monitor(rt.alloc())?;
+    assert!(rt; ann_is_shown(&mut monitor, rt.alloc(), ADD_AND_SPAWN, &[])?);
+    assert!(rt; are_no_children(&mut monitor, &[(0, 0), (0, 2), (1, 1)]));
+    assert!(rt; child_is_shown(&mut monitor, 0, 1, &[b"m1a"])?);
+    Ok(())
+}
+
+/// A parent that was denied, and one that was lost, which changes nothing.
+#[test]
+fn no_child_of_what_did_not_run(rt: HostRuntime) -> Result<(), Fail> {
+    let mut monitor = base_monitor(rt.alloc())?;
+    let line = b"when write note do spawn when read memo do show memo; end; end";
+    assert!(rt; ann_is_denied_note(&mut monitor, rt.alloc(), line)?);
+    assert!(rt; is_lost(&mut monitor, rt.alloc(), ADD_AND_SPAWN)?);
+    assert!(rt; are_no_children(&mut monitor, &[(0, 1), (1, 1)]));
+    assert!(rt; ann_is_shown(&mut monitor, rt.alloc(), SHOW_MEMO, &[b"m1"])?);
+    Ok(())
+}
+
+/// What the policy has against a lost entry is told.
+#[test]
+fn lost_entry_keeps_its_fault(rt: HostRuntime) -> Result<(), Fail> {
+    let mut monitor = base_monitor(rt.alloc())?;
+    assert!(rt; is_lost(&mut monitor, rt.alloc(), b"when write note do end")?);
+    assert_eq!(rt; monitor.fault(0), star_ann_note());
+    assert_eq!(rt; monitor.children(0), None);
+    Ok(())
+}

@@ -1,0 +1,13 @@
+//! Tests of the monitor.
+//!
+//!     base       a monitor over the base setup, and what the tests ask of it
+//!     entries    lines and children, read from the lines of a session
+//!     rules      rules among the entries
+#![tactic(auto)]
+
+#[cfg(test)]
+mod base;
+#[cfg(test)]
+mod entries;
+#[cfg(test)]
+mod rules;
