@@ -22,6 +22,6 @@ limit_rule = record (new_rule (codes "limit")) {
 abbrev pub alone_app : App
 alone_app = with_rule (with_rule (new_app (codes "alone")) setup_rule) limit_rule
 
--- own choice: a command has to be given, and `alone` is the only one
+-- own choice: a command has to be given, and `alone` is the only one; the program has a version
 abbrev pub server_app : App
-server_app = with_subcommand (on_top (λ s. record s { subcommand_required = true }) (new_app (codes "bl_server"))) alone_app.top
+server_app = with_subcommand (on_top (λ s. record s { has_version = true; subcommand_required = true }) (new_app (codes "bl_server"))) alone_app.top

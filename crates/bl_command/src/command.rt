@@ -1,5 +1,5 @@
 //! The command line.
-ghost use Rattle.std.specs.Prelude.{◌≡◌, ◌≢◌, ◌≤◌, ◌⊎◌, false, map, string_bytes, IfOk, IfErr, IfSome};
+ghost use Rattle.std.specs.Prelude.{◌≡◌, ◌≢◌, ◌≤◌, ◌⊎◌, false, map, string_bytes, IfOk, IfSome};
 ghost use Rattle.clap.specs.Words.{kind_of, rule_of, app_of};
 ghost use Rattle.clap.specs.declared.builder.command.Command.TheViews.{out-Command as fields_of};
 ghost use Rattle.bl_command.specs.CommandLine.{setup_rule, limit_rule, alone_app, server_app};
@@ -61,6 +61,7 @@ fn parser<'a>(alloc: Global) -> Result<Parser<'a>, AllocError>
     ensures { IfOk result (λ parser. app_of parser ≡ server_app) }
 {
     Parser::new(alloc, "bl_server")
+        .version("0.1.0")
         .about("A document server that enforces Bell and La Padula")
         .subcommand_required(true)
         .subcommand(alone_parser(alloc)?)
@@ -95,8 +96,9 @@ fn command_of<'a>(found: &ArgMatches<'a>) -> Option<Command<'a>>
 }
 
 /// Reads the words of a command line, of which the first is the program's name. The error's text
-/// is for whoever gave the words; a call for help is an error too.
-pub fn parse_words<'a>(alloc: Global, words: &'a [String]) -> Result<Command<'a>, Error>
+/// is for whoever gave the words, and `status_of` is the status that the run then ends with; a call
+/// for help or for the version is an error too.
+pub fn read_words<'a>(alloc: Global, words: &'a [String]) -> Result<Command<'a>, Error>
     ensures range { IfOk result IsInRange }
     ensures written { IfOk result (Name (map (λ word. string_bytes word) words.entry.now)) }
 {
@@ -120,18 +122,5 @@ pub fn status_of(error: &Error) -> u8
         ErrorKind::OutOfMemory => 4,
         ErrorKind::DisplayHelp | ErrorKind::DisplayVersion => 0,
         _ => 2,
-    }
-}
-
-/// Reads the words of a command line, of which the first is the program's name, or gives the
-/// status of the run.
-pub fn read_words<'a>(alloc: Global, words: &'a [String]) -> Result<Command<'a>, u8>
-    ensures ok { IfOk result IsInRange }
-    ensures written { IfOk result (Name (map (λ word. string_bytes word) words.entry.now)) }
-    ensures err { IfErr result (λ status. (status ≡ 0) ⊎ ((status ≡ 2) ⊎ (status ≡ 4))) }
-{
-    match parse_words(alloc, words) {
-        Ok(command) => Ok(command),
-        Err(error) => Err(status_of(&error)),
     }
 }

@@ -9,7 +9,7 @@ ghost use Rattle.bl_command.specs.Message.{message_of};
 ghost use Rattle.bl_command.specs.Status as ending;
 ghost use Rattle.bl_command.specs.declared.fault.ProgramFault as program;
 
-use crate::command::{Command, parse_words, status_of};
+use crate::command::{Command, read_words, status_of};
 use crate::fault::{ProgramFault, of_session, of_setup};
 use bl_session::alone::serve_and_keep;
 use bl_setup::reader::read_setup;
@@ -175,7 +175,7 @@ fn alone<R: AllocGlobal + Files + Print + Eprint + Input>(rt: &R, setup: &str, l
     )
 }
 
-/// A run of the program. The result is its status: 0 where all was done or help was asked for, 2
+/// A run of the program. The result is its status: 0 where all was done, or help or the version was asked for, 2
 /// for bad arguments, 3 for a fault of the setup or of the session, and 4 for want of memory.
 pub fn run<R: AllocGlobal + Env + Files + Print + Eprint + Input>(rt: &R) -> u8
     ensures { (result ≡ 0) ⊎ ((result ≡ 2) ⊎ ((result ≡ 3) ⊎ (result ≡ 4))) }
@@ -188,7 +188,7 @@ pub fn run<R: AllocGlobal + Env + Files + Print + Eprint + Input>(rt: &R) -> u8
         ),
         Err(_) => return 2,
     };
-    match parse_words(rt.alloc(), words.as_slice()) {
+    match read_words(rt.alloc(), words.as_slice()) {
         Ok(Command::Alone { setup, limit }) => alone(rt, setup, limit),
         Err(error) => {
             let status = status_of(&error);

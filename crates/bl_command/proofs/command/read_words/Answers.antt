@@ -1,6 +1,6 @@
 use Rattle.std.proofs.Common.{sym, ◌∙◌}
 use Rattle.bl_command.proofs.CommandLine.{matches_are_entered}
-use Rattle.bl_command.proofs.command.parse_words.Goals as goal
+use Rattle.bl_command.proofs.command.read_words.Goals as goal
 
 -- the matches are those that the words have, and the command is theirs
 pub returns-in-Some-clause-written : goal.returns-in-Some-clause-written
