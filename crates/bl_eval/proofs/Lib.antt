@@ -2,4 +2,3 @@ pub mod Steps
 pub mod Runs
 pub mod Pieces
 pub mod Loans
-pub mod Handmade

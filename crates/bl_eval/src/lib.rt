@@ -4,6 +4,4 @@
 pub mod evaluate;
 pub mod laws;
 pub mod lent;
-#[cfg(test)]
-mod tests;
 mod told;

@@ -6,5 +6,3 @@ pub mod grant;
 pub mod grants;
 mod held;
 pub mod returned;
-#[cfg(test)]
-mod tests;

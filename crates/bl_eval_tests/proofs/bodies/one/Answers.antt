@@ -1,8 +1,8 @@
 use Rattle.std.proofs.Common.{◌≡◌, List, [], ◌∷◌, ◌++◌, ap, sym, ◌∙◌, subst}
 use Rattle.bl_work.specs.Statements.{Part}
 use Rattle.bl_work.specs.Script.{IsScript}
-use Rattle.bl_eval.proofs.Handmade.{one-script}
-use Rattle.bl_eval.proofs.tests.one.Goals as goal
+use Rattle.bl_eval_tests.proofs.Handmade.{one-script}
+use Rattle.bl_eval_tests.proofs.bodies.one.Goals as goal
 
 pub new-requires : goal.new-requires
 new-requires c =

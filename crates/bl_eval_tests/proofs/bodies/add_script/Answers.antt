@@ -2,8 +2,8 @@ use Rattle.std.proofs.Common.{◌≡◌, ◌≤◌, [], ◌∷◌, ap, sym, subs
 use Rattle.bl_work.specs.Statements.{Part}
 use Rattle.bl_work.specs.Nesting.{spawned, depth_at}
 use Rattle.bl_work.specs.Script.{IsBehaviour}
-use Rattle.bl_eval.proofs.Handmade.{add_part, add-right}
-use Rattle.bl_eval.proofs.tests.add_script.Goals as goal
+use Rattle.bl_eval_tests.proofs.Handmade.{add_part, add-right}
+use Rattle.bl_eval_tests.proofs.bodies.add_script.Goals as goal
 
 pub one-requires-clause-behaviour : goal.one-requires-clause-behaviour
 one-requires-clause-behaviour c =

@@ -2,14 +2,14 @@ use Rattle.std.proofs.Common.{◌≡◌, ◌≤◌, [], ◌∷◌, ap, sym, subs
 use Rattle.bl_work.specs.Statements.{Part}
 use Rattle.bl_work.specs.Nesting.{spawned, depth_at}
 use Rattle.bl_work.specs.Script.{IsBehaviour}
-use Rattle.bl_eval.proofs.Handmade.{pour_part, pour-right}
-use Rattle.bl_eval.proofs.tests.pour_script.Goals as goal
+use Rattle.bl_eval_tests.proofs.Handmade.{choose_part, choose-right}
+use Rattle.bl_eval_tests.proofs.bodies.choose_script.Goals as goal
 
 pub one-requires-clause-behaviour : goal.one-requires-clause-behaviour
 one-requires-clause-behaviour c =
     let made : Part = record { accesses = c.in_ok-accesses.accesses.items; body = c.in_ok-body.body } in
-    let e : made ≡ pour_part = λ i. record { accesses = c.in_ok-accesses.ensures i; body = c.in_ok-body.ensures i } in
-    subst (λ (p : Part). IsBehaviour p) (sym e) pour-right
+    let e : made ≡ choose_part = λ i. record { accesses = c.in_ok-accesses.ensures i; body = c.in_ok-body.ensures i } in
+    subst (λ (p : Part). IsBehaviour p) (sym e) choose-right
 
 pub one-requires-clause-alone : goal.one-requires-clause-alone
 one-requires-clause-alone c = ap spawned c.in_ok-body.ensures
@@ -17,5 +17,5 @@ one-requires-clause-alone c = ap spawned c.in_ok-body.ensures
 pub one-requires-clause-shallow : goal.one-requires-clause-shallow
 one-requires-clause-shallow c =
     let made : Part = record { accesses = c.in_ok-accesses.accesses.items; body = c.in_ok-body.body } in
-    let e : made ≡ pour_part = λ i. record { accesses = c.in_ok-accesses.ensures i; body = c.in_ok-body.ensures i } in
+    let e : made ≡ choose_part = λ i. record { accesses = c.in_ok-accesses.ensures i; body = c.in_ok-body.ensures i } in
     subst (λ (p : Part). depth_at (p ∷ []) 0 ≤ 8) (sym e) (lit≤ tt)
