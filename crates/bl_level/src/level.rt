@@ -112,26 +112,3 @@ pub fn dominates_means_dominance()
 pub fn dominance_is_antisymmetric()
     ensures { (a b : SecurityLevel) → Dominates a b → Dominates b a → a ≡ b }
 {}
-
-#[cfg(test)]
-mod tests {
-    use super::*;
-    use std::test::Fail;
-
-    #[test]
-    fn levels(rt: HostRuntime) -> Result<(), Fail> {
-        let secret = Level::new(2, 0b01).ok_or("secret")?;
-        let top = Level::new(15, 0b10).ok_or("top")?;
-        assert!(rt; Level::new(16, 0).is_none());
-
-        assert_eq!(rt; top.rank(), 15);
-        assert_eq!(rt; top.categories(), 2);
-        assert!(rt; !top.dominates(&secret), "it lacks a category");
-        assert!(rt; !secret.dominates(&top));
-
-        let both = secret.join(&top);
-        assert_eq!(rt; both, Level::new(15, 0b11).ok_or("both")?);
-        assert!(rt; both.dominates(&secret) && both.dominates(&top) && both.dominates(&both));
-        Ok(())
-    }
-}

@@ -137,35 +137,3 @@ pub fn table_of(alloc: Global, names: &[Name]) -> Result<NameTable, TableFault>
     }
     Ok(table)
 }
-
-#[cfg(test)]
-mod tests {
-    use super::*;
-    use std::test::Fail;
-
-    #[test]
-    fn names_are_added_once(rt: HostRuntime) -> Result<(), Fail> {
-        let memo = Name::new(b"memo").ok_or("memo")?;
-        let mut table = NameTable::with_room(rt.alloc(), 1)?;
-        assert!(rt; table.is_empty());
-        assert!(rt; table.add(memo.copy()).is_ok());
-        assert_eq!(rt;
-            table.add(memo.copy()),
-            Err(TableFault::Repeated(memo.copy()))
-        );
-        assert!(rt; table.add(Name::new(b"note").ok_or("note")?).is_ok());
-        assert_eq!(rt; table.len(), 2);
-        assert_eq!(rt; table.position(&memo), Some(0));
-        assert_eq!(rt; table.position_of(b"note"), Some(1));
-        assert_eq!(rt; table.position_of(b"Note"), None);
-        assert!(rt; table.get(1).ok_or("get")?.bytes() == b"note".as_slice());
-        let mut copy = table.copy()?;
-        assert!(rt; copy.add(Name::new(b"log").ok_or("log")?).is_ok());
-        assert_eq!(rt; (table.len(), copy.len()), (2, 3));
-        assert_eq!(rt; copy.position_of(b"note"), Some(1));
-        assert_eq!(rt; table.position_of(b"log"), None);
-        let names = [memo.copy(), memo.copy()];
-        assert!(rt; table_of(rt.alloc(), &names).err() == Some(TableFault::Repeated(memo)));
-        Ok(())
-    }
-}

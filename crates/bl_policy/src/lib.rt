@@ -1,12 +1,11 @@
-// The policy: who may use which document in which mode, the decision on a list of accesses, and the rules
-// that change it.
-//
-//     id        positions of subjects and documents
-//     access    modes, sets of modes, accesses
-//     denial    what a refused access or rule says
-//     rule      changes of the policy that a subject may ask for
-//     policy    the policy itself, what it decides, and what rules make of it
-//     laws      what the words of the definitions mean
+//! The policy: who may use which document in which mode, the decision on a list of accesses, and the rules that change it.
+//!
+//!     id            positions of subjects and documents
+//!     access        modes, sets of modes, and one access
+//!     denial        what the refusal of an access or of a rule says
+//!     rule          the changes of the policy that a subject may ask for
+//!     policy        levels, rights and the matrix, and what they decide; `policy/apply` says what a rule makes of them
+//!     laws          what the words of the definitions mean, for every policy
 #![tactic(auto)]
 
 pub mod access;

@@ -349,5 +349,3 @@ impl Policy {
 }
 
 mod apply;
-#[cfg(test)]
-mod tests;

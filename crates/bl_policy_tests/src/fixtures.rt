@@ -1,0 +1,160 @@
+//! The base policy, built by hand, and calls that ask first for what `bl_policy` requires.
+ghost use Rattle.std.specs.Prelude.{◌<◌, All, length};
+
+use bitflags::Flags;
+use bl_level::level::Level;
+use bl_policy::access::{Access, Mode, ModeSet};
+use bl_policy::denial::{Clause, Denial};
+use bl_policy::id::{DocId, SubjectId};
+use bl_policy::policy::Policy;
+use bl_policy::rule::Rule;
+use std::process::Abort;
+use std::test::Fail;
+
+pub const NATO: u32 = 1;
+
+pub const CRYPTO: u32 = 2;
+
+/// Ranks u, c, s and t are 0 to 3.
+pub fn level(rank: u8, categories: u32) -> Result<Level, Fail> {
+    Ok(Level::new(rank, categories).ok_or("no such rank")?)
+}
+
+/// The subjects and documents of the base policy.
+#[derive(Clone, Copy)]
+pub struct Base {
+    pub ann: SubjectId,
+    pub bob: SubjectId,
+    pub cat: SubjectId,
+    pub root: SubjectId,
+    pub memo: DocId,
+    pub note: DocId,
+    pub log: DocId,
+}
+
+/// Adds the subjects and documents of the base policy.
+fn add_base(policy: &mut Policy) -> Result<Base, Fail> {
+    let lowest = level(0, 0)?;
+    let nato = level(2, NATO)?;
+    let crypto = level(2, CRYPTO)?;
+    let top = level(3, NATO | CRYPTO)?;
+    Ok(Base {
+        ann: policy.add_subject(nato, nato, false, false)?,
+        bob: policy.add_subject(nato, lowest, false, false)?,
+        cat: policy.add_subject(crypto, crypto, false, false)?,
+        root: policy.add_subject(top, lowest, true, true)?,
+        memo: policy.add_document(nato)?,
+        note: policy.add_document(lowest)?,
+        log: policy.add_document(top)?,
+    })
+}
+
+/// Fills a policy that is empty with the base policy.
+pub fn fill_base(rt: &impl Abort, policy: &mut Policy) -> Result<Base, Fail> {
+    let base = add_base(policy)?;
+    let cells = [
+        (base.ann, base.memo, ModeSet::READ | ModeSet::WRITE),
+        (base.ann, base.note, ModeSet::READ),
+        (base.ann, base.note, ModeSet::WRITE),
+        (base.ann, base.log, ModeSet::READ | ModeSet::APPEND),
+        (base.bob, base.memo, ModeSet::all()),
+        (base.bob, base.note, ModeSet::READ | ModeSet::WRITE),
+        (base.cat, base.memo, ModeSet::READ),
+        (base.root, base.note, ModeSet::READ | ModeSet::WRITE),
+    ];
+    for (subject, doc, modes) in cells {
+        allow(rt, policy, subject, doc, modes);
+    }
+    Ok(base)
+}
+
+pub fn allow(rt: &impl Abort, policy: &mut Policy, subject: SubjectId, doc: DocId, modes: ModeSet) {
+    assert!(rt; (subject.position() as usize) < policy.subjects());
+    assert!(rt; (doc.position() as usize) < policy.documents());
+    policy.allow(subject, doc, modes);
+}
+
+pub fn decide(
+    rt: &impl Abort,
+    policy: &Policy,
+    subject: SubjectId,
+    accesses: &[Access],
+) -> Option<Denial> {
+    assert!(rt; (subject.position() as usize) < policy.subjects());
+    let documents = policy.documents();
+    let are_there = accesses
+        .iter()
+        .all(|access| (access.doc.position() as usize) < documents);
+    assert!(rt; are_there);
+    policy.decide(subject, accesses)
+}
+
+fn apply(rt: &impl Abort, policy: &mut Policy, subject: SubjectId, rule: Rule) -> Option<Denial> {
+    assert!(rt; (subject.position() as usize) < policy.subjects());
+    assert!(rt; rule.has_ids_below(policy.subjects(), policy.documents()));
+    policy.apply(subject, &rule)
+}
+
+fn cell(rt: &impl Abort, policy: &Policy, subject: SubjectId, doc: DocId) -> ModeSet {
+    assert!(rt; (subject.position() as usize) < policy.subjects());
+    assert!(rt; (doc.position() as usize) < policy.documents());
+    policy.cell(subject, doc)
+}
+
+/// An access of a subject, and what is decided on it.
+pub type Decision = (SubjectId, Mode, DocId, Option<Denial>);
+
+pub fn decide_each(rt: &impl Abort, policy: &Policy, decisions: &[Decision]) {
+    for (i, (subject, mode, doc, decision)) in decisions.iter().enumerate() {
+        let decided = decide(
+            rt,
+            policy,
+            *subject,
+            &[Access {
+                mode: *mode,
+                doc: *doc,
+            }],
+        );
+        assert_eq!(rt; decided, *decision, "decision {i}");
+    }
+}
+
+/// A rule, who asks for it, and what is answered.
+pub type Step = (SubjectId, Rule, Option<Denial>);
+
+pub fn apply_each(rt: &impl Abort, policy: &mut Policy, steps: &[Step]) {
+    for (i, (speaker, rule, answer)) in steps.iter().enumerate() {
+        assert_eq!(rt; apply(rt, policy, *speaker, *rule), *answer, "step {i}");
+    }
+}
+
+/// What the matrix has of a subject and a document.
+pub type Cell = (SubjectId, DocId, ModeSet);
+
+pub fn have_cells(rt: &impl Abort, policy: &Policy, cells: &[Cell]) {
+    for (i, (subject, doc, modes)) in cells.iter().enumerate() {
+        assert_eq!(rt; cell(rt, policy, *subject, *doc), *modes, "cell {i}");
+    }
+}
+
+pub fn has_current(rt: &impl Abort, policy: &Policy, subject: SubjectId, level: Level) {
+    assert!(rt; (subject.position() as usize) < policy.subjects());
+    assert_eq!(rt; policy.current(subject), level);
+}
+
+pub fn give(subject: SubjectId, doc: DocId, mode: Mode) -> Rule {
+    Rule::Give { subject, doc, mode }
+}
+
+pub fn rescind(subject: SubjectId, doc: DocId, mode: Mode) -> Rule {
+    Rule::Rescind { subject, doc, mode }
+}
+
+/// The refusal of an access, or of a rule with a document.
+pub fn denied(clause: Clause, subject: SubjectId, doc: DocId) -> Option<Denial> {
+    Some(Denial {
+        clause,
+        subject,
+        object: Some(doc),
+    })
+}

@@ -1,0 +1,13 @@
+//! The tests of `bl_policy`.
+//!
+//!     fixtures      the base policy, built by hand, and calls that ask first for what `bl_policy` requires
+//!     decisions     what a policy decides, and what it has
+//!     rules         rules, and what is decided after each of them
+#![tactic(auto)]
+
+#[cfg(test)]
+mod decisions;
+#[cfg(test)]
+mod fixtures;
+#[cfg(test)]
+mod rules;
