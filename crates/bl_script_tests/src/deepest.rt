@@ -1,9 +1,8 @@
 //! Lines of as many steps in one another as 8,192 bytes can have, on the stack that a spawned thread gets.
-use super::lines::{add_document, no_names};
+use super::fixtures::{names_of, read_by};
 use bl_read::known::check_when_known;
-use bl_read::line::read_line;
-use bl_work::asked::LineFault;
-use bl_work::names::Names;
+use bl_script::asked::LineFault;
+use bl_script::names::Names;
 use bl_syntax::raw::RawLine;
 use bl_syntax::read::read_raw;
 use std::alloc::Global;
@@ -16,13 +15,6 @@ const IF: &[u8] = b"if a is\"\"then ";
 
 /// A step of 21 bytes, which its end makes 25.
 const WHEN: &[u8] = b"spawn when read a do ";
-
-/// Names with the document `a` alone.
-fn names_of_a(alloc: Global) -> Result<Names, Fail> {
-    let mut names = no_names(alloc)?;
-    add_document(&mut names, b"a")?;
-    Ok(names)
-}
 
 /// So many of these steps in one another.
 fn steps(alloc: Global, step: &[u8], count: usize) -> Result<Vec<u8>, Fail> {
@@ -45,7 +37,7 @@ fn ended_steps(alloc: Global, step: &[u8], count: usize) -> Result<Vec<u8>, Fail
 }
 
 /// Whether the line is read, and knows each name to its deepest step.
-fn is_walked(alloc: Global, names: &Names, line: &[u8]) -> bool {
+fn is_walked_by(alloc: Global, names: &Names, line: &[u8]) -> bool {
     match read_raw(alloc, line) {
         Ok(RawLine::When { first, more, body }) => {
             check_when_known(names, first, &more, &body).is_ok()
@@ -54,19 +46,33 @@ fn is_walked(alloc: Global, names: &Names, line: &[u8]) -> bool {
     }
 }
 
-/// The same on a thread, which drops what it has read.
+/// The same where the one document is `a`.
+fn is_walked(alloc: Global, line: &[u8]) -> bool {
+    match names_of(alloc, b"a") {
+        Some(names) => is_walked_by(alloc, &names, line),
+        None => false,
+    }
+}
+
+/// Why the line is refused where the one document is `a`.
+fn fault_of(alloc: Global, line: &[u8]) -> Option<LineFault> {
+    match names_of(alloc, b"a") {
+        Some(names) => read_by(alloc, names, line).err(),
+        None => None,
+    }
+}
+
+/// Whether the line is walked on a thread, which drops what it has read.
 fn is_walked_there(rt: &impl Threads, alloc: Global, line: Vec<u8>) -> Result<bool, Fail> {
-    let names = names_of_a(alloc)?;
-    let Ok(reader) = thread::spawn(rt, move || is_walked(alloc, &names, &line)) else {
+    let Ok(reader) = thread::spawn(rt, move || is_walked(alloc, &line)) else {
         return Err(Fail::new("no thread"));
     };
     Ok(reader.join(rt))
 }
 
-/// What a thread answers to the line.
+/// Why the line is refused on a thread.
 fn fault_there(rt: &impl Threads, alloc: Global, line: Vec<u8>) -> Result<Option<LineFault>, Fail> {
-    let names = names_of_a(alloc)?;
-    let Ok(reader) = thread::spawn(rt, move || read_line(alloc, &names, &line).err()) else {
+    let Ok(reader) = thread::spawn(rt, move || fault_of(alloc, &line)) else {
         return Err(Fail::new("no thread"));
     };
     Ok(reader.join(rt))

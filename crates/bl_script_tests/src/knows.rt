@@ -1,37 +1,32 @@
 //! Which works some text reads as, by given names.
-use bl_read::line::read_line;
-use bl_work::asked::Line;
-use bl_work::names::Names;
-use bl_work::script::Script;
-use bl_work::work::Work;
-use bl_level::name::Name;
-use bl_level::scheme::Scheme;
+use super::fixtures::{is_known_by, names_of, read};
 use bl_policy::id::DocId;
+use bl_script::asked::Line;
+use bl_script::script::Script;
+use bl_script::work::Work;
 use std::alloc::Global;
 use std::test::Fail;
 
-fn named(bytes: &[u8]) -> Result<Name, Fail> {
-    match Name::new(bytes) {
-        Some(name) => Ok(name),
-        None => Err(Fail::new("no name")),
-    }
-}
-
-/// The names of one document.
-fn names_of(alloc: Global, document: &[u8]) -> Result<Names, Fail> {
-    let scheme = Scheme::new(alloc, &[named(b"u")?], &[])?;
-    let mut names = Names::new(alloc, scheme)?;
-    names.add_document(named(document)?)?;
-    Ok(names)
-}
-
-/// What a line asks where its one document is memo.
+/// What a line asks where memo is the first document.
 fn work_of(alloc: Global, line: &[u8]) -> Result<Work, Fail> {
-    let names = names_of(alloc, b"memo")?;
-    match read_line(alloc, &names, line)? {
+    match read(alloc, line)? {
         Line::Work(work) => Ok(work),
         _ => Err(Fail::new("no work")),
     }
+}
+
+/// Whether some text reads as the work where its one document has this name.
+fn is_known(alloc: Global, document: &[u8], work: &Work) -> Result<bool, Fail> {
+    match names_of(alloc, document) {
+        Some(names) => Ok(is_known_by(names, work)),
+        None => Err(Fail::new("no names")),
+    }
+}
+
+/// The work of a read of the document of this number, as a script of one behaviour.
+fn one_read(alloc: Global, document: u16) -> Result<Work, Fail> {
+    let script = Script::one_read(alloc, DocId::new(document))?;
+    Ok(Work::Behaviour(script))
 }
 
 /// The work of `when read memo do `, so many times `show memo;`, and `end`.
@@ -62,35 +57,28 @@ fn knows_what_it_reads(rt: HostRuntime) -> Result<(), Fail> {
         rt.alloc(),
         b"when write memo do if memo is\"a\"then else end;spawn when read memo do show memo;end;end",
     )?;
-    let names = names_of(rt.alloc(), b"memo")?;
-    assert!(rt; names.knows(&work));
+    assert!(rt; is_known(rt.alloc(), b"memo", &work)?);
     Ok(())
 }
 
 #[test]
 fn knows_no_document_that_is_not_there(rt: HostRuntime) -> Result<(), Fail> {
-    let names = names_of(rt.alloc(), b"memo")?;
-    let first = Work::Behaviour(Script::one_read(rt.alloc(), DocId::new(0))?);
-    assert!(rt; names.knows(&first));
-    let second = Work::Behaviour(Script::one_read(rt.alloc(), DocId::new(1))?);
-    assert!(rt; !names.knows(&second));
+    assert!(rt; is_known(rt.alloc(), b"memo", &one_read(rt.alloc(), 0)?)?);
+    assert!(rt; !is_known(rt.alloc(), b"memo", &one_read(rt.alloc(), 1)?)?);
     Ok(())
 }
 
 /// A line of 8,192 bytes where the document is memo has 8,193 where it is memos.
 #[test]
 fn knows_a_text_of_8192_bytes(rt: HostRuntime) -> Result<(), Fail> {
-    let work = says(rt.alloc(), 8_165)?;
-    let names = names_of(rt.alloc(), b"memo")?;
-    assert!(rt; names.knows(&work));
+    assert!(rt; is_known(rt.alloc(), b"memo", &says(rt.alloc(), 8_165)?)?);
     Ok(())
 }
 
 #[test]
 fn knows_no_text_of_8193_bytes(rt: HostRuntime) -> Result<(), Fail> {
-    let longer = names_of(rt.alloc(), b"memos")?;
-    assert!(rt; longer.knows(&says(rt.alloc(), 8_164)?));
-    assert!(rt; !longer.knows(&says(rt.alloc(), 8_165)?));
+    assert!(rt; is_known(rt.alloc(), b"memos", &says(rt.alloc(), 8_164)?)?);
+    assert!(rt; !is_known(rt.alloc(), b"memos", &says(rt.alloc(), 8_165)?)?);
     Ok(())
 }
 
@@ -98,9 +86,7 @@ fn knows_no_text_of_8193_bytes(rt: HostRuntime) -> Result<(), Fail> {
 #[test]
 fn foreign_names(rt: HostRuntime) -> Result<(), Fail> {
     let work = shows(rt.alloc(), 700)?;
-    let short = names_of(rt.alloc(), b"memo")?;
-    assert!(rt; short.knows(&work));
-    let long = names_of(rt.alloc(), b"memo_memo_memo_memo_memo_memo_32")?;
-    assert!(rt; !long.knows(&work));
+    assert!(rt; is_known(rt.alloc(), b"memo", &work)?);
+    assert!(rt; !is_known(rt.alloc(), b"memo_memo_memo_memo_memo_memo_32", &work)?);
     Ok(())
 }

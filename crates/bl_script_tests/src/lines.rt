@@ -1,69 +1,27 @@
 //! What lines ask, and what is wrong with them.
-use bl_read::line::read_line;
-use bl_work::asked::{Line, LineFault};
-use bl_work::names::Names;
-use bl_work::script::{Script, Stmt};
-use bl_work::work::Work;
-use bl_level::name::Name;
-use bl_level::scheme::Scheme;
+use super::fixtures::{assert_places, fault_of, named, place_of, read};
 use bl_policy::access::Mode;
+use bl_script::asked::{Line, LineFault};
+use bl_script::script::{Script, Stmt};
+use bl_script::work::Work;
 use std::alloc::Global;
+use std::process::Abort;
 use std::test::Fail;
 
-fn named(bytes: &[u8]) -> Result<Name, Fail> {
-    match Name::new(bytes) {
-        Some(name) => Ok(name),
-        None => Err(Fail::new("no name")),
-    }
-}
-
-pub(super) fn no_names(alloc: Global) -> Result<Names, Fail> {
-    Ok(Names::new(alloc, Scheme::new(alloc, &[named(b"u")?], &[])?)?)
-}
-
-fn add_subject(names: &mut Names, name: &[u8]) -> Result<(), Fail> {
-    names.add_subject(named(name)?)?;
-    Ok(())
-}
-
-pub(super) fn add_document(names: &mut Names, name: &[u8]) -> Result<(), Fail> {
-    names.add_document(named(name)?)?;
-    Ok(())
-}
-
-/// The subjects ann and bob, and the documents memo, note and log.
-pub(super) fn known_names(alloc: Global) -> Result<Names, Fail> {
-    let mut names = no_names(alloc)?;
-    for subject in [b"ann", b"bob"] {
-        add_subject(&mut names, subject)?;
-    }
-    for document in [b"memo".as_slice(), b"note", b"log"] {
-        add_document(&mut names, document)?;
-    }
-    Ok(names)
-}
-
-fn fault_of(alloc: Global, line: &[u8]) -> Result<LineFault, Fail> {
-    let names = known_names(alloc)?;
-    match read_line(alloc, &names, line) {
-        Ok(_) => Err(Fail::new("no fault")),
-        Err(fault) => Ok(fault),
-    }
-}
-
-fn place_of(alloc: Global, line: &[u8]) -> Result<u32, Fail> {
-    match fault_of(alloc, line)? {
-        LineFault::Syntax(place) => Ok(place),
-        _ => Err(Fail::new("another fault")),
-    }
-}
-
 fn script_of(alloc: Global, line: &[u8]) -> Result<Script, Fail> {
-    let names = known_names(alloc)?;
-    match read_line(alloc, &names, line)? {
+    match read(alloc, line)? {
         Line::Work(Work::Behaviour(script)) => Ok(script),
         _ => Err(Fail::new("no behaviour")),
     }
+}
+
+fn weight_of(alloc: Global, line: &[u8]) -> Result<usize, Fail> {
+    Ok(script_of(alloc, line)?.weight())
+}
+
+/// Whether the line is refused for this fault.
+fn is_refused(alloc: Global, line: &[u8], expected: LineFault) -> Result<bool, Fail> {
+    Ok(fault_of(alloc, line)? == expected)
 }
 
 /// The word with blanks behind it, so many bytes in all.
@@ -88,12 +46,21 @@ fn nested(alloc: Global, count: usize) -> Result<Vec<u8>, Fail> {
     Ok(line)
 }
 
+/// `when read memo do `, and so many `if` in one another, none of them closed.
+fn opened(alloc: Global, count: usize) -> Result<Vec<u8>, Fail> {
+    let mut line = Vec::new(alloc);
+    line.extend_from_slice(b"when read memo do ")?;
+    for _ in 0..count {
+        line.extend_from_slice(b"if a is\"\"then ")?;
+    }
+    Ok(line)
+}
+
 #[test]
 fn reads_each_line(rt: HostRuntime) -> Result<(), Fail> {
-    let names = known_names(rt.alloc())?;
-    let hello = read_line(rt.alloc(), &names, b"hello bob")?;
+    let hello = read(rt.alloc(), b"hello bob")?;
     assert!(rt; matches!(&hello, Line::Hello(subject) if subject.position() == 1));
-    let wait = read_line(rt.alloc(), &names, b"\twait ")?;
+    let wait = read(rt.alloc(), b"\twait ")?;
     assert!(rt; matches!(&wait, Line::Wait));
     Ok(())
 }
@@ -130,91 +97,75 @@ fn an_else_of_nothing_is_none(rt: HostRuntime) -> Result<(), Fail> {
 
 #[test]
 fn syntax_offsets(rt: HostRuntime) -> Result<(), Fail> {
-    assert_eq!(rt; place_of(rt.alloc(), b"when read memo show memo; end")?, 15);
-    assert_eq!(rt; place_of(rt.alloc(), b"when read memo do show memo;")?, 28);
-    assert_eq!(rt;
-        place_of(rt.alloc(), b"when read memo do say \"a\\b\"; end")?,
-        24
-    );
-    Ok(())
+    let lines = [
+        (b"when read memo show memo; end".as_slice(), 15),
+        (b"when read memo do show memo;", 28),
+        (b"when read memo do say \"a\\b\"; end", 24),
+    ];
+    assert_places(&rt, rt.alloc(), &lines)
 }
 
 #[test]
 fn places_a_fault_of_syntax(rt: HostRuntime) -> Result<(), Fail> {
     // By a byte, by a token, by the line's end, by what stands behind a line, by a sign that is missing, by a text that is
     // not closed, and by a word that is too long.
-    assert_eq!(rt; place_of(rt.alloc(), b"hello A")?, 6);
-    assert_eq!(rt; place_of(rt.alloc(), b"hello wait")?, 6);
-    assert_eq!(rt; place_of(rt.alloc(), b"when read memo do  ")?, 19);
-    assert_eq!(rt; place_of(rt.alloc(), b"wait now")?, 5);
-    assert_eq!(rt;
-        place_of(rt.alloc(), b"when read memo do show memo end")?,
-        28
-    );
-    assert_eq!(rt; place_of(rt.alloc(), b"when read memo do say \"a")?, 24);
-    assert_eq!(rt;
-        place_of(rt.alloc(), b"hello aaaaaaaaaaaaaaaaaaaaaaaaaaaaaaaaa")?,
-        6
-    );
-    Ok(())
+    let lines = [
+        (b"hello A".as_slice(), 6),
+        (b"hello wait", 6),
+        (b"when read memo do  ", 19),
+        (b"wait now", 5),
+        (b"when read memo do show memo end", 28),
+        (b"when read memo do say \"a", 24),
+        (b"hello aaaaaaaaaaaaaaaaaaaaaaaaaaaaaaaaa", 6),
+    ];
+    assert_places(&rt, rt.alloc(), &lines)
 }
 
 #[test]
 fn refusals_of_a_line(rt: HostRuntime) -> Result<(), Fail> {
-    let twice = fault_of(rt.alloc(), b"when read memo, write memo do end")?;
-    assert!(rt; twice == LineFault::Twice(named(b"memo")?), "{twice:?}");
-    let unknown = fault_of(rt.alloc(), b"when read zed do show zed; end")?;
-    assert!(rt;
-        unknown == LineFault::Unknown(named(b"zed")?),
-        "{unknown:?}"
-    );
-    let mode = fault_of(rt.alloc(), b"when append log do show log; end")?;
-    assert!(rt; mode == LineFault::Mode(named(b"log")?), "{mode:?}");
+    let twice = b"when read memo, write memo do end";
+    assert!(rt; is_refused(rt.alloc(), twice, LineFault::Twice(named(b"memo")?))?);
+    let unknown = b"when read zed do show zed; end";
+    assert!(rt; is_refused(rt.alloc(), unknown, LineFault::Unknown(named(b"zed")?))?);
+    let mode = b"when append log do show log; end";
+    assert!(rt; is_refused(rt.alloc(), mode, LineFault::Mode(named(b"log")?))?);
     Ok(())
 }
 
 #[test]
 fn tells_the_first_name_at_fault(rt: HostRuntime) -> Result<(), Fail> {
-    let subject = fault_of(rt.alloc(), b"hello memo")?;
-    assert!(rt;
-        subject == LineFault::Unknown(named(b"memo")?),
-        "{subject:?}"
-    );
-    let document = fault_of(rt.alloc(), b"when read ann do show x;end")?;
-    assert!(rt;
-        document == LineFault::Unknown(named(b"ann")?),
-        "{document:?}"
-    );
-    let source = fault_of(rt.alloc(), b"when read note do copy memo to log;end")?;
-    assert!(rt; source == LineFault::Mode(named(b"memo")?), "{source:?}");
+    let subject = b"hello memo";
+    assert!(rt; is_refused(rt.alloc(), subject, LineFault::Unknown(named(b"memo")?))?);
+    let document = b"when read ann do show x;end";
+    assert!(rt; is_refused(rt.alloc(), document, LineFault::Unknown(named(b"ann")?))?);
+    let source = b"when read note do copy memo to log;end";
+    assert!(rt; is_refused(rt.alloc(), source, LineFault::Mode(named(b"memo")?))?);
+    Ok(())
+}
+
+/// A line of 8,192 bytes is read, and one of 8,193 is too long.
+fn assert_longest(rt: &impl Abort, alloc: Global) -> Result<(), Fail> {
+    let read = b"when read memo do show memo; end";
+    assert_eq!(rt; weight_of(alloc, &spaced(alloc, read, 8_192)?)?, 1);
+    assert!(rt; is_refused(alloc, &spaced(alloc, read, 8_193)?, LineFault::Long)?);
     Ok(())
 }
 
 #[test]
 fn long_deep_many(rt: HostRuntime) -> Result<(), Fail> {
-    let read = b"when read memo do show memo; end";
-    let longest = spaced(rt.alloc(), read, 8_192)?;
-    assert_eq!(rt; script_of(rt.alloc(), &longest)?.weight(), 1);
-    let long = spaced(rt.alloc(), read, 8_193)?;
-    assert!(rt; fault_of(rt.alloc(), &long)? == LineFault::Long);
-    let deepest = nested(rt.alloc(), 8)?;
-    assert_eq!(rt; script_of(rt.alloc(), &deepest)?.weight(), 8);
-    let deep = nested(rt.alloc(), 9)?;
-    assert!(rt; fault_of(rt.alloc(), &deep)? == LineFault::Deep);
+    assert_longest(&rt, rt.alloc())?;
+    assert_eq!(rt; weight_of(rt.alloc(), &nested(rt.alloc(), 8)?)?, 8);
+    assert!(rt; is_refused(rt.alloc(), &nested(rt.alloc(), 9)?, LineFault::Deep)?);
     let many =
         b"when read a, read b, read c, read d, read e, read f, read g, read h, read i do end";
-    assert!(rt; fault_of(rt.alloc(), many)? == LineFault::Many);
+    assert!(rt; is_refused(rt.alloc(), many, LineFault::Many)?);
     Ok(())
 }
 
 /// Some 580 `if` in one another, none of them closed: the deepest that a line can be.
 #[test]
 fn the_deepest_line_is_read(rt: HostRuntime) -> Result<(), Fail> {
-    let mut line = Vec::new(rt.alloc());
-    line.extend_from_slice(b"when read memo do ")?;
-    for _ in 0..583 {
-        line.extend_from_slice(b"if a is\"\"then ")?;
-    }
+    let line = opened(rt.alloc(), 583)?;
     assert_eq!(rt; line.len(), 8_180);
     assert_eq!(rt; place_of(rt.alloc(), &line)?, 8_180);
     Ok(())

@@ -1,21 +1,30 @@
 //! The text of tokens and of lines.
-use super::lines::known_names;
-use bl_read::line::read_line;
-use bl_write::write::{write_line, write_tokens};
+use super::fixtures::base_names;
 use bl_level::token::{Keyword, Sign, Token};
+use bl_script::asked::LineFault;
+use bl_script::line::read_line;
+use bl_script::names::Names;
+use bl_script::write::{write_line, write_tokens};
 use std::alloc::Global;
 use std::test::Fail;
 
-/// The canonical text of what a line asks, by the names ann, bob, memo, note and log.
-fn written(alloc: Global, bytes: &[u8]) -> Result<Vec<u8>, Fail> {
-    let names = known_names(alloc)?;
-    let line = read_line(alloc, &names, bytes)?;
-    Ok(write_line(alloc, &names, &line)?)
+/// The canonical text of what a line asks by these names.
+fn text_by(alloc: Global, names: &Names, bytes: &[u8]) -> Result<Vec<u8>, LineFault> {
+    let line = read_line(alloc, names, bytes)?;
+    Ok(write_line(alloc, names, &line)?)
+}
+
+/// The same by the base names.
+fn text_of(alloc: Global, bytes: &[u8]) -> Result<Vec<u8>, LineFault> {
+    match base_names(alloc) {
+        Some(names) => text_by(alloc, &names, bytes),
+        None => Err(LineFault::Memory),
+    }
 }
 
 /// Whether this is the canonical text of what a line asks.
-fn is_written(alloc: Global, bytes: &[u8], expected: &[u8]) -> Result<bool, Fail> {
-    let text = written(alloc, bytes)?;
+pub fn is_written(alloc: Global, bytes: &[u8], expected: &[u8]) -> Result<bool, Fail> {
+    let text = text_of(alloc, bytes)?;
     Ok(text.as_slice() == expected)
 }
 

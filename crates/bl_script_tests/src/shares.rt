@@ -1,18 +1,11 @@
-//! Each call that grows, once with ample memory.
-mod deepest;
-mod knows;
-mod lines;
-mod rule_texts;
-mod rules;
-mod write;
-
-use bl_work::answer::{Answer, Outputs};
-use bl_work::document::Document;
-use bl_work::script::{Script, Stmt};
-use bl_work::work::Work;
+//! Each call that gives one more owner, once with ample memory.
 use bl_policy::access::Mode;
 use bl_policy::id::{DocId, SubjectId};
 use bl_policy::rule::Rule;
+use bl_script::answer::{Answer, Outputs};
+use bl_script::document::Document;
+use bl_script::script::{Script, Stmt};
+use bl_script::work::Work;
 use std::test::Fail;
 
 #[test]
