@@ -13,6 +13,7 @@ use bl_setup::setup::Setup;
 use bl_work::answer::Answer;
 use bl_work::work::Work;
 use std::alloc::Global;
+use std::process::Abort;
 use std::test::Fail;
 
 /// The subjects of the base setup, in order, and one behind them.
@@ -180,14 +181,33 @@ fn rescind_memo(subject: u16, mode: Mode) -> Rule {
     }
 }
 
+fn check_rules_and_their_checks(
+    rt: &impl Abort,
+    alloc: Global,
+    monitor: &mut Monitor,
+) -> Result<(), Fail> {
+    assert!(rt; is_refused(monitor, ANN, give_cat(MEMO), Clause::Admin, Some(MEMO))?);
+    assert!(rt; is_made(monitor, ANN, current(S, 0)?)?);
+    assert!(rt; is_refused(monitor, ANN, current(T, 0)?, Clause::Greatest, None)?);
+    let line = b"when write memo do end";
+    assert!(rt; is_refused_to_ann(monitor, alloc, line, Clause::Star, MEMO)?);
+    Ok(())
+}
+
 #[test]
 fn rules_and_their_checks(rt: HostRuntime) -> Result<(), Fail> {
     let mut monitor = base_monitor(rt.alloc())?;
-    assert!(rt; is_refused(&mut monitor, ANN, give_cat(MEMO), Clause::Admin, Some(MEMO))?);
-    assert!(rt; is_made(&mut monitor, ANN, current(S, 0)?)?);
-    assert!(rt; is_refused(&mut monitor, ANN, current(T, 0)?, Clause::Greatest, None)?);
-    let line = b"when write memo do end";
-    assert!(rt; is_refused_to_ann(&mut monitor, rt.alloc(), line, Clause::Star, MEMO)?);
+    check_rules_and_their_checks(&rt, rt.alloc(), &mut monitor)
+}
+
+fn check_rules_have_neither_faults_nor_children(
+    rt: &impl Abort,
+    monitor: &mut Monitor,
+) -> Result<(), Fail> {
+    assert!(rt; is_refused(monitor, ANN, give_cat(MEMO), Clause::Admin, Some(MEMO))?);
+    assert!(rt; is_made(monitor, ROOT, give_cat(NOTE))?);
+    assert!(rt; has_nothing(monitor, 0));
+    assert!(rt; has_nothing(monitor, 1));
     Ok(())
 }
 
@@ -195,48 +215,54 @@ fn rules_and_their_checks(rt: HostRuntime) -> Result<(), Fail> {
 #[test]
 fn rules_have_neither_faults_nor_children(rt: HostRuntime) -> Result<(), Fail> {
     let mut monitor = base_monitor(rt.alloc())?;
-    assert!(rt; is_refused(&mut monitor, ANN, give_cat(MEMO), Clause::Admin, Some(MEMO))?);
-    assert!(rt; is_made(&mut monitor, ROOT, give_cat(NOTE))?);
-    assert!(rt; has_nothing(&monitor, 0));
-    assert!(rt; has_nothing(&monitor, 1));
-    Ok(())
+    check_rules_have_neither_faults_nor_children(&rt, &mut monitor)
 }
 
 const APPEND_B: &[u8] = b"when append memo do add memo \"b\"; end";
 
+fn check_write_does_not_stand_for_append(
+    rt: &impl Abort,
+    alloc: Global,
+    monitor: &mut Monitor,
+) -> Result<(), Fail> {
+    assert!(rt; is_made(monitor, BOB, current(S, NATO)?)?);
+    assert!(rt; is_shown(monitor, alloc, b"hello bob", APPEND_B, &[])?);
+    assert!(rt; is_made(monitor, ROOT, rescind_memo(BOB, Mode::Append))?);
+    assert!(rt; is_refused_to_bob(monitor, alloc, APPEND_B, Clause::Discretionary, MEMO)?);
+    assert!(rt; ann_is_shown(monitor, alloc, SHOW_MEMO, &[b"m1b"])?);
+    Ok(())
+}
+
 #[test]
 fn write_does_not_stand_for_append(rt: HostRuntime) -> Result<(), Fail> {
     let mut monitor = base_monitor(rt.alloc())?;
-    assert!(rt; is_made(&mut monitor, BOB, current(S, NATO)?)?);
-    assert!(rt; is_shown(&mut monitor, rt.alloc(), b"hello bob", APPEND_B, &[])?);
-    assert!(rt; is_made(&mut monitor, ROOT, rescind_memo(BOB, Mode::Append))?);
-    assert!(rt;
-        is_refused_to_bob(
-            &mut monitor,
-            rt.alloc(),
-            APPEND_B,
-            Clause::Discretionary,
-            MEMO
-        )?
-    );
-    assert!(rt; ann_is_shown(&mut monitor, rt.alloc(), SHOW_MEMO, &[b"m1b"])?);
+    check_write_does_not_stand_for_append(&rt, rt.alloc(), &mut monitor)
+}
+
+fn check_rescind_between_reads(
+    rt: &impl Abort,
+    alloc: Global,
+    monitor: &mut Monitor,
+) -> Result<(), Fail> {
+    assert!(rt; ann_is_shown(monitor, alloc, SHOW_MEMO, &[b"m1"])?);
+    assert!(rt; is_made(monitor, ROOT, rescind_memo(ANN, Mode::Read))?);
+    assert!(rt; is_refused_to_ann(monitor, alloc, SHOW_MEMO, Clause::Discretionary, MEMO)?);
     Ok(())
 }
 
 #[test]
 fn rescind_between_reads(rt: HostRuntime) -> Result<(), Fail> {
     let mut monitor = base_monitor(rt.alloc())?;
-    assert!(rt; ann_is_shown(&mut monitor, rt.alloc(), SHOW_MEMO, &[b"m1"])?);
-    assert!(rt; is_made(&mut monitor, ROOT, rescind_memo(ANN, Mode::Read))?);
-    assert!(rt;
-        is_refused_to_ann(
-            &mut monitor,
-            rt.alloc(),
-            SHOW_MEMO,
-            Clause::Discretionary,
-            MEMO
-        )?
-    );
+    check_rescind_between_reads(&rt, rt.alloc(), &mut monitor)
+}
+
+fn check_lost_rule_changes_nothing(
+    rt: &impl Abort,
+    alloc: Global,
+    monitor: &mut Monitor,
+) -> Result<(), Fail> {
+    assert!(rt; is_lost_rule(monitor, ROOT, rescind_memo(ANN, Mode::Read))?);
+    assert!(rt; ann_is_shown(monitor, alloc, SHOW_MEMO, &[b"m1"])?);
     Ok(())
 }
 
@@ -244,8 +270,19 @@ fn rescind_between_reads(rt: HostRuntime) -> Result<(), Fail> {
 #[test]
 fn lost_rule_changes_nothing(rt: HostRuntime) -> Result<(), Fail> {
     let mut monitor = base_monitor(rt.alloc())?;
-    assert!(rt; is_lost_rule(&mut monitor, ROOT, rescind_memo(ANN, Mode::Read))?);
-    assert!(rt; ann_is_shown(&mut monitor, rt.alloc(), SHOW_MEMO, &[b"m1"])?);
+    check_lost_rule_changes_nothing(&rt, rt.alloc(), &mut monitor)
+}
+
+fn check_classify_needs_trust(
+    rt: &impl Abort,
+    alloc: Global,
+    monitor: &mut Monitor,
+) -> Result<(), Fail> {
+    assert!(rt; is_refused(monitor, DAN, classify_note()?, Clause::Trusted, Some(NOTE))?);
+    assert!(rt; is_made(monitor, DAN, give_cat(NOTE))?);
+    assert!(rt; is_made(monitor, ROOT, classify_note()?)?);
+    let line = b"when read note do end";
+    assert!(rt; is_refused_to_bob(monitor, alloc, line, Clause::Star, NOTE)?);
     Ok(())
 }
 
@@ -253,18 +290,5 @@ fn lost_rule_changes_nothing(rt: HostRuntime) -> Result<(), Fail> {
 fn classify_needs_trust(rt: HostRuntime) -> Result<(), Fail> {
     let more = b"subject dan greatest u current u admin\n";
     let mut monitor = monitor_over(rt.alloc(), b"\"n1\"", more)?;
-    assert!(rt;
-        is_refused(
-            &mut monitor,
-            DAN,
-            classify_note()?,
-            Clause::Trusted,
-            Some(NOTE)
-        )?
-    );
-    assert!(rt; is_made(&mut monitor, DAN, give_cat(NOTE))?);
-    assert!(rt; is_made(&mut monitor, ROOT, classify_note()?)?);
-    let line = b"when read note do end";
-    assert!(rt; is_refused_to_bob(&mut monitor, rt.alloc(), line, Clause::Star, NOTE)?);
-    Ok(())
+    check_classify_needs_trust(&rt, rt.alloc(), &mut monitor)
 }

@@ -1,0 +1,13 @@
+//! Tests of the setup file.
+//!
+//!     files     the files that the tests read, in parts
+//!     setups    what is read of whole files
+//!     faults    each kind of fault, with its line
+#![tactic(auto)]
+
+#[cfg(test)]
+mod faults;
+#[cfg(test)]
+mod files;
+#[cfg(test)]
+mod setups;

@@ -1,0 +1,140 @@
+//! Whole files, and what is read of them.
+use super::files::base_setup_of;
+use bitflags::Flags;
+use bl_level::level::Level;
+use bl_setup::reader::read_setup;
+use bl_setup::setup::Setup;
+use std::test::Fail;
+
+/// A subject with the ranks and the categories of its levels, and whether it is trusted and an administrator.
+#[derive(Clone, Copy)]
+struct Clearance<'a> {
+    name: &'a [u8],
+    greatest: (u8, u32),
+    current: (u8, u32),
+    trusted: bool,
+    admin: bool,
+}
+
+fn is_level(level: Level, (rank, categories): (u8, u32)) -> bool {
+    level.rank() == rank && level.categories() == categories
+}
+
+/// Whether a subject has this clearance.
+fn is_cleared(setup: &Setup, clearance: &Clearance<'_>) -> bool {
+    let Some(subject) = setup.names().subject(clearance.name) else {
+        return false;
+    };
+    let policy = setup.policy();
+    is_level(policy.greatest(subject), clearance.greatest)
+        && is_level(policy.current(subject), clearance.current)
+        && policy.is_trusted(subject) == clearance.trusted
+        && policy.is_admin(subject) == clearance.admin
+}
+
+/// The bits of a cell: 1 for read, 2 for append, 4 for write.
+fn cell_of(setup: &Setup, subject: &[u8], document: &[u8]) -> Option<u8> {
+    let subject = setup.names().subject(subject)?;
+    let document = setup.names().document(document)?;
+    Some(setup.policy().cell(subject, document).bits())
+}
+
+/// Whether these cells have these bits.
+fn are_cells(setup: &Setup, cells: &[(&[u8], &[u8], u8)]) -> bool {
+    for (subject, document, bits) in cells {
+        if cell_of(setup, subject, document) != Some(*bits) {
+            return false;
+        }
+    }
+    true
+}
+
+/// Whether a document has this content.
+fn has_content(setup: &Setup, name: &[u8], content: &[u8]) -> bool {
+    match setup.names().document(name) {
+        Some(document) => {
+            let place = usize::from(document.position());
+            setup.contents()[place].bytes() == content
+        }
+        None => false,
+    }
+}
+
+/// Whether there are so many subjects and documents.
+fn has_counts(setup: &Setup, subjects: usize, documents: usize) -> bool {
+    setup.names().subjects() == subjects && setup.names().documents() == documents
+}
+
+/// The clearance of `root` in the setup that the tests share.
+const ROOT: Clearance<'static> = Clearance {
+    name: b"root",
+    greatest: (3, 3),
+    current: (0, 0),
+    trusted: true,
+    admin: true,
+};
+
+/// Whether the subjects of the setup that the tests share are there with their levels, and no document is one of them.
+fn are_base_subjects(setup: &Setup) -> bool {
+    let ann = Clearance {
+        name: b"ann",
+        greatest: (2, 1),
+        current: (2, 1),
+        trusted: false,
+        admin: false,
+    };
+    let bob = Clearance {
+        name: b"bob",
+        greatest: (2, 1),
+        current: (0, 0),
+        trusted: false,
+        admin: false,
+    };
+    is_cleared(setup, &ann)
+        && is_cleared(setup, &bob)
+        && is_cleared(setup, &ROOT)
+        && setup.names().subject(b"memo").is_none()
+}
+
+#[test]
+fn base_setup(rt: HostRuntime) -> Result<(), Fail> {
+    let setup = base_setup_of(rt.alloc())?;
+    assert!(rt; has_counts(&setup, 4, 3));
+    assert!(rt; are_base_subjects(&setup));
+    let cells: [(&[u8], &[u8], u8); 4] = [
+        (b"ann", b"memo", 5),
+        (b"ann", b"log", 3),
+        (b"bob", b"memo", 7),
+        (b"cat", b"note", 0),
+    ];
+    assert!(rt; are_cells(&setup, &cells));
+    assert!(rt; has_content(&setup, b"memo", b"m1") && has_content(&setup, b"log", b""));
+    Ok(())
+}
+
+#[test]
+fn a_copy_is_the_same(rt: HostRuntime) -> Result<(), Fail> {
+    let copy = base_setup_of(rt.alloc())?.copy()?;
+    assert!(rt; has_counts(&copy, 4, 3));
+    assert!(rt; is_cleared(&copy, &ROOT));
+    assert!(rt; are_cells(&copy, &[(b"ann", b"memo", 5)]));
+    assert!(rt; has_content(&copy, b"memo", b"m1") && has_content(&copy, b"note", b"n1"));
+    Ok(())
+}
+
+#[test]
+fn line_ends_and_skipped_lines(rt: HostRuntime) -> Result<(), Fail> {
+    let text =
+        b"# who\r\n\r\nranks u\r\n \t\ncategories\r\n#\ndocument note u \"n1\"\r\nsubject ann greatest u current u admin\r";
+    let setup = read_setup(rt.alloc(), text.as_slice())?;
+    let ann = Clearance {
+        name: b"ann",
+        greatest: (0, 0),
+        current: (0, 0),
+        trusted: false,
+        admin: true,
+    };
+    assert!(rt; is_cleared(&setup, &ann));
+    assert!(rt; has_content(&setup, b"note", b"n1"));
+    Ok(())
+}
