@@ -13,6 +13,11 @@ pub fn expect(rt: &impl Abort, outcome: Result<bool, AllocError>) {
     }
 }
 
+/// Whether all checks hold.
+pub fn all_hold(checks: &[bool]) -> bool {
+    !checks.contains(&false)
+}
+
 /// A content of 65,535 times `a`.
 pub fn nearly_full(alloc: Global) -> Result<Document, AllocError> {
     let mut content = Document::new(alloc, b"a")?;

@@ -1,11 +1,12 @@
 //! Grants: each call once, and what comes back.
 ghost use Rattle.std.specs.Prelude.{◌≡◌, [], ◌∷◌, length, IsTrue, IfOk};
 ghost use Rattle.bl_policy.specs.declared.access.Mode.TheVariants.{Read, Append};
+ghost use Rattle.bl_work.specs.Content.{IsContent};
 ghost use Rattle.bl_work.specs.Modes.{declares, observes, alters};
 ghost use Rattle.bl_work.specs.Script.{AreApart};
 ghost use Rattle.bl_grant.specs.Loans.{accesses_of};
 
-use crate::fixtures::{are_back, expect, is_full, nearly_full};
+use crate::fixtures::{all_hold, are_back, expect, is_full, nearly_full};
 use bl_grant::grant::{AppendGrant, Grant, ReadGrant, Returned, WriteGrant};
 use bl_grant::grants::Grants;
 use bl_policy::access::{Access, Mode};
@@ -30,6 +31,14 @@ fn only(rt: &impl Abort, grants: Grants) -> Grant {
         Some(grant) => grant,
         None => panic!(rt; "no grant"),
     }
+}
+
+/// One grant of a content that nobody else has, lent to entry 7 as document 1.
+fn granted(rt: &impl Abort, alloc: Global, mode: Mode, text: &[u8]) -> Result<Grant, AllocError>
+    requires { IsContent text.now }
+{
+    let content = Document::new(alloc, text)?;
+    lent(rt, alloc, mode, &content)
 }
 
 /// One grant of the content, lent to entry 7 as document 1.
@@ -77,10 +86,10 @@ fn is_back(returned: Returned, mode: Mode, content: &[u8]) -> bool {
 
 /// Whether a read grant of `n1` shows it and gives it back.
 fn reads(rt: &impl Abort, alloc: Global) -> Result<bool, AllocError> {
-    let content = Document::new(alloc, b"n1")?;
-    let grant = read(rt, lent(rt, alloc, Mode::Read, &content)?);
+    let grant = read(rt, granted(rt, alloc, Mode::Read, b"n1")?);
     let shown = grant.bytes() == b"n1".as_slice();
-    Ok(is_back(grant.close(), Mode::Read, b"n1") && shown)
+    let back = is_back(grant.close(), Mode::Read, b"n1");
+    Ok(all_hold(&[shown, back]))
 }
 
 #[test]
@@ -95,7 +104,8 @@ fn appends(rt: &impl Abort, alloc: Global) -> Result<bool, AllocError> {
     let first = grant.add(alloc, b"xy").is_ok();
     let second = grant.add(alloc, b"z").is_ok();
     let back = is_back(grant.close(), Mode::Append, b"n1xyz");
-    Ok(first && second && back && content.bytes() == b"n1".as_slice())
+    let owned = content.bytes() == b"n1".as_slice();
+    Ok(all_hold(&[first, second, back, owned]))
 }
 
 #[test]
@@ -114,7 +124,7 @@ fn writes(rt: &impl Abort, alloc: Global) -> Result<bool, AllocError> {
     let then_added = grant.add(alloc, b"y").is_ok();
     let back = is_back(grant.close(), Mode::Write, b"noy");
     let owned = content.bytes() == b"n1".as_slice();
-    Ok(added && shown && replaced && then_shown && then_added && back && owned)
+    Ok(all_hold(&[added, shown, replaced, then_shown, then_added, back, owned]))
 }
 
 #[test]
@@ -131,7 +141,8 @@ fn puts(rt: &impl Abort, alloc: Global) -> Result<bool, AllocError> {
     grant.put(shared);
     let added = grant.add(alloc, b"x").is_ok();
     let back = is_back(grant.close(), Mode::Write, b"m1x");
-    Ok(added && back && other.bytes() == b"m1".as_slice())
+    let owned = other.bytes() == b"m1".as_slice();
+    Ok(all_hold(&[added, back, owned]))
 }
 
 #[test]
@@ -141,24 +152,23 @@ fn a_put_content_stays_its_owners(rt: HostRuntime) {
 
 /// Whether an addition to `n1` is gone after a reset.
 fn append_resets(rt: &impl Abort, alloc: Global) -> Result<bool, AllocError> {
-    let content = Document::new(alloc, b"n1")?;
-    let mut grant = append(rt, lent(rt, alloc, Mode::Append, &content)?);
+    let mut grant = append(rt, granted(rt, alloc, Mode::Append, b"n1")?);
     let added = grant.add(alloc, b"x").is_ok();
     grant.reset();
-    Ok(is_back(grant.close(), Mode::Append, b"n1") && added)
+    let back = is_back(grant.close(), Mode::Append, b"n1");
+    Ok(all_hold(&[added, back]))
 }
 
 /// Whether a new content and an addition are gone after a reset, and what is added then comes back.
 fn write_resets(rt: &impl Abort, alloc: Global) -> Result<bool, AllocError> {
-    let content = Document::new(alloc, b"n1")?;
-    let mut grant = write(rt, lent(rt, alloc, Mode::Write, &content)?);
+    let mut grant = write(rt, granted(rt, alloc, Mode::Write, b"n1")?);
     let replaced = grant.set(alloc, b"no").is_ok();
     let added = grant.add(alloc, b"x").is_ok();
     grant.reset();
     let shown = grant.bytes() == b"n1".as_slice();
     let then_added = grant.add(alloc, b"y").is_ok();
     let back = is_back(grant.close(), Mode::Write, b"n1y");
-    Ok(replaced && added && shown && then_added && back)
+    Ok(all_hold(&[replaced, added, shown, then_added, back]))
 }
 
 #[test]
@@ -174,7 +184,7 @@ fn write_cuts(rt: &impl Abort, alloc: Global) -> Result<bool, AllocError> {
     let mut grant = write(rt, lent(rt, alloc, Mode::Write, &content)?);
     let added = grant.add(alloc, b"xy").is_ok();
     let back = grant.close().into_content();
-    Ok(is_full(&back) && added && long)
+    Ok(all_hold(&[long, added, is_full(&back)]))
 }
 
 /// Whether the second of two bytes that are added to 65,535 is cut.
@@ -184,7 +194,7 @@ fn append_cuts(rt: &impl Abort, alloc: Global) -> Result<bool, AllocError> {
     let first = grant.add(alloc, b"x").is_ok();
     let second = grant.add(alloc, b"y").is_ok();
     let back = grant.close().into_content();
-    Ok(is_full(&back) && first && second)
+    Ok(all_hold(&[first, second, is_full(&back)]))
 }
 
 #[test]
@@ -242,7 +252,7 @@ fn go_by_document(
     let to_another = grants.were_lent(8, &accesses, contents);
     let inputs = are_inputs(grants.lent(alloc));
     let back = are_back(grants.close(), after);
-    Ok(entry && shown && added && lent && !to_another && inputs && back)
+    Ok(all_hold(&[entry, shown, added, lent, !to_another, inputs, back]))
 }
 
 /// Whether grants of `n1` and `l1` go by document.
