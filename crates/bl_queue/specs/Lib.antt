@@ -1,0 +1,4 @@
+pub mod Claims
+pub mod Entries
+pub mod Queues
+pub mod Rooms

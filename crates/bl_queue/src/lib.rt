@@ -1,0 +1,7 @@
+//! Queues over cowns: which entries have to wait for which earlier ones, and which may start.
+#![tactic(auto)]
+
+pub mod claim;
+pub mod entry;
+pub mod laws;
+pub mod queues;

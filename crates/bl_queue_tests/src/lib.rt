@@ -1,0 +1,5 @@
+//! Tests of what no clause says of queues: that each call can succeed, and what the examples say.
+#![tactic(auto)]
+
+#[cfg(test)]
+mod starts;
