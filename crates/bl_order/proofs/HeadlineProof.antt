@@ -6,7 +6,6 @@ use Rattle.bl_policy.specs.Policy.{SecurityPolicy}
 use Rattle.bl_policy.specs.Properties.{IsSecure}
 use Rattle.bl_policy.specs.declared.access.Access.{Access}
 use Rattle.bl_policy.specs.declared.denial.Denial.{Denial}
-use Rattle.bl_work.specs.declared.work.Work.{Work}
 use Rattle.bl_work.specs.Effects.{Effect}
 use Rattle.bl_order.specs.Order.{Task, Runs, Applies, accesses_of}
 use Rattle.bl_order.specs.Past.{is_done, fault_of_task, answer_of}
@@ -100,8 +99,8 @@ all-held P x (suc n) each =
 
 -- ---- the headline
 
-pub holds-sound : (knows : Work → Bool) (x : State) → IsSound x → IsLawful x → Holds knows x
-holds-sound knows x sound lawful = record {
+pub holds-sound : (x : State) → IsSound x → IsLawful x → Holds x
+holds-sound x sound lawful = record {
   secure = All-from_recursion _ _ (all-held (λ h. IsSecure (policy_now x) h.subject h.doc h.mode) x (length x.order)
       (λ n lt r. subst (λ p. AllByRecursion (λ (a : Access). IsSecure p (past_at x n).subject a.doc a.mode) (accesses_of (past_at x n).task)) (sym (running n lt r)) (secure-at x n (sound.allowed n lt r))));
   at_running = running;
@@ -109,15 +108,15 @@ holds-sound knows x sound lawful = record {
   content_at_ready = λ n o may d. content_now-open x n o sound.orderly may.there (waiting_is_not_over (phase_at x n) may.waits) may.clear d;
   content_at_first = λ o m first. content_now-first x o m sound.orderly first;
   not_stuck = λ n lt u. never_stuck x n lt u;
-  for_good = λ e needs n lt over. past-step knows x e sound needs n lt over;
+  for_good = λ e needs n lt over. past-step x e sound needs n lt over;
   legal = lawful.legal;
 }
   where
     running : (n : ℕ) → n < length x.order → IsTrue (runs x n) → policy_now x ≡ policy_at x n
     running n lt r = policy_now-open x n sound.orderly lt (running_is_not_over (phase_at x n) r) (λ m below c. sound.orderly m n below lt (or_left (runs x n) (has_ended x n) r) c)
 
-pub holds-reached : (knows : Work → Bool) (x : State) → IsReached knows x → Holds knows x
-holds-reached knows x r =
-    holds-sound knows x
-    (subst IsSound (sym r.leads) (sound-trail knows (start r.setup r.limit) r.events (sound-start r.setup r.limit) r.trail))
-    (subst IsLawful (sym r.leads) (lawful-trail knows (start r.setup r.limit) r.events (sound-start r.setup r.limit) (lawful-start r.setup r.limit) r.trail))
+pub holds-reached : (x : State) → IsReached x → Holds x
+holds-reached x r =
+    holds-sound x
+    (subst IsSound (sym r.leads) (sound-trail (start r.setup r.limit) r.events (sound-start r.setup r.limit) r.trail))
+    (subst IsLawful (sym r.leads) (lawful-trail (start r.setup r.limit) r.events (sound-start r.setup r.limit) (lawful-start r.setup r.limit) r.trail))

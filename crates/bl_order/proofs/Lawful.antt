@@ -94,7 +94,7 @@ place-kept s l m A B n p w same stays h = record {
   together = λ i lt. stays (h.first + i) (Child p (suc i)) (h.together i (subst (λ r. i < length (children r.effects)) same lt));
 }
 
-module _ (knows : Work → Bool) (x : State) (sound : IsSound x) (lawful : IsLawful x) where
+module _ (x : State) (sound : IsSound x) (lawful : IsLawful x) where
   -- a child's parent stands before it and has ended
   parent-of : (n p w : ℕ) → slice_get x.order n ≡ Some (Child p w) → (p < n) × (n < length x.order) × (has_ended x p ≡ true)
   parent-of n p w h =
@@ -103,10 +103,10 @@ module _ (knows : Work → Bool) (x : State) (sound : IsSound x) (lawful : IsLaw
       (parent.0, at, parent.1)
 
   -- where the order stays
-  stays-placed : (e : Event) → Needs knows x e → (m : ℕ → Bool) → ((p : ℕ) → past_at (change x e) p ≡ place x.setup m x.order p) → (n p w : ℕ) → slice_get x.order n ≡ Some (Child p w) → HasPlace x.setup m x.order n p w
+  stays-placed : (e : Event) → Needs x e → (m : ℕ → Bool) → ((p : ℕ) → past_at (change x e) p ≡ place x.setup m x.order p) → (n p w : ℕ) → slice_get x.order n ≡ Some (Child p w) → HasPlace x.setup m x.order n p w
   stays-placed e needs m same n p w h =
       let parent : (p < n) × (n < length x.order) × (has_ended x p ≡ true) = parent-of n p w h in
-      place-kept x.setup (is_lost x) m x.order x.order n p w (sym (same p) ∙ past-step knows x e sound needs p (omega (arith, parent.0, parent.1)) parent.2) (λ i y k. k) (lawful.legal.placed n p w h)
+      place-kept x.setup (is_lost x) m x.order x.order n p w (sym (same p) ∙ past-step x e sound needs p (omega (arith, parent.0, parent.1)) parent.2) (λ i y k. k) (lawful.legal.placed n p w h)
 
   lawful-opened : (s : ℕ) → IsLawful (change x (Opens s))
   lawful-opened s = record {
@@ -141,7 +141,7 @@ module _ (knows : Work → Bool) (x : State) (sound : IsSound x) (lawful : IsLaw
 
   -- ---- a line is admitted
 
-  module _ (i o : ℕ) (w : Work) (needs : Needs knows x (Admits i o w)) where
+  module _ (i o : ℕ) (w : Work) (needs : Needs x (Admits i o w)) where
     new : Entry
     new = Line i o (session_at x i).subject w
 
@@ -194,7 +194,7 @@ module _ (knows : Work → Bool) (x : State) (sound : IsSound x) (lawful : IsLaw
             let old : slice_get x.order n ≡ Some (Child p j) = child-of n p j h in
             let parent : (p < n) × (n < length x.order) × (has_ended x p ≡ true) = parent-of n p j old in
             place-kept x.setup (is_lost x) (is_lost (change x (Admits i o w))) x.order (x.order ++ new ∷ []) n p j
-            (past-step knows x (Admits i o w) sound needs p (omega (arith, parent.0, parent.1)) parent.2) (get-front x.order (new ∷ [])) (lawful.legal.placed n p j old);
+            (past-step x (Admits i o w) sound needs p (omega (arith, parent.0, parent.1)) parent.2) (get-front x.order (new ∷ [])) (lawful.legal.placed n p j old);
         once = λ m n p j first second. lawful.legal.once m n p j (child-of m p j first) (child-of n p j second);
       };
       numbered = λ n s k u v h. numbered n s k u v (line-of n s k u v h);
@@ -310,16 +310,16 @@ module _ (knows : Work → Bool) (x : State) (sound : IsSound x) (lawful : IsLaw
             let b : w ≡ 1 + second.0 = cc in
             omega (arith, first.1, second.1, a, b)
 
-  lawful-step : (e : Event) → Needs knows x e → IsLawful (change x e)
+  lawful-step : (e : Event) → Needs x e → IsLawful (change x e)
   lawful-step (Opens s) needs = lawful-opened s
   lawful-step (Admits i o w) needs = lawful-admitted i o w needs
   lawful-step (Starts k) needs = lawful-started k needs
   lawful-step (Ends k) needs = lawful-ended k needs
   lawful-step (Loses k) needs = lawful-lost k needs
 
-pub lawful-trail : (knows : Work → Bool) (x : State) (es : List Event) → IsSound x → IsLawful x → IsTrail knows x es → IsLawful (state_after x es)
-lawful-trail knows x [] sound lawful t = lawful
-lawful-trail knows x (e ∷ es) sound lawful t = lawful-trail knows (change x e) es (sound-step knows x e sound t.0) (lawful-step knows x sound lawful e t.0) t.1
+pub lawful-trail : (x : State) (es : List Event) → IsSound x → IsLawful x → IsTrail x es → IsLawful (state_after x es)
+lawful-trail x [] sound lawful t = lawful
+lawful-trail x (e ∷ es) sound lawful t = lawful-trail (change x e) es (sound-step x e sound t.0) (lawful-step x sound lawful e t.0) t.1
 
 pub lawful-start : (s : Setup) (limit : ℕ) → IsLawful (start s limit)
 lawful-start s limit = record {

@@ -290,8 +290,8 @@ when_done : (b c : Bool) (v w : List ℕ) → b ≡ true → cond (b && c) v w �
 when_done true c v w h = refl
 when_done false c v w h = absurd (true≢false (sym h))
 
-pub moves_on-sound : (knows : Work → Bool) (x : State) → IsSound x → MovesOn knows x
-moves_on-sound knows x sound = record {
+pub moves_on-sound : (x : State) → IsSound x → MovesOn x
+moves_on-sound x sound = record {
   start_policy = λ n may. policy_now-started x n sound may;
   start_content = λ n doc may. content_now-started x n doc sound may;
   end_policy = λ n r. policy_now-ended x n sound r;
@@ -307,6 +307,6 @@ moves_on-sound knows x sound = record {
   opening_content = λ subject doc needs. refl;
 }
 
-pub moves_on-reached : (knows : Work → Bool) (x : State) → IsReached knows x → MovesOn knows x
-moves_on-reached knows x r =
-    moves_on-sound knows x (subst IsSound (sym r.leads) (sound-trail knows (start r.setup r.limit) r.events (sound-start r.setup r.limit) r.trail))
+pub moves_on-reached : (x : State) → IsReached x → MovesOn x
+moves_on-reached x r =
+    moves_on-sound x (subst IsSound (sym r.leads) (sound-trail (start r.setup r.limit) r.events (sound-start r.setup r.limit) r.trail))

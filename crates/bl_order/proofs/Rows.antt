@@ -1,12 +1,20 @@
 -- The worked examples, computed from the definitions alone.
-use Rattle.std.proofs.Common.{lit<, lit≤}
-use Rattle.std.specs.Prelude.{◌≡◌, ◌==◌, Bool, true, false, List, [], ◌∷◌, ◌++◌, map, refl, None}
+use Rattle.std.proofs.Common.{ℕ, arith, lit<, lit≤}
+use Rattle.std.specs.Prelude.{◌≡◌, ◌==◌, Bool, true, false, List, [], ◌∷◌, ◌++◌, map, refl, None, Contains, codes}
+use Rattle.std.proofs.lemmas.List.Elements.{All-from_recursion}
+use Rattle.bl_level.specs.Lexing.{Front, nothing, token, broken, front, past_blanks, Begins}
+use Rattle.bl_level.specs.Token.{Tok}
 use Rattle.bl_policy.specs.declared.access.Mode.TheVariants.{Read, Append, Write}
 use Rattle.bl_policy.specs.declared.denial.Clause.TheVariants.{Simple, Star, Discretionary, Admin, Trusted, Greatest}
 use Rattle.bl_policy.specs.declared.rule.Rule.TheVariants.{Give, Rescind, Current, Classify}
 use Rattle.bl_policy.specs.Policy.{allows}
 use Rattle.bl_work.specs.declared.script.Condition.TheVariants.{Is, Has}
 use Rattle.bl_work.specs.Content.{added}
+use Rattle.bl_work.specs.Grammar as grammar
+use Rattle.bl_work.specs.Grammar.{SpelledLine, spell}
+use Rattle.bl_work.specs.Readable.{IsReadable}
+use Rattle.bl_work.specs.Spelled as spelled
+use Rattle.bl_work.specs.Spelled.{SpelledAccess}
 use Rattle.bl_work.specs.Statements.{Nothing, Show, Say, Add, Set, Pour, If, Spawn}
 use Rattle.bl_work.specs.declared.work.Work.{Work}
 use Rattle.bl_work.specs.declared.work.Work.TheVariants as work
@@ -17,7 +25,7 @@ use Rattle.bl_order.specs.Past.{place, policy_before, content_before}
 use Rattle.bl_order.specs.Machine.{State, Event, IsTrail, Opens, Admits, Starts, Ends, Loses, start, state_after, may_start, past_at, has_ended, held, weight_of}
 use Rattle.bl_order.specs.Now.{content_now}
 use Rattle.bl_order.proofs.PlaceLaws.{may_start-is}
-use Rattle.bl_order.proofs.Base.{base, with_dan, ann, bob, cat, root, dan, memo, note, log, u, c, s, t, s_nato, m1, n1, access, behaves, when, reads, lines, asks, rules, answer_at, denied_for}
+use Rattle.bl_order.proofs.Base.{base, names, with_dan, ann, bob, cat, root, dan, memo, note, log, u, c, s, t, s_nato, m1, n1, access, behaves, when, reads, lines, asks, rules, answer_at, denied_for}
 
 -- ---- decisions on accesses
 
@@ -208,15 +216,106 @@ denied-ends-at-its-start : map (λ (x : State). has_ended x 0) (after_all (Opens
 unfolding added after_all
 denied-ends-at-its-start = refl
 
+-- ---- a trail
+
+-- what stands behind the token at the front
+behind : Front → List ℕ
+behind nothing = []
+behind (token t more) = more
+behind (broken from) = []
+
+abbrev tail_of : List ℕ → List ℕ
+tail_of bytes = behind (front (past_blanks bytes))
+
+-- the bytes are these tokens, one after another
+abbrev AreTokens : List ℕ → List Tok → Type 0
+AreTokens bytes [] = [] ≡ past_blanks bytes
+AreTokens bytes (t ∷ ts) = (front (past_blanks bytes) ≡ token t (tail_of bytes)) × AreTokens (tail_of bytes) ts
+
+tokens_begin : (bytes : List ℕ) (ts : List Tok) → AreTokens bytes ts → Begins bytes ts []
+tokens_begin bytes [] h = h
+tokens_begin bytes (t ∷ ts) h = (tail_of bytes, h.0, tokens_begin (tail_of bytes) ts h.1)
+
+abbrev memo_name : List ℕ
+memo_name = codes "memo"
+
+is_memo : Contains names.documents memo_name
+is_memo = (0, lit< tt, refl)
+
+none_before : Contains [] memo_name → ⊥
+none_before h = absurd (omega (arith, h.1))
+
+abbrev reads_memo : SpelledAccess
+reads_memo = record { mode = Read; document = memo_name }
+
+abbrev writes_memo : SpelledAccess
+writes_memo = record { mode = Write; document = memo_name }
+
+-- `when write memo do add memo "a"; spawn when read memo do show memo; end; end`
+abbrev adds_a_text : List ℕ
+adds_a_text = codes "when write memo do add memo " ++ 34 ∷ 97 ∷ 34 ∷ codes "; spawn when read memo do show memo; end; end"
+
+abbrev adds_a_line : SpelledLine
+adds_a_line = grammar.when writes_memo [] (spelled.add memo_name (97 ∷ []) (spelled.spawn reads_memo [] (spelled.show memo_name spelled.empty) spelled.empty))
+
+adds_a_is_readable : IsReadable names adds_a
+unfolding adds_a behind
+adds_a_is_readable = (
+  adds_a_text,
+  record {
+    short = lit≤ tt;
+    spelled = adds_a_line;
+    reads = tokens_begin adds_a_text (spell adds_a_line) (refl, refl, refl, refl, refl, refl, refl, refl, refl, refl, refl, refl, refl, refl, refl, refl, refl, refl, refl, refl);
+    means = (
+      record {
+        shallow = lit≤ tt;
+        few = record { whens = lit≤ tt; accesses = All-from_recursion _ _ (lit≤ tt, lit≤ tt, tt) };
+        known = All-from_recursion _ _ (is_memo, is_memo, is_memo, is_memo, tt);
+        once = All-from_recursion _ _ (none_before, none_before, tt);
+        declared = All-from_recursion _ _ (refl, refl, tt);
+      },
+      refl,
+    );
+  },
+)
+
+-- `when write memo do add memo "b"; end`
+abbrev adds_b_text : List ℕ
+adds_b_text = codes "when write memo do add memo " ++ 34 ∷ 98 ∷ 34 ∷ codes "; end"
+
+abbrev adds_b_line : SpelledLine
+adds_b_line = grammar.when writes_memo [] (spelled.add memo_name (98 ∷ []) spelled.empty)
+
+adds_b_is_readable : IsReadable names adds_b
+unfolding adds_b behind
+adds_b_is_readable = (
+  adds_b_text,
+  record {
+    short = lit≤ tt;
+    spelled = adds_b_line;
+    reads = tokens_begin adds_b_text (spell adds_b_line) (refl, refl, refl, refl, refl, refl, refl, refl, refl, refl);
+    means = (
+      record {
+        shallow = lit≤ tt;
+        few = record { whens = lit≤ tt; accesses = All-from_recursion _ _ (lit≤ tt, tt) };
+        known = All-from_recursion _ _ (is_memo, is_memo, tt);
+        once = All-from_recursion _ _ (none_before, tt);
+        declared = All-from_recursion _ _ (refl, tt);
+      },
+      refl,
+    );
+  },
+)
+
 -- the events of the first example of children are a trail, so a state is reached in which a child has run
-one_worker-is-a-trail : IsTrail (λ w. true) (start base 10000) one_worker
+one_worker-is-a-trail : IsTrail (start base 10000) one_worker
 unfolding adds_a adds_b one_worker
 one_worker-is-a-trail = (
   (lit< tt, lit< tt),
   (
-    (lit< tt, refl, lit< tt, lit< tt, lit≤ tt),
+    (lit< tt, adds_a_is_readable, lit< tt, lit< tt, lit≤ tt),
     (
-      (lit< tt, refl, lit< tt, lit< tt, lit≤ tt),
+      (lit< tt, adds_b_is_readable, lit< tt, lit< tt, lit≤ tt),
       ((may_start-is _ 0).0 refl, (refl, ((may_start-is _ 1).0 refl, (refl, ((may_start-is _ 2).0 refl, (refl, tt)))))),
     ),
   ),

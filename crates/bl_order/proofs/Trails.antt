@@ -185,20 +185,20 @@ module _ (x : State) (sound : IsSound x) where
     }
 
 -- each event keeps the invariant
-pub sound-step : (knows : Work → Bool) (x : State) (e : Event) → IsSound x → Needs knows x e → IsSound (change x e)
-sound-step knows x (Opens s) sound needs = record { as_many = sound.as_many; orderly = sound.orderly; parents = sound.parents; allowed = sound.allowed }
-sound-step knows x (Admits i o w) sound needs = sound-admitted x sound i o w
-sound-step knows x (Starts k) sound may = sound-moved x (change x (Starts k)) k _ sound (moves-start x sound k may)
-sound-step knows x (Ends k) sound running = sound-moved x (change x (Ends k)) k Ended sound (moves-end x sound k running)
-sound-step knows x (Loses k) sound (inl running) =
+pub sound-step : (x : State) (e : Event) → IsSound x → Needs x e → IsSound (change x e)
+sound-step x (Opens s) sound needs = record { as_many = sound.as_many; orderly = sound.orderly; parents = sound.parents; allowed = sound.allowed }
+sound-step x (Admits i o w) sound needs = sound-admitted x sound i o w
+sound-step x (Starts k) sound may = sound-moved x (change x (Starts k)) k _ sound (moves-start x sound k may)
+sound-step x (Ends k) sound running = sound-moved x (change x (Ends k)) k Ended sound (moves-end x sound k running)
+sound-step x (Loses k) sound (inl running) =
     sound-moved x (with_phase x k Gone) k Gone sound (moves-lost x sound k (within x sound k running) (running_is_not_over (phase_at x k) running) (inl (or_left x sound k running (runs x k) (has_ended x k) running)))
-sound-step knows x (Loses k) sound (inr may) =
+sound-step x (Loses k) sound (inr may) =
     sound-moved x (with_phase x k Gone) k Gone sound (moves-lost x sound k may.there (waiting_is_not_over (phase_at x k) may.waits) (inr may.clear))
 
 -- a trail keeps it
-pub sound-trail : (knows : Work → Bool) (x : State) (es : List Event) → IsSound x → IsTrail knows x es → IsSound (state_after x es)
-sound-trail knows x [] sound t = sound
-sound-trail knows x (e ∷ es) sound t = sound-trail knows (change x e) es (sound-step knows x e sound t.0) t.1
+pub sound-trail : (x : State) (es : List Event) → IsSound x → IsTrail x es → IsSound (state_after x es)
+sound-trail x [] sound t = sound
+sound-trail x (e ∷ es) sound t = sound-trail (change x e) es (sound-step x e sound t.0) t.1
 
 pub sound-start : (s : Setup) (limit : ℕ) → IsSound (start s limit)
 sound-start s limit = record {
@@ -209,12 +209,12 @@ sound-start s limit = record {
 }
 
 -- an event changes nothing that is said of a place that has ended
-pub past-step : (knows : Work → Bool) (x : State) (e : Event) → IsSound x → Needs knows x e → (n : ℕ) → n < length x.order → has_ended x n ≡ true → past_at (change x e) n ≡ past_at x n
-past-step knows x (Opens s) sound needs n lt over = refl
-past-step knows x (Admits i o w) sound needs n lt over = past-admitted x sound i o w n lt
-past-step knows x (Starts k) sound may n lt over = past-started x sound k may n
-past-step knows x (Ends k) sound running n lt over = past-ended x sound k running n lt
-past-step knows x (Loses k) sound needs n lt over = go needs
+pub past-step : (x : State) (e : Event) → IsSound x → Needs x e → (n : ℕ) → n < length x.order → has_ended x n ≡ true → past_at (change x e) n ≡ past_at x n
+past-step x (Opens s) sound needs n lt over = refl
+past-step x (Admits i o w) sound needs n lt over = past-admitted x sound i o w n lt
+past-step x (Starts k) sound may n lt over = past-started x sound k may n
+past-step x (Ends k) sound running n lt over = past-ended x sound k running n lt
+past-step x (Loses k) sound needs n lt over = go needs
   where
     other_than : has_ended x k ≡ false → n ≢ k
     other_than u same = true≢false (sym over ∙ ap (has_ended x) same ∙ u)

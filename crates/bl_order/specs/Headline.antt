@@ -1,5 +1,5 @@
 -- What holds of every state that a trail leads to.
-use Rattle.std.specs.Prelude.{◌≡◌, ℕ, ◌<◌, ◌≤◌, Bool, false, IsTrue, ◌⊎◌, List, length, All, if◌then◌else◌}
+use Rattle.std.specs.Prelude.{◌≡◌, ℕ, ◌<◌, ◌≤◌, false, IsTrue, ◌⊎◌, List, length, All, if◌then◌else◌}
 use Rattle.bl_policy.specs.Properties.{IsSecure}
 use Rattle.bl_work.specs.declared.work.Work.{Work}
 use Rattle.bl_work.specs.Effects.{after}
@@ -11,16 +11,16 @@ use Rattle.bl_order.specs.Now.{policy_at, policy_now, content_at, content_now, I
 use Rattle.bl_order.specs.Legal.{IsLegal}
 
 -- some trail leads to the state
-pub record IsReached (knows : Work → Bool) (x : State) : Type 0 where
+pub record IsReached (x : State) : Type 0 where
   pub setup : Setup
   pub limit : ℕ
   pub events : List Event
-  pub trail : IsTrail knows (start setup limit) events
+  pub trail : IsTrail (start setup limit) events
   pub leads : x ≡ state_after (start setup limit) events
 
 -- The headline, of a state: what is held is secure, places find the policy and the contents of their place, nothing is stuck, and
 -- what has ended stays as it is.
-pub record Holds (knows : Work → Bool) (x : State) : Type 0 where
+pub record Holds (x : State) : Type 0 where
   -- Bell and La Padula 1976: every access that is held has the three properties, under the policy now
   pub secure : All (λ (h : Hold). IsSecure (policy_now x) h.subject h.doc h.mode) (held x)
   -- the policy now is the policy at each running place, and at each that may start
@@ -34,13 +34,13 @@ pub record Holds (knows : Work → Bool) (x : State) : Type 0 where
   -- where a place has not ended, one at or before it runs or may start
   pub not_stuck : (n : ℕ) → n < length x.order → has_ended x n ≡ false → (m : ℕ) × (m ≤ n) × (IsTrue (runs x m) ⊎ MayStart x m)
   -- no event changes what is said of a place that has ended
-  pub for_good : (event : Event) → Needs knows x event → (n : ℕ) → n < length x.order → IsTrue (has_ended x n)
+  pub for_good : (event : Event) → Needs x event → (n : ℕ) → n < length x.order → IsTrue (has_ended x n)
       → past_at (change x event) n ≡ past_at x n
   -- the order is legal
   pub legal : IsLegal x.setup (is_lost x) x.order
 
 -- how the policy and the contents now move with each event
-pub record MovesOn (knows : Work → Bool) (x : State) : Type 0 where
+pub record MovesOn (x : State) : Type 0 where
   -- a start changes the policy as its place's answer says, and no content
   pub start_policy : (n : ℕ) → MayStart x n
       → policy_now (change x (Starts n)) ≡ changed (past_at x n).answer (past_at x n).task (past_at x n).subject (policy_now x)
@@ -53,12 +53,12 @@ pub record MovesOn (knows : Work → Bool) (x : State) : Type 0 where
       then after (content_now x doc) (past_at x n).effects doc
       else content_now x doc)
   -- a loss, a line and an opening change neither
-  pub loss_policy : (n : ℕ) → Needs knows x (Loses n) → policy_now (change x (Loses n)) ≡ policy_now x
-  pub loss_content : (n doc : ℕ) → Needs knows x (Loses n) → content_now (change x (Loses n)) doc ≡ content_now x doc
-  pub line_policy : (session ordinal : ℕ) (work : Work) → Needs knows x (Admits session ordinal work)
+  pub loss_policy : (n : ℕ) → Needs x (Loses n) → policy_now (change x (Loses n)) ≡ policy_now x
+  pub loss_content : (n doc : ℕ) → Needs x (Loses n) → content_now (change x (Loses n)) doc ≡ content_now x doc
+  pub line_policy : (session ordinal : ℕ) (work : Work) → Needs x (Admits session ordinal work)
       → policy_now (change x (Admits session ordinal work)) ≡ policy_now x
-  pub line_content : (session ordinal : ℕ) (work : Work) (doc : ℕ) → Needs knows x (Admits session ordinal work)
+  pub line_content : (session ordinal : ℕ) (work : Work) (doc : ℕ) → Needs x (Admits session ordinal work)
       → content_now (change x (Admits session ordinal work)) doc ≡ content_now x doc
-  pub opening_policy : (subject : ℕ) → Needs knows x (Opens subject) → policy_now (change x (Opens subject)) ≡ policy_now x
-  pub opening_content : (subject doc : ℕ) → Needs knows x (Opens subject)
+  pub opening_policy : (subject : ℕ) → Needs x (Opens subject) → policy_now (change x (Opens subject)) ≡ policy_now x
+  pub opening_content : (subject doc : ℕ) → Needs x (Opens subject)
       → content_now (change x (Opens subject)) doc ≡ content_now x doc

@@ -3,6 +3,7 @@ use Rattle.std.specs.Prelude.{ℕ, zero, suc, ◌+◌, ◌<◌, ◌≤◌, ◌^�
 use Rattle.bl_policy.specs.declared.access.Access.{Access}
 use Rattle.bl_policy.specs.declared.access.Mode.{Mode}
 use Rattle.bl_work.specs.Effects.{children}
+use Rattle.bl_work.specs.Readable.{IsReadable}
 use Rattle.bl_work.specs.declared.work.Work.{Work}
 use Rattle.bl_work.specs.declared.work.Work.TheVariants as work
 use Rattle.bl_setup.specs.Setup.{Setup}
@@ -121,16 +122,15 @@ children_at x n = child_entries n 1 (children (past_at x n).effects)
 abbrev pub most_sessions : ℕ
 most_sessions = 1000
 
--- Step, what an event needs, where the test says which works some line reads as under the setup's names
-module _ (knows : Work → Bool) where
-  abbrev pub Needs : State → Event → Type 0
-  Needs x (Opens subject) = (subject < length x.setup.policy.subjects) × (length x.sessions < most_sessions)
-  Needs x (Admits session ordinal work) =
-      (session < length x.sessions) × IsTrue (knows work) × ((session_at x session).last < ordinal) × (ordinal < 2 ^ 32)
-      × (sum_by entry_weight x.order + weight_of work ≤ x.limit)
-  Needs x (Starts n) = MayStart x n
-  Needs x (Ends n) = IsTrue (runs x n)
-  Needs x (Loses n) = IsTrue (runs x n) ⊎ MayStart x n
+-- Step, what an event needs: the work that is admitted is one that some line asks under the setup's names
+abbrev pub Needs : State → Event → Type 0
+Needs x (Opens subject) = (subject < length x.setup.policy.subjects) × (length x.sessions < most_sessions)
+Needs x (Admits session ordinal work) =
+    (session < length x.sessions) × IsReadable x.setup.names work × ((session_at x session).last < ordinal) × (ordinal < 2 ^ 32)
+    × (sum_by entry_weight x.order + weight_of work ≤ x.limit)
+Needs x (Starts n) = MayStart x n
+Needs x (Ends n) = IsTrue (runs x n)
+Needs x (Loses n) = IsTrue (runs x n) ⊎ MayStart x n
 
 abbrev pub with_phase : State → ℕ → Phase → State
 with_phase x n phase = record x { phases = slice_set x.phases n phase }
@@ -163,10 +163,9 @@ state_after x [] = x
 state_after x (event ∷ events) = state_after (change x event) events
 
 -- Trail: a list of events, each of which is a step of the state that the ones before it lead to
-module _ (knows : Work → Bool) where
-  abbrev pub IsTrail : State → List Event → Type 0
-  IsTrail x [] = Unit {0}
-  IsTrail x (event ∷ events) = Needs knows x event × IsTrail (change x event) events
+abbrev pub IsTrail : State → List Event → Type 0
+IsTrail x [] = Unit {0}
+IsTrail x (event ∷ events) = Needs x event × IsTrail (change x event) events
 
 -- Bell and La Padula 1976, current access: an access that is held, whose it is, of what, and how
 pub record Hold : Type 0 where

@@ -1,6 +1,5 @@
 //! What holds of the admission order and of the machine over it, whoever runs it.
 ghost use Rattle.std.specs.Prelude.{◌≡◌, ◌↔◌, ℕ, ◌<◌, Bool, IsTrue, List, slice_get, Some};
-ghost use Rattle.bl_work.specs.declared.work.Work.{Work};
 ghost use Rattle.bl_order.specs.Headline.{Holds, IsReached, MovesOn};
 ghost use Rattle.bl_order.specs.Laws.{FollowsItsParent, IsAnswered, IsClosed, KeepsPlaces, LeavesThePolicy, LooksBack, RestsOnEnded, RestsOnLossesBefore, RulesMakeThePolicy, RulesStandAlone};
 ghost use Rattle.bl_order.specs.Machine.{MayStart, State, may_start};
@@ -65,13 +64,12 @@ pub fn may_start_is_tested()
     ensures { (x : State) (n : ℕ) → (IsTrue (may_start x n) ↔ MayStart x n) }
 {}
 
-/// Bell and La Padula 1976 over Cheeseman et al. 2023: what holds of each state that a trail leads to, whichever works the
-/// sessions may send.
+/// Bell and La Padula 1976 over Cheeseman et al. 2023: what holds of each state that a trail leads to.
 pub fn headline()
-    ensures { (knows : Work → Bool) (x : State) → IsReached knows x → Holds knows x }
+    ensures { (x : State) → IsReached x → Holds x }
 {}
 
 /// The policy and the contents now move with each event, and the rest of the machine leaves them alone.
 pub fn events_move_the_present()
-    ensures { (knows : Work → Bool) (x : State) → IsReached knows x → MovesOn knows x }
+    ensures { (x : State) → IsReached x → MovesOn x }
 {}

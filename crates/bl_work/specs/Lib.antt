@@ -26,3 +26,4 @@ pub mod KnownLine
 pub mod Building
 pub mod SpelledDepth
 pub mod SpelledTexts
+pub mod Readable
