@@ -14,3 +14,4 @@ pub mod Behaviours
 pub mod WhenFaults
 pub mod KnownLines
 pub mod Widths
+pub mod AskedScripts

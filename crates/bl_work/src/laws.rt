@@ -10,9 +10,13 @@ ghost use Rattle.bl_work.specs.declared.asked.Line.{Line as AskedLine};
 ghost use Rattle.bl_work.specs.Laws.{AltersOnlyDeclared, IsAdded, LookAlike, StaysContent};
 ghost use Rattle.bl_work.specs.Modes.{KeepsModes};
 ghost use Rattle.bl_work.specs.Piece.{StandsIn};
-ghost use Rattle.bl_work.specs.Script.{HasContents};
-ghost use Rattle.bl_work.specs.Statements.{Statements};
+ghost use Rattle.bl_work.specs.Script.{HasContents, IsScript};
+ghost use Rattle.bl_work.specs.Statements.{Part, Statements};
+ghost use Rattle.bl_work.specs.declared.asked.Line.TheVariants as asked;
 ghost use Rattle.bl_work.specs.declared.script.Condition.TheVariants.{Is, Has};
+ghost use Rattle.bl_work.specs.declared.work.Work.TheVariants.{Behaviour};
+
+use bl_level::laws::{canonical_is_shortest, read_tokens_are_proper};
 
 /// A blind append sees nothing: on contents that differ only where the accesses do not let the body look, a body that
 /// keeps to its accesses has the same effects.
@@ -51,3 +55,12 @@ pub fn conditions()
 pub fn read_lines_are_known()
     ensures { (names : KnownNames) (bytes : List ℕ) (line : AskedLine) → LineOf names bytes line → IsKnownLine names line }
 {}
+
+/// What a line asks to be run is a script.
+pub fn lines_ask_scripts()
+    ensures { (names : KnownNames) (bytes : List ℕ) (script : List Part) →
+        LineOf names bytes (asked.Work (Behaviour script)) → IsScript script }
+{
+    canonical_is_shortest();
+    read_tokens_are_proper();
+}

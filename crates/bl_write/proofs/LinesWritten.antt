@@ -1,5 +1,5 @@
 -- The text of a line as it is read back: it reads as the line, it is canonical, and no text of the line is shorter.
-use Rattle.std.proofs.Common.{◌≡◌, ℕ, zero, suc, ◌+◌, ◌-◌, ◌<◌, ◌≤◌, List, [], ◌∷◌, length, get_or, Some, Ok, Err, refl, sym, subst, arith, lit≤}
+use Rattle.std.proofs.Common.{◌≡◌, ℕ, zero, suc, ◌+◌, ◌-◌, ◌<◌, ◌≤◌, List, [], ◌∷◌, length, get_or, Some, Ok, Err, refl, sym, subst, arith}
 use Rattle.std.specs.Prelude.{Result, IfOk}
 use Rattle.std.specs.Str.{bytes_eq}
 use Rattle.std.proofs.lemmas.List.Quantifiers.{position-Some}
@@ -18,18 +18,18 @@ use Rattle.bl_work.specs.declared.work.Work.TheVariants.{Behaviour, Rule}
 use Rattle.bl_write.specs.CanonicalLine.{IsTidy, IsTidyRule, IsTidyLine, IsCanonicalOf, canonical_line}
 use Rattle.bl_work.specs.Grammar.{SpelledLine, hello, wait, when, rule, spell}
 use Rattle.bl_write.specs.Known.{IsKnown, canonical_script, IsKnownRule, canonical_rule}
-use Rattle.bl_work.specs.LineGrammar.{most_line_bytes, Means, LineOf}
+use Rattle.bl_work.specs.LineGrammar.{Means, LineOf}
 use Rattle.bl_work.specs.Meaning.{script_of}
 use Rattle.bl_work.specs.Names.{KnownNames, AreNames}
 use Rattle.bl_work.specs.Script.{IsScript}
-use Rattle.bl_work.specs.Spelled.{SpelledBody, empty, show, say, add, set, copy, pour, if_then, if_else, spawn, spell_when}
+use Rattle.bl_work.specs.Spelled.{SpelledBody, empty, show, say, add, set, copy, pour, if_then, if_else, spawn}
 use Rattle.bl_work.specs.Statements.{Statements, Nothing, Show, Say, Add, Set, Copy, Pour, If, Spawn, Part}
 use Rattle.bl_write.specs.Unread.{SpelledWhen, no_when, unread_if, unread_body, unread_when, unread_from, unread, unread_rule, unread_line}
-use Rattle.bl_work.proofs.Behaviours.{same_bytes, when_is_script}
+use Rattle.bl_work.proofs.AskedScripts.{CanonicalIsShortest, ReadTokensAreProper, asked_script}
+use Rattle.bl_work.proofs.Behaviours.{same_bytes}
 use Rattle.bl_write.proofs.Faultless.{faultless_is}
 use Rattle.bl_write.proofs.Reread.{script_is, names_known}
 use Rattle.bl_write.proofs.RulesWritten.{rule_means}
-use Rattle.bl_work.proofs.Texts.{line_contents}
 
 -- ---- no `else` before a body of no statements
 
@@ -104,12 +104,6 @@ module _ (names : KnownNames) where
 -- what the laws of tokens say
 abbrev pub CanonicalReadsAgain : Type 0
 CanonicalReadsAgain = (ts : List Tok) → AreProper ts → Begins (canonical ts) ts []
-
-abbrev pub CanonicalIsShortest : Type 0
-CanonicalIsShortest = (ts : List Tok) (bytes rest : List ℕ) → Begins bytes ts rest → length (canonical ts) ≤ length bytes
-
-abbrev pub ReadTokensAreProper : Type 0
-ReadTokensAreProper = (bytes rest : List ℕ) (ts : List Tok) → Begins bytes ts rest → AreProper ts
 
 -- the same of a script
 abbrev pub ScriptReadsAgain : Type 0
@@ -208,19 +202,6 @@ module _ (names : KnownNames) where
       let documents = names_known names table.documents.distinct script is.preorder is.each known.there in
       (faultless_is names first more body (subst IsScript same is) documents, same)
 
-  -- what a line asks to be run is a script
-  line_script : CanonicalIsShortest → ReadTokensAreProper → (bytes : List ℕ) (script : List Part) → LineOf names bytes (line.Work (Behaviour script)) → IsScript script
-  line_script shortest proper bytes script l = go l.spelled l.reads l.means
-    where
-      go : (spelled : SpelledLine) → Begins bytes (spell spelled) [] → Means names spelled (line.Work (Behaviour script)) → IsScript script
-      go (hello name) reads means = absurd means
-      go wait reads means = absurd means
-      go (when first more body) reads (faultless, is) =
-          let short : length (canonical (spell_when first more body)) ≤ most_line_bytes = omega (arith, shortest (spell_when first more body) bytes [] reads, l.short) in
-          let contents = line_contents (when first more body) most_line_bytes (lit≤ tt) (proper bytes [] (spell_when first more body) reads) short in
-          subst IsScript (sym is) (when_is_script names first more body faultless contents)
-      go (rule asked) reads means = absurd means
-
   pub line_written : AreLaws → (asked : Line) → AreNames names → (bytes : List ℕ) → LineOf names bytes asked → IsWritten names asked (canonical_line names asked)
   line_written laws (line.Hello subject) table bytes l =
       one_spelling laws.again laws.shortest laws.proper names (line.Hello subject) (hello (get_or names.subjects subject [])) (only_hello subject) tt bytes l
@@ -229,7 +210,7 @@ module _ (names : KnownNames) where
   line_written laws (line.Work (Behaviour script)) table bytes l =
       let asked : Line = line.Work (Behaviour script) in
       let known = laws.script_known names bytes script l in
-      let is = line_script laws.shortest laws.proper bytes script l in
+      let is = asked_script laws.shortest laws.proper names bytes script l in
       record {
         reads = laws.script_again names script table is known;
         shortest = λ bytes l. laws.script_shortest names bytes script l;
