@@ -1,14 +1,14 @@
 //! Which works some text reads as, by given names: those whose subjects and documents are among the names, whose level the scheme
 //! holds, and whose canonical text is no longer than a line. The text is counted and not written, so that no memory is taken.
-ghost use Rattle.std.specs.Prelude.{◌≡◌, ◌↔◌, ◌≤◌, ℕ, List, length, IsTrue};
+ghost use Rattle.std.specs.Prelude.{◌≡◌, ◌↔◌, ◌≤◌, length, IsTrue};
 ghost use Rattle.bl_level.specs.Token.{tok};
 ghost use Rattle.bl_level.specs.Canonical.{spelled};
 ghost use Rattle.bl_write.specs.Counting.{counted, nothing_counted};
 ghost use Rattle.bl_write.specs.Known.{canonical_script, canonical_rule};
-ghost use Rattle.bl_work.specs.LineGrammar.{LineOf, most_line_bytes};
+ghost use Rattle.bl_work.specs.LineGrammar.{most_line_bytes};
+ghost use Rattle.bl_work.specs.Readable.{IsReadable};
 ghost use Rattle.bl_work.specs.Script.{IsScript};
 ghost use Rattle.bl_write.specs.There.{AreIn, AreThere, HasHeldLevel, IsRuleThere};
-ghost use Rattle.bl_work.specs.declared.asked.Line.TheVariants as asked;
 ghost use Rattle.bl_work.specs.declared.work.Work.TheVariants.{Behaviour, Rule as AskedRule};
 
 use crate::canonical::{
@@ -134,7 +134,7 @@ fn is_short(names: &Names, script: &Script) -> bool
 
 /// Whether some text reads as this script by these names.
 fn knows_script(names: &Names, script: &Script) -> bool
-    ensures { IsTrue result ↔ ((bytes : List ℕ) × LineOf names.now bytes (asked.Work (Behaviour script.now))) }
+    ensures { IsTrue result ↔ IsReadable names.now (Behaviour script.now) }
 {
     canonical_script_reads_again();
     canonical_script_is_shortest();
@@ -174,7 +174,7 @@ fn is_rule_short(names: &Names, rule: &Rule) -> bool
 
 /// Whether some text reads as this rule by these names.
 fn knows_rule(names: &Names, rule: &Rule) -> bool
-    ensures { IsTrue result ↔ ((bytes : List ℕ) × LineOf names.now bytes (asked.Work (AskedRule rule.now))) }
+    ensures { IsTrue result ↔ IsReadable names.now (AskedRule rule.now) }
 {
     canonical_rule_reads_again();
     canonical_rule_is_shortest();
@@ -193,7 +193,7 @@ impl KnowsWorks for Names {
     /// Whether some text reads as this work by these names: each subject and document that it names is among them, its level is the
     /// scheme's, and its canonical text has at most 8,192 bytes. It takes no memory.
     fn knows(&self, work: &Work) -> bool
-        ensures { IsTrue result ↔ ((bytes : List ℕ) × LineOf self.now bytes (asked.Work work.now)) }
+        ensures { IsTrue result ↔ IsReadable self.now work.now }
     {
         match work {
             Work::Behaviour(script) => knows_script(self, script),
