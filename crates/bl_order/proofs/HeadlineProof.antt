@@ -17,7 +17,8 @@ use Rattle.bl_order.proofs.StateLaws.{policy_now-open, content_now-open, content
 use Rattle.bl_order.proofs.Steps.{waiting_is_not_over, running_is_not_over}
 use Rattle.bl_order.proofs.Secure.{secure-all}
 use Rattle.bl_order.proofs.Lawful.{IsLawful, lawful-trail, lawful-start}
-use Rattle.bl_order.proofs.Trails.{sound-trail, sound-start, past-step}
+use Rattle.bl_order.proofs.Reached.{sound-reached}
+use Rattle.bl_order.proofs.Trails.{sound-start, past-step}
 
 done-no_fault : (b : Bool) (f : Option Denial) (t : Task) (es : List Effect) → is_done (answer_of b f t es) ≡ true → f ≡ None
 done-no_fault true f t es h = absurd (true≢false (sym h))
@@ -117,6 +118,5 @@ holds-sound x sound lawful = record {
 
 pub holds-reached : (x : State) → IsReached x → Holds x
 holds-reached x r =
-    holds-sound x
-    (subst IsSound (sym r.leads) (sound-trail (start r.setup r.limit) r.events (sound-start r.setup r.limit) r.trail))
+    holds-sound x (sound-reached x r)
     (subst IsLawful (sym r.leads) (lawful-trail (start r.setup r.limit) r.events (sound-start r.setup r.limit) (lawful-start r.setup r.limit) r.trail))

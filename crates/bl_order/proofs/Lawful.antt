@@ -36,7 +36,7 @@ get-front [] ys n e h = absurd (cc)
 get-front (x ∷ xs) ys zero e h = h
 get-front (x ∷ xs) ys (suc n) e h = get-front xs ys n e h
 
-get-back : (xs ys : List Entry) (i : ℕ) → slice_get (xs ++ ys) (length xs + i) ≡ slice_get ys i
+pub get-back : (xs ys : List Entry) (i : ℕ) → slice_get (xs ++ ys) (length xs + i) ≡ slice_get ys i
 get-back [] ys i = ap (slice_get ys) (zero_plus i)
   where
     zero_plus : (j : ℕ) → 0 + j ≡ j
@@ -63,7 +63,7 @@ get-child p which (k ∷ ks) (suc i) e h =
     next : (a b : ℕ) → a + 1 + b ≡ a + suc b
     next a b = omega arith
 
-child-get : (p which : ℕ) (ks : List ℕ) (i : ℕ) → i < length ks → slice_get (child_entries p which ks) i ≡ Some (Child p (which + i))
+pub child-get : (p which : ℕ) (ks : List ℕ) (i : ℕ) → i < length ks → slice_get (child_entries p which ks) i ≡ Some (Child p (which + i))
 child-get p which [] i lt = absurd (omega arith)
 child-get p which (k ∷ ks) zero lt = ap (λ j. Some (Child p j)) (plus_zero which)
   where

@@ -12,3 +12,8 @@ pub mod Secure
 pub mod HeadlineProof
 pub mod PlaceLaws
 pub mod Present
+pub mod Reached
+pub mod PlaceSums
+pub mod Spawning
+pub mod SpawnedPlaces
+pub mod RoomProof

@@ -22,7 +22,8 @@ use Rattle.bl_order.specs.Order.{is_rule}
 use Rattle.bl_order.proofs.Conflicts.{or_right, rule_conflicts, conflict_where_altered, altered_is_declared}
 use Rattle.bl_order.proofs.StateLaws.{changed-skips, policy-made, content-made, and_false, not_ended_after}
 use Rattle.bl_order.proofs.Steps.{Moves, running_is_not_over, waiting_is_not_over, other, begun_within, equal_self}
-use Rattle.bl_order.proofs.Trails.{sound-trail, sound-start, moves-start, moves-end, moves-lost, past-started, past-ended, within, phases-admitted, past-admitted}
+use Rattle.bl_order.proofs.Reached.{sound-reached}
+use Rattle.bl_order.proofs.Trails.{moves-start, moves-end, moves-lost, past-started, past-ended, within, phases-admitted, past-admitted}
 
 module _ {X : Type 0} (step : Past → X → X) (x0 : X) where
   made-cond : (b : Bool) (p : Past) (h : List Past) → made step x0 (cond b (p ∷ h) h) ≡ cond b (step p (made step x0 h)) (made step x0 h)
@@ -308,5 +309,4 @@ moves_on-sound x sound = record {
 }
 
 pub moves_on-reached : (x : State) → IsReached x → MovesOn x
-moves_on-reached x r =
-    moves_on-sound x (subst IsSound (sym r.leads) (sound-trail (start r.setup r.limit) r.events (sound-start r.setup r.limit) r.trail))
+moves_on-reached x r = moves_on-sound x (sound-reached x r)

@@ -24,6 +24,7 @@ use Rattle.bl_order.specs.Order.{Entry, Child}
 use Rattle.bl_order.specs.Past.{place, policy_before, content_before}
 use Rattle.bl_order.specs.Machine.{State, Event, IsTrail, Opens, Admits, Starts, Ends, Loses, start, state_after, may_start, past_at, has_ended, held, weight_of}
 use Rattle.bl_order.specs.Now.{content_now}
+use Rattle.bl_order.specs.Room.{all_to_come}
 use Rattle.bl_order.proofs.PlaceLaws.{may_start-is}
 use Rattle.bl_order.proofs.Base.{base, names, with_dan, ann, bob, cat, root, dan, memo, note, log, u, c, s, t, s_nato, m1, n1, access, behaves, when, reads, lines, asks, rules, answer_at, denied_for}
 
@@ -215,6 +216,11 @@ two-sessions-read-together-may = refl
 denied-ends-at-its-start : map (λ (x : State). has_ended x 0) (after_all (Opens bob ∷ Admits 0 1 (reads memo) ∷ Starts 0 ∷ []) ∷ after_all (Opens ann ∷ Admits 0 1 (reads memo) ∷ Starts 0 ∷ []) ∷ []) ≡ true ∷ false ∷ []
 unfolding added after_all
 denied-ends-at-its-start = refl
+
+-- a line's place may come with one that it spawns, and once both have ended nothing is to come
+one-to-come : map all_to_come (after_all (Opens ann ∷ Admits 0 1 adds_a ∷ []) ∷ after_all one_worker ∷ []) ≡ 1 ∷ 0 ∷ []
+unfolding added adds_a adds_b one_worker after_all
+one-to-come = refl
 
 -- ---- a trail
 

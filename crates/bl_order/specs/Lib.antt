@@ -5,3 +5,4 @@ pub mod Laws
 pub mod Now
 pub mod Legal
 pub mod Headline
+pub mod Room

@@ -1,10 +1,13 @@
 //! What holds of the admission order and of the machine over it, whoever runs it.
-ghost use Rattle.std.specs.Prelude.{◌≡◌, ◌↔◌, ℕ, ◌<◌, Bool, IsTrue, List, slice_get, Some};
+ghost use Rattle.std.specs.Prelude.{◌≡◌, ◌↔◌, ℕ, ◌+◌, ◌<◌, ◌≤◌, Bool, IsTrue, List, length, slice_get, Some};
 ghost use Rattle.bl_order.specs.Headline.{Holds, IsReached, MovesOn};
 ghost use Rattle.bl_order.specs.Laws.{FollowsItsParent, IsAnswered, IsClosed, KeepsPlaces, LeavesThePolicy, LooksBack, RestsOnEnded, RestsOnLossesBefore, RulesMakeThePolicy, RulesStandAlone};
-ghost use Rattle.bl_order.specs.Machine.{MayStart, State, may_start};
-ghost use Rattle.bl_setup.specs.Setup.{Setup};
+ghost use Rattle.bl_order.specs.Machine.{Event, MayStart, Needs, State, change, children_at, may_start, past_at, runs, start};
 ghost use Rattle.bl_order.specs.Order.{Child, Entry};
+ghost use Rattle.bl_order.specs.Room.{HasRoom, IsBehaviourOrRule};
+ghost use Rattle.bl_setup.specs.Setup.{Setup};
+
+use bl_work::laws::lines_ask_scripts;
 
 /// Each place is lost, denied or granted as the policy and the contents at its place say.
 pub fn places_are_answered()
@@ -72,4 +75,36 @@ pub fn headline()
 /// The policy and the contents now move with each event, and the rest of the machine leaves them alone.
 pub fn events_move_the_present()
     ensures { (x : State) → IsReached x → MovesOn x }
+{}
+
+/// A trail leads to the start, and where one leads to a state, one leads on with each event that may come next.
+pub fn steps_lead_on()
+    ensures first { (setup : Setup) (limit : ℕ) → IsReached (start setup limit) }
+    ensures next { (x : State) (event : Event) → IsReached x → Needs x event →
+        IsReached (change x event) }
+{}
+
+/// The places that stand and those that unended places may still spawn are no more than what was admitted weighs, and so no
+/// more than the limit.
+pub fn the_order_has_room()
+    ensures room { (x : State) → IsReached x → HasRoom x }
+    ensures order { (x : State) → IsReached x → length x.order ≤ x.limit }
+    // Where a running place ends, its children enter within the limit.
+    ensures children { (x : State) (n : ℕ) → IsReached x → IsTrue (runs x n) →
+        length x.order + length (children_at x n) ≤ x.limit }
+{
+    lines_ask_scripts();
+}
+
+/// Each place runs one of the behaviours of a script, or applies a rule.
+pub fn tasks_are_of_scripts()
+    ensures { (x : State) (n : ℕ) → IsReached x → n < length x.order →
+        IsBehaviourOrRule (past_at x n).task }
+{
+    lines_ask_scripts();
+}
+
+/// Each place of the order has its phase, and there are no other phases.
+pub fn each_place_has_a_phase()
+    ensures { (x : State) → IsReached x → length x.phases ≡ length x.order }
 {}

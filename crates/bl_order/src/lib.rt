@@ -11,6 +11,7 @@
 //!     Machine     the states, the events that may come next in each, and trails
 //!     Now         the policy and the contents, at a place and now
 //!     Headline    what holds of each state that a trail leads to
+//!     Room        how many places the order may come to have
 //!     Laws        what the laws say of places
 #![tactic(auto)]
 
