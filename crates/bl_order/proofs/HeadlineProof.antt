@@ -18,7 +18,7 @@ use Rattle.bl_order.proofs.Steps.{waiting_is_not_over, running_is_not_over}
 use Rattle.bl_order.proofs.Secure.{secure-all}
 use Rattle.bl_order.proofs.Lawful.{IsLawful, lawful-trail, lawful-start}
 use Rattle.bl_order.proofs.Reached.{sound-reached}
-use Rattle.bl_order.proofs.Trails.{sound-start, past-step}
+use Rattle.bl_order.proofs.Trails.{sound-start, past-step, past-begun}
 
 done-no_fault : (b : Bool) (f : Option Denial) (t : Task) (es : List Effect) → is_done (answer_of b f t es) ≡ true → f ≡ None
 done-no_fault true f t es h = absurd (true≢false (sym h))
@@ -107,9 +107,11 @@ holds-sound x sound lawful = record {
   at_running = running;
   at_ready = λ n may. policy_now-open x n sound.orderly may.there (waiting_is_not_over (phase_at x n) may.waits) may.clear;
   content_at_ready = λ n o may d. content_now-open x n o sound.orderly may.there (waiting_is_not_over (phase_at x n) may.waits) may.clear d;
+  content_at_running = λ n o lt r d. content_now-open x n o sound.orderly lt (running_is_not_over (phase_at x n) r) (λ m below c. sound.orderly m n below lt (or_left (runs x n) (has_ended x n) r) c) d;
   content_at_first = λ o m first. content_now-first x o m sound.orderly first;
   not_stuck = λ n lt u. never_stuck x n lt u;
   for_good = λ e needs n lt over. past-step x e sound needs n lt over;
+  running_stays = λ e needs n lt r other. past-begun x e sound needs n lt (or_left (runs x n) (has_ended x n) r) other;
   legal = lawful.legal;
 }
   where

@@ -10,12 +10,14 @@ use Rattle.bl_policy.specs.declared.rule.Rule.TheVariants.{Give, Rescind, Curren
 use Rattle.bl_policy.specs.Policy.{allows}
 use Rattle.bl_work.specs.declared.script.Condition.TheVariants.{Is, Has}
 use Rattle.bl_work.specs.Content.{added}
+use Rattle.bl_work.specs.FirstWhenFault.{HasFewAccesses}
 use Rattle.bl_work.specs.Grammar as grammar
 use Rattle.bl_work.specs.Grammar.{SpelledLine, spell}
 use Rattle.bl_work.specs.Readable.{IsReadable}
 use Rattle.bl_work.specs.Spelled as spelled
-use Rattle.bl_work.specs.Spelled.{SpelledAccess}
+use Rattle.bl_work.specs.Spelled.{SpelledAccess, SpelledBody}
 use Rattle.bl_work.specs.Statements.{Nothing, Show, Say, Add, Set, Pour, If, Spawn}
+use Rattle.bl_work.specs.WhenFaults.{lists_in, names_of_when, IsOnce, declarations_of_when, IsDeclared, uses_in}
 use Rattle.bl_work.specs.declared.work.Work.{Work}
 use Rattle.bl_work.specs.declared.work.Work.TheVariants as work
 use Rattle.bl_work.specs.declared.answer.Answer.{Answer}
@@ -261,8 +263,11 @@ writes_memo = record { mode = Write; document = memo_name }
 abbrev adds_a_text : List ℕ
 adds_a_text = codes "when write memo do add memo " ++ 34 ∷ 97 ∷ 34 ∷ codes "; spawn when read memo do show memo; end; end"
 
+abbrev adds_a_body : SpelledBody
+adds_a_body = spelled.add memo_name (97 ∷ []) (spelled.spawn reads_memo [] (spelled.show memo_name spelled.empty) spelled.empty)
+
 abbrev adds_a_line : SpelledLine
-adds_a_line = grammar.when writes_memo [] (spelled.add memo_name (97 ∷ []) (spelled.spawn reads_memo [] (spelled.show memo_name spelled.empty) spelled.empty))
+adds_a_line = grammar.when writes_memo [] adds_a_body
 
 adds_a_is_readable : IsReadable names adds_a
 unfolding adds_a behind
@@ -271,14 +276,14 @@ adds_a_is_readable = (
   record {
     short = lit≤ tt;
     spelled = adds_a_line;
-    reads = tokens_begin adds_a_text (spell adds_a_line) (refl, refl, refl, refl, refl, refl, refl, refl, refl, refl, refl, refl, refl, refl, refl, refl, refl, refl, refl, refl);
+    reads = tokens_begin adds_a_text (spell adds_a_line) (refl, (refl, (refl, (refl, (refl, (refl, (refl, (refl, (refl, (refl, (refl, (refl, (refl, (refl, (refl, (refl, (refl, (refl, (refl, refl)))))))))))))))))));
     means = (
       record {
         shallow = lit≤ tt;
-        few = record { whens = lit≤ tt; accesses = All-from_recursion _ _ (lit≤ tt, lit≤ tt, tt) };
-        known = All-from_recursion _ _ (is_memo, is_memo, is_memo, is_memo, tt);
-        once = All-from_recursion _ _ (none_before, none_before, tt);
-        declared = All-from_recursion _ _ (refl, refl, tt);
+        few = record { whens = lit≤ tt; accesses = All-from_recursion HasFewAccesses ((writes_memo ∷ []) ∷ lists_in adds_a_body) (lit≤ tt, (lit≤ tt, tt)) };
+        known = All-from_recursion (Contains names.documents) (names_of_when writes_memo [] adds_a_body) (is_memo, (is_memo, (is_memo, (is_memo, tt))));
+        once = All-from_recursion IsOnce (declarations_of_when writes_memo [] adds_a_body) (none_before, (none_before, tt));
+        declared = All-from_recursion IsDeclared (uses_in (writes_memo ∷ []) adds_a_body) (refl, (refl, tt));
       },
       refl,
     );
@@ -289,8 +294,11 @@ adds_a_is_readable = (
 abbrev adds_b_text : List ℕ
 adds_b_text = codes "when write memo do add memo " ++ 34 ∷ 98 ∷ 34 ∷ codes "; end"
 
+abbrev adds_b_body : SpelledBody
+adds_b_body = spelled.add memo_name (98 ∷ []) spelled.empty
+
 abbrev adds_b_line : SpelledLine
-adds_b_line = grammar.when writes_memo [] (spelled.add memo_name (98 ∷ []) spelled.empty)
+adds_b_line = grammar.when writes_memo [] adds_b_body
 
 adds_b_is_readable : IsReadable names adds_b
 unfolding adds_b behind
@@ -299,14 +307,14 @@ adds_b_is_readable = (
   record {
     short = lit≤ tt;
     spelled = adds_b_line;
-    reads = tokens_begin adds_b_text (spell adds_b_line) (refl, refl, refl, refl, refl, refl, refl, refl, refl, refl);
+    reads = tokens_begin adds_b_text (spell adds_b_line) (refl, (refl, (refl, (refl, (refl, (refl, (refl, (refl, (refl, refl)))))))));
     means = (
       record {
         shallow = lit≤ tt;
-        few = record { whens = lit≤ tt; accesses = All-from_recursion _ _ (lit≤ tt, tt) };
-        known = All-from_recursion _ _ (is_memo, is_memo, tt);
-        once = All-from_recursion _ _ (none_before, tt);
-        declared = All-from_recursion _ _ (refl, tt);
+        few = record { whens = lit≤ tt; accesses = All-from_recursion HasFewAccesses ((writes_memo ∷ []) ∷ lists_in adds_b_body) (lit≤ tt, tt) };
+        known = All-from_recursion (Contains names.documents) (names_of_when writes_memo [] adds_b_body) (is_memo, (is_memo, tt));
+        once = All-from_recursion IsOnce (declarations_of_when writes_memo [] adds_b_body) (none_before, tt);
+        declared = All-from_recursion IsDeclared (uses_in (writes_memo ∷ []) adds_b_body) (refl, tt);
       },
       refl,
     );

@@ -222,3 +222,19 @@ past-step x (Loses k) sound needs n lt over = go needs
     go : (IsTrue (runs x k)) ⊎ (MayStart x k) → past_at (with_phase x k Gone) n ≡ past_at x n
     go (inl r) = let u : has_ended x k ≡ false = running_is_not_over (phase_at x k) r in past-lost x k sound (within x sound k r) u n lt (other_than u) (or_right (runs x n) (has_ended x n) over)
     go (inr may) = let u : has_ended x k ≡ false = waiting_is_not_over (phase_at x k) may.waits in past-lost x k sound may.there u n lt (other_than u) (or_right (runs x n) (has_ended x n) over)
+
+-- an event changes nothing that is said of a place that has begun, but that its own loss ends it
+pub past-begun : (x : State) (e : Event) → IsSound x → Needs x e → (n : ℕ) → n < length x.order → (runs x n || has_ended x n) ≡ true → (e ≡ Loses n → ⊥)
+    → past_at (change x e) n ≡ past_at x n
+past-begun x (Opens s) sound needs n lt begun other = refl
+past-begun x (Admits i o w) sound needs n lt begun other = past-admitted x sound i o w n lt
+past-begun x (Starts k) sound may n lt begun other = past-started x sound k may n
+past-begun x (Ends k) sound running n lt begun other = past-ended x sound k running n lt
+past-begun x (Loses k) sound needs n lt begun other = go needs
+  where
+    apart : n ≢ k
+    apart same = other (ap Loses (sym same))
+
+    go : (IsTrue (runs x k)) ⊎ (MayStart x k) → past_at (with_phase x k Gone) n ≡ past_at x n
+    go (inl r) = past-lost x k sound (within x sound k r) (running_is_not_over (phase_at x k) r) n lt apart begun
+    go (inr may) = past-lost x k sound may.there (waiting_is_not_over (phase_at x k) may.waits) n lt apart begun

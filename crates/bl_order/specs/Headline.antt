@@ -29,12 +29,18 @@ pub record Holds (x : State) : Type 0 where
   -- a place that may start finds of each document that it declares the content at that place
   pub content_at_ready : (n doc : ℕ) → MayStart x n → IsTrue (is_declared (accesses_of (past_at x n).task) doc)
       → content_now x doc ≡ content_at x doc n
+  -- and a running place still finds it
+  pub content_at_running : (n doc : ℕ) → n < length x.order → IsTrue (runs x n) → IsTrue (is_declared (accesses_of (past_at x n).task) doc)
+      → content_now x doc ≡ content_at x doc n
   -- the content now is the content at the first place that is still to alter it
   pub content_at_first : (doc m : ℕ) → IsFirstToAlter x doc m → content_now x doc ≡ content_at x doc m
   -- where a place has not ended, one at or before it runs or may start
   pub not_stuck : (n : ℕ) → n < length x.order → has_ended x n ≡ false → (m : ℕ) × (m ≤ n) × (IsTrue (runs x m) ⊎ MayStart x m)
   -- no event changes what is said of a place that has ended
   pub for_good : (event : Event) → Needs x event → (n : ℕ) → n < length x.order → IsTrue (has_ended x n)
+      → past_at (change x event) n ≡ past_at x n
+  -- nor does any event but its own loss change what is said of a place that runs
+  pub running_stays : (event : Event) → Needs x event → (n : ℕ) → n < length x.order → IsTrue (runs x n) → (event ≡ Loses n → ⊥)
       → past_at (change x event) n ≡ past_at x n
   -- the order is legal
   pub legal : IsLegal x.setup (is_lost x) x.order
