@@ -8,6 +8,7 @@ use Rattle.bl_setup.specs.Setup.{Setup}
 use Rattle.bl_setup.specs.Agreement.{of_scheme}
 use Rattle.bl_setup.specs.Declaration.{Declaration, SubjectText, DocumentText, AllowText, ranks, categories, subject, document, allow}
 use Rattle.bl_setup.specs.Grammar.{AddsSubject, AddsDocument, AddsModes, Leads, IsSetup}
+use Rattle.bl_setup.proofs.RightsLemmas.{rights_are_named}
 use Rattle.bl_setup.specs.WholeLists.{subjects_of, documents_of, HaveClearances, HaveLevels, IsDeclared}
 
 -- behind what was there stands what the declarations add
@@ -119,4 +120,5 @@ setup_is_declared bytes setup s =
           (subst (HaveClearances scheme (subjects_of s.declarations)) (sym a.subjects_grown) a.have_clearances);
       levels = subst (λ x. HaveLevels x (documents_of s.declarations) setup.policy.documents) (sym a.scheme)
           (subst (HaveLevels scheme (documents_of s.declarations)) (sym a.documents_grown) a.have_levels);
+      rights = rights_are_named scheme s.declarations setup s.leads;
     }

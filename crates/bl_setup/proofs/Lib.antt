@@ -8,6 +8,7 @@ pub mod AddLemmas
 pub mod WholeLemmas
 pub mod HeadLemmas
 pub mod FileLemmas
+pub mod RightsLemmas
 pub mod DeclaredLemmas
 pub mod FaultLemmas
 pub mod FirstLemmas

@@ -1,11 +1,14 @@
 -- A setup as a whole: what its text declares, in whole lists.
-use Rattle.std.specs.Prelude.{◌≡◌, ℕ, List, [], ◌∷◌, map}
+use Rattle.std.specs.Prelude.{◌≡◌, ◌↔◌, ℕ, List, [], ◌∷◌, map, Some, IsTrue, Contains}
 use Rattle.bl_level.specs.Level.{SecurityLevel, Dominates}
 use Rattle.bl_level.specs.Scheme.{SchemeNames}
 use Rattle.bl_level.specs.LevelText.{Means}
-use Rattle.bl_policy.specs.Policy.{Clearance}
+use Rattle.bl_level.specs.Table.{place_of}
+use Rattle.bl_policy.specs.declared.access.Mode.{Mode}
+use Rattle.bl_policy.specs.Policy.{Clearance, allows}
+use Rattle.bl_work.specs.Names.{KnownNames}
 use Rattle.bl_setup.specs.Setup.{Setup}
-use Rattle.bl_setup.specs.Declaration.{Declaration, SubjectText, DocumentText, ranks, categories, subject, document, allow}
+use Rattle.bl_setup.specs.Declaration.{Declaration, SubjectText, DocumentText, AllowText, ranks, categories, subject, document, allow}
 use Rattle.bl_setup.specs.Grammar.{Spells}
 use Rattle.bl_setup.specs.Lines.{lines_read}
 
@@ -27,6 +30,15 @@ documents_of (subject s ∷ ds) = documents_of ds
 documents_of (document d ∷ ds) = d ∷ documents_of ds
 documents_of (allow a ∷ ds) = documents_of ds
 
+-- the `allow` lines, in order
+abbrev pub rights_of : List Declaration → List AllowText
+rights_of [] = []
+rights_of (ranks lowest higher ∷ ds) = rights_of ds
+rights_of (categories names ∷ ds) = rights_of ds
+rights_of (subject s ∷ ds) = rights_of ds
+rights_of (document d ∷ ds) = rights_of ds
+rights_of (allow a ∷ ds) = a ∷ rights_of ds
+
 -- the subject has the levels that its texts mean, and is trusted and an administrator where its line says so
 pub record HasClearance (scheme : SchemeNames) (s : SubjectText) (c : Clearance) : Type 0 where
   pub greatest : Means scheme s.greatest c.greatest
@@ -45,8 +57,16 @@ abbrev pub HaveLevels : SchemeNames → List DocumentText → List SecurityLevel
 HaveLevels scheme [] ls = ls ≡ []
 HaveLevels scheme (d ∷ ds) ls = (l : SecurityLevel) × (rest : List SecurityLevel) × (ls ≡ l ∷ rest) × Means scheme d.level l × HaveLevels scheme ds rest
 
+-- some `allow` line names the subject, the document and the mode
+pub record IsNamed (names : KnownNames) (lines : List AllowText) (subject document : ℕ) (mode : Mode) : Type 0 where
+  pub line : AllowText
+  pub there : Contains lines line
+  pub subject_is : place_of line.subject names.subjects ≡ Some subject
+  pub document_is : place_of line.document names.documents ≡ Some document
+  pub mode_is : Contains (line.mode ∷ line.modes) mode
+
 -- The setup is what the declarations of its text say: its subjects and documents are those declared, in order, with the
--- levels and contents of their lines.
+-- levels and contents of their lines, and a subject may use a document in a mode where some `allow` line names the three.
 pub record IsDeclared (bytes : List ℕ) (setup : Setup) : Type 0 where
   pub declarations : List Declaration
   pub spelled : Spells (lines_read bytes) declarations
@@ -55,3 +75,4 @@ pub record IsDeclared (bytes : List ℕ) (setup : Setup) : Type 0 where
   pub contents : setup.contents ≡ map (λ d. d.content) (documents_of declarations)
   pub clearances : HaveClearances setup.names.scheme (subjects_of declarations) setup.policy.subjects
   pub levels : HaveLevels setup.names.scheme (documents_of declarations) setup.policy.documents
+  pub rights : (s d : ℕ) (mode : Mode) → IsTrue (allows setup.policy s d mode) ↔ IsNamed setup.names (rights_of declarations) s d mode
