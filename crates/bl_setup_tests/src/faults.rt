@@ -25,18 +25,16 @@ fn fault_of(alloc: Global, parts: &[&[u8]]) -> Result<Option<SetupFault>, AllocE
 
 /// How many rows come before the first whose fault is another one.
 fn right_rows(alloc: Global, rows: &[Row<'_>]) -> Result<usize, AllocError> {
-    let mut right = 0;
-    for (parts, line, kind) in rows {
+    for (i, (parts, line, kind)) in rows.iter().enumerate() {
         let fault = SetupFault {
             line: *line,
             kind: *kind,
         };
         if fault_of(alloc, parts)? != Some(fault) {
-            return Ok(right);
+            return Ok(i);
         }
-        right += 1;
     }
-    Ok(right)
+    Ok(rows.len())
 }
 
 #[test]

@@ -4,6 +4,7 @@ use bitflags::Flags;
 use bl_level::level::Level;
 use bl_setup::reader::read_setup;
 use bl_setup::setup::Setup;
+use std::process::Abort;
 use std::test::Fail;
 
 /// A subject with the ranks and the categories of its levels, and whether it is trusted and an administrator.
@@ -96,37 +97,46 @@ fn are_base_subjects(setup: &Setup) -> bool {
         && setup.names().subject(b"memo").is_none()
 }
 
-#[test]
-fn base_setup(rt: HostRuntime) -> Result<(), Fail> {
-    let setup = base_setup_of(rt.alloc())?;
-    assert!(rt; has_counts(&setup, 4, 3));
-    assert!(rt; are_base_subjects(&setup));
+fn check_base_setup(rt: &impl Abort, setup: &Setup) {
+    assert!(rt; has_counts(setup, 4, 3));
+    assert!(rt; are_base_subjects(setup));
     let cells: [(&[u8], &[u8], u8); 4] = [
         (b"ann", b"memo", 5),
         (b"ann", b"log", 3),
         (b"bob", b"memo", 7),
         (b"cat", b"note", 0),
     ];
-    assert!(rt; are_cells(&setup, &cells));
-    assert!(rt; has_content(&setup, b"memo", b"m1") && has_content(&setup, b"log", b""));
+    assert!(rt; are_cells(setup, &cells));
+    assert!(rt; has_content(setup, b"memo", b"m1") && has_content(setup, b"log", b""));
+}
+
+#[test]
+fn base_setup(rt: HostRuntime) -> Result<(), Fail> {
+    let setup = base_setup_of(rt.alloc())?;
+    check_base_setup(&rt, &setup);
+    Ok(())
+}
+
+fn check_copy(rt: &impl Abort, copy: &Setup) {
+    assert!(rt; has_counts(copy, 4, 3));
+    assert!(rt; is_cleared(copy, &ROOT));
+    assert!(rt; are_cells(copy, &[(b"ann", b"memo", 5)]));
+    assert!(rt; has_content(copy, b"memo", b"m1") && has_content(copy, b"note", b"n1"));
+}
+
+fn check_a_copy_is_the_same(rt: &impl Abort, setup: &Setup) -> Result<(), Fail> {
+    let copy = setup.copy()?;
+    check_copy(rt, &copy);
     Ok(())
 }
 
 #[test]
 fn a_copy_is_the_same(rt: HostRuntime) -> Result<(), Fail> {
-    let copy = base_setup_of(rt.alloc())?.copy()?;
-    assert!(rt; has_counts(&copy, 4, 3));
-    assert!(rt; is_cleared(&copy, &ROOT));
-    assert!(rt; are_cells(&copy, &[(b"ann", b"memo", 5)]));
-    assert!(rt; has_content(&copy, b"memo", b"m1") && has_content(&copy, b"note", b"n1"));
-    Ok(())
+    let setup = base_setup_of(rt.alloc())?;
+    check_a_copy_is_the_same(&rt, &setup)
 }
 
-#[test]
-fn line_ends_and_skipped_lines(rt: HostRuntime) -> Result<(), Fail> {
-    let text =
-        b"# who\r\n\r\nranks u\r\n \t\ncategories\r\n#\ndocument note u \"n1\"\r\nsubject ann greatest u current u admin\r";
-    let setup = read_setup(rt.alloc(), text.as_slice())?;
+fn check_line_ends_and_skipped_lines(rt: &impl Abort, setup: &Setup) {
     let ann = Clearance {
         name: b"ann",
         greatest: (0, 0),
@@ -134,7 +144,15 @@ fn line_ends_and_skipped_lines(rt: HostRuntime) -> Result<(), Fail> {
         trusted: false,
         admin: true,
     };
-    assert!(rt; is_cleared(&setup, &ann));
-    assert!(rt; has_content(&setup, b"note", b"n1"));
+    assert!(rt; is_cleared(setup, &ann));
+    assert!(rt; has_content(setup, b"note", b"n1"));
+}
+
+#[test]
+fn line_ends_and_skipped_lines(rt: HostRuntime) -> Result<(), Fail> {
+    let text =
+        b"# who\r\n\r\nranks u\r\n \t\ncategories\r\n#\ndocument note u \"n1\"\r\nsubject ann greatest u current u admin\r";
+    let setup = read_setup(rt.alloc(), text.as_slice())?;
+    check_line_ends_and_skipped_lines(&rt, &setup);
     Ok(())
 }
