@@ -49,7 +49,11 @@ fn is_walked_by(alloc: Global, names: &Names, line: &[u8]) -> bool {
 /// The same where the one document is `a`.
 fn is_walked(alloc: Global, line: &[u8]) -> bool {
     match names_of(alloc, b"a") {
-        Some(names) => is_walked_by(alloc, &names, line),
+        Some(names) => {
+            let walked = is_walked_by(alloc, &names, line);
+            drop(names);
+            walked
+        }
         None => false,
     }
 }

@@ -1,4 +1,5 @@
-//! Names, what lines ask by them, and tables of lines.
+//! Names, what lines ask by them, and tables of lines. Names are let go by `drop`, which is proved once for all of them, and not
+//! at the end of a scope, where the proof takes them apart each time.
 use bl_level::level::Level;
 use bl_level::name::Name;
 use bl_level::scheme::Scheme;
@@ -43,7 +44,10 @@ fn names_with(
     let mut names = Names::new(alloc, scheme).ok()?;
     match add_all(&mut names, subjects, documents) {
         Some(()) => Some(names),
-        None => None,
+        None => {
+            drop(names);
+            None
+        }
     }
 }
 
@@ -76,7 +80,9 @@ pub fn names_of(alloc: Global, document: &[u8]) -> Option<Names> {
 
 /// What a line asks by these names. It promises nothing, which keeps the proofs of its callers short.
 pub fn read_by(alloc: Global, names: Names, line: &[u8]) -> Result<Line, LineFault> {
-    read_line(alloc, &names, line)
+    let asked = read_line(alloc, &names, line);
+    drop(names);
+    asked
 }
 
 /// What a line asks by the base names.
@@ -89,9 +95,9 @@ pub fn read(alloc: Global, line: &[u8]) -> Result<Line, LineFault> {
 
 /// Why a line is refused by the base names.
 pub fn fault_of(alloc: Global, line: &[u8]) -> Result<LineFault, Fail> {
-    match read(alloc, line) {
-        Ok(_) => Err(Fail::new("no fault")),
-        Err(fault) => Ok(fault),
+    match read(alloc, line).err() {
+        Some(fault) => Ok(fault),
+        None => Err(Fail::new("no fault")),
     }
 }
 
@@ -113,7 +119,9 @@ pub fn assert_places(rt: &impl Abort, alloc: Global, lines: &[(&[u8], u32)]) -> 
 
 /// Whether some text reads as the work by these names.
 pub fn is_known_by(names: Names, work: &Work) -> bool {
-    names.knows(work)
+    let known = names.knows(work);
+    drop(names);
+    known
 }
 
 /// The level of this rank and these categories.

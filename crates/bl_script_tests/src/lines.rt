@@ -65,33 +65,45 @@ fn reads_each_line(rt: HostRuntime) -> Result<(), Fail> {
     Ok(())
 }
 
-#[test]
-fn reads_a_behaviour_with_a_child(rt: HostRuntime) -> Result<(), Fail> {
-    let line = b"when write memo,read note do add memo \"a\"; spawn when append log do end ; end";
-    let script = script_of(rt.alloc(), line)?;
+/// The parent writes memo and reads note, and its child appends.
+fn assert_accesses(rt: &impl Abort, script: &Script) {
     assert_eq!(rt; script.weight(), 2);
     assert_eq!(rt; script.accesses(0).len(), 2);
     assert_eq!(rt; script.accesses(0)[0].mode, Mode::Write);
     assert_eq!(rt; script.accesses(0)[1].doc.position(), 1);
+    assert_eq!(rt; script.accesses(1)[0].mode, Mode::Append);
+}
+
+/// The parent adds to memo and spawns its child, which does nothing.
+fn assert_bodies(rt: &impl Abort, script: &Script) {
+    assert_eq!(rt; script.weight(), 2);
     assert!(rt;
         matches!(script.body(0), [Stmt::Add(doc, text), Stmt::Spawn(1)] if doc.position() == 0 && text.bytes() == b"a".as_slice())
     );
-    assert_eq!(rt; script.accesses(1)[0].mode, Mode::Append);
     assert_eq!(rt; script.body(1).len(), 0);
+}
+
+#[test]
+fn reads_a_behaviour_with_a_child(rt: HostRuntime) -> Result<(), Fail> {
+    let line = b"when write memo,read note do add memo \"a\"; spawn when append log do end ; end";
+    let script = script_of(rt.alloc(), line)?;
+    assert_accesses(&rt, &script);
+    assert_bodies(&rt, &script);
     Ok(())
+}
+
+/// Whether the lines ask the same behaviours.
+fn are_same(alloc: Global, line: &[u8], other: &[u8]) -> Result<bool, Fail> {
+    let script = script_of(alloc, line)?;
+    let other = script_of(alloc, other)?;
+    Ok(script.is_same(&other))
 }
 
 #[test]
 fn an_else_of_nothing_is_none(rt: HostRuntime) -> Result<(), Fail> {
-    let with = script_of(
-        rt.alloc(),
-        b"when read memo do if memo is \"\" then show memo; else end; end",
-    )?;
-    let without = script_of(
-        rt.alloc(),
-        b"when read memo do if memo is \"\" then show memo; end; end",
-    )?;
-    assert!(rt; with.is_same(&without));
+    let with = b"when read memo do if memo is \"\" then show memo; else end; end";
+    let without = b"when read memo do if memo is \"\" then show memo; end; end";
+    assert!(rt; are_same(rt.alloc(), with, without)?);
     Ok(())
 }
 

@@ -6,6 +6,8 @@ use bl_script::answer::{Answer, Outputs};
 use bl_script::document::Document;
 use bl_script::script::{Script, Stmt};
 use bl_script::work::Work;
+use std::alloc::Global;
+use std::process::Abort;
 use std::test::Fail;
 
 #[test]
@@ -18,17 +20,27 @@ fn shares_a_document(rt: HostRuntime) -> Result<(), Fail> {
     Ok(())
 }
 
-#[test]
-fn shares_a_work_of_one_read(rt: HostRuntime) -> Result<(), Fail> {
-    let memo = DocId::new(3);
-    let work = Work::Behaviour(Script::one_read(rt.alloc(), memo)?);
-    let Work::Behaviour(script) = work.share()? else {
-        return Err(Fail::new("not a behaviour"));
-    };
+/// What is shared of the work that reads and shows a document.
+fn shared_read(alloc: Global, document: DocId) -> Result<Script, Fail> {
+    let work = Work::Behaviour(Script::one_read(alloc, document)?);
+    match work.share()? {
+        Work::Behaviour(script) => Ok(script),
+        Work::Rule(_) => Err(Fail::new("not a behaviour")),
+    }
+}
+
+fn assert_one_read(rt: &impl Abort, script: &Script, document: DocId) {
     assert_eq!(rt; script.weight(), 1);
     assert_eq!(rt; script.accesses(0).len(), 1);
     assert_eq!(rt; script.accesses(0)[0].mode, Mode::Read);
-    assert!(rt; matches!(script.body(0), [Stmt::Show(doc)] if *doc == memo));
+    assert!(rt; matches!(script.body(0), [Stmt::Show(doc)] if *doc == document));
+}
+
+#[test]
+fn shares_a_work_of_one_read(rt: HostRuntime) -> Result<(), Fail> {
+    let memo = DocId::new(3);
+    let script = shared_read(rt.alloc(), memo)?;
+    assert_one_read(&rt, &script, memo);
     Ok(())
 }
 

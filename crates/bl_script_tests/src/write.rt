@@ -17,7 +17,11 @@ fn text_by(alloc: Global, names: &Names, bytes: &[u8]) -> Result<Vec<u8>, LineFa
 /// The same by the base names.
 fn text_of(alloc: Global, bytes: &[u8]) -> Result<Vec<u8>, LineFault> {
     match base_names(alloc) {
-        Some(names) => text_by(alloc, &names, bytes),
+        Some(names) => {
+            let text = text_by(alloc, &names, bytes);
+            drop(names);
+            text
+        }
         None => Err(LineFault::Memory),
     }
 }
