@@ -17,3 +17,4 @@ pub mod PlaceSums
 pub mod Spawning
 pub mod SpawnedPlaces
 pub mod RoomProof
+pub mod AtHandLaws

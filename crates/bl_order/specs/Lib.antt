@@ -6,3 +6,4 @@ pub mod Now
 pub mod Legal
 pub mod Headline
 pub mod Room
+pub mod AtHand

@@ -1,5 +1,6 @@
 //! What holds of the admission order and of the machine over it, whoever runs it.
 ghost use Rattle.std.specs.Prelude.{◌≡◌, ◌↔◌, ℕ, ◌+◌, ◌<◌, ◌≤◌, Bool, IsTrue, List, length, slice_get, Some};
+ghost use Rattle.bl_order.specs.AtHand.{ParentsHaveEnded, RestsOnEndedPlaces};
 ghost use Rattle.bl_order.specs.Headline.{Holds, IsReached, MovesOn};
 ghost use Rattle.bl_order.specs.Laws.{FollowsItsParent, IsAnswered, IsClosed, KeepsPlaces, LeavesThePolicy, LooksBack, RestsOnEnded, RestsOnLossesBefore, RulesMakeThePolicy, RulesStandAlone};
 ghost use Rattle.bl_order.specs.Machine.{Event, MayStart, Needs, State, change, children_at, may_start, past_at, runs, start};
@@ -103,6 +104,13 @@ pub fn tasks_are_of_scripts()
 {
     lines_ask_scripts();
 }
+
+/// What is said of a place that has ended, runs or may start rests on which ended places are lost, and on whether it is lost
+/// itself: it does not wait for what becomes of the others. Each child stands after its parent, which has ended.
+pub fn what_is_at_hand_rests_on_ended_places()
+    ensures rests { (x : State) → IsReached x → RestsOnEndedPlaces x }
+    ensures parents { (x : State) → IsReached x → ParentsHaveEnded x }
+{}
 
 /// Each place of the order has its phase, and there are no other phases.
 pub fn each_place_has_a_phase()
