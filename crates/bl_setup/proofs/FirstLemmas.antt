@@ -188,7 +188,7 @@ no_place before (x ∷ front) rest to end kind (next, p, all) (next', p', l) f =
     no_place next front rest to end kind all (subst (λ z. LeadTo z front to) n l) f
 
 -- the lines that are read, one after the other
-abbrev ReadTo : SoFar → List (List ℕ) → SoFar → Type 0
+abbrev pub ReadTo : SoFar → List (List ℕ) → SoFar → Type 0
 ReadTo before [] after = after ≡ before
 ReadTo before (line ∷ lines) after = (next : SoFar) × Declares before line next × ReadTo next lines after
 
@@ -230,7 +230,7 @@ parts_lead lines setup p =
     )
 
 -- the lines of a setup's text lead to it
-setup_leads : (bytes : List ℕ) (setup : Setup) → IsSetup bytes setup → LeadTo nothing (file_lines bytes) (declared setup)
+pub setup_leads : (bytes : List ℕ) (setup : Setup) → IsSetup bytes setup → LeadTo nothing (file_lines bytes) (declared setup)
 setup_leads bytes setup s = read_leads nothing (file_lines bytes) (declared setup) (parts_lead (lines_read bytes) setup (parts_of bytes setup s))
 
 -- a text with a fault is no setup

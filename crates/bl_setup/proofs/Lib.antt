@@ -15,3 +15,4 @@ pub mod FirstLemmas
 pub mod TakingLemmas
 pub mod HeadFaults
 pub mod DraftFaults
+pub mod LedLemmas

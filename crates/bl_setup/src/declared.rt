@@ -1,8 +1,9 @@
 //! What a setup file declares, as whole lists; and that its text has one answer.
-ghost use Rattle.std.specs.Prelude.{ℕ, List};
-ghost use Rattle.bl_setup.specs.FirstFault.{HasOneAnswer};
+ghost use Rattle.std.specs.Prelude.{◌↔◌, ◌≤◌, ℕ, List, length};
+ghost use Rattle.bl_setup.specs.FirstFault.{HasOneAnswer, LeadTo, declared, nothing};
 ghost use Rattle.bl_setup.specs.Setup as setups;
 ghost use Rattle.bl_setup.specs.Grammar.{IsSetup};
+ghost use Rattle.bl_setup.specs.Lines.{file_lines};
 ghost use Rattle.bl_setup.specs.WholeLists.{IsDeclared};
 
 /// A setup's subjects and documents are those that its text declares, in order, with the levels and the contents of their
@@ -14,4 +15,11 @@ pub fn a_setup_is_declared()
 /// A text has at most one answer: no two setups, no two first faults, and not both.
 pub fn a_text_has_one_answer()
     ensures { (bytes : List ℕ) → HasOneAnswer bytes }
+{}
+
+/// A text that is not too large is a setup exactly where its lines lead to it, one after the other: what a setup is and where
+/// a text's first fault lies rest on one relation of lines.
+pub fn a_setup_is_what_its_lines_lead_to()
+    ensures { (bytes : List ℕ) (setup : setups.Setup) →
+        (IsSetup bytes setup ↔ ((length bytes ≤ 16777216) × LeadTo nothing (file_lines bytes) (declared setup))) }
 {}
