@@ -18,3 +18,4 @@ pub mod Spawning
 pub mod SpawnedPlaces
 pub mod RoomProof
 pub mod AtHandLaws
+pub mod ClaimLaws

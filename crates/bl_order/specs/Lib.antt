@@ -1,4 +1,5 @@
 pub mod Order
+pub mod Claims
 pub mod Past
 pub mod Machine
 pub mod Laws

@@ -1,10 +1,11 @@
 //! What holds of the admission order and of the machine over it, whoever runs it.
-ghost use Rattle.std.specs.Prelude.{◌≡◌, ◌↔◌, ℕ, ◌+◌, ◌<◌, ◌≤◌, Bool, IsTrue, List, length, slice_get, Some};
+ghost use Rattle.std.specs.Prelude.{◌≡◌, ◌↔◌, ℕ, ◌+◌, ◌<◌, ◌≤◌, All, Bool, IsTrue, List, length, slice_get, Some};
 ghost use Rattle.bl_order.specs.AtHand.{ParentsHaveEnded, RestsOnEndedPlaces};
+ghost use Rattle.bl_order.specs.Claims.{AreFewAndApart, numbered_claims, numbers_conflict};
 ghost use Rattle.bl_order.specs.Headline.{Holds, IsReached, MovesOn};
 ghost use Rattle.bl_order.specs.Laws.{FollowsItsParent, IsAnswered, IsClosed, KeepsPlaces, LeavesThePolicy, LooksBack, RestsOnEnded, RestsOnLossesBefore, RulesMakeThePolicy, RulesStandAlone};
 ghost use Rattle.bl_order.specs.Machine.{Event, MayStart, Needs, State, change, children_at, may_start, past_at, runs, start};
-ghost use Rattle.bl_order.specs.Order.{Child, Entry};
+ghost use Rattle.bl_order.specs.Order.{Child, Entry, Task, accesses_of, conflict};
 ghost use Rattle.bl_order.specs.Room.{HasRoom, IsBehaviourOrRule};
 ghost use Rattle.bl_setup.specs.Setup.{Setup};
 
@@ -110,6 +111,18 @@ pub fn tasks_are_of_scripts()
 pub fn what_is_at_hand_rests_on_ended_places()
     ensures rests { (x : State) → IsReached x → RestsOnEndedPlaces x }
     ensures parents { (x : State) → IsReached x → ParentsHaveEnded x }
+{}
+
+/// Claims go by number, the policy as 0 and a document as one more than its place: two tasks conflict exactly where their
+/// numbered claims do. A task of a script has at most 9 claims, on different cowns, of the policy and of documents that it
+/// declares.
+pub fn claims_go_by_number()
+    ensures conflict { (earlier later : Task) →
+        conflict earlier later ≡ numbers_conflict (numbered_claims earlier) (numbered_claims later) }
+    ensures apart { (task : Task) → IsBehaviourOrRule task → AreFewAndApart (numbered_claims task) }
+    ensures known { (task : Task) (documents : ℕ) →
+        All (λ access. access.doc < documents) (accesses_of task) →
+        All (λ claim. claim.cown < documents + 1) (numbered_claims task) }
 {}
 
 /// Each place of the order has its phase, and there are no other phases.

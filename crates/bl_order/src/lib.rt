@@ -6,6 +6,7 @@
 //! The definitions stand in specs/:
 //!
 //!     Order       the entries of the order, their tasks, and which tasks conflict
+//!     Claims      the claims of a task by number, as queues over numbers know them
 //!     Past        what is said of each place: its subject, its answer, its effects, its policy and its contents
 //!     Legal       which orders may come about
 //!     Machine     the states, the events that may come next in each, and trails
@@ -13,6 +14,7 @@
 //!     Headline    what holds of each state that a trail leads to
 //!     Room        how many places the order may come to have
 //!     Laws        what the laws say of places
+//!     AtHand      what is said of a place while others have not ended
 #![tactic(auto)]
 
 pub mod laws;
