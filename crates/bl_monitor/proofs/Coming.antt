@@ -18,7 +18,7 @@ use Rattle.bl_monitor.specs.declared.monitor.Entry.{Entry}
 use Rattle.bl_monitor.specs.declared.monitor.Entry.TheVariants as entry
 use Rattle.bl_monitor.specs.declared.place.Admitted.{Admitted}
 use Rattle.bl_monitor.specs.declared.place.Place.{Place}
-use Rattle.bl_monitor.specs.Heard.{Heard, is_lost, place_at, IsChild, MayCome, KnowsWork, Knows, lost_of, children_of, fault_of, answer_at}
+use Rattle.bl_monitor.specs.Heard.{Heard, is_lost, place_at, IsChild, MayCome, KnowsWork, Knows, lost_of, children_of, spawned_by, fault_of, answer_at}
 use Rattle.bl_monitor.specs.Heard as heard
 use Rattle.bl_monitor.specs.Kept.{spawned_of}
 use Rattle.bl_monitor.specs.Places as kept
@@ -164,6 +164,11 @@ module _ (setup : Setup) (policy : SecurityPolicy) (contents : List (List ℕ)) 
       ap (λ b. cond b (Some (length (spawned_of q.children))) None) t.ran
       ∙ ap (λ xs. cond (is_done (place_at h n).answer) (Some (length xs)) None) t.spawned
       ∙ ap (λ b. cond (b && is_done (place_at h n).answer) (Some (length (children (place_at h n).effects))) None) (sym (below n lt))
+
+  pub told_spawned : (n : ℕ) (q : Place) → n < length places → q ≡ get_or places n q → spawned_of q.children ≡ spawned_by h n
+  told_spawned n q lt is =
+      let t : Tells setup (policy_at setup places n) q (place_at h n) = found_at n q lt is in
+      t.spawned ∙ ap (λ b. cond b (children (place_at h n).effects) []) (sym (below n lt))
 
   pub told_few : (n : ℕ) (q : Place) → n < length places → q ≡ get_or places n q → length (spawned_of q.children) ≤ 32
   told_few n q lt is =

@@ -4,6 +4,7 @@ use Rattle.bl_policy.specs.FirstFault.{first_fault}
 use Rattle.bl_policy.specs.Policy.{SecurityPolicy}
 use Rattle.bl_policy.specs.RuleEffect.{IsRuleOf}
 use Rattle.bl_policy.specs.declared.denial.Denial.{Denial}
+use Rattle.bl_work.specs.Effects.{children}
 use Rattle.bl_work.specs.declared.answer.Answer.{Answer}
 use Rattle.bl_work.specs.declared.answer.Answer.TheVariants as answer
 use Rattle.bl_work.specs.declared.work.Work.{Work}
@@ -88,6 +89,10 @@ children_of heard n =
     if nat_lt n (length heard.order) && is_done (answer_at heard n)
     then Some (child_count heard.setup (is_lost heard) heard.order n)
     else None
+
+-- the behaviours that an entry spawned, in order, by their numbers in its script: none where it was not done
+abbrev pub spawned_by : Heard → ℕ → List ℕ
+spawned_by heard n = if nat_lt n (length heard.order) then children (place_at heard n).effects else []
 
 -- PolicyAt, of the place of an entry
 abbrev pub policy_at : Heard → ℕ → SecurityPolicy

@@ -156,7 +156,7 @@ fn child(places: &[Place], parent: u32, which: u32, lost: bool) -> Result<Admitt
 impl Monitor {
     ghost use Rattle.std.specs.Arc.{arc_value};
     ghost use Rattle.std.specs.Prelude.{◌≡◌, ◌↔◌, length, [], IfOk, OnOk, OnErr, IsErrOf};
-    ghost use Rattle.bl_monitor.specs.Heard.{Knows, KnowsAnswer, MayCome, with_entry, answer_at, children_of, fault_of};
+    ghost use Rattle.bl_monitor.specs.Heard.{Knows, KnowsAnswer, MayCome, with_entry, answer_at, children_of, spawned_by, fault_of};
     ghost use Rattle.bl_monitor.specs.declared.monitor.MonitorFault.TheVariants as faults;
 
     /// A monitor of an empty order over this setup.
@@ -226,6 +226,20 @@ impl Monitor {
         match &self.places[n as usize].children {
             Some(children) => Some(children.len() as u32),
             None => None,
+        }
+    }
+
+    /// The behaviours that an entry spawned, in order, by their numbers in its script: its which-th child, counted from 1, runs
+    /// the which-th of them. None for a number that is no entry's, or an entry's that was not done.
+    pub fn spawned(&self, n: u32) -> &[u8]
+        ensures { result.now ≡ spawned_by self.now n }
+    {
+        if n as usize >= self.places.len() {
+            return &[];
+        }
+        match &self.places[n as usize].children {
+            Some(children) => children.as_slice(),
+            None => &[],
         }
     }
 
