@@ -1,5 +1,6 @@
 pub mod Order
 pub mod Claims
+pub mod Labels
 pub mod Past
 pub mod Machine
 pub mod Laws

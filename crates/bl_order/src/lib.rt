@@ -7,6 +7,7 @@
 //!
 //!     Order       the entries of the order, their tasks, and which tasks conflict
 //!     Claims      the claims of a task by number, as queues over numbers know them
+//!     Labels      whose each place is, and what a state answers to the lines of a session
 //!     Past        what is said of each place: its subject, its answer, its effects, its policy and its contents
 //!     Legal       which orders may come about
 //!     Machine     the states, the events that may come next in each, and trails
