@@ -1,5 +1,5 @@
 -- What the record of a place says.
-use Rattle.std.proofs.Common.{◌≡◌, ℕ, zero, suc, ◌-◌, ◌<◌, ◌≤◌, Bool, true, false, cond, ◌&&◌, ◌||◌, not, List, [], ◌∷◌, length, refl, sym, ◌∙◌, ap, inl, inr, arith, ◌⊎◌, true≢false, get_or}
+use Rattle.std.proofs.Common.{◌≡◌, ℕ, zero, suc, ◌-◌, ◌<◌, ◌≤◌, Bool, true, false, cond, ◌&&◌, ◌||◌, not, List, [], ◌∷◌, length, map, refl, sym, ◌∙◌, ap, inl, inr, arith, ◌⊎◌, true≢false, get_or}
 use Rattle.std.specs.Prelude.{Option, Some, None, slice_get, slice_index_or, nat_lt}
 use Rattle.bl_policy.specs.Policy.{SecurityPolicy}
 use Rattle.bl_policy.specs.RuleEffect.{rule_fault, rule_makes, unless_failed, after_rule}
@@ -8,8 +8,8 @@ use Rattle.bl_policy.specs.declared.rule.Rule.{Rule}
 use Rattle.bl_work.specs.Effects.{Effect, after, children}
 use Rattle.bl_work.specs.declared.answer.Answer.TheVariants.{RuleDone, Denied, Lost}
 use Rattle.bl_setup.specs.Setup.{Setup}
-use Rattle.bl_order.specs.Order.{Entry, Child, Task, Runs, Applies, is_rule, conflict, is_altered, accesses_of, Line}
-use Rattle.bl_order.specs.Past.{earlier, place, past_of, no_entry, policy_of, content_of, is_done, subject_of, task_of, child_task, deeds, answer_of, was_lost, fault_of_task, changed}
+use Rattle.bl_order.specs.Order.{Entry, Child, Task, Runs, Applies, is_rule, conflict, is_altered, accesses_of, Line, unnamed}
+use Rattle.bl_order.specs.Past.{Past, earlier, place, past_of, no_entry, policy_of, content_of, is_done, subject_of, task_of, child_task, deeds, answer_of, was_lost, fault_of_task, changed}
 use Rattle.bl_order.specs.Laws.{IsAnswered, IsClosed, RulesMakeThePolicy, fault_at}
 use Rattle.bl_order.specs.Machine.{State, past_at, has_ended, phase_at, MayStart, may_start, is_clear, is_waiting}
 use Rattle.std.proofs.lemmas.Bool.Decides.{nat_tests}
@@ -47,6 +47,30 @@ pub place-lost : (setup : Setup) (l m : ℕ → Bool) (order : List Entry) (n : 
 place-lost setup l m order n same =
     ap (λ b. past_of setup b (earlier setup l order n) (get_or order n no_entry)) (same n (omega arith))
     ∙ ap (λ h. past_of setup (m n) h (get_or order n no_entry)) (earlier-lost setup l m order n (λ k lt. same k (omega arith)))
+
+-- ---- sessions and ordinals
+
+past-unnamed : (setup : Setup) (lost : Bool) (h : List Past) (e : Entry) → past_of setup lost h (unnamed e) ≡ past_of setup lost h e
+past-unnamed setup lost h (Line session ordinal subject work) = refl
+past-unnamed setup lost h (Child parent which) = refl
+
+get-unnamed : (order : List Entry) (n : ℕ) → get_or (map unnamed order) n no_entry ≡ unnamed (get_or order n no_entry)
+get-unnamed [] n = refl
+get-unnamed (x ∷ order) zero = refl
+get-unnamed (x ∷ order) (suc n) = get-unnamed order n
+
+earlier-unnamed : (setup : Setup) (lost : ℕ → Bool) (order : List Entry) (n : ℕ) → earlier setup lost (map unnamed order) n ≡ earlier setup lost order n
+earlier-unnamed setup lost order zero = refl
+earlier-unnamed setup lost order (suc n) =
+    ap (λ e. past_of setup (lost n) (earlier setup lost (map unnamed order) n) e ∷ earlier setup lost (map unnamed order) n) (get-unnamed order n)
+    ∙ ap (λ p. p ∷ earlier setup lost (map unnamed order) n) (past-unnamed setup (lost n) (earlier setup lost (map unnamed order) n) (get_or order n no_entry))
+    ∙ ap (λ h. past_of setup (lost n) h (get_or order n no_entry) ∷ h) (earlier-unnamed setup lost order n)
+
+pub place-unnamed : (setup : Setup) (lost : ℕ → Bool) (order : List Entry) (n : ℕ) → place setup lost (map unnamed order) n ≡ place setup lost order n
+place-unnamed setup lost order n =
+    ap (λ e. past_of setup (lost n) (earlier setup lost (map unnamed order) n) e) (get-unnamed order n)
+    ∙ past-unnamed setup (lost n) (earlier setup lost (map unnamed order) n) (get_or order n no_entry)
+    ∙ ap (λ h. past_of setup (lost n) h (get_or order n no_entry)) (earlier-unnamed setup lost order n)
 
 -- ---- looking back
 

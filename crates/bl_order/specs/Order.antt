@@ -14,6 +14,11 @@ pub data Entry : Type 0 where
   Line : (session ordinal subject : ℕ) → (work : Work) → Entry
   Child : (parent which : ℕ) → Entry
 
+-- the entry without its session and its ordinal, which stand as 0
+abbrev pub unnamed : Entry → Entry
+unnamed (Line session ordinal subject work) = Line 0 0 subject work
+unnamed (Child parent which) = Child parent which
+
 -- Body of a place: what it does, which is to run a behaviour of a script, or to apply a rule to the policy
 pub data Task : Type 0 where
   Runs : (script : List Part) → (index : ℕ) → Task

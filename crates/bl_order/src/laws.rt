@@ -1,11 +1,12 @@
 //! What holds of the admission order and of the machine over it, whoever runs it.
-ghost use Rattle.std.specs.Prelude.{◌≡◌, ◌↔◌, ℕ, ◌+◌, ◌<◌, ◌≤◌, All, Bool, IsTrue, List, length, slice_get, Some};
+ghost use Rattle.std.specs.Prelude.{◌≡◌, ◌↔◌, ℕ, ◌+◌, ◌<◌, ◌≤◌, All, Bool, IsTrue, List, length, map, slice_get, Some};
 ghost use Rattle.bl_order.specs.AtHand.{ParentsHaveEnded, RestsOnEndedPlaces};
 ghost use Rattle.bl_order.specs.Claims.{AreFewAndApart, numbered_claims, numbers_conflict};
 ghost use Rattle.bl_order.specs.Headline.{Holds, IsReached, MovesOn};
 ghost use Rattle.bl_order.specs.Laws.{FollowsItsParent, IsAnswered, IsClosed, KeepsPlaces, LeavesThePolicy, LooksBack, RestsOnEnded, RestsOnLossesBefore, RulesMakeThePolicy, RulesStandAlone};
 ghost use Rattle.bl_order.specs.Machine.{Event, MayStart, Needs, State, change, children_at, may_start, past_at, runs, start};
-ghost use Rattle.bl_order.specs.Order.{Child, Entry, Task, accesses_of, conflict};
+ghost use Rattle.bl_order.specs.Order.{Child, Entry, Task, accesses_of, conflict, unnamed};
+ghost use Rattle.bl_order.specs.Past.{place};
 ghost use Rattle.bl_order.specs.Room.{HasRoom, IsBehaviourOrRule};
 ghost use Rattle.bl_setup.specs.Setup.{Setup};
 
@@ -111,6 +112,12 @@ pub fn tasks_are_of_scripts()
 pub fn what_is_at_hand_rests_on_ended_places()
     ensures rests { (x : State) → IsReached x → RestsOnEndedPlaces x }
     ensures parents { (x : State) → IsReached x → ParentsHaveEnded x }
+{}
+
+/// The session and the ordinal of a line bear on nothing that is said of a place.
+pub fn sessions_and_ordinals_bear_on_no_place()
+    ensures { (setup : Setup) (lost : ℕ → Bool) (order : List Entry) (n : ℕ) →
+        place setup lost (map unnamed order) n ≡ place setup lost order n }
 {}
 
 /// Claims go by number, the policy as 0 and a document as one more than its place: two tasks conflict exactly where their

@@ -8,39 +8,16 @@ use Rattle.std.proofs.lemmas.Bool.Decides.{nat_tests, eqb_tells}
 use Rattle.bl_work.specs.Effects.{children}
 use Rattle.bl_work.specs.declared.answer.Answer.{Answer}
 use Rattle.bl_setup.specs.Setup.{Setup}
-use Rattle.bl_order.specs.Order.{Entry, Line, Child}
-use Rattle.bl_order.specs.Past.{Past, past_of, earlier, place, no_entry, is_done}
+use Rattle.bl_order.specs.Order.{Entry, unnamed}
+use Rattle.bl_order.specs.Past.{Past, place, no_entry, is_done}
+use Rattle.bl_order.proofs.PlaceLaws.{place-unnamed}
 use Rattle.bl_monitor.specs.Heard.{Heard, place_at, answer_at, children_of, with_entry, KnowsAnswer}
 use Rattle.bl_monitor.specs.Heard as heard
 use Rattle.bl_wire.specs.declared.label.Origin.{Origin}
 use Rattle.bl_wire.specs.declared.label.Origin.TheVariants as origin
 use Rattle.bl_session.specs.Orders.{said}
-use Rattle.bl_session.specs.Entries.{entry_from, told_of, unnamed, AreAnswered}
+use Rattle.bl_session.specs.Entries.{entry_from, told_of, AreAnswered}
 use Rattle.bl_session.proofs.OrderLaws.{said-grown}
-
--- ---- sessions and ordinals bear on no answer
-
-past-unnamed : (s : Setup) (lost : Bool) (h : List Past) (e : Entry) → past_of s lost h (unnamed e) ≡ past_of s lost h e
-past-unnamed s lost h (Line session ordinal subject work) = refl
-past-unnamed s lost h (Child parent which) = refl
-
-get-unnamed : (A : List Entry) (n : ℕ) → slice_index_or (map unnamed A) n no_entry ≡ unnamed (slice_index_or A n no_entry)
-get-unnamed [] n = refl
-get-unnamed (x ∷ A) zero = refl
-get-unnamed (x ∷ A) (suc n) = get-unnamed A n
-
-earlier-unnamed : (s : Setup) (l : ℕ → Bool) (A : List Entry) (n : ℕ) → earlier s l (map unnamed A) n ≡ earlier s l A n
-earlier-unnamed s l A zero = refl
-earlier-unnamed s l A (suc n) =
-    ap (λ e. past_of s (l n) (earlier s l (map unnamed A) n) e ∷ earlier s l (map unnamed A) n) (get-unnamed A n)
-    ∙ ap (λ p. p ∷ earlier s l (map unnamed A) n) (past-unnamed s (l n) (earlier s l (map unnamed A) n) (slice_index_or A n no_entry))
-    ∙ ap (λ h. past_of s (l n) h (slice_index_or A n no_entry) ∷ h) (earlier-unnamed s l A n)
-
-place-unnamed : (s : Setup) (l : ℕ → Bool) (A : List Entry) (n : ℕ) → place s l (map unnamed A) n ≡ place s l A n
-place-unnamed s l A n =
-    ap (λ e. past_of s (l n) (earlier s l (map unnamed A) n) e) (get-unnamed A n)
-    ∙ past-unnamed s (l n) (earlier s l (map unnamed A) n) (slice_index_or A n no_entry)
-    ∙ ap (λ h. past_of s (l n) h (slice_index_or A n no_entry)) (earlier-unnamed s l A n)
 
 pub told-unnamed : (o : Origin) (ordinal : ℕ) → heard.entry_of (told_of o) ≡ unnamed (entry_from o ordinal)
 told-unnamed (origin.Line subject work) ordinal = refl

@@ -2,7 +2,7 @@
 use Rattle.std.specs.Prelude.{◌≡◌, ℕ, zero, suc, ◌+◌, ◌<◌, ◌≤◌, Bool, true, false, List, [], ◌∷◌, ◌++◌, map, length, take, slice_index_or, ⊤}
 use Rattle.bl_work.specs.declared.answer.Answer.{Answer}
 use Rattle.bl_setup.specs.Setup.{Setup}
-use Rattle.bl_order.specs.Order.{Entry, Line, Child}
+use Rattle.bl_order.specs.Order.{Entry, Line, Child, unnamed}
 use Rattle.bl_monitor.specs.Heard.{Heard, KnowsWork, KnowsAnswer}
 use Rattle.bl_monitor.specs.Heard as heard
 use Rattle.bl_monitor.specs.declared.monitor.Entry.TheVariants as told
@@ -61,13 +61,8 @@ abbrev pub KnowsOrigin : Setup → Origin → Type 0
 KnowsOrigin setup (origin.Line subject work) = (subject < length setup.policy.subjects) × KnowsWork setup work
 KnowsOrigin setup (origin.Child parent which) = ⊤
 
--- of the session and the ordinal of a line a monitor is told nothing
-abbrev pub unnamed : Entry → Entry
-unnamed (Line session ordinal subject work) = Line 0 0 subject work
-unnamed (Child parent which) = Child parent which
-
--- The first entries are answered: a monitor was told them, none as lost, and these are its answers from one place on. The
--- answers before that place have been let go.
+-- The first entries are answered: a monitor was told them, without their session and their ordinals and none as lost, and these
+-- are its answers from one place on. The answers before that place have been let go.
 pub record AreAnswered (setup : Setup) (h : Heard) (order : List Entry) (from : ℕ) (answers : List Answer) : Type 0 where
   pub setup_is : h.setup ≡ setup
   pub told : h.order ≡ map unnamed (take (from + length answers) order)
