@@ -15,3 +15,4 @@ pub mod AskLaws
 pub mod SettleLaws
 pub mod ReplyLaws
 pub mod ServeLaws
+pub mod TrailLaws

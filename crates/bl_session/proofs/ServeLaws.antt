@@ -104,7 +104,7 @@ module _ (setup : Setup) (limit : ℕ) (s : Pages) (entries : s.entries.items �
 place_within : (name : List ℕ) (names : List (List ℕ)) (i : ℕ) → place_of name names ≡ Some i → i < length names
 place_within name names i e = (position-Some (bytes_eq name) names i [] e).0
 
-subject_of : (names : KnownNames) (spelled : SpelledLine) (subject : ℕ) → Means names spelled (line.Hello subject) → subject < length names.subjects
+pub subject_of : (names : KnownNames) (spelled : SpelledLine) (subject : ℕ) → Means names spelled (line.Hello subject) → subject < length names.subjects
 subject_of names (hello name) subject means = place_within name names.subjects subject means
 subject_of names wait subject means = absurd means
 subject_of names (when first more body) subject means = absurd means

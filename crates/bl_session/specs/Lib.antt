@@ -1,5 +1,6 @@
 pub mod Stages
 pub mod One
+pub mod OneTrail
 pub mod Whole
 pub mod Blocks
 pub mod Transcript

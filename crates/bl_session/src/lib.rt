@@ -1,6 +1,7 @@
 //! Sessions: the lines that a client sends are read, answered, and replied to.
 //!
 //!     alone      a session with one worker
+//!     laws       what holds of a session with one worker
 //!     session    the engine: reads lines, has them answered, writes the replies
 //!     replies    the replies to the lines of a block
 //!     behind     what stands behind a session
@@ -12,6 +13,7 @@ pub mod alone;
 mod behind;
 mod block;
 mod entries;
+pub mod laws;
 mod replies;
 mod session;
 
