@@ -1,5 +1,5 @@
 -- Runs of bytes of one class.
-use Rattle.std.proofs.Common.{◌≡◌, ℕ, suc, ◌+◌, ◌≤◌, Bool, true, false, cond, ◌&&◌, List, [], ◌∷◌, ◌++◌, length, take, drop, refl, ap, ◌∙◌, arith, length-drop, one-add}
+use Rattle.std.proofs.Common.{◌≡◌, ℕ, zero, suc, ◌+◌, ◌≤◌, Bool, true, false, cond, ◌&&◌, List, [], ◌∷◌, ◌++◌, length, take, drop, refl, ap, ◌∙◌, arith, length-drop, one-add}
 use Rattle.std.specs.List.{list_all}
 use Rattle.bl_level.specs.declared.lexer.Class.{Class}
 use Rattle.bl_level.specs.Lexing.{is_in, is_letter, run_len, past}
@@ -55,3 +55,14 @@ past_none c (b ∷ bs) stops = rw stops refl
 
 pub past_le : (c : Class) (bs : List ℕ) → length (past c bs) ≤ length bs
 past_le c bs = omega (arith, length-drop (run_len c bs) bs)
+
+-- bytes that are all of the class stand at the front of a longest run
+pub run_of_all : (c : Class) (n : ℕ) (bs : List ℕ) → n ≤ length bs → list_all (is_in c) (take n bs) ≡ true → run_len c bs ≡ n + run_len c (drop n bs)
+run_of_all c zero bs le all = omega arith
+run_of_all c (suc n) [] le all = absurd (omega (arith, le))
+run_of_all c (suc n) (b ∷ bs) le all = go (is_in c b) refl all (run_of_all c n bs (omega (arith, le)))
+  where
+    go : (x : Bool) → is_in c b ≡ x → (x && list_all (is_in c) (take n bs)) ≡ true → (list_all (is_in c) (take n bs) ≡ true → run_len c bs ≡ n + run_len c (drop n bs))
+        → cond (is_in c b) (1 + run_len c bs) 0 ≡ suc n + run_len c (drop n bs)
+    go true e h more = rw e (omega (arith, more h))
+    go false e h more = absurd (cc)

@@ -3,6 +3,7 @@
 ghost use Rattle.std.specs.Prelude.{◌≡◌, ◌≢◌, ◌≤◌, ◌∷◌, [], length, Some, None, IfSome, IfNone, IfOk};
 ghost use Rattle.bl_level.specs.declared.token.Keyword.{Keyword};
 ghost use Rattle.bl_level.specs.Token.{tok, toks};
+ghost use Rattle.std.specs.List.{list_all};
 ghost use Rattle.bl_level.specs.Lexing as spec;
 ghost use Rattle.bl_level.specs.Lexing.{Begins};
 ghost use Rattle.bl_level.specs.Name.{AreProper};
@@ -35,12 +36,14 @@ static WORD_BYTES: [u8; 256] = *b"\
     ................................";
 
 /// Whether the byte may stand in a word. Nearly each byte of a line is asked this, so a table answers it.
+#[inline(always)]
 fn is_word_byte(b: u8) -> bool
     ensures { result ≡ spec.is_word_byte b }
 {
     WORD_BYTES[b as usize] != b'.'
 }
 
+#[inline(always)]
 pub(crate) fn is_in(class: Class, b: u8) -> bool
     ensures { result ≡ spec.is_in class b }
 {
@@ -52,6 +55,7 @@ pub(crate) fn is_in(class: Class, b: u8) -> bool
 }
 
 /// The length of the longest run of such bytes at the front.
+#[inline(always)]
 fn run_len(class: Class, bytes: &[u8]) -> usize
     ensures value { result ≡ spec.run_len class bytes.now }
     ensures within { result ≤ length bytes.now }
@@ -63,7 +67,35 @@ fn run_len(class: Class, bytes: &[u8]) -> usize
     end
 }
 
+/// Whether a text can hold all of these bytes. No byte ends the loop early, so that it can become vector code.
+#[inline(always)]
+fn are_text(bytes: &[u8]) -> bool
+    ensures { result ≡ list_all (spec.is_in Class.Text) bytes.now }
+{
+    let mut all = true;
+    for b in bytes {
+        all &= is_in(Class::Text, *b);
+    }
+    all
+}
+
+/// How many bytes of a text are looked at together.
+const BLOCK: usize = 16;
+
+/// The length of the longest run of bytes of a text at the front: `run_len` by blocks.
+fn text_run_len(bytes: &[u8]) -> usize
+    ensures value { result ≡ spec.run_len Class.Text bytes.now }
+    ensures within { result ≤ length bytes.now }
+{
+    let mut end = 0;
+    while BLOCK <= bytes.len() - end && are_text(&bytes[end..end + BLOCK]) {
+        end += BLOCK;
+    }
+    end + run_len(Class::Text, &bytes[end..])
+}
+
 /// The length of the longest run of bytes of a word at the front: `run_len` without asking the class at each byte.
+#[inline(always)]
 fn word_run_len(bytes: &[u8]) -> usize
     ensures value { result ≡ spec.run_len Class.Word bytes.now }
     ensures within { result ≤ length bytes.now }
@@ -260,6 +292,7 @@ pub fn keyword_of(word: &[u8]) -> Option<Keyword>
     reserved(word)
 }
 
+#[inline(always)]
 fn sign_of(b: u8) -> Option<Sign>
     ensures { result ≡ spec.sign_of b }
 {
@@ -284,16 +317,18 @@ pub enum Front<'a> {
     Broken(&'a [u8]),
 }
 
+#[inline(always)]
 fn text_front<'a>(bytes: &'a [u8]) -> Front<'a>
     ensures { front_view result ≡ spec.text_front bytes.now (spec.past Class.Text bytes.now) }
 {
-    let (text, behind) = bytes.split_at(run_len(Class::Text, bytes));
+    let (text, behind) = bytes.split_at(text_run_len(bytes));
     match behind {
         [b'"', more @ ..] => Front::Token(Token::Text(text), more),
         _ => Front::Broken(behind),
     }
 }
 
+#[inline(always)]
 fn word_token<'a>(word: &'a [u8]) -> Token<'a>
     ensures { tok result ≡ spec.word_token (spec.keyword_among spec.words word.now) word.now }
 {
@@ -303,6 +338,7 @@ fn word_token<'a>(word: &'a [u8]) -> Token<'a>
     }
 }
 
+#[inline(always)]
 fn word_front<'a>(bytes: &'a [u8]) -> Front<'a>
     ensures { front_view result ≡ spec.word_front bytes.now }
 {
@@ -314,6 +350,7 @@ fn word_front<'a>(bytes: &'a [u8]) -> Front<'a>
     }
 }
 
+#[inline(always)]
 fn front_of<'a>(bytes: &'a [u8]) -> Front<'a>
     ensures { front_view result ≡ spec.front bytes.now }
 {
@@ -334,6 +371,7 @@ fn front_of<'a>(bytes: &'a [u8]) -> Front<'a>
     }
 }
 
+#[inline(always)]
 fn past_blanks<'a>(bytes: &'a [u8]) -> &'a [u8]
     ensures value { result.now ≡ spec.past_blanks bytes.now }
     ensures within { length result.now ≤ length bytes.now }
@@ -342,6 +380,7 @@ fn past_blanks<'a>(bytes: &'a [u8]) -> &'a [u8]
 }
 
 /// The token at the front, behind any blanks. It takes no memory.
+#[inline(always)]
 pub fn next_token<'a>(bytes: &'a [u8]) -> Front<'a>
     ensures front { front_view result ≡ spec.front (spec.past_blanks bytes.now) }
     // A token that was read is proper, and takes at least a byte.

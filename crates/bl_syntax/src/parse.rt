@@ -103,6 +103,7 @@ struct Cursor<'a> {
 
 impl<'a> Cursor<'a> {
     /// All the tokens of these bytes are left.
+    #[inline(always)]
     fn new(bytes: &'a [u8]) -> Cursor<'a>
         ensures left { left result ≡ tokens_of bytes.now }
         ensures ending { ending result ≡ end_of bytes.now }
@@ -131,6 +132,7 @@ impl<'a> Cursor<'a> {
         Err(Stop::At(left))
     }
 
+    #[inline(always)]
     fn key(&mut self, k: Keyword) -> Result<(), Stop>
         ensures gives { Gives (λ _. left self.old ≡ reserved k ∷ left self.new) (word k ∷ []) (left self.old) result }
         ensures ending { ending self.new ≡ ending self.old }
@@ -145,6 +147,7 @@ impl<'a> Cursor<'a> {
         }
     }
 
+    #[inline(always)]
     fn sign(&mut self, s: Sign) -> Result<(), Stop>
         ensures gives { Gives (λ _. left self.old ≡ sign s ∷ left self.new) (a_sign s ∷ []) (left self.old) result }
         ensures ending { ending self.new ≡ ending self.old }
@@ -159,6 +162,7 @@ impl<'a> Cursor<'a> {
         }
     }
 
+    #[inline(always)]
     fn name(&mut self) -> Result<&'a [u8], Stop>
         ensures gives { Gives (λ n. left self.old ≡ name n.now ∷ left self.new) (a_name ∷ []) (left self.old) result }
         ensures ending { ending self.new ≡ ending self.old }
@@ -172,6 +176,7 @@ impl<'a> Cursor<'a> {
         }
     }
 
+    #[inline(always)]
     fn text(&mut self) -> Result<&'a [u8], Stop>
         ensures gives { Gives (λ x. left self.old ≡ text x.now ∷ left self.new) (a_text ∷ []) (left self.old) result }
         ensures ending { ending self.new ≡ ending self.old }
@@ -185,6 +190,7 @@ impl<'a> Cursor<'a> {
         }
     }
 
+    #[inline(always)]
     fn mode(&mut self) -> Result<Mode, Stop>
         ensures gives { Gives (λ m. left self.old ≡ reserved (mode_word m) ∷ left self.new) (a_mode ∷ []) (left self.old) result }
         ensures ending { ending self.new ≡ ending self.old }
@@ -217,6 +223,7 @@ impl<'a> Cursor<'a> {
     }
 
     /// `is` or `has`.
+    #[inline(always)]
     fn condition(&mut self) -> Result<Condition, Stop>
         ensures gives { Gives (λ c. left self.old ≡ reserved (asks_word c) ∷ left self.new) (is_or_has ∷ []) (left self.old) result }
         ensures ending { ending self.new ≡ ending self.old }
@@ -231,6 +238,7 @@ impl<'a> Cursor<'a> {
     }
 
     /// Takes this word where it is the next token.
+    #[inline(always)]
     fn takes(&mut self, k: Keyword) -> bool
         ensures gives { MatchBool result (left self.old ≡ reserved k ∷ left self.new)
             ((left self.new ≡ left self.old) × IsNotAt (reserved k) (left self.old)) }
@@ -247,6 +255,7 @@ impl<'a> Cursor<'a> {
     }
 
     /// Takes this sign where it is the next token.
+    #[inline(always)]
     fn takes_sign(&mut self, s: Sign) -> bool
         ensures gives { MatchBool result (left self.old ≡ sign s ∷ left self.new)
             ((left self.new ≡ left self.old) × IsNotAt (sign s) (left self.old)) }
@@ -263,6 +272,7 @@ impl<'a> Cursor<'a> {
     }
 
     /// Takes a comma where it is the next token.
+    #[inline(always)]
     fn takes_comma(&mut self) -> bool
         ensures gives { MatchBool result (left self.old ≡ sign Comma ∷ left self.new)
             ((left self.new ≡ left self.old) × IsNotAt (sign Comma) (left self.old)) }
@@ -272,6 +282,7 @@ impl<'a> Cursor<'a> {
     }
 
     /// Takes the word that begins a statement, where one is the next token.
+    #[inline(always)]
     fn start(&mut self) -> Option<Start>
         ensures gives { MatchOption result ((left self.new ≡ left self.old) × BeginsNone (left self.old))
             (λ s. left self.old ≡ reserved (start_word s) ∷ left self.new) }
@@ -311,6 +322,7 @@ impl<'a> Cursor<'a> {
         Ok(first)
     }
 
+    #[inline(always)]
     fn access(&mut self) -> Result<RawAccess<'a>, Stop>
         ensures gives { Gives (λ a. left self.old ≡ spell_access (raw_access a) (left self.new)) (access_due []) (left self.old) result }
         ensures ending { ending self.new ≡ ending self.old }
