@@ -4,6 +4,7 @@ ghost use Rattle.std.specs.Prelude.{◌≡◌, ◌≢◌, ◌≤◌, ◌∷◌, 
 ghost use Rattle.bl_level.specs.declared.token.Keyword.{Keyword};
 ghost use Rattle.bl_level.specs.Token.{tok, toks};
 ghost use Rattle.std.specs.List.{list_all};
+ghost use Rattle.std.specs.Str.{bytes_eq};
 ghost use Rattle.bl_level.specs.Lexing as spec;
 ghost use Rattle.bl_level.specs.Lexing.{Begins};
 ghost use Rattle.bl_level.specs.Name.{AreProper};
@@ -107,19 +108,30 @@ fn word_run_len(bytes: &[u8]) -> usize
     end
 }
 
-// The reserved words by their first letter. A literal pattern is tested in place, a few bytes at most, where `==` on
-// slices would be a call for each word.
+/// Whether the bytes are these. Inlined where these are a constant it is a few comparisons.
+#[inline(always)]
+fn are(bytes: &[u8], these: &[u8]) -> bool
+    ensures { result ≡ bytes_eq these.now bytes.now }
+{
+    these == bytes
+}
+
+// The reserved words by their first letter, in the order in which the definition lists them.
 
 /// The reserved word that `a` and the bytes behind it are.
 fn behind_a(rest: &[u8]) -> Option<Keyword>
     ensures { result ≡ spec.keyword_among spec.words (97 ∷ rest.now) }
 {
-    match rest {
-        b"dd" => Some(Keyword::Add),
-        b"ppend" => Some(Keyword::Append),
-        b"llow" => Some(Keyword::Allow),
-        b"dmin" => Some(Keyword::Admin),
-        _ => None,
+    if are(rest, b"ppend") {
+        Some(Keyword::Append)
+    } else if are(rest, b"dd") {
+        Some(Keyword::Add)
+    } else if are(rest, b"llow") {
+        Some(Keyword::Allow)
+    } else if are(rest, b"dmin") {
+        Some(Keyword::Admin)
+    } else {
+        None
     }
 }
 
@@ -127,13 +139,18 @@ fn behind_a(rest: &[u8]) -> Option<Keyword>
 fn behind_c(rest: &[u8]) -> Option<Keyword>
     ensures { result ≡ spec.keyword_among spec.words (99 ∷ rest.now) }
 {
-    match rest {
-        b"urrent" => Some(Keyword::Current),
-        b"lassify" => Some(Keyword::Classify),
-        b"opy" => Some(Keyword::Copy),
-        b"ategories" => Some(Keyword::Categories),
-        b"reate" => Some(Keyword::Create),
-        _ => None,
+    if are(rest, b"urrent") {
+        Some(Keyword::Current)
+    } else if are(rest, b"lassify") {
+        Some(Keyword::Classify)
+    } else if are(rest, b"opy") {
+        Some(Keyword::Copy)
+    } else if are(rest, b"ategories") {
+        Some(Keyword::Categories)
+    } else if are(rest, b"reate") {
+        Some(Keyword::Create)
+    } else {
+        None
     }
 }
 
@@ -141,11 +158,14 @@ fn behind_c(rest: &[u8]) -> Option<Keyword>
 fn behind_d(rest: &[u8]) -> Option<Keyword>
     ensures { result ≡ spec.keyword_among spec.words (100 ∷ rest.now) }
 {
-    match rest {
-        b"o" => Some(Keyword::Do),
-        b"ocument" => Some(Keyword::Document),
-        b"elete" => Some(Keyword::Delete),
-        _ => None,
+    if are(rest, b"o") {
+        Some(Keyword::Do)
+    } else if are(rest, b"ocument") {
+        Some(Keyword::Document)
+    } else if are(rest, b"elete") {
+        Some(Keyword::Delete)
+    } else {
+        None
     }
 }
 
@@ -153,10 +173,12 @@ fn behind_d(rest: &[u8]) -> Option<Keyword>
 fn behind_e(rest: &[u8]) -> Option<Keyword>
     ensures { result ≡ spec.keyword_among spec.words (101 ∷ rest.now) }
 {
-    match rest {
-        b"nd" => Some(Keyword::End),
-        b"lse" => Some(Keyword::Else),
-        _ => None,
+    if are(rest, b"nd") {
+        Some(Keyword::End)
+    } else if are(rest, b"lse") {
+        Some(Keyword::Else)
+    } else {
+        None
     }
 }
 
@@ -164,10 +186,12 @@ fn behind_e(rest: &[u8]) -> Option<Keyword>
 fn behind_g(rest: &[u8]) -> Option<Keyword>
     ensures { result ≡ spec.keyword_among spec.words (103 ∷ rest.now) }
 {
-    match rest {
-        b"ive" => Some(Keyword::Give),
-        b"reatest" => Some(Keyword::Greatest),
-        _ => None,
+    if are(rest, b"ive") {
+        Some(Keyword::Give)
+    } else if are(rest, b"reatest") {
+        Some(Keyword::Greatest)
+    } else {
+        None
     }
 }
 
@@ -175,10 +199,12 @@ fn behind_g(rest: &[u8]) -> Option<Keyword>
 fn behind_h(rest: &[u8]) -> Option<Keyword>
     ensures { result ≡ spec.keyword_among spec.words (104 ∷ rest.now) }
 {
-    match rest {
-        b"ello" => Some(Keyword::Hello),
-        b"as" => Some(Keyword::Has),
-        _ => None,
+    if are(rest, b"ello") {
+        Some(Keyword::Hello)
+    } else if are(rest, b"as") {
+        Some(Keyword::Has)
+    } else {
+        None
     }
 }
 
@@ -186,10 +212,12 @@ fn behind_h(rest: &[u8]) -> Option<Keyword>
 fn behind_i(rest: &[u8]) -> Option<Keyword>
     ensures { result ≡ spec.keyword_among spec.words (105 ∷ rest.now) }
 {
-    match rest {
-        b"f" => Some(Keyword::If),
-        b"s" => Some(Keyword::Is),
-        _ => None,
+    if are(rest, b"f") {
+        Some(Keyword::If)
+    } else if are(rest, b"s") {
+        Some(Keyword::Is)
+    } else {
+        None
     }
 }
 
@@ -197,9 +225,10 @@ fn behind_i(rest: &[u8]) -> Option<Keyword>
 fn behind_p(rest: &[u8]) -> Option<Keyword>
     ensures { result ≡ spec.keyword_among spec.words (112 ∷ rest.now) }
 {
-    match rest {
-        b"our" => Some(Keyword::Pour),
-        _ => None,
+    if are(rest, b"our") {
+        Some(Keyword::Pour)
+    } else {
+        None
     }
 }
 
@@ -207,12 +236,16 @@ fn behind_p(rest: &[u8]) -> Option<Keyword>
 fn behind_r(rest: &[u8]) -> Option<Keyword>
     ensures { result ≡ spec.keyword_among spec.words (114 ∷ rest.now) }
 {
-    match rest {
-        b"ead" => Some(Keyword::Read),
-        b"escind" => Some(Keyword::Rescind),
-        b"anks" => Some(Keyword::Ranks),
-        b"eserve" => Some(Keyword::Reserve),
-        _ => None,
+    if are(rest, b"escind") {
+        Some(Keyword::Rescind)
+    } else if are(rest, b"ead") {
+        Some(Keyword::Read)
+    } else if are(rest, b"anks") {
+        Some(Keyword::Ranks)
+    } else if are(rest, b"eserve") {
+        Some(Keyword::Reserve)
+    } else {
+        None
     }
 }
 
@@ -220,13 +253,18 @@ fn behind_r(rest: &[u8]) -> Option<Keyword>
 fn behind_s(rest: &[u8]) -> Option<Keyword>
     ensures { result ≡ spec.keyword_among spec.words (115 ∷ rest.now) }
 {
-    match rest {
-        b"how" => Some(Keyword::Show),
-        b"ay" => Some(Keyword::Say),
-        b"et" => Some(Keyword::Set),
-        b"pawn" => Some(Keyword::Spawn),
-        b"ubject" => Some(Keyword::Subject),
-        _ => None,
+    if are(rest, b"how") {
+        Some(Keyword::Show)
+    } else if are(rest, b"ay") {
+        Some(Keyword::Say)
+    } else if are(rest, b"et") {
+        Some(Keyword::Set)
+    } else if are(rest, b"pawn") {
+        Some(Keyword::Spawn)
+    } else if are(rest, b"ubject") {
+        Some(Keyword::Subject)
+    } else {
+        None
     }
 }
 
@@ -234,11 +272,14 @@ fn behind_s(rest: &[u8]) -> Option<Keyword>
 fn behind_t(rest: &[u8]) -> Option<Keyword>
     ensures { result ≡ spec.keyword_among spec.words (116 ∷ rest.now) }
 {
-    match rest {
-        b"o" => Some(Keyword::To),
-        b"hen" => Some(Keyword::Then),
-        b"rusted" => Some(Keyword::Trusted),
-        _ => None,
+    if are(rest, b"o") {
+        Some(Keyword::To)
+    } else if are(rest, b"hen") {
+        Some(Keyword::Then)
+    } else if are(rest, b"rusted") {
+        Some(Keyword::Trusted)
+    } else {
+        None
     }
 }
 
@@ -246,11 +287,14 @@ fn behind_t(rest: &[u8]) -> Option<Keyword>
 fn behind_w(rest: &[u8]) -> Option<Keyword>
     ensures { result ≡ spec.keyword_among spec.words (119 ∷ rest.now) }
 {
-    match rest {
-        b"hen" => Some(Keyword::When),
-        b"rite" => Some(Keyword::Write),
-        b"ait" => Some(Keyword::Wait),
-        _ => None,
+    if are(rest, b"ait") {
+        Some(Keyword::Wait)
+    } else if are(rest, b"hen") {
+        Some(Keyword::When)
+    } else if are(rest, b"rite") {
+        Some(Keyword::Write)
+    } else {
+        None
     }
 }
 
