@@ -24,7 +24,7 @@ fits n c t le = ap (λ l. c ++ l) (take_min (n - length c) t) ∙ sym (cut n c t
 short : (n : ℕ) (c t : List ℕ) → length c ≤ n → length (c ++ take (min (n - length c) (length t)) t) ≤ n
 short n c t le = omega (arith, length-append c (take (min (n - length c) (length t)) t), length-take (min (n - length c) (length t)) t)
 
-all-take : (p : ℕ → Bool) (n : ℕ) (t : List ℕ) → list_all p t ≡ true → list_all p (take n t) ≡ true
+pub all-take : (p : ℕ → Bool) (n : ℕ) (t : List ℕ) → list_all p t ≡ true → list_all p (take n t) ≡ true
 all-take p zero t h = refl
 all-take p (suc n) [] h = refl
 all-take p (suc n) (b ∷ t) h = go (p b) (list_all p t) (list_all p (take n t)) h (all-take p n t)

@@ -15,6 +15,11 @@ pub record IsContent (bytes : List ℕ) : Type 0 where
   pub short : length bytes ≤ most_bytes
   pub plain : IsTrue (list_all is_content_byte bytes)
 
+-- the first so many of the bytes are a content
+pub record HasContent (len : ℕ) (bytes : List ℕ) : Type 0 where
+  pub within : len ≤ length bytes
+  pub content : IsContent (take len bytes)
+
 -- own choice: a content with an addition at its end, cut at the greatest length, so that who adds learns nothing of it
 unfoldable pub added : List ℕ → List ℕ → List ℕ
 added content text = take most_bytes (content ++ text)

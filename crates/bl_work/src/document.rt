@@ -1,5 +1,5 @@
 //! Shared bytes of a content. Who looks at a content holds one more owner of the same bytes, and nobody copies them.
-ghost use Rattle.std.specs.Prelude.{◌≡◌, ◌+◌, ◌^◌, ◌<◌, ◌++◌, length, IfOk, OnOk, OnErr, IsTrue};
+ghost use Rattle.std.specs.Prelude.{◌≡◌, ◌+◌, ◌^◌, ◌<◌, ◌≤◌, ◌++◌, take, length, IfOk, OnOk, OnErr, IsTrue};
 ghost use Rattle.std.specs.Arc.{arc_value};
 ghost use Rattle.std.specs.List.{list_all};
 ghost use Rattle.bl_work.specs.Content.{IsContent, is_content_byte, added};
@@ -15,19 +15,22 @@ pub const MOST_BYTES: usize = 65_536;
 /// Two documents are equal where their bytes are.
 #[derive(Drop)]
 pub struct Document {
+    /// The content is the front of these bytes: what stands after it was cut off, for this owner alone.
     bytes: Arc<Vec<u8>, Global>,
+    /// The length of the content.
+    len: usize,
 }
 
 impl Model for Document {
-    ghost use Rattle.std.specs.Prelude.{List, ℕ};
+    ghost use Rattle.std.specs.Prelude.{List, ℕ, take};
     ghost use Rattle.std.specs.Arc.{arc_value};
-    ghost use Rattle.bl_work.specs.Content.{IsContent};
+    ghost use Rattle.bl_work.specs.Content.{HasContent};
 
     ghost Value = { List ℕ };
 
-    ghost view = { λ d. (arc_value d.bytes).items };
+    ghost view = { λ d. take d.len (arc_value d.bytes).items };
 
-    ghost invariant = { λ d. IsContent (arc_value d.bytes).items };
+    ghost invariant = { λ d. HasContent d.len (arc_value d.bytes).items };
 }
 
 impl Document {
@@ -38,7 +41,10 @@ impl Document {
     {
         let kept = bytes.to_vec(alloc)?;
         match Arc::new(alloc, kept) {
-            Ok(bytes) => Ok(Document { bytes }),
+            Ok(kept) => Ok(Document {
+                bytes: kept,
+                len: bytes.len(),
+            }),
             Err(_) => Err(AllocError),
         }
     }
@@ -49,6 +55,7 @@ impl Document {
     {
         Ok(Document {
             bytes: Arc::try_clone(&self.bytes)?,
+            len: self.len,
         })
     }
 
@@ -59,13 +66,24 @@ impl Document {
         ensures ok { OnOk result (self.new ≡ added self.old text.now) }
         ensures err { OnErr result (self.new ≡ self.old) }
     {
-        let room = MOST_BYTES - self.bytes.len();
+        let room = MOST_BYTES - self.len;
         let kept = &text[..room.min(text.len())];
         if let Some(bytes) = Arc::get_mut(&mut self.bytes) {
-            return bytes.extend_from_slice(kept);
+            extend(bytes, self.len, kept)?;
+            self.len += kept.len();
+            return Ok(());
         }
-        self.bytes = joined(alloc, self.bytes.as_slice(), kept)?;
+        self.bytes = joined(alloc, &self.bytes.as_slice()[..self.len], kept)?;
+        self.len += kept.len();
         Ok(())
+    }
+
+    /// Keeps so many bytes at the front, or all where there are no more. It takes no memory, and other owners keep what they
+    /// have.
+    pub fn truncate(&mut self, len: usize)
+        ensures { self.new ≡ take len self.old }
+    {
+        self.len = self.len.min(len);
     }
 
     /// The bytes.
@@ -73,8 +91,17 @@ impl Document {
         ensures value { result.now ≡ self.now }
         ensures content { IsContent self.now }
     {
-        self.bytes.as_slice()
+        &self.bytes.as_slice()[..self.len]
     }
+}
+
+/// Writes the text behind the first bytes, so many. After an error these stand alone.
+fn extend(bytes: &mut Vec<u8>, len: usize, text: &[u8]) -> Result<(), AllocError>
+    ensures ok { OnOk result (bytes.new.items ≡ take len bytes.old.items ++ text.now) }
+    ensures err { OnErr result (bytes.new.items ≡ take len bytes.old.items) }
+{
+    bytes.truncate(len);
+    bytes.extend_from_slice(text)
 }
 
 /// New shared bytes: those of the front, and then those of the back.
