@@ -58,6 +58,10 @@ lent-again : (gs : List Loaned) → lent_of (map as_lent gs) ≡ lent_of gs
 lent-again [] = refl
 lent-again (g ∷ gs) = ap (λ l. g.lent ∷ l) (lent-again gs)
 
+-- what was lent stays as it was
+pub kept-lent : (gs now : List Loaned) → map as_lent now ≡ gs → lent_of now ≡ lent_of gs
+kept-lent gs now kept = sym (lent-again now) ∙ ap lent_of kept
+
 -- grants that were lent of these contents have them
 pub lent-these : (e : ℕ) (xs : List Access) (gs : List Loaned) (cs : List (List ℕ)) → length cs ≡ length xs → map as_lent gs ≡ loans e xs cs → lent_of gs ≡ cs
 lent-these e xs gs cs h made = sym (lent-again gs) ∙ ap lent_of made ∙ lent-contents e xs cs h

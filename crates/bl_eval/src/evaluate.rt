@@ -1,24 +1,24 @@
 //! The evaluation of one behaviour.
-ghost use Rattle.std.specs.Prelude.{◌≡◌, [], List, map, IsTrue, IfOk, MatchResult};
+ghost use Rattle.std.specs.Prelude.{◌≡◌, ◌<◌, [], List, length, map, slice_index_or, IsTrue, IfOk, MatchResult};
 ghost use Rattle.bl_work.specs.Modes.{KeepsModes};
 ghost use Rattle.bl_work.specs.Script.{AreApart, HasContents};
+ghost use Rattle.bl_work.specs.Statements.{no_part};
 ghost use Rattle.bl_work.specs.Body.{statements_of};
 ghost use Rattle.bl_grant.specs.Loaned.{Loaned, as_lent};
 ghost use Rattle.bl_grant.specs.Loans.{accesses_of, lent_of};
+ghost use Rattle.bl_eval.specs.Loan.{AreFor};
 ghost use Rattle.bl_eval.specs.Performed.{HasPerformed};
 
 use crate::lent::{Done, Lent, Unrun};
 use crate::told::Told;
-use bl_grant::grants::Grants;
+use bl_grant::grants::{Closed, Grants};
 use bl_work::answer::Outputs;
-use bl_work::document::Document;
-use bl_work::script::Stmt;
+use bl_work::script::{Script, Stmt};
 use std::alloc::{AllocError, Global};
 
-/// What a whole body was lent, showed and spawned.
+/// What a whole body showed and spawned.
 #[derive(Drop)]
 struct Performed {
-    inputs: Vec<Document>,
     outputs: Outputs,
     spawned: Vec<u8>,
 }
@@ -32,7 +32,6 @@ fn perform(alloc: Global, grants: &mut Grants, statements: &[Stmt]) -> Result<Pe
     ensures kept { map as_lent grants.new ≡ grants.old }
     ensures done { IfOk result (HasPerformed (statements_of statements.now) grants.old grants.new) }
 {
-    let inputs = grants.lent(alloc)?;
     let mut told = Told {
         shown: Vec::new(alloc),
         spawned: Vec::new(alloc),
@@ -40,10 +39,25 @@ fn perform(alloc: Global, grants: &mut Grants, statements: &[Stmt]) -> Result<Pe
     told.run(alloc, grants, statements)?;
     let Told { shown, spawned } = told;
     Ok(Performed {
-        inputs,
         outputs: Outputs::new(shown),
         spawned,
     })
+}
+
+/// A behaviour that is left undone, with its grants as they were lent.
+fn leave(entry: u32, script: Script, index: u8, grants: Grants) -> Unrun
+    requires there { index < length script }
+    requires grants { AreFor entry (slice_index_or script index no_part).accesses (map as_lent grants) }
+    ensures { result ≡ record { entry = entry; script = script; index = index; inputs = lent_of (map as_lent grants) } }
+{
+    let mut grants = grants;
+    grants.reset();
+    Unrun {
+        entry,
+        script,
+        index,
+        grants,
+    }
 }
 
 /// Runs a behaviour. It waits for nobody, and its answer rests on what was lent alone: at `Ok` on what the behaviour does on
@@ -58,31 +72,24 @@ pub fn eval(alloc: Global, lent: Lent) -> Result<Done, Unrun>
         grants,
     } = lent;
     let mut grants = grants;
-    match perform(alloc, &mut grants, script.body(usize::from(index))) {
-        Ok(performed) => {
-            let Performed {
-                inputs,
-                outputs,
-                spawned,
-            } = performed;
+    let performed = match perform(alloc, &mut grants, script.body(usize::from(index))) {
+        Ok(performed) => performed,
+        Err(_) => return Err(leave(entry, script, index, grants)),
+    };
+    let Performed { outputs, spawned } = performed;
+    match grants.close_with_lent(alloc) {
+        Ok(closed) => {
+            let Closed { lent, returned } = closed;
             Ok(Done {
                 entry,
                 script,
                 index,
-                inputs,
+                inputs: lent,
                 outputs,
                 spawned,
-                returned: grants.close(),
+                returned,
             })
         }
-        Err(_) => {
-            grants.reset();
-            Err(Unrun {
-                entry,
-                script,
-                index,
-                grants,
-            })
-        }
+        Err(grants) => Err(leave(entry, script, index, grants)),
     }
 }

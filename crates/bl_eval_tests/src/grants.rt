@@ -8,7 +8,7 @@ ghost use Rattle.bl_grant.specs.Loans.{accesses_of};
 
 use crate::fixtures::{all_hold, are_back, expect, is_full, nearly_full};
 use bl_grant::grant::{AppendGrant, Grant, ReadGrant, Returned, WriteGrant};
-use bl_grant::grants::Grants;
+use bl_grant::grants::{Closed, Grants};
 use bl_policy::access::{Access, Mode};
 use bl_policy::id::DocId;
 use bl_work::document::Document;
@@ -214,15 +214,19 @@ fn both(alloc: Global, accesses: &[Access], contents: &[Document]) -> Result<Gra
     Grants::lend(alloc, 7, accesses, contents)
 }
 
-/// Whether these are the contents that were lent: `n1` and `l1`.
-fn are_inputs(inputs: Result<Vec<Document>, AllocError>) -> bool {
-    match inputs {
-        Ok(inputs) => {
-            inputs.len() == 2
-                && inputs[0].bytes() == b"n1".as_slice()
-                && inputs[1].bytes() == b"l1".as_slice()
+/// Whether closing the grants gives `n1` and `l1` as what was lent, and these contents back.
+fn are_closed(alloc: Global, grants: Grants, after: &[Document]) -> bool {
+    match grants.close_with_lent(alloc) {
+        Ok(Closed { lent, returned }) => {
+            let inputs = lent.len() == 2
+                && lent[0].bytes() == b"n1".as_slice()
+                && lent[1].bytes() == b"l1".as_slice();
+            are_back(returned, after) && inputs
         }
-        Err(_) => false,
+        Err(grants) => {
+            let _contents = are_back(grants.close(), after);
+            false
+        }
     }
 }
 
@@ -250,9 +254,8 @@ fn go_by_document(
     let added = grants.add(alloc, DocId::new(2), b"x").is_ok();
     let lent = grants.were_lent(7, &accesses, contents);
     let to_another = grants.were_lent(8, &accesses, contents);
-    let inputs = are_inputs(grants.lent(alloc));
-    let back = are_back(grants.close(), after);
-    Ok(all_hold(&[entry, shown, added, lent, !to_another, inputs, back]))
+    let closed = are_closed(alloc, grants, after);
+    Ok(all_hold(&[entry, shown, added, lent, !to_another, closed]))
 }
 
 /// Whether grants of `n1` and `l1` go by document.

@@ -1,4 +1,5 @@
 pub mod Loaned
+pub mod Fronts
 pub mod Loans
 pub mod Granted
 pub mod Rooms

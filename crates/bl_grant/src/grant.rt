@@ -305,14 +305,25 @@ impl Grant {
         }
     }
 
-    /// The content that was lent.
-    pub(crate) fn lent(&self) -> &Document
+    /// The bytes that were lent.
+    fn lent(&self) -> &[u8]
         ensures { result.now ≡ (loaned_of self.now).lent }
     {
         match self {
-            Grant::Read(grant) => &grant.content,
+            Grant::Read(grant) => grant.content.bytes(),
             Grant::Append(grant) => grant.held.lent(),
             Grant::Write(grant) => grant.held.lent(),
+        }
+    }
+
+    /// The content that was lent, with one more owner.
+    pub(crate) fn share_lent(&self) -> Result<Document, AllocError>
+        ensures { IfOk result (λ d. d ≡ (loaned_of self.now).lent) }
+    {
+        match self {
+            Grant::Read(grant) => grant.content.share(),
+            Grant::Append(grant) => grant.held.share_lent(),
+            Grant::Write(grant) => grant.held.share_lent(),
         }
     }
 
@@ -399,6 +410,6 @@ impl Grant {
     pub(crate) fn was_lent(&self, entry: u32, access: Access, document: &Document) -> bool
         ensures { IsTrue result ↔ (as_lent (loaned_of self.now) ≡ loan entry access document.now) }
     {
-        self.entry() == entry && self.access() == access && self.lent() == document
+        self.entry() == entry && self.access() == access && self.lent() == document.bytes()
     }
 }

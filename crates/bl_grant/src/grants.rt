@@ -1,5 +1,5 @@
 //! The grants of one behaviour: one for each access that it declares, in order.
-ghost use Rattle.std.specs.Prelude.{◌≡◌, ◌+◌, ◌<◌, ◌≤◌, ◌↔◌, ◌==◌, length, map, IsTrue, IfOk, OnOk, OnErr, vec_len};
+ghost use Rattle.std.specs.Prelude.{◌≡◌, ◌+◌, ◌<◌, ◌≤◌, ◌↔◌, ◌==◌, length, map, IsTrue, IfOk, IfErr, OnOk, OnErr, vec_len};
 ghost use Rattle.std.specs.List.{list_all, list_any};
 ghost use Rattle.std.specs.Vec.{vec_capacity};
 ghost use Rattle.bl_policy.specs.declared.access.Access.{Access};
@@ -36,6 +36,14 @@ impl Model for Grants {
     ghost view = { λ g. map loaned_of g.grants.items };
 
     ghost invariant = { HasRoom };
+}
+
+/// What comes of grants that are closed: it has no `Drop`, since what came back is taken.
+pub struct Closed {
+    /// The contents that were lent, in order.
+    pub lent: Vec<Document>,
+    /// What the grants gave back, in order.
+    pub returned: Vec<Returned>,
 }
 
 /// The place of the first grant of the document.
@@ -118,14 +126,13 @@ impl Grants {
         self.grants[0].entry()
     }
 
-    /// The contents that were lent, in order, for who lent them: they tell nothing of what was done with the grants. An error
-    /// comes only where a growth is refused.
-    pub fn lent(&self, alloc: Global) -> Result<Vec<Document>, AllocError>
+    /// The contents that were lent, in order.
+    fn lent(&self, alloc: Global) -> Result<Vec<Document>, AllocError>
         ensures { IfOk result (λ documents. documents.items ≡ lent_of self.now) }
     {
         let mut documents = Vec::with_capacity(alloc, self.grants.len())?;
         for grant in &self.grants {
-            documents.push(grant.lent().share()?)?;
+            documents.push(grant.share_lent()?)?;
         }
         Ok(documents)
     }
@@ -186,6 +193,22 @@ impl Grants {
         }
         grants.destroy_empty();
         returned
+    }
+
+    /// Closes each grant, and gives back what was lent beside what the calls since the last reset made of it. An error comes only
+    /// where a growth is refused, and then the grants are as they were.
+    pub fn close_with_lent(self, alloc: Global) -> Result<Closed, Grants>
+        ensures lent { IfOk result (λ closed. closed.lent.items ≡ lent_of self) }
+        ensures returned { IfOk result (λ closed. closed.returned.items ≡ map back_of self) }
+        ensures err { IfErr result (λ grants. grants ≡ self) }
+    {
+        match self.lent(alloc) {
+            Ok(lent) => Ok(Closed {
+                lent,
+                returned: self.close(),
+            }),
+            Err(_) => Err(self),
+        }
     }
 
     /// The grants one by one, in order.

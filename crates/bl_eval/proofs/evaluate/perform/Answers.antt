@@ -5,4 +5,4 @@ use Rattle.bl_eval.proofs.evaluate.perform.Goals as goal
 pub returns-clause-done : goal.returns-clause-done
 returns-clause-done c =
     let after = c.in_ok-run.ensures.ran.on c.args.grants.now [] (record { contents = sym (changed_by-none c.args.grants.now); shown = c.new.ensures.items; spawned = c.new-2.ensures.items }) in
-    record { inputs = c.in_ok-inputs.ensures; outputs = c.new-3.ensures ∙ after.shown; spawned = after.spawned; left = after.contents }
+    record { outputs = c.new-3.ensures ∙ after.shown; spawned = after.spawned; left = after.contents }
