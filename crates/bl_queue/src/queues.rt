@@ -2,7 +2,7 @@
 ghost use Rattle.std.specs.Prelude.{◌≡◌, ℕ, ◌<◌, ◌≤◌, ◌↔◌, ◌⊎◌, [], length, IsTrue, IfOk, IfSome, IsNone};
 ghost use Rattle.bl_queue.specs.declared.entry.Stand.TheVariants.{Started, Ended};
 ghost use Rattle.bl_queue.specs.Claims.{AreClaims};
-ghost use Rattle.bl_queue.specs.Entries.{IsClear, MayStart, Runs};
+ghost use Rattle.bl_queue.specs.Entries.{AreEnded, IsClear, MayStart, Runs};
 ghost use Rattle.bl_queue.specs.Queues.{most_cowns, most_entries, with_entry, with_stand};
 
 use crate::claim::{self, Claim};
@@ -17,6 +17,8 @@ pub struct Queues {
     cowns: u32,
     limit: u32,
     entries: Vec<Entry>,
+    /// Each entry before this place has ended.
+    front: usize,
 }
 
 impl Model for Queues {
@@ -31,18 +33,34 @@ impl Model for Queues {
     ghost invariant = { HasRoom };
 }
 
-/// Whether each of the first entries that conflicts with the claims has ended.
-fn is_clear(entries: &[Entry], first: usize, claims: &[Claim]) -> bool
-    requires { first ≤ length entries.now }
+/// Whether each of the first entries that conflicts with the claims has ended. Those before the front have.
+fn is_clear(entries: &[Entry], front: usize, first: usize, claims: &[Claim]) -> bool
+    requires front { AreEnded entries.now front }
+    requires first { first ≤ length entries.now }
     ensures { IsTrue result ↔ IsClear entries.now first claims.now }
 {
-    for m in 0..first {
+    for m in front..first {
         let entry = &entries[m];
         if !entry.is_ended() && claim::conflict(entry.claims(), claims) {
             return false;
         }
     }
     true
+}
+
+/// The first place from here on whose entry has not ended.
+fn first_unended(entries: &[Entry], from: usize) -> usize
+    requires within { from ≤ length entries.now }
+    requires ended { AreEnded entries.now from }
+    ensures within { result ≤ length entries.now }
+    ensures ended { AreEnded entries.now result }
+{
+    for n in from..entries.len() {
+        if !entries[n].is_ended() {
+            return n;
+        }
+    }
+    entries.len()
 }
 
 impl Queues {
@@ -57,6 +75,7 @@ impl Queues {
             cowns,
             limit,
             entries,
+            front: 0,
         })
     }
 
@@ -80,7 +99,7 @@ impl Queues {
             return false;
         }
         let entry = &self.entries[n];
-        entry.is_waiting() && is_clear(&self.entries, n, entry.claims())
+        entry.is_waiting() && is_clear(&self.entries, self.front, n, entry.claims())
     }
 
     /// The first entry that may start. There is none only where no entry may.
@@ -89,7 +108,7 @@ impl Queues {
         ensures none { IsNone result → (n : ℕ) → ¬ MayStart self.now.entries n }
     {
         let count = self.entries.len() as u32;
-        for n in 0..count {
+        for n in self.front as u32..count {
             if self.is_ready(n) {
                 return Some(n);
             }
@@ -113,5 +132,6 @@ impl Queues {
     {
         let entry = &mut self.entries[n as usize];
         entry.set_stand(Stand::Ended);
+        self.front = first_unended(&self.entries, self.front);
     }
 }
