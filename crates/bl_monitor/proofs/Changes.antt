@@ -1,123 +1,151 @@
--- What the changes of a run make of the contents.
-use Rattle.std.proofs.Common.{◌≡◌, ℕ, ◌<◌, Bool, true, false, cond, List, [], ◌∷◌, ◌++◌, length, get_or, refl, sym, ◌∙◌, ap, subst, arith, ◌⊎◌, inl, inr}
-use Rattle.std.specs.Prelude.{◌==◌, ◌&&◌, ◌||◌, All, slice_set}
-use Rattle.std.proofs.Common.{◌≤◌, take, drop}
+-- What a behaviour that ran makes of the contents, and what a task does that did not run.
+use Rattle.std.proofs.Common.{◌≡◌, ℕ, ◌<◌, Bool, true, false, cond, ◌&&◌, ◌||◌, List, [], ◌∷◌, ◌++◌, length, take, drop, refl, sym, ◌∙◌, ap, subst, arith, inl, inr, Option, None, Some, ◌≤◌}
+use Rattle.std.specs.Prelude.{◌==◌, All, slice_index_or}
 use Rattle.std.proofs.lemmas.List.{take-append-le, take_all}
+use Rattle.std.proofs.lemmas.Bool.{or_cases}
 use Rattle.std.proofs.lemmas.Bool.Decides.{eqb_tells}
-use Rattle.std.proofs.lemmas.List.{get_or-set_same, get_or-set_other, length-set}
-use Rattle.std.proofs.lemmas.List.Elements.{All-nil, All-cons, All-head, All-tail}
+use Rattle.std.proofs.lemmas.List.Elements.{All-head, All-tail}
+use Rattle.bl_policy.specs.FirstFault.{first_fault}
+use Rattle.bl_policy.specs.Policy.{SecurityPolicy}
 use Rattle.bl_policy.specs.declared.access.Access.{Access}
-use Rattle.bl_work.specs.Modes.{alters}
-use Rattle.bl_work.specs.Effects.{after}
-use Rattle.bl_work.specs.Statements.{Statements}
-use Rattle.bl_order.specs.Order.{is_declared, is_altered}
-use Rattle.bl_order.specs.Past.{lent}
-use Rattle.bl_order.proofs.Conflicts.{altered_is_declared}
-use Rattle.bl_monitor.specs.declared.run.Text.{Text}
+use Rattle.bl_policy.specs.declared.access.Mode.{Mode}
+use Rattle.bl_policy.specs.declared.denial.Denial.{Denial}
+use Rattle.bl_policy.specs.declared.rule.Rule.{Rule}
+use Rattle.bl_work.specs.Modes.{declares, observes, alters, is_write, KeepsModes}
+use Rattle.bl_work.specs.Effects.{Effect, after, effects_of, outputs, children}
+use Rattle.bl_work.specs.Script.{IsBehaviour}
+use Rattle.bl_work.specs.Statements as statement
+use Rattle.bl_work.specs.Statements.{Statements, Part, no_part}
+use Rattle.bl_work.proofs.Blind.{effects_from-same}
+use Rattle.bl_work.proofs.Altered.{unaltered-stays}
+use Rattle.bl_order.specs.Order.{Task, Runs, Applies, is_declared, is_altered, accesses_of}
+use Rattle.bl_order.specs.Past.{Past, lent, deeds, is_done, answer_of, only_if_done, fault_of_task}
 use Rattle.bl_monitor.specs.declared.run.Run.{Run}
-use Rattle.bl_monitor.specs.Running.{StandsAfter}
-use Rattle.bl_monitor.specs.Texts.{text_of, texts_of, changes_of, applied}
-use Rattle.bl_monitor.specs.Judging.{content_at, effects_on, Changes}
+use Rattle.bl_monitor.specs.Undoing.{content_at}
+use Rattle.bl_monitor.specs.Running.{StandsAfter, GoesOn, UsesBelow}
+use Rattle.bl_monitor.specs.Judging.{Leaves, left_by, effects_on, content_behind, record_of}
 
--- the texts that are lent are the contents of the declared documents
-pub texts_lent : (contents : List (List ℕ)) (accesses : List Access) (doc : ℕ) → text_of (texts_of contents accesses) doc ≡ lent accesses (content_at contents) doc
-texts_lent contents [] doc = refl
-texts_lent contents (a ∷ accesses) doc = go (eqb_tells a.doc doc) (texts_lent contents accesses doc)
+abbrev IsBelow : ℕ → Access → Type 0
+IsBelow count access = access.doc < count
+
+-- a document that is declared is there
+declared_below : (test : Mode → Bool) (count : ℕ) (accesses : List Access) (doc : ℕ) → All (IsBelow count) accesses → declares test accesses doc ≡ true → doc < count
+declared_below test count [] doc all h = cc
+declared_below test count (a ∷ rest) doc all h =
+    elim (or_cases ((a.doc == doc) && test a.mode) (declares test rest doc) h) [
+      | inl here ↦
+          elim (eqb_tells a.doc doc) [
+            | inl p ↦ let lt : a.doc < count = All-head (IsBelow count) a rest all in omega (arith, p.1)
+            | inr p ↦ cc (ap (λ b. b && test a.mode) p.0, here)
+          ]
+      | inr later ↦ declared_below test count rest doc (All-tail (IsBelow count) a rest all) later
+    ]
+
+-- the documents that a body uses are there
+pub uses_below : (count : ℕ) (accesses : List Access) → All (IsBelow count) accesses → (body : Statements) → KeepsModes accesses body → UsesBelow count body
+uses_below count accesses all statement.Nothing keeps = tt
+uses_below count accesses all (statement.Show doc rest) keeps = (declared_below observes count accesses doc all keeps.0, uses_below count accesses all rest keeps.1)
+uses_below count accesses all (statement.Say text rest) keeps = uses_below count accesses all rest keeps
+uses_below count accesses all (statement.Add doc text rest) keeps = (declared_below alters count accesses doc all keeps.0, uses_below count accesses all rest keeps.1)
+uses_below count accesses all (statement.Set doc text rest) keeps = (declared_below is_write count accesses doc all keeps.0, uses_below count accesses all rest keeps.1)
+uses_below count accesses all (statement.Copy from to rest) keeps =
+    (declared_below observes count accesses from all keeps.0, declared_below is_write count accesses to all keeps.1, uses_below count accesses all rest keeps.2)
+uses_below count accesses all (statement.Pour from to rest) keeps =
+    (declared_below observes count accesses from all keeps.0, declared_below alters count accesses to all keeps.1, uses_below count accesses all rest keeps.2)
+uses_below count accesses all (statement.If doc asks text taken left_out rest) keeps =
+    (declared_below observes count accesses doc all keeps.0, uses_below count accesses all taken keeps.1, uses_below count accesses all left_out keeps.2, uses_below count accesses all rest keeps.3)
+uses_below count accesses all (statement.Spawn behaviour rest) keeps = uses_below count accesses all rest keeps
+
+-- what is declared in some mode is declared
+is_there : (test : Mode → Bool) (accesses : List Access) (doc : ℕ) → declares test accesses doc ≡ true → is_declared accesses doc ≡ true
+is_there test [] doc h = h
+is_there test (a ∷ accesses) doc h = go (a.doc == doc) (test a.mode) (declares test accesses doc) (is_declared accesses doc) h (is_there test accesses doc)
   where
-    go : (((a.doc == doc) ≡ true) × (a.doc ≡ doc)) ⊎ (((a.doc == doc) ≡ false) × (a.doc ≡ doc → ⊥))
-        → text_of (texts_of contents accesses) doc ≡ lent accesses (content_at contents) doc
-        → cond (a.doc == doc) (content_at contents a.doc) (text_of (texts_of contents accesses) doc)
-        ≡ cond ((a.doc == doc) || is_declared accesses doc) (content_at contents doc) []
-    go (inl p) rest =
-        ap (λ b. cond b (content_at contents a.doc) (text_of (texts_of contents accesses) doc)) p.0 ∙ ap (content_at contents) p.1
-        ∙ ap (λ b. cond (b || is_declared accesses doc) (content_at contents doc) []) (sym p.0)
-    go (inr p) rest =
-        ap (λ b. cond b (content_at contents a.doc) (text_of (texts_of contents accesses) doc)) p.0 ∙ rest
-        ∙ ap (λ b. cond (b || is_declared accesses doc) (content_at contents doc) []) (sym p.0)
+    go : (x y r s : Bool) → ((x && y) || r) ≡ true → (r ≡ true → s ≡ true) → (x || s) ≡ true
+    go true y r s h f = refl
+    go false y r s h f = f h
 
-abbrev pub IsThere : List (List ℕ) → Access → Type 0
-IsThere contents access = access.doc < length contents
+-- a body that keeps to its accesses does on all contents what it does on those that were lent
+same_effects : (contents : List (List ℕ)) (part : Part) → KeepsModes part.accesses part.body → effects_of (content_at contents) part.body ≡ effects_on contents part
+same_effects contents part keeps =
+    effects_from-same part.accesses (content_at contents) (lent part.accesses (content_at contents))
+    (λ doc looks. sym (ap (λ b. cond b (content_at contents doc) []) (is_there observes part.accesses doc looks))) part.body [] keeps
 
-pub length-applied : (contents : List (List ℕ)) (texts : List Text) → length (applied contents texts) ≡ length contents
-length-applied contents [] = refl
-length-applied contents (t ∷ texts) = length-set (applied contents texts) t.doc t.content ∙ length-applied contents texts
+-- what a run has come to
+pub record HasRun (contents : List (List ℕ)) (part : Part) (now : List (List ℕ)) (run : Run) : Type 0 where
+  pub shown : run.shown.items ≡ outputs (effects_on contents part)
+  pub spawned : run.spawned.items ≡ children (effects_on contents part)
+  pub leaves : Leaves contents (left_by contents part) now
 
-module _ (texts : List Text) (contents : List (List ℕ)) where
-  pub within : (accesses : List Access) → All (IsThere contents) accesses → All (λ (t : Text). t.doc < length contents) (changes_of texts accesses)
-  within [] all = All-nil _
-  within (a ∷ accesses) all = go (alters a.mode) (within accesses (All-tail (IsThere contents) a accesses all))
-    where
-      go : (b : Bool) → All (λ (t : Text). t.doc < length contents) (changes_of texts accesses)
-          → All (λ (t : Text). t.doc < length contents) (cond b (record { doc = a.doc; content = text_of texts a.doc } ∷ changes_of texts accesses) (changes_of texts accesses))
-      go true rest = All-cons (λ (t : Text). t.doc < length contents) _ _ (All-head (IsThere contents) a accesses all) rest
-      go false rest = rest
+pub has_run : (contents now : List (List ℕ)) (part : Part) (body : Statements) (first new : Run) → body ≡ part.body → IsBehaviour part → first.shown.items ≡ [] → first.spawned.items ≡ []
+    → length now ≡ length contents → GoesOn body contents first now new → HasRun contents part now new
+has_run contents now part body first new is right shown behaviours long goes =
+    let same : effects_of (content_at contents) part.body ≡ effects_on contents part = same_effects contents part right.modes in
+    let stands : StandsAfter (content_at contents) (effects_of (content_at contents) part.body) now new =
+    subst (λ (b : Statements). StandsAfter (content_at contents) (effects_of (content_at contents) b) now new) is
+    (goes (content_at contents) [] (record { contents = λ doc lt. refl; shown = shown; spawned = behaviours })) in
+    record {
+      shown = stands.shown ∙ ap outputs same;
+      spawned = stands.spawned ∙ ap children same;
+      leaves = record {
+        as_many = long;
+        left = λ doc lt. go same stands doc lt (is_altered part.accesses doc) refl;
+      };
+    }
+  where
+    go : effects_of (content_at contents) part.body ≡ effects_on contents part → StandsAfter (content_at contents) (effects_of (content_at contents) part.body) now new
+        → (doc : ℕ) → doc < length contents → (b : Bool) → is_altered part.accesses doc ≡ b → content_at now doc ≡ left_by contents part doc
+    go same stands doc lt true e =
+        stands.contents doc (omega (arith, long)) ∙ ap (λ es. after (content_at contents doc) es doc) same
+        ∙ ap (λ b. cond b (after (content_at contents doc) (effects_on contents part) doc) (content_at contents doc)) (sym e)
+    go same stands doc lt false e =
+        stands.contents doc (omega (arith, long)) ∙ unaltered-stays part.accesses (content_at contents) part.body right.modes doc e
+        ∙ ap (λ b. cond b (after (content_at contents doc) (effects_on contents part) doc) (content_at contents doc)) (sym e)
 
-  pub left : (accesses : List Access) (doc : ℕ) → All (IsThere contents) accesses → doc < length contents
-      → content_at (applied contents (changes_of texts accesses)) doc ≡ cond (is_altered accesses doc) (text_of texts doc) (content_at contents doc)
-  left [] doc all lt = refl
-  left (a ∷ accesses) doc all lt = go (alters a.mode) (eqb_tells a.doc doc) (left accesses doc (All-tail (IsThere contents) a accesses all) lt)
-    where
-      rest : List Text
-      rest = changes_of texts accesses
+-- a behaviour that nothing is held against leaves what it makes
+pub leaves_done : (lost : Bool) (policy : SecurityPolicy) (contents : List (List ℕ)) (subject : ℕ) (script : List Part) (index : ℕ) (now : List (List ℕ))
+    → lost ≡ false → None ≡ first_fault policy subject (slice_index_or script index no_part).accesses
+    → Leaves contents (left_by contents (slice_index_or script index no_part)) now
+    → Leaves contents (content_behind contents (record_of lost policy contents subject (Runs script index))) now
+leaves_done lost policy contents subject script index now unlost none leaves =
+    subst (λ b. Leaves contents (content_behind contents (record_of b policy contents subject (Runs script index))) now) (sym unlost)
+    (subst (λ (f : Option Denial). Leaves contents (content_behind contents (past_with f)) now) none leaves)
+  where
+    past_with : Option Denial → Past
+    past_with f =
+        let effects : List Effect = deeds (Runs script index) (content_at contents) in
+        record { subject = subject; task = Runs script index; answer = answer_of false f (Runs script index) effects; effects = only_if_done (answer_of false f (Runs script index) effects) effects }
 
-      go : (b : Bool) → (((a.doc == doc) ≡ true) × (a.doc ≡ doc)) ⊎ (((a.doc == doc) ≡ false) × (a.doc ≡ doc → ⊥))
-          → content_at (applied contents rest) doc ≡ cond (is_altered accesses doc) (text_of texts doc) (content_at contents doc)
-          → content_at (applied contents (cond b (record { doc = a.doc; content = text_of texts a.doc } ∷ rest) rest)) doc
-          ≡ cond (((a.doc == doc) && b) || is_altered accesses doc) (text_of texts doc) (content_at contents doc)
-      go false (inl p) more = more ∙ ap (λ b. cond ((b && false) || is_altered accesses doc) (text_of texts doc) (content_at contents doc)) (sym p.0)
-      go false (inr p) more = more ∙ ap (λ b. cond ((b && false) || is_altered accesses doc) (text_of texts doc) (content_at contents doc)) (sym p.0)
-      go true (inl p) more =
-          ap (λ k. get_or (slice_set (applied contents rest) k (text_of texts k)) doc []) p.1
-          ∙ get_or-set_same (applied contents rest) doc (text_of texts doc) [] (omega (arith, length-applied contents rest))
-          ∙ ap (λ b. cond ((b && true) || is_altered accesses doc) (text_of texts doc) (content_at contents doc)) (sym p.0)
-      go true (inr p) more =
-          get_or-set_other (applied contents rest) a.doc doc (text_of texts a.doc) [] (λ e. p.1 (sym e)) ∙ more
-          ∙ ap (λ b. cond ((b && true) || is_altered accesses doc) (text_of texts doc) (content_at contents doc)) (sym p.0)
-
--- what a document that is altered was lent
-altered_lent : (contents : List (List ℕ)) (accesses : List Access) (body : Statements) (doc : ℕ) (b : Bool) → is_altered accesses doc ≡ b
-    → cond b (after (lent accesses (content_at contents) doc) (effects_on contents accesses body) doc) (content_at contents doc)
-    ≡ cond b (after (content_at contents doc) (effects_on contents accesses body) doc) (content_at contents doc)
-altered_lent contents accesses body doc false e = refl
-altered_lent contents accesses body doc true e =
-    ap (λ d. after (cond d (content_at contents doc) []) (effects_on contents accesses body) doc) (altered_is_declared accesses doc e)
-
--- what a run leaves of the contents
-pub run_leaves : (contents : List (List ℕ)) (accesses : List Access) (body : Statements) (texts : List Text) (changes : List Text)
-    → All (IsThere contents) accesses → changes ≡ changes_of texts accesses
-    → ((doc : ℕ) → text_of texts doc ≡ after (lent accesses (content_at contents) doc) (effects_on contents accesses body) doc)
-    → Changes contents (λ doc. cond (is_altered accesses doc) (after (content_at contents doc) (effects_on contents accesses body) doc) (content_at contents doc)) changes
-run_leaves contents accesses body texts changes all are now = record {
-  within = subst (All (λ (t : Text). t.doc < length contents)) (sym are) (within texts contents accesses all);
-  left = λ doc lt.
-      ap (λ ts. content_at (applied contents ts) doc) are ∙ left texts contents accesses doc all lt
-      ∙ ap (λ t. cond (is_altered accesses doc) t (content_at contents doc)) (now doc)
-      ∙ altered_lent contents accesses body doc (is_altered accesses doc) refl;
+-- a task that is not done leaves the contents
+pub leaves_idle : (contents : List (List ℕ)) (past : Past) → is_done past.answer ≡ false → Leaves contents (content_behind contents past) contents
+leaves_idle contents past idle = record {
+  as_many = refl;
+  left = λ doc lt. sym (ap (λ b. cond (b && is_altered (accesses_of past.task) doc) (after (content_at contents doc) past.effects doc) (content_at contents doc)) idle);
 }
 
--- a run at its start
-pub stands_first : (contents : List (List ℕ)) (accesses : List Access) (run : Run) → run.texts.items ≡ texts_of contents accesses → run.shown.items ≡ [] → run.spawned.items ≡ []
-    → StandsAfter (lent accesses (content_at contents)) [] run
-stands_first contents accesses run texts shown behaviours = record {
-  texts = λ doc. ap (λ ts. text_of ts doc) texts ∙ texts_lent contents accesses doc;
-  shown = shown;
-  spawned = behaviours;
-}
+pub leaves_lost : (lost : Bool) (policy : SecurityPolicy) (contents : List (List ℕ)) (subject : ℕ) (task : Task) → lost ≡ true
+    → Leaves contents (content_behind contents (record_of lost policy contents subject task)) contents
+leaves_lost lost policy contents subject task is =
+    leaves_idle contents (record_of lost policy contents subject task) (ap (λ b. is_done (record_of b policy contents subject task).answer) is)
 
--- changes one before the last, as they are taken from the end
-pub applied-last : (contents : List (List ℕ)) (texts : List Text) (t : Text) → applied contents (texts ++ t ∷ []) ≡ applied (slice_set contents t.doc t.content) texts
-applied-last contents [] t = refl
-applied-last contents (x ∷ texts) t = ap (λ c. slice_set c x.doc x.content) (applied-last contents texts t)
+pub leaves_denied : (lost : Bool) (policy : SecurityPolicy) (contents : List (List ℕ)) (subject : ℕ) (script : List Part) (index : ℕ) (denial : Denial)
+    → lost ≡ false → Some denial ≡ first_fault policy subject (slice_index_or script index no_part).accesses
+    → Leaves contents (content_behind contents (record_of lost policy contents subject (Runs script index))) contents
+leaves_denied lost policy contents subject script index denial unlost some =
+    leaves_idle contents (record_of lost policy contents subject (Runs script index))
+    (ap (λ b. is_done (record_of b policy contents subject (Runs script index)).answer) unlost
+    ∙ sym (ap (λ (f : Option Denial). is_done (answer_of false f (Runs script index) (deeds (Runs script index) (content_at contents)))) some))
 
-front : (P : Text → Type 0) (xs ys : List Text) → All P (xs ++ ys) → All P xs
-front P [] ys all = All-nil P
-front P (x ∷ xs) ys all = All-cons P x xs (All-head P x (xs ++ ys) all) (front P xs ys (All-tail P x (xs ++ ys) all))
-
--- what is left to keep is still of documents that are there
-pub still_within : (count now : ℕ) (all rest : List Text) (t : Text) → all ≡ rest ++ t ∷ [] → now ≡ count → All (λ (x : Text). x.doc < count) all
-    → All (λ (x : Text). x.doc < now) rest
-still_within count now all rest t is same within_all =
-    subst (λ n. All (λ (x : Text). x.doc < n) rest) (sym same) (front (λ (x : Text). x.doc < count) rest (t ∷ []) (subst (All (λ (x : Text). x.doc < count)) is within_all))
+pub leaves_rule : (lost : Bool) (policy : SecurityPolicy) (contents : List (List ℕ)) (subject : ℕ) (task : Task) (rule : Rule) → task ≡ Applies rule
+    → Leaves contents (content_behind contents (record_of lost policy contents subject task)) contents
+leaves_rule lost policy contents subject task rule is =
+    subst (λ (t : Task). Leaves contents (content_behind contents (record_of lost policy contents subject t)) contents) (sym is)
+    (leaves_idle contents (record_of lost policy contents subject (Applies rule)) (idle lost (fault_of_task policy subject (Applies rule)) (deeds (Applies rule) (content_at contents))))
+  where
+    idle : (lost : Bool) (f : Option Denial) (effects : List Effect) → is_done (answer_of lost f (Applies rule) effects) ≡ false
+    idle true f effects = refl
+    idle false (Some denial) effects = refl
+    idle false None effects = refl
 
 -- a list that was written as a whole
 pub whole_again : (written before : List (List ℕ)) (n : ℕ) → n ≡ length written → take n (written ++ drop (length written) before) ≡ written

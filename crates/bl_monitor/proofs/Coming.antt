@@ -26,10 +26,10 @@ use Rattle.bl_monitor.specs.Places.{no_place, script_of, HasScript, HasChild}
 use Rattle.bl_monitor.specs.Sound.{heard_of, pasts_of, policy_at, IsRight, Tells, IsSound, CanCome, IsAdmitted}
 use Rattle.std.proofs.lemmas.List.{map-append}
 use Rattle.bl_monitor.specs.declared.judge.Judged.{Judged}
-use Rattle.bl_monitor.specs.Judging.{HasBelow, IsJudged, IsKnown, content_at}
+use Rattle.bl_monitor.specs.Undoing.{content_at}
+use Rattle.bl_monitor.specs.Judging.{HasBelow, IsJudged, IsKnown, Leaves, content_behind, record_of}
 use Rattle.bl_monitor.specs.Heard.{KnowsAnswer}
 use Rattle.bl_monitor.proofs.Ids.{task_ids, answer_ids}
-use Rattle.bl_monitor.specs.Texts.{applied}
 use Rattle.bl_monitor.proofs.Keeps.{as_many_ruled, length-mapped, sound_more, answer_more}
 
 -- what is known of an entry that is admitted
@@ -182,16 +182,17 @@ module _ (setup : Setup) (policy : SecurityPolicy) (contents : List (List ℕ)) 
   ruled = subst (AsMany setup.policy) (sym sound.ruled) (as_many_ruled setup (pasts_of setup places))
 
   -- one entry more
-  module _ (e : Entry) (a : Admitted) (j : Judged) (now : SecurityPolicy) (knows : Knows setup e) (is : IsAdmitted places e a) (script : HasScript a.work)
-      (judged : IsJudged a.lost policy contents a.subject (kept.task_of a) j) (made : now ≡ changed j.answer (kept.task_of a) a.subject policy) where
+  module _ (e : Entry) (a : Admitted) (j : Judged) (now : SecurityPolicy) (left : List (List ℕ)) (knows : Knows setup e) (is : IsAdmitted places e a) (script : HasScript a.work)
+      (judged : IsJudged a.lost policy contents a.subject (kept.task_of a) j) (made : now ≡ changed j.answer (kept.task_of a) a.subject policy)
+      (leaves : Leaves contents (content_behind contents (record_of a.lost policy contents a.subject (kept.task_of a))) left) where
     coming : IsNext setup places e a
     coming = next e a knows is script
 
-    pub next_sound : IsSound setup now (applied contents j.changes.items) (places ++ record { admitted = a; fault = j.fault; children = j.children } ∷ [])
-    next_sound = sound_more setup policy contents places a j now sound coming.right coming.subject coming.task judged made
+    pub next_sound : IsSound setup now left (places ++ record { admitted = a; fault = j.fault; children = j.children } ∷ [])
+    next_sound = sound_more setup policy contents places a j now left sound coming.right coming.subject coming.task judged made leaves
 
     pub next_answer : j.answer ≡ answer_at (heard_of setup (places ++ record { admitted = a; fault = j.fault; children = j.children } ∷ [])) (length places)
-    next_answer = answer_more setup policy contents places a j now sound coming.right coming.subject coming.task judged made
+    next_answer = answer_more setup policy contents places a j now left sound coming.right coming.subject coming.task judged made leaves
 
     pub next_ids : KnowsAnswer setup j.answer
     next_ids =

@@ -15,6 +15,7 @@ use Rattle.bl_work.specs.Statements.{Part, no_part}
 use Rattle.bl_work.specs.declared.answer.Answer.{Answer}
 use Rattle.bl_work.specs.declared.work.Work.{Work}
 use Rattle.bl_work.specs.declared.work.Work.TheVariants as work
+use Rattle.bl_setup.specs.Agreement.{Agree}
 use Rattle.bl_setup.specs.Setup.{Setup}
 use Rattle.bl_order.specs.Order.{Entry, Task, Runs, Applies, accesses_of, is_declared, is_altered}
 use Rattle.bl_order.specs.Past.{Past, at_place, was_lost, changed, policy_of, content_of, earlier, place, past_of, judged, deeds, lent, is_done, subject_of, task_of, first_task, child_task, no_entry}
@@ -24,13 +25,12 @@ use Rattle.bl_monitor.specs.declared.place.Admitted.{Admitted}
 use Rattle.bl_monitor.specs.declared.place.Place.{Place}
 use Rattle.bl_monitor.specs.declared.judge.Judged.{Judged}
 use Rattle.bl_monitor.specs.Heard.{Heard, is_lost}
-use Rattle.bl_monitor.specs.Judging.{AreBelow, HasBelow, content_at, record_of, IsJudged}
+use Rattle.bl_monitor.specs.Undoing.{content_at}
+use Rattle.bl_monitor.specs.Judging.{AreBelow, HasBelow, Leaves, content_behind, record_of, IsJudged}
 use Rattle.bl_monitor.specs.Places as kept
 use Rattle.bl_monitor.specs.Places.{no_place, script_of, HasScript}
 use Rattle.bl_monitor.specs.Sound.{heard_of, pasts_of, policy_at, IsRight, Tells, IsSound}
-use Rattle.bl_monitor.specs.Texts.{applied}
 use Rattle.bl_monitor.proofs.Spawns.{Spawns, spawns, no_spawns}
-use Rattle.bl_monitor.proofs.Changes.{length-applied}
 
 -- no task adds or drops a subject or a document
 as_many_changed : (a : Answer) (t : Task) (s : ℕ) (p : SecurityPolicy) → AsMany p (changed a t s p)
@@ -151,8 +151,19 @@ module _ (setup : Setup) (places : List Place) (p : Place) where
       all : earlier setup (is_lost (heard_of setup more)) (heard_of setup more).order (suc (length places)) ≡ next_past ∷ pasts
       all = ap (λ n. earlier setup (is_lost (heard_of setup more)) (heard_of setup more).order n) (sym (length-append places (p ∷ []) ∙ add-one (length places))) ∙ pasts_more
 
+-- before the first entry all is as the setup has it
+pub first_sound : (setup : Setup) (policy : SecurityPolicy) (contents : List (List ℕ)) → Agree setup → policy ≡ setup.policy → contents ≡ setup.contents
+    → IsSound setup policy contents []
+first_sound setup policy contents agree ruled current = record {
+  agree = agree;
+  ruled = ruled;
+  as_many = ap length current;
+  current = λ doc lt. ap (λ cs. content_at cs doc) current;
+  told = λ k lt. absurd (omega (arith, lt));
+}
+
 -- the accesses of an entry's behaviour
-declared : (count : ℕ) (script : List Part) (index : ℕ) → AreBelow count script → index < length script
+pub declared : (count : ℕ) (script : List Part) (index : ℕ) → AreBelow count script → index < length script
     → All (λ (a : Access). a.doc < count) (slice_index_or script index no_part).accesses
 declared count script index all lt = All-get_or (λ (part : Part). All (λ (a : Access). a.doc < count) part.accesses) script index no_part lt all
 
@@ -191,11 +202,13 @@ record_spawns true effects script s = s
 record_spawns false effects script s = no_spawns script
 
 module _ (setup : Setup) (policy : SecurityPolicy) (contents : List (List ℕ)) (places : List Place) (a : Admitted) (j : Judged) (now : SecurityPolicy)
+    (left : List (List ℕ))
     (sound : IsSound setup policy contents places) (right : IsRight setup a)
     (subject : subject_of (pasts_of setup places) (kept.entry_of a) ≡ a.subject)
     (task : task_of (pasts_of setup places) (kept.entry_of a) ≡ kept.task_of a)
     (is : IsJudged a.lost policy contents a.subject (kept.task_of a) j)
-    (made : now ≡ changed j.answer (kept.task_of a) a.subject policy) where
+    (made : now ≡ changed j.answer (kept.task_of a) a.subject policy)
+    (leaves : Leaves contents (content_behind contents (record_of a.lost policy contents a.subject (kept.task_of a))) left) where
   abbrev added_place : Place
   added_place = record { admitted = a; fault = j.fault; children = j.children }
 
@@ -239,15 +252,15 @@ module _ (setup : Setup) (policy : SecurityPolicy) (contents : List (List ℕ)) 
         few = s.few;
       }
 
-  pub sound_more : IsSound setup now (applied contents j.changes.items) (places ++ added_place ∷ [])
+  pub sound_more : IsSound setup now left (places ++ added_place ∷ [])
   sound_more = record {
     agree = sound.agree;
     ruled = ruled_more;
-    as_many = length-applied contents j.changes.items ∙ sound.as_many;
+    as_many = leaves.as_many ∙ sound.as_many;
     current = λ doc lt.
-        is.changes.left doc (omega (arith, length-applied contents j.changes.items))
+        leaves.left doc (omega (arith, leaves.as_many))
         ∙ ap (λ t. cond (is_done added_past.answer && is_altered (accesses_of (kept.task_of a)) doc) (after t added_past.effects doc) t)
-        (sound.current doc (omega (arith, length-applied contents j.changes.items)))
+        (sound.current doc (omega (arith, leaves.as_many)))
         ∙ ap (λ h. content_of setup h doc) (sym pasts_are);
     told = λ k lt.
         subst (λ p. Tells setup p (get_or (places ++ added_place ∷ []) k no_place) (at_place (pasts_of setup (places ++ added_place ∷ [])) k))

@@ -1,7 +1,6 @@
-pub mod Looks
 pub mod Runs
+pub mod Undoes
 pub mod Pieces
-pub mod Lists
 pub mod Changes
 pub mod Spawns
 pub mod Keeps

@@ -1,18 +1,20 @@
 -- How a run goes on by one statement, and by several.
-use Rattle.std.proofs.Common.{◌≡◌, ℕ, zero, suc, ◌<◌, true, false, cond, List, [], ◌∷◌, ◌++◌, length, get_or, take, refl, add-one, ◌+◌, ◌≤◌, sym, ◌∙◌, ap, subst, arith, ◌⊎◌, inl, inr}
+use Rattle.std.proofs.Common.{◌≡◌, ℕ, zero, suc, ◌<◌, Bool, true, false, cond, List, [], ◌∷◌, ◌++◌, length, get_or, set, take, refl, add-one, ◌+◌, ◌≤◌, sym, ◌∙◌, ap, subst, arith, ◌⊎◌, inl, inr}
 use Rattle.std.specs.Prelude.{◌==◌}
 use Rattle.std.proofs.Math.Seq.{take-suc}
 use Rattle.std.proofs.lemmas.Bool.Decides.{eqb_tells}
+use Rattle.std.proofs.lemmas.List.{get_or_default, get_or-set_same, get_or-set_other, length-set}
 use Rattle.bl_work.specs.Content.{added}
-use Rattle.bl_work.specs.Effects.{Effect, Out, Put, Add, Child, after, outputs, children, effects_from}
+use Rattle.bl_work.specs.Effects.{Effect, Out, Put, Add, Child, after, outputs, children, effects_from, holds_of}
 use Rattle.bl_work.specs.Statements as statement
+use Rattle.bl_work.specs.Statements.{Statements}
+use Rattle.bl_work.specs.declared.script.Condition.{Condition}
 use Rattle.bl_work.specs.Body.{statements_of, depth}
 use Rattle.bl_work.specs.declared.script.Stmt.{Stmt}
 use Rattle.bl_work.specs.declared.script.Stmt.TheVariants as stmt
-use Rattle.bl_monitor.specs.declared.run.Text.{Text}
 use Rattle.bl_monitor.specs.declared.run.Run.{Run}
-use Rattle.bl_monitor.specs.Texts.{text_of, IsPut}
-use Rattle.bl_monitor.specs.Running.{IsAfter, StandsAfter, GoesOn, PutsText}
+use Rattle.bl_monitor.specs.Undoing.{content_at}
+use Rattle.bl_monitor.specs.Running.{StandsAfter, GoesOn, UsesBelow}
 
 after-append : (content : List ℕ) (xs ys : List Effect) (doc : ℕ) → after content (xs ++ ys) doc ≡ after (after content xs doc) ys doc
 after-append content [] ys doc = refl
@@ -39,53 +41,101 @@ pub nothing_more : {A : Type 0} (xs : List A) → xs ++ [] ≡ xs
 nothing_more [] = refl
 nothing_more (x ∷ xs) = ap (λ l. x ∷ l) (nothing_more xs)
 
-module _ (contents : ℕ → List ℕ) (effects : List Effect) (texts : List Text) (shown : List (List ℕ)) (behaviours : List ℕ)
-    (stands : IsAfter contents effects texts shown behaviours) where
+-- what the code reads at a document's place
+pub read_content : (contents : List (List ℕ)) (doc i : ℕ) (x : List ℕ) → x ≡ get_or contents i x → i ≡ doc → doc < length contents → x ≡ content_at contents doc
+read_content contents doc i x at same lt = at ∙ ap (λ k. get_or contents k x) same ∙ get_or_default contents doc x [] lt
+
+-- a content among others, once one of them is new
+put_at : (contents : List (List ℕ)) (doc other : ℕ) (text : List ℕ) → other < length contents → content_at (set contents doc text) other ≡ cond (doc == other) text (content_at contents other)
+put_at contents doc other text lt = go (eqb_tells doc other)
+  where
+    go : (((doc == other) ≡ true) × (doc ≡ other)) ⊎ (((doc == other) ≡ false) × (doc ≡ other → ⊥)) → content_at (set contents doc text) other ≡ cond (doc == other) text (content_at contents other)
+    go (inl p) =
+        ap (λ k. get_or (set contents k text) other []) p.1 ∙ get_or-set_same contents other text [] lt
+        ∙ ap (λ b. cond b text (content_at contents other)) (sym p.0)
+    go (inr p) = get_or-set_other contents doc other text [] (λ e. p.1 (sym e)) ∙ ap (λ b. cond b text (content_at contents other)) (sym p.0)
+
+module _ (start : ℕ → List ℕ) (effects : List Effect) (before : List (List ℕ)) (old : Run) (stands : StandsAfter start effects before old) where
   -- a text is shown
-  pub more_shown : (text : List ℕ) → IsAfter contents (effects ++ Out text ∷ []) texts (shown ++ text ∷ []) behaviours
-  more_shown text = record {
-    texts = λ doc. stands.texts doc ∙ sym (after-append (contents doc) effects (Out text ∷ []) doc);
-    shown = ap (λ l. l ++ text ∷ []) stands.shown ∙ sym (outputs-append effects (Out text ∷ []));
-    spawned = stands.spawned ∙ sym (nothing_more (children effects)) ∙ sym (children-append effects (Out text ∷ []));
+  pub run_said : (new : Run) (text : List ℕ) → new.shown.items ≡ old.shown.items ++ text ∷ [] → new.spawned.items ≡ old.spawned.items
+      → StandsAfter start (effects ++ Out text ∷ []) before new
+  run_said new text shown spawned = record {
+    contents = λ doc lt. stands.contents doc lt ∙ sym (after-append (start doc) effects (Out text ∷ []) doc);
+    shown = shown ∙ ap (λ l. l ++ text ∷ []) stands.shown ∙ sym (outputs-append effects (Out text ∷ []));
+    spawned = spawned ∙ stands.spawned ∙ sym (nothing_more (children effects)) ∙ sym (children-append effects (Out text ∷ []));
   }
 
-  pub content_shown : (doc : ℕ) → IsAfter contents (effects ++ Out (after (contents doc) effects doc) ∷ []) texts (shown ++ text_of texts doc ∷ []) behaviours
-  content_shown doc = subst (λ t. IsAfter contents (effects ++ Out t ∷ []) texts (shown ++ text_of texts doc ∷ []) behaviours) (stands.texts doc) (more_shown (text_of texts doc))
+  -- a document's content is shown
+  pub run_shown : (new : Run) (doc : ℕ) → doc < length before → new.shown.items ≡ old.shown.items ++ content_at before doc ∷ [] → new.spawned.items ≡ old.spawned.items
+      → StandsAfter start (effects ++ Out (after (start doc) effects doc) ∷ []) before new
+  run_shown new doc lt shown spawned =
+      subst (λ t. StandsAfter start (effects ++ Out t ∷ []) before new) (stands.contents doc lt) (run_said new (content_at before doc) shown spawned)
 
-  pub more_spawned : (behaviour : ℕ) → IsAfter contents (effects ++ Child behaviour ∷ []) texts shown (behaviours ++ behaviour ∷ [])
-  more_spawned behaviour = record {
-    texts = λ doc. stands.texts doc ∙ sym (after-append (contents doc) effects (Child behaviour ∷ []) doc);
-    shown = stands.shown ∙ sym (nothing_more (outputs effects)) ∙ sym (outputs-append effects (Child behaviour ∷ []));
-    spawned = ap (λ l. l ++ behaviour ∷ []) stands.spawned ∙ sym (children-append effects (Child behaviour ∷ []));
+  -- a behaviour is spawned
+  pub run_spawned : (new : Run) (behaviour : ℕ) → new.shown.items ≡ old.shown.items → new.spawned.items ≡ old.spawned.items ++ behaviour ∷ []
+      → StandsAfter start (effects ++ Child behaviour ∷ []) before new
+  run_spawned new behaviour shown spawned = record {
+    contents = λ doc lt. stands.contents doc lt ∙ sym (after-append (start doc) effects (Child behaviour ∷ []) doc);
+    shown = shown ∙ stands.shown ∙ sym (nothing_more (outputs effects)) ∙ sym (outputs-append effects (Child behaviour ∷ []));
+    spawned = spawned ∙ ap (λ l. l ++ behaviour ∷ []) stands.spawned ∙ sym (children-append effects (Child behaviour ∷ []));
   }
 
-  module _ (new : List Text) (doc : ℕ) where
+  module _ (now : List (List ℕ)) (new : Run) (doc : ℕ) (shown : new.shown.items ≡ old.shown.items) (spawned : new.spawned.items ≡ old.spawned.items) where
     -- a text becomes a document's content
-    pub more_put : (text : List ℕ) → IsPut texts new doc text → IsAfter contents (effects ++ Put doc text ∷ []) new shown behaviours
-    more_put text put = record {
-      texts = λ other.
-          put other ∙ ap (λ t. cond (doc == other) text t) (stands.texts other)
-          ∙ sym (after-append (contents other) effects (Put doc text ∷ []) other);
-      shown = stands.shown ∙ sym (nothing_more (outputs effects)) ∙ sym (outputs-append effects (Put doc text ∷ []));
-      spawned = stands.spawned ∙ sym (nothing_more (children effects)) ∙ sym (children-append effects (Put doc text ∷ []));
+    pub run_put : (text : List ℕ) → now ≡ set before doc text → StandsAfter start (effects ++ Put doc text ∷ []) now new
+    run_put text put = record {
+      contents = λ other lt.
+          ap (λ c. content_at c other) put
+          ∙ put_at before doc other text (omega (arith, ap length put, length-set before doc text))
+          ∙ ap (λ t. cond (doc == other) text t) (stands.contents other (omega (arith, ap length put, length-set before doc text)))
+          ∙ sym (after-append (start other) effects (Put doc text ∷ []) other);
+      shown = shown ∙ stands.shown ∙ sym (nothing_more (outputs effects)) ∙ sym (outputs-append effects (Put doc text ∷ []));
+      spawned = spawned ∙ stands.spawned ∙ sym (nothing_more (children effects)) ∙ sym (children-append effects (Put doc text ∷ []));
     }
 
+    -- another document's content does
+    pub run_copied : (from : ℕ) → from < length before → now ≡ set before doc (content_at before from)
+        → StandsAfter start (effects ++ Put doc (after (start from) effects from) ∷ []) now new
+    run_copied from lt put = subst (λ t. StandsAfter start (effects ++ Put doc t ∷ []) now new) (stands.contents from lt) (run_put (content_at before from) put)
+
     -- a text is added to a document's content
-    pub more_added : (text : List ℕ) → IsPut texts new doc (added (text_of texts doc) text) → IsAfter contents (effects ++ Add doc text ∷ []) new shown behaviours
-    more_added text put = record {
-      texts = λ other.
-          put other ∙ elsewhere other (eqb_tells doc other)
-          ∙ ap (λ t. cond (doc == other) (added t text) t) (stands.texts other)
-          ∙ sym (after-append (contents other) effects (Add doc text ∷ []) other);
-      shown = stands.shown ∙ sym (nothing_more (outputs effects)) ∙ sym (outputs-append effects (Add doc text ∷ []));
-      spawned = stands.spawned ∙ sym (nothing_more (children effects)) ∙ sym (children-append effects (Add doc text ∷ []));
+    pub run_added : (text : List ℕ) → now ≡ set before doc (added (content_at before doc) text) → StandsAfter start (effects ++ Add doc text ∷ []) now new
+    run_added text put = record {
+      contents = λ other lt.
+          let whole : List ℕ = added (content_at before doc) text in
+          ap (λ c. content_at c other) put
+          ∙ put_at before doc other whole (omega (arith, ap length put, length-set before doc whole))
+          ∙ elsewhere other (eqb_tells doc other)
+          ∙ ap (λ t. cond (doc == other) (added t text) t) (stands.contents other (omega (arith, ap length put, length-set before doc whole)))
+          ∙ sym (after-append (start other) effects (Add doc text ∷ []) other);
+      shown = shown ∙ stands.shown ∙ sym (nothing_more (outputs effects)) ∙ sym (outputs-append effects (Add doc text ∷ []));
+      spawned = spawned ∙ stands.spawned ∙ sym (nothing_more (children effects)) ∙ sym (children-append effects (Add doc text ∷ []));
     }
       where
         elsewhere : (other : ℕ) → (((doc == other) ≡ true) × (doc ≡ other)) ⊎ (((doc == other) ≡ false) × (doc ≡ other → ⊥))
-            → cond (doc == other) (added (text_of texts doc) text) (text_of texts other)
-            ≡ cond (doc == other) (added (text_of texts other) text) (text_of texts other)
-        elsewhere other (inl p) = ap (λ d. cond (doc == other) (added (text_of texts d) text) (text_of texts other)) p.1
+            → cond (doc == other) (added (content_at before doc) text) (content_at before other)
+            ≡ cond (doc == other) (added (content_at before other) text) (content_at before other)
+        elsewhere other (inl p) = ap (λ d. cond (doc == other) (added (content_at before d) text) (content_at before other)) p.1
         elsewhere other (inr p) = rw p.0 refl
+
+-- what a document's content adds to another
+pub poured : (from to : ℕ) (text : List ℕ) (before now : List (List ℕ)) (old new : Run) → from < length before → text ≡ content_at before from
+    → GoesOn (statement.Add to text statement.Nothing) before old now new → GoesOn (statement.Pour from to statement.Nothing) before old now new
+poured from to text before now old new lt is adds =
+    λ start effects stands. subst (λ t. StandsAfter start (effects ++ Add to t ∷ []) now new) (is ∙ stands.contents from lt) (adds start effects stands)
+
+-- the branch that a condition chooses is what an `if` runs
+pub branched : (doc : ℕ) (asks : Condition) (text : List ℕ) (taken left_out : Statements) (b : Bool) (before now : List (List ℕ)) (old new : Run) → doc < length before
+    → b ≡ holds_of asks (content_at before doc) text → GoesOn (cond b taken left_out) before old now new
+    → GoesOn (statement.If doc asks text taken left_out statement.Nothing) before old now new
+branched doc asks text taken left_out b before now old new lt holds ran =
+    λ start effects stands. subst (λ es. StandsAfter start es now new)
+    (chosen start effects b ∙ ap (λ v. cond v (effects_from start effects taken) (effects_from start effects left_out)) (holds ∙ ap (λ c. holds_of asks c text) (stands.contents doc lt)))
+    (ran start effects stands)
+  where
+    chosen : (start : ℕ → List ℕ) (es : List Effect) (b : Bool) → effects_from start es (cond b taken left_out) ≡ cond b (effects_from start es taken) (effects_from start es left_out)
+    chosen start es true = refl
+    chosen start es false = refl
 
 -- the effects of statements one after another
 pub effects-append : (contents : ℕ → List ℕ) (xs ys : List Stmt) (so_far : List Effect)
@@ -109,60 +159,30 @@ one_statement_more contents so_far xs i s lt at =
     ∙ effects-append contents (take i xs) (get_or xs i s ∷ []) so_far
     ∙ ap (λ t. effects_from contents (effects_from contents so_far (statements_of (take i xs))) (statements_of (t ∷ []))) (sym at)
 
--- one text is put, in the words of a run
-module _ (contents : ℕ → List ℕ) (effects : List Effect) (old new : Run) (stands : StandsAfter contents effects old) where
-  kept : (more : List Effect) (doc : ℕ) (text : List ℕ) → PutsText old new doc text
-      → IsAfter contents more new.texts.items old.shown.items old.spawned.items → StandsAfter contents more new
-  kept more doc text puts after_it = record {
-    texts = after_it.texts;
-    shown = puts.shown ∙ after_it.shown;
-    spawned = puts.spawned ∙ after_it.spawned;
-  }
-
-  pub run_put : (doc : ℕ) (text : List ℕ) → PutsText old new doc text → StandsAfter contents (effects ++ Put doc text ∷ []) new
-  run_put doc text puts =
-      kept _ doc text puts (more_put contents effects old.texts.items old.shown.items old.spawned.items stands new.texts.items doc text puts.texts)
-
-  pub run_copied : (from to : ℕ) → PutsText old new to (text_of old.texts.items from) → StandsAfter contents (effects ++ Put to (after (contents from) effects from) ∷ []) new
-  run_copied from to puts = subst (λ t. StandsAfter contents (effects ++ Put to t ∷ []) new) (stands.texts from) (run_put to (text_of old.texts.items from) puts)
-
-  pub run_added : (doc : ℕ) (text : List ℕ) → PutsText old new doc (added (text_of old.texts.items doc) text) → StandsAfter contents (effects ++ Add doc text ∷ []) new
-  run_added doc text puts =
-      kept _ doc (added (text_of old.texts.items doc) text) puts
-      (more_added contents effects old.texts.items old.shown.items old.spawned.items stands new.texts.items doc text puts.texts)
-
--- what a document's content adds to another
-pub poured : (from to : ℕ) (old new : Run) → GoesOn (statement.Add to (text_of old.texts.items from) statement.Nothing) old new
-    → GoesOn (statement.Pour from to statement.Nothing) old new
-poured from to old new adds = λ contents effects stands. subst (λ t. StandsAfter contents (effects ++ Add to t ∷ []) new) (stands.texts from) (adds contents effects stands)
-
--- a text more is shown, or a behaviour more is spawned
-module _ (contents : ℕ → List ℕ) (effects : List Effect) (old : Run) (stands : StandsAfter contents effects old) where
-  pub run_said : (shown : List (List ℕ)) (text : List ℕ) → shown ≡ old.shown.items ++ text ∷ []
-      → IsAfter contents (effects ++ Out text ∷ []) old.texts.items shown old.spawned.items
-  run_said shown text is =
-      subst (λ l. IsAfter contents (effects ++ Out text ∷ []) old.texts.items l old.spawned.items) (sym is)
-      (more_shown contents effects old.texts.items old.shown.items old.spawned.items stands text)
-
-  pub run_shown : (shown : List (List ℕ)) (doc : ℕ) → shown ≡ old.shown.items ++ text_of old.texts.items doc ∷ []
-      → IsAfter contents (effects ++ Out (after (contents doc) effects doc) ∷ []) old.texts.items shown old.spawned.items
-  run_shown shown doc is =
-      subst (λ l. IsAfter contents (effects ++ Out (after (contents doc) effects doc) ∷ []) old.texts.items l old.spawned.items) (sym is)
-      (content_shown contents effects old.texts.items old.shown.items old.spawned.items stands doc)
-
-  pub run_spawned : (behaviours : List ℕ) (behaviour : ℕ) → behaviours ≡ old.spawned.items ++ behaviour ∷ []
-      → IsAfter contents (effects ++ Child behaviour ∷ []) old.texts.items old.shown.items behaviours
-  run_spawned behaviours behaviour is =
-      subst (λ l. IsAfter contents (effects ++ Child behaviour ∷ []) old.texts.items old.shown.items l) (sym is)
-      (more_spawned contents effects old.texts.items old.shown.items old.spawned.items stands behaviour)
-
 -- a run that has come by i statements comes by one more
-pub goes_on_more : (xs : List Stmt) (i : ℕ) (s : Stmt) (first middle new : Run) → i < length xs → s ≡ get_or xs i s
-    → GoesOn (statements_of (take i xs)) first middle → GoesOn (statements_of (s ∷ [])) middle new → GoesOn (statements_of (take (i + 1) xs)) first new
-goes_on_more xs i s first middle new lt at come goes = λ contents so_far stands.
-    subst (λ es. StandsAfter contents es new)
-    (sym (ap (λ n. effects_from contents so_far (statements_of (take n xs))) (add-one i) ∙ one_statement_more contents so_far xs i s lt at))
-    (goes contents (effects_from contents so_far (statements_of (take i xs))) (come contents so_far stands))
+pub goes_on_more : (xs : List Stmt) (i : ℕ) (s : Stmt) (before between now : List (List ℕ)) (first middle new : Run) → i < length xs → s ≡ get_or xs i s
+    → GoesOn (statements_of (take i xs)) before first between middle → GoesOn (statements_of (s ∷ [])) between middle now new
+    → GoesOn (statements_of (take (i + 1) xs)) before first now new
+goes_on_more xs i s before between now first middle new lt at come goes = λ start so_far stands.
+    subst (λ es. StandsAfter start es now new)
+    (sym (ap (λ n. effects_from start so_far (statements_of (take n xs))) (add-one i) ∙ one_statement_more start so_far xs i s lt at))
+    (goes start (effects_from start so_far (statements_of (take i xs))) (come start so_far stands))
+
+-- a statement uses documents of the list that it stands in
+uses-cons : (count : ℕ) (x : Stmt) (xs : List Stmt) → UsesBelow count (statements_of (x ∷ xs)) → UsesBelow count (statements_of (x ∷ [])) × UsesBelow count (statements_of xs)
+uses-cons count (stmt.Show doc) xs h = ((h.0, tt), h.1)
+uses-cons count (stmt.Say text) xs h = (tt, h)
+uses-cons count (stmt.Add doc text) xs h = ((h.0, tt), h.1)
+uses-cons count (stmt.Set doc text) xs h = ((h.0, tt), h.1)
+uses-cons count (stmt.Copy from to) xs h = ((h.0, h.1, tt), h.2)
+uses-cons count (stmt.Pour from to) xs h = ((h.0, h.1, tt), h.2)
+uses-cons count (stmt.If doc asks text taken left_out) xs h = ((h.0, h.1, h.2, tt), h.3)
+uses-cons count (stmt.Spawn k) xs h = (tt, h)
+
+pub uses-at : (count : ℕ) (xs : List Stmt) (i : ℕ) (x : Stmt) → i < length xs → x ≡ get_or xs i x → UsesBelow count (statements_of xs) → UsesBelow count (statements_of (x ∷ []))
+uses-at count [] i x lt at h = absurd (omega arith)
+uses-at count (y ∷ xs) zero x lt at h = subst (λ (s : Stmt). UsesBelow count (statements_of (s ∷ []))) (sym at) (uses-cons count y xs h).0
+uses-at count (y ∷ xs) (suc i) x lt at h = uses-at count xs i x (omega arith) at (uses-cons count y xs h).1
 
 first : (x : Stmt) (xs : List Stmt) → depth (statements_of (x ∷ [])) ≤ depth (statements_of (x ∷ xs))
 first (stmt.Show doc) xs = omega arith

@@ -1,12 +1,12 @@
 -- What comes of an entry.
-use Rattle.std.specs.Prelude.{◌≡◌, ℕ, ◌<◌, Bool, ◌&&◌, if◌then◌else◌, List, [], length, All, Option, None, is_some, true, slice_index_or}
+use Rattle.std.specs.Prelude.{◌≡◌, ℕ, ◌<◌, Bool, ◌&&◌, if◌then◌else◌, List, length, All, Option, None, is_some, true}
 use Rattle.bl_policy.specs.FirstFault.{first_fault}
 use Rattle.bl_policy.specs.Policy.{SecurityPolicy}
 use Rattle.bl_policy.specs.RuleEffect.{HasIdsBelow}
 use Rattle.bl_policy.specs.declared.access.Access.{Access}
 use Rattle.bl_policy.specs.declared.denial.Denial.{Denial}
 use Rattle.bl_work.specs.Effects.{Effect, effects_of, after, outputs, children}
-use Rattle.bl_work.specs.Statements.{Statements, Part}
+use Rattle.bl_work.specs.Statements.{Part}
 use Rattle.bl_work.specs.declared.answer.Answer.{Answer}
 use Rattle.bl_work.specs.declared.answer.Answer.TheVariants as answer
 use Rattle.bl_work.specs.declared.work.Work.{Work}
@@ -14,8 +14,7 @@ use Rattle.bl_work.specs.declared.work.Work.TheVariants as work
 use Rattle.bl_order.specs.Order.{Task, accesses_of, is_altered}
 use Rattle.bl_order.specs.Past.{Past, judged, deeds, lent, is_done}
 use Rattle.bl_monitor.specs.Kept.{spawned_of}
-use Rattle.bl_monitor.specs.Texts.{applied}
-use Rattle.bl_monitor.specs.declared.run.Text.{Text}
+use Rattle.bl_monitor.specs.Undoing.{content_at}
 use Rattle.bl_monitor.specs.declared.place.Admitted.{Admitted}
 use Rattle.bl_monitor.specs.declared.judge.Judged.{Judged}
 
@@ -34,32 +33,32 @@ pub record IsKnown (policy : SecurityPolicy) (contents : List (List ℕ)) (admit
   pub ids : HasBelow (length policy.subjects) (length policy.documents) admitted.work admitted.index
   pub as_many : length policy.documents ≡ length contents
 
--- a list as a content of each document
-abbrev pub content_at : List (List ℕ) → ℕ → List ℕ
-content_at contents doc = slice_index_or contents doc []
+-- there are as many contents as before, and each document has the one that is said
+pub record Leaves (contents : List (List ℕ)) (after_it : ℕ → List ℕ) (now : List (List ℕ)) : Type 0 where
+  pub as_many : length now ≡ length contents
+  pub left : (doc : ℕ) → doc < length contents → content_at now doc ≡ after_it doc
 
--- the texts, once they are contents, make of each document what is said
-pub record Changes (contents : List (List ℕ)) (after_it : ℕ → List ℕ) (changes : List Text) : Type 0 where
-  pub within : All (λ (t : Text). t.doc < length contents) changes
-  pub left : (doc : ℕ) → doc < length contents → content_at (applied contents changes) doc ≡ after_it doc
+-- what a behaviour does on these contents
+abbrev pub effects_on : List (List ℕ) → Part → List Effect
+effects_on contents part = effects_of (lent part.accesses (content_at contents)) part.body
 
-abbrev pub effects_on : List (List ℕ) → List Access → Statements → List Effect
-effects_on contents accesses body = effects_of (lent accesses (content_at contents)) body
+-- the content of a document once the behaviour ran on these contents
+abbrev pub left_by : List (List ℕ) → Part → ℕ → List ℕ
+left_by contents part doc =
+    if is_altered part.accesses doc then after (content_at contents doc) (effects_on contents part) doc else content_at contents doc
 
--- a behaviour with these accesses and this body ran on these contents
-pub record IsDone (contents : List (List ℕ)) (accesses : List Access) (body : Statements) (j : Judged) : Type 0 where
-  pub answer : j.answer ≡ answer.Done (outputs (effects_on contents accesses body))
+-- the behaviour ran on these contents
+pub record IsDone (contents : List (List ℕ)) (part : Part) (j : Judged) : Type 0 where
+  pub answer : j.answer ≡ answer.Done (outputs (effects_on contents part))
   pub fault : j.fault ≡ None
   pub ran : is_some j.children ≡ true
-  pub spawned : spawned_of j.children ≡ children (effects_on contents accesses body)
-  pub changes : Changes contents (λ doc. if is_altered accesses doc then after (content_at contents doc) (effects_on contents accesses body) doc else content_at contents doc) j.changes.items
+  pub spawned : spawned_of j.children ≡ children (effects_on contents part)
 
 -- nothing ran
 pub record IsIdle (given : Answer) (found : Option Denial) (j : Judged) : Type 0 where
   pub answer : j.answer ≡ given
   pub fault : j.fault ≡ found
   pub ran : j.children ≡ None
-  pub changes : j.changes.items ≡ []
 
 -- the record of a task, by whether it is lost, the policy, the contents and who speaks
 abbrev pub record_of : Bool → SecurityPolicy → List (List ℕ) → ℕ → Task → Past
@@ -71,4 +70,10 @@ pub record IsJudged (lost : Bool) (policy : SecurityPolicy) (contents : List (Li
   pub fault : j.fault ≡ first_fault policy subject (accesses_of task)
   pub ran : is_some j.children ≡ is_done (record_of lost policy contents subject task).answer
   pub spawned : spawned_of j.children ≡ children (record_of lost policy contents subject task).effects
-  pub changes : Changes contents (λ doc. if is_done (record_of lost policy contents subject task).answer && is_altered (accesses_of task) doc then after (content_at contents doc) (record_of lost policy contents subject task).effects doc else content_at contents doc) j.changes.items
+
+-- the content of a document behind a task with this record, before which these contents stood
+abbrev pub content_behind : List (List ℕ) → Past → ℕ → List ℕ
+content_behind contents past doc =
+    if is_done past.answer && is_altered (accesses_of past.task) doc
+    then after (content_at contents doc) past.effects doc
+    else content_at contents doc

@@ -1,4 +1,4 @@
-pub mod Texts
+pub mod Undoing
 pub mod Running
 pub mod Kept
 pub mod Places

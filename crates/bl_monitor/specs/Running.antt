@@ -1,28 +1,38 @@
 -- How far a run has come.
-use Rattle.std.specs.Prelude.{◌≡◌, ℕ, List}
+use Rattle.std.specs.Prelude.{◌≡◌, ℕ, ◌<◌, List, length, All}
 use Rattle.bl_work.specs.Effects.{Effect, after, outputs, children, effects_from}
-use Rattle.bl_work.specs.Statements.{Statements}
-use Rattle.bl_monitor.specs.Texts.{text_of, IsPut}
-use Rattle.bl_monitor.specs.declared.run.Text.{Text}
+use Rattle.bl_work.specs.Statements.{Statements, Nothing, Show, Say, Add, Set, Copy, Pour, If, Spawn}
+use Rattle.bl_monitor.specs.Undoing.{content_at, undone, IsOf}
 use Rattle.bl_monitor.specs.declared.run.Run.{Run}
 
--- texts, shown texts and spawned behaviours are what these effects make of these contents
-pub record IsAfter (contents : ℕ → List ℕ) (effects : List Effect) (now : List Text) (so_far : List (List ℕ)) (behaviours : List ℕ) : Type 0 where
-  pub texts : (doc : ℕ) → text_of now doc ≡ after (contents doc) effects doc
-  pub shown : so_far ≡ outputs effects
-  pub spawned : behaviours ≡ children effects
+-- each document that the statements use is below this count
+abbrev pub UsesBelow : ℕ → Statements → Type 0
+UsesBelow count Nothing = Unit {0}
+UsesBelow count (Show doc rest) = (doc < count) × UsesBelow count rest
+UsesBelow count (Say text rest) = UsesBelow count rest
+UsesBelow count (Add doc text rest) = (doc < count) × UsesBelow count rest
+UsesBelow count (Set doc text rest) = (doc < count) × UsesBelow count rest
+UsesBelow count (Copy from to rest) = (from < count) × (to < count) × UsesBelow count rest
+UsesBelow count (Pour from to rest) = (from < count) × (to < count) × UsesBelow count rest
+UsesBelow count (If doc asks text then_body else_body rest) =
+    (doc < count) × UsesBelow count then_body × UsesBelow count else_body × UsesBelow count rest
+UsesBelow count (Spawn behaviour rest) = UsesBelow count rest
 
-abbrev pub StandsAfter : (ℕ → List ℕ) → List Effect → Run → Type 0
-StandsAfter contents effects run = IsAfter contents effects run.texts.items run.shown.items run.spawned.items
+-- the contents, the texts that were shown and the behaviours that were spawned are what these effects make of the contents at
+-- the start
+pub record StandsAfter (start : ℕ → List ℕ) (effects : List Effect) (now : List (List ℕ)) (run : Run) : Type 0 where
+  pub contents : (doc : ℕ) → doc < length now → content_at now doc ≡ after (start doc) effects doc
+  pub shown : run.shown.items ≡ outputs effects
+  pub spawned : run.spawned.items ≡ children effects
 
 -- wherever a run stands, it comes by these statements to their effects
-abbrev pub GoesOn : Statements → Run → Run → Type 0
-GoesOn body old new =
-    (contents : ℕ → List ℕ) (so_far : List Effect) → StandsAfter contents so_far old
-    → StandsAfter contents (effects_from contents so_far body) new
+abbrev pub GoesOn : Statements → List (List ℕ) → Run → List (List ℕ) → Run → Type 0
+GoesOn body before old now new =
+    (start : ℕ → List ℕ) (so_far : List Effect) → StandsAfter start so_far before old
+    → StandsAfter start (effects_from start so_far body) now new
 
--- one document has a new text, and nothing else is new
-pub record PutsText (old new : Run) (doc : ℕ) (content : List ℕ) : Type 0 where
-  pub texts : IsPut old.texts.items new.texts.items doc content
-  pub shown : new.shown.items ≡ old.shown.items
-  pub spawned : new.spawned.items ≡ old.spawned.items
+-- what undoes the changes leads back as far as it did, and is of documents that are there
+pub record LeadsBack (before : List (List ℕ)) (old : Run) (now : List (List ℕ)) (new : Run) : Type 0 where
+  pub long : length now ≡ length before
+  pub same : undone now new.undos.items ≡ undone before old.undos.items
+  pub there : All (IsOf (length before)) old.undos.items → All (IsOf (length now)) new.undos.items

@@ -8,7 +8,8 @@ use Rattle.bl_setup.specs.Setup.{Setup}
 use Rattle.bl_order.specs.Order.{accesses_of}
 use Rattle.bl_order.specs.Past.{Past, earlier, at_place, policy_before, policy_of, content_of, is_done}
 use Rattle.bl_monitor.specs.Heard.{Heard, is_lost}
-use Rattle.bl_monitor.specs.Judging.{HasBelow, content_at}
+use Rattle.bl_monitor.specs.Judging.{HasBelow}
+use Rattle.bl_monitor.specs.Undoing.{content_at}
 use Rattle.bl_monitor.specs.Kept.{spawned_of}
 use Rattle.bl_monitor.specs.Places.{no_place, script_of, HasScript, entry_of, task_of, HasChild}
 use Rattle.bl_monitor.specs.declared.monitor.Entry.{Entry}

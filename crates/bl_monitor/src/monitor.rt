@@ -2,15 +2,14 @@
 //!
 //! For each place it keeps what looking back would find there, for each document one current content, and one current
 //! policy. So no step takes longer because more entries came before.
-ghost use Rattle.std.specs.Prelude.{◌≡◌, ◌↔◌, ◌<◌, All, length, IfOk, IsErrOf};
+ghost use Rattle.std.specs.Prelude.{◌≡◌, ◌↔◌, ◌<◌, ◌++◌, [], ◌∷◌, IfOk, IsErrOf, vec_len, vec_capacity};
+ghost use Rattle.std.specs.Arc.{arc_value};
 ghost use Rattle.bl_monitor.specs.Places.{HasChild};
 ghost use Rattle.bl_monitor.specs.Sound.{CanCome, IsAdmitted};
 ghost use Rattle.bl_monitor.specs.declared.monitor.MonitorFault.TheVariants as faults;
-ghost use Rattle.bl_monitor.specs.Texts.{applied};
 
 use crate::judge::{Judged, judge};
 use crate::place::{Admitted, Origin, Place, child_index};
-use crate::run::Text;
 use bl_policy::denial::Denial;
 use bl_policy::id::SubjectId;
 use bl_policy::policy::Policy;
@@ -86,6 +85,16 @@ impl Model for Monitor {
     ghost invariant = { λ m. IsSound (arc_value m.setup) m.policy m.contents.items m.places.items };
 }
 
+/// The setup, which others may own too.
+fn owned(alloc: Global, setup: Setup) -> Result<Arc<Setup, Global>, AllocError>
+    ensures { IfOk result (λ owned. arc_value owned ≡ setup) }
+{
+    match Arc::new(alloc, setup) {
+        Ok(setup) => Ok(setup),
+        Err(_) => Err(AllocError),
+    }
+}
+
 /// The contents that every entry of the order finds first.
 fn shared(alloc: Global, contents: &[Document]) -> Result<Vec<Document>, AllocError>
     ensures { IfOk result (λ shared. shared.items ≡ contents.now) }
@@ -95,17 +104,6 @@ fn shared(alloc: Global, contents: &[Document]) -> Result<Vec<Document>, AllocEr
         shared.push(content.share()?)?;
     }
     Ok(shared)
-}
-
-/// Makes these texts the documents' contents.
-fn keep(contents: &mut [Document], changes: Vec<Text>)
-    requires { All (λ change. change.doc < length contents.old) changes.items }
-    ensures { contents.new ≡ applied contents.old changes.items }
-{
-    let mut changes = changes;
-    while let Some(change) = changes.pop() {
-        contents[change.doc.position() as usize] = change.content;
-    }
 }
 
 /// Who speaks and what is to be done for an entry behind these places.
@@ -153,6 +151,26 @@ fn child(places: &[Place], parent: u32, which: u32, lost: bool) -> Result<Admitt
     }
 }
 
+/// Keeps what came of an entry behind the other places, which have room for it, and gives the answer.
+fn keep(places: &mut Vec<Place>, admitted: Admitted, judged: Judged) -> Answer
+    requires { vec_len places.old < vec_capacity places.old }
+    ensures places { places.new.items ≡ places.old.items ++ record { admitted = admitted; fault = judged.fault; children = judged.children } ∷ [] }
+    ensures answer { result ≡ judged.answer }
+{
+    let Judged {
+        answer,
+        fault,
+        children,
+    } = judged;
+    let kept = Place {
+        admitted,
+        fault,
+        children,
+    };
+    places.push_reserved(kept);
+    answer
+}
+
 impl Monitor {
     ghost use Rattle.std.specs.Arc.{arc_value};
     ghost use Rattle.std.specs.Prelude.{◌≡◌, ◌↔◌, length, [], IfOk, OnOk, OnErr, IsErrOf};
@@ -163,12 +181,9 @@ impl Monitor {
     pub fn new(alloc: Global, setup: Setup) -> Result<Monitor, AllocError>
         ensures { IfOk result (λ m. m ≡ record { setup = setup; order = []; lost = [] }) }
     {
+        let setup = owned(alloc, setup)?;
         let policy = setup.policy().copy()?;
         let contents = shared(alloc, setup.contents())?;
-        let setup = match Arc::new(alloc, setup) {
-            Ok(setup) => setup,
-            Err(_) => return Err(AllocError),
-        };
         Ok(Monitor {
             alloc,
             setup,
@@ -200,20 +215,8 @@ impl Monitor {
         // asked for the proof alone: the behaviours are a script, as those of each kept place
         let _behaviours = admitted.behaviours();
         self.places.reserve(1)?;
-        let judged = judge(self.alloc, &mut self.policy, &self.contents, &admitted)?;
-        let Judged {
-            answer,
-            fault,
-            children,
-            changes,
-        } = judged;
-        keep(&mut self.contents, changes);
-        self.places.push_reserved(Place {
-            admitted,
-            fault,
-            children,
-        });
-        Ok(answer)
+        let judged = judge(self.alloc, &mut self.policy, &mut self.contents, &admitted)?;
+        Ok(keep(&mut self.places, admitted, judged))
     }
 
     /// How many children an entry spawned; `None` for a number that is no entry's, or an entry's that was not done.

@@ -1,188 +1,191 @@
-//! A behaviour while it runs: the texts of its documents now, and what it has shown and spawned so far. Nothing of it is
-//! seen from outside before the behaviour is done.
-ghost use Rattle.std.specs.Prelude.{◌≡◌, ◌==◌, ◌<◌, ◌++◌, ◌∷◌, [], All, length, IfOk, OnOk};
-ghost use Rattle.std.specs.List.{position_from};
-ghost use Rattle.bl_policy.specs.declared.access.Access.{Access};
+//! A behaviour while it runs: it changes the contents in place, and keeps what it has shown and spawned so far and what
+//! undoes its changes. So an addition is written behind a content that has no other owner, and nothing is copied for it.
+ghost use Rattle.std.specs.Prelude.{◌≡◌, ◌<◌, ◌∷◌, [], ℕ, List, length, slice_set, All, OnOk};
 ghost use Rattle.bl_work.specs.Body.{statements_of};
-ghost use Rattle.bl_work.specs.Content.{IsContent};
-ghost use Rattle.bl_work.specs.Modes.{alters};
 ghost use Rattle.bl_work.specs.Statements as statement;
-ghost use Rattle.bl_monitor.specs.Texts.{text_of, texts_of, changes_of};
-ghost use Rattle.bl_monitor.specs.Running.{GoesOn, PutsText};
+ghost use Rattle.bl_monitor.specs.Undoing.{IsOf, undone};
+ghost use Rattle.bl_monitor.specs.Running.{GoesOn, LeadsBack, UsesBelow};
 
 use crate::text::holds;
-use bl_policy::access::{Access, Mode};
 use bl_policy::id::DocId;
 use bl_work::document::Document;
 use bl_work::script::Stmt;
 use std::alloc::{AllocError, Global};
+use std::mem;
 
-/// A document's text.
+/// What undoes one change of a content.
 #[derive(Drop)]
-pub(crate) struct Text {
-    pub(crate) doc: DocId,
-    pub(crate) content: Document,
+pub(crate) enum Undo {
+    /// The document's content is cut back to this length.
+    Cut { doc: DocId, len: usize },
+    /// This is the document's content again.
+    Put { doc: DocId, content: Document },
 }
 
-/// How far a behaviour has come. A document that has no text here reads as the empty one.
+/// How far a behaviour has come.
 #[derive(Drop)]
 pub(crate) struct Run {
-    pub(crate) texts: Vec<Text>,
     pub(crate) shown: Vec<Document>,
     pub(crate) spawned: Vec<u8>,
-}
-
-fn place_of(texts: &[Text], doc: DocId) -> Option<usize>
-    ensures { result ≡ position_from (λ t. t.doc == doc) 0 texts.now }
-{
-    texts.iter().position(|text| text.doc == doc)
-}
-
-fn alters(mode: Mode) -> bool
-    ensures { result ≡ alters mode }
-{
-    match mode {
-        Mode::Read => false,
-        Mode::Append | Mode::Write => true,
-    }
-}
-
-/// The contents of the declared documents, in declared order.
-fn lent(alloc: Global, accesses: &[Access], contents: &[Document]) -> Result<Vec<Text>, AllocError>
-    requires { All (λ access. access.doc < length contents.now) accesses.now }
-    ensures { IfOk result (λ texts. texts.items ≡ texts_of contents.now accesses.now) }
-{
-    let mut texts = Vec::new(alloc);
-    for access in accesses {
-        texts.push(Text {
-            doc: access.doc,
-            content: contents[access.doc.position() as usize].share()?,
-        })?;
-    }
-    Ok(texts)
+    /// What undoes its changes, the last of them first.
+    undos: Vec<Undo>,
 }
 
 impl Run {
-    /// A run of a behaviour that declares these accesses, at its start.
-    pub(crate) fn new(
-        alloc: Global,
-        accesses: &[Access],
-        contents: &[Document],
-    ) -> Result<Run, AllocError>
-        requires { All (λ access. access.doc < length contents.now) accesses.now }
-        ensures texts { IfOk result (λ run. run.texts.items ≡ texts_of contents.now accesses.now) }
-        ensures shown { IfOk result (λ run. run.shown.items ≡ []) }
-        ensures spawned { IfOk result (λ run. run.spawned.items ≡ []) }
+    /// A run at its start.
+    pub(crate) fn new(alloc: Global) -> Run
+        ensures shown { result.shown.items ≡ [] }
+        ensures spawned { result.spawned.items ≡ [] }
+        ensures undos { result.undos.items ≡ [] }
     {
-        Ok(Run {
-            texts: lent(alloc, accesses, contents)?,
+        Run {
             shown: Vec::new(alloc),
             spawned: Vec::new(alloc),
-        })
-    }
-
-    fn bytes(&self, doc: DocId) -> &[u8]
-        ensures { result.now ≡ text_of self.now.texts.items doc }
-    {
-        match place_of(&self.texts, doc) {
-            Some(place) => self.texts[place].content.bytes(),
-            None => &[],
+            undos: Vec::new(alloc),
         }
     }
 
-    fn content(&self, alloc: Global, doc: DocId) -> Result<Document, AllocError>
-        ensures { IfOk result (λ d. d ≡ text_of self.now.texts.items doc) }
+    fn show(&mut self, contents: &[Document], doc: DocId) -> Result<(), AllocError>
+        requires { doc < length contents.now }
+        ensures ran { OnOk result (GoesOn (statement.Show doc statement.Nothing) contents.now self.old contents.now self.new) }
+        ensures undos { self.new.undos ≡ self.old.undos }
     {
-        match place_of(&self.texts, doc) {
-            Some(place) => self.texts[place].content.share(),
-            None => Document::new(alloc, &[]),
-        }
-    }
-
-    fn put(&mut self, doc: DocId, content: Document) -> Result<(), AllocError>
-        ensures { OnOk result (PutsText self.old self.new doc content) }
-    {
-        match place_of(&self.texts, doc) {
-            Some(place) => self.texts[place].content = content,
-            None => self.texts.push(Text { doc, content })?,
-        }
-        Ok(())
-    }
-
-    fn show(&mut self, alloc: Global, doc: DocId) -> Result<(), AllocError>
-        ensures { OnOk result (GoesOn (statement.Show doc statement.Nothing) self.old self.new) }
-    {
-        let content = self.content(alloc, doc)?;
+        let content = contents[doc.position() as usize].share()?;
         self.shown.push(content)?;
         Ok(())
     }
 
     fn say(&mut self, text: &Document) -> Result<(), AllocError>
-        ensures { OnOk result (GoesOn (statement.Say text.now statement.Nothing) self.old self.new) }
+        ensures ran { OnOk result ((contents : List (List ℕ)) → GoesOn (statement.Say text.now statement.Nothing) contents self.old contents self.new) }
+        ensures undos { self.new.undos ≡ self.old.undos }
     {
         let said = text.share()?;
         self.shown.push(said)?;
         Ok(())
     }
 
-    fn add(&mut self, alloc: Global, doc: DocId, text: &Document) -> Result<(), AllocError>
-        ensures { OnOk result (GoesOn (statement.Add doc text.now statement.Nothing) self.old self.new) }
+    fn add(
+        &mut self,
+        alloc: Global,
+        contents: &mut [Document],
+        doc: DocId,
+        text: &Document,
+    ) -> Result<(), AllocError>
+        requires { doc < length contents.old }
+        ensures ran { OnOk result (GoesOn (statement.Add doc text.now statement.Nothing) contents.old self.old contents.new self.new) }
+        ensures back { LeadsBack contents.old self.old contents.new self.new }
     {
-        let mut content = self.content(alloc, doc)?;
+        self.undos.reserve(1)?;
+        let content = &mut contents[doc.position() as usize];
+        let len = content.bytes().len();
         content.add(alloc, text.bytes())?;
-        self.put(doc, content)
+        self.undos.push_reserved(Undo::Cut { doc, len });
+        Ok(())
     }
 
-    fn set(&mut self, doc: DocId, text: &Document) -> Result<(), AllocError>
-        ensures { OnOk result (GoesOn (statement.Set doc text.now statement.Nothing) self.old self.new) }
+    /// Makes this a document's content.
+    fn put(
+        &mut self,
+        contents: &mut [Document],
+        doc: DocId,
+        content: Document,
+    ) -> Result<(), AllocError>
+        requires { doc < length contents.old }
+        ensures put { OnOk result (contents.new ≡ slice_set contents.old doc content) }
+        ensures shown { self.new.shown ≡ self.old.shown }
+        ensures spawned { self.new.spawned ≡ self.old.spawned }
+        ensures back { LeadsBack contents.old self.old contents.new self.new }
+    {
+        self.undos.reserve(1)?;
+        let was = mem::replace(&mut contents[doc.position() as usize], content);
+        self.undos.push_reserved(Undo::Put { doc, content: was });
+        Ok(())
+    }
+
+    fn set(
+        &mut self,
+        contents: &mut [Document],
+        doc: DocId,
+        text: &Document,
+    ) -> Result<(), AllocError>
+        requires { doc < length contents.old }
+        ensures ran { OnOk result (GoesOn (statement.Set doc text.now statement.Nothing) contents.old self.old contents.new self.new) }
+        ensures back { LeadsBack contents.old self.old contents.new self.new }
     {
         let content = text.share()?;
-        self.put(doc, content)
+        self.put(contents, doc, content)
     }
 
-    fn copy(&mut self, alloc: Global, from: DocId, to: DocId) -> Result<(), AllocError>
-        ensures { OnOk result (GoesOn (statement.Copy from to statement.Nothing) self.old self.new) }
+    fn copy(&mut self, contents: &mut [Document], from: DocId, to: DocId) -> Result<(), AllocError>
+        requires from { from < length contents.old }
+        requires to { to < length contents.old }
+        ensures ran { OnOk result (GoesOn (statement.Copy from to statement.Nothing) contents.old self.old contents.new self.new) }
+        ensures back { LeadsBack contents.old self.old contents.new self.new }
     {
-        let content = self.content(alloc, from)?;
-        self.put(to, content)
+        let content = contents[from.position() as usize].share()?;
+        self.put(contents, to, content)
     }
 
-    fn pour(&mut self, alloc: Global, from: DocId, to: DocId) -> Result<(), AllocError>
-        ensures { OnOk result (GoesOn (statement.Pour from to statement.Nothing) self.old self.new) }
+    fn pour(
+        &mut self,
+        alloc: Global,
+        contents: &mut [Document],
+        from: DocId,
+        to: DocId,
+    ) -> Result<(), AllocError>
+        requires from { from < length contents.old }
+        requires to { to < length contents.old }
+        ensures ran { OnOk result (GoesOn (statement.Pour from to statement.Nothing) contents.old self.old contents.new self.new) }
+        ensures back { LeadsBack contents.old self.old contents.new self.new }
     {
-        let poured = self.content(alloc, from)?;
-        self.add(alloc, to, &poured)
+        let poured = contents[from.position() as usize].share()?;
+        self.add(alloc, contents, to, &poured)
     }
 
     fn spawn(&mut self, behaviour: u8) -> Result<(), AllocError>
-        ensures { OnOk result (GoesOn (statement.Spawn behaviour statement.Nothing) self.old self.new) }
+        ensures ran { OnOk result ((contents : List (List ℕ)) → GoesOn (statement.Spawn behaviour statement.Nothing) contents self.old contents self.new) }
+        ensures undos { self.new.undos ≡ self.old.undos }
     {
         self.spawned.push(behaviour)?;
         Ok(())
     }
 
-    /// Runs the statements in order. Where memory is wanting it stops somewhere between.
+    /// Runs the statements in order. Where memory is wanting it stops somewhere between, and can be undone.
     #[cycle(run)]
-    pub(crate) fn run(&mut self, alloc: Global, statements: &[Stmt]) -> Result<(), AllocError>
-        ensures { OnOk result (GoesOn (statements_of statements.now) self.old self.new) }
+    pub(crate) fn run(
+        &mut self,
+        alloc: Global,
+        contents: &mut [Document],
+        statements: &[Stmt],
+    ) -> Result<(), AllocError>
+        requires { UsesBelow (length contents.old) (statements_of statements.now) }
+        ensures ran { OnOk result (GoesOn (statements_of statements.now) contents.old self.old contents.new self.new) }
+        ensures back { LeadsBack contents.old self.old contents.new self.new }
     {
         for statement in statements {
-            self.perform(alloc, statement)?;
+            self.perform(alloc, contents, statement)?;
         }
         Ok(())
     }
 
     #[cycle(run)]
-    fn perform(&mut self, alloc: Global, statement: &Stmt) -> Result<(), AllocError>
-        ensures { OnOk result (GoesOn (statements_of (statement.now ∷ [])) self.old self.new) }
+    fn perform(
+        &mut self,
+        alloc: Global,
+        contents: &mut [Document],
+        statement: &Stmt,
+    ) -> Result<(), AllocError>
+        requires { UsesBelow (length contents.old) (statements_of (statement.now ∷ [])) }
+        ensures ran { OnOk result (GoesOn (statements_of (statement.now ∷ [])) contents.old self.old contents.new self.new) }
+        ensures back { LeadsBack contents.old self.old contents.new self.new }
     {
         match statement {
-            Stmt::Show(doc) => self.show(alloc, *doc),
+            Stmt::Show(doc) => self.show(contents, *doc),
             Stmt::Say(text) => self.say(text),
-            Stmt::Add(doc, text) => self.add(alloc, *doc, text),
-            Stmt::Set(doc, text) => self.set(*doc, text),
-            Stmt::Copy(from, to) => self.copy(alloc, *from, *to),
-            Stmt::Pour(from, to) => self.pour(alloc, *from, *to),
+            Stmt::Add(doc, text) => self.add(alloc, contents, *doc, text),
+            Stmt::Set(doc, text) => self.set(contents, *doc, text),
+            Stmt::Copy(from, to) => self.copy(contents, *from, *to),
+            Stmt::Pour(from, to) => self.pour(alloc, contents, *from, *to),
             Stmt::If {
                 doc,
                 test,
@@ -190,33 +193,36 @@ impl Run {
                 then_body,
                 else_body,
             } => {
-                if holds(*test, self.bytes(*doc), text.bytes()) {
-                    self.run(alloc, then_body.statements())
+                if holds(
+                    *test,
+                    contents[doc.position() as usize].bytes(),
+                    text.bytes(),
+                ) {
+                    self.run(alloc, contents, then_body.statements())
                 } else {
-                    self.run(alloc, else_body.statements())
+                    self.run(alloc, contents, else_body.statements())
                 }
             }
             Stmt::Spawn(behaviour) => self.spawn(*behaviour),
         }
     }
 
-    /// The texts of the documents that are declared append or write.
-    pub(crate) fn changes(
-        &self,
-        alloc: Global,
-        accesses: &[Access],
-    ) -> Result<Vec<Text>, AllocError>
-        ensures { IfOk result (λ changes. changes.items ≡ changes_of self.now.texts.items accesses.now) }
+    /// Makes the contents what they were before the run. It takes no memory.
+    pub(crate) fn undo(self, contents: &mut [Document])
+        requires { All (IsOf (length contents.old)) self.undos.items }
+        ensures { contents.new ≡ undone contents.old self.undos.items }
     {
-        let mut changes = Vec::new(alloc);
-        for access in accesses {
-            if alters(access.mode) {
-                changes.push(Text {
-                    doc: access.doc,
-                    content: self.content(alloc, access.doc)?,
-                })?;
+        let Run {
+            shown: _,
+            spawned: _,
+            undos,
+        } = self;
+        let mut undos = undos;
+        while let Some(undo) = undos.pop() {
+            match undo {
+                Undo::Cut { doc, len } => contents[doc.position() as usize].truncate(len),
+                Undo::Put { doc, content } => contents[doc.position() as usize] = content,
             }
         }
-        Ok(changes)
     }
 }

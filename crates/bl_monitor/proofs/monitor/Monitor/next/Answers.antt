@@ -2,12 +2,11 @@ use Rattle.std.proofs.Common.{◌≡◌, [], ◌∷◌, ◌++◌, length, sym, �
 use Rattle.std.specs.Arc.{arc_value}
 use Rattle.std.proofs.lemmas.Result.{err_from_is_err_and}
 use Rattle.bl_monitor.specs.Heard.{MayCome, Knows, KnowsAnswer, answer_at}
-use Rattle.bl_monitor.specs.Judging.{IsJudged, IsKnown}
+use Rattle.bl_monitor.specs.Judging.{IsJudged, IsKnown, Leaves, content_behind, record_of}
 use Rattle.bl_monitor.specs.Places.{task_of}
 use Rattle.bl_monitor.specs.Sound.{IsAdmitted, CanCome, IsSound, heard_of}
-use Rattle.bl_monitor.specs.Texts.{applied}
 use Rattle.bl_monitor.proofs.Errors.{moved, not_memory, not_ok}
-use Rattle.bl_monitor.proofs.Changes.{whole_again, length-applied}
+use Rattle.bl_monitor.proofs.Changes.{whole_again}
 use Rattle.bl_monitor.proofs.Coming.{may_come, can_come, admitted_can, as_long, next_known, next_sound, next_answer, next_ids}
 use Rattle.bl_monitor.proofs.monitor.Monitor.next.Goals as goal
 
@@ -33,7 +32,7 @@ pub judge-requires : goal.judge-requires
 judge-requires c =
     let is : IsAdmitted c.self.inside.places.items c.args.entry c.in_ok-admitted.admitted =
     subst (λ ps. IsAdmitted ps c.args.entry c.in_ok-admitted.admitted) c.deref.ensures.value c.in_ok-admitted.ensures.ok in
-    subst (λ cs. IsKnown c.self.inside.policy cs c.in_ok-admitted.admitted) (sym c.deref-2.ensures.value)
+    subst (λ cs. IsKnown c.self.inside.policy cs c.in_ok-admitted.admitted) (sym c.deref_mut.ensures.value)
     (next_known (arc_value c.self.inside.setup) c.self.inside.policy c.self.inside.contents.items c.self.inside.places.items c.self.invariant c.args.entry c.in_ok-admitted.admitted
     (subst (λ h. Knows h.setup c.args.entry) (sym c.self.view_is) c.requires) is c.behaviours-behaviours.ensures.script)
 
@@ -48,57 +47,64 @@ returns-in_err-judged-clause-no_child c =
 
 -- ---- where the entry is answered
 
-known : (c : goal.After-push_reserved) → Knows (arc_value c.self.inside.setup) c.args.entry
+known : (c : goal.After-keep) → Knows (arc_value c.self.inside.setup) c.args.entry
 known c = subst (λ h. Knows h.setup c.args.entry) (sym c.self.view_is) c.requires
 
-admitted : (c : goal.After-push_reserved) → IsAdmitted c.self.inside.places.items c.args.entry c.in_ok-admitted.admitted
+admitted : (c : goal.After-keep) → IsAdmitted c.self.inside.places.items c.args.entry c.in_ok-admitted.admitted
 admitted c = subst (λ ps. IsAdmitted ps c.args.entry c.in_ok-admitted.admitted) c.deref.ensures.value c.in_ok-admitted.ensures.ok
 
-may : (c : goal.After-push_reserved) → MayCome c.args.self.now c.args.entry
+may : (c : goal.After-keep) → MayCome c.args.self.now c.args.entry
 may c =
     subst (λ h. MayCome h c.args.entry) c.self.view_is
     (may_come (arc_value c.self.inside.setup) c.self.inside.policy c.self.inside.contents.items c.self.inside.places.items c.self.invariant c.args.entry
     (admitted_can (arc_value c.self.inside.setup) c.self.inside.policy c.self.inside.contents.items c.self.inside.places.items c.self.invariant c.args.entry c.in_ok-admitted.admitted (admitted c)))
 
-judged : (c : goal.After-push_reserved) → IsJudged c.in_ok-admitted.admitted.lost c.self.inside.policy c.self.inside.contents.items c.in_ok-admitted.admitted.subject (task_of c.in_ok-admitted.admitted) c.in_ok-judged.judged
+judged : (c : goal.After-keep) → IsJudged c.in_ok-admitted.admitted.lost c.self.inside.policy c.self.inside.contents.items c.in_ok-admitted.admitted.subject (task_of c.in_ok-admitted.admitted) c.in_ok-judged.judged
 judged c =
     subst (λ cs. IsJudged c.in_ok-admitted.admitted.lost c.self.inside.policy cs c.in_ok-admitted.admitted.subject (task_of c.in_ok-admitted.admitted) c.in_ok-judged.judged)
-    c.deref-2.ensures.value c.in_ok-judged.ensures.judged
+    c.deref_mut.ensures.value c.in_ok-judged.ensures.judged
 
 -- the places after this one was kept
-grown : (c : goal.After-push_reserved) → c.push_reserved.new.self.items
+grown : (c : goal.After-keep) → c.keep.new.places.items
     ≡ c.self.inside.places.items ++ record { admitted = c.in_ok-admitted.admitted; fault = c.in_ok-judged.judged.fault; children = c.in_ok-judged.judged.children } ∷ []
 grown c =
-    c.push_reserved.ensures.items
+    c.keep.ensures.places
     ∙ ap (λ ps. ps ++ record { admitted = c.in_ok-admitted.admitted; fault = c.in_ok-judged.judged.fault; children = c.in_ok-judged.judged.children } ∷ []) c.in_ok-reserve.ensures.items
+
+-- the contents behind the entry
+leaves : (c : goal.After-keep)
+    → Leaves c.self.inside.contents.items (content_behind c.self.inside.contents.items (record_of c.in_ok-admitted.admitted.lost c.self.inside.policy c.self.inside.contents.items c.in_ok-admitted.admitted.subject (task_of c.in_ok-admitted.admitted))) c.judge.new.contents
+leaves c =
+    subst (λ cs. Leaves cs (content_behind cs (record_of c.in_ok-admitted.admitted.lost c.self.inside.policy cs c.in_ok-admitted.admitted.subject (task_of c.in_ok-admitted.admitted))) c.judge.new.contents)
+    c.deref_mut.ensures.value c.in_ok-judged.ensures.left
 
 pub invariant_of-self-2 : goal.invariant_of-self-2
 invariant_of-self-2 c =
-    let kept : c.keep.new.contents ≡ applied c.self.inside.contents.items c.in_ok-judged.judged.changes.items =
-    c.keep.ensures ∙ ap (λ cs. applied cs c.in_ok-judged.judged.changes.items) c.deref_mut.ensures.value in
-    let count : c.self.inside.contents.len ≡ length c.keep.new.contents = omega (arith, ap length kept, length-applied c.self.inside.contents.items c.in_ok-judged.judged.changes.items) in
-    subst (λ cs. IsSound (arc_value c.self.inside.setup) c.judge.new.policy cs c.push_reserved.new.self.items)
-    (sym (whole_again c.keep.new.contents c.self.inside.contents.items c.self.inside.contents.len count ∙ kept))
-    (subst (IsSound (arc_value c.self.inside.setup) c.judge.new.policy (applied c.self.inside.contents.items c.in_ok-judged.judged.changes.items)) (sym (grown c))
-    (next_sound (arc_value c.self.inside.setup) c.self.inside.policy c.self.inside.contents.items c.self.inside.places.items c.self.invariant c.args.entry c.in_ok-admitted.admitted c.in_ok-judged.judged c.judge.new.policy
-    (known c) (admitted c) c.behaviours-behaviours.ensures.script (judged c) c.in_ok-judged.ensures.policy))
+    let count : c.self.inside.contents.len ≡ length c.judge.new.contents = omega (arith, (leaves c).as_many, c.self.inside.contents.ok.0) in
+    subst (λ cs. IsSound (arc_value c.self.inside.setup) c.judge.new.policy cs c.keep.new.places.items)
+    (sym (whole_again c.judge.new.contents c.self.inside.contents.items c.self.inside.contents.len count))
+    (subst (IsSound (arc_value c.self.inside.setup) c.judge.new.policy c.judge.new.contents) (sym (grown c))
+    (next_sound (arc_value c.self.inside.setup) c.self.inside.policy c.self.inside.contents.items c.self.inside.places.items c.self.invariant c.args.entry c.in_ok-admitted.admitted c.in_ok-judged.judged c.judge.new.policy c.judge.new.contents
+    (known c) (admitted c) c.behaviours-behaviours.ensures.script (judged c) c.in_ok-judged.ensures.policy (leaves c)))
 
 pub returns-clause-answer : goal.returns-clause-answer
 returns-clause-answer c =
-    next_answer (arc_value c.self.inside.setup) c.self.inside.policy c.self.inside.contents.items c.self.inside.places.items c.self.invariant c.args.entry c.in_ok-admitted.admitted c.in_ok-judged.judged c.judge.new.policy
-    (known c) (admitted c) c.behaviours-behaviours.ensures.script (judged c) c.in_ok-judged.ensures.policy
+    c.keep.ensures.answer
+    ∙ next_answer (arc_value c.self.inside.setup) c.self.inside.policy c.self.inside.contents.items c.self.inside.places.items c.self.invariant c.args.entry c.in_ok-admitted.admitted c.in_ok-judged.judged c.judge.new.policy c.judge.new.contents
+    (known c) (admitted c) c.behaviours-behaviours.ensures.script (judged c) c.in_ok-judged.ensures.policy (leaves c)
     ∙ ap (λ ps. answer_at (heard_of (arc_value c.self.inside.setup) ps) (length c.self.inside.places.items)) (sym (grown c))
-    ∙ ap (answer_at (heard_of (arc_value c.self.inside.setup) c.push_reserved.new.self.items))
+    ∙ ap (answer_at (heard_of (arc_value c.self.inside.setup) c.keep.new.places.items))
     (sym (as_long (arc_value c.self.inside.setup) c.self.inside.policy c.self.inside.contents.items c.self.inside.places.items c.self.invariant) ∙ ap (λ h. length h.order) c.self.view_is)
 
 pub returns-clause-ids : goal.returns-clause-ids
 returns-clause-ids c =
-    subst (λ h. KnowsAnswer h.setup c.in_ok-judged.judged.answer) c.self.view_is
-    (next_ids (arc_value c.self.inside.setup) c.self.inside.policy c.self.inside.contents.items c.self.inside.places.items c.self.invariant c.args.entry c.in_ok-admitted.admitted c.in_ok-judged.judged c.judge.new.policy
-    (known c) (admitted c) c.behaviours-behaviours.ensures.script (judged c) c.in_ok-judged.ensures.policy)
+    subst (KnowsAnswer c.args.self.now.setup) (sym c.keep.ensures.answer)
+    (subst (λ h. KnowsAnswer h.setup c.in_ok-judged.judged.answer) c.self.view_is
+    (next_ids (arc_value c.self.inside.setup) c.self.inside.policy c.self.inside.contents.items c.self.inside.places.items c.self.invariant c.args.entry c.in_ok-admitted.admitted c.in_ok-judged.judged c.judge.new.policy c.judge.new.contents
+    (known c) (admitted c) c.behaviours-behaviours.ensures.script (judged c) c.in_ok-judged.ensures.policy (leaves c)))
 
 pub returns-clause-came : goal.returns-clause-came
 returns-clause-came c = may c
 
 pub returns-clause-no_child : goal.returns-clause-no_child
-returns-clause-no_child c = (λ x m. not_ok c.in_ok-judged.judged.answer x, λ n. absurd (n (may c)))
+returns-clause-no_child c = (λ x m. not_ok c.keep.result x, λ n. absurd (n (may c)))

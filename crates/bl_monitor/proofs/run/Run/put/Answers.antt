@@ -1,26 +1,20 @@
-use Rattle.std.proofs.Common.{sym, ◌∙◌, arith, ap}
-use Rattle.bl_monitor.specs.Texts.{text_of}
-use Rattle.bl_monitor.proofs.Looks.{found_at, pushed_in}
-use Rattle.std.proofs.Common.{refl}
+use Rattle.std.proofs.Common.{◌≡◌, ◌<◌, [], ◌∷◌, ◌++◌, length, set, ◌∙◌, ap, arith}
+use Rattle.std.proofs.lemmas.List.{length-set}
+use Rattle.bl_monitor.specs.declared.run.Undo.TheVariants.{Put}
+use Rattle.bl_monitor.specs.Undoing.{content_at, without}
+use Rattle.bl_monitor.proofs.Runs.{read_content}
+use Rattle.bl_monitor.proofs.Undoes.{one_back, put_back}
 use Rattle.bl_monitor.proofs.run.Run.put.Goals as goal
 
-pub index_mut-requires : goal.index_mut-requires
-index_mut-requires c = let f = (found_at c.args.doc c.deref.result.now c.args.self.now.texts.items c.in-Some.place c.deref.ensures.value (sym c.in-Some.ensures)) in omega (arith, f.within)
-
-pub returns-in-Some : goal.returns-in-Some
-returns-in-Some c =
-    let f = (found_at c.args.doc c.deref.result.now c.args.self.now.texts.items c.in-Some.place c.deref.ensures.value (sym c.in-Some.ensures)) in
-    record {
-      texts = λ other. f.put c.index_mut.result.now c.args.content other c.index_mut.ensures.value;
-      shown = refl;
-      spawned = refl;
-    }
-
-pub returns-in_ok-push-in-None : goal.returns-in_ok-push-in-None
-returns-in_ok-push-in-None c = record {
-  texts = λ other.
-      ap (λ texts. text_of texts other) c.in_ok-push-in-None.ensures.items
-      ∙ pushed_in c.args.doc c.deref.result.now c.args.self.now.texts.items c.args.content other c.deref.ensures.value (sym c.in-None.ensures);
-  shown = refl;
-  spawned = refl;
-}
+pub returns-clause-back : goal.returns-clause-back
+returns-clause-back c =
+    let at : c.index-contents-position.result ≡ content_at c.args.contents.now c.args.doc = read_content c.args.contents.now c.args.doc c.position.result c.index-contents-position.result c.index-contents-position.is c.position.ensures c.requires in
+    let was : c.replace-was.result ≡ content_at c.args.contents.now c.args.doc = cc (c.replace-was.ensures.value, at, c.index-contents-position.is) in
+    let lt : c.args.doc < length c.args.contents.now = c.requires in
+    one_back c.args.contents.now _ c.args.self.now _ (Put c.args.doc c.replace-was.result)
+    (c.push_reserved.ensures.items ∙ ap (λ l. l ++ Put c.args.doc c.replace-was.result ∷ []) c.in_ok-reserve.ensures.items)
+    (length-set c.args.contents.now c.position.result c.replace-was.new.dest)
+    (ap (λ t. without (Put c.args.doc t) (set c.args.contents.now c.position.result c.replace-was.new.dest)) was
+    ∙ ap (λ i. without (Put c.args.doc (content_at c.args.contents.now c.args.doc)) (set c.args.contents.now i c.replace-was.new.dest)) c.position.ensures
+    ∙ put_back c.args.contents.now c.args.doc c.replace-was.new.dest)
+    (omega (arith, lt, length-set c.args.contents.now c.position.result c.replace-was.new.dest))

@@ -1,8 +1,9 @@
-use Rattle.std.proofs.Common.{subst}
+use Rattle.std.proofs.Common.{◌∙◌, ap, set}
 use Rattle.std.proofs.lemmas.Result.{on_ok_weaker}
-use Rattle.bl_monitor.specs.Running.{PutsText}
 use Rattle.bl_monitor.proofs.Runs.{run_put}
 use Rattle.bl_monitor.proofs.run.Run.set.Goals as goal
 
-pub returns : goal.returns
-returns c = on_ok_weaker c.put.result (λ puts contents so_far stands. run_put contents so_far _ _ stands c.args.doc c.args.text.now (subst (PutsText c.args.self.now c.put.new.self c.args.doc) c.in_ok-content.ensures puts)) c.put.ensures
+pub returns-clause-ran : goal.returns-clause-ran
+returns-clause-ran c = on_ok_weaker c.put.result (λ puts start so_far stands. run_put start so_far c.args.contents.now c.args.self.now stands c.put.new.contents c.put.new.self c.args.doc
+    (ap (λ v. v.items) c.put.ensures.shown) (ap (λ v. v.items) c.put.ensures.spawned) c.args.text.now
+    (puts ∙ ap (set c.args.contents.now c.args.doc) c.in_ok-content.ensures)) c.put.ensures.put
