@@ -1,0 +1,383 @@
+-- Two histories that are sealed, of which much is purged; and for each premise two that tell a low subject otherwise without it.
+use Rattle.std.proofs.Common.{ℕ, zero, suc, arith, lit<, lit≤, sym, ap, true≢false, refl}
+use Rattle.std.specs.Prelude.{◌≡◌, ◌<◌, Bool, true, false, List, [], ◌∷◌, slice_get, slice_index_or, Some, codes}
+use Rattle.bl_policy.specs.Policy.{is_trusted}
+use Rattle.bl_policy.specs.declared.access.Mode.TheVariants.{Append}
+use Rattle.bl_work.specs.Statements.{Nothing, Show}
+use Rattle.bl_work.specs.declared.answer.Answer.{Answer}
+use Rattle.bl_work.specs.declared.answer.Answer.TheVariants.{Done, RuleDone, Denied, Lost}
+use Rattle.bl_work.specs.declared.work.Work.{Work}
+use Rattle.bl_work.specs.declared.work.Work.TheVariants as work
+use Rattle.bl_setup.specs.Setup.{Setup}
+use Rattle.bl_order.specs.Headline.{IsReached}
+use Rattle.bl_order.specs.Legal.{IsLegal}
+use Rattle.bl_order.specs.Machine.{State, Event, IsTrail, Opens, Admits, Starts, Ends, start, state_after}
+use Rattle.bl_order.specs.Order.{Line, Child}
+use Rattle.bl_flow.specs.Flow.{TellTheSame}
+use Rattle.bl_flow.specs.Low.{History, AgreeLow, history_of, place_in, is_low_document}
+use Rattle.bl_flow.specs.Purge.{KeepTheSame, kept_entries}
+use Rattle.bl_flow.specs.Sealed.{IsPlain, IsSealed, TrustedLetNothingDown, NoDocumentComesDown, NoChildComesDown, changes_a_level}
+use Rattle.bl_flow.proofs.Examples.{u, s, memo, ann, bob, policy, with_memo, shows_memo, shows_memo_is_readable, shows_note, shows_note_is_readable, copies_memo, copies_memo_is_readable, chooses, chooses_is_readable, comes_to_u, comes_to_u_is_readable, declassifies_memo, declassifies_memo_is_readable, next_may_start}
+
+-- where the events lead from a setup
+abbrev after : Setup → List Event → State
+after setup events = state_after (start setup 10000) events
+
+reached : (setup : Setup) (events : List Event) → IsTrail (start setup 10000) events → IsReached (after setup events)
+reached setup events trail = record { setup = setup; limit = 10000; events = events; trail = trail; leads = refl }
+
+-- two setups that differ in the memo agree on what is low
+memos-agree : (ann_trusted bob_trusted : Bool) → AgreeLow u (with_memo (policy ann_trusted bob_trusted u) (codes "1")) (with_memo (policy ann_trusted bob_trusted u) (codes "2"))
+memos-agree a b = record { policy = refl; contents = same }
+  where
+    same : (doc : ℕ) → is_low_document u (policy a b u) doc ≡ true → slice_index_or (codes "2" ∷ codes "n" ∷ []) doc [] ≡ slice_index_or (codes "1" ∷ codes "n" ∷ []) doc []
+    same zero low = absurd (true≢false (sym low))
+    same (suc doc) low = refl
+
+-- the first byte that an answer shows, or 0
+abbrev first_shown : Answer → ℕ
+first_shown (Done []) = 0
+first_shown (Done ([] ∷ more)) = 0
+first_shown (Done ((b ∷ bytes) ∷ more)) = b
+first_shown RuleDone = 0
+first_shown (Denied denial) = 0
+first_shown Lost = 0
+
+-- Two states that trails lead to and that differ only in what is not kept, and in contents of documents that are not low: and yet a
+-- low place is told otherwise.
+record Leak (x y : State) : Type 0 where
+  pub first : IsReached x
+  pub second : IsReached y
+  pub agree : AgreeLow u x.setup y.setup
+  pub alike : KeepTheSame u (history_of x) (history_of y)
+  pub tells : TellTheSame u (history_of x) (history_of y) → ⊥
+
+-- ---- a trusted subject whose current level is low looks at what is not
+
+abbrev looks_up : List Event
+looks_up = Opens bob ∷ Admits 0 1 shows_memo ∷ Starts 0 ∷ Ends 0 ∷ []
+
+abbrev looked_up : List ℕ → State
+looked_up words = after (with_memo (policy false true u) words) looks_up
+
+looks_up-leaks : Leak (looked_up (codes "1")) (looked_up (codes "2"))
+looks_up-leaks = record {
+  first = reached (with_memo (policy false true u) (codes "1")) looks_up
+      ((lit< tt, lit< tt), ((lit< tt, shows_memo_is_readable, lit< tt, lit< tt, lit≤ tt), (next_may_start _ 0 (lit< tt) refl refl, (refl, tt))));
+  second = reached (with_memo (policy false true u) (codes "2")) looks_up
+      ((lit< tt, lit< tt), ((lit< tt, shows_memo_is_readable, lit< tt, lit< tt, lit≤ tt), (next_may_start _ 0 (lit< tt) refl refl, (refl, tt))));
+  agree = memos-agree false true;
+  alike = record { entries = refl; losses = refl };
+  tells = λ t. absurd (omega (arith, ap (λ p. first_shown p.answer) (t.places 0 0 (lit< tt) (lit< tt) refl refl refl)));
+}
+
+looks_up-documents : (words : List ℕ) → NoDocumentComesDown u (history_of (looked_up words))
+looks_up-documents words zero doc lt low = low
+looks_up-documents words (suc n) doc lt low = absurd (omega (arith, lt))
+
+looks_up-children : (words : List ℕ) → NoChildComesDown u (history_of (looked_up words))
+looks_up-children words zero parent which is low = absurd (cc)
+looks_up-children words (suc n) parent which is low = absurd (cc)
+
+-- ---- a trusted subject that is not low alters a low document
+
+abbrev writes_down : List Event
+writes_down = Opens ann ∷ Opens bob ∷ Admits 0 1 copies_memo ∷ Admits 1 1 shows_note ∷ Starts 0 ∷ Ends 0 ∷ Starts 1 ∷ Ends 1 ∷ []
+
+abbrev wrote_down : List ℕ → State
+wrote_down words = after (with_memo (policy true false u) words) writes_down
+
+writes_down-trail : (words : List ℕ) → IsTrail (start (with_memo (policy true false u) words) 10000) writes_down
+writes_down-trail words = (
+  (lit< tt, lit< tt),
+  (
+    (lit< tt, lit< tt),
+    (
+      (lit< tt, copies_memo_is_readable, lit< tt, lit< tt, lit≤ tt),
+      (
+        (lit< tt, shows_note_is_readable, lit< tt, lit< tt, lit≤ tt),
+        (next_may_start _ 0 (lit< tt) refl refl, (refl, (next_may_start _ 1 (lit< tt) refl refl, (refl, tt)))),
+      ),
+    ),
+  ),
+)
+
+writes_down-leaks : Leak (wrote_down (codes "1")) (wrote_down (codes "2"))
+writes_down-leaks = record {
+  first = reached (with_memo (policy true false u) (codes "1")) writes_down (writes_down-trail (codes "1"));
+  second = reached (with_memo (policy true false u) (codes "2")) writes_down (writes_down-trail (codes "2"));
+  agree = memos-agree true false;
+  alike = record { entries = refl; losses = refl };
+  tells = λ t. absurd (omega (arith, ap (λ p. first_shown p.answer) (t.places 1 1 (lit< tt) (lit< tt) refl refl refl)));
+}
+
+writes_down-documents : (words : List ℕ) → NoDocumentComesDown u (history_of (wrote_down words))
+writes_down-documents words zero doc lt low = low
+writes_down-documents words (suc zero) doc lt low = low
+writes_down-documents words (suc (suc n)) doc lt low = absurd (omega (arith, lt))
+
+writes_down-children : (words : List ℕ) → NoChildComesDown u (history_of (wrote_down words))
+writes_down-children words zero parent which is low = absurd (cc)
+writes_down-children words (suc zero) parent which is low = absurd (cc)
+writes_down-children words (suc (suc n)) parent which is low = absurd (cc)
+
+-- ---- a rule brings a document down
+
+abbrev declassifies : List Event
+declassifies = Opens ann ∷ Opens bob ∷ Admits 0 1 declassifies_memo ∷ Admits 1 1 shows_memo ∷ Starts 0 ∷ Starts 1 ∷ Ends 1 ∷ []
+
+abbrev declassified : List ℕ → State
+declassified words = after (with_memo (policy true false u) words) declassifies
+
+declassifies-trail : (words : List ℕ) → IsTrail (start (with_memo (policy true false u) words) 10000) declassifies
+declassifies-trail words = (
+  (lit< tt, lit< tt),
+  (
+    (lit< tt, lit< tt),
+    (
+      (lit< tt, declassifies_memo_is_readable, lit< tt, lit< tt, lit≤ tt),
+      (
+        (lit< tt, shows_memo_is_readable, lit< tt, lit< tt, lit≤ tt),
+        (next_may_start _ 0 (lit< tt) refl refl, (next_may_start _ 1 (lit< tt) refl refl, (refl, tt))),
+      ),
+    ),
+  ),
+)
+
+declassifies-leaks : Leak (declassified (codes "1")) (declassified (codes "2"))
+declassifies-leaks = record {
+  first = reached (with_memo (policy true false u) (codes "1")) declassifies (declassifies-trail (codes "1"));
+  second = reached (with_memo (policy true false u) (codes "2")) declassifies (declassifies-trail (codes "2"));
+  agree = memos-agree true false;
+  alike = record { entries = refl; losses = refl };
+  tells = λ t. absurd (omega (arith, ap (λ p. first_shown p.answer) (t.places 1 1 (lit< tt) (lit< tt) refl refl refl)));
+}
+
+-- the trusted subject is granted no access, and the other is not trusted
+declassifies-trusted : (words : List ℕ) → TrustedLetNothingDown u (history_of (declassified words))
+declassifies-trusted words zero lt trusted done = absurd (true≢false (sym done))
+declassifies-trusted words (suc zero) lt trusted done = absurd (true≢false (sym trusted))
+declassifies-trusted words (suc (suc n)) lt trusted done = absurd (omega (arith, lt))
+
+declassifies-children : (words : List ℕ) → NoChildComesDown u (history_of (declassified words))
+declassifies-children words zero parent which is low = absurd (cc)
+declassifies-children words (suc zero) parent which is low = absurd (cc)
+declassifies-children words (suc (suc n)) parent which is low = absurd (cc)
+
+-- ---- a subject comes down between a place and its child: which child it is rests on the memo
+
+abbrev comes_down : List Event
+comes_down = Opens bob ∷ Admits 0 1 chooses ∷ Admits 0 2 comes_to_u ∷ Starts 0 ∷ Ends 0 ∷ Starts 1 ∷ Starts 2 ∷ Ends 2 ∷ []
+
+abbrev came_down : List ℕ → State
+came_down words = after (with_memo (policy false false s) words) comes_down
+
+comes_down-order : kept_entries u (history_of (came_down (codes "1"))) ≡ Line 0 2 bob comes_to_u ∷ Child 0 1 ∷ []
+comes_down-order = refl
+
+comes_down-leaks : Leak (came_down (codes "1")) (came_down (codes "2"))
+comes_down-leaks = record {
+  first = reached (with_memo (policy false false s) (codes "1")) comes_down (
+    (lit< tt, lit< tt),
+    (
+      (lit< tt, chooses_is_readable, lit< tt, lit< tt, lit≤ tt),
+      (
+        (lit< tt, comes_to_u_is_readable, lit< tt, lit< tt, lit≤ tt),
+        (next_may_start _ 0 (lit< tt) refl refl, (refl, (next_may_start _ 1 (lit< tt) refl refl, (next_may_start _ 2 (lit< tt) refl refl, (refl, tt))))),
+      ),
+    ),
+  );
+  second = reached (with_memo (policy false false s) (codes "2")) comes_down (
+    (lit< tt, lit< tt),
+    (
+      (lit< tt, chooses_is_readable, lit< tt, lit< tt, lit≤ tt),
+      (
+        (lit< tt, comes_to_u_is_readable, lit< tt, lit< tt, lit≤ tt),
+        (next_may_start _ 0 (lit< tt) refl refl, (refl, (next_may_start _ 1 (lit< tt) refl refl, (next_may_start _ 2 (lit< tt) refl refl, (refl, tt))))),
+      ),
+    ),
+  );
+  agree = record { policy = refl; contents = same };
+  alike = record { entries = refl; losses = refl };
+  tells = λ t. absurd (omega (arith, ap (λ p. first_shown p.answer) (t.places 2 2 (lit< tt) (lit< tt) refl refl refl)));
+}
+  where
+    same : (doc : ℕ) → is_low_document u (policy false false s) doc ≡ true → slice_index_or (codes "2" ∷ codes "n" ∷ []) doc [] ≡ slice_index_or (codes "1" ∷ codes "n" ∷ []) doc []
+    same zero low = absurd (true≢false (sym low))
+    same (suc doc) low = refl
+
+comes_down-trusted-one : TrustedLetNothingDown u (history_of (came_down (codes "1")))
+comes_down-trusted-one zero lt trusted done = absurd (true≢false (sym trusted))
+comes_down-trusted-one (suc zero) lt trusted done = absurd (true≢false (sym trusted))
+comes_down-trusted-one (suc (suc zero)) lt trusted done = absurd (true≢false (sym trusted))
+comes_down-trusted-one (suc (suc (suc n))) lt trusted done = absurd (omega (arith, lt))
+
+comes_down-documents-one : NoDocumentComesDown u (history_of (came_down (codes "1")))
+comes_down-documents-one zero doc lt low = low
+comes_down-documents-one (suc zero) doc lt low = low
+comes_down-documents-one (suc (suc zero)) doc lt low = low
+comes_down-documents-one (suc (suc (suc n))) doc lt low = absurd (omega (arith, lt))
+
+comes_down-trusted-two : TrustedLetNothingDown u (history_of (came_down (codes "2")))
+comes_down-trusted-two zero lt trusted done = absurd (true≢false (sym trusted))
+comes_down-trusted-two (suc zero) lt trusted done = absurd (true≢false (sym trusted))
+comes_down-trusted-two (suc (suc zero)) lt trusted done = absurd (true≢false (sym trusted))
+comes_down-trusted-two (suc (suc (suc n))) lt trusted done = absurd (omega (arith, lt))
+
+comes_down-documents-two : NoDocumentComesDown u (history_of (came_down (codes "2")))
+comes_down-documents-two zero doc lt low = low
+comes_down-documents-two (suc zero) doc lt low = low
+comes_down-documents-two (suc (suc zero)) doc lt low = low
+comes_down-documents-two (suc (suc (suc n))) doc lt low = absurd (omega (arith, lt))
+
+-- ---- a body that does not keep to its accesses shows what it only appends to
+
+abbrev peeks : List ℕ → History
+peeks words = record {
+  setup = with_memo (policy false false u) words;
+  lost = λ n. false;
+  order = Line 0 1 bob (work.Behaviour (record { accesses = record { mode = Append; doc = memo } ∷ []; body = Show memo Nothing } ∷ [])) ∷ [];
+}
+
+peeks-legal : (words : List ℕ) → IsLegal (peeks words).setup (peeks words).lost (peeks words).order
+peeks-legal words = record {
+  rising = rising;
+  placed = λ n parent which is. absurd (no_child n parent which is);
+  once = λ m n parent which is stands. absurd (no_child m parent which is);
+}
+  where
+    no_child : (n parent which : ℕ) → slice_get (peeks words).order n ≡ Some (Child parent which) → ⊥
+    no_child zero parent which is = cc
+    no_child (suc n) parent which is = cc
+
+    rising : (m n session k l v w : ℕ) (x y : Work) → m < n → slice_get (peeks words).order m ≡ Some (Line session k v x) → slice_get (peeks words).order n ≡ Some (Line session l w y) → k < l
+    rising m zero session k l v w x y lt is stands = absurd (omega arith)
+    rising m (suc n) session k l v w x y lt is stands = absurd (cc)
+
+peeks-sealed : (words : List ℕ) → IsSealed u (peeks words)
+peeks-sealed words = record { trusted = none_trusted; documents = none_moves; children = none_comes }
+  where
+    none_trusted : TrustedLetNothingDown u (peeks words)
+    none_trusted zero lt trusted done = absurd (true≢false (sym trusted))
+    none_trusted (suc n) lt trusted done = absurd (omega (arith, lt))
+
+    none_moves : NoDocumentComesDown u (peeks words)
+    none_moves zero doc lt low = low
+    none_moves (suc n) doc lt low = absurd (omega (arith, lt))
+
+    none_comes : NoChildComesDown u (peeks words)
+    none_comes zero parent which is low = absurd (cc)
+    none_comes (suc n) parent which is low = absurd (cc)
+
+peeks-alike : KeepTheSame u (peeks (codes "1")) (peeks (codes "2"))
+peeks-alike = record { entries = refl; losses = refl }
+
+peeks-tells : TellTheSame u (peeks (codes "1")) (peeks (codes "2")) → ⊥
+peeks-tells t = absurd (omega (arith, ap (λ p. first_shown p.answer) (t.places 0 0 (lit< tt) (lit< tt) refl refl refl)))
+
+-- ---- two plain histories: ann reads the memo and spawns by it while bob shows the note twice, and bob speaks alone
+
+abbrev beside_ann : List Event
+beside_ann =
+    Opens ann ∷ Opens bob ∷ Admits 0 1 chooses ∷ Admits 1 1 shows_note ∷ Starts 0 ∷ Ends 0 ∷ Admits 1 2 shows_note
+    ∷ Starts 1 ∷ Ends 1 ∷ Starts 2 ∷ Ends 2 ∷ Starts 3 ∷ Ends 3 ∷ []
+
+abbrev alone : List Event
+alone = Opens ann ∷ Opens bob ∷ Admits 1 1 shows_note ∷ Admits 1 2 shows_note ∷ Starts 0 ∷ Ends 0 ∷ Starts 1 ∷ Ends 1 ∷ []
+
+abbrev one : State
+one = after (with_memo (policy false false u) (codes "1")) beside_ann
+
+abbrev two : State
+two = after (with_memo (policy false false u) (codes "2")) alone
+
+one-order : one.order ≡ Line 0 1 ann chooses ∷ Line 1 1 bob shows_note ∷ Child 0 1 ∷ Line 1 2 bob shows_note ∷ []
+one-order = refl
+
+one-kept : kept_entries u (history_of one) ≡ Line 1 1 bob shows_note ∷ Line 1 2 bob shows_note ∷ []
+one-kept = refl
+
+one-reached : IsReached one
+one-reached =
+    reached (with_memo (policy false false u) (codes "1")) beside_ann (
+      (lit< tt, lit< tt),
+      (
+        (lit< tt, lit< tt),
+        (
+          (lit< tt, chooses_is_readable, lit< tt, lit< tt, lit≤ tt),
+          (
+            (lit< tt, shows_note_is_readable, lit< tt, lit< tt, lit≤ tt),
+            (
+              next_may_start _ 0 (lit< tt) refl refl,
+              (
+                refl,
+                (
+                  (lit< tt, shows_note_is_readable, lit< tt, lit< tt, lit≤ tt),
+                  (next_may_start _ 1 (lit< tt) refl refl, (refl, (next_may_start _ 2 (lit< tt) refl refl, (refl, (next_may_start _ 3 (lit< tt) refl refl, (refl, tt)))))),
+                ),
+              ),
+            ),
+          ),
+        ),
+      ),
+    )
+
+two-reached : IsReached two
+two-reached =
+    reached (with_memo (policy false false u) (codes "2")) alone (
+      (lit< tt, lit< tt),
+      (
+        (lit< tt, lit< tt),
+        (
+          (lit< tt, shows_note_is_readable, lit< tt, lit< tt, lit≤ tt),
+          (
+            (lit< tt, shows_note_is_readable, lit< tt, lit< tt, lit≤ tt),
+            (next_may_start _ 0 (lit< tt) refl refl, (refl, (next_may_start _ 1 (lit< tt) refl refl, (refl, tt)))),
+          ),
+        ),
+      ),
+    )
+
+one-plain : IsPlain (history_of one)
+one-plain = record { untrusted = untrusted; levels_stay = levels_stay }
+  where
+    untrusted : (n : ℕ) → n < 4 → is_trusted (policy false false u) (place_in (history_of one) n).subject ≡ false
+    untrusted zero lt = refl
+    untrusted (suc zero) lt = refl
+    untrusted (suc (suc zero)) lt = refl
+    untrusted (suc (suc (suc zero))) lt = refl
+    untrusted (suc (suc (suc (suc n)))) lt = absurd (omega (arith, lt))
+
+    levels_stay : (n : ℕ) → n < 4 → changes_a_level (place_in (history_of one) n).task ≡ false
+    levels_stay zero lt = refl
+    levels_stay (suc zero) lt = refl
+    levels_stay (suc (suc zero)) lt = refl
+    levels_stay (suc (suc (suc zero))) lt = refl
+    levels_stay (suc (suc (suc (suc n)))) lt = absurd (omega (arith, lt))
+
+two-plain : IsPlain (history_of two)
+two-plain = record { untrusted = untrusted; levels_stay = levels_stay }
+  where
+    untrusted : (n : ℕ) → n < 2 → is_trusted (policy false false u) (place_in (history_of two) n).subject ≡ false
+    untrusted zero lt = refl
+    untrusted (suc zero) lt = refl
+    untrusted (suc (suc n)) lt = absurd (omega (arith, lt))
+
+    levels_stay : (n : ℕ) → n < 2 → changes_a_level (place_in (history_of two) n).task ≡ false
+    levels_stay zero lt = refl
+    levels_stay (suc zero) lt = refl
+    levels_stay (suc (suc n)) lt = absurd (omega (arith, lt))
+
+-- they agree on what is low, and the same is kept of both: what the law on states supposes is met
+one-two-agree : AgreeLow u one.setup two.setup
+one-two-agree = memos-agree false false
+
+one-two-alike : KeepTheSame u (history_of one) (history_of two)
+one-two-alike = record { entries = refl; losses = refl }
+
+-- bob shows the note in both
+one-shown : (place_in (history_of one) 3).answer ≡ Done (codes "n" ∷ [])
+one-shown = refl
+
+two-shown : (place_in (history_of two) 1).answer ≡ Done (codes "n" ∷ [])
+two-shown = refl

@@ -1,0 +1,5 @@
+use Rattle.bl_flow.proofs.Told.{tell-the-same}
+use Rattle.bl_flow.proofs.laws.low_subjects_are_told_the_same.Goals as goal
+
+pub returns : goal.returns
+returns c = tell-the-same c.low_places_stand_alone.ensures

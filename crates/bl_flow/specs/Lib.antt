@@ -1,0 +1,4 @@
+pub mod Low
+pub mod Purge
+pub mod Sealed
+pub mod Flow

@@ -1,0 +1,44 @@
+-- A history without its high places (Goguen and Meseguer 1982, noninterference: the commands of other users are purged).
+use Rattle.std.specs.Prelude.{◌≡◌, ℕ, zero, suc, Bool, false, ◌||◌, if◌then◌else◌, List, [], ◌∷◌, ◌++◌, length, slice_index_or}
+use Rattle.bl_level.specs.Level.{SecurityLevel}
+use Rattle.bl_setup.specs.Setup.{Setup}
+use Rattle.bl_order.specs.Order.{Entry, Line, Child, is_rule}
+use Rattle.bl_order.specs.Past.{no_entry}
+use Rattle.bl_flow.specs.Low.{History, place_in, is_low_place}
+
+module _ (level : SecurityLevel) (history : History) where
+  -- low places are kept, and so are all rules (own choice: the policy is known to everyone)
+  abbrev pub is_kept : ℕ → Bool
+  is_kept n = is_rule (place_in history n).task || is_low_place level history n
+
+  -- how many places before n are kept: where n stands among them, if it is kept
+  abbrev pub kept_before : ℕ → ℕ
+  kept_before zero = 0
+  kept_before (suc n) = if is_kept n then suc (kept_before n) else kept_before n
+
+  -- of what is said of each place before n, what is said of those that are kept, in order
+  abbrev pub of_kept : {X : Type 0} → (ℕ → X) → ℕ → List X
+  of_kept said zero = []
+  of_kept said (suc n) = if is_kept n then of_kept said n ++ said n ∷ [] else of_kept said n
+
+  -- a child names its parent by where that stands among those that are kept
+  abbrev pub renumbered : Entry → Entry
+  renumbered (Line session ordinal subject work) = Line session ordinal subject work
+  renumbered (Child parent which) = Child (kept_before parent) which
+
+  -- the entries that are kept
+  abbrev pub kept_entries : List Entry
+  kept_entries = of_kept (λ n. renumbered (slice_index_or history.order n no_entry)) (length history.order)
+
+  -- whether each of them is lost
+  abbrev pub kept_losses : List Bool
+  kept_losses = of_kept history.lost (length history.order)
+
+  -- the purged history: what is kept, from this setup on
+  abbrev pub purged : Setup → History
+  purged setup = record { setup = setup; lost = λ n. slice_index_or kept_losses n false; order = kept_entries }
+
+-- the same is kept of both histories: the same entries in the same order, and the same of them are lost
+pub record KeepTheSame (level : SecurityLevel) (one two : History) : Type 0 where
+  pub entries : kept_entries level one ≡ kept_entries level two
+  pub losses : kept_losses level one ≡ kept_losses level two

@@ -1,0 +1,72 @@
+//! What low subjects are told, whoever else speaks.
+ghost use Rattle.std.specs.Prelude.{ℕ};
+ghost use Rattle.bl_level.specs.Level.{SecurityLevel};
+ghost use Rattle.bl_setup.specs.Setup.{Setup};
+ghost use Rattle.bl_order.specs.Headline.{IsReached};
+ghost use Rattle.bl_order.specs.Machine.{State};
+ghost use Rattle.bl_flow.specs.Flow.{StandsAlone, TellTheSame};
+ghost use Rattle.bl_flow.specs.Low.{AgreeLow, History, history_of};
+ghost use Rattle.bl_flow.specs.Purge.{KeepTheSame};
+ghost use Rattle.bl_flow.specs.Sealed.{IsPlain, IsPossible, IsSealed};
+
+use bl_level::level::dominates_means_dominance;
+use bl_order::laws::{
+    children_follow_their_parent, headline, rules_make_the_policy, tasks_are_of_scripts,
+};
+use bl_policy::laws::first_fault_is_the_first;
+use bl_work::laws::blind_append;
+
+/// Goguen and Meseguer 1982, noninterference, of what the star property of Bell and La Padula 1976 is for: low subjects are
+/// told what they would be told if all others were silent, but for their rules, and the documents that are not low had any
+/// contents.
+pub fn low_places_stand_alone()
+    ensures { (level : SecurityLevel) (history : History) (setup : Setup) →
+        IsPossible history → IsSealed level history → AgreeLow level history.setup setup →
+        StandsAlone level history setup }
+{
+    dominates_means_dominance();
+    blind_append();
+    first_fault_is_the_first();
+    children_follow_their_parent();
+    rules_make_the_policy();
+}
+
+/// Two histories that differ only in what is not kept, and in contents of documents that are not low, tell low subjects the
+/// same.
+pub fn low_subjects_are_told_the_same()
+    ensures { (level : SecurityLevel) (one two : History) →
+        IsPossible one → IsPossible two → IsSealed level one → IsSealed level two →
+        AgreeLow level one.setup two.setup → KeepTheSame level one two →
+        TellTheSame level one two }
+{
+    low_places_stand_alone();
+}
+
+/// Where no trusted subject speaks and no rule changes a level, a history is sealed at every level.
+pub fn plain_histories_are_sealed()
+    ensures { (level : SecurityLevel) (history : History) →
+        IsPossible history → IsPlain history → IsSealed level history }
+{
+    children_follow_their_parent();
+    rules_make_the_policy();
+}
+
+/// In each state that a trail leads to the order is legal, and its places run behaviours of scripts or apply rules.
+pub fn reached_orders_bring_scripts()
+    ensures { (x : State) → IsReached x → IsPossible (history_of x) }
+{
+    headline();
+    tasks_are_of_scripts();
+}
+
+/// For every two trails whose histories are sealed: where the states that they lead to differ only in what is not kept, and
+/// in contents of documents that are not low, low subjects are told the same.
+pub fn states_tell_low_subjects_the_same()
+    ensures { (level : SecurityLevel) (x y : State) →
+        IsReached x → IsReached y → IsSealed level (history_of x) → IsSealed level (history_of y) →
+        AgreeLow level x.setup y.setup → KeepTheSame level (history_of x) (history_of y) →
+        TellTheSame level (history_of x) (history_of y) }
+{
+    low_subjects_are_told_the_same();
+    reached_orders_bring_scripts();
+}
