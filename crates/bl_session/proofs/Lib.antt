@@ -16,3 +16,4 @@ pub mod SettleLaws
 pub mod ReplyLaws
 pub mod ServeLaws
 pub mod TrailLaws
+pub mod TranscriptLaws

@@ -4,6 +4,7 @@ pub mod OneTrail
 pub mod Whole
 pub mod Blocks
 pub mod Transcript
+pub mod Transcripts
 pub mod Outcome
 pub mod Entries
 pub mod Orders
