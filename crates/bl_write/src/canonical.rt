@@ -4,6 +4,9 @@ ghost use Rattle.bl_work.specs.Names.{KnownNames, AreNames};
 ghost use Rattle.bl_work.specs.Statements.{Part};
 ghost use Rattle.bl_work.specs.Script.{IsScript};
 ghost use Rattle.bl_work.specs.LineGrammar.{LineOf};
+ghost use Rattle.bl_work.specs.Readable.{IsReadable};
+ghost use Rattle.bl_work.specs.declared.work.Work as asked_work;
+ghost use Rattle.bl_write.specs.CanonicalLine.{canonical_line};
 ghost use Rattle.bl_policy.specs.declared.rule.Rule as asked_rule;
 ghost use Rattle.bl_write.specs.Known.{canonical_script, IsKnown, canonical_rule, IsKnownRule};
 ghost use Rattle.bl_work.specs.declared.asked.Line.TheVariants.{Work};
@@ -45,4 +48,18 @@ pub fn canonical_rule_is_shortest()
         → length (canonical_rule names rule) ≤ length bytes }
 {
     canonical_is_shortest();
+}
+
+/// The canonical text of each work that some text reads as reads as it again.
+pub fn canonical_works_read_again()
+    ensures { (names : KnownNames) (work : asked_work.Work) → AreNames names → IsReadable names work
+        → LineOf names (canonical_line names (Work work)) (Work work) }
+{
+    canonical_reads_again();
+    canonical_is_shortest();
+    read_tokens_are_proper();
+    canonical_script_reads_again();
+    canonical_script_is_shortest();
+    canonical_rule_reads_again();
+    canonical_rule_is_shortest();
 }

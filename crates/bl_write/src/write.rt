@@ -185,6 +185,8 @@ pub fn write_line(alloc: Global, names: &Names, line: &Line) -> Result<Vec<u8>, 
     ensures shortest { IfOk result (λ text. (bytes : List ℕ) → LineOf names.now bytes line.now → length text.items ≤ length bytes) }
     // The text has no blank but one space between two words, no `else` before an empty body, and categories in the scheme's order.
     ensures canonical { IfOk result (λ text. IsCanonicalOf names.now text.items line.now) }
+    // It is the one canonical text of the line.
+    ensures one { IfOk result (λ text. text.items ≡ canonical_line names.now line.now) }
 {
     // asked for the proof alone: no name stands twice in a table
     let _ = names.scheme();
