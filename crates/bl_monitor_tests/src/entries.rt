@@ -110,12 +110,15 @@ fn check_counts_children_that_were_spawned(
 else spawn when read note do show note; end; end; end";
     assert!(rt; ann_is_shown(monitor, alloc, line, &[])?);
     assert_eq!(rt; monitor.children(0), Some(1));
+    assert_eq!(rt; monitor.spawned(0), [2].as_slice());
     assert!(rt; child_is_shown(monitor, 0, 1, &[b"n1"])?);
     assert_eq!(rt; monitor.children(1), Some(0));
+    assert!(rt; monitor.spawned(1).is_empty());
+    assert!(rt; monitor.spawned(2).is_empty());
     Ok(())
 }
 
-/// The children of the branch that did not run aren't counted.
+/// The children of the branch that did not run aren't counted: the third behaviour of the line is spawned, and not the second.
 #[test]
 fn counts_children_that_were_spawned(rt: HostRuntime) -> Result<(), Fail> {
     let mut monitor = base_monitor(rt.alloc())?;
@@ -145,6 +148,8 @@ fn check_no_child_of_what_did_not_run(
     assert!(rt; ann_is_denied_note(monitor, alloc, line)?);
     assert!(rt; is_lost(monitor, alloc, ADD_AND_SPAWN)?);
     assert!(rt; are_no_children(monitor, &[(0, 1), (1, 1)]));
+    assert!(rt; monitor.spawned(0).is_empty());
+    assert!(rt; monitor.spawned(1).is_empty());
     assert!(rt; ann_is_shown(monitor, alloc, SHOW_MEMO, &[b"m1"])?);
     Ok(())
 }
