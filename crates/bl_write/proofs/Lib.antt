@@ -11,3 +11,4 @@ pub mod ReadAgain
 pub mod Counting
 pub mod RulesWritten
 pub mod RulesSpelled
+pub mod PlainLines

@@ -1,10 +1,12 @@
-//! Laws of the canonical text of a script or a rule: it is read again from it, and no text of it is shorter.
-ghost use Rattle.std.specs.Prelude.{◌≤◌, ℕ, List, All, length};
+//! Laws of the canonical text of a script or a rule: it is read again from it, and no text of it is shorter; and that no text of
+//! a line has an LF.
+ghost use Rattle.std.specs.Prelude.{◌≤◌, ◌≢◌, ℕ, List, All, length};
 ghost use Rattle.bl_work.specs.Names.{KnownNames, AreNames};
 ghost use Rattle.bl_work.specs.Statements.{Part};
 ghost use Rattle.bl_work.specs.Script.{IsScript};
 ghost use Rattle.bl_work.specs.LineGrammar.{LineOf};
 ghost use Rattle.bl_work.specs.Readable.{IsReadable};
+ghost use Rattle.bl_work.specs.declared.asked.Line as asked_line;
 ghost use Rattle.bl_work.specs.declared.work.Work as asked_work;
 ghost use Rattle.bl_write.specs.CanonicalLine.{canonical_line};
 ghost use Rattle.bl_policy.specs.declared.rule.Rule as asked_rule;
@@ -63,3 +65,8 @@ pub fn canonical_works_read_again()
     canonical_rule_reads_again();
     canonical_rule_is_shortest();
 }
+
+/// No text of a line has an LF.
+pub fn lines_have_no_lf()
+    ensures { (names : KnownNames) (bytes : List ℕ) (line : asked_line.Line) → LineOf names bytes line → All (λ b. b ≢ 10) bytes }
+{}
