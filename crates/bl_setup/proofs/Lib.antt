@@ -16,3 +16,4 @@ pub mod TakingLemmas
 pub mod HeadFaults
 pub mod DraftFaults
 pub mod LedLemmas
+pub mod SomeAnswer

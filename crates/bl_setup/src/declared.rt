@@ -1,10 +1,11 @@
 //! What a setup file declares, as whole lists; and that its text has one answer.
 ghost use Rattle.std.specs.Prelude.{◌↔◌, ◌≤◌, ℕ, List, length};
-ghost use Rattle.bl_setup.specs.FirstFault.{HasOneAnswer, LeadTo, declared, nothing};
+ghost use Rattle.bl_setup.specs.FirstFault.{FirstFault, HasOneAnswer, LeadTo, declared, nothing};
 ghost use Rattle.bl_setup.specs.Setup as setups;
 ghost use Rattle.bl_setup.specs.Grammar.{IsSetup};
 ghost use Rattle.bl_setup.specs.Lines.{file_lines};
 ghost use Rattle.bl_setup.specs.WholeLists.{IsDeclared};
+ghost use Rattle.bl_setup.specs.declared.fault.SetupFault as faults;
 
 /// A setup's subjects and documents are those that its text declares, in order, with the levels and the contents of their
 /// lines.
@@ -15,6 +16,12 @@ pub fn a_setup_is_declared()
 /// A text has at most one answer: no two setups, no two first faults, and not both.
 pub fn a_text_has_one_answer()
     ensures { (bytes : List ℕ) → HasOneAnswer bytes }
+{}
+
+/// A text does not lack both: one that is no setup has a first fault.
+pub fn a_text_has_some_answer()
+    ensures { (bytes : List ℕ) → ((setup : setups.Setup) → IsSetup bytes setup → ⊥) →
+        ((fault : faults.SetupFault) → FirstFault bytes fault → ⊥) → ⊥ }
 {}
 
 /// A text that is not too large is a setup exactly where its lines lead to it, one after the other: what a setup is and where

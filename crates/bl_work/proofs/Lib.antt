@@ -16,3 +16,4 @@ pub mod WhenFaults
 pub mod KnownLines
 pub mod Widths
 pub mod AskedScripts
+pub mod MeantLevels
