@@ -1,3 +1,4 @@
+pub mod Same
 pub mod Runs
 pub mod Words
 pub mod Fronts

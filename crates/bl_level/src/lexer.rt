@@ -1,6 +1,6 @@
 // From bytes to tokens. A token is the longest that its first byte can begin, and blanks stand between tokens.
 
-ghost use Rattle.std.specs.Prelude.{◌≡◌, ◌≢◌, ◌≤◌, ◌∷◌, [], length, Some, None, IfSome, IfNone, IfOk};
+ghost use Rattle.std.specs.Prelude.{◌≡◌, ◌≢◌, ◌≤◌, ◌↔◌, ◌∷◌, [], length, Some, None, IsTrue, IfSome, IfNone, IfOk};
 ghost use Rattle.bl_level.specs.declared.token.Keyword.{Keyword};
 ghost use Rattle.bl_level.specs.Token.{tok, toks};
 ghost use Rattle.std.specs.List.{list_all};
@@ -108,12 +108,28 @@ fn word_run_len(bytes: &[u8]) -> usize
     end
 }
 
-/// Whether the bytes are these. Inlined where these are a constant it is a few comparisons.
+/// Whether these are the same bytes. Inlined where one side is a constant, it is a comparison of each byte, with no call and no loop.
+#[inline(always)]
+fn are_same(these: &[u8], those: &[u8]) -> bool
+    ensures { IsTrue result ↔ (these.now ≡ those.now) }
+{
+    if these.len() != those.len() {
+        return false;
+    }
+    for (i, byte) in these.iter().enumerate() {
+        if *byte != those[i] {
+            return false;
+        }
+    }
+    true
+}
+
+/// Whether the bytes are these, as a test that computes.
 #[inline(always)]
 fn are(bytes: &[u8], these: &[u8]) -> bool
     ensures { result ≡ bytes_eq these.now bytes.now }
 {
-    these == bytes
+    are_same(these, bytes)
 }
 
 // The reserved words by their first letter, in the order in which the definition lists them.
