@@ -10,3 +10,4 @@ pub mod RuleMeanings
 pub mod Declared
 pub mod Few
 pub mod Uses
+pub mod SomeLine

@@ -104,3 +104,9 @@ pub fn one_answer()
     one_fault();
     one_when_fault();
 }
+
+/// A line does not lack both: one that asks nothing has a fault.
+pub fn some_answer()
+    ensures { (names : KnownNames) (bytes : List ℕ) → ((l : AskedLine) → LineOf names bytes l → ⊥)
+        → ((f : LineFault) → IsLineFault names bytes f → f ≢ Memory → ⊥) → ⊥ }
+{}
