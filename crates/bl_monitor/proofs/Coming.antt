@@ -18,7 +18,7 @@ use Rattle.bl_monitor.specs.declared.monitor.Entry.{Entry}
 use Rattle.bl_monitor.specs.declared.monitor.Entry.TheVariants as entry
 use Rattle.bl_monitor.specs.declared.place.Admitted.{Admitted}
 use Rattle.bl_monitor.specs.declared.place.Place.{Place}
-use Rattle.bl_monitor.specs.Heard.{Heard, is_lost, place_at, IsChild, MayCome, KnowsWork, Knows, lost_of, children_of, spawned_by, fault_of, answer_at}
+use Rattle.bl_monitor.specs.Heard.{Heard, is_lost, place_at, IsChild, MayCome, Knows, lost_of, children_of, spawned_by, fault_of, answer_at}
 use Rattle.bl_monitor.specs.Heard as heard
 use Rattle.bl_monitor.specs.Kept.{spawned_of}
 use Rattle.bl_monitor.specs.Places as kept
@@ -28,7 +28,7 @@ use Rattle.std.proofs.lemmas.List.{map-append}
 use Rattle.bl_monitor.specs.declared.judge.Judged.{Judged}
 use Rattle.bl_monitor.specs.Undoing.{content_at}
 use Rattle.bl_monitor.specs.Judging.{HasBelow, IsJudged, IsKnown, Leaves, content_behind, record_of}
-use Rattle.bl_monitor.specs.Heard.{KnowsAnswer}
+use Rattle.bl_order.specs.Known.{KnowsAnswer, KnowsWork}
 use Rattle.bl_monitor.proofs.Ids.{task_ids, answer_ids}
 use Rattle.bl_monitor.proofs.Keeps.{as_many_ruled, length-mapped, sound_more, answer_more}
 

@@ -19,7 +19,7 @@ use Rattle.bl_work.specs.declared.work.Work.TheVariants as work
 use Rattle.bl_setup.specs.Setup.{Setup}
 use Rattle.bl_order.specs.Order.{Task, Runs, Applies}
 use Rattle.bl_order.specs.Past.{answer_of, fault_of_task, first_task, child_task}
-use Rattle.bl_monitor.specs.Heard.{KnowsDenial, KnowsAnswer}
+use Rattle.bl_order.specs.Known.{KnowsDenial, KnowsAnswer}
 use Rattle.bl_monitor.specs.Judging.{HasBelow}
 
 module _ (setup : Setup) (p : SecurityPolicy) (s : ℕ) (known : s < length setup.policy.subjects) where

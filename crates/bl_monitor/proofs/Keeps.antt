@@ -25,8 +25,9 @@ use Rattle.bl_monitor.specs.declared.place.Admitted.{Admitted}
 use Rattle.bl_monitor.specs.declared.place.Place.{Place}
 use Rattle.bl_monitor.specs.declared.judge.Judged.{Judged}
 use Rattle.bl_monitor.specs.Heard.{Heard, is_lost}
+use Rattle.bl_order.specs.Known.{AreBelow}
 use Rattle.bl_monitor.specs.Undoing.{content_at}
-use Rattle.bl_monitor.specs.Judging.{AreBelow, HasBelow, Leaves, content_behind, record_of, IsJudged}
+use Rattle.bl_monitor.specs.Judging.{HasBelow, Leaves, content_behind, record_of, IsJudged}
 use Rattle.bl_monitor.specs.Places as kept
 use Rattle.bl_monitor.specs.Places.{no_place, script_of, HasScript}
 use Rattle.bl_monitor.specs.Sound.{heard_of, pasts_of, policy_at, IsRight, Tells, IsSound}

@@ -7,4 +7,3 @@ pub mod Keeps
 pub mod Coming
 pub mod Errors
 pub mod Ids
-pub mod ReadLines

@@ -1,20 +1,16 @@
 -- What a monitor has been told, and what the definitions of the order say of it.
-use Rattle.std.specs.Prelude.{◌≡◌, ℕ, ◌<◌, ◌≤◌, Bool, true, false, ◌&&◌, if◌then◌else◌, nat_lt, List, [], ◌∷◌, ◌++◌, length, slice_index_or, Option, Some, None, ⊤, IfSome}
+use Rattle.std.specs.Prelude.{◌≡◌, ℕ, ◌<◌, ◌≤◌, Bool, true, false, ◌&&◌, if◌then◌else◌, nat_lt, List, [], ◌∷◌, ◌++◌, length, slice_index_or, Option, Some, None}
 use Rattle.bl_policy.specs.FirstFault.{first_fault}
 use Rattle.bl_policy.specs.Policy.{SecurityPolicy}
-use Rattle.bl_policy.specs.RuleEffect.{IsRuleOf}
 use Rattle.bl_policy.specs.declared.denial.Denial.{Denial}
 use Rattle.bl_work.specs.Effects.{children}
 use Rattle.bl_work.specs.declared.answer.Answer.{Answer}
-use Rattle.bl_work.specs.declared.answer.Answer.TheVariants as answer
-use Rattle.bl_work.specs.declared.work.Work.{Work}
-use Rattle.bl_work.specs.declared.work.Work.TheVariants as work
 use Rattle.bl_order.specs.Order as order
 use Rattle.bl_setup.specs.Setup.{Setup}
 use Rattle.bl_order.specs.Order.{accesses_of}
 use Rattle.bl_order.specs.Past.{Past, place, policy_before, is_done}
 use Rattle.bl_order.specs.Legal.{child_count}
-use Rattle.bl_monitor.specs.Judging.{AreBelow}
+use Rattle.bl_order.specs.Known.{KnowsWork}
 use Rattle.bl_monitor.specs.declared.monitor.Entry.{Entry}
 use Rattle.bl_monitor.specs.declared.monitor.Entry.TheVariants as entry
 
@@ -48,23 +44,6 @@ lost_of (entry.Child parent which lost) = lost
 -- one entry more
 abbrev pub with_entry : Heard → Entry → Heard
 with_entry heard e = record heard { order = heard.order ++ entry_of e ∷ []; lost = heard.lost ++ lost_of e ∷ [] }
-
--- the ids of a work are in the setup
-abbrev pub KnowsWork : Setup → Work → Type 0
-KnowsWork setup (work.Behaviour script) = AreBelow (length setup.policy.documents) script
-KnowsWork setup (work.Rule rule) = IsRuleOf setup.policy rule
-
--- the subject and the document of a denial are in the setup
-pub record KnowsDenial (setup : Setup) (denial : Denial) : Type 0 where
-  pub subject : denial.subject < length setup.policy.subjects
-  pub object : IfSome denial.object (λ doc. doc < length setup.policy.documents)
-
--- the ids that an answer names are in the setup
-abbrev pub KnowsAnswer : Setup → Answer → Type 0
-KnowsAnswer setup (answer.Done outputs) = ⊤
-KnowsAnswer setup answer.RuleDone = ⊤
-KnowsAnswer setup (answer.Denied denial) = KnowsDenial setup denial
-KnowsAnswer setup answer.Lost = ⊤
 
 -- the ids of an entry are in the setup
 abbrev pub Knows : Setup → Entry → Type 0

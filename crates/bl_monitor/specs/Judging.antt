@@ -13,14 +13,11 @@ use Rattle.bl_work.specs.declared.work.Work.{Work}
 use Rattle.bl_work.specs.declared.work.Work.TheVariants as work
 use Rattle.bl_order.specs.Order.{Task, accesses_of, is_altered}
 use Rattle.bl_order.specs.Past.{Past, judged, deeds, lent, is_done}
+use Rattle.bl_order.specs.Known.{AreBelow}
 use Rattle.bl_monitor.specs.Kept.{spawned_of}
 use Rattle.bl_monitor.specs.Undoing.{content_at}
 use Rattle.bl_monitor.specs.declared.place.Admitted.{Admitted}
 use Rattle.bl_monitor.specs.declared.judge.Judged.{Judged}
-
--- each document that the script declares is below this count
-abbrev pub AreBelow : ℕ → List Part → Type 0
-AreBelow documents script = All (λ (part : Part). All (λ (access : Access). access.doc < documents) part.accesses) script
 
 -- the ids of a work are below these counts, and its script has the behaviour
 abbrev pub HasBelow : ℕ → ℕ → Work → ℕ → Type 0

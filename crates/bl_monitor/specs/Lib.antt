@@ -4,6 +4,5 @@ pub mod Kept
 pub mod Places
 pub mod Judging
 pub mod Heard
-pub mod HeardCodes
 pub mod Sound
 pub mod Faults

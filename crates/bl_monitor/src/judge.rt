@@ -4,7 +4,8 @@ ghost use Rattle.bl_policy.specs.RuleEffect.{IsRuleOf};
 ghost use Rattle.bl_work.specs.Statements.{no_part};
 ghost use Rattle.bl_order.specs.Order.{Runs, Applies};
 ghost use Rattle.bl_order.specs.Past.{changed};
-ghost use Rattle.bl_monitor.specs.Judging.{AreBelow, IsKnown, IsJudged, IsDone, IsIdle, Leaves, left_by, content_behind, record_of};
+ghost use Rattle.bl_order.specs.Known.{AreBelow};
+ghost use Rattle.bl_monitor.specs.Judging.{IsKnown, IsJudged, IsDone, IsIdle, Leaves, left_by, content_behind, record_of};
 ghost use Rattle.bl_monitor.specs.Places.{task_of};
 
 use crate::place::Admitted;

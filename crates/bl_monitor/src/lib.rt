@@ -7,11 +7,9 @@
 //!     judge      what an entry is answered, and what it changes
 //!     run        a behaviour while it runs
 //!     text       what a condition asks of a text
-//!     laws       what holds of entries, whoever answers them
 #![tactic(auto)]
 
 mod judge;
-pub mod laws;
 pub mod monitor;
 mod place;
 mod run;

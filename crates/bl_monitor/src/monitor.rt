@@ -71,7 +71,7 @@ impl Model for Monitor {
     ghost use Rattle.std.specs.Coded.{codes, coded_list};
     ghost use Rattle.bl_policy.specs.Codes.{matrix_code};
     ghost use Rattle.bl_monitor.specs.Heard.{Heard};
-    ghost use Rattle.bl_monitor.specs.HeardCodes.{coded_entry};
+    ghost use Rattle.bl_order.specs.Codes.{coded_entry};
 
     ghost Value = { Heard };
 
@@ -174,7 +174,8 @@ fn keep(places: &mut Vec<Place>, admitted: Admitted, judged: Judged) -> Answer
 impl Monitor {
     ghost use Rattle.std.specs.Arc.{arc_value};
     ghost use Rattle.std.specs.Prelude.{◌≡◌, ◌↔◌, length, [], IfOk, OnOk, OnErr, IsErrOf};
-    ghost use Rattle.bl_monitor.specs.Heard.{Knows, KnowsAnswer, MayCome, with_entry, answer_at, children_of, spawned_by, fault_of};
+    ghost use Rattle.bl_order.specs.Known.{KnowsAnswer};
+    ghost use Rattle.bl_monitor.specs.Heard.{Knows, MayCome, with_entry, answer_at, children_of, spawned_by, fault_of};
     ghost use Rattle.bl_monitor.specs.declared.monitor.MonitorFault.TheVariants as faults;
 
     /// A monitor of an empty order over this setup.

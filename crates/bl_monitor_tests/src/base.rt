@@ -2,8 +2,8 @@
 ghost use Rattle.std.specs.Prelude.{IfOk};
 ghost use Rattle.bl_monitor.specs.Heard.{Knows};
 
-use bl_monitor::laws::read_lines_are_in_the_setup;
 use bl_monitor::monitor::{Entry, Monitor, MonitorFault};
+use bl_order::laws::read_lines_are_in_the_setup;
 use bl_policy::denial::{Clause, Denial};
 use bl_policy::id::{DocId, SubjectId};
 use bl_read::line::read_line;

@@ -19,3 +19,4 @@ pub mod SpawnedPlaces
 pub mod RoomProof
 pub mod AtHandLaws
 pub mod ClaimLaws
+pub mod ReadLines

@@ -9,3 +9,5 @@ pub mod Legal
 pub mod Headline
 pub mod Room
 pub mod AtHand
+pub mod Known
+pub mod Codes

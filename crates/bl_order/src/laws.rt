@@ -2,15 +2,20 @@
 ghost use Rattle.std.specs.Prelude.{◌≡◌, ◌↔◌, ℕ, ◌+◌, ◌<◌, ◌≤◌, All, Bool, IsTrue, List, length, map, slice_get, Some};
 ghost use Rattle.bl_order.specs.AtHand.{ParentsHaveEnded, RestsOnEndedPlaces};
 ghost use Rattle.bl_order.specs.Claims.{AreFewAndApart, numbered_claims, numbers_conflict};
+ghost use Rattle.bl_order.specs.Known.{KnowsWork};
 ghost use Rattle.bl_order.specs.Headline.{Holds, IsReached, MovesOn};
 ghost use Rattle.bl_order.specs.Laws.{FollowsItsParent, IsAnswered, IsClosed, KeepsPlaces, LeavesThePolicy, LooksBack, RestsOnEnded, RestsOnLossesBefore, RulesMakeThePolicy, RulesStandAlone};
 ghost use Rattle.bl_order.specs.Machine.{Event, MayStart, Needs, State, change, children_at, may_start, past_at, runs, start};
 ghost use Rattle.bl_order.specs.Order.{Child, Entry, Task, accesses_of, conflict, unnamed};
 ghost use Rattle.bl_order.specs.Past.{place};
 ghost use Rattle.bl_order.specs.Room.{HasRoom, IsBehaviourOrRule};
+ghost use Rattle.bl_setup.specs.Agreement.{Agree};
 ghost use Rattle.bl_setup.specs.Setup.{Setup};
+ghost use Rattle.bl_work.specs.LineGrammar.{LineOf};
+ghost use Rattle.bl_work.specs.declared.asked.Line.TheVariants as asked;
+ghost use Rattle.bl_work.specs.declared.work.Work.{Work};
 
-use bl_work::laws::lines_ask_scripts;
+use bl_work::laws::{lines_ask_scripts, read_lines_are_known};
 
 /// Each place is lost, denied or granted as the policy and the contents at its place say.
 pub fn places_are_answered()
@@ -136,3 +141,13 @@ pub fn claims_go_by_number()
 pub fn each_place_has_a_phase()
     ensures { (x : State) → IsReached x → length x.phases ≡ length x.order }
 {}
+
+/// What a line names is in the setup under whose names it was read, so that the line may be an entry.
+pub fn read_lines_are_in_the_setup()
+    ensures subject { (setup : Setup) (bytes : List ℕ) (subject : ℕ) → Agree setup →
+        LineOf setup.names bytes (asked.Hello subject) → subject < length setup.policy.subjects }
+    ensures work { (setup : Setup) (bytes : List ℕ) (work : Work) → Agree setup →
+        LineOf setup.names bytes (asked.Work work) → KnowsWork setup work }
+{
+    read_lines_are_known()
+}

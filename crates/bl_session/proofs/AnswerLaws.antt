@@ -11,7 +11,8 @@ use Rattle.bl_setup.specs.Setup.{Setup}
 use Rattle.bl_order.specs.Order.{Entry, unnamed}
 use Rattle.bl_order.specs.Past.{Past, place, no_entry, is_done}
 use Rattle.bl_order.proofs.PlaceLaws.{place-unnamed}
-use Rattle.bl_monitor.specs.Heard.{Heard, place_at, answer_at, children_of, with_entry, KnowsAnswer}
+use Rattle.bl_monitor.specs.Heard.{Heard, place_at, answer_at, children_of, with_entry}
+use Rattle.bl_order.specs.Known.{KnowsAnswer}
 use Rattle.bl_monitor.specs.Heard as heard
 use Rattle.bl_wire.specs.declared.label.Origin.{Origin}
 use Rattle.bl_wire.specs.declared.label.Origin.TheVariants as origin

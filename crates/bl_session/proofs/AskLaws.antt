@@ -8,7 +8,7 @@ use Rattle.bl_work.specs.declared.work.Work.{Work}
 use Rattle.bl_setup.specs.Setup.{Setup}
 use Rattle.bl_order.specs.Order.{Line}
 use Rattle.bl_order.specs.Machine.{State, state_after, start, weight_of, entry_weight}
-use Rattle.bl_monitor.specs.Heard.{KnowsWork}
+use Rattle.bl_order.specs.Known.{KnowsWork}
 use Rattle.bl_wire.specs.declared.label.Origin.TheVariants as origin
 use Rattle.bl_wire.specs.declared.label.Entered.{Entered}
 use Rattle.bl_session.specs.declared.entries.Pages.{Pages}

@@ -5,7 +5,8 @@ use Rattle.bl_work.specs.declared.answer.Answer.{Answer}
 use Rattle.bl_setup.specs.Setup.{Setup}
 use Rattle.bl_order.specs.Order.{Entry, Child}
 use Rattle.bl_order.specs.Past.{no_entry, is_done}
-use Rattle.bl_monitor.specs.Heard.{Heard, answer_at, children_of, with_entry, Knows, KnowsAnswer}
+use Rattle.bl_monitor.specs.Heard.{Heard, answer_at, children_of, with_entry, Knows}
+use Rattle.bl_order.specs.Known.{KnowsAnswer}
 use Rattle.bl_wire.specs.declared.label.Origin.{Origin}
 use Rattle.bl_wire.specs.declared.label.Origin.TheVariants as origin
 use Rattle.bl_wire.specs.declared.label.Entered.{Entered}

@@ -11,7 +11,7 @@ use Rattle.bl_work.specs.declared.answer.Answer.{Answer}
 use Rattle.bl_work.specs.declared.answer.Answer.TheVariants.{Done, RuleDone, Denied, Lost}
 use Rattle.bl_setup.specs.Agreement.{Agree}
 use Rattle.bl_setup.specs.Setup.{Setup}
-use Rattle.bl_monitor.specs.Heard.{KnowsAnswer}
+use Rattle.bl_order.specs.Known.{KnowsAnswer}
 use Rattle.bl_wire.specs.declared.label.Entered.{Entered}
 use Rattle.bl_session.specs.declared.entries.Pages.{Pages}
 use Rattle.bl_session.specs.declared.block.Block.{Block}

@@ -14,7 +14,8 @@ use Rattle.bl_work.specs.LineGrammar.{Means, LineOf}
 use Rattle.bl_setup.specs.Agreement.{Agree}
 use Rattle.bl_setup.specs.Setup.{Setup}
 use Rattle.bl_order.specs.Machine.{start, entry_weight}
-use Rattle.bl_monitor.specs.Heard.{Heard, KnowsWork}
+use Rattle.bl_monitor.specs.Heard.{Heard}
+use Rattle.bl_order.specs.Known.{KnowsWork}
 use Rattle.bl_session.specs.declared.entries.Pages.{Pages}
 use Rattle.bl_wire.specs.declared.turn.Turn.TheVariants.{Skip, Wait, Greets, Bad, Ask}
 use Rattle.bl_wire.specs.declared.fault.SessionFault.{SessionFault}

@@ -3,7 +3,8 @@ use Rattle.std.specs.Prelude.{◌≡◌, ℕ, zero, suc, ◌+◌, ◌<◌, ◌�
 use Rattle.bl_work.specs.declared.answer.Answer.{Answer}
 use Rattle.bl_setup.specs.Setup.{Setup}
 use Rattle.bl_order.specs.Order.{Entry, Line, Child, unnamed}
-use Rattle.bl_monitor.specs.Heard.{Heard, KnowsWork, KnowsAnswer}
+use Rattle.bl_monitor.specs.Heard.{Heard}
+use Rattle.bl_order.specs.Known.{KnowsWork, KnowsAnswer}
 use Rattle.bl_monitor.specs.Heard as heard
 use Rattle.bl_monitor.specs.declared.monitor.Entry.TheVariants as told
 use Rattle.bl_monitor.specs.declared.monitor.Entry as monitor

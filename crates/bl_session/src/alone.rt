@@ -6,8 +6,8 @@ ghost use Rattle.bl_wire.specs.declared.fault.SessionFault.TheVariants.{Clash};
 
 use crate::entries::{Alone, Pages};
 use crate::session::converse;
-use bl_monitor::laws::read_lines_are_in_the_setup;
 use bl_monitor::monitor::Monitor;
+use bl_order::laws::read_lines_are_in_the_setup;
 use bl_setup::setup::Setup;
 use bl_wire::fault::SessionFault;
 use bl_wire::watched::Watched;

@@ -5,7 +5,7 @@ ghost use Rattle.std.specs.Prelude.{◌≡◌, ◌+◌, ◌<◌, ◌≤◌, ◌+
 ghost use Rattle.std.specs.Arc.{arc_value};
 ghost use Rattle.bl_work.specs.Effects.{children};
 ghost use Rattle.bl_order.specs.Machine.{weight_of};
-ghost use Rattle.bl_monitor.specs.Heard.{KnowsWork};
+ghost use Rattle.bl_order.specs.Known.{KnowsWork};
 ghost use Rattle.bl_session.specs.Orders.{said, told_text, AreLater};
 ghost use Rattle.bl_session.specs.Entries.{order_of, told_of, is_line, AreLabelled, AreAnswered};
 ghost use Rattle.bl_session.specs.Whole.{AreKnown, HasEntered, HasRun, IsWhole, Came};

@@ -7,6 +7,7 @@ pub mod Nesting
 pub mod Script
 pub mod Laws
 pub mod Codes
+pub mod WorkCodes
 pub mod Spelled
 pub mod Meaning
 pub mod WhenFaults

@@ -3,7 +3,8 @@ use Rattle.std.specs.Arc.{arc_value}
 use Rattle.bl_work.specs.Names.{KnownNames}
 use Rattle.bl_setup.specs.Agreement.{Agree}
 use Rattle.bl_setup.specs.Setup.{Setup}
-use Rattle.bl_monitor.specs.Heard.{Heard, KnowsWork}
+use Rattle.bl_monitor.specs.Heard.{Heard}
+use Rattle.bl_order.specs.Known.{KnowsWork}
 use Rattle.bl_wire.specs.Turns.{AreServed}
 use Rattle.bl_session.specs.Orders.{told_text, AreLater}
 use Rattle.bl_session.specs.Entries.{order_of}

@@ -1,7 +1,8 @@
 use Rattle.std.proofs.Common.{◌≡◌, [], ◌∷◌, ◌++◌, length, sym, ◌∙◌, ap, subst, arith}
 use Rattle.std.specs.Arc.{arc_value}
 use Rattle.std.proofs.lemmas.Result.{err_from_is_err_and}
-use Rattle.bl_monitor.specs.Heard.{MayCome, Knows, KnowsAnswer, answer_at}
+use Rattle.bl_monitor.specs.Heard.{MayCome, Knows, answer_at}
+use Rattle.bl_order.specs.Known.{KnowsAnswer}
 use Rattle.bl_monitor.specs.Judging.{IsJudged, IsKnown, Leaves, content_behind, record_of}
 use Rattle.bl_monitor.specs.Places.{task_of}
 use Rattle.bl_monitor.specs.Sound.{IsAdmitted, CanCome, IsSound, heard_of}

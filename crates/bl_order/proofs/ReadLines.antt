@@ -10,8 +10,7 @@ use Rattle.bl_work.specs.declared.work.Work.TheVariants.{Behaviour, Rule}
 use Rattle.bl_work.specs.Names.{KnownNames}
 use Rattle.bl_setup.specs.Agreement.{Agree}
 use Rattle.bl_setup.specs.Setup.{Setup}
-use Rattle.bl_monitor.specs.Heard.{KnowsWork}
-use Rattle.bl_monitor.specs.Judging.{AreBelow}
+use Rattle.bl_order.specs.Known.{KnowsWork, AreBelow}
 
 module _ (known : (names : KnownNames) (bytes : List ℕ) (line : Line) → LineOf names bytes line → IsKnownLine names line) where
   pub subject_in_setup : (setup : Setup) (bytes : List ℕ) (subject : ℕ) → Agree setup → LineOf setup.names bytes (asked.Hello subject) → subject < length setup.policy.subjects
