@@ -1,5 +1,5 @@
 -- What a run of the command `alone` that failed says, by the fault that it ends with.
-use Rattle.std.specs.Prelude.{◌≡◌, ◌≢◌, ℕ, Bool, List, Option, [], codes, ◌⊎◌}
+use Rattle.std.specs.Prelude.{◌≡◌, ◌≢◌, ℕ, List, [], codes, ◌⊎◌}
 use Rattle.std.specs.Io.KnownBytes.{Keeps}
 use Rattle.bl_setup.specs.Setup as setups
 use Rattle.bl_setup.specs.Faults.{UnlessMemory}
@@ -9,6 +9,7 @@ use Rattle.bl_setup.specs.declared.fault.SetupFault.{SetupFault}
 use Rattle.bl_setup.specs.declared.fault.SetupFaultKind.{SetupFaultKind}
 use Rattle.bl_setup.specs.declared.fault.SetupFaultKind.TheVariants as kinds
 use Rattle.bl_session.specs.Outcome.{IsCutShort}
+use Rattle.bl_wire.specs.Watch.{Use}
 use Rattle.bl_wire.specs.declared.fault.SessionFault.{SessionFault}
 use Rattle.bl_wire.specs.declared.fault.SessionFault.TheVariants as failing
 use Rattle.bl_command.specs.declared.fault.ProgramFault.{ProgramFault}
@@ -42,9 +43,9 @@ IsOfSession failing.Clash fault = ⊥
 
 -- No session began: nothing was read or written. The fault that is told is the first of the text, with its line and kind, and
 -- the text is no setup, unless memory was refused; and that was at a line that is read, with the lines before it right.
-pub record IsNotBegun (setup : List ℕ) (fault : ProgramFault) (start rest first kept : Option (List ℕ)) : Type 0 where
-  pub unread : Keeps start rest
-  pub unwritten : Keeps first kept
+pub record IsNotBegun (setup : List ℕ) (fault : ProgramFault) (input output : Use) : Type 0 where
+  pub unread : Keeps input.before input.after
+  pub unwritten : Keeps output.before output.after
   pub of : SetupFault
   pub named : IsOfSetup of fault
   pub why : UnlessMemory of.kind ((begun : setups.Setup) → IsSetup setup begun → ⊥)
@@ -52,14 +53,13 @@ pub record IsNotBegun (setup : List ℕ) (fault : ProgramFault) (start rest firs
   pub refused : of.kind ≡ kinds.Memory → IsReadAt setup of.line
 
 -- A session of the setup that the text is began, and ended early by the fault that is told.
-pub record IsEnded (setup : List ℕ) (limit : ℕ) (fault : ProgramFault) (start rest first kept : Option (List ℕ)) (read_failed write_failed : Bool) : Type 0 where
+pub record IsEnded (setup : List ℕ) (limit : ℕ) (fault : ProgramFault) (input output : Use) : Type 0 where
   pub begun : setups.Setup
   pub is : IsSetup setup begun
   pub of : SessionFault
   pub named : IsOfSession of fault
-  pub short : IsCutShort begun limit of start rest first kept read_failed write_failed
+  pub short : IsCutShort begun limit of input output
 
 -- a run after the setup of these bytes ended with this fault
-abbrev pub HasFailed : List ℕ → ℕ → ProgramFault → Option (List ℕ) → Option (List ℕ) → Option (List ℕ) → Option (List ℕ) → Bool → Bool → Type 0
-HasFailed setup limit fault start rest first kept read_failed write_failed =
-    IsNotBegun setup fault start rest first kept ⊎ IsEnded setup limit fault start rest first kept read_failed write_failed
+abbrev pub HasFailed : List ℕ → ℕ → ProgramFault → Use → Use → Type 0
+HasFailed setup limit fault input output = IsNotBegun setup fault input output ⊎ IsEnded setup limit fault input output

@@ -3,3 +3,4 @@ pub mod Status
 pub mod Failure
 pub mod Message
 pub mod CommandLine
+pub mod Runs

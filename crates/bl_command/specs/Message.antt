@@ -3,11 +3,20 @@ use Rattle.std.specs.Prelude.{ℕ, List, ◌++◌, codes, decimal}
 use Rattle.bl_command.specs.declared.fault.ProgramFault.{ProgramFault}
 use Rattle.bl_command.specs.declared.fault.ProgramFault.TheVariants.{CannotReadSetup, Setup, Read, Write, TooLong, NoMemory}
 
--- own choice: the words for each fault; of a setup its line and what is wrong with it
+-- own choice: the words for each fault; of a setup those for what is wrong with its line
+abbrev pub words_of : ProgramFault → List ℕ
+words_of CannotReadSetup = codes "cannot read setup"
+words_of (Setup line kind) = kind.now
+words_of Read = codes "read fault"
+words_of Write = codes "write fault"
+words_of TooLong = codes "too long"
+words_of NoMemory = codes "no memory"
+
+-- what is said: of a fault of the setup its line too
 abbrev pub message_of : ProgramFault → List ℕ
-message_of CannotReadSetup = codes "cannot read setup"
 message_of (Setup line kind) = codes "setup " ++ decimal line ++ codes ": " ++ kind.now
-message_of Read = codes "read fault"
-message_of Write = codes "write fault"
-message_of TooLong = codes "too long"
-message_of NoMemory = codes "no memory"
+message_of CannotReadSetup = words_of CannotReadSetup
+message_of Read = words_of Read
+message_of Write = words_of Write
+message_of TooLong = words_of TooLong
+message_of NoMemory = words_of NoMemory

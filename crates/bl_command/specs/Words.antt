@@ -2,6 +2,8 @@
 use Rattle.std.specs.Prelude.{◌≡◌, ◌≤◌, ℕ, List, Option, Some, codes}
 use Rattle.std.specs.Str.Parse.{IsNumeral, digits_value, without_leading_plus}
 use Rattle.clap.specs.Matches.{found_of, first_value, one_text}
+use Rattle.clap.specs.Faults.{fault_of}
+use Rattle.clap.specs.Kinds.{Kinds}
 use Rattle.clap.specs.Simple.{subcommand_of, subcommand_rows_of}
 use Rattle.clap.specs.Walk.{Row, rows_of}
 use Rattle.clap.specs.declared.parser.matches.ArgMatches.{ArgMatches}
@@ -20,6 +22,10 @@ Writes text n = IsNumeral 10 (without_leading_plus text) × (n ≡ digits_value 
 -- the option of this name has a text, the user's or the default, and it writes this number
 abbrev pub HasNumber : ArgMatches → List ℕ → ℕ → Type 0
 HasNumber options name n = (text : List ℕ) × (one_text (found_of options) name ≡ Some text) × Writes text n
+
+-- the name of a command's setup file
+abbrev pub setup_of : Command → List ℕ
+setup_of (Alone setup limit) = setup.now
 
 -- the word for a command
 abbrev pub word_of : Command → List ℕ
@@ -46,3 +52,7 @@ entered_by words = subcommand_of server_app words
 -- the words name the command
 abbrev pub Name : List (List ℕ) → Command → Type 0
 Name words command = IsEntered (entered_by words) command
+
+-- the kinds of error that the program's command line may give at these words; none where they name a command
+unfoldable pub faults_of : List (List ℕ) → Kinds
+faults_of words = fault_of server_app words

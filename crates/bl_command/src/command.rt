@@ -1,9 +1,10 @@
 //! The command line.
-ghost use Rattle.std.specs.Prelude.{◌≡◌, ◌≢◌, ◌≤◌, ◌⊎◌, false, map, string_bytes, IfOk, IfSome};
-ghost use Rattle.clap.specs.Words.{kind_of, rule_of, app_of};
+ghost use Rattle.std.specs.Prelude.{◌≡◌, ◌≤◌, [], ◌∷◌, false, map, string_bytes, IfOk, IfErr, OnOk, IfSome};
+ghost use Rattle.clap.specs.Words.{kind_of, rule_of, app_of, HasKind};
 ghost use Rattle.clap.specs.declared.builder.command.Command.TheViews.{out-Command as fields_of};
 ghost use Rattle.bl_command.specs.CommandLine.{setup_rule, limit_rule, alone_app, server_app};
-ghost use Rattle.bl_command.specs.Words.{IsInRange, HasNumber, IsOf, Name};
+ghost use Rattle.bl_command.specs.Status.{status_for, IsStatus};
+ghost use Rattle.bl_command.specs.Words.{IsInRange, HasNumber, IsOf, Name, faults_of, setup_of};
 
 use clap::error::ErrorKind;
 use clap::{Arg, ArgAction, ArgMatches, Command as Parser, Error, value_parser};
@@ -95,12 +96,25 @@ fn command_of<'a>(found: &ArgMatches<'a>) -> Option<Command<'a>>
     }
 }
 
+impl<'a> Command<'a> {
+    /// The name of the command's setup file.
+    pub fn setup(&self) -> &'a str
+        ensures { result.now ≡ setup_of self.now }
+    {
+        match self {
+            Command::Alone { setup, .. } => setup,
+        }
+    }
+}
+
 /// Reads the words of a command line, of which the first is the program's name. The error's text
 /// is for whoever gave the words, and `status_of` is the status that the run then ends with; a call
-/// for help or for the version is an error too.
+/// for help or for the version is an error too, and only such words as ask for them give one.
 pub fn read_words<'a>(alloc: Global, words: &'a [String]) -> Result<Command<'a>, Error>
     ensures range { IfOk result IsInRange }
     ensures written { IfOk result (Name (map (λ word. string_bytes word) words.entry.now)) }
+    ensures faultless { OnOk result (faults_of (map (λ word. string_bytes word) words.entry.now) ≡ []) }
+    ensures faults { IfErr result (HasKind (ErrorKind.InvalidValue ∷ faults_of (map (λ word. string_bytes word) words.entry.now))) }
 {
     let matches = parser(alloc)?.try_get_matches_from(words)?;
     match command_of(&matches) {
@@ -112,11 +126,8 @@ pub fn read_words<'a>(alloc: Global, words: &'a [String]) -> Result<Command<'a>,
 /// The status of a run that ends with this error: 4 for want of memory, 0 for a call for help or for
 /// the version, and 2 for anything else.
 pub fn status_of(error: &Error) -> u8
-    ensures status { (result ≡ 0) ⊎ ((result ≡ 2) ⊎ (result ≡ 4)) }
-    ensures memory { kind_of error.now ≡ ErrorKind.OutOfMemory → result ≡ 4 }
-    ensures help { (kind_of error.now ≡ ErrorKind.DisplayHelp) ⊎ (kind_of error.now ≡ ErrorKind.DisplayVersion) → result ≡ 0 }
-    ensures bad { kind_of error.now ≢ ErrorKind.OutOfMemory → kind_of error.now ≢ ErrorKind.DisplayHelp →
-        kind_of error.now ≢ ErrorKind.DisplayVersion → result ≡ 2 }
+    ensures status { result ≡ status_for (kind_of error.now) }
+    ensures range { IsStatus result }
 {
     match error.kind() {
         ErrorKind::OutOfMemory => 4,

@@ -1,12 +1,15 @@
 //! What the program says on standard error, and the status that it then ends with.
-ghost use Rattle.std.specs.Prelude.{◌≡◌, ◌≢◌};
+ghost use Rattle.std.specs.Prelude.{◌≡◌, ◌≢◌, ◌⊎◌};
+ghost use Rattle.std.specs.IoError.{error_kind};
+ghost use Rattle.bl_command.specs.Message.{words_of};
 ghost use Rattle.bl_command.specs.Failure.{IsOfSetup, IsOfSession};
 ghost use Rattle.bl_command.specs.Status.{status_of};
 ghost use Rattle.bl_wire.specs.declared.fault.SessionFault.TheVariants as failing;
 
 use bl_setup::fault::{SetupFault, SetupFaultKind};
 use bl_wire::fault::SessionFault;
-use std::fmt;
+use std::io::ErrorKind;
+use std::{fmt, io};
 use thiserror::Error;
 
 /// A fault that ends a run. Its display is what the run says of it on standard error.
@@ -39,20 +42,38 @@ impl fmt::Display for ProgramFault {
 
     fn fmt<W: fmt::Write>(&self, f: &mut fmt::Formatter<W>) -> fmt::Result {
         match self {
-            ProgramFault::CannotReadSetup => write!(f, "cannot read setup"),
             ProgramFault::Setup { line, kind } => write!(f, "setup {line}: {kind}"),
-            ProgramFault::Read => write!(f, "read fault"),
-            ProgramFault::Write => write!(f, "write fault"),
-            ProgramFault::TooLong => write!(f, "too long"),
-            ProgramFault::NoMemory => write!(f, "no memory"),
+            ProgramFault::CannotReadSetup
+            | ProgramFault::Read
+            | ProgramFault::Write
+            | ProgramFault::TooLong
+            | ProgramFault::NoMemory => {
+                let words = self.words();
+                write!(f, "{words}")
+            }
         }
     }
 }
 
 impl ProgramFault {
+    /// The words for the fault; of a setup's those for what is wrong with its line.
+    pub fn words(&self) -> &'static str
+        ensures { result.now ≡ words_of self.now }
+    {
+        match self {
+            ProgramFault::CannotReadSetup => "cannot read setup",
+            ProgramFault::Setup { kind, .. } => kind,
+            ProgramFault::Read => "read fault",
+            ProgramFault::Write => "write fault",
+            ProgramFault::TooLong => "too long",
+            ProgramFault::NoMemory => "no memory",
+        }
+    }
+
     /// The status that a run ends with: 4 for want of memory, and 3 for anything else.
     pub fn status(&self) -> u8
-        ensures { result ≡ status_of self.now }
+        ensures status { result ≡ status_of self.now }
+        ensures range { (result ≡ 3) ⊎ (result ≡ 4) }
     {
         match self {
             ProgramFault::NoMemory => 4,
@@ -95,5 +116,17 @@ pub fn of_session(fault: SessionFault) -> ProgramFault
         SessionFault::TooLong => ProgramFault::TooLong,
         SessionFault::Memory => ProgramFault::NoMemory,
         SessionFault::Clash => unreachable!(),
+    }
+}
+
+/// What a failure to read the setup file is to the program.
+pub fn of_file(error: &io::Error) -> ProgramFault
+    ensures memory { error_kind error.now ≡ ErrorKind.OutOfMemory → result ≡ ProgramFault.NoMemory }
+    ensures other { error_kind error.now ≢ ErrorKind.OutOfMemory → result ≡ ProgramFault.CannotReadSetup }
+{
+    if error.kind() == ErrorKind::OutOfMemory {
+        ProgramFault::NoMemory
+    } else {
+        ProgramFault::CannotReadSetup
     }
 }

@@ -2,9 +2,11 @@
 //!
 //!     command    the command line
 //!     fault      what ends a run, with its words and its status
-//!     run        a run, from its words to its status
+//!     run        a run over the ends that it is given
+//!     shell      what the program takes from the system
 #![tactic(auto)]
 
 pub mod command;
 pub mod fault;
 pub mod run;
+pub mod shell;

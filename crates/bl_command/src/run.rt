@@ -1,26 +1,27 @@
-//! A run of the program, from its words to its status.
-ghost use Rattle.std.specs.Prelude.{◌≡◌, ◌≢◌, ◌<◌, ◌^◌, ◌⊎◌, ◌++◌, ◌∷◌, [], false, OnOk, IfErr};
-ghost use Rattle.std.specs.Io.KnownBytes.{Keeps, Appends};
+//! A run of the program over the ends that it is given: its input, its output and standard error.
+ghost use Rattle.std.specs.Prelude.{◌≡◌, ◌≢◌, ◌⊎◌, true, false, not, OnOk, IfOk, IfErr};
+ghost use Rattle.std.specs.Io.KnownBytes.{Appends};
+ghost use Rattle.std.specs.IoError.{error_kind};
+ghost use Rattle.clap.specs.Words.{kind_of};
 ghost use Rattle.bl_setup.specs.Setup.{Setup};
 ghost use Rattle.bl_setup.specs.Grammar.{IsSetup};
+ghost use Rattle.bl_wire.specs.Watch.{used};
 ghost use Rattle.bl_session.specs.Outcome.{IsServed};
 ghost use Rattle.bl_command.specs.Failure.{HasFailed};
 ghost use Rattle.bl_command.specs.Message.{message_of};
-ghost use Rattle.bl_command.specs.Status as ending;
-ghost use Rattle.bl_command.specs.declared.fault.ProgramFault as program;
+ghost use Rattle.bl_command.specs.Runs.{IsRun, IsRunAfter, HasTold};
+ghost use Rattle.bl_command.specs.Status.{status_for, IsStatus};
 
-use crate::command::{Command, read_words, status_of};
+use crate::command::{Command, status_of};
 use crate::fault::{ProgramFault, of_session, of_setup};
 use bl_session::alone::serve_and_keep;
 use bl_setup::reader::read_setup;
+use bl_wire::put::{put, put_number, put_out};
 use bl_wire::watched::Watched;
+use clap::Error;
 use std::alloc::Global;
-use std::io::{BufRead, BufReader, BufWriter, Read, Write};
-use std::rt::{Env, Files};
-use std::{env, fs, io, mem, str};
-
-/// How many bytes a setup file has at most.
-const MOST_SETUP: u64 = 16_777_216;
+use std::io::{BufRead, ErrorKind, Write};
+use std::{io, mem};
 
 /// One session over a reader and a writer, after the setup of these bytes.
 fn serve_setup<R: BufRead, W: Write>(
@@ -33,10 +34,9 @@ fn serve_setup<R: BufRead, W: Write>(
     requires reader { reader.old.failed ≡ false }
     requires writer { writer.old.failed ≡ false }
     ensures served { OnOk result ((begun : Setup) × IsSetup setup.now begun
-        × IsServed begun limit (R.remaining reader.old.inner) (R.remaining reader.new.inner) (W.contents writer.old.inner) (W.contents writer.new.inner)) }
-    ensures fine { OnOk result ((reader.new.failed ≡ false) × (writer.new.failed ≡ false)) }
-    ensures failed { IfErr result (λ fault. HasFailed setup.now limit fault (R.remaining reader.old.inner) (R.remaining reader.new.inner)
-        (W.contents writer.old.inner) (W.contents writer.new.inner) reader.new.failed writer.new.failed) }
+        × IsServed begun limit (used R.remaining reader.old reader.new) (used W.contents writer.old writer.new)) }
+    ensures handed_on { OnOk result (writer.new.unflushed ≡ false) }
+    ensures failed { IfErr result (λ fault. HasFailed setup.now limit fault (used R.remaining reader.old reader.new) (used W.contents writer.old writer.new)) }
 {
     let setup = match read_setup(alloc, setup) {
         Ok(setup) => setup,
@@ -51,14 +51,37 @@ fn serve_setup<R: BufRead, W: Write>(
     }
 }
 
-/// Says a fault, with a line end. Nothing is known of what was said where the writer failed or took
-/// nothing, and then it is marked.
-fn say<E: Write>(errors: &mut Watched<E>, fault: &ProgramFault)
-    ensures { errors.new.failed ≡ false → Appends (E.contents errors.old.inner) (E.contents errors.new.inner) (message_of fault.now ++ 10 ∷ []) }
+/// Says the words of a fault, and of a setup's its line; no memory is needed for it. Says whether
+/// all was written.
+fn say<E: Write>(errors: &mut Watched<E>, fault: &ProgramFault) -> bool
+    requires { errors.old.failed ≡ false }
+    ensures said { result ≡ true → Appends (E.contents errors.old.inner) (E.contents errors.new.inner) (message_of fault.now) }
+    ensures failed { errors.new.failed ≡ not result }
 {
-    if writeln!(errors, "{fault}").is_err() {
-        errors.failed = true;
+    match fault {
+        ProgramFault::Setup { line, kind } => {
+            put(errors, b"setup ")
+                && put_number(errors, *line)
+                && put(errors, b": ")
+                && put(errors, kind.as_bytes())
+        }
+        ProgramFault::CannotReadSetup
+        | ProgramFault::Read
+        | ProgramFault::Write
+        | ProgramFault::TooLong
+        | ProgramFault::NoMemory => put(errors, fault.words().as_bytes()),
     }
+}
+
+/// Tells a fault that ends a run, on a line of its own, and gives the status. Where `errors` failed
+/// it is marked, and only a part was said.
+pub fn tell<E: Write>(errors: &mut Watched<E>, fault: &ProgramFault) -> u8
+    requires { errors.old.failed ≡ false }
+    ensures told { HasTold fault.now result (used E.contents errors.old errors.new) }
+    ensures status { (result ≡ 3) ⊎ (result ≡ 4) }
+{
+    let _told = say(errors, fault) && put_out(errors, b"\n");
+    fault.status()
 }
 
 /// One session over a reader and a writer, after the setup of these bytes: the command `alone`.
@@ -78,125 +101,118 @@ pub fn alone_on<R: BufRead, W: Write, E: Write>(
 ) -> u8
     requires reader { reader.old.failed ≡ false }
     requires writer { writer.old.failed ≡ false }
+    requires errors { errors.old.failed ≡ false }
+    ensures run { IsRun setup.now limit (record {
+      status = result;
+      input = used R.remaining reader.old reader.new;
+      output = used W.contents writer.old writer.new;
+      errors = used E.contents errors.old errors.new;
+    }) }
+    ensures handed_on { result ≡ 0 → writer.new.unflushed ≡ false }
     ensures status { (result ≡ 0) ⊎ ((result ≡ 3) ⊎ (result ≡ 4)) }
-    ensures served { result ≡ 0 → (begun : Setup) × IsSetup setup.now begun
-        × IsServed begun limit (R.remaining reader.old.inner) (R.remaining reader.new.inner) (W.contents writer.old.inner) (W.contents writer.new.inner) }
-    ensures fine { result ≡ 0 → (reader.new.failed ≡ false) × (writer.new.failed ≡ false) }
-    ensures quiet { result ≡ 0 → Keeps (E.contents errors.old.inner) (E.contents errors.new.inner) }
-    ensures failed { result ≢ 0 → (fault : program.ProgramFault) × (result ≡ ending.status_of fault)
-        × (errors.new.failed ≡ false → Appends (E.contents errors.old.inner) (E.contents errors.new.inner) (message_of fault ++ 10 ∷ []))
-        × HasFailed setup.now limit fault (R.remaining reader.old.inner) (R.remaining reader.new.inner)
-        (W.contents writer.old.inner) (W.contents writer.new.inner) reader.new.failed writer.new.failed }
 {
     match serve_setup(alloc, setup, limit, reader, writer) {
         Ok(()) => 0,
-        Err(fault) => {
-            let status = fault.status();
-            say(errors, &fault);
-            status
-        }
+        Err(fault) => tell(errors, &fault),
     }
 }
 
-/// Standard error as a writer of texts.
-#[derive(Drop)]
-struct StandardError<'a, R: Eprint> {
-    rt: &'a R,
-}
-
-impl<R: Eprint> Write for StandardError<'_, R> {
-    fn write(&mut self, buf: &[u8]) -> io::Result<usize> {
-        match str::from_utf8(buf) {
-            Ok(text) => {
-                self.rt.eprint(text)?;
-                Ok(buf.len())
+/// A run of a command, after its setup file was read, or could not be read for this fault. The
+/// result is the status of the run.
+pub fn run_command<R: BufRead, W: Write, E: Write>(
+    alloc: Global,
+    command: &Command<'_>,
+    setup: Result<Vec<u8>, ProgramFault>,
+    reader: &mut Watched<R>,
+    writer: &mut Watched<W>,
+    errors: &mut Watched<E>,
+) -> u8
+    requires reader { reader.old.failed ≡ false }
+    requires writer { writer.old.failed ≡ false }
+    requires errors { errors.old.failed ≡ false }
+    ensures status { (result ≡ 0) ⊎ ((result ≡ 3) ⊎ (result ≡ 4)) }
+    ensures run { IsRunAfter command.now setup (record {
+      status = result;
+      input = used R.remaining reader.old reader.new;
+      output = used W.contents writer.old writer.new;
+      errors = used E.contents errors.old errors.new;
+    }) }
+{
+    match setup {
+        Ok(bytes) => match command {
+            Command::Alone { limit, .. } => {
+                alone_on(alloc, &bytes, *limit, reader, writer, errors)
             }
-            Err(_) => Err(io::Error::from(io::ErrorKind::InvalidData)),
-        }
-    }
-
-    fn flush(&mut self) -> io::Result<()> {
-        Ok(())
+        },
+        Err(fault) => tell(errors, &fault),
     }
 }
 
-/// Says a fault on standard error, and gives its status.
-fn end_with<R: Eprint>(rt: &R, fault: ProgramFault) -> u8
-    ensures { result ≡ ending.status_of fault }
+/// Shows why words name no command: help and the version on the output, and anything else on
+/// `errors`. The result is the status of the run.
+fn refuse<W: Write, E: Write>(
+    alloc: Global,
+    error: &Error,
+    writer: &mut Watched<W>,
+    errors: &mut Watched<E>,
+) -> u8
+    requires writer { writer.old.failed ≡ false }
+    requires errors { errors.old.failed ≡ false }
+    ensures refused { (result ≡ status_for (kind_of error.now)) ⊎ (result ≡ 4) }
+    ensures status { IsStatus result }
 {
-    say(&mut Watched::new(StandardError { rt }), &fault);
-    fault.status()
+    let status = status_of(error);
+    let text = match format!(in alloc; "{error}") {
+        Ok(text) if status != 4 => text,
+        _ => return tell(errors, &ProgramFault::NoMemory),
+    };
+    let _shown = if error.use_stderr() {
+        put_out(errors, text.as_bytes())
+    } else {
+        put_out(writer, text.as_bytes())
+    };
+    status
 }
 
-/// The words of the command line.
-fn words_of<R: AllocGlobal + Env>(rt: &R) -> io::Result<Vec<String>> {
-    let words = env::args(rt)?.collect(rt.alloc())?;
-    Ok(words)
+/// A run of what was asked for: a command, after its setup file was read, or could not be read for
+/// this fault; or words that name none. The result is the status of the run.
+pub fn run_asked<R: BufRead, W: Write, E: Write>(
+    alloc: Global,
+    asked: Result<Command<'_>, Error>,
+    setup: Result<Vec<u8>, ProgramFault>,
+    reader: &mut Watched<R>,
+    writer: &mut Watched<W>,
+    errors: &mut Watched<E>,
+) -> u8
+    requires reader { reader.old.failed ≡ false }
+    requires writer { writer.old.failed ≡ false }
+    requires errors { errors.old.failed ≡ false }
+    ensures command { IfOk asked.entry (λ command. IsRunAfter command setup (record {
+      status = result;
+      input = used R.remaining reader.old reader.new;
+      output = used W.contents writer.old writer.new;
+      errors = used E.contents errors.old errors.new;
+    })) }
+    ensures refused { IfErr asked.entry (λ error. (result ≡ status_for (kind_of error)) ⊎ (result ≡ 4)) }
+    ensures status { IsStatus result }
+{
+    match asked {
+        Ok(command) => run_command(alloc, &command, setup, reader, writer, errors),
+        Err(error) => refuse(alloc, &error, writer, errors),
+    }
 }
 
-/// The bytes of a file, and at most one more than `most` of them.
-fn read_file<R: AllocGlobal + Files>(rt: &R, path: &str, most: u64) -> io::Result<Vec<u8>>
-    requires { most < 2 ^ 32 }
+/// A run whose words cannot be read: want of memory is told and ends with 4, and anything else ends
+/// with 2 and is not told.
+pub fn run_unread<E: Write>(error: &io::Error, errors: &mut Watched<E>) -> u8
+    requires { errors.old.failed ≡ false }
+    ensures memory { error_kind error.now ≡ ErrorKind.OutOfMemory → result ≡ 4 }
+    ensures bad { error_kind error.now ≢ ErrorKind.OutOfMemory → result ≡ 2 }
+    ensures status { IsStatus result }
 {
-    let mut bytes = Vec::new(rt.alloc());
-    let file = fs::open(rt, path)?;
-    file.take(most + 1).read_to_end(&mut bytes)?;
-    Ok(bytes)
-}
-
-/// The command `alone`.
-fn alone<R: AllocGlobal + Files + Print + Eprint + Input>(rt: &R, setup: &str, limit: u32) -> u8
-    ensures { (result ≡ 0) ⊎ ((result ≡ 3) ⊎ (result ≡ 4)) }
-{
-    let alloc = rt.alloc();
-    let bytes = match read_file(rt, setup, MOST_SETUP) {
-        Ok(bytes) => bytes,
-        Err(error) if error.kind() == io::ErrorKind::OutOfMemory => return end_with(
-            rt,
-            ProgramFault::NoMemory,
-        ),
-        Err(_) => return end_with(rt, ProgramFault::CannotReadSetup),
-    };
-    let Ok(reader) = BufReader::new(alloc, rt.reader()) else {
-        return end_with(rt, ProgramFault::NoMemory);
-    };
-    let Ok(writer) = BufWriter::new(alloc, io::writer(rt)) else {
-        return end_with(rt, ProgramFault::NoMemory);
-    };
-    let mut reader = Watched::new(reader);
-    let mut writer = Watched::new(writer);
-    alone_on(
-        alloc,
-        &bytes,
-        limit,
-        &mut reader,
-        &mut writer,
-        &mut Watched::new(StandardError { rt }),
-    )
-}
-
-/// A run of the program. The result is its status: 0 where all was done, or help or the version was asked for, 2
-/// for bad arguments, 3 for a fault of the setup or of the session, and 4 for want of memory.
-pub fn run<R: AllocGlobal + Env + Files + Print + Eprint + Input>(rt: &R) -> u8
-    ensures { (result ≡ 0) ⊎ ((result ≡ 2) ⊎ ((result ≡ 3) ⊎ (result ≡ 4))) }
-{
-    let words = match words_of(rt) {
-        Ok(words) => words,
-        Err(error) if error.kind() == io::ErrorKind::OutOfMemory => return end_with(
-            rt,
-            ProgramFault::NoMemory,
-        ),
-        Err(_) => return 2,
-    };
-    match read_words(rt.alloc(), words.as_slice()) {
-        Ok(Command::Alone { setup, limit }) => alone(rt, setup, limit),
-        Err(error) => {
-            let status = status_of(&error);
-            if status == 4 {
-                return end_with(rt, ProgramFault::NoMemory);
-            }
-            let _ = error.print(rt);
-            status
-        }
+    if error.kind() == ErrorKind::OutOfMemory {
+        tell(errors, &ProgramFault::NoMemory)
+    } else {
+        2
     }
 }

@@ -1,11 +1,13 @@
 //! What the program says, and the status that it ends with.
-use bl_command::fault::{ProgramFault, of_setup};
-use bl_command::run::alone_on;
+use bl_command::command::read_words;
+use bl_command::fault::{ProgramFault, of_file, of_setup};
+use bl_command::run::{alone_on, run_asked, run_unread};
+use bl_command::shell::read_most;
 use bl_setup::fault::{SetupFault, SetupFaultKind};
 use bl_wire::watched::Watched;
 use std::alloc::Global;
 use std::io;
-use std::io::Write;
+use std::io::{Read, Write};
 use std::test::Fail;
 
 const ONE_SUBJECT: &[u8] = b"ranks u\ncategories\nsubject ann greatest u current u\n";
@@ -18,6 +20,14 @@ const FOURTH_LINE_AT_FAULT: &[u8] = b"ranks u c s t\ncategories nato crypto\n\
 
 /// What each run reads.
 const INPUT: &[u8] = b"hello ann\n";
+
+/// A setup under which ann may read a memo.
+const ONE_MEMO: &[u8] = b"ranks u\ncategories\nsubject ann greatest u current u\n\
+    document memo u \"m1\"\nallow ann memo r\n";
+
+/// A session of two lines.
+const TWO_READS: &[u8] = b"hello ann\nwhen read memo do show memo; end\n\
+    when read memo do show memo; end\n";
 
 /// How a run ended, with what it left unread, what it wrote and what it said.
 #[derive(Drop)]
@@ -36,9 +46,9 @@ fn run_after(alloc: Global, setup: &[u8]) -> Ended {
     let status = alone_on(alloc, setup, 10_000, &mut reader, &mut writer, &mut errors);
     Ended {
         status,
-        unread: reader.inner,
-        written: writer.inner,
-        said: errors.inner,
+        unread: reader.into_inner(),
+        written: writer.into_inner(),
+        said: errors.into_inner(),
     }
 }
 
@@ -96,7 +106,7 @@ fn names_a_fault_of_the_output(rt: HostRuntime) {
         &mut errors,
     );
     assert_eq!(rt; status, 3);
-    assert!(rt; errors.inner.as_slice() == b"write fault\n".as_slice());
+    assert!(rt; errors.into_inner().as_slice() == b"write fault\n".as_slice());
 }
 
 #[test]
@@ -132,4 +142,137 @@ fn tells_each_fault_of_a_setup(rt: HostRuntime) -> Result<(), Fail> {
         assert!(rt; format!(in rt.alloc(); "{fault}")?.as_str() == words);
     }
     Ok(())
+}
+
+/// A run of what these words ask, after this setup was read or could not be read.
+fn run_words(
+    alloc: Global,
+    text: &str,
+    setup: Result<Vec<u8>, ProgramFault>,
+    input: &'static [u8],
+) -> Result<Ended, Fail> {
+    let mut words = Vec::new(alloc);
+    for word in text.split_ascii_whitespace() {
+        words.push(String::from_str(alloc, word)?)?;
+    }
+    let asked = read_words(alloc, words.as_slice());
+    let mut reader = Watched::new(input);
+    let mut writer = Watched::new(Vec::new(alloc));
+    let mut errors = Watched::new(Vec::new(alloc));
+    let status = run_asked(alloc, asked, setup, &mut reader, &mut writer, &mut errors);
+    Ok(Ended {
+        status,
+        unread: reader.into_inner(),
+        written: writer.into_inner(),
+        said: errors.into_inner(),
+    })
+}
+
+/// The limit that the words give is that of the session.
+#[test]
+fn serves_under_its_limit(rt: HostRuntime) -> Result<(), Fail> {
+    let given = [
+        (
+            "bl_server alone --setup memo.txt --limit 1",
+            "ok\n1 done \"m1\"\n2 refused full\nbye\n",
+        ),
+        (
+            "bl_server alone --setup memo.txt",
+            "ok\n1 done \"m1\"\n2 done \"m1\"\nbye\n",
+        ),
+    ];
+    for (words, output) in given {
+        let setup = Vec::from_slice(rt.alloc(), ONE_MEMO)?;
+        let ended = run_words(rt.alloc(), words, Ok(setup), TWO_READS)?;
+        assert_eq!(rt; ended.status, 0);
+        assert!(rt; ended.written.as_slice() == output.as_bytes());
+        assert!(rt; ended.said.is_empty());
+    }
+    Ok(())
+}
+
+/// Bad words are told on standard error alone, and end with 2.
+#[test]
+fn tells_bad_words(rt: HostRuntime) -> Result<(), Fail> {
+    let given = [
+        "bl_server",
+        "bl_server many --setup memo.txt",
+        "bl_server alone",
+        "bl_server alone --limit 7",
+        "bl_server alone --setup memo.txt --limit 0",
+        "bl_server alone --setup memo.txt --limit 100001",
+        "bl_server alone --setup memo.txt --limit few",
+        "bl_server alone --setup memo.txt --setup memo.txt",
+        "bl_server alone --setup memo.txt --port 7",
+    ];
+    for words in given {
+        let setup = Vec::from_slice(rt.alloc(), ONE_MEMO)?;
+        let ended = run_words(rt.alloc(), words, Ok(setup), INPUT)?;
+        assert_eq!(rt; ended.status, 2, "at {words}");
+        assert!(rt; ended.unread == INPUT);
+        assert!(rt; ended.written.is_empty());
+        assert!(rt; ended.said.starts_with(b"error: "), "at {words}");
+    }
+    Ok(())
+}
+
+/// Help and the version are shown on the output alone, and end with 0.
+#[test]
+fn shows_what_is_asked_for(rt: HostRuntime) -> Result<(), Fail> {
+    for words in [
+        "bl_server --help",
+        "bl_server alone --help",
+        "bl_server --version",
+    ] {
+        let ended = run_words(rt.alloc(), words, Ok(Vec::new(rt.alloc())), INPUT)?;
+        assert_eq!(rt; ended.status, 0, "at {words}");
+        assert!(rt; ended.unread == INPUT);
+        assert!(rt; !ended.written.is_empty());
+        assert!(rt; ended.said.is_empty());
+    }
+    Ok(())
+}
+
+#[test]
+fn tells_a_setup_that_cannot_be_read(rt: HostRuntime) -> Result<(), Fail> {
+    let faults = [
+        (io::ErrorKind::NotFound, 3, "cannot read setup\n"),
+        (io::ErrorKind::OutOfMemory, 4, "no memory\n"),
+    ];
+    for (kind, status, said) in faults {
+        let fault = of_file(&io::Error::from(kind));
+        let words = "bl_server alone --setup memo.txt";
+        let ended = run_words(rt.alloc(), words, Err(fault), INPUT)?;
+        assert_eq!(rt; ended.status, status);
+        assert!(rt; ended.unread == INPUT);
+        assert!(rt; ended.written.is_empty());
+        assert!(rt; ended.said.as_slice() == said.as_bytes());
+    }
+    Ok(())
+}
+
+/// A setup of one byte too many is read to that byte, and told as a whole.
+#[test]
+fn tells_a_setup_that_is_too_large(rt: HostRuntime) -> Result<(), Fail> {
+    let alloc = rt.alloc();
+    let setup = read_most(alloc, io::repeat(b'\n').take(20_000_000), 16_777_216)?;
+    assert_eq!(rt; setup.len(), 16_777_217);
+    let ended = run_after(alloc, &setup);
+    assert_eq!(rt; ended.status, 3);
+    assert!(rt; ended.said.as_slice() == b"setup 0: too many\n".as_slice());
+    Ok(())
+}
+
+/// Words that cannot be read end with 2, and nothing is said; with 4 where memory was refused.
+#[test]
+fn ends_where_words_cannot_be_read(rt: HostRuntime) {
+    let faults = [
+        (io::ErrorKind::InvalidData, 2, ""),
+        (io::ErrorKind::OutOfMemory, 4, "no memory\n"),
+    ];
+    for (kind, status, said) in faults {
+        let mut errors = Watched::new(Vec::new(rt.alloc()));
+        assert_eq!(rt; run_unread(&io::Error::from(kind), &mut errors), status);
+        assert!(rt; errors.into_inner().as_slice() == said.as_bytes());
+    }
 }

@@ -1,16 +1,16 @@
 //! From the bytes of a line to what it asks, by the names of the server.
-ghost use Rattle.std.specs.Prelude.{◌≡◌, ◌≢◌, ℕ, List, map, IfOk, IfErr, MatchResult};
+ghost use Rattle.std.specs.Prelude.{◌≡◌, ◌≢◌, ◌<◌, ℕ, List, map, length, IfOk, IfErr, MatchResult};
 ghost use Rattle.bl_level.specs.Name.{AreProper};
 ghost use Rattle.bl_work.specs.declared.asked.Line.{Line as AskedLine};
 ghost use Rattle.bl_work.specs.declared.asked.LineFault.{LineFault};
-ghost use Rattle.bl_work.specs.declared.asked.LineFault.TheVariants.{Memory};
+ghost use Rattle.bl_work.specs.declared.asked.LineFault.TheVariants.{Long, Memory};
 ghost use Rattle.bl_work.specs.Names.{KnownNames};
 ghost use Rattle.bl_work.specs.Grammar.{when, rule as spelled_rule, spell};
 ghost use Rattle.bl_syntax.specs.RawBodies.{raw_access};
 ghost use Rattle.bl_syntax.specs.RawRules.{raw_rule};
 ghost use Rattle.bl_syntax.specs.RawView.{raw_view};
 ghost use Rattle.bl_work.specs.SpelledTexts.{HasContents};
-ghost use Rattle.bl_work.specs.LineGrammar.{Means, LineOf};
+ghost use Rattle.bl_work.specs.LineGrammar.{Means, LineOf, most_line_bytes};
 ghost use Rattle.bl_read.specs.LineFaults.{IsFaultOrMemory, IsLineFault, IsWantOfMemory};
 
 use crate::build::build_script;
@@ -34,6 +34,8 @@ pub fn read_line(alloc: Global, names: &Names, bytes: &[u8]) -> Result<Line, Lin
     ensures only { (line : AskedLine) → LineOf names.now bytes.now line → MatchResult result (λ read. read ≡ line) IsWantOfMemory }
     // Which fault it is.
     ensures fault { IfErr result (IsLineFault names.now bytes.now) }
+    // A line that is too long takes no memory.
+    ensures long { most_line_bytes < length bytes.now → result ≡ Err Long }
 {
     if bytes.len() > MOST_LINE_BYTES {
         return Err(LineFault::Long);

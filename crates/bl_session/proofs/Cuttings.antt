@@ -72,8 +72,8 @@ module _ (b : Bool) (names : KnownNames) (start r : Option (List ℕ)) (left : �
   now_are = subst (λ l. AreTurns names l turns) (sym (cut-now b so_far.bytes so_far.lines start r so_far.cut)) so_far.are
 
   -- a fault that came when the lines were read
-  pub broken_after : (fault : SessionFault) (read_failed write_failed : Bool) → IsOwnFault write_failed fault → Broken fault names start r read_failed write_failed turns
-  broken_after fault read_failed write_failed own = record {
+  pub broken_after : (fault : SessionFault) (read_failed write_failed : Bool) → read_failed ≡ false → IsOwnFault write_failed fault → Broken fault names start r read_failed write_failed turns
+  broken_after fault read_failed write_failed fine own = record {
     bytes = so_far.bytes;
     part = [];
     took = subst (Consumes start r) (sym (append-nil so_far.bytes)) so_far.took;
@@ -89,16 +89,17 @@ module _ (b : Bool) (names : KnownNames) (start r : Option (List ℕ)) (left : �
       lines false cut = inr (own_fault write_failed fault own, refl, cut.1)
 
       why : (fault : SessionFault) → IsOwnFault write_failed fault → IsCause fault start r read_failed write_failed (length (so_far.bytes ++ []))
-      why Write own = own
-      why Memory own = tt
+      why Write own = (fine, own)
+      why Memory own = (fine, own)
       why Read own = absurd own
       why TooLong own = absurd own
       why Clash own = absurd own
 
   -- no line was begun behind them
-  pub after_nothing : (fault : SessionFault) (read_failed write_failed : Bool) (own : IsOwnFault write_failed fault) → (broken_after fault read_failed write_failed own).part ≡ []
+  pub after_nothing : (fault : SessionFault) (read_failed write_failed : Bool) (fine : read_failed ≡ false) (own : IsOwnFault write_failed fault)
+      → (broken_after fault read_failed write_failed fine own).part ≡ []
   unfolding broken_after
-  after_nothing fault read_failed write_failed own = refl
+  after_nothing fault read_failed write_failed fine own = refl
 
 module _ (names : KnownNames) (start r r' : Option (List ℕ)) (was left : ℕ) (turns : List Turn) (so_far : Cutting true names start r was turns) where
   pub cutting_end : (held : Held) (next : Next) → next ≡ End → TookLine next r r' held was left → Cutting false names start r' left turns
@@ -137,8 +138,8 @@ module _ (names : KnownNames) (start r r' : Option (List ℕ)) (was left : ℕ) 
   }
 
   -- reading stopped within a line
-  pub broken_reading : (fault : SessionFault) (read_failed write_failed : Bool) → BrokeOff fault r r' read_failed was left → Broken fault names start r' read_failed write_failed turns
-  broken_reading fault read_failed write_failed off = record {
+  pub broken_reading : (fault : SessionFault) (read_failed write_failed : Bool) → write_failed ≡ false → BrokeOff fault r r' read_failed was left → Broken fault names start r' read_failed write_failed turns
+  broken_reading fault read_failed write_failed fine off = record {
     bytes = so_far.bytes;
     part = off.part;
     took = Consumes-trans start r r' so_far.bytes off.part so_far.took off.bytes;
@@ -153,15 +154,15 @@ module _ (names : KnownNames) (start r r' : Option (List ℕ)) (was left : ℕ) 
       taken none = omega (arith, none, so_far.count, off.count, length-append so_far.bytes off.part)
 
       why : (fault : SessionFault) → IsReadingFault fault start r' read_failed left → IsCause fault start r' read_failed write_failed (length (so_far.bytes ++ off.part))
-      why Read reason = reason
-      why TooLong reason = (taken reason.0, reason.1)
+      why Read reason = (reason, fine)
+      why TooLong reason = (reason.0, fine, taken reason.1, reason.2)
       why Write reason = absurd reason
       why Memory reason = absurd reason
       why Clash reason = absurd reason
 
   -- memory was refused when a line was to be understood
-  pub broken_memory : (held : Held) (next : Next) (read_failed write_failed : Bool) → TookLine next r r' held was left → Broken Memory names start r' read_failed write_failed turns
-  broken_memory held next read_failed write_failed took = record {
+  pub broken_memory : (held : Held) (next : Next) (read_failed write_failed : Bool) → read_failed ≡ false → write_failed ≡ false → TookLine next r r' held was left → Broken Memory names start r' read_failed write_failed turns
+  broken_memory held next read_failed write_failed reader writer took = record {
     bytes = so_far.bytes;
     part = ended next took.line;
     took = Consumes-trans start r r' so_far.bytes (ended next took.line) so_far.took took.bytes;
@@ -169,7 +170,7 @@ module _ (names : KnownNames) (start r r' : Option (List ℕ)) (was left : ℕ) 
     lines = inl (whole_lines so_far.bytes so_far.lines so_far.cut);
     dropped = dropped next took.line took.plain;
     are = now_are true names start r was turns so_far;
-    why = tt;
+    why = (reader, writer);
   }
     where
       dropped : (next : Next) (line : List ℕ) → HasNoLf line → IsDropped Memory (ended next line)

@@ -1,5 +1,5 @@
 -- What the machine of one worker holds before the first line, and what is asked of it.
-use Rattle.std.proofs.Common.{◌≡◌, ℕ, ◌<◌, Bool, true, inl, List, [], length, refl, sym, ap, subst, ◌∙◌, arith, Option, Some, None, IfSome, sum_by}
+use Rattle.std.proofs.Common.{◌≡◌, ℕ, ◌<◌, Bool, true, false, inl, List, [], length, refl, sym, ap, subst, ◌∙◌, arith, Option, Some, None, IfSome, sum_by}
 use mathlib.Core.Path.{fun_ext}
 use Rattle.std.specs.Io.KnownBytes.{Appends}
 use Rattle.std.proofs.KnownBytes.{Appends-nil}
@@ -124,8 +124,9 @@ are_served setup agree knows l (Ask work) is = knows _ work is.1
 module _ (setup : Setup) (limit : ℕ) (s : Pages) (start rest first kept : Option (List ℕ)) where
   -- a session that was read to its end
   pub served_whole : (Settled : ℕ → Type 0) → Finished setup.names start rest first kept (told_text setup (order_of s.entries.items)) Settled (Came setup limit s)
-      → IsServed setup limit start rest first kept
-  served_whole Settled done = record {
+      → (read_failed write_failed : Bool) → read_failed ≡ false → write_failed ≡ false
+      → IsServed setup limit (record { before = start; after = rest; failed = read_failed }) (record { before = first; after = kept; failed = write_failed })
+  served_whole Settled done read_failed write_failed reader writer = record {
     bytes = done.bytes;
     turns = done.turns;
     took = done.took;
@@ -135,12 +136,13 @@ module _ (setup : Setup) (limit : ℕ) (s : Pages) (start rest first kept : Opti
     are = done.are;
     put = subst (λ (f : ℕ → List ℕ). Appends first kept (session_text f done.turns))
         (fun_ext (one_whole setup limit s.subject (order_of s.entries.items) s.ended done.turns done.came)) done.put;
+    fine = (reader, writer);
   }
 
   -- a session that ended early
   pub served_part : (fault : SessionFault) (read_failed write_failed : Bool)
       → Stopped fault setup.names start rest first kept read_failed write_failed (told_text setup (order_of s.entries.items)) (λ n. AreLater s.ended (order_of s.entries.items) n) (Came setup limit s)
-      → IsCutShort setup limit fault start rest first kept read_failed write_failed
+      → IsCutShort setup limit fault (record { before = start; after = rest; failed = read_failed }) (record { before = first; after = kept; failed = write_failed })
   served_part fault read_failed write_failed off =
       let same : SameUpTo off.upto (told_text setup (order_of s.entries.items)) (line_text (one_state setup limit off.heard) 0) =
       one_part setup limit s.subject (order_of s.entries.items) s.ended off.upto off.settles off.told off.heard off.came off.settled off.told_is in
@@ -158,16 +160,17 @@ module _ (setup : Setup) (limit : ℕ) (s : Pages) (start rest first kept : Opti
       }
 
 -- a session for which memory was refused before it began
-pub unserved : (setup : Setup) (limit : ℕ) (start kept : Option (List ℕ)) (read_failed write_failed : Bool) → IsCutShort setup limit Memory start start kept kept read_failed write_failed
-unserved setup limit start kept read_failed write_failed = record {
+pub unserved : (setup : Setup) (limit : ℕ) (start kept : Option (List ℕ)) (read_failed write_failed : Bool) → read_failed ≡ false → write_failed ≡ false
+    → IsCutShort setup limit Memory (record { before = start; after = start; failed = read_failed }) (record { before = kept; after = kept; failed = write_failed })
+unserved setup limit start kept read_failed write_failed reader writer = record {
   turns = [];
-  read = broken_after true _ _ _ 16777216 [] (cutting_start setup.names start 16777216 refl) Memory read_failed write_failed tt;
+  read = broken_after true _ _ _ 16777216 [] (cutting_start setup.names start 16777216 refl) Memory read_failed write_failed reader writer;
   stops = tt;
   unread = λ refused. absurd refused;
   written = [];
   put = Appends-nil kept;
   heard = [];
-  heard_is = ([], refl);
+  heard_is = ([], omega arith, refl);
   begins = (transcript setup limit [], refl);
   closed = ([], [], omega arith, refl, inl (tt, refl));
 }

@@ -12,7 +12,7 @@ use Rattle.bl_wire.specs.declared.turn.Pending.{Pending}
 use Rattle.bl_wire.specs.Turns.{AreSkips, IsOpening, IsRefusal, StopsAtRefusal, is_skip, greeted}
 use Rattle.bl_session.specs.Told.{Told, Opens, Settles, told_of, told_by, SameUpTo}
 use Rattle.bl_wire.specs.Texts.{text_of, session_text, ok_line, bye_line, refused_hello}
-use Rattle.bl_session.specs.Spoken.{Begins, AreSaid, BlockFailed, IsOwnFault, TakesTurn, FailsTurn, block_text}
+use Rattle.bl_session.specs.Spoken.{Begins, LacksTheLast, AreSaid, BlockFailed, IsOwnFault, TakesTurn, FailsTurn, block_text}
 use Rattle.bl_session.specs.Stages.{Cutting, Unheard, Stage, Finished, Broken, Stopped, IsCause, AreWhole, IsDuePart, IsPutAt}
 use Rattle.bl_session.proofs.Steps.{whole, block_part, said}
 use Rattle.bl_session.proofs.Cuttings.{cut-now, now_are, broken_after, after_nothing}
@@ -186,8 +186,8 @@ begins_opened r subject head turns ws opens begins =
 begins-append : (a b c : List ℕ) → Begins a b → Begins a (b ++ c)
 begins-append a b c begins = (begins.0 ++ c, ap (λ l. l ++ c) begins.1 ∙ append_assoc a begins.0 c)
 
-heard_opened : (head heard turns : List Turn) → Begins heard turns → Begins (head ++ heard) (head ++ turns)
-heard_opened head heard turns begins = (begins.0, ap (λ l. head ++ l) begins.1 ∙ sym (append_assoc head heard begins.0))
+heard_opened : (head heard turns : List Turn) → LacksTheLast heard turns → LacksTheLast (head ++ heard) (head ++ turns)
+heard_opened head heard turns lacks = (lacks.0, lacks.1, ap (λ l. head ++ l) lacks.2 ∙ sym (append_assoc head heard lacks.0))
 
 module _ (names : KnownNames) (start r first w : Option (List ℕ)) (f : ℕ → List ℕ) (Settled : ℕ → Type 0) (Came : List Told → Type 0) (after : ℕ) (pending : List Pending) where
   module _ (again : Bool) (left : ℕ) (st : Stage again names start r first w left f Settled Came after pending) where
@@ -214,7 +214,7 @@ module _ (names : KnownNames) (start r first w : Option (List ℕ)) (f : ℕ →
       told = Opens st.subject ∷ told_of 0 st.turns;
       came = st.spoken.came;
       heard = st.head ++ st.turns;
-      heard_is = ([], sym (append-nil (st.head ++ st.turns)));
+      heard_is = ([], omega arith, sym (append-nil (st.head ++ st.turns)));
       settles = 1;
       told_is = opened_told st.subject st.head st.turns st.opened;
       begins = due;
@@ -244,15 +244,15 @@ module _ (names : KnownNames) (start r first w : Option (List ℕ)) (f : ℕ →
           }
 
       -- a line was read, and taking it failed
-      pub stopped_turn : (fault : SessionFault) (read_failed write_failed : Bool) → IsOwnFault write_failed fault → FailsTurn fault f g Settled Settled' Came Came' after pending w w' t
+      pub stopped_turn : (fault : SessionFault) (read_failed write_failed : Bool) → read_failed ≡ false → IsOwnFault write_failed fault → FailsTurn fault f g Settled Settled' Came Came' after pending w w' t
           → Stopped fault names start r' first w' read_failed write_failed g Settled' Came'
-      stopped_turn fault read_failed write_failed own fails =
+      stopped_turn fault read_failed write_failed fine own fails =
           let step = fails st.subject st.turns st.written st.spoken in
           let failed = step.2 in
           let turns = st.turns ++ t ∷ [] in
           record {
             turns = st.head ++ turns;
-            read = broken_after next names start r' left' (st.head ++ turns) read_on fault read_failed write_failed own;
+            read = broken_after next names start r' left' (st.head ++ turns) read_on fault read_failed write_failed fine own;
             stops = stops_opened st.subject st.head turns st.opened;
             unread = λ refused. absurd (not_refused_opened st.subject st.head turns st.opened refused);
             written = ok_line ++ (st.written ++ step.0);
@@ -306,11 +306,11 @@ module _ (names : KnownNames) (start r first w : Option (List ℕ)) (f : ℕ →
         }
 
     -- part of the last block is written
-    pub stage_failed : (fault : SessionFault) (read_failed write_failed : Bool) → IsOwnFault write_failed fault → (ordinal : ℕ) → ordinal ≡ after + length pending → Settled' after
+    pub stage_failed : (fault : SessionFault) (read_failed write_failed : Bool) → read_failed ≡ false → IsOwnFault write_failed fault → (ordinal : ℕ) → ordinal ≡ after + length pending → Settled' after
         → BlockFailed fault Settled' w w' ordinal (block_text g after pending ++ bye_line)
         → ((told : List Told) → Came told → Came' told ⊎ Came' (told ++ Settles ∷ []))
         → Stopped fault names start r first w' read_failed write_failed g Settled' Came'
-    stage_failed fault read_failed write_failed own ordinal count settled failed came =
+    stage_failed fault read_failed write_failed fine own ordinal count settled failed came =
         elim (came (Opens st.subject ∷ told_of 0 st.turns) st.spoken.came) [
           | inl before ↦ made (Opens st.subject ∷ told_of 0 st.turns) before 1 (opened_told st.subject st.head st.turns st.opened)
           | inr settles ↦ made ((Opens st.subject ∷ told_of 0 st.turns) ++ Settles ∷ []) settles 0
@@ -326,7 +326,7 @@ module _ (names : KnownNames) (start r first w : Option (List ℕ)) (f : ℕ →
             let text = take failed.much (block_text g after pending ++ bye_line) in
             record {
               turns = st.head ++ st.turns;
-              read = broken_after false names start r left (st.head ++ st.turns) st.read fault read_failed write_failed own;
+              read = broken_after false names start r left (st.head ++ st.turns) st.read fault read_failed write_failed fine own;
               stops = stops_opened st.subject st.head st.turns st.opened;
               unread = λ refused. absurd (not_refused_opened st.subject st.head st.turns st.opened refused);
               written = ok_line ++ (st.written ++ text);
@@ -336,7 +336,7 @@ module _ (names : KnownNames) (start r first w : Option (List ℕ)) (f : ℕ →
               told = told;
               came = came;
               heard = st.head ++ st.turns;
-              heard_is = ([], sym (append-nil (st.head ++ st.turns)));
+              heard_is = ([], omega arith, sym (append-nil (st.head ++ st.turns)));
               settles = settles;
               told_is = is;
               begins = λ later kept. begins_opened later st.subject st.head st.turns (st.written ++ text) st.opened (part.begins later kept);
@@ -369,7 +369,7 @@ module _ (names : KnownNames) (start r first : Option (List ℕ)) (Settled : ℕ
     told = [];
     came = came;
     heard = unheard.0;
-    heard_is = ([], sym (append-nil unheard.0));
+    heard_is = ([], omega arith, sym (append-nil unheard.0));
     settles = 0;
     told_is = skipped_told unheard.0 unheard.1;
     begins = λ later kept. (session_text later unheard.0, refl);
@@ -396,13 +396,13 @@ module _ (names : KnownNames) (start r first : Option (List ℕ)) (Settled : ℕ
     }
 
     pub closed_failed : (front last : List Turn) → StopsAtRefusal turns → AreSkips front → length last ≤ 1 → turns ≡ front ++ last → OnSome start (IsAtEnd r) ⊎ (IsRefusal turns × (text ≡ refused_hello ++ bye_line))
-        → (fault : SessionFault) (read_failed write_failed : Bool) → IsOwnFault write_failed fault → fault ≡ Write → (much : ℕ) → Appends first w' (take much text)
+        → (fault : SessionFault) (read_failed write_failed : Bool) → read_failed ≡ false → IsOwnFault write_failed fault → fault ≡ Write → (much : ℕ) → Appends first w' (take much text)
         → Stopped fault names start r first w' read_failed write_failed f Settled Came
-    closed_failed front last stops quiet few split heard fault read_failed write_failed own write much put = record {
+    closed_failed front last stops quiet few split heard fault read_failed write_failed fine own write much put = record {
       turns = turns;
-      read = broken_after again names start r left turns read fault read_failed write_failed own;
+      read = broken_after again names start r left turns read fault read_failed write_failed fine own;
       stops = stops;
-      unread = λ refused. after_nothing again names start r left turns read fault read_failed write_failed own;
+      unread = λ refused. after_nothing again names start r left turns read fault read_failed write_failed fine own;
       written = take much text;
       put = put;
       upto = 0;
@@ -410,7 +410,7 @@ module _ (names : KnownNames) (start r first : Option (List ℕ)) (Settled : ℕ
       told = [];
       came = came;
       heard = turns;
-      heard_is = ([], sym (append-nil turns));
+      heard_is = ([], omega arith, sym (append-nil turns));
       settles = 0;
       told_is = told_is;
       begins = λ later kept. (drop much text, text_is later ∙ sym (take-append-drop much text));
@@ -464,14 +464,14 @@ module _ (again : Bool) (names : KnownNames) (start r first : Option (List ℕ))
   })
 
   -- the session couldn't be opened, or its first reply couldn't be written
-  pub stopped_greeting : (w : Option (List ℕ)) (f : ℕ → List ℕ) (Settled : ℕ → Type 0) (Came : List Told → Type 0) → (fault : SessionFault) (read_failed write_failed : Bool) → IsOwnFault write_failed fault
+  pub stopped_greeting : (w : Option (List ℕ)) (f : ℕ → List ℕ) (Settled : ℕ → Type 0) (Came : List Told → Type 0) → (fault : SessionFault) (read_failed write_failed : Bool) → read_failed ≡ false → IsOwnFault write_failed fault
       → Settled 0 → (Came [] × Appends first w []) ⊎ ((fault ≡ Write) × Came (Opens subject ∷ []) × ((much : ℕ) × Appends first w (take much ok_line)))
       → Stopped fault names start r first w read_failed write_failed f Settled Came
-  stopped_greeting w f Settled Came fault read_failed write_failed own settled (inl before) = record {
+  stopped_greeting w f Settled Came fault read_failed write_failed fine own settled (inl before) = record {
     turns = skips ++ t ∷ [];
-    read = broken_after again names start r left (skips ++ t ∷ []) read fault read_failed write_failed own;
+    read = broken_after again names start r left (skips ++ t ∷ []) read fault read_failed write_failed fine own;
     stops = stops_greeted;
-    unread = λ refused. after_nothing again names start r left (skips ++ t ∷ []) read fault read_failed write_failed own;
+    unread = λ refused. after_nothing again names start r left (skips ++ t ∷ []) read fault read_failed write_failed fine own;
     written = [];
     put = before.1;
     upto = 0;
@@ -479,18 +479,18 @@ module _ (again : Bool) (names : KnownNames) (start r first : Option (List ℕ))
     told = [];
     came = before.0;
     heard = skips;
-    heard_is = (t ∷ [], refl);
+    heard_is = (t ∷ [], omega arith, refl);
     settles = 0;
     told_is = skipped_told skips quiet;
     begins = λ later kept. (session_text later skips, refl);
     closed = λ later kept. put_part later start r skips (t ∷ []) (skips ++ t ∷ []) skips [] [] (omega arith) refl (inl (quiet, refl)) fault write_failed own (λ is. refl)
         (inr ([], inl (inl (quiet, refl)), ([], refl)));
   }
-  stopped_greeting w f Settled Came fault read_failed write_failed own settled (inr after) = record {
+  stopped_greeting w f Settled Came fault read_failed write_failed fine own settled (inr after) = record {
     turns = skips ++ t ∷ [];
-    read = broken_after again names start r left (skips ++ t ∷ []) read fault read_failed write_failed own;
+    read = broken_after again names start r left (skips ++ t ∷ []) read fault read_failed write_failed fine own;
     stops = stops_greeted;
-    unread = λ refused. after_nothing again names start r left (skips ++ t ∷ []) read fault read_failed write_failed own;
+    unread = λ refused. after_nothing again names start r left (skips ++ t ∷ []) read fault read_failed write_failed fine own;
     written = take after.2.0 ok_line;
     put = after.2.1;
     upto = 0;
@@ -498,7 +498,7 @@ module _ (again : Bool) (names : KnownNames) (start r first : Option (List ℕ))
     told = Opens subject ∷ [];
     came = after.1;
     heard = skips ++ t ∷ [];
-    heard_is = ([], sym (append-nil (skips ++ t ∷ [])));
+    heard_is = ([], omega arith, sym (append-nil (skips ++ t ∷ [])));
     settles = 1;
     told_is = ap told_by (sym (append-nil (skips ++ t ∷ []))) ∙ opened_told subject (skips ++ t ∷ []) [] opens;
     begins = λ later kept. (

@@ -171,7 +171,7 @@ module _ (f g : ℕ → List ℕ) (Settled Settled' : ℕ → Type 0) (Came : Li
         told = Opens subject ∷ told_of 0 turns;
         came = came (Opens subject ∷ told_of 0 turns) was.came;
         heard = turns;
-        heard_is = (u ∷ [], refl);
+        heard_is = (u ∷ [], omega arith, refl);
         settles = 1;
         told_is = refl;
         begins = λ later kept. (
@@ -197,7 +197,7 @@ module _ (f g : ℕ → List ℕ) (Settled Settled' : ℕ → Type 0) (Came : Li
         told = Opens subject ∷ told_of 0 (turns ++ Ask w ∷ []);
         came = came;
         heard = turns ++ Ask w ∷ [];
-        heard_is = ([], ap (λ x. turns ++ x ∷ []) is ∙ sym (append-nil (turns ++ Ask w ∷ [])));
+        heard_is = ([], omega arith, ap (λ x. turns ++ x ∷ []) is ∙ sym (append-nil (turns ++ Ask w ∷ [])));
         settles = 1;
         told_is = refl;
         begins = λ later kept. (
@@ -240,7 +240,7 @@ module _ (f g : ℕ → List ℕ) (Settled Settled' : ℕ → Type 0) (Came : Li
           told = told;
           came = came;
           heard = turns ++ Wait ∷ [];
-          heard_is = ([], sym (append-nil (turns ++ Wait ∷ [])));
+          heard_is = ([], omega arith, sym (append-nil (turns ++ Wait ∷ [])));
           settles = settles;
           told_is = is;
           begins = λ later kept. begun part later kept;

@@ -19,7 +19,7 @@ use Rattle.bl_wire.specs.Lines.{onto, lines_of, without_cr}
 use Rattle.bl_wire.specs.Turns.{StandsIn, AreTurns}
 use Rattle.bl_session.specs.Told.{Told, Settles, told_of, told_by}
 use Rattle.bl_session.specs.One.{place_events, run_from, settling, fits, events_of, one, one_state}
-use Rattle.bl_session.specs.OneTrail.{IsRun}
+use Rattle.bl_session.specs.OneTrail.{IsOneTrail}
 use Rattle.bl_session.specs.Orders.{said, Mirrors}
 use Rattle.bl_session.specs.Spoken.{Begins}
 use Rattle.bl_session.proofs.RunLaws.{state_after-append, mirror_place, mirror_line}
@@ -261,7 +261,7 @@ runs_whole lead room setup limit agree (Greets subject ∷ turns) are small =
     }
 
 pub is_run : StepsLeadOn → OrderHasRoom → ((x : State) → IsReached x → Holds x) → (setup : Setup) (limit : ℕ) (turns : List Turn) → Agree setup → All (StandsIn setup.names) turns
-    → length turns < 2 ^ 32 → IsRun setup limit turns
+    → length turns < 2 ^ 32 → IsOneTrail setup limit turns
 is_run lead room holds setup limit turns agree are small =
     let run : RunsWhole setup limit (one setup limit turns) = runs_whole lead room setup limit agree turns are small in
     record {

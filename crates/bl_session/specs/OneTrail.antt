@@ -7,7 +7,7 @@ use Rattle.bl_wire.specs.declared.turn.Turn.{Turn}
 use Rattle.bl_session.specs.One.{one, one_state}
 
 -- The events of one session and one worker are a trail, at whose end every place has ended; so the headline holds there.
-pub record IsRun (setup : Setup) (limit : ℕ) (turns : List Turn) : Type 0 where
+pub record IsOneTrail (setup : Setup) (limit : ℕ) (turns : List Turn) : Type 0 where
   pub trail : IsTrail (start setup limit) (one setup limit turns)
   pub ended : (n : ℕ) → n < length (one_state setup limit turns).order → IsTrue (has_ended (one_state setup limit turns) n)
   pub holds : Holds (one_state setup limit turns)

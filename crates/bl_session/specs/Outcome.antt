@@ -1,40 +1,43 @@
 -- What a session with one worker ends with.
-use Rattle.std.specs.Prelude.{◌≡◌, ℕ, ◌≤◌, Bool, List, [], length, Option, OnSome, ◌⊎◌}
+use Rattle.std.specs.Prelude.{◌≡◌, ℕ, ◌≤◌, false, List, [], length, OnSome, ◌⊎◌}
 use Rattle.std.specs.Io.KnownBytes.{Consumes, Appends, IsAtEnd}
 use Rattle.bl_setup.specs.Setup.{Setup}
+use Rattle.bl_wire.specs.Watch.{Use}
 use Rattle.bl_wire.specs.declared.fault.SessionFault.{SessionFault}
 use Rattle.bl_wire.specs.declared.turn.Turn.{Turn}
 use Rattle.bl_wire.specs.Lines.{lines_of, AreLines}
 use Rattle.bl_wire.specs.Turns.{AreTurns, IsRefusal, StopsAtRefusal}
-use Rattle.bl_session.specs.Spoken.{Begins}
+use Rattle.bl_session.specs.Spoken.{Begins, LacksTheLast}
 use Rattle.bl_session.specs.Stages.{Broken, IsPutAt}
 use Rattle.bl_wire.specs.Replies.{line_text}
 use Rattle.bl_session.specs.One.{one_state}
 use Rattle.bl_session.specs.Transcript.{transcript}
 
 -- The input was read to its end, or to the end of a first line that was refused and no further, and its transcript is written.
-pub record IsServed (setup : Setup) (limit : ℕ) (start rest first kept : Option (List ℕ)) : Type 0 where
+-- Neither end failed.
+pub record IsServed (setup : Setup) (limit : ℕ) (reader writer : Use) : Type 0 where
   pub bytes : List ℕ
   pub turns : List Turn
-  pub took : Consumes start rest bytes
+  pub took : Consumes reader.before reader.after bytes
   pub within : length bytes ≤ 16777216
-  pub whole : OnSome start (IsAtEnd rest) ⊎ (AreLines bytes (lines_of bytes) × IsRefusal turns)
+  pub whole : OnSome reader.before (IsAtEnd reader.after) ⊎ (AreLines bytes (lines_of bytes) × IsRefusal turns)
   pub stops : StopsAtRefusal turns
   pub are : AreTurns setup.names (lines_of bytes) turns
-  pub put : Appends first kept (transcript setup limit turns)
+  pub put : Appends writer.before writer.after (transcript setup limit turns)
+  pub fine : (reader.failed ≡ false) × (writer.failed ≡ false)
 
 -- The session ended early. What is written begins the transcript of the lines that were read, but perhaps the last. Where
 -- reading failed it is all blocks whose `wait` came. Where memory was refused it is they as well, but the block that the last
 -- line closes may be lacking. Where writing failed a part of what is written next may follow. Of what stands behind a first
 -- line that was refused nothing was read.
-pub record IsCutShort (setup : Setup) (limit : ℕ) (fault : SessionFault) (start rest first kept : Option (List ℕ)) (read_failed write_failed : Bool) : Type 0 where
+pub record IsCutShort (setup : Setup) (limit : ℕ) (fault : SessionFault) (reader writer : Use) : Type 0 where
   pub turns : List Turn
-  pub read : Broken fault setup.names start rest read_failed write_failed turns
+  pub read : Broken fault setup.names reader.before reader.after reader.failed writer.failed turns
   pub stops : StopsAtRefusal turns
   pub unread : IsRefusal turns → read.part ≡ []
   pub written : List ℕ
-  pub put : Appends first kept written
+  pub put : Appends writer.before writer.after written
   pub heard : List Turn
-  pub heard_is : Begins heard turns
+  pub heard_is : LacksTheLast heard turns
   pub begins : Begins written (transcript setup limit heard)
-  pub closed : IsPutAt fault (line_text (one_state setup limit heard) 0) start rest turns heard written
+  pub closed : IsPutAt fault (line_text (one_state setup limit heard) 0) reader.before reader.after turns heard written

@@ -1,5 +1,5 @@
 -- How far a session has come after its first line.
-use Rattle.std.specs.Prelude.{◌≡◌, ℕ, ◌+◌, ◌<◌, List, [], ◌∷◌, ◌++◌, codes, take, ⊤, Bool, true, Option, replicate}
+use Rattle.std.specs.Prelude.{◌≡◌, ℕ, ◌+◌, ◌<◌, List, [], ◌∷◌, ◌++◌, codes, take, length, ◌≤◌, Bool, true, false, Option, replicate}
 use Rattle.std.specs.Io.KnownBytes.{Appends}
 use Rattle.bl_wire.specs.declared.fault.SessionFault.{SessionFault}
 use Rattle.bl_wire.specs.declared.fault.SessionFault.TheVariants.{Read, Write, TooLong, Memory, Clash}
@@ -46,10 +46,14 @@ pub record Spoken (replies : ℕ → List ℕ) (Settled : ℕ → Type 0) (Came 
   pub count : after ≡ ordinal_after 0 done
   pub came : Came (Opens subject ∷ told_of 0 turns)
 
+-- what was heard of these lines: all of them, but perhaps the last
+abbrev pub LacksTheLast : List Turn → List Turn → Type 0
+LacksTheLast heard turns = (last : List Turn) × (length last ≤ 1) × (turns ≡ heard ++ last)
+
 -- a fault that is no reading fault, and how the writer stands after it
 abbrev pub IsOwnFault : Bool → SessionFault → Type 0
 IsOwnFault failed Write = failed ≡ true
-IsOwnFault failed Memory = ⊤
+IsOwnFault failed Memory = failed ≡ false
 IsOwnFault failed Read = ⊥
 IsOwnFault failed TooLong = ⊥
 IsOwnFault failed Clash = ⊥
@@ -71,7 +75,7 @@ pub record TurnFailed (fault : SessionFault) (replies : ℕ → List ℕ) (Settl
   pub told : List Told
   pub came : Came told
   pub heard : List Turn
-  pub heard_is : Begins heard (turns ++ turn ∷ [])
+  pub heard_is : LacksTheLast heard (turns ++ turn ∷ [])
   pub settles : ℕ
   pub told_is : (Opens subject ∷ (told_of 0 heard ++ Settles ∷ [])) ≡ told ++ replicate settles Settles
   pub begins : (later : ℕ → List ℕ) → SameUpTo upto replies later → Begins (written ++ more) (text_of later 0 heard)

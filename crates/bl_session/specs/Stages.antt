@@ -1,5 +1,5 @@
 -- How far a session has come, from its first byte on.
-use Rattle.std.specs.Prelude.{◌≡◌, ℕ, ◌+◌, ◌≤◌, ◌<◌, Bool, true, false, List, [], ◌∷◌, ◌++◌, length, ⊤, Option, Some, None, OnSome, ◌⊎◌, replicate}
+use Rattle.std.specs.Prelude.{◌≡◌, ℕ, ◌+◌, ◌≤◌, ◌<◌, Bool, true, false, List, [], ◌∷◌, ◌++◌, length, Option, Some, None, OnSome, ◌⊎◌, replicate}
 use Rattle.std.specs.Io.KnownBytes.{Consumes, Appends, IsAtEnd}
 use Rattle.bl_work.specs.Names.{KnownNames}
 use Rattle.bl_wire.specs.Lines.{lines_of, AreLines, HasNoLf}
@@ -11,7 +11,7 @@ use Rattle.bl_wire.specs.declared.turn.Pending.{Pending}
 use Rattle.bl_wire.specs.Turns.{AreTurns, AreSkips, IsOpening, IsRefusal, StopsAtRefusal, HasNoWait, is_skip}
 use Rattle.bl_session.specs.Told.{Told, Settles, told_by, SameUpTo}
 use Rattle.bl_wire.specs.Texts.{text_of, session_text, ok_line, bye_line, refused_hello}
-use Rattle.bl_session.specs.Spoken.{Spoken, Begins}
+use Rattle.bl_session.specs.Spoken.{Spoken, Begins, LacksTheLast}
 
 -- the lines that were consumed: more may come, or these are all
 abbrev pub IsCut : Bool → List ℕ → List (List ℕ) → Option (List ℕ) → Option (List ℕ) → Type 0
@@ -79,12 +79,12 @@ pub record Finished (names : KnownNames) (start rest first kept : Option (List �
   pub upto : ℕ
   pub settled : Settled upto
 
--- why a session ended early, by how its ends stand and how many bytes it took
+-- Why a session ended early, by how its ends stand and how many bytes it took. Only the end that is told has failed.
 abbrev pub IsCause : SessionFault → Option (List ℕ) → Option (List ℕ) → Bool → Bool → ℕ → Type 0
-IsCause Read start rest read_failed write_failed taken = read_failed ≡ true
-IsCause Write start rest read_failed write_failed taken = write_failed ≡ true
-IsCause TooLong start rest read_failed write_failed taken = (taken ≡ 16777216) × OnSome start (HasMore rest)
-IsCause Memory start rest read_failed write_failed taken = ⊤
+IsCause Read start rest read_failed write_failed taken = (read_failed ≡ true) × (write_failed ≡ false)
+IsCause Write start rest read_failed write_failed taken = (read_failed ≡ false) × (write_failed ≡ true)
+IsCause TooLong start rest read_failed write_failed taken = (read_failed ≡ false) × (write_failed ≡ false) × (taken ≡ 16777216) × OnSome start (HasMore rest)
+IsCause Memory start rest read_failed write_failed taken = (read_failed ≡ false) × (write_failed ≡ false)
 IsCause Clash start rest read_failed write_failed taken = ⊥
 
 -- a begun line, or at want of memory a line that wasn't understood
@@ -161,7 +161,7 @@ pub record Stopped (fault : SessionFault) (names : KnownNames) (start rest first
   pub told : List Told
   pub came : Came told
   pub heard : List Turn
-  pub heard_is : Begins heard turns
+  pub heard_is : LacksTheLast heard turns
   pub settles : ℕ
   pub told_is : told_by heard ≡ told ++ replicate settles Settles
   pub begins : (later : ℕ → List ℕ) → SameUpTo upto replies later → Begins written (session_text later heard)

@@ -1,6 +1,7 @@
 //! A session with one worker, in one thread: lines are admitted without being run, and at each
 //! `wait` and at the end of the input they are answered in admission order.
 ghost use Rattle.std.specs.Prelude.{◌≡◌, ◌≢◌, false, OnOk, IfErr};
+ghost use Rattle.bl_wire.specs.Watch.{used};
 ghost use Rattle.bl_session.specs.Outcome.{IsServed, IsCutShort};
 ghost use Rattle.bl_wire.specs.declared.fault.SessionFault.TheVariants.{Clash};
 
@@ -25,9 +26,10 @@ pub struct Kept {
 /// Serves one session over a reader and a writer. The admitted lines weigh at most `limit` together, one for each `when`.
 ///
 /// At `Ok` the input was read to its end, or to the end of a first line that was refused, and its
-/// transcript is written. `Read` and `Write` come only where that end failed, `TooLong` only where
-/// 16,777,216 bytes were read and another one is there, and `Clash` never. After a fault what is
-/// written begins a transcript, nothing more is written, and what was not consumed stays unread.
+/// transcript is written and handed on. `Read` and `Write` come only where that end failed, and that
+/// end alone, `TooLong` only where 16,777,216 bytes were read and another one is there, and `Clash`
+/// never. After a fault what is written begins a transcript, nothing more is written, and what was
+/// not consumed stays unread.
 pub fn serve_alone<R: BufRead, W: Write>(
     alloc: Global,
     setup: Setup,
@@ -37,10 +39,9 @@ pub fn serve_alone<R: BufRead, W: Write>(
 ) -> Result<(), SessionFault>
     requires reader { reader.old.failed ≡ false }
     requires writer { writer.old.failed ≡ false }
-    ensures ok { OnOk result (IsServed setup limit (R.remaining reader.old.inner) (R.remaining reader.new.inner) (W.contents writer.old.inner) (W.contents writer.new.inner)) }
-    ensures fine { OnOk result ((reader.new.failed ≡ false) × (writer.new.failed ≡ false)) }
-    ensures err { IfErr result (λ fault. IsCutShort setup limit fault (R.remaining reader.old.inner) (R.remaining reader.new.inner) (W.contents writer.old.inner) (W.contents writer.new.inner)
-        reader.new.failed writer.new.failed) }
+    ensures ok { OnOk result (IsServed setup limit (used R.remaining reader.old reader.new) (used W.contents writer.old writer.new)) }
+    ensures handed_on { OnOk result (writer.new.unflushed ≡ false) }
+    ensures err { IfErr result (λ fault. IsCutShort setup limit fault (used R.remaining reader.old reader.new) (used W.contents writer.old writer.new)) }
     ensures never { IfErr result (λ fault. fault ≢ Clash) }
 {
     let (served, _kept) = serve_and_keep(alloc, setup, limit, reader, writer);
@@ -57,10 +58,9 @@ pub fn serve_and_keep<R: BufRead, W: Write>(
 ) -> (Result<(), SessionFault>, Option<Kept>)
     requires reader { reader.old.failed ≡ false }
     requires writer { writer.old.failed ≡ false }
-    ensures ok { OnOk result.0 (IsServed setup limit (R.remaining reader.old.inner) (R.remaining reader.new.inner) (W.contents writer.old.inner) (W.contents writer.new.inner)) }
-    ensures fine { OnOk result.0 ((reader.new.failed ≡ false) × (writer.new.failed ≡ false)) }
-    ensures err { IfErr result.0 (λ fault. IsCutShort setup limit fault (R.remaining reader.old.inner) (R.remaining reader.new.inner) (W.contents writer.old.inner) (W.contents writer.new.inner)
-        reader.new.failed writer.new.failed) }
+    ensures ok { OnOk result.0 (IsServed setup limit (used R.remaining reader.old reader.new) (used W.contents writer.old writer.new)) }
+    ensures handed_on { OnOk result.0 (writer.new.unflushed ≡ false) }
+    ensures err { IfErr result.0 (λ fault. IsCutShort setup limit fault (used R.remaining reader.old reader.new) (used W.contents writer.old writer.new)) }
     ensures never { IfErr result.0 (λ fault. fault ≢ Clash) }
 {
     let monitor = match Monitor::new(alloc, setup) {

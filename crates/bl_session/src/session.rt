@@ -45,6 +45,7 @@ fn end_block<B: Behind, W: Write>(
     talk: &mut Talk,
     closing: &[u8],
 ) -> Result<(), SessionFault>
+    requires writer { writer.old.failed ≡ false }
     requires count { talk.old.ordinal ≡ talk.old.after + length talk.old.pending.items }
     requires last { B.last behind.now state.old ≤ talk.old.ordinal }
     requires settled { B.settled behind.now state.old talk.old.after }
@@ -58,7 +59,7 @@ fn end_block<B: Behind, W: Write>(
     ensures done { OnOk result (B.settled behind.now state.new talk.old.ordinal) }
     ensures came { OnOk result ((told : List Told) → B.came behind.now state.old told → B.came behind.now state.new (told ++ Settles ∷ [])) }
     ensures talk { OnOk result ((talk.new.ordinal ≡ talk.old.ordinal) × (talk.new.after ≡ talk.old.ordinal) × (talk.new.pending.items ≡ [])) }
-    ensures same { OnOk result (writer.new.failed ≡ writer.old.failed) }
+    ensures fine { OnOk result ((writer.new.failed ≡ false) × (writer.new.unflushed ≡ false)) }
     ensures whole { OnOk result (B.whole behind.now state.new talk.new.after) }
 
     ensures fault { IfErr result (IsOwnFault writer.new.failed) }
@@ -98,6 +99,7 @@ fn take_turn<B: Behind, W: Write>(
     talk: &mut Talk,
     turn: Turn,
 ) -> Result<(), SessionFault>
+    requires writer { writer.old.failed ≡ false }
     requires count { talk.old.ordinal ≡ talk.old.after + length talk.old.pending.items }
     requires settled { B.settled behind.now state.old talk.old.after }
     requires whole { B.whole behind.now state.old talk.old.after }
@@ -107,7 +109,7 @@ fn take_turn<B: Behind, W: Write>(
     ensures ok { OnOk result (TakesTurn (B.replies behind.now state.old) (B.replies behind.now state.new)
         (B.settled behind.now state.old) (B.settled behind.now state.new) (B.came behind.now state.old) (B.came behind.now state.new)
         talk.old.after talk.new.after talk.old.pending.items talk.new.pending.items (W.contents writer.old.inner) (W.contents writer.new.inner) turn) }
-    ensures same { OnOk result (writer.new.failed ≡ writer.old.failed) }
+    ensures fine { OnOk result (writer.new.failed ≡ false) }
     ensures whole { OnOk result (B.whole behind.now state.new talk.new.after) }
     ensures count { OnOk result (talk.new.ordinal ≡ talk.new.after + length talk.new.pending.items) }
     ensures settled { OnOk result (B.settled behind.now state.new talk.new.after) }
@@ -149,13 +151,14 @@ fn next_turn<R: BufRead>(
     held: &mut Held,
     left: &mut usize,
 ) -> Result<Option<(Turn, bool)>, SessionFault>
+    requires reader { reader.old.failed ≡ false }
     ensures ok { IfOk result (λ found. (start : Option (List ℕ)) (turns : List Turn) →
         Cutting true names.now start (R.remaining reader.old.inner) left.old turns →
         ReadsOn found names.now start (R.remaining reader.new.inner) left.new turns) }
     ensures said { IfOk result (λ found. IfSome found (λ f. StandsIn names.now f.0)) }
     ensures nearer { IfOk result (λ found. IsNearer found left.old left.new) }
-    ensures same { OnOk result (reader.new.failed ≡ reader.old.failed) }
-    ensures err { IfErr result (λ fault. (start : Option (List ℕ)) (turns : List Turn) (write_failed : Bool) →
+    ensures fine { OnOk result (reader.new.failed ≡ false) }
+    ensures err { IfErr result (λ fault. (start : Option (List ℕ)) (turns : List Turn) (write_failed : Bool) → write_failed ≡ false →
         Cutting true names.now start (R.remaining reader.old.inner) left.old turns →
         Broken fault names.now start (R.remaining reader.new.inner) reader.new.failed write_failed turns) }
 {
@@ -191,11 +194,12 @@ fn one_line<R: BufRead, B: Behind, W: Write>(
     requires whole { B.whole behind.now state.old talk.old.after }
     requires last { B.last behind.now state.old ≤ talk.old.ordinal }
     requires small { talk.old.ordinal + left.old + 1 < 2 ^ 32 }
+    requires fine { (reader.old.failed ≡ false) × (writer.old.failed ≡ false) }
     requires served { AreServed names.now (B.serves behind.now) (B.takes behind.now) }
     ensures ok { IfOk result (λ again. (start first : Option (List ℕ)) →
         Stage true names.now start (R.remaining reader.old.inner) first (W.contents writer.old.inner) left.old (B.replies behind.now state.old) (B.settled behind.now state.old) (B.came behind.now state.old) talk.old.after talk.old.pending.items →
         Stage again names.now start (R.remaining reader.new.inner) first (W.contents writer.new.inner) left.new (B.replies behind.now state.new) (B.settled behind.now state.new) (B.came behind.now state.new) talk.new.after talk.new.pending.items) }
-    ensures same { OnOk result ((reader.new.failed ≡ reader.old.failed) × (writer.new.failed ≡ writer.old.failed)) }
+    ensures fine { OnOk result ((reader.new.failed ≡ false) × (writer.new.failed ≡ false)) }
     ensures whole { OnOk result (B.whole behind.now state.new talk.new.after) }
     ensures count { OnOk result (talk.new.ordinal ≡ talk.new.after + length talk.new.pending.items) }
     ensures settled { OnOk result (B.settled behind.now state.new talk.new.after) }
@@ -228,13 +232,14 @@ fn first_turn<R: BufRead>(
     held: &mut Held,
     left: &mut usize,
 ) -> Result<Option<(Turn, bool)>, SessionFault>
+    requires reader { reader.old.failed ≡ false }
     ensures ok { IfOk result (λ found. (start : Option (List ℕ)) →
         Unheard true names.now start (R.remaining reader.old.inner) left.old →
         IsFirst found names.now start (R.remaining reader.new.inner) left.new) }
     ensures said { IfOk result (λ found. IfSome found (λ f. StandsIn names.now f.0)) }
     ensures fewer { OnOk result (left.new ≤ left.old) }
-    ensures same { OnOk result (reader.new.failed ≡ reader.old.failed) }
-    ensures err { IfErr result (λ fault. (start : Option (List ℕ)) (write_failed : Bool) →
+    ensures fine { OnOk result (reader.new.failed ≡ false) }
+    ensures err { IfErr result (λ fault. (start : Option (List ℕ)) (write_failed : Bool) → write_failed ≡ false →
         Unheard true names.now start (R.remaining reader.old.inner) left.old →
         (turns : List Turn) × AreSkips turns × Broken fault names.now start (R.remaining reader.new.inner) reader.new.failed write_failed turns) }
 {
@@ -270,10 +275,11 @@ fn listen<R: BufRead, B: Behind, W: Write>(
     requires served { AreServed names.now (B.serves behind.now) (B.takes behind.now) }
     requires last { B.last behind.now state.old ≡ 0 }
     requires small { left.old ≤ 16777216 }
+    requires fine { (reader.old.failed ≡ false) × (writer.old.failed ≡ false) }
     ensures ok { OnOk result ((start first : Option (List ℕ)) →
         Stage more names.now start (R.remaining reader.old.inner) first (W.contents writer.old.inner) left.old (B.replies behind.now state.old) (B.settled behind.now state.old) (B.came behind.now state.old) 0 [] →
         Finished names.now start (R.remaining reader.new.inner) first (W.contents writer.new.inner) (B.replies behind.now state.new) (B.settled behind.now state.new) (B.came behind.now state.new)) }
-    ensures same { OnOk result ((reader.new.failed ≡ reader.old.failed) × (writer.new.failed ≡ writer.old.failed)) }
+    ensures fine { OnOk result ((reader.new.failed ≡ false) × (writer.new.failed ≡ false) × (writer.new.unflushed ≡ false)) }
     ensures err { IfErr result (λ fault. (start first : Option (List ℕ)) →
         Stage more names.now start (R.remaining reader.old.inner) first (W.contents writer.old.inner) left.old (B.replies behind.now state.old) (B.settled behind.now state.old) (B.came behind.now state.old) 0 [] →
         Stopped fault names.now start (R.remaining reader.new.inner) first (W.contents writer.new.inner) reader.new.failed writer.new.failed (B.replies behind.now state.new) (B.settled behind.now state.new) (B.came behind.now state.new)) }
@@ -300,8 +306,9 @@ fn listen<R: BufRead, B: Behind, W: Write>(
 
 /// Writes words.
 fn say<W: Write>(writer: &mut Watched<W>, words: &[u8]) -> Result<(), SessionFault>
+    requires { writer.old.failed ≡ false }
     ensures ok { OnOk result (Appends (W.contents writer.old.inner) (W.contents writer.new.inner) words.now) }
-    ensures same { OnOk result (writer.new.failed ≡ writer.old.failed) }
+    ensures fine { OnOk result ((writer.new.failed ≡ false) × (writer.new.unflushed ≡ false)) }
     ensures fault { IfErr result (IsOwnFault writer.new.failed) }
     ensures write { IfErr result (λ fault. fault ≡ Write) }
     ensures part { (much : ℕ) × Appends (W.contents writer.old.inner) (W.contents writer.new.inner) (take much words.now) }
@@ -320,13 +327,14 @@ fn greet<B: Behind, W: Write>(
     writer: &mut Watched<W>,
     subject: SubjectId,
 ) -> Result<(), SessionFault>
+    requires writer { writer.old.failed ≡ false }
     requires serves { B.serves behind.now subject }
     requires came { B.came behind.now state.old [] }
     requires settled { B.settled behind.now state.old 0 }
     requires whole { B.whole behind.now state.old 0 }
     ensures settled { B.settled behind.now state.new 0 }
     ensures ok { OnOk result (Appends (W.contents writer.old.inner) (W.contents writer.new.inner) ok_line) }
-    ensures same { OnOk result (writer.new.failed ≡ writer.old.failed) }
+    ensures fine { OnOk result (writer.new.failed ≡ false) }
     ensures whole { OnOk result (B.whole behind.now state.new 0) }
     ensures came { OnOk result (B.came behind.now state.new (Opens subject ∷ [])) }
     ensures last { OnOk result (B.last behind.now state.new ≡ 0) }
@@ -361,12 +369,13 @@ fn answer_first<R: BufRead, B: Behind, W: Write>(
     requires settled { B.settled behind.now state.old 0 }
     requires whole { B.whole behind.now state.old 0 }
     requires small { left.old ≤ 16777216 }
+    requires fine { (reader.old.failed ≡ false) × (writer.old.failed ≡ false) }
     requires spoken { is_skip turn ≡ false }
     requires first { IsServed (B.serves behind.now) (B.takes behind.now) turn }
     requires served { AreServed names.now (B.serves behind.now) (B.takes behind.now) }
     ensures ok { OnOk result ((start : Option (List ℕ)) → Heard turn more names.now start (R.remaining reader.old.inner) left.old →
         Finished names.now start (R.remaining reader.new.inner) (W.contents writer.old.inner) (W.contents writer.new.inner) (B.replies behind.now state.new) (B.settled behind.now state.new) (B.came behind.now state.new)) }
-    ensures same { OnOk result ((reader.new.failed ≡ reader.old.failed) × (writer.new.failed ≡ writer.old.failed)) }
+    ensures fine { OnOk result ((reader.new.failed ≡ false) × (writer.new.failed ≡ false) × (writer.new.unflushed ≡ false)) }
     ensures err { IfErr result (λ fault. (start : Option (List ℕ)) → Heard turn more names.now start (R.remaining reader.old.inner) left.old →
         Stopped fault names.now start (R.remaining reader.new.inner) (W.contents writer.old.inner) (W.contents writer.new.inner) reader.new.failed writer.new.failed (B.replies behind.now state.new) (B.settled behind.now state.new) (B.came behind.now state.new)) }
 {
@@ -391,13 +400,14 @@ pub fn converse<R: BufRead, B: Behind, W: Write>(
     reader: &mut Watched<R>,
     writer: &mut Watched<W>,
 ) -> Result<(), SessionFault>
+    requires fine { (reader.old.failed ≡ false) × (writer.old.failed ≡ false) }
     requires came { B.came behind.now state.old [] }
     requires settled { B.settled behind.now state.old 0 }
     requires whole { B.whole behind.now state.old 0 }
     requires served { AreServed names.now (B.serves behind.now) (B.takes behind.now) }
     ensures ok { OnOk result (Finished names.now (R.remaining reader.old.inner) (R.remaining reader.new.inner) (W.contents writer.old.inner) (W.contents writer.new.inner)
         (B.replies behind.now state.new) (B.settled behind.now state.new) (B.came behind.now state.new)) }
-    ensures same { OnOk result ((reader.new.failed ≡ reader.old.failed) × (writer.new.failed ≡ writer.old.failed)) }
+    ensures fine { OnOk result ((reader.new.failed ≡ false) × (writer.new.failed ≡ false) × (writer.new.unflushed ≡ false)) }
     ensures err { IfErr result (λ fault. Stopped fault names.now (R.remaining reader.old.inner) (R.remaining reader.new.inner) (W.contents writer.old.inner) (W.contents writer.new.inner)
         reader.new.failed writer.new.failed (B.replies behind.now state.new) (B.settled behind.now state.new) (B.came behind.now state.new)) }
 {

@@ -56,7 +56,7 @@ fn served(alloc: Global, setup: Setup, limit: u32, input: &[u8]) -> Result<(Vec<
     let mut reader = Watched::new(input);
     let mut writer = Watched::new(Vec::new(alloc));
     serve_alone(alloc, setup, limit, &mut reader, &mut writer)?;
-    Ok((writer.inner, reader.inner.len()))
+    Ok((writer.into_inner(), reader.into_inner().len()))
 }
 
 /// Asserts what is written to this input over a setup, and gives how many of its bytes were left unread.

@@ -1,5 +1,5 @@
 //! The replies of each block, and what stays from one block to the next.
-use crate::base::assert_said;
+use crate::base::{assert_said, assert_served, joined, setup_with};
 use std::test::Fail;
 
 /// The second block has its own replies alone, and finds what the first one left.
@@ -36,4 +36,31 @@ fn refused_lines_among_blocks(rt: HostRuntime) -> Result<(), Fail> {
         1 refused syntax 5\n2 done\n2.1 done \"n1\"\n3 refused hello\nok\n\
         4 refused unknown zed\n5 denied star ann note\nbye\n";
     assert_said(&rt, input, output)
+}
+
+/// A block of more than 120,000 bytes is written whole, and its writer has not failed.
+#[test]
+fn long_block(rt: HostRuntime) -> Result<(), Fail> {
+    let alloc = rt.alloc();
+    let mut note = String::new(alloc);
+    for _ in 0..6_000 {
+        note.push_str("0123456789")?;
+    }
+    let input = b"hello ann\nwhen read note do show note; end\nwhen read note do show note; end\n";
+    let parts = [
+        "ok\n1 done \"",
+        note.as_str(),
+        "\"\n2 done \"",
+        note.as_str(),
+        "\"\nbye\n",
+    ];
+    let output = String::from_utf8(joined(alloc, parts.as_slice())?)?;
+    assert_served(
+        &rt,
+        setup_with(alloc, note.as_str())?,
+        10_000,
+        input,
+        output.as_str(),
+    )?;
+    Ok(())
 }

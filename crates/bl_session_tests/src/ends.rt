@@ -93,7 +93,7 @@ fn serve_broken(alloc: Global, read: Option<usize>, write: Option<usize>) -> Res
         result,
         read_failed: reader.failed(),
         write_failed: writer.failed(),
-        written: writer.inner.inner,
+        written: writer.into_inner().inner,
     })
 }
 
@@ -169,7 +169,7 @@ fn serve_cut(alloc: Global, bytes: &[u8]) -> Result<Ended, Fail> {
         result,
         read_failed: reader.failed(),
         write_failed: writer.failed(),
-        written: writer.inner,
+        written: writer.into_inner(),
     })
 }
 
@@ -232,7 +232,7 @@ fn serve_narrow(alloc: Global, fails: bool) -> Result<Ended, Fail> {
         result,
         read_failed: reader.failed(),
         write_failed: writer.failed(),
-        written: writer.inner.taken,
+        written: writer.into_inner().taken,
     })
 }
 

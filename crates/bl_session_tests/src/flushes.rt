@@ -95,11 +95,11 @@ fn serve_seen(alloc: Global, left: Option<usize>) -> Result<Ended, Fail> {
     let mut reader = Watched::new(BufReader::new(alloc, input)?);
     let mut writer = Watched::new(output);
     let result = serve_alone(alloc, base(alloc)?, 10_000, &mut reader, &mut writer);
-    let seen = reader.inner.into_inner().seen;
+    let seen = reader.into_inner().into_inner().seen;
     Ok(Ended {
         result,
         write_failed: writer.failed(),
-        written: writer.inner.written,
+        written: writer.into_inner().written,
         seen,
         flushed: flushed.get(),
     })

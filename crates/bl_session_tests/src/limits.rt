@@ -4,6 +4,7 @@ use bl_session::alone::serve_alone;
 use bl_wire::fault::SessionFault;
 use bl_wire::watched::Watched;
 use std::alloc::Global;
+use std::io::BufReader;
 use std::test::Fail;
 
 /// How many bytes a session may read.
@@ -23,7 +24,10 @@ fn is_too_long(alloc: Global, input: &[u8]) -> Result<bool, Fail> {
     let mut reader = Watched::new(input);
     let mut writer = Watched::new(Vec::new(alloc));
     let result = serve_alone(alloc, base(alloc)?, 10_000, &mut reader, &mut writer);
-    Ok(result == Err(SessionFault::TooLong) && writer.inner.is_empty() && reader.inner.len() == 1)
+    let failed = reader.failed() || writer.failed();
+    let written = writer.into_inner();
+    let unread = reader.into_inner().len();
+    Ok(result == Err(SessionFault::TooLong) && !failed && written.is_empty() && unread == 1)
 }
 
 #[test]
@@ -50,4 +54,18 @@ fn blanks_before_a_bad_byte(rt: HostRuntime) -> Result<(), Fail> {
     input.push(0x80)?;
     let output = "ok\n1 refused syntax 32\nbye\n";
     assert_said_under(&rt, 10_000, &input, output)
+}
+
+/// A line that is too long is refused, and no fault of its reader, where it comes in parts.
+#[test]
+fn long_line_in_parts(rt: HostRuntime) -> Result<(), Fail> {
+    let alloc = rt.alloc();
+    let input = words_and_bytes(alloc, "hello ann\n", b'x', 40_000)?;
+    let parts = BufReader::with_capacity(alloc, 1_000, input.as_slice())?;
+    let mut reader = Watched::new(parts);
+    let mut writer = Watched::new(Vec::new(alloc));
+    let result = serve_alone(alloc, base(alloc)?, 10_000, &mut reader, &mut writer);
+    assert!(rt; result == Ok(()));
+    assert!(rt; writer.into_inner().as_slice() == b"ok\n1 refused long\nbye\n".as_slice());
+    Ok(())
 }

@@ -10,8 +10,8 @@ use Rattle.std.specs.Io.KnownBytes.{Consumes, IsAtEnd}
 use Rattle.std.proofs.KnownBytes.{Consumes-trans, Consumes-kept}
 use Rattle.bl_wire.specs.declared.held.Held.{Held}
 use Rattle.bl_wire.specs.declared.lines.Next.TheVariants.{Whole, Last, End}
-use Rattle.bl_wire.specs.declared.lines.Part.{Part}
-use Rattle.bl_wire.specs.declared.lines.Part.TheVariants.{Ends, More, Nothing}
+use Rattle.bl_wire.specs.declared.part.Part.{Part}
+use Rattle.bl_wire.specs.declared.part.Part.TheVariants.{Ends, More, Nothing}
 use Rattle.memchr.specs.Find.{IsFirstByte, is_byte}
 use Rattle.bl_wire.specs.Lines.{HasNoLf}
 use Rattle.bl_wire.specs.Holds.{Holds}
@@ -36,7 +36,7 @@ more_on (Some xs) (Some ys) c bs moved e = e
 
 pub reading_on : (fault : SessionFault) (a b c : Option (List ℕ)) (failed : Bool) (left : ℕ) (bs : List ℕ) → Consumes a b bs → IsReadingFault fault b c failed left → IsReadingFault fault a c failed left
 reading_on Read a b c failed left bs moved why = why
-reading_on TooLong a b c failed left bs moved why = (why.0, more_on a b c bs moved why.1)
+reading_on TooLong a b c failed left bs moved why = (why.0, why.1, more_on a b c bs moved why.2)
 reading_on Write a b c failed left bs moved why = absurd why
 reading_on Memory a b c failed left bs moved why = absurd why
 reading_on Clash a b c failed left bs moved why = absurd why

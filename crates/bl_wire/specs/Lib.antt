@@ -1,3 +1,6 @@
+pub mod Faults
+pub mod Watch
+pub mod Asked
 pub mod Lines
 pub mod Look
 pub mod Holds

@@ -4,8 +4,8 @@ use Rattle.std.specs.Io.KnownBytes.{Consumes, IsAtEnd, Keeps}
 use Rattle.bl_wire.specs.declared.held.Held.{Held}
 use Rattle.bl_wire.specs.declared.lines.Next.{Next}
 use Rattle.bl_wire.specs.declared.lines.Next.TheVariants.{Whole, Last, End}
-use Rattle.bl_wire.specs.declared.lines.Part.{Part}
-use Rattle.bl_wire.specs.declared.lines.Part.TheVariants.{Ends, More, Nothing}
+use Rattle.bl_wire.specs.declared.part.Part.{Part}
+use Rattle.bl_wire.specs.declared.part.Part.TheVariants.{Ends, More, Nothing}
 use Rattle.bl_wire.specs.declared.fault.SessionFault.{SessionFault}
 use Rattle.bl_wire.specs.declared.fault.SessionFault.TheVariants.{Read, Write, TooLong, Memory, Clash}
 use Rattle.bl_wire.specs.Lines.{HasNoLf}
@@ -36,10 +36,10 @@ abbrev pub HasMore : Option (List ℕ) → Type 0
 HasMore None = ⊤
 HasMore (Some bytes) = 0 < length bytes
 
--- reading stopped because the reader failed, or because no byte may be taken and another one is there
+-- reading stopped because the reader failed, or because no byte may be taken and another one is there of a reader that has not
 abbrev pub IsReadingFault : SessionFault → Option (List ℕ) → Option (List ℕ) → Bool → ℕ → Type 0
 IsReadingFault Read before after failed left = failed ≡ true
-IsReadingFault TooLong before after failed left = (left ≡ 0) × OnSome before (HasMore after)
+IsReadingFault TooLong before after failed left = (failed ≡ false) × (left ≡ 0) × OnSome before (HasMore after)
 IsReadingFault Write before after failed left = ⊥
 IsReadingFault Memory before after failed left = ⊥
 IsReadingFault Clash before after failed left = ⊥

@@ -1,6 +1,7 @@
 //! Why a session ends early.
 ghost use Rattle.std.specs.Prelude.{◌≡◌};
 ghost use Rattle.bl_wire.specs.declared.fault.SessionFault.TheVariants.{Memory};
+ghost use Rattle.bl_wire.specs.Faults.{is_read};
 
 use std::alloc::AllocError;
 
@@ -17,6 +18,21 @@ pub enum SessionFault {
     Memory,
     /// Somebody else spoke for this session.
     Clash,
+}
+
+impl SessionFault {
+    /// Whether it is the reader's.
+    pub fn is_read(self) -> bool
+        ensures { result ≡ is_read self }
+    {
+        match self {
+            SessionFault::Read => true,
+            SessionFault::Write
+            | SessionFault::TooLong
+            | SessionFault::Memory
+            | SessionFault::Clash => false,
+        }
+    }
 }
 
 impl From<AllocError> for SessionFault {

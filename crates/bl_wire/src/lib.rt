@@ -1,7 +1,9 @@
 //! What goes between a client and a session: lines cut from a reader's bytes, and the texts of replies.
 //!
+//!     ends       readers and writers of which contracts can say what a call answered
 //!     watched    readers and writers that remember whether they failed
 //!     fault      why a session ends early
+//!     part       the part of a line among the bytes that a reader shows
 //!     lines      cuts a reader's bytes into lines
 //!     held       a line while it comes
 //!     turn       what a line is to a session
@@ -11,10 +13,12 @@
 //!     put        writes the whole of some bytes
 #![tactic(auto)]
 
+pub mod ends;
 pub mod fault;
 pub mod held;
 pub mod label;
 pub mod lines;
+pub mod part;
 pub mod put;
 pub mod reply;
 pub mod turn;

@@ -1,6 +1,7 @@
 //! What a line is to a session.
-ghost use Rattle.std.specs.Prelude.{◌≡◌, ◌≢◌, List, ℕ, IfOk};
+ghost use Rattle.std.specs.Prelude.{◌≡◌, ◌≢◌, ◌<◌, List, ℕ, IfOk, IsOk, OnErr, length};
 ghost use Rattle.bl_wire.specs.Lines.{without_cr};
+ghost use Rattle.bl_work.specs.LineGrammar.{most_line_bytes};
 
 use crate::held::{Held, Look};
 use bl_policy::id::SubjectId;
@@ -83,7 +84,8 @@ fn turn_of(line: Line) -> Turn
 
 /// What a line with this fault is, unless the fault is want of memory.
 fn turn_bad(fault: LineFault) -> Result<Turn, AllocError>
-    ensures { IfOk result (λ turn. (turn ≡ Turn.Bad fault) × (fault ≢ LineFault.Memory)) }
+    ensures bad { IfOk result (λ turn. (turn ≡ Turn.Bad fault) × (fault ≢ LineFault.Memory)) }
+    ensures memory { OnErr result (fault ≡ LineFault.Memory) }
 {
     match fault {
         LineFault::Memory => Err(AllocError),
@@ -93,7 +95,8 @@ fn turn_bad(fault: LineFault) -> Result<Turn, AllocError>
 
 /// Reads a line's text.
 fn said(alloc: Global, names: &Names, text: &[u8]) -> Result<Turn, AllocError>
-    ensures { IfOk result (IsSaid names.now text.now) }
+    ensures said { IfOk result (IsSaid names.now text.now) }
+    ensures long { most_line_bytes < length text.now → IsOk result }
 {
     match read_line(alloc, names, text) {
         Ok(line) => Ok(turn_of(line)),
@@ -102,9 +105,10 @@ fn said(alloc: Global, names: &Names, text: &[u8]) -> Result<Turn, AllocError>
 }
 
 /// What the line that is held is to the session. A line of blanks alone is skipped, however long
-/// it is.
+/// it is. A line that is too long takes no memory.
 pub fn turn_held(alloc: Global, names: &Names, held: &Held) -> Result<Turn, AllocError>
-    ensures { IfOk result (λ turn. (line : List ℕ) → Holds held.now line → IsTurn names.now line turn) }
+    ensures turn { IfOk result (λ turn. (line : List ℕ) → Holds held.now line → IsTurn names.now line turn) }
+    ensures long { (line : List ℕ) → Holds held.now line → most_line_bytes < length (without_cr line) → IsOk result }
 {
     match held.look {
         Look::Filled => {}

@@ -1,28 +1,46 @@
 //! Readers and writers that remember whether they failed, so that a fault of a session can be
-//! traced to the end that it came from.
-ghost use Rattle.std.specs.Prelude.{◌≡◌, OnErr, OnOk, true, false};
-ghost use Rattle.std.specs.Io.KnownBytes.{Keeps, WriteAppends, ReadConsumes};
-ghost use Rattle.std.specs.Io.{ReadsAtMost, WritesAtMost};
+//! traced to the end that it came from. Nobody else sets the mark: it is kept here, beside the
+//! few calls that can fail.
+ghost use Rattle.std.specs.Prelude.{◌≡◌, ◌==◌, ◌≤◌, ◌<◌, nat_lt, false, not, ◌||◌, ◌&&◌, IfOk, IfErr, OnOk, length, take};
+ghost use Rattle.std.specs.Io.KnownBytes.{Keeps, Appends};
+ghost use Rattle.bl_wire.specs.Asked.{IsAsked};
+ghost use Rattle.bl_wire.specs.Reads.{TookPart, Keeping};
 
-use std::io;
-use std::io::{Read, Write};
+use crate::ends::{Source, Target};
+use crate::fault::SessionFault;
+use crate::held::Held;
+use crate::part::{Part, take_shown};
+use std::marker::Model;
 
-/// A reader or a writer, and whether a call of it failed. Any error counts, `Interrupted` too.
+/// A reader or a writer, whether a call of it failed, and whether something was written to it
+/// that was not handed on. Any error counts, `Interrupted` too. An end that failed isn't called
+/// again.
 #[derive(Drop)]
 pub struct Watched<T> {
-    pub inner: T,
-    pub failed: bool,
+    inner: T,
+    failed: bool,
+    unflushed: bool,
+}
+
+impl<T> Model for Watched<T> {
+    ghost use Rattle.bl_wire.specs.Watch.{Watch, watch_code};
+
+    ghost Value = { Watch T };
+
+    ghost coded = { watch_code T.code };
+
+    ghost view = { λ w. record { inner = w.inner; failed = w.failed; unflushed = w.unflushed } };
 }
 
 impl<T> Watched<T> {
     /// The reader or writer, of which no call has failed yet.
     pub fn new(inner: T) -> Watched<T>
-        ensures inner { result.inner ≡ inner }
-        ensures failed { result.failed ≡ false }
+        ensures { result ≡ record { inner = inner; failed = false; unflushed = false } }
     {
         Watched {
             inner,
             failed: false,
+            unflushed: false,
         }
     }
 
@@ -32,50 +50,79 @@ impl<T> Watched<T> {
     {
         self.failed
     }
-}
 
-impl<R: Read> Read for Watched<R> {
-    ghost remaining = { λ w. R.remaining w.inner };
-
-    fn read(&mut self, buf: &mut [u8]) -> io::Result<usize>
-        ensures bound { ReadsAtMost result buf.new }
-        ensures bytes { ReadConsumes (R.remaining self.old.inner) (R.remaining self.new.inner) result buf.new }
-        ensures failed { OnErr result (self.new.failed ≡ true) }
-        ensures same { OnOk result (self.new.failed ≡ self.old.failed) }
+    /// The reader or writer itself.
+    pub fn into_inner(self) -> T
+        ensures { result ≡ self.inner }
     {
-        let result = self.inner.read(buf);
-        if result.is_err() {
-            self.failed = true;
-        }
-        result
+        let Watched {
+            inner,
+            failed: _,
+            unflushed: _,
+        } = self;
+        inner
     }
 }
 
-impl<W: Write> Write for Watched<W> {
-    ghost contents = { λ w. W.contents w.inner };
-
-    fn write(&mut self, buf: &[u8]) -> io::Result<usize>
-        ensures bound { WritesAtMost result buf.now }
-        ensures bytes { WriteAppends (W.contents self.old.inner) (W.contents self.new.inner) result buf.now }
-        ensures failed { OnErr result (self.new.failed ≡ true) }
-        ensures same { OnOk result (self.new.failed ≡ self.old.failed) }
+impl<R: Source> Watched<R> {
+    /// Asks for bytes, and takes of those that are shown the line's: up to an LF, or `left` bytes.
+    /// After a fault nothing is taken. A reader that failed is marked.
+    pub(crate) fn take_part(
+        &mut self,
+        held: &mut Held,
+        left: &mut usize,
+    ) -> Result<Part, SessionFault>
+        requires { self.old.failed ≡ false }
+        ensures ok { IfOk result (λ part. TookPart part (R.remaining self.old.inner) (R.remaining self.new.inner) held.old held.new left.old left.new) }
+        ensures err { IfErr result (λ fault. Keeping fault (R.remaining self.old.inner) (R.remaining self.new.inner) self.new.failed left.old left.new) }
+        ensures fine { OnOk result (self.new.failed ≡ false) }
+        ensures asked { IsAsked (R.shows self.old.inner) result }
     {
-        let result = self.inner.write(buf);
-        if result.is_err() {
-            self.failed = true;
+        match take_shown(&mut self.inner, held, left) {
+            Ok(part) => Ok(part),
+            Err(fault) => {
+                self.failed = fault.is_read();
+                Err(fault)
+            }
         }
-        result
+    }
+}
+
+impl<W: Target> Watched<W> {
+    /// Writes a first part of some bytes, and says how many of them; none where the writer failed or
+    /// took nothing, and then it is marked.
+    pub(crate) fn write(&mut self, bytes: &[u8]) -> usize
+        requires unfailed { self.old.failed ≡ false }
+        requires some { 0 < length bytes.now }
+        ensures within { result ≤ length bytes.now }
+        ensures bytes { Appends (W.contents self.old.inner) (W.contents self.new.inner) (take result bytes.now) }
+        ensures failed { self.new.failed ≡ (result == 0) }
+        ensures unflushed { self.new.unflushed ≡ (self.old.unflushed || nat_lt 0 result) }
+        ensures answer { W.takes self.old.inner bytes.now result self.new.inner }
+    {
+        let taken = self.inner.take(bytes);
+        if taken == 0 {
+            self.failed = true;
+        } else {
+            self.unflushed = true;
+        }
+        taken
     }
 
-    fn flush(&mut self) -> io::Result<()>
+    /// Hands on what was written, and says whether that was done; otherwise the writer is marked.
+    pub(crate) fn flush(&mut self) -> bool
+        requires { self.old.failed ≡ false }
         ensures bytes { Keeps (W.contents self.old.inner) (W.contents self.new.inner) }
-        ensures failed { OnErr result (self.new.failed ≡ true) }
-        ensures same { OnOk result (self.new.failed ≡ self.old.failed) }
+        ensures failed { self.new.failed ≡ not result }
+        ensures unflushed { self.new.unflushed ≡ (self.old.unflushed && not result) }
+        ensures answer { W.flushes self.old.inner result self.new.inner }
     {
-        let result = self.inner.flush();
-        if result.is_err() {
+        let done = self.inner.hand_on();
+        if done {
+            self.unflushed = false;
+        } else {
             self.failed = true;
         }
-        result
+        done
     }
 }

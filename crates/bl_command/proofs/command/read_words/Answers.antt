@@ -1,5 +1,6 @@
 use Rattle.std.proofs.Common.{sym, ◌∙◌}
-use Rattle.bl_command.proofs.CommandLine.{matches_are_entered}
+use Rattle.std.proofs.lemmas.Result.{err_from_is_err_and}
+use Rattle.bl_command.proofs.CommandLine.{matches_are_entered, faultless, has_fault}
 use Rattle.bl_command.proofs.command.read_words.Goals as goal
 
 -- the matches are those that the words have, and the command is theirs
@@ -8,3 +9,11 @@ returns-in-Some-clause-written c =
     let matches = c.in_ok-matches in
     let of = c.in-Some.ensures.written in
     (of.0, sym (matches_are_entered _ _ matches.matches c.in_ok-parser.ensures matches.ensures.matches) ∙ of.1, of.2)
+
+pub returns-in-Some-clause-faultless : goal.returns-in-Some-clause-faultless
+returns-in-Some-clause-faultless c = faultless _ _ c.in_ok-parser.ensures c.in_ok-matches.ensures.kinds
+
+pub returns-in_err-matches-clause-faults : goal.returns-in_err-matches-clause-faults
+returns-in_err-matches-clause-faults c =
+    let p = err_from_is_err_and c.from_residual-in_err-matches.result c.from_residual-in_err-matches.ensures.1 in
+    rw p.1 (has_fault _ _ c.in_ok-parser.ensures _ _ p.2 c.in_err-matches.ensures.kinds)

@@ -1,4 +1,5 @@
 use Rattle.std.proofs.Common.{inr, subst, OnOk, IfErr}
+use Rattle.bl_wire.specs.Watch.{used}
 use Rattle.bl_session.specs.Outcome.{IsServed, IsCutShort}
 use Rattle.bl_command.proofs.run.serve_setup.Goals as goal
 
@@ -10,7 +11,7 @@ returns-in-Ok-served-clause-served g c =
     let end = c.serve_and_keep-served.new in (
       c.in-Ok.setup,
       c.in-Ok.ensures.setup,
-      subst (λ r. OnOk r (IsServed c.in-Ok.setup c.args.limit (R c.args.reader.now.inner) (R end.reader.inner) (W c.args.writer.now.inner) (W end.writer.inner)))
+      subst (λ r. OnOk r (IsServed c.in-Ok.setup c.args.limit (used R c.args.reader.now end.reader) (used W c.args.writer.now end.writer)))
           c.in-Ok-served.is c.serve_and_keep-served.ensures.ok,
     )
 
@@ -25,6 +26,6 @@ returns-in-Err-served-clause-failed g c =
       is = c.in-Ok.ensures.setup;
       of = c.in-Err-served.fault;
       named = c.of_session.ensures;
-      short = subst (λ r. IfErr r (λ fault. IsCutShort c.in-Ok.setup c.args.limit fault (R c.args.reader.now.inner) (R end.reader.inner)
-          (W c.args.writer.now.inner) (W end.writer.inner) end.reader.failed end.writer.failed)) c.in-Err-served.is c.serve_and_keep-served.ensures.err;
+      short = subst (λ r. IfErr r (λ fault. IsCutShort c.in-Ok.setup c.args.limit fault
+          (used R c.args.reader.now end.reader) (used W c.args.writer.now end.writer))) c.in-Err-served.is c.serve_and_keep-served.ensures.err;
     })

@@ -6,6 +6,7 @@ use Rattle.bl_setup.specs.Setup.{Setup}
 use Rattle.bl_monitor.specs.Heard.{Heard}
 use Rattle.bl_order.specs.Known.{KnowsWork}
 use Rattle.bl_wire.specs.Turns.{AreServed}
+use Rattle.bl_wire.specs.Watch.{used}
 use Rattle.bl_session.specs.Orders.{told_text, AreLater}
 use Rattle.bl_session.specs.Entries.{order_of}
 use Rattle.bl_session.specs.Whole.{Came}
@@ -15,10 +16,10 @@ use Rattle.bl_session.proofs.ServeLaws.{are_served, served_whole, served_part, u
 use Rattle.bl_session.proofs.alone.serve_and_keep.Goals as goal
 
 pub returns-in-Err-clause-err : goal.returns-in-Err-clause-err
-returns-in-Err-clause-err g c = unserved c.args.setup c.args.limit _ _ _ _
+returns-in-Err-clause-err g c = unserved c.args.setup c.args.limit _ _ _ _ c.requires.reader c.requires.writer
 
 pub returns-in-Err-share_setup-clause-err : goal.returns-in-Err-share_setup-clause-err
-returns-in-Err-share_setup-clause-err g c = unserved c.args.setup c.args.limit _ _ _ _
+returns-in-Err-share_setup-clause-err g c = unserved c.args.setup c.args.limit _ _ _ _ c.requires.reader c.requires.writer
 
 pub converse-requires-clause-served : goal.converse-requires-clause-served
 converse-requires-clause-served g c =
@@ -37,10 +38,11 @@ returns-in-Ok-converse-clause-ok g c =
     let R = g.R.Read.remaining in
     let W = g.W.Write.contents in
     let Settled : ℕ → Type 0 = λ n. AreLater s.ended (order_of s.entries.items) n in
-    subst (λ (k : Setup). IsServed k c.args.limit (R c.args.reader.now.inner) (R c.converse.new.reader.inner) (W c.args.writer.now.inner) (W c.converse.new.writer.inner)) is
+    subst (λ (k : Setup). IsServed k c.args.limit (used R c.args.reader.now c.converse.new.reader) (used W c.args.writer.now c.converse.new.writer)) is
     (served_whole own c.args.limit s (R c.args.reader.now.inner) (R c.converse.new.reader.inner) (W c.args.writer.now.inner) (W c.converse.new.writer.inner) Settled
     (subst (λ (k : KnownNames). Finished k (R c.args.reader.now.inner) (R c.converse.new.reader.inner) (W c.args.writer.now.inner) (W c.converse.new.writer.inner)
-    (told_text own (order_of s.entries.items)) Settled (Came own c.args.limit s)) names c.in-Ok-converse.ensures.ok))
+    (told_text own (order_of s.entries.items)) Settled (Came own c.args.limit s)) names c.in-Ok-converse.ensures.ok)
+    _ _ c.in-Ok-converse.ensures.fine.0 c.in-Ok-converse.ensures.fine.1)
 
 pub returns-in-Err-converse-clause-err : goal.returns-in-Err-converse-clause-err
 returns-in-Err-converse-clause-err g c =
@@ -52,8 +54,7 @@ returns-in-Err-converse-clause-err g c =
     let W = g.W.Write.contents in
     let Settled : ℕ → Type 0 = λ n. AreLater s.ended (order_of s.entries.items) n in
     let fault = c.in-Err-converse.fault in
-    subst (λ (k : Setup). IsCutShort k c.args.limit fault (R c.args.reader.now.inner) (R c.converse.new.reader.inner) (W c.args.writer.now.inner) (W c.converse.new.writer.inner)
-    c.converse.new.reader.failed c.converse.new.writer.failed) is
+    subst (λ (k : Setup). IsCutShort k c.args.limit fault (used R c.args.reader.now c.converse.new.reader) (used W c.args.writer.now c.converse.new.writer)) is
     (served_part own c.args.limit s (R c.args.reader.now.inner) (R c.converse.new.reader.inner) (W c.args.writer.now.inner) (W c.converse.new.writer.inner) fault
     c.converse.new.reader.failed c.converse.new.writer.failed
     (subst (λ (k : KnownNames). Stopped fault k (R c.args.reader.now.inner) (R c.converse.new.reader.inner) (W c.args.writer.now.inner) (W c.converse.new.writer.inner)

@@ -7,10 +7,10 @@ returns c =
     let run = is_run c.steps_lead_on.ensures.next c.the_order_has_room.ensures.order c.headline.ensures in
     record {
       turns = run;
-      served = λ setup limit start rest first kept agree served.
+      served = λ setup limit reader writer agree served.
           run setup limit served.turns agree (turns_stand setup.names (lines_of served.bytes) served.turns served.are)
           (small_turns setup.names served.bytes served.turns served.are served.within);
-      cut = λ setup limit fault start rest first kept read_failed write_failed agree cut.
-          let heard = first_turns setup.names cut.read.bytes cut.read.part cut.heard cut.turns cut.read.are cut.read.within cut.heard_is in
+      cut = λ setup limit fault reader writer agree cut.
+          let heard = first_turns setup.names cut.read.bytes cut.read.part cut.heard cut.turns cut.read.are cut.read.within (cut.heard_is.0, cut.heard_is.1.1) in
           run setup limit cut.heard agree heard.0 heard.1;
     }

@@ -16,7 +16,7 @@ returns-in-Ok-clause-err g c = if_err-map c.listen.result
 
 pub returns-in-Some-clause-err : goal.returns-in-Some-clause-err
 returns-in-Some-clause-err g c start heard =
-    stopped_greeting _ _ start _ _ _ c.in-Some.subject heard.turns _ heard.quiet (search rules) heard.read _ _ _ _ c.in-Err.fault _ _ c.in-Err.ensures.fault
+    stopped_greeting _ _ start _ _ _ c.in-Some.subject heard.turns _ heard.quiet (search rules) heard.read _ _ _ _ c.in-Err.fault _ _ c.requires.fine.0 c.in-Err.ensures.fault
     c.greet.ensures.settled c.in-Err.ensures.told
 
 pub returns-clause-ok : goal.returns-clause-ok
@@ -33,5 +33,5 @@ returns-clause-err g c = if_err-both c.say.result
     let none_greets : greeted c.args.turn ≡ None = search rules in
     let refused = refuses_after heard.turns c.args.turn heard.quiet c.requires.spoken none_greets in
     closed_failed _ start _ _ _ _ _ c.requires.settled c.requires.came _ _ _ heard.read _ _ refused.text refused.told
-    heard.turns (c.args.turn ∷ []) refused.stops heard.quiet (omega arith) refl (inr (refused.last, refl)) fault _ _ own write c.say.ensures.part.0 c.say.ensures.part.1)
+    heard.turns (c.args.turn ∷ []) refused.stops heard.quiet (omega arith) refl (inr (refused.last, refl)) fault _ _ c.requires.fine.0 own write c.say.ensures.part.0 c.say.ensures.part.1)
     c.say.ensures.fault c.say.ensures.write

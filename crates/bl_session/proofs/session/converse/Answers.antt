@@ -7,7 +7,7 @@ use Rattle.bl_session.proofs.session.converse.Goals as goal
 pub returns-in-Err-clause-err : goal.returns-in-Err-clause-err
 returns-in-Err-clause-err g c =
     stopped_unheard _ _ _ _ _ _ _ c.requires.settled c.requires.came _ _ _
-    ([], tt, broken_after true _ _ _ 16777216 [] (cutting_start c.args.names.now (g.R.Read.remaining c.args.reader.now.inner) 16777216 refl) _ _ _ tt)
+    ([], tt, broken_after true _ _ _ 16777216 [] (cutting_start c.args.names.now (g.R.Read.remaining c.args.reader.now.inner) 16777216 refl) _ _ _ c.requires.fine.0 c.requires.fine.1)
 
 pub answer_first-requires-clause-spoken : goal.answer_first-requires-clause-spoken
 answer_first-requires-clause-spoken g c =
@@ -35,10 +35,10 @@ returns-in-Ok-None-clause-err g c =
     let unheard = (rw c.in-Ok-None.field-0-is at c.in-Ok-None.ensures).ok (g.R.Read.remaining c.args.reader.now.inner) (record { turns = []; read = cutting_start _ _ _ refl; quiet = tt }) in
     if_err-both c.say.result
     (λ fault own write. closed_failed _ _ _ _ _ _ _ c.requires.settled c.requires.came _ _ _ unheard.read _ _ (λ later. skipped_text later unheard.turns unheard.quiet) (skipped_told unheard.turns unheard.quiet)
-    unheard.turns [] (stops_skipped unheard.turns unheard.quiet) unheard.quiet (omega arith) (sym (append-nil unheard.turns)) (inl unheard.read.cut.1) fault _ _ own write c.say.ensures.part.0 c.say.ensures.part.1)
+    unheard.turns [] (stops_skipped unheard.turns unheard.quiet) unheard.quiet (omega arith) (sym (append-nil unheard.turns)) (inl unheard.read.cut.1) fault _ _ (rw c.in-Ok-None.field-0-is at c.in-Ok-None.ensures).fine own write c.say.ensures.part.0 c.say.ensures.part.1)
     c.say.ensures.fault c.say.ensures.write
 
 pub returns-clause-err : goal.returns-clause-err
 returns-clause-err g c =
     stopped_unheard _ _ _ _ _ _ _ c.requires.settled c.requires.came _ _ _
-    (c.in-Err-first_turn.ensures.err (g.R.Read.remaining c.args.reader.now.inner) _ (record { turns = []; read = cutting_start _ _ _ refl; quiet = tt }))
+    (c.in-Err-first_turn.ensures.err (g.R.Read.remaining c.args.reader.now.inner) _ c.requires.fine.1 (record { turns = []; read = cutting_start _ _ _ refl; quiet = tt }))

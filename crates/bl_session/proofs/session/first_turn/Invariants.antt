@@ -1,4 +1,4 @@
-use Rattle.std.proofs.Common.{◌≡◌, ◌≤◌, ℕ, List, Option, true}
+use Rattle.std.proofs.Common.{◌≡◌, ◌≤◌, ℕ, List, Option, true, false}
 use Rattle.bl_session.specs.Stages.{Unheard}
 use Rattle.bl_session.proofs.session.first_turn.Given as goal
 
@@ -6,7 +6,7 @@ abbrev pub invariant-lines : goal.invariant-lines
 invariant-lines g l =
     ((start : Option (List ℕ)) → Unheard true l.names start (g.R.Read.remaining l.initial.reader.inner) l.initial.left → Unheard true l.names start (g.R.Read.remaining l.reader.inner) l.left)
     × (l.left ≤ l.initial.left)
-    × (l.reader.failed ≡ l.initial.reader.failed)
+    × (l.reader.failed ≡ false)
 
 abbrev pub decreases-lines : goal.decreases-lines
 decreases-lines g l = l.left

@@ -11,4 +11,4 @@ pub returns-clause-err : goal.returns-clause-err
 returns-clause-err g c start first before =
     let st = stage_end _ _ start _ first _ _ _ _ _ _ _ c.lines-test.false (c.lines.invariant.stage start first before) in
     let kept = c.end_block.ensures.settled c.lines.talk.after c.lines.invariant.settled in
-    stage_failed _ start _ first _ _ _ _ _ _ _ st _ _ _ _ kept.1 c.in-Err-end_block.fault _ _ c.in-Err-end_block.ensures.fault _ c.lines.invariant.count kept.0 c.in-Err-end_block.ensures.part c.in-Err-end_block.ensures.told
+    stage_failed _ start _ first _ _ _ _ _ _ _ st _ _ _ _ kept.1 c.in-Err-end_block.fault _ _ c.lines.invariant.fine.0 c.in-Err-end_block.ensures.fault _ c.lines.invariant.count kept.0 c.in-Err-end_block.ensures.part c.in-Err-end_block.ensures.told

@@ -1,4 +1,4 @@
-use Rattle.std.proofs.Common.{◌≡◌, ◌+◌, ◌≤◌, [], ℕ, List, Option, length, true, if◌then◌else◌}
+use Rattle.std.proofs.Common.{◌≡◌, ◌+◌, ◌≤◌, [], ℕ, List, Option, length, true, false, if◌then◌else◌}
 use Rattle.bl_session.specs.Stages.{Stage}
 use Rattle.bl_session.proofs.session.listen.Given as goal
 
@@ -9,7 +9,7 @@ invariant-lines g l = record {
   last : g.B.Behind.last l.behind l.state ≤ l.talk.ordinal;
   whole : g.B.Behind.whole l.behind l.state l.talk.after;
   small : l.again ≡ true → l.talk.ordinal + l.left ≤ 16777216;
-  same : (l.reader.failed ≡ l.initial.reader.failed) × (l.writer.failed ≡ l.initial.writer.failed);
+  fine : (l.reader.failed ≡ false) × (l.writer.failed ≡ false);
   stage : (start first : Option (List ℕ)) →
       Stage l.initial.again l.names start (g.R.Read.remaining l.initial.reader.inner) first (g.W.Write.contents l.initial.writer.inner) l.initial.left (g.B.Behind.replies l.behind l.initial.state) (g.B.Behind.settled l.behind l.initial.state) (g.B.Behind.came l.behind l.initial.state) 0 [] →
       Stage l.again l.names start (g.R.Read.remaining l.reader.inner) first (g.W.Write.contents l.writer.inner) l.left (g.B.Behind.replies l.behind l.state) (g.B.Behind.settled l.behind l.state) (g.B.Behind.came l.behind l.state) l.talk.after l.talk.pending.items;

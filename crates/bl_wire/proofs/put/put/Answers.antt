@@ -8,8 +8,8 @@ pub loop-at-preserved : goal.loop-at-preserved
 loop-at-preserved g c =
     let bytes = c.args.bytes.now in
     let at = c.loop-at.at in
-    let n = c.in-Ok.n in
+    let n = c.write-taken.result in
     let within : n ≤ length bytes - at = search rules in
     let part : take n (take (length bytes - at) (drop at bytes)) ≡ take n (drop at bytes) = take-take n (length bytes - at) (drop at bytes) within in
-    let both = Appends-trans _ _ _ _ _ c.loop-at.invariant.1 c.in-Ok.ensures.bytes in
+    let both = Appends-trans _ _ _ _ _ c.loop-at.invariant.1 c.write-taken.ensures.bytes in
     (search rules, subst (Appends _ _) (ap (λ l. take at bytes ++ l) part ∙ sym (take-add at n bytes)) both, search rules)

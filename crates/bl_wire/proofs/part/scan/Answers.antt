@@ -1,7 +1,7 @@
 use Rattle.std.proofs.Common.{rules, ◌≡◌, ◌∙◌, ◌==◌, ◌++◌, [], ◌∷◌, Some, None, position, ◌+◌, ◌≤◌, ap, sym, subst, take, arith, length-take, take-take}
 use Rattle.bl_wire.specs.Lines.{HasNoLf}
 use Rattle.bl_wire.proofs.Parts.{before_lf, no_lf}
-use Rattle.bl_wire.proofs.lines.scan.Goals as goal
+use Rattle.bl_wire.proofs.part.scan.Goals as goal
 
 pub returns-in-Some-clause-found : goal.returns-in-Some-clause-found
 returns-in-Some-clause-found c =

@@ -1,0 +1,49 @@
+-- How a run of a command ends.
+use Rattle.std.specs.Prelude.{◌≡◌, ◌⊎◌, ℕ, false, List, [], ◌∷◌, ◌++◌, Vec, Result, Ok, Err}
+use Rattle.std.specs.Global.{Global}
+use Rattle.std.specs.Io.KnownBytes.{Keeps, Appends}
+use Rattle.bl_setup.specs.Setup as setups
+use Rattle.bl_setup.specs.Grammar.{IsSetup}
+use Rattle.bl_wire.specs.Watch.{Use}
+use Rattle.bl_session.specs.Outcome.{IsServed}
+use Rattle.bl_command.specs.declared.command.Command.{Command}
+use Rattle.bl_command.specs.declared.command.Command.TheVariants.{Alone}
+use Rattle.bl_command.specs.declared.fault.ProgramFault.{ProgramFault}
+use Rattle.bl_command.specs.Failure.{HasFailed}
+use Rattle.bl_command.specs.Message.{message_of}
+use Rattle.bl_command.specs.Status.{status_of}
+
+-- the status of a run, and what it did to its input, its output and standard error
+pub record Run : Type 0 where
+  pub status : ℕ
+  pub input : Use
+  pub output : Use
+  pub errors : Use
+
+-- the session was served under the setup of these bytes and this limit, and nothing was said
+pub record HasServed (setup : List ℕ) (limit : ℕ) (run : Run) : Type 0 where
+  pub status_is : run.status ≡ 0
+  pub begun : setups.Setup
+  pub is : IsSetup setup begun
+  pub served : IsServed begun limit run.input run.output
+  pub quiet : Keeps run.errors.before run.errors.after
+
+-- the status is that of this fault, which alone was said, unless standard error failed
+pub record HasTold (fault : ProgramFault) (status : ℕ) (errors : Use) : Type 0 where
+  pub status_is : status ≡ status_of fault
+  pub said : errors.failed ≡ false → Appends errors.before errors.after (message_of fault ++ 10 ∷ [])
+
+-- the session was served, or the run ended with a fault and told it
+abbrev pub IsRun : List ℕ → ℕ → Run → Type 0
+IsRun setup limit run =
+    HasServed setup limit run ⊎ ((fault : ProgramFault) × HasTold fault run.status run.errors × HasFailed setup limit fault run.input run.output)
+
+-- a run of this command after the setup of these bytes
+abbrev pub IsRunOf : Command → List ℕ → Run → Type 0
+IsRunOf (Alone path limit) setup run = IsRun setup limit run
+
+-- a run of this command, where its setup file has these bytes, or could not be read for this fault
+abbrev pub IsRunAfter : Command → Result (Vec ℕ Global) ProgramFault → Run → Type 0
+IsRunAfter command (Ok bytes) run = IsRunOf command bytes.items run
+IsRunAfter command (Err fault) run =
+    HasTold fault run.status run.errors × Keeps run.input.before run.input.after × Keeps run.output.before run.output.after

@@ -1,0 +1,31 @@
+-- What is known of a reader or a writer.
+use Rattle.std.specs.Prelude.{ℕ, Bool, List, Option, Result, refl}
+use Rattle.std.specs.Coded.{Coded, code_by, coded×, coded_bool}
+use Rattle.std.specs.Option.{option_map}
+use Rattle.std.specs.Result.{result_ok}
+use Rattle.std.specs.Borrow.{Bor}
+
+-- a reader or a writer, whether a call of it failed, and whether something was written to it that was not handed on
+pub record Watch (T : Type 0) : Type 0 where
+  pub inner : T
+  pub failed : Bool
+  pub unflushed : Bool
+
+abbrev pub watch_code : {T : Type 0} → Coded T → Coded (Watch T)
+watch_code {T} code =
+    code_by (T × (Bool × Bool)) (coded× code (coded× coded_bool coded_bool)) (λ w. (w.inner, (w.failed, w.unflushed)))
+    (λ p. record { inner = p.0; failed = p.1.0; unflushed = p.1.1 }) (λ _. refl)
+
+-- what was done to an end: what is known of its bytes before and after, and whether a call of it failed
+pub record Use : Type 0 where
+  pub before : Option (List ℕ)
+  pub after : Option (List ℕ)
+  pub failed : Bool
+
+-- what was done from one moment to another
+abbrev pub used : {T : Type 0} → (T → Option (List ℕ)) → Watch T → Watch T → Use
+used known old new = record { before = known old.inner; after = known new.inner; failed = new.failed }
+
+-- the bytes that were shown, or nothing where the reader failed
+abbrev pub shown_by : {E : Type 0} → Result (Bor (List ℕ)) E → Option (List ℕ)
+shown_by result = option_map (λ (shown : Bor (List ℕ)). shown.now) (result_ok result)
