@@ -1,2 +1,14 @@
 pub mod Progress
 pub mod Conflicts
+pub mod Count
+pub mod Places
+pub mod Tests
+pub mod Leave
+pub mod Grant
+pub mod Join
+pub mod Release
+pub mod Enter
+pub mod Ready
+pub mod Steps
+pub mod Fresh
+pub mod Kept

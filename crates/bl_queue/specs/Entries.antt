@@ -40,10 +40,6 @@ no_entry = record { claims = []; stand = Ended }
 abbrev pub entry_at : List Entry → ℕ → Entry
 entry_at entries n = slice_index_or entries n no_entry
 
--- each entry before this place has ended
-abbrev pub AreEnded : List Entry → ℕ → Type 0
-AreEnded entries n = (m : ℕ) → m < n → IsTrue (is_ended (entry_at entries m).stand)
-
 -- each entry before this place that conflicts with the claims has ended
 abbrev pub IsClear : List Entry → ℕ → List Claim → Type 0
 IsClear entries n claims = (m : ℕ) → m < n → IsTrue (conflict (entry_at entries m).claims claims) → IsTrue (is_ended (entry_at entries m).stand)

@@ -1,7 +1,7 @@
 //! One entry: its claims, and where it stands.
 ghost use Rattle.std.specs.Prelude.{◌≡◌, ◌≤◌, length};
 ghost use Rattle.bl_queue.specs.Claims.{most_claims};
-ghost use Rattle.bl_queue.specs.Entries.{is_waiting, is_ended, entered, standing};
+ghost use Rattle.bl_queue.specs.Entries.{is_waiting, entered, standing};
 
 use crate::claim::Claim;
 use std::marker::Model;
@@ -27,15 +27,6 @@ impl Stand {
         match self {
             Stand::Waiting => true,
             Stand::Started | Stand::Ended => false,
-        }
-    }
-
-    fn is_ended(self) -> bool
-        ensures { result ≡ is_ended self }
-    {
-        match self {
-            Stand::Ended => true,
-            Stand::Waiting | Stand::Started => false,
         }
     }
 }
@@ -90,12 +81,6 @@ impl Entry {
         ensures { result ≡ is_waiting self.now.stand }
     {
         self.stand.is_waiting()
-    }
-
-    pub(crate) fn is_ended(&self) -> bool
-        ensures { result ≡ is_ended self.now.stand }
-    {
-        self.stand.is_ended()
     }
 
     pub(crate) fn set_stand(&mut self, stand: Stand)

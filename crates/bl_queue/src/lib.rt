@@ -2,6 +2,9 @@
 #![tactic(auto)]
 
 pub mod claim;
+pub(crate) mod cown;
+pub(crate) mod cowns;
 pub mod entry;
 pub mod laws;
 pub mod queues;
+pub(crate) mod roster;

@@ -51,7 +51,8 @@ fn admitted(alloc: Global) -> Result<Queues, AllocError> {
     Ok(queues)
 }
 
-/// Whether just the entries of these numbers may start, of which the first is named.
+/// Whether just the entries of these numbers may start, of which the first is named: the one that came first to wait for
+/// nothing.
 fn may_start(queues: &Queues, ready: &[u32]) -> bool {
     for n in 0..6 {
         if queues.is_ready(n) != ready.contains(&n) {
@@ -80,7 +81,7 @@ fn who_may_start(rt: HostRuntime) -> Result<(), Fail> {
     let mut queues = admitted(rt.alloc())?;
     assert!(rt; may_start(&queues, &[0, 3]));
     run(&rt, &mut queues, 0, &[3]);
-    assert!(rt; may_start(&queues, &[1, 3]));
+    assert!(rt; may_start(&queues, &[3, 1]));
     run(&rt, &mut queues, 1, &[3]);
     run(&rt, &mut queues, 3, &[2]);
     assert!(rt; may_start(&queues, &[2]));

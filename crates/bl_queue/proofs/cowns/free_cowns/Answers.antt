@@ -1,0 +1,9 @@
+use Rattle.std.proofs.Common.{◌≡◌, ap, ◌∙◌, arith, length}
+use Rattle.std.proofs.lemmas.List.{length-replicate}
+use Rattle.bl_queue.specs.Holders.{no_cown}
+use Rattle.bl_queue.proofs.cowns.free_cowns.Goals as goal
+
+pub push_reserved-requires : goal.push_reserved-requires
+push_reserved-requires c =
+    let items : length c.loop-n.cowns.items ≡ c.loop-n._n = ap length c.loop-n.invariant.0 ∙ length-replicate c.loop-n._n no_cown in
+    omega (arith, items, c.loop-n.invariant.1)
