@@ -6,7 +6,7 @@ use Rattle.bl_order.specs.AtHand.{IsAtHand, RestsOnEndedPlaces, ParentsHaveEnded
 use Rattle.bl_order.specs.Headline.{IsReached}
 use Rattle.bl_order.specs.Order.{conflict, Entry, Child}
 use Rattle.bl_order.specs.Past.{place, no_entry}
-use Rattle.bl_order.specs.Machine.{State, MayStart, past_at, is_lost, has_ended, runs}
+use Rattle.bl_order.specs.Machine.{State, past_at, is_lost, has_ended, runs}
 use Rattle.bl_order.proofs.Sound.{IsSound, HasParent, HaveParents}
 use Rattle.bl_order.proofs.Conflicts.{or_right}
 use Rattle.bl_order.proofs.Frame.{place-alike}

@@ -17,7 +17,7 @@ use Rattle.bl_work.specs.Fault.{ReadsAs, FaultAt, SyntaxFault}
 use Rattle.bl_work.specs.First.{IsFirstWithout, IsNameOfFirst}
 use Rattle.bl_work.specs.FirstWhenFault.{IsWhenFault, declared_document, used_document}
 use Rattle.bl_work.specs.Grammar.{SpelledLine, hello, wait, when, rule, spell, CanGoOn}
-use Rattle.bl_work.specs.LineGrammar.{most_line_bytes, Means, LineOf}
+use Rattle.bl_work.specs.LineGrammar.{most_line_bytes, LineOf}
 use Rattle.bl_work.specs.Meaning.{script_of}
 use Rattle.bl_work.specs.Names.{KnownNames}
 use Rattle.bl_work.specs.RuleMeaning.{MeansRule}
@@ -29,7 +29,7 @@ use Rattle.bl_work.specs.declared.asked.Line.TheVariants as line
 use Rattle.bl_work.specs.declared.asked.LineFault.{LineFault}
 use Rattle.bl_work.specs.declared.asked.LineFault.TheVariants.{Long, Syntax, Deep, Many, Unknown, Twice, Mode, Memory}
 use Rattle.bl_work.specs.declared.work.Work.TheVariants.{Behaviour, Rule as AskedRule}
-use Rattle.bl_read.specs.LineFaults.{IsFaultOf, HasFault, IsLineFault}
+use Rattle.bl_read.specs.LineFaults.{HasFault, IsLineFault}
 use Rattle.bl_read.specs.RuleFaults.{IsKnown, mentioned, mentions_in, mentions_in_level, categories_in, category_mention}
 use Rattle.bl_read.specs.declared.rules.Role.TheVariants.{Document, Rank}
 use Rattle.bl_read.proofs.RuleMeanings.{subject_there, document_there}

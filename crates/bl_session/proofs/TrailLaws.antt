@@ -1,5 +1,5 @@
 -- What one worker does is a trail, at whose end every place has ended.
-use Rattle.std.proofs.Common.{◌≡◌, ℕ, zero, suc, ◌+◌, ◌<◌, ◌≤◌, ◌^◌, Bool, true, false, cond, List, [], ◌∷◌, ◌++◌, length, refl, sym, ap, subst, ◌∙◌, arith, inl, inr, ◌⊎◌, slice_index_or, slice_set, nat_lt, nat_le, ltb-true, Some, length-append, sum_by}
+use Rattle.std.proofs.Common.{◌≡◌, ℕ, zero, suc, ◌+◌, ◌<◌, ◌≤◌, ◌^◌, Bool, true, false, cond, List, [], ◌∷◌, ◌++◌, length, refl, sym, ap, subst, arith, inl, inr, ◌⊎◌, slice_index_or, slice_set, nat_lt, ltb-true, Some, length-append, sum_by}
 use Rattle.std.specs.Prelude.{All, IsTrue, ◌==◌}
 use Rattle.std.proofs.lemmas.Bool.Decides.{nat_tests}
 use Rattle.std.proofs.lemmas.List.Elements.{All-head, All-tail, All-cons, All-nil}
@@ -17,7 +17,7 @@ use Rattle.bl_wire.specs.declared.turn.Turn.{Turn}
 use Rattle.bl_wire.specs.declared.turn.Turn.TheVariants.{Skip, Wait, Greets, Bad, Ask}
 use Rattle.bl_wire.specs.Lines.{onto, lines_of, without_cr}
 use Rattle.bl_wire.specs.Turns.{StandsIn, AreTurns}
-use Rattle.bl_session.specs.Told.{Told, Settles, told_of, told_by}
+use Rattle.bl_session.specs.Told.{Settles, told_of}
 use Rattle.bl_session.specs.One.{place_events, run_from, settling, fits, events_of, one, one_state}
 use Rattle.bl_session.specs.OneTrail.{IsOneTrail}
 use Rattle.bl_session.specs.Orders.{said, Mirrors}

@@ -1,12 +1,10 @@
 -- A setup is what the lines of its text lead to.
-use Rattle.std.proofs.Common.{◌≡◌, ◌↔◌, ℕ, ◌≤◌, Bool, true, false, not, if◌then◌else◌, List, [], ◌∷◌, length, refl, sym, subst, ◌∙◌, ◌⊎◌, inl, inr}
-use Rattle.bl_level.specs.Lexing.{Begins}
+use Rattle.std.proofs.Common.{◌≡◌, ◌↔◌, ℕ, ◌≤◌, Bool, true, false, not, if◌then◌else◌, List, [], ◌∷◌, length, refl, sym, subst, ◌∙◌, inl, inr}
 use Rattle.bl_level.specs.Scheme.{SchemeNames}
 use Rattle.bl_setup.specs.Agreement.{of_scheme}
-use Rattle.bl_setup.specs.Declaration.{Declaration, spell_declaration}
-use Rattle.bl_setup.specs.FirstFault.{SoFar, nothing, ranked, declared, Declares, Passes, LeadTo}
-use Rattle.bl_setup.specs.Grammar.{IsSetup, LineAdds, Leads, Spells}
-use Rattle.bl_setup.specs.Heads.{DeclaresRanks, DeclaresCategories, BeginsWith, Remain}
+use Rattle.bl_setup.specs.FirstFault.{SoFar, nothing, ranked, declared, Passes, LeadTo}
+use Rattle.bl_setup.specs.Grammar.{IsSetup}
+use Rattle.bl_setup.specs.Heads.{DeclaresRanks, BeginsWith, Remain}
 use Rattle.bl_setup.specs.Lines.{is_skipped, kept, lines_read, file_lines}
 use Rattle.bl_setup.specs.Setup.{Setup}
 use Rattle.bl_setup.proofs.FileLemmas.{setup_found}

@@ -1,6 +1,6 @@
 -- A text that is no setup has a first fault: its lines lead to a setup, or one of them is at fault.
-use Rattle.std.proofs.Common.{◌≡◌, ◌≢◌, ◌↔◌, ℕ, suc, ◌<◌, ◌≤◌, Bool, true, false, List, [], ◌∷◌, ◌++◌, length, refl, sym, ap, subst, ◌∙◌, ◌⊎◌, inl, inr, arith, append_assoc, append-nil}
-use Rattle.std.specs.Prelude.{All, Contains, Some}
+use Rattle.std.proofs.Common.{◌≡◌, ◌≢◌, ℕ, suc, ◌<◌, ◌≤◌, Bool, true, false, List, [], ◌∷◌, ◌++◌, length, refl, sym, ap, subst, ◌⊎◌, inl, inr, arith, append_assoc, append-nil}
+use Rattle.std.specs.Prelude.{All, Contains}
 use Rattle.std.specs.Int.RustNames.{bit_or}
 use Rattle.std.proofs.lemmas.List.Elements.{All-cons, All-nil, Contains-get_or}
 use Rattle.std.proofs.lemmas.List.Quantifiers.{all_pairs_push}
@@ -9,7 +9,7 @@ use Rattle.bl_level.specs.Lexing.{Begins}
 use Rattle.bl_level.specs.LevelText.{LevelText, Means}
 use Rattle.bl_level.specs.Name.{AreProper}
 use Rattle.bl_level.specs.Scheme.{SchemeNames, IsScheme}
-use Rattle.bl_level.specs.Table.{AreDistinct, IsTable}
+use Rattle.bl_level.specs.Table.{AreDistinct}
 use Rattle.bl_level.proofs.Readings.{read_proper}
 use Rattle.bl_policy.specs.declared.access.Mode.{Mode}
 use Rattle.bl_policy.specs.declared.access.ModeSet.{ModeSet}
