@@ -142,8 +142,9 @@ effects-parts c es (Add doc text ∷ xs) ys = effects-parts c (es ++ effect.Add 
 effects-parts c es (Set doc text ∷ xs) ys = effects-parts c (es ++ effect.Put doc text ∷ []) xs ys
 effects-parts c es (Copy from to ∷ xs) ys = effects-parts c (es ++ effect.Put to (seen c es from) ∷ []) xs ys
 effects-parts c es (Pour from to ∷ xs) ys = effects-parts c (es ++ effect.Add to (seen c es from) ∷ []) xs ys
-effects-parts c es (If doc asks text taken left_out ∷ xs) ys =
-    effects-parts c (cond (holds_of asks (seen c es doc) text) (effects_from c es taken) (effects_from c es left_out)) xs ys
+effects-parts c es (If choice ∷ xs) ys =
+    let v = choice.value in
+    effects-parts c (cond (holds_of v.test (seen c es v.doc) v.text) (effects_from c es v.then_body) (effects_from c es v.else_body)) xs ys
 effects-parts c es (Spawn k ∷ xs) ys = effects-parts c (es ++ effect.Child k ∷ []) xs ys
 
 take-next : (xs : List Stmt) (i : ℕ) (d : Stmt) → i < length xs → take (suc i) xs ≡ take i xs ++ get_or xs i d ∷ []
@@ -174,7 +175,7 @@ modes-cons accesses (Add doc text) xs h = ((h.0, tt), h.1)
 modes-cons accesses (Set doc text) xs h = ((h.0, tt), h.1)
 modes-cons accesses (Copy from to) xs h = ((h.0, h.1, tt), h.2)
 modes-cons accesses (Pour from to) xs h = ((h.0, h.1, tt), h.2)
-modes-cons accesses (If doc asks text taken left_out) xs h = ((h.0, h.1, h.2, tt), h.3)
+modes-cons accesses (If choice) xs h = ((h.0, h.1, h.2, tt), h.3)
 modes-cons accesses (Spawn k) xs h = (tt, h)
 
 pub modes-at : (accesses : List Access) (xs : List Stmt) (i : ℕ) (x : Stmt) → i < length xs → x ≡ get_or xs i x → KeepsModes accesses (statements_of xs) → KeepsModes accesses (statements_of (x ∷ []))
@@ -190,7 +191,7 @@ texts-cons (Add doc text) xs h = ((h.0, tt), h.1)
 texts-cons (Set doc text) xs h = ((h.0, tt), h.1)
 texts-cons (Copy from to) xs h = (tt, h)
 texts-cons (Pour from to) xs h = (tt, h)
-texts-cons (If doc asks text taken left_out) xs h = ((h.0, h.1, h.2, tt), h.3)
+texts-cons (If choice) xs h = ((h.0, h.1, h.2, tt), h.3)
 texts-cons (Spawn k) xs h = (tt, h)
 
 pub texts-at : (xs : List Stmt) (i : ℕ) (x : Stmt) → i < length xs → x ≡ get_or xs i x → HasContents (statements_of xs) → HasContents (statements_of (x ∷ []))
@@ -206,7 +207,7 @@ depth-cons (Add doc text) xs = (omega arith, omega arith)
 depth-cons (Set doc text) xs = (omega arith, omega arith)
 depth-cons (Copy from to) xs = (omega arith, omega arith)
 depth-cons (Pour from to) xs = (omega arith, omega arith)
-depth-cons (If doc asks text taken left_out) xs = (omega arith, omega arith)
+depth-cons (If choice) xs = (omega arith, omega arith)
 depth-cons (Spawn k) xs = (omega arith, omega arith)
 
 pub depth-at : (xs : List Stmt) (i : ℕ) (x : Stmt) → i < length xs → x ≡ get_or xs i x → depth (statements_of (x ∷ [])) ≤ depth (statements_of xs)

@@ -146,17 +146,12 @@ impl Told {
             Stmt::Set(doc, text) => set(grants, *doc, text),
             Stmt::Copy(from, to) => copy(grants, *from, *to),
             Stmt::Pour(from, to) => pour(alloc, grants, *from, *to),
-            Stmt::If {
-                doc,
-                test,
-                text,
-                then_body,
-                else_body,
-            } => {
-                if holds(grants, *doc, *test, text) {
-                    self.run(alloc, grants, then_body.statements())
+            Stmt::If(choice) => {
+                let choice = &**choice;
+                if holds(grants, choice.doc, choice.test, &choice.text) {
+                    self.run(alloc, grants, choice.then_body.statements())
                 } else {
-                    self.run(alloc, grants, else_body.statements())
+                    self.run(alloc, grants, choice.else_body.statements())
                 }
             }
             Stmt::Spawn(behaviour) => self.spawn(*behaviour),

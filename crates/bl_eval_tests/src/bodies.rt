@@ -8,37 +8,36 @@ ghost use Rattle.bl_work.specs.Nesting.{spawned, depth_at};
 
 use bl_policy::access::{Access, Mode};
 use bl_policy::id::DocId;
+use bl_work::accesses::Accesses;
 use bl_work::document::Document;
-use bl_work::script::{Behaviour, Body, Condition, Script, Stmt};
+use bl_work::script::{Behaviour, Body, Choice, Condition, Script, Stmt};
 use std::alloc::{AllocError, Global};
 
 /// A script of one behaviour.
-fn one(alloc: Global, accesses: Vec<Access>, body: Body) -> Result<Script, AllocError>
-    requires behaviour { IsBehaviour (record { accesses = accesses.items; body = body }) }
+fn one(alloc: Global, accesses: Accesses, body: Body) -> Result<Script, AllocError>
+    requires behaviour { IsBehaviour (record { accesses = accesses; body = body }) }
     requires alone { spawned body ≡ [] }
-    requires shallow { depth_at (record { accesses = accesses.items; body = body } ∷ []) 0 ≤ 8 }
+    requires shallow { depth_at (record { accesses = accesses; body = body } ∷ []) 0 ≤ 8 }
 {
-    let mut behaviours = Vec::new(alloc);
     let behaviour = Behaviour::new(accesses, body);
-    behaviours.push(behaviour)?;
-    let script = Script::new(alloc, behaviours)?;
+    let spawned = Vec::new(alloc);
+    let script = Script::new(alloc, behaviour, spawned)?;
     Ok(script)
 }
 
 /// `append log, read note`
-fn pour_accesses(alloc: Global) -> Result<Vec<Access>, AllocError>
-    ensures { IfOk result (λ v. v.items ≡ record { mode = Append; doc = 2 } ∷ record { mode = Read; doc = 1 } ∷ []) }
+fn pour_accesses() -> Accesses
+    ensures { result ≡ record { mode = Append; doc = 2 } ∷ record { mode = Read; doc = 1 } ∷ [] }
 {
-    let mut accesses = Vec::new(alloc);
-    accesses.push(Access {
+    let mut accesses = Accesses::new(Access {
         mode: Mode::Append,
         doc: DocId::new(2),
-    })?;
+    });
     accesses.push(Access {
         mode: Mode::Read,
         doc: DocId::new(1),
-    })?;
-    Ok(accesses)
+    });
+    accesses
 }
 
 /// `pour note to log; show note;`
@@ -52,21 +51,19 @@ fn pour_body(alloc: Global) -> Result<Body, AllocError>
 }
 
 pub fn pour_script(alloc: Global) -> Result<Script, AllocError> {
-    let accesses = pour_accesses(alloc)?;
+    let accesses = pour_accesses();
     let body = pour_body(alloc)?;
     one(alloc, accesses, body)
 }
 
 /// `write memo`
-fn add_accesses(alloc: Global) -> Result<Vec<Access>, AllocError>
-    ensures { IfOk result (λ v. v.items ≡ record { mode = Write; doc = 0 } ∷ []) }
+fn add_accesses() -> Accesses
+    ensures { result ≡ record { mode = Write; doc = 0 } ∷ [] }
 {
-    let mut accesses = Vec::new(alloc);
-    accesses.push(Access {
+    Accesses::new(Access {
         mode: Mode::Write,
         doc: DocId::new(0),
-    })?;
-    Ok(accesses)
+    })
 }
 
 /// `add memo "xy";`
@@ -79,25 +76,24 @@ fn add_body(alloc: Global) -> Result<Body, AllocError>
 }
 
 pub fn add_script(alloc: Global) -> Result<Script, AllocError> {
-    let accesses = add_accesses(alloc)?;
+    let accesses = add_accesses();
     let body = add_body(alloc)?;
     one(alloc, accesses, body)
 }
 
 /// `read note, write memo`
-fn choose_accesses(alloc: Global) -> Result<Vec<Access>, AllocError>
-    ensures { IfOk result (λ v. v.items ≡ record { mode = Read; doc = 1 } ∷ record { mode = Write; doc = 0 } ∷ []) }
+fn choose_accesses() -> Accesses
+    ensures { result ≡ record { mode = Read; doc = 1 } ∷ record { mode = Write; doc = 0 } ∷ [] }
 {
-    let mut accesses = Vec::new(alloc);
-    accesses.push(Access {
+    let mut accesses = Accesses::new(Access {
         mode: Mode::Read,
         doc: DocId::new(1),
-    })?;
+    });
     accesses.push(Access {
         mode: Mode::Write,
         doc: DocId::new(0),
-    })?;
-    Ok(accesses)
+    });
+    accesses
 }
 
 /// `pour note to memo;`
@@ -132,26 +128,28 @@ fn choose_body(alloc: Global) -> Result<Body, AllocError>
     ensures { IfOk result (λ b. b ≡ statement.If 1 Is (codes "n1") (statement.Pour 1 0 statement.Nothing) (statement.Set 0 (codes "no") statement.Nothing) (statement.Show 0 (statement.If 0 Has (codes "1n") (statement.Say (codes "yes") statement.Nothing) statement.Nothing statement.Nothing))) }
 {
     let mut statements = Vec::new(alloc);
-    statements.push(Stmt::If {
+    let first = Choice {
         doc: DocId::new(1),
         test: Condition::Is,
         text: Document::new(alloc, b"n1")?,
         then_body: then_body(alloc)?,
         else_body: else_body(alloc)?,
-    })?;
+    };
+    statements.push(Stmt::If(Box::new(alloc, first)?))?;
     statements.push(Stmt::Show(DocId::new(0)))?;
-    statements.push(Stmt::If {
+    let second = Choice {
         doc: DocId::new(0),
         test: Condition::Has,
         text: Document::new(alloc, b"1n")?,
         then_body: yes_body(alloc)?,
         else_body: Body::new(Vec::new(alloc)),
-    })?;
+    };
+    statements.push(Stmt::If(Box::new(alloc, second)?))?;
     Ok(Body::new(statements))
 }
 
 pub fn choose_script(alloc: Global) -> Result<Script, AllocError> {
-    let accesses = choose_accesses(alloc)?;
+    let accesses = choose_accesses();
     let body = choose_body(alloc)?;
     one(alloc, accesses, body)
 }

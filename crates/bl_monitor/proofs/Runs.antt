@@ -147,7 +147,7 @@ effects-append contents (stmt.Add doc text ∷ xs) ys so_far = effects-append co
 effects-append contents (stmt.Set doc text ∷ xs) ys so_far = effects-append contents xs ys _
 effects-append contents (stmt.Copy from to ∷ xs) ys so_far = effects-append contents xs ys _
 effects-append contents (stmt.Pour from to ∷ xs) ys so_far = effects-append contents xs ys _
-effects-append contents (stmt.If doc asks text then_body else_body ∷ xs) ys so_far = effects-append contents xs ys _
+effects-append contents (stmt.If choice ∷ xs) ys so_far = effects-append contents xs ys _
 effects-append contents (stmt.Spawn behaviour ∷ xs) ys so_far = effects-append contents xs ys _
 
 -- the effects of one statement more
@@ -191,7 +191,7 @@ first (stmt.Add doc text) xs = omega arith
 first (stmt.Set doc text) xs = omega arith
 first (stmt.Copy from to) xs = omega arith
 first (stmt.Pour from to) xs = omega arith
-first (stmt.If doc asks text then_body else_body) xs = omega arith
+first (stmt.If choice) xs = omega arith
 first (stmt.Spawn behaviour) xs = omega arith
 
 rest : (x : Stmt) (xs : List Stmt) → depth (statements_of xs) ≤ depth (statements_of (x ∷ xs))
@@ -201,7 +201,7 @@ rest (stmt.Add doc text) xs = omega arith
 rest (stmt.Set doc text) xs = omega arith
 rest (stmt.Copy from to) xs = omega arith
 rest (stmt.Pour from to) xs = omega arith
-rest (stmt.If doc asks text then_body else_body) xs = omega arith
+rest (stmt.If choice) xs = omega arith
 rest (stmt.Spawn behaviour) xs = omega arith
 
 deep : (xs : List Stmt) (i : ℕ) (d : Stmt) → i < length xs → depth (statements_of (get_or xs i d ∷ [])) ≤ depth (statements_of xs)

@@ -186,21 +186,13 @@ impl Run {
             Stmt::Set(doc, text) => self.set(contents, *doc, text),
             Stmt::Copy(from, to) => self.copy(contents, *from, *to),
             Stmt::Pour(from, to) => self.pour(alloc, contents, *from, *to),
-            Stmt::If {
-                doc,
-                test,
-                text,
-                then_body,
-                else_body,
-            } => {
-                if holds(
-                    *test,
-                    contents[doc.position() as usize].bytes(),
-                    text.bytes(),
-                ) {
-                    self.run(alloc, contents, then_body.statements())
+            Stmt::If(choice) => {
+                let choice = &**choice;
+                let content = contents[choice.doc.position() as usize].bytes();
+                if holds(choice.test, content, choice.text.bytes()) {
+                    self.run(alloc, contents, choice.then_body.statements())
                 } else {
-                    self.run(alloc, contents, else_body.statements())
+                    self.run(alloc, contents, choice.else_body.statements())
                 }
             }
             Stmt::Spawn(behaviour) => self.spawn(*behaviour),

@@ -1,23 +1,37 @@
 -- What is built of an `if` with an `else`, and of a `when`.
-use Rattle.std.proofs.Common.{◌≡◌, ℕ, ◌+◌, List, [], ◌∷◌, ◌++◌, length, get_or, set, sym, ap, ◌∙◌, append_assoc, length-append}
+use Rattle.std.proofs.Common.{◌≡◌, ℕ, suc, ◌+◌, List, [], ◌∷◌, ◌++◌, length, set, sym, ap, ◌∙◌, arith, append_assoc, length-append}
 use Rattle.std.specs.Prelude.{map}
-use Rattle.std.proofs.lemmas.List.{append-nil, set_at, get_or_at}
+use Rattle.std.proofs.lemmas.List.{append-nil, set_at}
 use Rattle.bl_policy.specs.declared.access.Access.{Access}
 use Rattle.bl_work.specs.Names.{KnownNames}
 use Rattle.bl_work.specs.Spelled.{SpelledAccess, SpelledBody}
 use Rattle.bl_work.specs.Statements as statement
-use Rattle.bl_work.specs.Statements.{Statements, Part, no_part}
-use Rattle.bl_work.specs.Meaning.{whens, document_of, access_of, numbered, spawned_from}
+use Rattle.bl_work.specs.Statements.{Statements, Part}
+use Rattle.bl_work.specs.Meaning.{whens, document_of, access_of, numbered, spawned_from, script_of}
 use Rattle.bl_work.specs.Building.{when_from, IsBuilt}
 use Rattle.bl_work.specs.declared.script.Condition.{Condition}
 use Rattle.bl_work.proofs.Numbering.{spawned_long}
 use Rattle.bl_work.specs.Spelled as spelled
+use Rattle.bl_read.specs.Spawned.{with_outermost}
+
+abbrev behind_the_first : List Part → List Part
+behind_the_first [] = []
+behind_the_first (part ∷ parts) = parts
 
 module _ (names : KnownNames) where
   -- behind what a body spawns stand those that come next
   pub built_long : (s : SpelledBody) (old new : List Part) (y : Statements) → IsBuilt names s old new y → length new ≡ length old + whens s
   built_long s old new y b =
       ap length b.behaviours ∙ length-append old (spawned_from names (length old) s) ∙ ap (λ n. length old + n) (spawned_long names s (length old))
+
+  -- an `if` without an `else`
+  pub built_if_then : (document : List ℕ) (asks : Condition) (words : List ℕ) (t : SpelledBody) (old new : List Part) (d : ℕ) (w : List ℕ) (y : Statements)
+      → d ≡ document_of names document → w ≡ words → IsBuilt names t old new y
+      → IsBuilt names (spelled.if_then document asks words t spelled.empty) old new (statement.If d asks w y statement.Nothing statement.Nothing)
+  built_if_then document asks words t old new d w y at same b = record {
+    statements = λ i. statement.If (at i) asks (same i) (b.statements i) statement.Nothing statement.Nothing;
+    behaviours = b.behaviours ∙ ap (λ l. old ++ l) (sym (append-nil (spawned_from names (length old) t)));
+  }
 
   -- an `if` with an `else`, whose behaviours stand behind those of `then`
   pub built_if_else : (document : List ℕ) (asks : Condition) (words : List ℕ) (t e : SpelledBody) (old mid new : List Part) (d : ℕ) (w : List ℕ) (y z : Statements)
@@ -34,17 +48,34 @@ module _ (names : KnownNames) where
             ∙ ap (λ l. old ++ (x ++ l)) (sym (append-nil later));
       }
 
-  -- a `when` whose behaviour was pushed first, and given its statements when they were built
-  pub built_when : (f : SpelledAccess) (m : List SpelledAccess) (b : SpelledBody) (old pushed mid new : List Part) (accesses : List Access) (none y : Statements) (n : ℕ) → n ≡ length old
-      → pushed ≡ old ++ record { accesses = accesses; body = none } ∷ [] → accesses ≡ map (access_of names) (f ∷ m) → IsBuilt names b pushed mid y
-      → new ≡ set mid n (record (get_or mid n no_part) { body = y }) → new ≡ old ++ when_from names (length old) f m b
-  built_when f m b old pushed mid new accesses none y n at push is built put =
-      let own : Part = record { accesses = accesses; body = none } in
-      let long : length pushed ≡ length old + 1 = ap length push ∙ length-append old (own ∷ []) in
+  -- a `when` whose place was taken first, and that was put there when it was built
+  pub built_when : (f : SpelledAccess) (m : List SpelledAccess) (b : SpelledBody) (old pushed mid new : List Part) (unbuilt part : Part) (accesses : List Access) (y : Statements) (n : ℕ) → n ≡ length old
+      → pushed ≡ old ++ unbuilt ∷ [] → part ≡ record { accesses = accesses; body = y } → accesses ≡ map (access_of names) (f ∷ m) → IsBuilt names b pushed mid y
+      → new ≡ set mid n part → new ≡ old ++ when_from names (length old) f m b
+  built_when f m b old pushed mid new unbuilt part accesses y n at push made is built put =
+      let long : length pushed ≡ length old + 1 = ap length push ∙ length-append old (unbuilt ∷ []) in
       let later = spawned_from names (length old + 1) b in
-      let split : mid ≡ old ++ own ∷ later =
-      built.behaviours ∙ ap (λ k. pushed ++ spawned_from names k b) long ∙ ap (λ l. l ++ later) push ∙ append_assoc old (own ∷ []) later in
-      put ∙ ap (λ l. set l n (record (get_or l n no_part) { body = y })) split
-      ∙ ap (λ (p : Part). set (old ++ own ∷ later) n (record p { body = y })) (get_or_at old own later no_part n (sym at))
-      ∙ set_at old own later (record { accesses = accesses; body = y }) n (sym at)
-      ∙ ap (λ (p : Part). old ++ p ∷ later) (λ i. record { accesses = is i; body = (built.statements ∙ ap (λ k. numbered names k b) long) i })
+      let split : mid ≡ old ++ unbuilt ∷ later =
+      built.behaviours ∙ ap (λ k. pushed ++ spawned_from names k b) long ∙ ap (λ l. l ++ later) push ∙ append_assoc old (unbuilt ∷ []) later in
+      put ∙ ap (λ l. set l n part) split ∙ set_at old unbuilt later part n (sym at)
+      ∙ ap (λ (p : Part). old ++ p ∷ later) (made ∙ (λ i. record { accesses = is i; body = (built.statements ∙ ap (λ k. numbered names k b) long) i }))
+
+  -- a spawned `when`, the outermost behaviour standing before those that are spawned
+  pub built_spawned : (f : SpelledAccess) (m : List SpelledAccess) (b : SpelledBody) (old pushed mid new : List Part) (unbuilt part : Part) (accesses : List Access) (y : Statements) (place : ℕ) → place ≡ length old
+      → pushed ≡ old ++ unbuilt ∷ [] → part ≡ record { accesses = accesses; body = y } → accesses ≡ map (access_of names) (f ∷ m)
+      → IsBuilt names b (with_outermost pushed) (with_outermost mid) y → new ≡ set mid place part
+      → with_outermost new ≡ with_outermost old ++ when_from names (length (with_outermost old)) f m b
+  built_spawned f m b old pushed mid new unbuilt part accesses y place at push made is built put =
+      let at_number : suc place ≡ length (with_outermost old) = omega (arith, at) in
+      built_when f m b (with_outermost old) (with_outermost pushed) (with_outermost mid) (with_outermost new) unbuilt part accesses y (suc place) at_number
+      (ap with_outermost push) made is built (ap with_outermost put)
+
+  -- the outermost behaviour, and those that its body spawns
+  pub built_script : (f : SpelledAccess) (m : List SpelledAccess) (b : SpelledBody) (old new : List Part) (accesses : List Access) (y : Statements) (part : Part) → part ≡ record { accesses = accesses; body = y }
+      → accesses ≡ map (access_of names) (f ∷ m) → old ≡ [] → IsBuilt names b (with_outermost old) (with_outermost new) y → part ∷ new ≡ script_of names f m b
+  built_script f m b old new accesses y part is same none built =
+      let body : y ≡ numbered names 1 b = built.statements ∙ ap (λ l. numbered names (length (with_outermost l)) b) none in
+      let own : part ≡ record { accesses = map (access_of names) (f ∷ m); body = numbered names 1 b } = is ∙ (λ i. record { accesses = same i; body = body i }) in
+      let later : new ≡ spawned_from names 1 b =
+      ap behind_the_first (built.behaviours ∙ ap (λ l. with_outermost l ++ spawned_from names (length (with_outermost l)) b) none) in
+      λ i. own i ∷ later i

@@ -11,3 +11,4 @@ pub mod Declared
 pub mod Few
 pub mod Uses
 pub mod SomeLine
+pub mod Lookups

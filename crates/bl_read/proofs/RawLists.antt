@@ -1,12 +1,13 @@
 -- The statements of a body as they were read, one after another, and what is built of them.
 use Rattle.std.proofs.Common.{◌≡◌, ℕ, zero, suc, ◌+◌, ◌<◌, ◌≤◌, List, [], ◌∷◌, ◌++◌, length, get_or, drop, refl, sym, ap, ◌∙◌, subst, arith, append_assoc, length-append, add-zero}
-use Rattle.std.specs.Prelude.{max, map}
+use Rattle.std.specs.Prelude.{All, max, map}
 use Rattle.std.proofs.lemmas.List.{append-nil, drop_more, drop_all}
 use Rattle.bl_work.specs.Names.{KnownNames}
 use Rattle.bl_work.specs.Statements as statement
 use Rattle.bl_work.specs.Statements.{Statements, Part}
 use Rattle.bl_work.specs.Meaning.{whens, numbered, spawned_from, access_of}
-use Rattle.bl_work.specs.WhenFaults.{AreContents}
+use Rattle.bl_work.specs.WhenFaults.{lists_in, AreContents}
+use Rattle.bl_work.specs.FirstWhenFault.{HasFewAccesses}
 use Rattle.bl_syntax.specs.RawBodies.{raw_access, raw_body}
 use Rattle.bl_work.specs.SpelledDepth.{spelled_depth}
 use Rattle.bl_work.specs.Script.{most_behaviours}
@@ -17,6 +18,8 @@ use Rattle.bl_syntax.specs.declared.raw.RawStatement.TheVariants.{Show, Say, Add
 use Rattle.bl_work.specs.declared.script.Stmt.{Stmt}
 use Rattle.bl_work.specs.declared.script.Stmt.TheVariants as built
 use Rattle.bl_work.proofs.Numbering.{spawned_long}
+use Rattle.bl_work.proofs.WhenFaults.{all_left, all_right}
+use Rattle.bl_read.proofs.Joined.{raw_body-append, lists_in-joined}
 
 -- a first statement with these behind it
 abbrev put : Statements → Statements → Statements
@@ -38,7 +41,7 @@ put_built (built.Add doc text) ys = refl
 put_built (built.Set doc text) ys = refl
 put_built (built.Copy from to) ys = refl
 put_built (built.Pour from to) ys = refl
-put_built (built.If doc asks text then_body else_body) ys = refl
+put_built (built.If choice) ys = refl
 put_built (built.Spawn behaviour) ys = refl
 
 -- the `when` of a list are those of its first statement and those of the others
@@ -93,6 +96,17 @@ contents_first (IfThen d a w t) rest (c, (h, i)) = ((c, (h, tt)), i)
 contents_first (IfElse d a w t e) rest (c, (h, (i, j))) = ((c, (h, (i, tt))), j)
 contents_first (Spawn f m b) rest (h, i) = ((h, tt), i)
 
+-- the accesses of a list are those of its first statement and those of the others
+accesses_first : (x : RawStatement) (rest : List RawStatement) → All HasFewAccesses (lists_in (raw_body (x ∷ rest)))
+    → All HasFewAccesses (lists_in (raw_body (x ∷ []))) × All HasFewAccesses (lists_in (raw_body rest))
+accesses_first x rest few =
+    let here = lists_in (raw_body (x ∷ [])) in
+    let behind = lists_in (raw_body rest) in
+    let split : lists_in (raw_body (x ∷ rest)) ≡ here ++ behind =
+    ap lists_in (raw_body-append (x ∷ []) rest) ∙ lists_in-joined (raw_body (x ∷ [])) (raw_body rest) in
+    let parts = subst (All HasFewAccesses) split few in
+    (all_left HasFewAccesses here behind parts, all_right HasFewAccesses here behind parts)
+
 module _ (names : KnownNames) where
   -- the others are numbered behind what the first statement spawns
   numbered_first : (x : RawStatement) (rest : List RawStatement) (n : ℕ)
@@ -144,12 +158,15 @@ module _ (names : KnownNames) where
     pub statements : (ys : List Stmt) → statements_of ys ≡ numbered names (length mid) (raw_body rest) → statements_of (so_far ++ ys) ≡ numbered names (length old) (raw_body raws)
     pub behaviours : mid ++ spawned_from names (length mid) (raw_body rest) ≡ old ++ spawned_from names (length old) (raw_body raws)
     pub few : length mid + whens (raw_body rest) ≤ most_behaviours
+    pub accesses : All HasFewAccesses (lists_in (raw_body rest))
     pub texts : AreContents (raw_body rest)
 
-  -- the next statement has room, and its texts are contents
+  -- the next statement has room, no `when` in it has too many accesses, and its texts are contents
   pub part_next : (raws : List RawStatement) (old : List Part) (x : RawStatement) (rest : List RawStatement) (so_far : List Stmt) (mid : List Part)
-      → IsPartBuilt raws old (x ∷ rest) so_far mid → (length mid + whens (raw_body (x ∷ [])) ≤ most_behaviours) × AreContents (raw_body (x ∷ []))
-  part_next raws old x rest so_far mid p = (omega (arith, p.few, whens_first x rest), (contents_first x rest p.texts).0)
+      → IsPartBuilt raws old (x ∷ rest) so_far mid
+      → (length mid + whens (raw_body (x ∷ [])) ≤ most_behaviours) × (All HasFewAccesses (lists_in (raw_body (x ∷ []))) × AreContents (raw_body (x ∷ [])))
+  part_next raws old x rest so_far mid p =
+      (omega (arith, p.few, whens_first x rest), ((accesses_first x rest p.accesses).0, (contents_first x rest p.texts).0))
 
   -- one more is built
   pub part_more : (raws : List RawStatement) (old : List Part) (x : RawStatement) (rest : List RawStatement) (so_far : List Stmt) (mid new : List Part) (s : Stmt)
@@ -167,6 +184,7 @@ module _ (names : KnownNames) where
             ∙ append_assoc mid (spawned_from names (length mid) one) (spawned_from names (length mid + whens one) (raw_body rest))
             ∙ ap (λ l. mid ++ l) (sym (spawned_first x rest (length mid))) ∙ p.behaviours;
         few = omega (arith, p.few, whens_first x rest, long);
+        accesses = (accesses_first x rest p.accesses).1;
         texts = (contents_first x rest p.texts).1;
       }
 

@@ -1,21 +1,24 @@
-//! From a `when` as it was read to its script. Each name is looked up, and each behaviour stands where its text begins:
-//! it is pushed before what it spawns, and is given its statements when they are built.
-ghost use Rattle.std.specs.Prelude.{◌≡◌, ◌+◌, ◌<◌, ◌≤◌, [], ◌∷◌, ◌++◌, map, length, set, slice_index_or, vec_len, IfOk, OnOk};
-ghost use Rattle.bl_work.specs.Statements.{no_part};
-ghost use Rattle.bl_work.specs.Meaning.{script_of, whens, access_of as spelled_access};
-ghost use Rattle.bl_work.specs.Meaning as meaning;
-ghost use Rattle.bl_work.specs.WhenFaults.{IsFaultless, AreContents};
+//! From a `when` as it was read to its script. Each behaviour that is spawned stands where its text begins: its place is taken
+//! before what it spawns itself is built. The outermost behaviour stands in no list, so that a script of one needs none.
+ghost use Rattle.std.specs.Prelude.{◌≡◌, ◌+◌, ◌<◌, ◌≤◌, [], ◌∷◌, ◌++◌, map, length, set, vec_len, All, IfOk, OnOk};
+ghost use Rattle.bl_work.specs.Meaning.{script_of, whens};
+ghost use Rattle.bl_work.specs.WhenFaults.{lists_in, IsFaultless, AreContents};
+ghost use Rattle.bl_work.specs.FirstWhenFault.{HasFewAccesses};
 ghost use Rattle.bl_syntax.specs.RawBodies.{raw_access, raw_body};
 ghost use Rattle.bl_work.specs.Body.{statements_of};
+ghost use Rattle.bl_work.specs.Statements.{Nothing, If};
 ghost use Rattle.bl_work.specs.Script.{most_behaviours};
 ghost use Rattle.bl_work.specs.Building.{when_from, IsBuilt};
+ghost use Rattle.bl_read.specs.Spawned.{with_outermost};
 
-use bl_policy::access::Access;
+use crate::lookup::Lookup;
+use bl_policy::access::{Access, Mode};
 use bl_policy::id::DocId;
 use bl_syntax::raw::{RawAccess, RawBody, RawStatement};
+use bl_work::accesses::Accesses;
 use bl_work::document::Document;
 use bl_work::names::Names;
-use bl_work::script::{Behaviour, Body, Script, Stmt};
+use bl_work::script::{Behaviour, Body, Choice, Script, Stmt};
 use std::alloc::{AllocError, Global};
 
 /// The script of a `when` that has no fault: at most 32 behaviours nested at most 8 deep, each of at most 8 accesses to different
@@ -31,9 +34,11 @@ pub fn build_script(
     requires texts { AreContents body.now }
     ensures { IfOk result (λ script. script ≡ script_of names.now (raw_access first.entry) (map raw_access more.now) body.now) }
 {
-    let mut behaviours = Vec::with_capacity(alloc, 1 + whens_in(body))?;
-    push_when(alloc, names, first, more, body, &mut behaviours)?;
-    Script::new(alloc, behaviours)
+    let mut spawned = Vec::with_capacity(alloc, whens_in(body))?;
+    let lookup = Lookup::new(names, first, more);
+    let body = body_of(alloc, &lookup, body, &mut spawned)?;
+    let outermost = Behaviour::new(lookup.into_accesses(), body);
+    Script::new(alloc, outermost, spawned)
 }
 
 /// How many `when` stand in a body.
@@ -68,49 +73,32 @@ fn whens_of(statement: &RawStatement<'_>) -> usize
     }
 }
 
-/// The document of this name. Of a name that is no document's nothing is asked.
-fn document_of(names: &Names, name: &[u8]) -> DocId
-    ensures { result ≡ meaning.document_of names.now name.now }
-{
-    names.document(name).unwrap_or(DocId::new(0))
+/// What stands in the list of behaviours for one that is not built yet.
+fn unbuilt() -> Behaviour {
+    let none = Access {
+        mode: Mode::Read,
+        doc: DocId::new(0),
+    };
+    Behaviour::new(Accesses::new(none), Body::empty())
 }
 
-/// The access, its document looked up.
-fn access_of(names: &Names, access: RawAccess<'_>) -> Access
-    ensures { result ≡ spelled_access names.now (raw_access access.entry) }
+/// The statement of an `if`.
+fn choice_statement(alloc: Global, choice: Choice) -> Result<Stmt, AllocError>
+    ensures { IfOk result (λ statement. statements_of (statement ∷ [])
+        ≡ If choice.doc choice.test choice.text choice.then_body choice.else_body Nothing) }
 {
-    Access {
-        mode: access.mode,
-        doc: document_of(names, access.document),
-    }
+    Ok(Stmt::If(Box::new(alloc, choice)?))
 }
 
-/// The accesses of a `when`, in order.
-fn accesses_of(
-    alloc: Global,
-    names: &Names,
-    first: RawAccess<'_>,
-    more: &[RawAccess<'_>],
-) -> Result<Vec<Access>, AllocError>
-    ensures { IfOk result (λ accesses. accesses.items ≡ map (spelled_access names.now) (raw_access first.entry ∷ map raw_access more.now)) }
+/// Puts a behaviour at a place of the list.
+fn put(behaviours: &mut Vec<Behaviour>, place: usize, behaviour: Behaviour)
+    requires { place < vec_len behaviours.old }
+    ensures { behaviours.new.items ≡ set behaviours.old.items place behaviour }
 {
-    let mut accesses = Vec::with_capacity(alloc, 1 + more.len())?;
-    accesses.push(access_of(names, first))?;
-    for access in more {
-        accesses.push(access_of(names, *access))?;
-    }
-    Ok(accesses)
+    behaviours[place] = behaviour;
 }
 
-/// Gives a behaviour its statements.
-fn put_body(behaviours: &mut Vec<Behaviour>, number: usize, body: Body)
-    requires { number < vec_len behaviours.old }
-    ensures { behaviours.new.items ≡ set behaviours.old.items number (record (slice_index_or behaviours.old.items number no_part) { body = body }) }
-{
-    behaviours[number].set_body(body);
-}
-
-/// Pushes the behaviours of a `when` behind those that there are.
+/// Pushes the behaviours of a spawned `when` behind those that there are.
 #[cycle(build)]
 fn push_when(
     alloc: Global,
@@ -118,19 +106,20 @@ fn push_when(
     first: RawAccess<'_>,
     more: &[RawAccess<'_>],
     body: &RawBody<'_>,
-    behaviours: &mut Vec<Behaviour>,
+    spawned: &mut Vec<Behaviour>,
 ) -> Result<(), AllocError>
-    requires few { length behaviours.old.items + (1 + whens body.now) ≤ most_behaviours }
+    requires few { length (with_outermost spawned.old.items) + (1 + whens body.now) ≤ most_behaviours }
+    requires accesses { All HasFewAccesses ((raw_access first ∷ map raw_access more.now) ∷ lists_in body.now) }
     requires texts { AreContents body.now }
-    ensures { OnOk result (behaviours.new.items ≡ behaviours.old.items
-        ++ when_from names.now (length behaviours.old.items) (raw_access first.entry) (map raw_access more.now) body.now) }
+    ensures { OnOk result (with_outermost spawned.new.items ≡ with_outermost spawned.old.items
+        ++ when_from names.now (length (with_outermost spawned.old.items)) (raw_access first.entry) (map raw_access more.now) body.now) }
 {
-    let number = behaviours.len();
-    let accesses = accesses_of(alloc, names, first, more)?;
-    let empty = Body::new(Vec::new(alloc));
-    behaviours.push(Behaviour::new(accesses, empty))?;
-    let body = body_of(alloc, names, body, behaviours)?;
-    put_body(behaviours, number, body);
+    let place = spawned.len();
+    spawned.push(unbuilt())?;
+    let lookup = Lookup::new(&*names, first, &*more);
+    let body = body_of(alloc, &lookup, body, spawned)?;
+    let built = Behaviour::new(lookup.into_accesses(), body);
+    put(spawned, place, built);
     Ok(())
 }
 
@@ -138,18 +127,38 @@ fn push_when(
 #[cycle(build)]
 fn body_of(
     alloc: Global,
-    names: &Names,
+    lookup: &Lookup<'_>,
     body: &RawBody<'_>,
-    behaviours: &mut Vec<Behaviour>,
+    spawned: &mut Vec<Behaviour>,
 ) -> Result<Body, AllocError>
-    requires few { length behaviours.old.items + whens body.now ≤ most_behaviours }
+    requires few { length (with_outermost spawned.old.items) + whens body.now ≤ most_behaviours }
+    requires accesses { All HasFewAccesses (lists_in body.now) }
     requires texts { AreContents body.now }
-    ensures { IfOk result (IsBuilt names.now body.now behaviours.old.items behaviours.new.items) }
+    ensures { IfOk result (IsBuilt lookup.now.names.now body.now (with_outermost spawned.old.items) (with_outermost spawned.new.items)) }
 {
-    let raws = body.statements();
+    match body.statements() {
+        [] => Ok(Body::empty()),
+        [raw] => Ok(Body::one(statement_of(alloc, lookup, raw, spawned)?)),
+        raws => long_body_of(alloc, lookup, raws, spawned),
+    }
+}
+
+/// A body of these statements, in a list. The behaviours that it spawns are pushed behind those that there are.
+#[cycle(build)]
+fn long_body_of(
+    alloc: Global,
+    lookup: &Lookup<'_>,
+    raws: &[RawStatement<'_>],
+    spawned: &mut Vec<Behaviour>,
+) -> Result<Body, AllocError>
+    requires few { length (with_outermost spawned.old.items) + whens (raw_body raws.now) ≤ most_behaviours }
+    requires accesses { All HasFewAccesses (lists_in (raw_body raws.now)) }
+    requires texts { AreContents (raw_body raws.now) }
+    ensures { IfOk result (IsBuilt lookup.now.names.now (raw_body raws.now) (with_outermost spawned.old.items) (with_outermost spawned.new.items)) }
+{
     let mut statements = Vec::with_capacity(alloc, raws.len())?;
     for raw in raws {
-        let statement = statement_of(alloc, names, raw, behaviours)?;
+        let statement = statement_of(alloc, lookup, raw, spawned)?;
         statements.push(statement)?;
     }
     Ok(Body::new(statements))
@@ -159,30 +168,32 @@ fn body_of(
 #[cycle(build)]
 fn statement_of(
     alloc: Global,
-    names: &Names,
+    lookup: &Lookup<'_>,
     raw: &RawStatement<'_>,
-    behaviours: &mut Vec<Behaviour>,
+    spawned: &mut Vec<Behaviour>,
 ) -> Result<Stmt, AllocError>
-    requires few { length behaviours.old.items + whens (raw_body (raw.now ∷ [])) ≤ most_behaviours }
+    requires few { length (with_outermost spawned.old.items) + whens (raw_body (raw.now ∷ [])) ≤ most_behaviours }
+    requires accesses { All HasFewAccesses (lists_in (raw_body (raw.now ∷ []))) }
     requires texts { AreContents (raw_body (raw.now ∷ [])) }
-    ensures { IfOk result (λ statement. IsBuilt names.now (raw_body (raw.now ∷ [])) behaviours.old.items behaviours.new.items (statements_of (statement ∷ []))) }
+    ensures { IfOk result (λ statement. IsBuilt lookup.now.names.now (raw_body (raw.now ∷ [])) (with_outermost spawned.old.items)
+        (with_outermost spawned.new.items) (statements_of (statement ∷ []))) }
 {
     match raw {
-        RawStatement::Show(document) => Ok(Stmt::Show(document_of(names, document))),
+        RawStatement::Show(document) => Ok(Stmt::Show(lookup.document(document))),
         RawStatement::Say(text) => Ok(Stmt::Say(Document::new(alloc, text)?)),
         RawStatement::Add { document, text } => {
             let text = Document::new(alloc, text)?;
-            Ok(Stmt::Add(document_of(names, document), text))
+            Ok(Stmt::Add(lookup.document(document), text))
         }
         RawStatement::Set { document, text } => {
             let text = Document::new(alloc, text)?;
-            Ok(Stmt::Set(document_of(names, document), text))
+            Ok(Stmt::Set(lookup.document(document), text))
         }
         RawStatement::Copy { from, to } => {
-            Ok(Stmt::Copy(document_of(names, from), document_of(names, to)))
+            Ok(Stmt::Copy(lookup.document(from), lookup.document(to)))
         }
         RawStatement::Pour { from, to } => {
-            Ok(Stmt::Pour(document_of(names, from), document_of(names, to)))
+            Ok(Stmt::Pour(lookup.document(from), lookup.document(to)))
         }
         RawStatement::IfThen {
             document,
@@ -191,14 +202,16 @@ fn statement_of(
             then_body,
         } => {
             let text = Document::new(alloc, text)?;
-            let body = body_of(alloc, names, then_body, behaviours)?;
-            Ok(Stmt::If {
-                doc: document_of(names, document),
+            let body = body_of(alloc, lookup, then_body, spawned)?;
+            let choice = Choice {
+                doc: lookup.document(document),
                 test: *test,
                 text,
                 then_body: body,
-                else_body: Body::new(Vec::new(alloc)),
-            })
+                else_body: Body::empty(),
+            };
+            let statement = choice_statement(alloc, choice)?;
+            Ok(statement)
         }
         RawStatement::IfElse {
             document,
@@ -208,19 +221,21 @@ fn statement_of(
             else_body,
         } => {
             let text = Document::new(alloc, text)?;
-            let then_body = body_of(alloc, names, then_body, behaviours)?;
-            let else_body = body_of(alloc, names, else_body, behaviours)?;
-            Ok(Stmt::If {
-                doc: document_of(names, document),
+            let then_body = body_of(alloc, lookup, then_body, spawned)?;
+            let else_body = body_of(alloc, lookup, else_body, spawned)?;
+            let choice = Choice {
+                doc: lookup.document(document),
                 test: *test,
                 text,
                 then_body,
                 else_body,
-            })
+            };
+            let statement = choice_statement(alloc, choice)?;
+            Ok(statement)
         }
         RawStatement::Spawn { first, more, body } => {
-            let number = behaviours.len();
-            push_when(alloc, names, *first, more, body, behaviours)?;
+            let number = 1 + spawned.len();
+            push_when(alloc, lookup.names, *first, more, body, spawned)?;
             Ok(Stmt::Spawn(number as u8))
         }
     }

@@ -7,15 +7,13 @@ ghost use Rattle.bl_work.specs.WhenFaults.{depth_in, AreFew};
 ghost use Rattle.bl_work.specs.FirstWhenFault.{AreFewIn};
 
 use bl_syntax::raw::{RawAccess, RawBody, RawStatement};
+use bl_work::accesses::MOST_ACCESSES;
 
 /// How deep a `when` or an `if` may be, the outermost `when` being at depth 1.
 pub const MOST_DEPTH: usize = 8;
 
 /// How many `when` a line may have.
 pub const MOST_WHENS: usize = 32;
-
-/// How many accesses a `when` may have.
-pub const MOST_ACCESSES: usize = 8;
 
 /// Whether nothing in this body is more than so many steps below it.
 #[cycle(depth)]

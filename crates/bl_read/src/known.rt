@@ -4,7 +4,9 @@ ghost use Rattle.bl_syntax.specs.RawBodies.{raw_access, raw_body};
 ghost use Rattle.bl_work.specs.First.{IsNameOfFirst};
 ghost use Rattle.bl_work.specs.WhenFaults.{documents_in, names_in, names_of_when};
 ghost use Rattle.bl_work.specs.FirstWhenFault.{same_name};
+ghost use Rattle.bl_read.specs.OfDocuments.{AreOfDocuments};
 
+use crate::once::has_document;
 use bl_syntax::raw::{RawAccess, RawBody, RawStatement};
 use bl_work::names::Names;
 
@@ -20,24 +22,36 @@ pub fn check_when_known<'a>(
         MatchResult result (λ _. All P xs) (λ name. IsNameOfFirst P same_name xs name.now) }
 {
     check_accesses_known(names, first, more)?;
-    check_known(names, body)
+    check_known(names, first, more, body)
 }
 
-/// The name of the first document in this body that the names do not know.
+/// The name of the first document in this body that the names do not know. The innermost `when` round the body has these accesses.
 #[cycle(known)]
-fn check_known<'a>(names: &Names, body: &RawBody<'a>) -> Result<(), &'a [u8]>
+fn check_known<'a>(
+    names: &Names,
+    first: RawAccess<'a>,
+    more: &[RawAccess<'a>],
+    body: &RawBody<'a>,
+) -> Result<(), &'a [u8]>
+    requires { AreOfDocuments names.now (raw_access first ∷ map raw_access more.now) }
     ensures { let P = Contains names.now.documents in
         MatchResult result (λ _. All P (names_in body.now)) (λ name. IsNameOfFirst P same_name (names_in body.now) name.now) }
 {
     for statement in body.statements() {
-        check_statement_known(names, statement)?;
+        check_statement_known(names, first, more, statement)?;
     }
     Ok(())
 }
 
-/// The name of the first document in this statement that the names do not know.
+/// The name of the first document in this statement that the names do not know. The innermost `when` round it has these accesses.
 #[cycle(known)]
-fn check_statement_known<'a>(names: &Names, statement: &RawStatement<'a>) -> Result<(), &'a [u8]>
+fn check_statement_known<'a>(
+    names: &Names,
+    first: RawAccess<'a>,
+    more: &[RawAccess<'a>],
+    statement: &RawStatement<'a>,
+) -> Result<(), &'a [u8]>
+    requires { AreOfDocuments names.now (raw_access first ∷ map raw_access more.now) }
     ensures { let P = Contains names.now.documents in
         let xs = names_in (raw_body (statement.now ∷ [])) in
         MatchResult result (λ _. All P xs) (λ name. IsNameOfFirst P same_name xs name.now) }
@@ -46,22 +60,22 @@ fn check_statement_known<'a>(names: &Names, statement: &RawStatement<'a>) -> Res
         RawStatement::Say(_) => Ok(()),
         RawStatement::Show(document)
         | RawStatement::Add { document, .. }
-        | RawStatement::Set { document, .. } => check_document_known(names, document),
+        | RawStatement::Set { document, .. } => check_used_known(names, first, more, document),
         RawStatement::Copy { from, to } => {
-            check_document_known(names, from)?;
-            check_document_known(names, to)
+            check_used_known(names, first, more, from)?;
+            check_used_known(names, first, more, to)
         }
         RawStatement::Pour { from, to } => {
-            check_document_known(names, from)?;
-            check_document_known(names, to)
+            check_used_known(names, first, more, from)?;
+            check_used_known(names, first, more, to)
         }
         RawStatement::IfThen {
             document,
             then_body,
             ..
         } => {
-            check_document_known(names, document)?;
-            check_known(names, then_body)
+            check_used_known(names, first, more, document)?;
+            check_known(names, first, more, then_body)
         }
         RawStatement::IfElse {
             document,
@@ -69,13 +83,13 @@ fn check_statement_known<'a>(names: &Names, statement: &RawStatement<'a>) -> Res
             else_body,
             ..
         } => {
-            check_document_known(names, document)?;
-            check_known(names, then_body)?;
-            check_known(names, else_body)
+            check_used_known(names, first, more, document)?;
+            check_known(names, first, more, then_body)?;
+            check_known(names, first, more, else_body)
         }
         RawStatement::Spawn { first, more, body } => {
             check_accesses_known(names, *first, more)?;
-            check_known(names, body)
+            check_known(names, *first, more, body)
         }
     }
 }
@@ -95,6 +109,27 @@ fn check_accesses_known<'a>(
         check_document_known(names, access.document)?;
     }
     Ok(())
+}
+
+/// This name, where it is no document that the names know. It is sought first among these accesses, which they know.
+fn check_used_known<'a>(
+    names: &Names,
+    first: RawAccess<'a>,
+    more: &[RawAccess<'a>],
+    name: &'a [u8],
+) -> Result<(), &'a [u8]>
+    requires { AreOfDocuments names.now (raw_access first ∷ map raw_access more.now) }
+    ensures { let P = Contains names.now.documents in
+        let xs = name.now ∷ [] in
+        MatchResult result (λ _. All P xs) (λ unknown. IsNameOfFirst P same_name xs unknown.now) }
+{
+    if first.document == name {
+        return Ok(());
+    }
+    if has_document(more, name) {
+        return Ok(());
+    }
+    check_document_known(names, name)
 }
 
 /// This name, where it is no document that the names know.

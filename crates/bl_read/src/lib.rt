@@ -6,6 +6,7 @@
 //!     known    unknown documents
 //!     once     documents declared twice
 //!     modes    documents used in a mode that is not declared
+//!     lookup   the documents of a `when`, looked up once
 //!     build    the script that a `when` stands for
 //!     rules    the rule that a line stands for
 #![tactic(auto)]
@@ -15,6 +16,7 @@ pub mod check;
 pub mod count;
 pub mod known;
 pub mod line;
+mod lookup;
 pub mod modes;
 pub mod once;
 pub mod rules;

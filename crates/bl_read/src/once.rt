@@ -71,7 +71,7 @@ fn check_accesses_once<'a>(first: RawAccess<'a>, more: &[RawAccess<'a>]) -> Resu
 }
 
 /// Whether an access is of this document.
-fn has_document(accesses: &[RawAccess<'_>], document: &[u8]) -> bool
+pub(crate) fn has_document(accesses: &[RawAccess<'_>], document: &[u8]) -> bool
     ensures { IsTrue result ↔ Contains (documents_in (map raw_access accesses.now)) document.now }
 {
     for access in accesses {

@@ -2,5 +2,5 @@
 #![tactic(auto)]
 
 pub use bl_read::line;
-pub use bl_work::{answer, asked, document, laws, names, script, work};
+pub use bl_work::{accesses, answer, asked, document, laws, names, script, work};
 pub use bl_write::{canonical, knows, write};

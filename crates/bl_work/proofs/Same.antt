@@ -24,7 +24,7 @@ count-statements_of (Add doc text ∷ xs) = ap suc (count-statements_of xs)
 count-statements_of (Set doc text ∷ xs) = ap suc (count-statements_of xs)
 count-statements_of (Copy from to ∷ xs) = ap suc (count-statements_of xs)
 count-statements_of (Pour from to ∷ xs) = ap suc (count-statements_of xs)
-count-statements_of (If doc asks text then_body else_body ∷ xs) = ap suc (count-statements_of xs)
+count-statements_of (If choice ∷ xs) = ap suc (count-statements_of xs)
 count-statements_of (Spawn behaviour ∷ xs) = ap suc (count-statements_of xs)
 
 -- there are as many
@@ -60,7 +60,7 @@ first-statements_of (Add doc text) xs = refl
 first-statements_of (Set doc text) xs = refl
 first-statements_of (Copy from to) xs = refl
 first-statements_of (Pour from to) xs = refl
-first-statements_of (If doc asks text then_body else_body) xs = refl
+first-statements_of (If choice) xs = refl
 first-statements_of (Spawn behaviour) xs = refl
 
 others-statements_of : (x : Stmt) (xs : List Stmt) → others (statements_of (x ∷ xs)) ≡ statements_of xs
@@ -70,7 +70,7 @@ others-statements_of (Add doc text) xs = refl
 others-statements_of (Set doc text) xs = refl
 others-statements_of (Copy from to) xs = refl
 others-statements_of (Pour from to) xs = refl
-others-statements_of (If doc asks text then_body else_body) xs = refl
+others-statements_of (If choice) xs = refl
 others-statements_of (Spawn behaviour) xs = refl
 
 -- each is the same
@@ -102,8 +102,8 @@ statements_of-append (Add doc text ∷ xs) ys = ap (λ s. Statements.Add doc tex
 statements_of-append (Set doc text ∷ xs) ys = ap (λ s. Statements.Set doc text s) (statements_of-append xs ys)
 statements_of-append (Copy from to ∷ xs) ys = ap (λ s. Statements.Copy from to s) (statements_of-append xs ys)
 statements_of-append (Pour from to ∷ xs) ys = ap (λ s. Statements.Pour from to s) (statements_of-append xs ys)
-statements_of-append (If doc asks text then_body else_body ∷ xs) ys =
-    ap (λ s. Statements.If doc asks text then_body else_body s) (statements_of-append xs ys)
+statements_of-append (If choice ∷ xs) ys =
+    let c = choice.value in ap (λ s. Statements.If c.doc c.test c.text c.then_body c.else_body s) (statements_of-append xs ys)
 statements_of-append (Spawn behaviour ∷ xs) ys = ap (λ s. Statements.Spawn behaviour s) (statements_of-append xs ys)
 
 take-next : (xs : List Stmt) (i : ℕ) (d : Stmt) → i < length xs → take (suc i) xs ≡ take i xs ++ get_or xs i d ∷ []

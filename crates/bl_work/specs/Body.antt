@@ -12,8 +12,8 @@ statements_of (Add doc text ∷ rest) = Statements.Add doc text (statements_of r
 statements_of (Set doc text ∷ rest) = Statements.Set doc text (statements_of rest)
 statements_of (Copy from to ∷ rest) = Statements.Copy from to (statements_of rest)
 statements_of (Pour from to ∷ rest) = Statements.Pour from to (statements_of rest)
-statements_of (If doc asks text then_body else_body ∷ rest) =
-    Statements.If doc asks text then_body else_body (statements_of rest)
+statements_of (If choice ∷ rest) =
+    let c = choice.value in Statements.If c.doc c.test c.text c.then_body c.else_body (statements_of rest)
 statements_of (Spawn behaviour ∷ rest) = Statements.Spawn behaviour (statements_of rest)
 
 -- how many `if` stand in one another

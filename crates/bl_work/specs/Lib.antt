@@ -1,4 +1,5 @@
 pub mod Content
+pub mod Few
 pub mod Statements
 pub mod Piece
 pub mod Effects

@@ -2,6 +2,7 @@
 ghost use Rattle.std.specs.Prelude.{◌≡◌, IfOk};
 
 use crate::document::Document;
+use crate::few::Few;
 use bl_policy::denial::Denial;
 use std::alloc::AllocError;
 use std::marker::Model;
@@ -9,15 +10,16 @@ use std::marker::Model;
 /// The texts that a behaviour showed, in order.
 #[derive(Drop)]
 pub struct Outputs {
-    texts: Vec<Document>,
+    texts: Few<Document>,
 }
 
 impl Model for Outputs {
     ghost use Rattle.std.specs.Prelude.{List, ℕ};
+    ghost use Rattle.bl_work.specs.Few.{items_of};
 
     ghost Value = { List (List ℕ) };
 
-    ghost view = { λ o. o.texts.items };
+    ghost view = { λ o. items_of o.texts };
 }
 
 impl Outputs {
@@ -25,17 +27,20 @@ impl Outputs {
     pub fn new(texts: Vec<Document>) -> Outputs
         ensures { result ≡ texts.items }
     {
-        Outputs { texts }
+        Outputs {
+            texts: Few::new(texts),
+        }
     }
 
     /// Equal outputs, each text with one more owner.
     pub fn share(&self) -> Result<Outputs, AllocError>
         ensures { IfOk result (λ o. o ≡ self.now) }
     {
-        let mut texts = Vec::with_capacity(*self.texts.allocator(), self.texts.len())?;
-        for text in &self.texts {
-            texts.push(text.share()?)?;
-        }
+        let texts = match &self.texts {
+            Few::Nothing => Few::Nothing,
+            Few::One(text) => Few::One(text.share()?),
+            Few::Many(texts) => Few::Many(shared(texts)?),
+        };
         Ok(Outputs { texts })
     }
 
@@ -45,6 +50,17 @@ impl Outputs {
     {
         self.texts.as_slice()
     }
+}
+
+/// Equal texts, each with one more owner.
+fn shared(texts: &Vec<Document>) -> Result<Vec<Document>, AllocError>
+    ensures { IfOk result (λ shares. shares.items ≡ texts.now.items) }
+{
+    let mut shares = Vec::with_capacity(*texts.allocator(), texts.len())?;
+    for text in texts {
+        shares.push(text.share()?)?;
+    }
+    Ok(shares)
 }
 
 /// The answer of an entry.

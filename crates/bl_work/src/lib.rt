@@ -1,8 +1,10 @@
 //! What is asked in a session and what it is answered, without any text: names, works with their documents, answers; and the
 //! definitions of the lines' grammar and meaning.
 //!
+//!     few         lists that mostly have one item
 //!     names       the names of subjects and documents
 //!     document    the bytes of a content, shared
+//!     accesses    what a behaviour declares
 //!     script      the behaviours of a line
 //!     work        what an entry does: a behaviour or a rule
 //!     answer      what an entry is answered
@@ -10,9 +12,11 @@
 //!     laws        what holds of scripts, their effects, and lines
 #![tactic(auto)]
 
+pub mod accesses;
 pub mod answer;
 pub mod asked;
 pub mod document;
+pub mod few;
 pub mod laws;
 pub mod names;
 pub mod script;

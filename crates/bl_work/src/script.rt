@@ -2,7 +2,9 @@
 ghost use Rattle.std.specs.Prelude.{◌≡◌, ◌↔◌, IsTrue};
 ghost use Rattle.bl_policy.specs.declared.access.Access.{Access};
 
+use crate::accesses::Accesses;
 use crate::document::Document;
+use crate::few::Few;
 use bl_policy::access::{Access, Mode};
 use bl_policy::id::DocId;
 use std::alloc::{AllocError, Global};
@@ -20,7 +22,7 @@ pub enum Condition {
 #[cycle(script)]
 #[derive(Drop)]
 pub struct Body {
-    statements: Vec<Stmt>,
+    statements: Few<Stmt>,
 }
 
 /// A statement.
@@ -39,16 +41,22 @@ pub enum Stmt {
     Copy(DocId, DocId),
     /// Adds the first document's content to the second one's end.
     Pour(DocId, DocId),
-    /// Runs one of two bodies, by what the document's content is.
-    If {
-        doc: DocId,
-        test: Condition,
-        text: Document,
-        then_body: Body,
-        else_body: Body,
-    },
+    /// Runs one of two bodies, by what the document's content is. It has a block of its own, so that the other statements are
+    /// small.
+    If(Box<Choice>),
     /// Spawns the behaviour of this number in the same script.
     Spawn(u8),
+}
+
+/// An `if`: the first body runs where the condition holds of the document's content and the text, and otherwise the second one.
+#[cycle(script)]
+#[derive(Drop)]
+pub struct Choice {
+    pub doc: DocId,
+    pub test: Condition,
+    pub text: Document,
+    pub then_body: Body,
+    pub else_body: Body,
 }
 
 impl Model for Body {
@@ -60,21 +68,22 @@ impl Model for Body {
     ghost coded = { coded_statements };
 
     ghost use Rattle.bl_work.specs.Body.{statements_of, depth};
+    ghost use Rattle.bl_work.specs.Few.{items_of};
 
-    ghost view = { λ b. statements_of b.statements.items };
+    ghost view = { λ b. statements_of (items_of b.statements) };
 
     ghost size = { depth };
 
     ghost use Rattle.std.proofs.Common.{arith};
-    ghost use Rattle.bl_work.specs.BodyFalls.{depth_falls};
+    ghost use Rattle.bl_work.specs.BodyFalls.{few_fall};
 
-    ghost size_decreases = { λ a h. omega (arith, depth_falls a.statements.items) };
+    ghost size_decreases = { λ a h. omega (arith, few_fall a.statements) };
 }
 
 /// One behaviour of a script.
 #[derive(Drop)]
 pub struct Behaviour {
-    accesses: Vec<Access>,
+    accesses: Accesses,
     body: Body,
 }
 
@@ -86,7 +95,7 @@ impl Model for Behaviour {
 
     ghost coded = { coded_part };
 
-    ghost view = { λ b. record { accesses = b.accesses.items; body = b.body } };
+    ghost view = { λ b. record { accesses = b.accesses; body = b.body } };
 }
 
 /// The behaviours of one line: the outermost, and those that it spawns. Most lines have one, which needs no list.
@@ -122,14 +131,34 @@ impl Model for Script {
 }
 
 impl Body {
-    ghost use Rattle.std.specs.Prelude.{◌≡◌};
+    ghost use Rattle.std.specs.Prelude.{◌≡◌, [], ◌∷◌};
     ghost use Rattle.bl_work.specs.Body.{statements_of};
 
-    /// A body of these statements.
+    /// A body of these statements. It keeps their block where there are several.
     pub fn new(statements: Vec<Stmt>) -> Body
         ensures { result ≡ statements_of statements.items }
     {
-        Body { statements }
+        Body {
+            statements: Few::new(statements),
+        }
+    }
+
+    /// A body of one statement, without a block.
+    pub fn one(statement: Stmt) -> Body
+        ensures { result ≡ statements_of (statement ∷ []) }
+    {
+        Body {
+            statements: Few::One(statement),
+        }
+    }
+
+    /// A body of no statements.
+    pub fn empty() -> Body
+        ensures { result ≡ statements_of [] }
+    {
+        Body {
+            statements: Few::Nothing,
+        }
     }
 
     /// The statements, in the order in which they run.
@@ -148,11 +177,13 @@ impl Body {
     fn is_same(&self, other: &Body) -> bool
         ensures { IsTrue result ↔ (self.now ≡ other.now) }
     {
-        if self.statements.len() != other.statements.len() {
+        let statements = self.statements.as_slice();
+        let others = other.statements.as_slice();
+        if statements.len() != others.len() {
             return false;
         }
-        for (i, statement) in self.statements.iter().enumerate() {
-            if !statement.is_same(&other.statements[i]) {
+        for (i, statement) in statements.iter().enumerate() {
+            if !statement.is_same(&others[i]) {
                 return false;
             }
         }
@@ -178,27 +209,12 @@ impl Stmt {
                 && text == its_text,
             (Stmt::Copy(from, to), Stmt::Copy(others, its_to)) => from == others && to == its_to,
             (Stmt::Pour(from, to), Stmt::Pour(others, its_to)) => from == others && to == its_to,
-            (
-                Stmt::If {
-                    doc,
-                    test,
-                    text,
-                    then_body,
-                    else_body,
-                },
-                Stmt::If {
-                    doc: others,
-                    test: its_test,
-                    text: its_text,
-                    then_body: its_then,
-                    else_body: its_else,
-                },
-            ) => {
-                doc == others
-                    && test == its_test
-                    && text == its_text
-                    && then_body.is_same(its_then)
-                    && else_body.is_same(its_else)
+            (Stmt::If(choice), Stmt::If(others)) => {
+                choice.doc == others.doc
+                    && choice.test == others.test
+                    && choice.text == others.text
+                    && choice.then_body.is_same(&others.then_body)
+                    && choice.else_body.is_same(&others.else_body)
             }
             (Stmt::Spawn(behaviour), Stmt::Spawn(others)) => behaviour == others,
             _ => false,
@@ -225,24 +241,18 @@ impl Behaviour {
     ghost use Rattle.std.specs.Prelude.{◌≡◌, ◌↔◌, IsTrue};
 
     /// A behaviour that declares these accesses, in this order, and runs this body.
-    pub fn new(accesses: Vec<Access>, body: Body) -> Behaviour
-        ensures { result ≡ record { accesses = accesses.items; body = body } }
+    pub fn new(accesses: Accesses, body: Body) -> Behaviour
+        ensures { result ≡ record { accesses = accesses; body = body } }
     {
         Behaviour { accesses, body }
-    }
-
-    /// Runs this body from now on.
-    pub fn set_body(&mut self, body: Body)
-        ensures { self.new ≡ record self.old { body = body } }
-    {
-        self.body = body;
     }
 
     /// Whether this is the same behaviour.
     fn is_same(&self, other: &Behaviour) -> bool
         ensures { IsTrue result ↔ (self.now ≡ other.now) }
     {
-        are_same(&self.accesses, &other.accesses) && self.body.is_same(&other.body)
+        are_same(self.accesses.as_slice(), other.accesses.as_slice())
+            && self.body.is_same(&other.body)
     }
 }
 
@@ -268,16 +278,11 @@ impl Script {
     ghost use Rattle.bl_work.specs.Body.{statements_of};
     ghost use Rattle.bl_work.specs.Script.{IsScript, IsBehaviour};
 
-    /// A script of these behaviours, in pre-order.
-    pub fn new(alloc: Global, behaviours: Vec<Behaviour>) -> Result<Script, AllocError>
-        requires { IsScript behaviours.items }
-        ensures { IfOk result (λ s. s ≡ behaviours.items) }
+    /// A script of the outermost behaviour and those that it spawns, in pre-order.
+    pub fn new(alloc: Global, first: Behaviour, more: Vec<Behaviour>) -> Result<Script, AllocError>
+        requires { IsScript (first ∷ more.items) }
+        ensures { IfOk result (λ s. s ≡ first ∷ more.items) }
     {
-        let mut more = behaviours;
-        let first = more.remove(0);
-        if more.is_empty() {
-            more = Vec::new(alloc);
-        }
         match Arc::new(alloc, Behaviours { first, more }) {
             Ok(behaviours) => Ok(Script { behaviours }),
             Err(_) => Err(AllocError),
@@ -288,16 +293,12 @@ impl Script {
     pub fn one_read(alloc: Global, shown: DocId) -> Result<Script, AllocError>
         ensures { IfOk result (λ s. s ≡ record { accesses = record { mode = Read; doc = shown } ∷ []; body = Show shown Nothing } ∷ []) }
     {
-        let mut accesses = Vec::with_capacity(alloc, 1)?;
-        accesses.push(Access {
+        let accesses = Accesses::new(Access {
             mode: Mode::Read,
             doc: shown,
-        })?;
-        let mut statements = Vec::with_capacity(alloc, 1)?;
-        statements.push(Stmt::Show(shown))?;
-        let mut behaviours = Vec::with_capacity(alloc, 1)?;
-        behaviours.push(Behaviour::new(accesses, Body::new(statements)))?;
-        Script::new(alloc, behaviours)
+        });
+        let body = Body::one(Stmt::Show(shown));
+        Script::new(alloc, Behaviour::new(accesses, body), Vec::new(alloc))
     }
 
     /// The number of behaviours, which is the number of `when` in the line.

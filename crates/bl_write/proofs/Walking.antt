@@ -76,10 +76,12 @@ module _ (names : KnownNames) (below : ℕ → SpelledWhen) where
   first_tokens (stmt.Set doc words) xs = refl
   first_tokens (stmt.Copy from to) xs = refl
   first_tokens (stmt.Pour from to) xs = refl
-  first_tokens (stmt.If doc asks words t e) xs =
-      let document = name_at names doc in
-      let then_is = unread_body names below t in
-      let else_is = unread_body names below e in
+  first_tokens (stmt.If choice) xs =
+      let asks = choice.value.test in
+      let words = choice.value.text in
+      let document = name_at names choice.value.doc in
+      let then_is = unread_body names below choice.value.then_body in
+      let else_is = unread_body names below choice.value.else_body in
       let close = reserved word.End ∷ sign Semicolon ∷ [] in
       let behind = spell_body (body_of xs) in
       if_tokens names document asks words then_is else_is (body_of xs)
@@ -131,9 +133,12 @@ module _ (names : KnownNames) (below : ℕ → SpelledWhen) where
   depth_first (stmt.Set doc words) xs = (omega arith, omega arith)
   depth_first (stmt.Copy from to) xs = (omega arith, omega arith)
   depth_first (stmt.Pour from to) xs = (omega arith, omega arith)
-  depth_first (stmt.If doc asks words t e) xs =
-      let one = if_depth (name_at names doc) asks words (unread_body names below t) (unread_body names below e) empty in
-      let all = if_depth (name_at names doc) asks words (unread_body names below t) (unread_body names below e) (body_of xs) in
+  depth_first (stmt.If choice) xs =
+      let document = name_at names choice.value.doc in
+      let then_is = unread_body names below choice.value.then_body in
+      let else_is = unread_body names below choice.value.else_body in
+      let one = if_depth document choice.value.test choice.value.text then_is else_is empty in
+      let all = if_depth document choice.value.test choice.value.text then_is else_is (body_of xs) in
       (omega (arith, one, all), omega (arith, all))
   depth_first (stmt.Spawn behaviour) xs = (omega arith, omega arith)
 
@@ -155,7 +160,7 @@ module _ (documents behaviours : ℕ) where
   within_first (stmt.Set doc words) xs (d, h) = ((d, tt), h)
   within_first (stmt.Copy from to) xs (d, e, h) = ((d, e, tt), h)
   within_first (stmt.Pour from to) xs (d, e, h) = ((d, e, tt), h)
-  within_first (stmt.If doc asks words t e) xs (d, h, i, j) = ((d, h, i, tt), j)
+  within_first (stmt.If choice) xs (d, h, i, j) = ((d, h, i, tt), j)
   within_first (stmt.Spawn behaviour) xs (b, h) = ((b, tt), h)
 
   -- each statement names what is there
@@ -281,8 +286,10 @@ else_tokens names below (stmt.Add doc words ∷ xs) some = refl
 else_tokens names below (stmt.Set doc words ∷ xs) some = refl
 else_tokens names below (stmt.Copy from to ∷ xs) some = refl
 else_tokens names below (stmt.Pour from to ∷ xs) some = refl
-else_tokens names below (stmt.If doc asks words t e ∷ xs) some =
-    if_else_tokens (name_at names doc) asks words (unread_body names below t) (unread_body names below e) (unread_body names below (statements_of xs))
+else_tokens names below (stmt.If choice ∷ xs) some =
+    let c = choice.value in
+    if_else_tokens (name_at names c.doc) c.test c.text (unread_body names below c.then_body) (unread_body names below c.else_body)
+    (unread_body names below (statements_of xs))
   where
     if_else_tokens : (document : List ℕ) (asks : Condition) (words : List ℕ) (t e rest : SpelledBody)
         → spell_else (unread_if names document asks words t e rest) ≡ reserved word.Else ∷ spell_body (unread_if names document asks words t e rest)

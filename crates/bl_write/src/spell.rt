@@ -216,16 +216,10 @@ fn put_statement<S: Sink>(
         Stmt::Set(doc, text) => put_change(sink, names, Keyword::Set, *doc, text.bytes()),
         Stmt::Copy(from, to) => put_move(sink, names, Keyword::Copy, *from, *to),
         Stmt::Pour(from, to) => put_move(sink, names, Keyword::Pour, *from, *to),
-        Stmt::If {
-            doc,
-            test,
-            text,
-            then_body,
-            else_body,
-        } => {
-            put_condition(sink, names, *doc, *test, text.bytes())?;
-            put_statements(sink, names, script, then_body.statements())?;
-            put_else(sink, names, script, else_body.statements())?;
+        Stmt::If(choice) => {
+            put_condition(sink, names, choice.doc, choice.test, choice.text.bytes())?;
+            put_statements(sink, names, script, choice.then_body.statements())?;
+            put_else(sink, names, script, choice.else_body.statements())?;
             put_all(sink, &[Token::Reserved(Keyword::End), SEMICOLON])
         }
         Stmt::Spawn(behaviour) => {

@@ -7,8 +7,8 @@ use Rattle.bl_eval_tests.proofs.bodies.pour_script.Goals as goal
 
 pub one-requires-clause-behaviour : goal.one-requires-clause-behaviour
 one-requires-clause-behaviour c =
-    let made : Part = record { accesses = c.in_ok-accesses.accesses.items; body = c.in_ok-body.body } in
-    let e : made ≡ pour_part = λ i. record { accesses = c.in_ok-accesses.ensures i; body = c.in_ok-body.ensures i } in
+    let made : Part = record { accesses = c.pour_accesses-accesses.result; body = c.in_ok-body.body } in
+    let e : made ≡ pour_part = λ i. record { accesses = c.pour_accesses-accesses.ensures i; body = c.in_ok-body.ensures i } in
     subst (λ (p : Part). IsBehaviour p) (sym e) pour-right
 
 pub one-requires-clause-alone : goal.one-requires-clause-alone
@@ -16,6 +16,6 @@ one-requires-clause-alone c = ap spawned c.in_ok-body.ensures
 
 pub one-requires-clause-shallow : goal.one-requires-clause-shallow
 one-requires-clause-shallow c =
-    let made : Part = record { accesses = c.in_ok-accesses.accesses.items; body = c.in_ok-body.body } in
-    let e : made ≡ pour_part = λ i. record { accesses = c.in_ok-accesses.ensures i; body = c.in_ok-body.ensures i } in
+    let made : Part = record { accesses = c.pour_accesses-accesses.result; body = c.in_ok-body.body } in
+    let e : made ≡ pour_part = λ i. record { accesses = c.pour_accesses-accesses.ensures i; body = c.in_ok-body.ensures i } in
     subst (λ (p : Part). depth_at (p ∷ []) 0 ≤ 8) (sym e) (lit≤ tt)

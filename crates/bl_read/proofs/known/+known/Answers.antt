@@ -1,6 +1,8 @@
-use Rattle.std.proofs.Common.{[], ◌∷◌, ◌++◌, map, ap, subst, arith}
+use Rattle.std.proofs.Common.{List, [], ◌∷◌, ◌++◌, map, ap, sym, ◌∙◌, subst, arith}
 use Rattle.std.specs.Prelude.{All, Contains}
-use Rattle.bl_syntax.specs.RawBodies.{raw_access}
+use Rattle.bl_syntax.specs.declared.raw.RawAccess.{RawAccess}
+use Rattle.bl_syntax.specs.declared.raw.RawStatement.{RawStatement}
+use Rattle.bl_syntax.specs.RawBodies.{raw_access, raw_body}
 use Rattle.bl_work.specs.SpelledDepth.{spelled_depth}
 use Rattle.bl_work.specs.First.{IsNameOfFirst}
 use Rattle.bl_read.proofs.Joined.{depth-at}
@@ -8,11 +10,13 @@ use Rattle.bl_read.proofs.Firsts.{first_behind, first_before, finds_behind, find
 use Rattle.bl_read.proofs.Passes.{pass_goes_on, pass_stops, pass_ends, names_of, names_additive}
 use Rattle.bl_work.specs.WhenFaults.{documents_in, names_in}
 use Rattle.bl_work.specs.FirstWhenFault.{same_name}
+use Rattle.bl_read.specs.OfDocuments.{AreOfDocuments}
 use Rattle.bl_read.proofs.known.+known.Goals as goal
 
 pub check_known-check_statement_known-requires : goal.check_known-check_statement_known-requires
 check_known-check_statement_known-requires t c =
-    omega (arith, c.decreases, depth-at c.statements-statement-items.result.now c.loop-statement.statement-index c.statement-item.result (omega arith) c.statement-item.is, ap spelled_depth c.statements-statement-items.ensures)
+    let lower = depth-at c.statements-statement-items.result.now c.loop-statement.statement-index c.statement-item.result (omega arith) c.statement-item.is in
+    (omega (arith, c.decreases, lower, ap spelled_depth c.statements-statement-items.ensures), c.requires)
 
 pub check_known-returns-in_err-check_statement_known : goal.check_known-returns-in_err-check_statement_known
 check_known-returns-in_err-check_statement_known t c =
@@ -29,33 +33,33 @@ pub check_known-returns : goal.check_known-returns
 check_known-returns t c =
     pass_ends names_of (Contains c.args.names.now.documents) c.statements-statement-items.result.now _ (ap names_in c.statements-statement-items.ensures) c.loop-statement.statement-index (omega arith) c.loop-statement.invariant
 
-pub check_statement_known-returns-in_err-check_document_known-in-Copy : goal.check_statement_known-returns-in_err-check_document_known-in-Copy
-check_statement_known-returns-in_err-check_document_known-in-Copy t c =
+pub check_statement_known-returns-in_err-check_used_known-in-Copy : goal.check_statement_known-returns-in_err-check_used_known-in-Copy
+check_statement_known-returns-in_err-check_used_known-in-Copy t c =
     in_statement names_of (Contains c.args.names.now.documents) same_name _ _ _ c.in-Copy.is
     (exits (Contains c.args.names.now.documents) same_name _ _ _ c.from_residual.ensures.1
-    (first_before (Contains c.args.names.now.documents) same_name (c.in-Copy.from.now ∷ []) (c.in-Copy.to.now ∷ []) _ c.in_err-check_document_known-in-Copy.ensures))
+    (first_before (Contains c.args.names.now.documents) same_name (c.in-Copy.from.now ∷ []) (c.in-Copy.to.now ∷ []) _ c.in_err-check_used_known-in-Copy.ensures))
 
-pub check_statement_known-returns-in_err-check_document_known-in-Pour : goal.check_statement_known-returns-in_err-check_document_known-in-Pour
-check_statement_known-returns-in_err-check_document_known-in-Pour t c =
+pub check_statement_known-returns-in_err-check_used_known-in-Pour : goal.check_statement_known-returns-in_err-check_used_known-in-Pour
+check_statement_known-returns-in_err-check_used_known-in-Pour t c =
     in_statement names_of (Contains c.args.names.now.documents) same_name _ _ _ c.in-Pour.is
-    (exits (Contains c.args.names.now.documents) same_name _ _ _ c.from_residual-in_err-check_document_known-in-Pour.ensures.1
-    (first_before (Contains c.args.names.now.documents) same_name (c.in-Pour.from.now ∷ []) (c.in-Pour.to.now ∷ []) _ c.in_err-check_document_known-in-Pour.ensures))
+    (exits (Contains c.args.names.now.documents) same_name _ _ _ c.from_residual-in_err-check_used_known-in-Pour.ensures.1
+    (first_before (Contains c.args.names.now.documents) same_name (c.in-Pour.from.now ∷ []) (c.in-Pour.to.now ∷ []) _ c.in_err-check_used_known-in-Pour.ensures))
 
-pub check_statement_known-returns-in_err-check_document_known-in-IfThen : goal.check_statement_known-returns-in_err-check_document_known-in-IfThen
-check_statement_known-returns-in_err-check_document_known-in-IfThen t c =
+pub check_statement_known-returns-in_err-check_used_known-in-IfThen : goal.check_statement_known-returns-in_err-check_used_known-in-IfThen
+check_statement_known-returns-in_err-check_used_known-in-IfThen t c =
     in_statement names_of (Contains c.args.names.now.documents) same_name _ _ _ c.in-IfThen.is
-    (exits (Contains c.args.names.now.documents) same_name _ _ _ c.from_residual-in_err-check_document_known-in-IfThen.ensures.1 (first_before (Contains c.args.names.now.documents) same_name _ _ _ c.in_err-check_document_known-in-IfThen.ensures))
+    (exits (Contains c.args.names.now.documents) same_name _ _ _ c.from_residual-in_err-check_used_known-in-IfThen.ensures.1 (first_before (Contains c.args.names.now.documents) same_name _ _ _ c.in_err-check_used_known-in-IfThen.ensures))
 
-pub check_statement_known-returns-in_err-check_document_known-in-IfElse : goal.check_statement_known-returns-in_err-check_document_known-in-IfElse
-check_statement_known-returns-in_err-check_document_known-in-IfElse t c =
+pub check_statement_known-returns-in_err-check_used_known-in-IfElse : goal.check_statement_known-returns-in_err-check_used_known-in-IfElse
+check_statement_known-returns-in_err-check_used_known-in-IfElse t c =
     in_statement names_of (Contains c.args.names.now.documents) same_name _ _ _ c.in-IfElse.is
-    (exits (Contains c.args.names.now.documents) same_name _ _ _ c.from_residual-in_err-check_document_known-in-IfElse.ensures.1 (first_before (Contains c.args.names.now.documents) same_name _ _ _ c.in_err-check_document_known-in-IfElse.ensures))
+    (exits (Contains c.args.names.now.documents) same_name _ _ _ c.from_residual-in_err-check_used_known-in-IfElse.ensures.1 (first_before (Contains c.args.names.now.documents) same_name _ _ _ c.in_err-check_used_known-in-IfElse.ensures))
 
 pub check_statement_known-returns-in_err-check_known-in-IfElse : goal.check_statement_known-returns-in_err-check_known-in-IfElse
 check_statement_known-returns-in_err-check_known-in-IfElse t c =
     in_statement names_of (Contains c.args.names.now.documents) same_name _ _ _ c.in-IfElse.is
     (exits (Contains c.args.names.now.documents) same_name _ _ _ c.from_residual-in_err-check_known-in-IfElse.ensures.1
-    (first_behind (Contains c.args.names.now.documents) same_name (c.in-IfElse.document.now ∷ []) (names_in c.in-IfElse.then_body ++ (names_in c.in-IfElse.else_body ++ [])) _ c.in_ok-check_document_known-in-IfElse.ensures
+    (first_behind (Contains c.args.names.now.documents) same_name (c.in-IfElse.document.now ∷ []) (names_in c.in-IfElse.then_body ++ (names_in c.in-IfElse.else_body ++ [])) _ c.in_ok-check_used_known-in-IfElse.ensures
     (first_before (Contains c.args.names.now.documents) same_name (names_in c.in-IfElse.then_body) (names_in c.in-IfElse.else_body ++ []) _ c.in_err-check_known-in-IfElse.ensures)))
 
 pub check_statement_known-returns-in_err-check_accesses_known-in-Spawn : goal.check_statement_known-returns-in_err-check_accesses_known-in-Spawn
@@ -65,26 +69,26 @@ check_statement_known-returns-in_err-check_accesses_known-in-Spawn t c =
     (exits (Contains c.args.names.now.documents) same_name _ _ _ c.from_residual-in_err-check_accesses_known-in-Spawn.ensures.1
     (first_before (Contains c.args.names.now.documents) same_name (documents_in (raw_access c.in-Spawn.first ∷ map raw_access c.in-Spawn.more.items)) (names_in c.in-Spawn.body ++ []) _ found))
 
-pub check_statement_known-returns-in_ok-check_document_known-in-Copy : goal.check_statement_known-returns-in_ok-check_document_known-in-Copy
-check_statement_known-returns-in_ok-check_document_known-in-Copy t c =
+pub check_statement_known-returns-in_ok-check_used_known-in-Copy : goal.check_statement_known-returns-in_ok-check_used_known-in-Copy
+check_statement_known-returns-in_ok-check_used_known-in-Copy t c =
     in_statement names_of (Contains c.args.names.now.documents) same_name _ _ _ c.in-Copy.is
-    (finds_behind (Contains c.args.names.now.documents) same_name (c.in-Copy.from.now ∷ []) (c.in-Copy.to.now ∷ []) _ c.in_ok-check_document_known-in-Copy.ensures c.check_document_known-in-Copy.ensures)
+    (finds_behind (Contains c.args.names.now.documents) same_name (c.in-Copy.from.now ∷ []) (c.in-Copy.to.now ∷ []) _ c.in_ok-check_used_known-in-Copy.ensures c.check_used_known-in-Copy.ensures)
 
-pub check_statement_known-returns-in_ok-check_document_known-in-Pour : goal.check_statement_known-returns-in_ok-check_document_known-in-Pour
-check_statement_known-returns-in_ok-check_document_known-in-Pour t c =
+pub check_statement_known-returns-in_ok-check_used_known-in-Pour : goal.check_statement_known-returns-in_ok-check_used_known-in-Pour
+check_statement_known-returns-in_ok-check_used_known-in-Pour t c =
     in_statement names_of (Contains c.args.names.now.documents) same_name _ _ _ c.in-Pour.is
-    (finds_behind (Contains c.args.names.now.documents) same_name (c.in-Pour.from.now ∷ []) (c.in-Pour.to.now ∷ []) _ c.in_ok-check_document_known-in-Pour.ensures c.check_document_known-in-Pour-2.ensures)
+    (finds_behind (Contains c.args.names.now.documents) same_name (c.in-Pour.from.now ∷ []) (c.in-Pour.to.now ∷ []) _ c.in_ok-check_used_known-in-Pour.ensures c.check_used_known-in-Pour-2.ensures)
 
-pub check_statement_known-returns-in_ok-check_document_known-in-IfThen : goal.check_statement_known-returns-in_ok-check_document_known-in-IfThen
-check_statement_known-returns-in_ok-check_document_known-in-IfThen t c =
+pub check_statement_known-returns-in_ok-check_used_known-in-IfThen : goal.check_statement_known-returns-in_ok-check_used_known-in-IfThen
+check_statement_known-returns-in_ok-check_used_known-in-IfThen t c =
     in_statement names_of (Contains c.args.names.now.documents) same_name _ _ _ c.in-IfThen.is
-    (finds_behind (Contains c.args.names.now.documents) same_name (c.in-IfThen.document.now ∷ []) (names_in c.in-IfThen.then_body ++ []) _ c.in_ok-check_document_known-in-IfThen.ensures
+    (finds_behind (Contains c.args.names.now.documents) same_name (c.in-IfThen.document.now ∷ []) (names_in c.in-IfThen.then_body ++ []) _ c.in_ok-check_used_known-in-IfThen.ensures
     (finds_end (Contains c.args.names.now.documents) same_name (names_in c.in-IfThen.then_body) _ c.check_known.ensures))
 
 pub check_statement_known-returns-in_ok-check_known-in-IfElse : goal.check_statement_known-returns-in_ok-check_known-in-IfElse
 check_statement_known-returns-in_ok-check_known-in-IfElse t c =
     in_statement names_of (Contains c.args.names.now.documents) same_name _ _ _ c.in-IfElse.is
-    (finds_behind (Contains c.args.names.now.documents) same_name (c.in-IfElse.document.now ∷ []) (names_in c.in-IfElse.then_body ++ (names_in c.in-IfElse.else_body ++ [])) _ c.in_ok-check_document_known-in-IfElse.ensures
+    (finds_behind (Contains c.args.names.now.documents) same_name (c.in-IfElse.document.now ∷ []) (names_in c.in-IfElse.then_body ++ (names_in c.in-IfElse.else_body ++ [])) _ c.in_ok-check_used_known-in-IfElse.ensures
     (finds_behind (Contains c.args.names.now.documents) same_name (names_in c.in-IfElse.then_body) (names_in c.in-IfElse.else_body ++ []) _ c.in_ok-check_known-in-IfElse.ensures
     (finds_end (Contains c.args.names.now.documents) same_name (names_in c.in-IfElse.else_body) _ c.check_known-in-IfElse-2.ensures)))
 
@@ -94,3 +98,11 @@ check_statement_known-returns-in_ok-check_accesses_known-in-Spawn t c =
     in_statement names_of (Contains c.args.names.now.documents) same_name _ _ _ c.in-Spawn.is
     (finds_behind (Contains c.args.names.now.documents) same_name (documents_in (raw_access c.in-Spawn.first ∷ map raw_access c.in-Spawn.more.items)) (names_in c.in-Spawn.body ++ []) _ (subst (λ l. All (Contains c.args.names.now.documents) (documents_in (raw_access c.in-Spawn.first ∷ map raw_access l))) c.deref.ensures.value here)
     (finds_end (Contains c.args.names.now.documents) same_name (names_in c.in-Spawn.body) _ c.check_known-in-Spawn.ensures))
+
+pub check_statement_known-check_known-requires-in-Spawn : goal.check_statement_known-check_known-requires-in-Spawn
+check_statement_known-check_known-requires-in-Spawn t c =
+    let deep = ap (λ (s : RawStatement). spelled_depth (raw_body (s ∷ []))) c.in-Spawn.is in (
+      omega (arith, c.decreases, deep),
+      subst (λ (l : List RawAccess). AreOfDocuments c.args.names.now (raw_access c.in-Spawn.first ∷ map raw_access l))
+          (c.deref.ensures.value ∙ sym c.deref-in-Spawn.ensures.value) c.in_ok-check_accesses_known-in-Spawn.ensures,
+    )

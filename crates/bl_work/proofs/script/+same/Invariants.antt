@@ -4,4 +4,4 @@ use Rattle.bl_work.proofs.script.+same.Given as goal
 
 -- the statements so far are the same
 abbrev pub invariant-Body::is_same-loop-i : goal.invariant-Body::is_same-loop-i
-invariant-Body::is_same-loop-i l = statements_of (take l.i l.statement-items) ≡ statements_of (take l.i l.other-inside.statements.items)
+invariant-Body::is_same-loop-i l = statements_of (take l.i l.statements) ≡ statements_of (take l.i l.others)

@@ -1,10 +1,11 @@
-use Rattle.std.proofs.Common.{[], ◌∷◌, ap, sym, ◌∙◌, subst, arith}
+use Rattle.std.proofs.Common.{◌≡◌, [], ◌∷◌, ap, sym, ◌∙◌, subst, arith}
 use Rattle.std.specs.Prelude.{List}
 use Rattle.std.proofs.lemmas.Result.{on_ok_weaker}
 use Rattle.bl_policy.specs.declared.access.Access.{Access}
 use Rattle.bl_work.specs.Modes.{KeepsModes}
 use Rattle.bl_work.specs.Script.{AreApart, HasContents}
-use Rattle.bl_work.specs.Statements.{Statements}
+use Rattle.bl_work.specs.Statements.{Statements, If, Nothing}
+use Rattle.bl_work.specs.declared.script.Choice.{Choice}
 use Rattle.bl_work.specs.Body.{statements_of, depth}
 use Rattle.bl_work.specs.declared.script.Stmt.{Stmt}
 use Rattle.bl_grant.specs.Loans.{accesses_of}
@@ -35,11 +36,17 @@ run-loop-statement-preserved t c = (
       c.args.self.now c.loop-statement.self c.step.new.self (omega arith) c.statement-item.is c.loop-statement.invariant.1 c.in_ok-step.ensures.ran,
 )
 
+-- the statement at hand is an `if` of these parts
+abbrev chosen : Choice → Statements
+chosen choice = If choice.doc choice.test choice.text choice.then_body choice.else_body Nothing
+
 pub step-run-requires : goal.step-run-requires
 step-run-requires t c =
-    let modes = subst (λ (s : Stmt). KeepsModes (accesses_of c.args.grants.now) (statements_of (s ∷ []))) c.in-If.is c.requires.modes in
-    let texts = subst (λ (s : Stmt). HasContents (statements_of (s ∷ []))) c.in-If.is c.requires.texts in
-    let outer = ap (λ (s : Stmt). depth (statements_of (s ∷ []))) c.in-If.is in
+    let is : statements_of (c.args.statement.now ∷ []) ≡ chosen c.deref-choice.result.now =
+    ap (λ (s : Stmt). statements_of (s ∷ [])) c.in-If.is ∙ ap chosen (sym c.deref-choice.ensures) in
+    let modes = subst (λ (b : Statements). KeepsModes (accesses_of c.args.grants.now) b) is c.requires.modes in
+    let texts = subst (λ (b : Statements). HasContents b) is c.requires.texts in
+    let outer = ap depth is in
     let inner = ap depth c.statements.ensures in (
       omega (arith, c.decreases, outer, inner),
       (
@@ -53,20 +60,26 @@ step-run-requires t c =
 
 pub step-returns-then-holds-clause-ran : goal.step-returns-then-holds-clause-ran
 step-returns-then-holds-clause-ran t c =
-    let modes = subst (λ (s : Stmt). KeepsModes (accesses_of c.args.grants.now) (statements_of (s ∷ []))) c.in-If.is c.requires.modes in
+    let choice = c.deref-choice.result.now in
+    let is : statements_of (c.args.statement.now ∷ []) ≡ chosen choice =
+    ap (λ (s : Stmt). statements_of (s ∷ [])) c.in-If.is ∙ ap chosen (sym c.deref-choice.ensures) in
+    let modes = subst (λ (b : Statements). KeepsModes (accesses_of c.args.grants.now) b) is c.requires.modes in
     on_ok_weaker c.run.result
-    (λ ran. subst (λ (s : Stmt). HasRun (statements_of (s ∷ [])) c.args.grants.now c.args.self.now c.run.new.grants c.run.new.self) (sym c.in-If.is)
-    (if-run c.args.grants.now c.run.new.grants c.args.self.now c.run.new.self c.in-If.doc c.in-If.test c.in-If.text c.in-If.then_body c.in-If.else_body _ modes.0
+    (λ ran. subst (λ (b : Statements). HasRun b c.args.grants.now c.args.self.now c.run.new.grants c.run.new.self) (sym is)
+    (if-run c.args.grants.now c.run.new.grants c.args.self.now c.run.new.self choice.doc choice.test choice.text choice.then_body choice.else_body _ modes.0
     (sym c.if-holds.true ∙ c.holds.ensures)
     (subst (λ (b : Statements). HasRun b c.args.grants.now c.args.self.now c.run.new.grants c.run.new.self) c.statements.ensures ran)))
     c.run.ensures.ran
 
 pub step-returns-else-holds-clause-ran : goal.step-returns-else-holds-clause-ran
 step-returns-else-holds-clause-ran t c =
-    let modes = subst (λ (s : Stmt). KeepsModes (accesses_of c.args.grants.now) (statements_of (s ∷ []))) c.in-If.is c.requires.modes in
+    let choice = c.deref-choice.result.now in
+    let is : statements_of (c.args.statement.now ∷ []) ≡ chosen choice =
+    ap (λ (s : Stmt). statements_of (s ∷ [])) c.in-If.is ∙ ap chosen (sym c.deref-choice.ensures) in
+    let modes = subst (λ (b : Statements). KeepsModes (accesses_of c.args.grants.now) b) is c.requires.modes in
     on_ok_weaker c.run-else-holds.result
-    (λ ran. subst (λ (s : Stmt). HasRun (statements_of (s ∷ [])) c.args.grants.now c.args.self.now c.run-else-holds.new.grants c.run-else-holds.new.self) (sym c.in-If.is)
-    (if-run c.args.grants.now c.run-else-holds.new.grants c.args.self.now c.run-else-holds.new.self c.in-If.doc c.in-If.test c.in-If.text c.in-If.then_body c.in-If.else_body _ modes.0
+    (λ ran. subst (λ (b : Statements). HasRun b c.args.grants.now c.args.self.now c.run-else-holds.new.grants c.run-else-holds.new.self) (sym is)
+    (if-run c.args.grants.now c.run-else-holds.new.grants c.args.self.now c.run-else-holds.new.self choice.doc choice.test choice.text choice.then_body choice.else_body _ modes.0
     (sym c.if-holds.false ∙ c.holds.ensures)
     (subst (λ (b : Statements). HasRun b c.args.grants.now c.args.self.now c.run-else-holds.new.grants c.run-else-holds.new.self) c.statements-else-holds.ensures ran)))
     c.run-else-holds.ensures.ran
