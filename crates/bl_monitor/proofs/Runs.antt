@@ -176,7 +176,7 @@ uses-cons count (stmt.Add doc text) xs h = ((h.0, tt), h.1)
 uses-cons count (stmt.Set doc text) xs h = ((h.0, tt), h.1)
 uses-cons count (stmt.Copy from to) xs h = ((h.0, h.1, tt), h.2)
 uses-cons count (stmt.Pour from to) xs h = ((h.0, h.1, tt), h.2)
-uses-cons count (stmt.If doc asks text taken left_out) xs h = ((h.0, h.1, h.2, tt), h.3)
+uses-cons count (stmt.If choice) xs h = ((h.0, h.1, h.2, tt), h.3)
 uses-cons count (stmt.Spawn k) xs h = (tt, h)
 
 pub uses-at : (count : ℕ) (xs : List Stmt) (i : ℕ) (x : Stmt) → i < length xs → x ≡ get_or xs i x → UsesBelow count (statements_of xs) → UsesBelow count (statements_of (x ∷ []))
