@@ -1,0 +1,71 @@
+-- A core in which nothing has happened yet.
+use Rattle.std.proofs.Common.{◌≡◌, ℕ, ◌<◌, ◌≤◌, true, false, List, [], length, get_or, refl, ap, sym, ◌∙◌, subst, arith, true≢false}
+use Rattle.std.specs.Prelude.{map, All}
+use Rattle.std.specs.Vec.{vec_capacity}
+use Rattle.std.proofs.lemmas.List.{length-map, get_or-map}
+use Rattle.bl_policy.specs.Policy.{SecurityPolicy}
+use Rattle.bl_setup.specs.Agreement.{Agree}
+use Rattle.bl_order.specs.Machine.{State, start, most_sessions}
+use Rattle.bl_order.proofs.Reached.{reached-first}
+use Rattle.bl_core.specs.Places.{entry_of, phase_of, AreOver}
+use Rattle.bl_core.specs.Shelves.{new_shelf, shelf_in}
+use Rattle.bl_core.specs.View.{state_of}
+use Rattle.bl_core.specs.Keeps.{Keeps, KeepsAt, Tells, AreShelved}
+use Rattle.bl_core.specs.declared.place.Place.{Place}
+use Rattle.bl_core.specs.declared.session.Session.{Session}
+use Rattle.bl_core.specs.declared.shelf.Shelf.{Shelf}
+use Rattle.bl_core.specs.declared.machine.Core.TheInside.{Inside}
+
+pub record Begun (d : Inside) : Type 0 where
+  pub agree : Agree d.setup
+  pub policy : d.policy ≡ d.setup.policy
+  pub sessions : d.sessions.items ≡ []
+  pub places : d.places.items ≡ []
+  pub shelves : d.shelves.items ≡ map new_shelf d.setup.contents
+  pub weight : d.weight ≡ 0
+  pub first : d.first ≡ 0
+  pub reserved : d.limit ≤ vec_capacity d.places
+  pub rooms : most_sessions ≤ vec_capacity d.sessions
+
+module _ (d : Inside) (b : Begun d) where
+  pub state-begun : state_of d ≡ start d.setup d.limit
+  state-begun = λ j. record {
+    setup = d.setup;
+    limit = d.limit;
+    sessions = map (λ (s : Session). record { subject = s.subject; last = s.last }) (b.sessions j);
+    order = map entry_of (b.places j);
+    phases = map (λ (p : Place). phase_of p.stand) (b.places j);
+  }
+
+  shelf-begun : (doc : ℕ) → doc < length (map new_shelf d.setup.contents) → shelf_in (map new_shelf d.setup.contents) doc ≡ new_shelf (get_or d.setup.contents doc [])
+  shelf-begun doc lt = get_or-map new_shelf d.setup.contents doc [] (new_shelf []) (omega (arith, lt, length-map d.setup.contents new_shelf))
+
+  shelved : AreShelved (start d.setup d.limit) (map new_shelf d.setup.contents)
+  shelved = record {
+    contents = λ doc lt. ap (λ (s : Shelf). s.content) (shelf-begun doc lt);
+    away = λ doc lt is. absurd (true≢false (sym is ∙ ap (λ (s : Shelf). s.lent) (shelf-begun doc lt)));
+    home = λ doc lt is n r. absurd (true≢false (sym r));
+  }
+
+  none : (m : ℕ) → m < length d.places.items → ⊥
+  none m lt = omega (arith, lt, ap length b.places)
+
+  keeps_at : KeepsAt (start d.setup d.limit) d
+  keeps_at = record {
+    reached = reached-first d.setup d.limit;
+    agree = b.agree;
+    policy = b.policy;
+    subjects = ap (λ (p : SecurityPolicy). length p.subjects) b.policy;
+    documents = ap (λ (p : SecurityPolicy). length p.documents) b.policy;
+    told = λ m lt. absurd (none m lt);
+    speakers = λ i s lt. absurd (omega (arith, lt, ap length b.sessions));
+    as_many = ap length b.shelves ∙ length-map d.setup.contents new_shelf;
+    shelved = subst (AreShelved (start d.setup d.limit)) (sym b.shelves) shelved;
+    weight = b.weight;
+    first = λ m lt. absurd (omega (arith, lt, b.first));
+    reserved = b.reserved;
+    rooms = b.rooms;
+  }
+
+  pub kept-begun : Keeps d
+  kept-begun = subst (λ (y : State). KeepsAt y d) (sym state-begun) keeps_at

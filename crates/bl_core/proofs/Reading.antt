@@ -1,0 +1,116 @@
+-- What the calls that only look read off the fields.
+use Rattle.std.proofs.Common.{◌≡◌, ℕ, ◌<◌, ◌≤◌, ◌⊎◌, inl, inr, Bool, true, false, List, [], length, get_or, refl, ap, sym, ◌∙◌, subst, arith}
+use Rattle.std.specs.Prelude.{All, IsTrue}
+use Rattle.std.proofs.lemmas.List.{get_or_read}
+use Rattle.std.proofs.lemmas.List.Elements.{All-get_or}
+use Rattle.bl_policy.specs.RuleEffect.{IsRuleOf, HasIdsBelow}
+use Rattle.bl_policy.specs.declared.access.Access.{Access}
+use Rattle.bl_policy.specs.declared.rule.Rule.{Rule}
+use Rattle.bl_work.specs.Statements.{Part, no_part}
+use Rattle.bl_work.specs.declared.answer.Answer.{Answer}
+use Rattle.bl_work.specs.declared.work.Work.{Work}
+use Rattle.bl_work.specs.declared.work.Work.TheVariants as works
+use Rattle.bl_setup.specs.Setup.{Setup}
+use Rattle.bl_order.specs.Known.{KnowsWork}
+use Rattle.bl_order.specs.Order.{Task, Applies, accesses_of, conflict, is_altered, is_rule}
+use Rattle.bl_order.specs.Past.{Past, first_task, child_task}
+use Rattle.bl_order.specs.Machine.{State, MayStart, past_at, is_waiting, is_over, phase_at, runs}
+use Rattle.bl_core.specs.Places.{no_place, place_in, phase_of, work_in, task_in, HasBehaviour, HaveTasks, IsClear}
+use Rattle.bl_core.specs.Shelves.{new_shelf}
+use Rattle.bl_core.specs.View.{state_of}
+use Rattle.bl_core.specs.Keeps.{Keeps, IsAway}
+use Rattle.bl_core.specs.declared.place.Place.{Place}
+use Rattle.bl_core.specs.declared.place.Stand.{Stand}
+use Rattle.bl_core.specs.declared.place.Stand.TheVariants.{Ended}
+use Rattle.bl_core.specs.declared.shelf.Shelf.{Shelf}
+use Rattle.bl_core.specs.declared.machine.Core.TheInside.{Inside}
+use Rattle.bl_core.proofs.Views.{length-order, phase-read}
+
+below_or_not : (m n : ℕ) → (m < n) ⊎ (n ≤ m)
+below_or_not m n = grind arith
+
+-- what a task of a known work declares is in the setup
+pub accesses-known : (setup : Setup) (w : Work) (i : ℕ) → KnowsWork setup w → HasBehaviour w i
+    → All (λ (a : Access). a.doc < length setup.policy.documents) (accesses_of (child_task (first_task w) i))
+accesses-known setup (works.Behaviour script) i knows lt =
+    All-get_or (λ (part : Part). All (λ (a : Access). a.doc < length setup.policy.documents) part.accesses) script i no_part lt knows
+accesses-known setup (works.Rule rule) i knows lt = λ j d l. absurd (omega (arith, l))
+
+module _ (c : Inside) (k : Keeps c) where
+  pub tasks : HaveTasks c.places.items
+  tasks n lt = (k.told n lt).behaviour
+
+  -- there are as many shelves as documents
+  pub shelves-documents : length c.setup.policy.documents ≡ length c.shelves.items
+  shelves-documents = sym k.agree.documents ∙ k.agree.contents ∙ sym k.as_many
+
+  -- a place declares documents that have shelves
+  pub shelves-declared : (n : ℕ) → n < length c.places.items → All (λ (a : Access). a.doc < length c.shelves.items) (accesses_of (task_in c.places.items n))
+  shelves-declared n lt =
+      subst (λ (m : ℕ). All (λ (a : Access). a.doc < m) (accesses_of (task_in c.places.items n))) shelves-documents
+      (accesses-known c.setup (work_in c.places.items n) (place_in c.places.items n).index (k.told n lt).knows (k.told n lt).behaviour)
+
+  pub policy-declared : (n : ℕ) → n < length c.places.items → All (λ (a : Access). a.doc < length c.policy.documents) (accesses_of (task_in c.places.items n))
+  policy-declared n lt =
+      subst (λ (m : ℕ). All (λ (a : Access). a.doc < m) (accesses_of (task_in c.places.items n))) (sym k.documents)
+      (accesses-known c.setup (work_in c.places.items n) (place_in c.places.items n).index (k.told n lt).knows (k.told n lt).behaviour)
+
+  conflict-read : (m n : ℕ) → m < length c.places.items → n < length c.places.items
+      → conflict (past_at (state_of c) m).task (past_at (state_of c) n).task ≡ conflict (task_in c.places.items m) (task_in c.places.items n)
+  conflict-read m n lm ln =
+      ap (λ (t : Task). conflict t (past_at (state_of c) n).task) (k.told m lm).task ∙ ap (conflict (task_in c.places.items m)) (k.told n ln).task
+
+  -- a waiting place whose conflicts have ended may start
+  pub may_start : (n : ℕ) (s : Place) → n < length c.places.items → s ≡ get_or c.places.items n s → is_waiting (phase_of s.stand) ≡ true
+      → IsClear c.places.items c.first n → MayStart (state_of c) n
+  may_start n s lt at waits clear = record {
+    there = subst (λ (m : ℕ). n < m) (sym (length-order c)) lt;
+    waits = ap is_waiting (phase-read c n lt ∙ ap (λ (t : Place). phase_of t.stand) (sym (get_or_read c.places.items n s lt at no_place))) ∙ waits;
+    clear = λ m below h. ap is_over (phase-read c m (omega arith)) ∙ go m below h (below_or_not m c.first);
+  }
+    where
+      go : (m : ℕ) → m < n → IsTrue (conflict (past_at (state_of c) m).task (past_at (state_of c) n).task) → (m < c.first) ⊎ (c.first ≤ m)
+          → is_over (phase_of (place_in c.places.items m).stand) ≡ true
+      go m below h (inl early) = k.first m early
+      go m below h (inr late) = clear m late below (sym (conflict-read m n (omega arith) lt) ∙ h)
+
+  pub start_there : (n : ℕ) → MayStart (state_of c) n → n < length c.places.items
+  start_there n may = subst (λ (m : ℕ). n < m) (length-order c) may.there
+
+  pub start_waits : (n : ℕ) (s : Place) → MayStart (state_of c) n → s ≡ get_or c.places.items n s → is_waiting (phase_of s.stand) ≡ true
+  start_waits n s may at =
+      ap (λ (t : Place). is_waiting (phase_of t.stand)) (get_or_read c.places.items n s (start_there n may) at no_place)
+      ∙ ap is_waiting (sym (phase-read c n (start_there n may))) ∙ may.waits
+
+  pub start_clear : (n : ℕ) → MayStart (state_of c) n → IsClear c.places.items c.first n
+  start_clear n may m late below h =
+      let lt : n < length c.places.items = start_there n may in
+      let lm : m < length c.places.items = omega (arith, lt, below) in
+      ap is_over (sym (phase-read c m lm)) ∙ may.clear m below (conflict-read m n lm lt ∙ h)
+
+  -- the answer that is kept is the place's
+  pub answer-at : (n : ℕ) (s : Place) (a : Answer) → n < length c.places.items → s ≡ get_or c.places.items n s → s.stand ≡ Ended a → (past_at (state_of c) n).answer ≡ a
+  answer-at n s a lt at is = (k.told n lt).answer a (ap (λ (x : Place). x.stand) (sym (get_or_read c.places.items n s lt at no_place)) ∙ is)
+
+  -- a place's rule is in the policy
+  pub rule-of : (n : ℕ) (rule : Rule) → n < length c.places.items → (past_at (state_of c) n).task ≡ Applies rule → IsRuleOf c.policy rule
+  rule-of n rule lt is =
+      subst (λ (s : ℕ). HasIdsBelow s (length c.policy.documents) rule) (sym k.subjects)
+      (subst (λ (o : ℕ). HasIdsBelow (length c.setup.policy.subjects) o rule) (sym k.documents)
+      (go (work_in c.places.items n) (place_in c.places.items n).index (k.told n lt).knows (sym (k.told n lt).task ∙ is)))
+    where
+      same_rule : (r s : Rule) → Applies r ≡ Applies s → r ≡ s
+      same_rule r s e = cc
+
+      go : (w : Work) (i : ℕ) → KnowsWork c.setup w → child_task (first_task w) i ≡ Applies rule → IsRuleOf c.setup.policy rule
+      go (works.Behaviour script) i knows e = absurd (cc)
+      go (works.Rule r) i knows e = subst (IsRuleOf c.setup.policy) (same_rule r rule e) knows
+
+  -- a shelf whose content is lent is away
+  pub away-at : (place doc : ℕ) (s : Shelf) → place ≡ doc → doc < length c.setup.contents → s ≡ get_or c.shelves.items place s → s.lent ≡ true → IsAway (state_of c) doc
+  away-at place doc s is lt at lent =
+      let here : doc < length c.shelves.items = omega (arith, lt, k.as_many) in
+      k.shelved.away doc here
+      (ap (λ (j : ℕ). (get_or c.shelves.items j (new_shelf [])).lent) (sym is)
+      ∙ ap (λ (v : Shelf). v.lent) (sym (get_or_read c.shelves.items place s (omega (arith, here, is)) at (new_shelf [])))
+      ∙ lent)

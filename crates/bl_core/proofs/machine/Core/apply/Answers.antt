@@ -1,0 +1,81 @@
+use Rattle.std.proofs.Common.{◌≡◌, ℕ, false, List, length, set, sym, subst, ap, ◌∙◌, refl}
+use Rattle.std.specs.Prelude.{Option, Some, None}
+use Rattle.bl_policy.specs.Policy.{SecurityPolicy}
+use Rattle.bl_policy.specs.RuleEffect.{rule_fault, after_rule}
+use Rattle.bl_policy.specs.declared.denial.Denial.{Denial}
+use Rattle.bl_work.specs.declared.answer.Answer.{Answer}
+use Rattle.bl_order.specs.Order.{Task, Applies}
+use Rattle.bl_order.specs.Past.{changed, is_done}
+use Rattle.bl_order.specs.Machine.{State, MayStart, past_at, change, Starts, Ended}
+use Rattle.bl_core.specs.Places.{AreOver, phase_of}
+use Rattle.bl_core.specs.View.{state_of}
+use Rattle.bl_core.specs.Answers.{IsStarted}
+use Rattle.bl_core.specs.Weights.{ruled}
+use Rattle.bl_core.specs.declared.place.Place.{Place}
+use Rattle.bl_core.specs.declared.place.Stand.TheVariants as stands
+use Rattle.bl_core.proofs.Written.{stands_at}
+use Rattle.bl_core.proofs.Closing.{over-closed, closed-state, closed-kept}
+use Rattle.bl_core.proofs.Starting.{ruled-by, ruled-not_done, ruled-ends, changed-ruled}
+use Rattle.bl_core.proofs.Judging.{subject-read}
+use Rattle.bl_core.proofs.machine.Core.apply.Goals as goal
+use Rattle.bl_core.proofs.machine.Core.apply.Goals.{in-Some, in-None}
+
+pub first_open-self-inside-requires : goal.first_open-self-inside-requires
+first_open-self-inside-requires c =
+    subst (λ (l : List Place). AreOver l c.self.inside.first) (sym c.as_slice.ensures.value)
+    (over-closed c.self.inside c.self.invariant c.args.n c.index_mut-place.result.now c.ruled.result
+    (subst (λ (x : State). MayStart x c.args.n) (sym c.self.view_is) c.requires.may) c.index_mut-place.ensures.value)
+
+may : (c : goal.Joined-denial) → MayStart (state_of c.self.inside) c.args.n
+may c = subst (λ (x : State). MayStart x c.args.n) (sym c.self.view_is) c.requires.may
+
+rule_is : (c : goal.Joined-denial) → (past_at (state_of c.self.inside) c.args.n).task ≡ Applies c.args.rule.now
+rule_is c = ap (λ (x : State). (past_at x c.args.n).task) c.self.view_is ∙ c.requires.rule
+
+subject_is : (c : goal.Joined-denial) → c.index.result.now.subject ≡ (past_at (state_of c.self.inside) c.args.n).subject
+subject_is c = subject-read c.self.inside c.self.invariant c.args.n (may c) c.index.result.now c.index.ensures
+
+-- the answer of the place
+answer_is : (c : goal.Joined-denial) → (past_at (state_of c.self.inside) c.args.n).answer ≡ ruled c.apply-denial.result
+answer_is c =
+    ruled-by c.self.inside c.self.invariant c.args.n (may c) c.args.rule.now c.apply-denial.result (rule_is c)
+    (c.apply-denial.ensures.fault ∙ ap (λ (s : ℕ). rule_fault c.self.inside.policy s c.args.rule.now) (subject_is c))
+
+-- the policy that the rule makes
+policy_is : (c : goal.Joined-denial) → c.apply-denial.new.self
+    ≡ changed (past_at (state_of c.self.inside) c.args.n).answer (past_at (state_of c.self.inside) c.args.n).task (past_at (state_of c.self.inside) c.args.n).subject c.self.inside.policy
+policy_is c =
+    c.apply-denial.ensures.policy
+    ∙ ap (λ (s : ℕ). after_rule c.self.inside.policy s c.args.rule.now) (subject_is c)
+    ∙ sym (changed-ruled c.apply-denial.result c.args.rule.now (past_at (state_of c.self.inside) c.args.n).subject c.self.inside.policy)
+    ∙ ap (λ (t : Task). changed (ruled c.apply-denial.result) t (past_at (state_of c.self.inside) c.args.n).subject c.self.inside.policy) (sym (rule_is c))
+    ∙ ap (λ (a : Answer). changed a (past_at (state_of c.self.inside) c.args.n).task (past_at (state_of c.self.inside) c.args.n).subject c.self.inside.policy) (sym (answer_is c))
+
+over : (c : goal.Joined-denial) → AreOver (set c.self.inside.places.items c.args.n (stands_at c.index_mut-place.result.now (stands.Ended c.ruled.result))) c.first_open-self-inside.result
+over c = subst (λ (l : List Place). AreOver l c.first_open-self-inside.result) c.as_slice.ensures.value c.first_open-self-inside.ensures
+
+ends : (c : goal.Joined-denial) → phase_of (stands.Ended c.ruled.result) ≡ Ended
+ends c = ap (λ (a : Answer). phase_of (stands.Ended a)) c.ruled.ensures ∙ ruled-ends c.apply-denial.result
+
+idle : (c : goal.Joined-denial) → is_done c.ruled.result ≡ false
+idle c = ap is_done c.ruled.ensures ∙ ruled-not_done c.apply-denial.result
+
+pub invariant_of-self : goal.invariant_of-self
+invariant_of-self c =
+    closed-kept c.self.inside c.self.invariant c.args.n c.index_mut-place.result.now c.ruled.result (may c) c.index_mut-place.ensures.value c.first_open-self-inside.result c.apply-denial.new.self (over c)
+    (answer_is c ∙ sym c.ruled.ensures) (ends c) (idle c) (policy_is c) c.apply-denial.ensures.same_ids.0 c.apply-denial.ensures.same_ids.1
+
+pub returns-clause-change : goal.returns-clause-change
+returns-clause-change c =
+    closed-state c.self.inside c.self.invariant c.args.n c.index_mut-place.result.now c.ruled.result (may c) c.index_mut-place.ensures.value c.first_open-self-inside.result c.apply-denial.new.self (over c)
+    (answer_is c ∙ sym c.ruled.ensures) (ends c) (idle c) (policy_is c) c.apply-denial.ensures.same_ids.0 c.apply-denial.ensures.same_ids.1
+    ∙ ap (λ (x : State). change x (Starts c.args.n)) c.self.view_is
+
+pub returns-clause-answer : goal.returns-clause-answer
+returns-clause-answer c =
+    elim c.match-denial.branch [
+      | in-Some w ↦ subst (IsStarted c.args.self.now c.args.n) (sym w.result-is)
+          (ap (λ (x : State). (past_at x c.args.n).answer) (sym c.self.view_is) ∙ answer_is c ∙ ap ruled w.in-Some.is)
+      | in-None w ↦ subst (IsStarted c.args.self.now c.args.n) (sym w.result-is)
+          (ap (λ (x : State). (past_at x c.args.n).answer) (sym c.self.view_is) ∙ answer_is c ∙ ap ruled w.in-None.is)
+    ]

@@ -1,0 +1,120 @@
+use Rattle.std.proofs.Common.{◌≡◌, ◌<◌, ◌≤◌, ◌+◌, ◌++◌, ℕ, List, true, length, get_or, set, sym, subst, ap, ◌∙◌, refl, arith, inr}
+use Rattle.std.specs.Prelude.{All}
+use Rattle.std.specs.Vec.{with_item, with_items, vec_capacity}
+use Rattle.std.proofs.lemmas.List.{get_or_read}
+use Rattle.bl_work.specs.declared.answer.Answer.TheVariants as answers
+use Rattle.bl_work.specs.Effects.{children, outputs}
+use Rattle.bl_order.specs.Machine.{State, change, Ends, runs, children_at}
+use Rattle.bl_grant.specs.Loaned.{Back}
+use Rattle.bl_eval.specs.Loan.{Loan, backs, part_of, effects_on}
+use Rattle.bl_core.specs.Answers.{loan_at}
+use Rattle.bl_core.specs.Places.{child_places, no_place, place_in, AreOver}
+use Rattle.bl_core.specs.Shelves.{put_back}
+use Rattle.bl_core.specs.View.{state_of}
+use Rattle.bl_core.specs.declared.place.Place.{Place}
+use Rattle.bl_core.specs.declared.place.Stand.{Stand}
+use Rattle.bl_core.specs.declared.place.Stand.TheVariants as stands
+use Rattle.bl_core.specs.declared.shelf.Shelf.{Shelf}
+use Rattle.bl_core.specs.declared.machine.Core.TheInside.{Inside}
+use Rattle.bl_core.proofs.Views.{over-ended, there}
+use Rattle.bl_core.proofs.Written.{Written, stands_at, over-written}
+use Rattle.bl_core.proofs.Backs.{length-put_back}
+use Rattle.bl_core.proofs.Lending.{written_items}
+use Rattle.bl_core.proofs.Lent.{runs-here, backs-here, outputs-here, children-here}
+use Rattle.bl_core.proofs.Finishing.{end_there, end_shelves, end_room, end-state, end-kept}
+use Rattle.bl_core.proofs.machine.Core.finish_lent.Goals as goal
+use Rattle.bl_core.proofs.machine.Core.finish_lent.Goals.{After-as_slice}
+
+-- the places after the children entered
+entered : (old new : List Place) (n : ℕ) (s : Place) (v : Stand) (ks : List ℕ) → n < length old → s ≡ get_or old n s
+    → new ≡ set old n (stands_at s v) ++ child_places n s.root s.subject 1 ks → new ≡ set old n (stands_at s v) ++ child_places n (place_in old n).root (place_in old n).subject 1 ks
+entered old new n s v ks lt at is =
+    is ∙ ap (λ (p : Place). set old n (stands_at s v) ++ child_places n p.root p.subject 1 ks) (get_or_read old n s lt at no_place)
+
+pub take_back-requires : goal.take_back-requires
+take_back-requires c =
+    subst (λ (bs : List Back). All (λ (b : Back). b.access.doc < length c.as_mut_slice.result.now) bs)
+    (sym (c.into_parts-entry.ensures.returned ∙ backs-here c.self.inside c.args.self.now c.self.view_is c.args.done c.into_parts-entry.result.entry (ap (λ (l : Loan). l.entry) c.into_parts-entry.ensures.loan) c.requires.lent))
+    (subst (λ (h : List Shelf). All (λ (b : Back). b.access.doc < length h)
+    (backs c.into_parts-entry.result.entry (part_of (loan_at (state_of c.self.inside) c.into_parts-entry.result.entry)).accesses (loan_at (state_of c.self.inside) c.into_parts-entry.result.entry).inputs (effects_on (loan_at (state_of c.self.inside) c.into_parts-entry.result.entry))))
+    (sym c.as_mut_slice.ensures.value)
+    (end_shelves c.self.inside c.self.invariant c.into_parts-entry.result.entry (runs-here c.self.inside c.args.self.now c.self.view_is c.args.done c.into_parts-entry.result.entry (ap (λ (l : Loan). l.entry) c.into_parts-entry.ensures.loan) c.requires.running) (effects_on (loan_at (state_of c.self.inside) c.into_parts-entry.result.entry))))
+
+named : (c : After-as_slice) → c.as_slice.result.now ≡ children (effects_on (loan_at (state_of c.self.inside) c.into_parts-entry.result.entry))
+named c = c.as_slice.ensures.value ∙ c.into_parts-entry.ensures.spawned ∙ children-here c.self.inside c.args.self.now c.self.view_is c.args.done c.into_parts-entry.result.entry (ap (λ (l : Loan). l.entry) c.into_parts-entry.ensures.loan) c.requires.lent
+
+shown : (c : After-as_slice) → c.into_parts-entry.result.outputs ≡ outputs (effects_on (loan_at (state_of c.self.inside) c.into_parts-entry.result.entry))
+shown c = c.into_parts-entry.ensures.outputs ∙ outputs-here c.self.inside c.args.self.now c.self.view_is c.args.done c.into_parts-entry.result.entry (ap (λ (l : Loan). l.entry) c.into_parts-entry.ensures.loan) c.requires.lent
+
+-- there is room for the children
+fits : (c : After-as_slice) → length c.self.inside.places.items + length c.as_slice.result.now ≤ c.self.inside.limit
+fits c =
+    end_room c.self.inside c.self.invariant c.into_parts-entry.result.entry (runs-here c.self.inside c.args.self.now c.self.view_is c.args.done c.into_parts-entry.result.entry (ap (λ (l : Loan). l.entry) c.into_parts-entry.ensures.loan) c.requires.running) (length c.as_slice.result.now)
+    (c.the_order_has_room.ensures.children (state_of c.self.inside) c.into_parts-entry.result.entry c.self.invariant.reached (runs-here c.self.inside c.args.self.now c.self.view_is c.args.done c.into_parts-entry.result.entry (ap (λ (l : Loan). l.entry) c.into_parts-entry.ensures.loan) c.requires.running))
+    (ap length (named c))
+
+pub enter_children-requires-clause-room : goal.enter_children-requires-clause-room
+enter_children-requires-clause-room c = omega (arith, fits c, c.self.invariant.reserved, c.self.inside.places.ok.0)
+
+pub enter_children-requires-clause-few : goal.enter_children-requires-clause-few
+enter_children-requires-clause-few c = omega (arith, fits c)
+
+pub first_open-self-inside-requires : goal.first_open-self-inside-requires
+first_open-self-inside-requires c =
+    subst (λ (l : List Place). AreOver l c.self.inside.first) (sym (c.as_slice-2.ensures.value ∙ (entered c.self.inside.places.items c.enter_children.new.places.items c.into_parts-entry.result.entry c.index_mut-place.result.now (stands.Ended (answers.Done c.into_parts-entry.result.outputs)) c.as_slice.result.now (end_there c.self.inside c.self.invariant c.into_parts-entry.result.entry (runs-here c.self.inside c.args.self.now c.self.view_is c.args.done c.into_parts-entry.result.entry (ap (λ (l : Loan). l.entry) c.into_parts-entry.ensures.loan) c.requires.running)) c.index_mut-place.ensures.value c.enter_children.ensures.items)))
+    (over-written c.self.inside.places.items c.into_parts-entry.result.entry (stands_at c.index_mut-place.result.now (stands.Ended (answers.Done c.into_parts-entry.result.outputs))) (child_places c.into_parts-entry.result.entry (place_in c.self.inside.places.items c.into_parts-entry.result.entry).root (place_in c.self.inside.places.items c.into_parts-entry.result.entry).subject 1 c.as_slice.result.now)
+    (end_there c.self.inside c.self.invariant c.into_parts-entry.result.entry (runs-here c.self.inside c.args.self.now c.self.view_is c.args.done c.into_parts-entry.result.entry (ap (λ (l : Loan). l.entry) c.into_parts-entry.ensures.loan) c.requires.running))
+    c.self.inside.first (inr (over-ended (answers.Done c.into_parts-entry.result.outputs))) c.self.invariant.first)
+
+-- the fields at the end
+abbrev after : goal.After-drop-spawned → Inside
+after c = record {
+  alloc = c.self.inside.alloc;
+  setup = c.self.inside.setup;
+  limit = c.self.inside.limit;
+  weight = c.self.inside.weight;
+  sessions = c.self.inside.sessions;
+  places = c.enter_children.new.places;
+  first = c.first_open-self-inside.result;
+  policy = c.self.inside.policy;
+  shelves = with_items c.self.inside.shelves c.take_back.new.shelves;
+}
+
+shelved : (c : goal.After-drop-spawned) → (with_items c.self.inside.shelves c.take_back.new.shelves).items
+    ≡ put_back c.self.inside.shelves.items (backs c.into_parts-entry.result.entry (part_of (loan_at (state_of c.self.inside) c.into_parts-entry.result.entry)).accesses (loan_at (state_of c.self.inside) c.into_parts-entry.result.entry).inputs (effects_on (loan_at (state_of c.self.inside) c.into_parts-entry.result.entry)))
+shelved c =
+    let e : c.take_back.new.shelves ≡ put_back c.self.inside.shelves.items (backs c.into_parts-entry.result.entry (part_of (loan_at (state_of c.self.inside) c.into_parts-entry.result.entry)).accesses (loan_at (state_of c.self.inside) c.into_parts-entry.result.entry).inputs (effects_on (loan_at (state_of c.self.inside) c.into_parts-entry.result.entry))) =
+    c.take_back.ensures ∙ ap (λ (h : List Shelf). put_back h c.into_parts-entry.result.returned.items) c.as_mut_slice.ensures.value
+    ∙ ap (put_back c.self.inside.shelves.items) (c.into_parts-entry.ensures.returned ∙ backs-here c.self.inside c.args.self.now c.self.view_is c.args.done c.into_parts-entry.result.entry (ap (λ (l : Loan). l.entry) c.into_parts-entry.ensures.loan) c.requires.lent) in
+    written_items c.self.inside c.take_back.new.shelves
+    (omega (arith, ap length e, length-put_back c.self.inside.shelves.items (backs c.into_parts-entry.result.entry (part_of (loan_at (state_of c.self.inside) c.into_parts-entry.result.entry)).accesses (loan_at (state_of c.self.inside) c.into_parts-entry.result.entry).inputs (effects_on (loan_at (state_of c.self.inside) c.into_parts-entry.result.entry))), c.self.inside.shelves.ok.0)) ∙ e
+
+written : (c : goal.After-drop-spawned) → Written c.self.inside (after c) c.into_parts-entry.result.entry (stands_at c.index_mut-place.result.now (stands.Ended (answers.Done c.into_parts-entry.result.outputs))) (child_places c.into_parts-entry.result.entry (place_in c.self.inside.places.items c.into_parts-entry.result.entry).root (place_in c.self.inside.places.items c.into_parts-entry.result.entry).subject 1 c.as_slice.result.now)
+written c = record {
+  setup = refl;
+  limit = refl;
+  weight = refl;
+  sessions = refl;
+  rooms = refl;
+  places = (entered c.self.inside.places.items c.enter_children.new.places.items c.into_parts-entry.result.entry c.index_mut-place.result.now (stands.Ended (answers.Done c.into_parts-entry.result.outputs)) c.as_slice.result.now (end_there c.self.inside c.self.invariant c.into_parts-entry.result.entry (runs-here c.self.inside c.args.self.now c.self.view_is c.args.done c.into_parts-entry.result.entry (ap (λ (l : Loan). l.entry) c.into_parts-entry.ensures.loan) c.requires.running)) c.index_mut-place.ensures.value c.enter_children.ensures.items);
+  capacity = c.enter_children.ensures.room;
+  first = subst (λ (l : List Place). AreOver l c.first_open-self-inside.result) c.as_slice-2.ensures.value c.first_open-self-inside.ensures;
+}
+
+pub invariant_of-self : goal.invariant_of-self
+invariant_of-self c =
+    end-kept c.self.inside c.self.invariant c.into_parts-entry.result.entry (runs-here c.self.inside c.args.self.now c.self.view_is c.args.done c.into_parts-entry.result.entry (ap (λ (l : Loan). l.entry) c.into_parts-entry.ensures.loan) c.requires.running)
+    (after c) c.index_mut-place.result.now c.index_mut-place.ensures.value c.into_parts-entry.result.outputs
+    (c.into_parts-entry.ensures.outputs ∙ outputs-here c.self.inside c.args.self.now c.self.view_is c.args.done c.into_parts-entry.result.entry (ap (λ (l : Loan). l.entry) c.into_parts-entry.ensures.loan) c.requires.lent)
+    c.as_slice.result.now (c.as_slice.ensures.value ∙ c.into_parts-entry.ensures.spawned ∙ children-here c.self.inside c.args.self.now c.self.view_is c.args.done c.into_parts-entry.result.entry (ap (λ (l : Loan). l.entry) c.into_parts-entry.ensures.loan) c.requires.lent)
+    (written c) refl (shelved c) c.tasks_are_of_scripts.ensures
+
+pub returns : goal.returns
+returns c =
+    end-state c.self.inside c.self.invariant c.into_parts-entry.result.entry (runs-here c.self.inside c.args.self.now c.self.view_is c.args.done c.into_parts-entry.result.entry (ap (λ (l : Loan). l.entry) c.into_parts-entry.ensures.loan) c.requires.running)
+    (after c) c.index_mut-place.result.now c.index_mut-place.ensures.value c.into_parts-entry.result.outputs
+    (c.into_parts-entry.ensures.outputs ∙ outputs-here c.self.inside c.args.self.now c.self.view_is c.args.done c.into_parts-entry.result.entry (ap (λ (l : Loan). l.entry) c.into_parts-entry.ensures.loan) c.requires.lent)
+    c.as_slice.result.now (c.as_slice.ensures.value ∙ c.into_parts-entry.ensures.spawned ∙ children-here c.self.inside c.args.self.now c.self.view_is c.args.done c.into_parts-entry.result.entry (ap (λ (l : Loan). l.entry) c.into_parts-entry.ensures.loan) c.requires.lent)
+    (written c) refl (shelved c)
+    ∙ ap (λ (m : ℕ). change (state_of c.self.inside) (Ends m)) (sym (ap (λ (l : Loan). l.entry) c.into_parts-entry.ensures.loan))
+    ∙ ap (λ (x : State). change x (Ends c.args.done.entry)) c.self.view_is

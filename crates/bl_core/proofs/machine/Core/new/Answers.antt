@@ -1,0 +1,31 @@
+use Rattle.std.proofs.Common.{◌≡◌, List, refl, ap, ◌∙◌}
+use Rattle.std.specs.Prelude.{map}
+use Rattle.bl_core.specs.Shelves.{new_shelf}
+use Rattle.bl_core.proofs.Beginning.{Begun, kept-begun}
+use Rattle.bl_core.proofs.machine.Core.new.Goals as goal
+
+pub invariant_of-result : goal.invariant_of-result
+invariant_of-result c =
+    kept-begun
+    (record {
+      alloc = c.args.alloc;
+      setup = c.args.setup;
+      limit = c.args.limit;
+      weight = 0;
+      sessions = c.in_ok-sessions.sessions;
+      places = c.in_ok-places.places;
+      first = 0;
+      policy = c.in_ok-policy.policy;
+      shelves = c.in_ok-shelves.shelves;
+    })
+    (record {
+      agree = c.policy.ensures.agree;
+      policy = c.in_ok-policy.ensures ∙ c.policy.ensures.value;
+      sessions = c.in_ok-sessions.ensures.items;
+      places = c.in_ok-places.ensures.items;
+      shelves = c.in_ok-shelves.ensures ∙ ap (map new_shelf) c.contents.ensures.value;
+      weight = refl;
+      first = refl;
+      reserved = c.in_ok-places.ensures.capacity;
+      rooms = c.in_ok-sessions.ensures.capacity;
+    })

@@ -1,0 +1,6 @@
+pub mod Places
+pub mod Shelves
+pub mod Weights
+pub mod View
+pub mod Keeps
+pub mod Answers

@@ -1,0 +1,86 @@
+-- What is kept of the places, as the definitions of the order see it.
+use Rattle.std.specs.Prelude.{◌≡◌, ℕ, ◌+◌, ◌<◌, ◌≤◌, Bool, true, ◌&&◌, ◌||◌, ◌==◌, List, [], ◌∷◌, length, slice_index_or}
+use Rattle.std.specs.List.{list_any}
+use Rattle.bl_policy.specs.Mode.{is_exclusive}
+use Rattle.bl_policy.specs.declared.access.Access.{Access}
+use Rattle.bl_work.specs.declared.answer.Answer.TheVariants as answers
+use Rattle.bl_work.specs.declared.work.Work.{Work}
+use Rattle.bl_work.specs.declared.work.Work.TheVariants as works
+use Rattle.bl_order.specs.Order.{Entry, Task, conflict}
+use Rattle.bl_order.specs.Order as orders
+use Rattle.bl_order.specs.Past.{first_task, child_task}
+use Rattle.bl_order.specs.Machine.{Phase, is_over}
+use Rattle.bl_order.specs.Machine as phases
+use Rattle.bl_core.specs.declared.place.Origin.{Origin}
+use Rattle.bl_core.specs.declared.place.Origin.TheVariants.{Line, Child}
+use Rattle.bl_core.specs.declared.place.Stand.{Stand}
+use Rattle.bl_core.specs.declared.place.Stand.TheVariants.{Waiting, Running, Ended}
+use Rattle.bl_core.specs.declared.place.Place.{Place}
+
+-- the entry of an origin, spoken for by this subject
+abbrev pub entry_by : ℕ → Origin → Entry
+entry_by subject (Line session ordinal work) = orders.Line session ordinal subject work
+entry_by subject (Child parent which) = orders.Child parent which
+
+abbrev pub entry_of : Place → Entry
+entry_of p = entry_by p.subject p.origin
+
+-- an answer of a lost place tells that it is lost
+abbrev pub phase_of : Stand → Phase
+phase_of Waiting = phases.Waiting
+phase_of Running = phases.Running
+phase_of (Ended answers.Lost) = phases.Gone
+phase_of (Ended answers.RuleDone) = phases.Ended
+phase_of (Ended (answers.Done outputs)) = phases.Ended
+phase_of (Ended (answers.Denied denial)) = phases.Ended
+
+-- what stands where there is no place
+abbrev pub no_place : Place
+no_place = record { origin = Child 0 0; root = 0; index = 0; subject = 0; stand = Waiting }
+
+abbrev pub place_in : List Place → ℕ → Place
+place_in places n = slice_index_or places n no_place
+
+-- the work of a line; a child has none, and stands here for a script without behaviours
+abbrev pub work_of : Origin → Work
+work_of (Line session ordinal work) = work
+work_of (Child parent which) = works.Behaviour []
+
+-- the work of the line that a place descends from
+abbrev pub work_in : List Place → ℕ → Work
+work_in places n = work_of (place_in places (place_in places n).root).origin
+
+-- what a place does: one of the behaviours of its line's script, or its line's rule
+abbrev pub task_in : List Place → ℕ → Task
+task_in places n = child_task (first_task (work_in places n)) (place_in places n).index
+
+-- the script has the behaviour
+abbrev pub HasBehaviour : Work → ℕ → Type 0
+HasBehaviour (works.Behaviour script) index = index < length script
+HasBehaviour (works.Rule rule) index = Unit {0}
+
+abbrev pub HasTask : List Place → ℕ → Type 0
+HasTask places n = HasBehaviour (work_in places n) (place_in places n).index
+
+abbrev pub HaveTasks : List Place → Type 0
+HaveTasks places = (n : ℕ) → n < length places → HasTask places n
+
+-- the children of a place, from this number on
+abbrev pub child_places : ℕ → ℕ → ℕ → ℕ → List ℕ → List Place
+child_places parent root subject which [] = []
+child_places parent root subject which (index ∷ rest) =
+    record { origin = Child parent which; root = root; index = index; subject = subject; stand = Waiting } ∷ child_places parent root subject (which + 1) rest
+
+-- two lists of accesses name one document, which one of them alters
+abbrev pub shares_a_document : List Access → List Access → Bool
+shares_a_document accesses others =
+    list_any (λ (x : Access). list_any (λ (y : Access). (x.doc == y.doc) && (is_exclusive x.mode || is_exclusive y.mode)) others) accesses
+
+-- each place before this one has ended
+abbrev pub AreOver : List Place → ℕ → Type 0
+AreOver places n = (m : ℕ) → m < n → is_over (phase_of (place_in places m).stand) ≡ true
+
+-- each place from the first to this one that conflicts with it has ended
+abbrev pub IsClear : List Place → ℕ → ℕ → Type 0
+IsClear places first n =
+    (m : ℕ) → first ≤ m → m < n → conflict (task_in places m) (task_in places n) ≡ true → is_over (phase_of (place_in places m).stand) ≡ true

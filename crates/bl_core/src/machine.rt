@@ -1,0 +1,492 @@
+//! The core and its calls.
+ghost use Rattle.std.specs.Prelude.{◌≡◌};
+ghost use Rattle.bl_core.specs.Weights.{IsWeighed, ruled};
+
+use crate::place::{Origin, Place, Stand, declared, enter_children, first_open, is_clear, work_at};
+use crate::refusal::{Cause, NotReady, OpenRefused, Refused, StartFault, Starved};
+use crate::session::{Session, SessionNo};
+use crate::shelf::{Shelf, contents_of, mark, shelve, take_back};
+use bl_eval::lent::{Done, DoneParts, Lent, Unrun, UnrunParts};
+use bl_grant::grants::Grants;
+use bl_order::laws::{
+    headline, read_lines_are_in_the_setup, tasks_are_of_scripts, the_order_has_room,
+};
+use bl_policy::denial::Denial;
+use bl_policy::id::{DocId, SubjectId};
+use bl_policy::policy::Policy;
+use bl_policy::rule::Rule;
+use bl_setup::setup::Setup;
+use bl_work::answer::Answer;
+use bl_work::document::Document;
+use bl_work::work::Work;
+use bl_write::knows::KnowsWorks;
+use std::alloc::{AllocError, Global};
+use std::marker::Model;
+
+/// How many sessions a core opens at most.
+const MOST_SESSIONS: usize = 1000;
+
+/// The machine of the admission order. Its value is a state that a trail leads to.
+///
+/// Each call that succeeds and changes it changes it by one event; a call that refuses leaves it as it was. Only `new` and `start`
+/// take memory: the first reserves room for as many places as the limit.
+#[derive(Drop)]
+pub struct Core {
+    alloc: Global,
+    setup: Setup,
+    limit: u32,
+    weight: u32,
+    sessions: Vec<Session>,
+    places: Vec<Place>,
+    /// The places before this one have ended.
+    first: usize,
+    policy: Policy,
+    shelves: Vec<Shelf>,
+}
+
+impl Model for Core {
+    ghost use Rattle.std.specs.Coded.{codes};
+    ghost use Rattle.bl_policy.specs.Codes.{matrix_code};
+    ghost use Rattle.bl_order.specs.Codes.{coded_entry, coded_phase};
+    ghost use Rattle.bl_order.specs.Machine.{State};
+
+    ghost Value = { State };
+
+    ghost coded = { Prim.hlevel (codes, matrix_code, coded_entry, coded_phase) };
+
+    ghost use Rattle.bl_core.specs.View.{state_of};
+    ghost use Rattle.bl_core.specs.Keeps.{Keeps};
+
+    ghost view = { state_of };
+
+    ghost invariant = { Keeps };
+}
+
+/// What a start answers.
+pub enum Started {
+    /// The policy denies the entry, which has ended.
+    Denied(Denial),
+    /// The entry is a rule, which is done.
+    RuleDone,
+    /// The entry runs: what it was lent is to be evaluated, and finished or lost.
+    Run(Lent),
+}
+
+/// What a work weighs: one for each of its behaviours, and one for a rule.
+fn weight(work: &Work) -> u32
+    ensures { IsWeighed work.now result }
+{
+    match work {
+        Work::Behaviour(script) => script.weight() as u32,
+        Work::Rule(_) => 1,
+    }
+}
+
+/// The answer of a rule, by what the policy had against it.
+fn ruled(denial: &Option<Denial>) -> Answer
+    ensures { result ≡ ruled denial.now }
+{
+    match denial {
+        Some(denial) => Answer::Denied(*denial),
+        None => Answer::RuleDone,
+    }
+}
+
+impl Core {
+    ghost use Rattle.std.specs.Prelude.{◌≡◌, ◌<◌, ◌≤◌, ◌↔◌, ℕ, Bool, true, false, IsTrue, IsSome, IsNone, IsOk, length, IfOk, OnErr, OnOk, IfErr, IfSome, IfNone, MatchResult, MatchOption, Some, None, Ok, Err};
+    ghost use Rattle.bl_work.specs.declared.answer.Answer.TheVariants as answers;
+    ghost use Rattle.bl_order.specs.Headline.{Holds, IsReached};
+    ghost use Rattle.bl_order.specs.Machine.{Opens, Admits, Starts, Ends, Loses, MayStart, Needs, State, change, has_ended, is_lost, past_at, runs, start};
+    ghost use Rattle.bl_order.specs.Now.{content_at, content_now, policy_at, policy_now, IsFirstToAlter};
+    ghost use Rattle.bl_order.specs.Order.{Applies, accesses_of, is_altered, is_rule};
+    ghost use Rattle.bl_order.specs.Past.{is_done};
+    ghost use Rattle.bl_core.specs.Answers.{IsCause, IsNotOpened, IsStarted, IsStarvedBy, loan_at};
+
+    /// A core of an empty order over this setup, for lines that weigh no more than the limit, which is 1 to 100,000. An error comes
+    /// only where a growth is refused.
+    pub fn new(alloc: Global, setup: Setup, limit: u32) -> Result<Core, AllocError>
+        requires some { 1 ≤ limit }
+        requires most { limit ≤ 100000 }
+        ensures { IfOk result (λ core. core ≡ start setup limit) }
+    {
+        let policy = setup.policy().copy()?;
+        let shelves = shelve(alloc, setup.contents())?;
+        let sessions = Vec::with_capacity(alloc, MOST_SESSIONS)?;
+        let places = Vec::with_capacity(alloc, limit as usize)?;
+        Ok(Core {
+            alloc,
+            setup,
+            limit,
+            weight: 0,
+            sessions,
+            places,
+            first: 0,
+            policy,
+            shelves,
+        })
+    }
+
+    /// Opens a session for a subject, and answers its number. `Stranger` comes where the setup has no such subject, and then
+    /// `SessionsFull` where there are 1,000 sessions.
+    pub fn open(&mut self, subject: SubjectId) -> Result<SessionNo, OpenRefused>
+        ensures ok { IfOk result (λ session. (session ≡ length self.old.sessions) × (self.new ≡ change self.old (Opens subject))) }
+        ensures err { OnErr result (self.new ≡ self.old) }
+        ensures cause { MatchResult result (λ _. Needs self.old (Opens subject)) (λ refused. IsNotOpened self.old subject refused) }
+    {
+        if usize::from(subject.position()) >= self.setup.policy().subjects() {
+            return Err(OpenRefused::Stranger);
+        }
+        if self.sessions.len() >= MOST_SESSIONS {
+            return Err(OpenRefused::SessionsFull);
+        }
+        Ok(self.add_session(subject))
+    }
+
+    /// Opens a session that may be opened.
+    fn add_session(&mut self, subject: SubjectId) -> SessionNo
+        requires { Needs self.old (Opens subject) }
+        ensures number { result ≡ length self.old.sessions }
+        ensures change { self.new ≡ change self.old (Opens subject) }
+    {
+        let number = self.sessions.len() as u32;
+        self.sessions.push_reserved(Session { subject, last: 0 });
+        SessionNo::new(number)
+    }
+
+    /// Why a line may not be admitted.
+    fn cause(&self, session: SessionNo, ordinal: u32, work: &Work) -> Option<Cause>
+        ensures { MatchOption result (Needs self.now (Admits session ordinal work.now)) (λ cause. IsCause self.now session ordinal work.now cause) }
+    {
+        the_order_has_room();
+        if !self.setup.names().knows(work) {
+            return Some(Cause::Stranger);
+        }
+        let number = session.number() as usize;
+        if number >= self.sessions.len() {
+            return Some(Cause::Session);
+        }
+        if ordinal <= self.sessions[number].last {
+            return Some(Cause::Ordinal);
+        }
+        if weight(work) > self.limit - self.weight {
+            return Some(Cause::Full);
+        }
+        None
+    }
+
+    /// Admits a line of a session with its ordinal, and answers its place in the order, from 0. A refusal hands the work back, with
+    /// the first cause that holds.
+    pub fn line(&mut self, session: SessionNo, ordinal: u32, work: Work) -> Result<u32, Refused>
+        ensures ok { IfOk result (λ n. (n ≡ length self.old.order) × (self.new ≡ change self.old (Admits session ordinal work))) }
+        ensures err { OnErr result (self.new ≡ self.old) }
+        ensures cause { MatchResult result (λ _. Needs self.old (Admits session ordinal work))
+            (λ refused. IsCause self.old session ordinal work refused.cause × (refused.work ≡ work)) }
+    {
+        match self.cause(session, ordinal, &work) {
+            Some(cause) => Err(Refused { cause, work }),
+            None => Ok(self.admit(session, ordinal, work)),
+        }
+    }
+
+    /// Admits a line that may be admitted.
+    fn admit(&mut self, session: SessionNo, ordinal: u32, work: Work) -> u32
+        requires { Needs self.old (Admits session ordinal work) }
+        ensures place { result ≡ length self.old.order }
+        ensures change { self.new ≡ change self.old (Admits session ordinal work) }
+    {
+        the_order_has_room();
+        read_lines_are_in_the_setup();
+        let n = self.places.len() as u32;
+        let more = weight(&work);
+        let row = &mut self.sessions[session.number() as usize];
+        row.last = ordinal;
+        let subject = row.subject;
+        self.weight += more;
+        self.places.push_reserved(Place {
+            origin: Origin::Line {
+                session,
+                ordinal,
+                work,
+            },
+            root: n,
+            index: 0,
+            subject,
+            stand: Stand::Waiting,
+        });
+        n
+    }
+
+    /// Whether an entry may start: it is there and has not begun, and each earlier one that it conflicts with has ended.
+    pub fn is_ready(&self, n: u32) -> bool
+        ensures { IsTrue result ↔ MayStart self.now n }
+    {
+        let n = n as usize;
+        if n >= self.places.len() {
+            return false;
+        }
+        if !self.places[n].stand.is_waiting() {
+            return false;
+        }
+        is_clear(self.places.as_slice(), self.first, n)
+    }
+
+    /// The first entry that may start. There is none only where no entry may.
+    pub fn ready(&self) -> Option<u32>
+        ensures some { IfSome result (λ n. MayStart self.now n) }
+        ensures none { IsNone result → (n : ℕ) → ¬ MayStart self.now n }
+    {
+        the_order_has_room();
+        // read for the proof alone: the order is within the limit
+        let _limit = self.limit;
+        let count = self.places.len() as u32;
+        for n in 0..count {
+            if self.is_ready(n) {
+                return Some(n);
+            }
+        }
+        None
+    }
+
+    /// The rule of a place; `None` for a behaviour.
+    fn rule(&self, n: u32) -> Option<Rule>
+        requires { n < length self.now.order }
+        ensures { MatchOption result (is_rule (past_at self.now n).task ≡ false) (λ rule. (past_at self.now n).task ≡ Applies rule) }
+    {
+        match work_at(self.places.as_slice(), n as usize) {
+            Work::Behaviour(_) => None,
+            Work::Rule(rule) => Some(*rule),
+        }
+    }
+
+    /// Applies the rule of a place that may start.
+    fn apply(&mut self, n: u32, rule: &Rule) -> Started
+        requires may { MayStart self.old n }
+        requires rule { (past_at self.old n).task ≡ Applies rule.now }
+        ensures answer { IsStarted self.old n result }
+        ensures change { self.new ≡ change self.old (Starts n) }
+    {
+        let subject = self.places[n as usize].subject;
+        let denial = self.policy.apply(subject, rule);
+        let place = &mut self.places[n as usize];
+        place.stand = Stand::Ended(ruled(&denial));
+        self.first = first_open(self.places.as_slice(), self.first);
+        match denial {
+            Some(denial) => Started::Denied(denial),
+            None => Started::RuleDone,
+        }
+    }
+
+    /// What the policy has against the behaviour of a place that may start.
+    fn judge(&self, n: u32) -> Option<Denial>
+        requires may { MayStart self.now n }
+        requires behaviour { is_rule (past_at self.now n).task ≡ false }
+        ensures { MatchOption result (IsTrue (is_done (past_at self.now n).answer)) (λ denial. (past_at self.now n).answer ≡ answers.Denied denial) }
+    {
+        let Some(accesses) = declared(self.places.as_slice(), n as usize) else {
+            unreachable!()
+        };
+        self.policy
+            .decide(self.places[n as usize].subject, accesses)
+    }
+
+    /// Ends a place that may start with its denial.
+    fn deny(&mut self, n: u32, denial: &Denial)
+        requires may { MayStart self.old n }
+        requires behaviour { is_rule (past_at self.old n).task ≡ false }
+        requires denied { (past_at self.old n).answer ≡ answers.Denied denial.now }
+        ensures { self.new ≡ change self.old (Starts n) }
+    {
+        let place = &mut self.places[n as usize];
+        place.stand = Stand::Ended(Answer::Denied(*denial));
+        self.first = first_open(self.places.as_slice(), self.first);
+    }
+
+    /// What the behaviour of a place that may start is lent.
+    fn lend(&self, n: u32) -> Result<Lent, AllocError>
+        requires may { MayStart self.now n }
+        requires behaviour { is_rule (past_at self.now n).task ≡ false }
+        ensures { IfOk result (λ lent. lent ≡ loan_at self.now n) }
+    {
+        let Work::Behaviour(script) = work_at(self.places.as_slice(), n as usize) else {
+            unreachable!()
+        };
+        let index = self.places[n as usize].index;
+        let accesses = script.accesses(usize::from(index));
+        // asked for the proof alone: a behaviour has 1 to 8 accesses
+        let _statements = script.body(usize::from(index));
+        let documents = contents_of(self.alloc, self.shelves.as_slice(), accesses)?;
+        let owned = script.share()?;
+        let grants = Grants::lend(self.alloc, n, accesses, documents.as_slice())?;
+        Ok(Lent::new(owned, index, grants))
+    }
+
+    /// Lets the behaviour of a place that may start run.
+    fn run(&mut self, n: u32)
+        requires may { MayStart self.old n }
+        requires behaviour { is_rule (past_at self.old n).task ≡ false }
+        requires done { IsTrue (is_done (past_at self.old n).answer) }
+        ensures { self.new ≡ change self.old (Starts n) }
+    {
+        let Some(accesses) = declared(self.places.as_slice(), n as usize) else {
+            unreachable!()
+        };
+        mark(self.shelves.as_mut_slice(), accesses);
+        let place = &mut self.places[n as usize];
+        place.stand = Stand::Running;
+    }
+
+    /// Starts the behaviour of a place that may start.
+    fn begin(&mut self, n: u32) -> Result<Started, AllocError>
+        requires may { MayStart self.old n }
+        requires behaviour { is_rule (past_at self.old n).task ≡ false }
+        ensures ok { IfOk result (λ begun. IsStarted self.old n begun × (self.new ≡ change self.old (Starts n))) }
+        ensures err { OnErr result (self.new ≡ self.old) }
+    {
+        match self.judge(n) {
+            Some(denial) => {
+                self.deny(n, &denial);
+                Ok(Started::Denied(denial))
+            }
+            None => {
+                let lent = self.lend(n)?;
+                self.run(n);
+                Ok(Started::Run(lent))
+            }
+        }
+    }
+
+    /// Starts an entry. A rule or a denied behaviour ends at once; another behaviour runs, and is lent the contents of what it
+    /// declares, in declared order. `NotReady` comes where the entry may not start, and `Memory` where a growth was refused.
+    pub fn start(&mut self, n: u32) -> Result<Started, StartFault>
+        ensures ok { IfOk result (λ begun. IsStarted self.old n begun × (self.new ≡ change self.old (Starts n))) }
+        ensures err { OnErr result (self.new ≡ self.old) }
+        ensures not_ready { (result ≡ Err StartFault.NotReady) ↔ ¬ MayStart self.old n }
+        ensures starved { IfErr result (IsStarvedBy n) }
+    {
+        if !self.is_ready(n) {
+            return Err(StartFault::NotReady);
+        }
+        if let Some(rule) = self.rule(n) {
+            return Ok(self.apply(n, &rule));
+        }
+        match self.begin(n) {
+            Ok(begun) => Ok(begun),
+            Err(_) => Err(StartFault::Memory(Starved { entry: n })),
+        }
+    }
+
+    /// Ends a running entry with what was done of what it was lent: its exclusive contents come back, its answer is kept, and its
+    /// children enter at the end of the order.
+    pub fn finish_lent(&mut self, done: Done)
+        requires running { IsTrue (runs self.old done.entry) }
+        requires lent { done ≡ loan_at self.old done.entry }
+        ensures { self.new ≡ change self.old (Ends done.entry) }
+    {
+        the_order_has_room();
+        tasks_are_of_scripts();
+        let DoneParts {
+            entry,
+            script: _,
+            index: _,
+            inputs: _,
+            outputs,
+            spawned,
+            returned,
+        } = done.into_parts();
+        take_back(self.shelves.as_mut_slice(), returned);
+        let place = &mut self.places[entry as usize];
+        place.stand = Stand::Ended(Answer::Done(outputs));
+        let root = place.root;
+        let subject = place.subject;
+        enter_children(&mut self.places, entry, root, subject, spawned.as_slice());
+        self.first = first_open(self.places.as_slice(), self.first);
+    }
+
+    /// Ends a running entry as lost, with what it was lent: nothing that it was lent has changed.
+    pub fn lose_lent(&mut self, unrun: Unrun)
+        requires running { IsTrue (runs self.old unrun.entry) }
+        requires lent { unrun ≡ loan_at self.old unrun.entry }
+        ensures { self.new ≡ change self.old (Loses unrun.entry) }
+    {
+        let UnrunParts {
+            entry,
+            script: _,
+            index: _,
+            grants,
+        } = unrun.into_parts();
+        take_back(self.shelves.as_mut_slice(), grants.close());
+        let place = &mut self.places[entry as usize];
+        place.stand = Stand::Ended(Answer::Lost);
+        self.first = first_open(self.places.as_slice(), self.first);
+    }
+
+    /// Ends a place that may start as lost.
+    fn lose_waiting(&mut self, n: u32)
+        requires { MayStart self.old n }
+        ensures { self.new ≡ change self.old (Loses n) }
+    {
+        let place = &mut self.places[n as usize];
+        place.stand = Stand::Ended(Answer::Lost);
+        self.first = first_open(self.places.as_slice(), self.first);
+    }
+
+    /// Ends an entry as lost that was refused memory at its start. `NotReady` comes where the entry may not start.
+    pub fn lose_ready(&mut self, starved: Starved) -> Result<(), NotReady>
+        ensures ok { OnOk result (self.new ≡ change self.old (Loses starved)) }
+        ensures err { OnErr result (self.new ≡ self.old) }
+        ensures ready { IsOk result ↔ MayStart self.old starved }
+    {
+        if !self.is_ready(starved.entry()) {
+            return Err(NotReady);
+        }
+        self.lose_waiting(starved.entry());
+        Ok(())
+    }
+
+    /// The answer of an entry that has ended; `None` for one that has not, or is not there.
+    pub fn answer(&self, n: u32) -> Option<&Answer>
+        ensures value { IfSome result (λ answer. answer.now ≡ (past_at self.now n).answer) }
+        ensures some { IsSome result ↔ IsTrue (has_ended self.now n) }
+    {
+        if n as usize >= self.places.len() {
+            return None;
+        }
+        match &self.places[n as usize].stand {
+            Stand::Ended(answer) => Some(answer),
+            Stand::Waiting | Stand::Running => None,
+        }
+    }
+
+    /// The policy now: the setup's, changed in order by the ended rules that are not lost.
+    pub fn policy(&self) -> &Policy
+        ensures value { result.now ≡ policy_now self.now }
+        ensures reached { IsReached self.now }
+        ensures holds { Holds self.now }
+    {
+        headline();
+        &self.policy
+    }
+
+    /// The content of a document of the setup; `None` exactly while a running entry declares the document append or write. It is the
+    /// content at the first entry that is still to alter the document.
+    pub fn content(&self, doc: DocId) -> Option<&Document>
+        requires { doc < length self.now.setup.contents }
+        ensures value { IfSome result (λ content. content.now ≡ content_now self.now doc) }
+        ensures none { IfNone result ((n : ℕ) × IsTrue (runs self.now n) × IsTrue (is_altered (accesses_of (past_at self.now n).task) doc)) }
+        ensures some { IfSome result (λ _. (n : ℕ) → IsTrue (runs self.now n) → ¬ IsTrue (is_altered (accesses_of (past_at self.now n).task) doc)) }
+    {
+        let shelf = &self.shelves[doc.position() as usize];
+        if shelf.lent {
+            None
+        } else {
+            Some(&shelf.content)
+        }
+    }
+
+    /// The setup that the core began with, and with it the names of its subjects and documents.
+    pub fn setup(&self) -> &Setup
+        ensures { result.now ≡ self.now.setup }
+    {
+        &self.setup
+    }
+}

@@ -1,0 +1,203 @@
+//! What is kept of each place of the order.
+ghost use Rattle.std.specs.Prelude.{◌≡◌, ◌<◌, ◌≤◌, ◌++◌, ◌+◌, ◌^◌, ◌==◌, ◌&&◌, ◌||◌, ◌↔◌, ℕ, true, false, length, vec_len, MatchOption, IsTrue};
+ghost use Rattle.std.specs.Vec.{vec_capacity};
+ghost use Rattle.std.specs.List.{list_any};
+ghost use Rattle.bl_policy.specs.Mode.{is_exclusive};
+ghost use Rattle.bl_policy.specs.declared.access.Access.{Access};
+ghost use Rattle.bl_order.specs.Order.{accesses_of, conflict, is_rule};
+ghost use Rattle.bl_core.specs.Places.{place_in, work_in, task_in, child_places, AreOver, IsClear, HasTask, HaveTasks, shares_a_document};
+
+use crate::session::SessionNo;
+use bl_policy::access::{Access, Mode};
+use bl_policy::id::SubjectId;
+use bl_work::answer::Answer;
+use bl_work::work::Work;
+
+/// Where a place stands.
+#[derive(Drop)]
+pub(crate) enum Stand {
+    Waiting,
+    Running,
+    Ended(Answer),
+}
+
+/// Where an entry comes from.
+#[derive(Drop)]
+pub(crate) enum Origin {
+    Line {
+        session: SessionNo,
+        ordinal: u32,
+        work: Work,
+    },
+    Child {
+        parent: u32,
+        which: u32,
+    },
+}
+
+/// An entry with where it stands.
+#[derive(Drop)]
+pub(crate) struct Place {
+    pub(crate) origin: Origin,
+    /// The place of the line that it descends from: its own place for a line.
+    pub(crate) root: u32,
+    /// The number of the behaviour in the script of that line; 0 for a rule.
+    pub(crate) index: u8,
+    pub(crate) subject: SubjectId,
+    pub(crate) stand: Stand,
+}
+
+impl Stand {
+    ghost use Rattle.std.specs.Prelude.{◌≡◌};
+    ghost use Rattle.bl_order.specs.Machine.{is_waiting, is_running, is_over};
+    ghost use Rattle.bl_core.specs.Places.{phase_of};
+
+    pub(crate) fn is_waiting(&self) -> bool
+        ensures { result ≡ is_waiting (phase_of self.now) }
+    {
+        match self {
+            Stand::Waiting => true,
+            Stand::Running | Stand::Ended(_) => false,
+        }
+    }
+
+    pub(crate) fn is_running(&self) -> bool
+        ensures { result ≡ is_running (phase_of self.now) }
+    {
+        match self {
+            Stand::Running => true,
+            Stand::Waiting | Stand::Ended(_) => false,
+        }
+    }
+
+    pub(crate) fn is_over(&self) -> bool
+        ensures { result ≡ is_over (phase_of self.now) }
+    {
+        match self {
+            Stand::Ended(_) => true,
+            Stand::Waiting | Stand::Running => false,
+        }
+    }
+}
+
+/// Whether the mode alters its document, and so excludes every other access of it.
+pub(crate) fn is_exclusive(mode: Mode) -> bool
+    ensures { result ≡ is_exclusive mode }
+{
+    match mode {
+        Mode::Read => false,
+        Mode::Append | Mode::Write => true,
+    }
+}
+
+/// Whether the access and one of the others are of one document, which one of the two alters.
+fn meets(access: &Access, others: &[Access]) -> bool
+    ensures { result ≡ list_any (λ (y : Access). (access.now.doc == y.doc) && (is_exclusive access.now.mode || is_exclusive y.mode)) others.now }
+{
+    others.iter().any(|other| access.doc == other.doc
+        && (is_exclusive(access.mode) || is_exclusive(other.mode)))
+}
+
+/// Whether they share a document that one of them alters.
+fn shares_a_document(accesses: &[Access], others: &[Access]) -> bool
+    ensures { result ≡ shares_a_document accesses.now others.now }
+{
+    accesses.iter().any(|access| meets(access, others))
+}
+
+/// The work of the line that a place descends from.
+pub(crate) fn work_at(places: &[Place], n: usize) -> &Work
+    requires there { n < length places.now }
+    requires task { HasTask places.now n }
+    ensures { result.now ≡ work_in places.now n }
+{
+    match places.get(places[n].root as usize) {
+        Some(place) => match &place.origin {
+            Origin::Line { work, .. } => work,
+            Origin::Child { .. } => unreachable!(),
+        },
+        None => unreachable!(),
+    }
+}
+
+/// What the behaviour of a place declares; `None` for a rule.
+pub(crate) fn declared(places: &[Place], n: usize) -> Option<&[Access]>
+    requires there { n < length places.now }
+    requires task { HasTask places.now n }
+    ensures { MatchOption result (is_rule (task_in places.now n) ≡ true) (λ accesses. (is_rule (task_in places.now n) ≡ false) × (accesses.now ≡ accesses_of (task_in places.now n))) }
+{
+    match work_at(places, n) {
+        Work::Behaviour(script) => Some(script.accesses(places[n].index as usize)),
+        Work::Rule(_) => None,
+    }
+}
+
+/// Whether two places may not run together: a rule with no other place, and behaviours that share a document which one of them
+/// alters.
+fn conflict(places: &[Place], earlier: usize, later: usize) -> bool
+    requires earlier { earlier < length places.now }
+    requires later { later < length places.now }
+    requires tasks { HaveTasks places.now }
+    ensures { result ≡ conflict (task_in places.now earlier) (task_in places.now later) }
+{
+    let Some(accesses) = declared(places, earlier) else {
+        return true;
+    };
+    let Some(others) = declared(places, later) else {
+        return true;
+    };
+    shares_a_document(accesses, others)
+}
+
+/// Whether each place that stands before this one, from the first on, and that it conflicts with, has ended.
+pub(crate) fn is_clear(places: &[Place], first: usize, n: usize) -> bool
+    requires there { n < length places.now }
+    requires tasks { HaveTasks places.now }
+    ensures { IsTrue result ↔ IsClear places.now first n }
+{
+    for m in first..n {
+        if !places[m].stand.is_over() && conflict(places, m, n) {
+            return false;
+        }
+    }
+    true
+}
+
+/// The first place from this one on that has not ended, or the end of the order.
+pub(crate) fn first_open(places: &[Place], from: usize) -> usize
+    requires { AreOver places.now from }
+    ensures { AreOver places.now result }
+{
+    for n in from..places.len() {
+        if !places[n].stand.is_over() {
+            return n;
+        }
+    }
+    places.len()
+}
+
+/// The children of a place enter, in order, by the numbers of their behaviours.
+pub(crate) fn enter_children(
+    places: &mut Vec<Place>,
+    parent: u32,
+    root: u32,
+    subject: SubjectId,
+    spawned: &[u8],
+)
+    requires room { vec_len places.old + length spawned.now ≤ vec_capacity places.old }
+    requires few { length spawned.now < 2 ^ 32 }
+    ensures items { places.new.items ≡ places.old.items ++ child_places parent root subject 1 spawned.now }
+    ensures room { vec_capacity places.new ≡ vec_capacity places.old }
+{
+    let mut which = 0;
+    for index in spawned {
+        which += 1;
+        places.push_reserved(Place {
+            origin: Origin::Child { parent, which },
+            root,
+            index: *index,
+            subject,
+            stand: Stand::Waiting,
+        });
+    }
+}
