@@ -3,7 +3,7 @@ use Rattle.std.specs.Prelude.{◌≡◌, ◌≢◌, ℕ, List, [], codes, ◌⊎
 use Rattle.std.specs.Io.KnownBytes.{Keeps}
 use Rattle.bl_setup.specs.Setup as setups
 use Rattle.bl_setup.specs.Faults.{UnlessMemory}
-use Rattle.bl_setup.specs.FirstFault.{FirstFault, IsReadAt}
+use Rattle.bl_setup.specs.FirstSetupFault.{FirstSetupFault, IsReadAt}
 use Rattle.bl_setup.specs.Grammar.{IsSetup}
 use Rattle.bl_setup.specs.declared.fault.SetupFault.{SetupFault}
 use Rattle.bl_setup.specs.declared.fault.SetupFaultKind.{SetupFaultKind}
@@ -49,7 +49,7 @@ pub record IsNotBegun (setup : List ℕ) (fault : ProgramFault) (input output : 
   pub of : SetupFault
   pub named : IsOfSetup of fault
   pub why : UnlessMemory of.kind ((begun : setups.Setup) → IsSetup setup begun → ⊥)
-  pub earliest : UnlessMemory of.kind (FirstFault setup of)
+  pub earliest : UnlessMemory of.kind (FirstSetupFault setup of)
   pub refused : of.kind ≡ kinds.Memory → IsReadAt setup of.line
 
 -- A session of the setup that the text is began, and ended early by the fault that is told.

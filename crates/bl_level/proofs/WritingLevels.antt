@@ -13,7 +13,7 @@ use Rattle.bl_level.specs.Token.{name}
 use Rattle.bl_level.specs.Name.{IsName, AreProper}
 use Rattle.bl_level.specs.Level.{SecurityLevel, HasCategory}
 use Rattle.bl_level.specs.Table.{AreDistinct, place_of}
-use Rattle.bl_level.specs.Scheme.{SchemeNames, IsScheme, Holds}
+use Rattle.bl_level.specs.Scheme.{SchemeNames, IsScheme, HoldsLevel}
 use Rattle.bl_level.specs.LevelText.{LevelText, Means, IsNamed, ReadsAsLevel, spell_level, spell_more, spell_categories, held_names, text_of, canonical_level}
 use Rattle.bl_level.specs.LevelFault.{IsLevelFault, Reads, IsReadBack}
 use Rattle.bl_level.specs.LevelFronts.{tail_of}
@@ -188,7 +188,7 @@ known_all names level = λ i d h.
     let at = held_at level 0 names (get_or (held_names level 0 names) i d) (Contains-get_or (held_names level 0 names) i d h) in
     subst (Contains names) at.is (Contains-get_or names at.place [] at.there)
 
-pub text_means : (scheme : SchemeNames) (level : SecurityLevel) → IsScheme scheme → Holds scheme level → Means scheme (text_of scheme level) level
+pub text_means : (scheme : SchemeNames) (level : SecurityLevel) → IsScheme scheme → HoldsLevel scheme level → Means scheme (text_of scheme level) level
 text_means scheme level is holds = record {
   rank = place_is scheme.ranks level.rank [] is.ranks.distinct holds.rank;
   known = known_all scheme.categories level;
@@ -248,7 +248,7 @@ same_level : (scheme : SchemeNames) (text : LevelText) (level : SecurityLevel) (
 same_level scheme text level (Ok other) means reads = ap Ok (one_meaning scheme text other level reads means)
 same_level scheme text level (Err fault) means reads = absurd (no_fault scheme text level fault means reads)
 
-pub level_reads_back : (scheme : SchemeNames) (level : SecurityLevel) → IsScheme scheme → Holds scheme level → (bytes : List ℕ) → bytes ≡ canonical_level scheme level → IsReadBack scheme level bytes
+pub level_reads_back : (scheme : SchemeNames) (level : SecurityLevel) → IsScheme scheme → HoldsLevel scheme level → (bytes : List ℕ) → bytes ≡ canonical_level scheme level → IsReadBack scheme level bytes
 level_reads_back scheme level is holds bytes e = record {
   spelled = subst (λ b. ReadsAsLevel b (text_of scheme level)) (sym e) (canonical_begins (spell_level (text_of scheme level)) proper);
   same = λ read reads. same_level scheme (text_of scheme level) level read (text_means scheme level is holds) reads;

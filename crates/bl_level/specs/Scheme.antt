@@ -17,6 +17,6 @@ pub record IsScheme (scheme : SchemeNames) : Type 0 where
   pub categories : IsTable scheme.categories
 
 -- the level's rank and each of its categories are the scheme's
-pub record Holds (scheme : SchemeNames) (level : SecurityLevel) : Type 0 where
+pub record HoldsLevel (scheme : SchemeNames) (level : SecurityLevel) : Type 0 where
   pub rank : level.rank < length scheme.ranks
   pub categories : (k : ℕ) → HasCategory level k → k < length scheme.categories

@@ -2,7 +2,7 @@
 ghost use Rattle.std.specs.Prelude.{◌≡◌, ◌↔◌, ℕ, List, [], ◌∷◌, ◌++◌, map, if◌then◌else◌, false, IsTrue, OnOk, IfOk, IfSome, IfNone, Ok, Err, Result};
 ghost use Rattle.bl_level.specs.Lexing.{past_blanks};
 ghost use Rattle.bl_level.specs.Token.{name as name_token, sign as sign_token};
-ghost use Rattle.bl_level.specs.Scheme.{Holds};
+ghost use Rattle.bl_level.specs.Scheme.{HoldsLevel};
 ghost use Rattle.bl_level.specs.LevelText.{LevelText, ReadsAsLevel, canonical_level, held_names};
 ghost use Rattle.bl_level.specs.LevelFault.{Reads, IsReadBack};
 ghost use Rattle.bl_level.specs.LevelFronts.{StandsFirst, Closes, with_name, ReadsOn, tail_of};
@@ -154,7 +154,7 @@ impl Scheme {
     /// The canonical text of a level that the scheme holds: no blank, the categories in the scheme's order, and no
     /// braces where there is none.
     pub fn write_level(&self, level: &Level) -> Result<Vec<u8>, AllocError>
-        requires { Holds self.now level.now }
+        requires { HoldsLevel self.now level.now }
         ensures text { IfOk result (λ text. text.items ≡ canonical_level self.now level.now) }
         ensures again { IfOk result (λ text. IsReadBack self.now level.now text.items) }
     {

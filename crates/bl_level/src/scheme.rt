@@ -1,6 +1,6 @@
 //! The names of ranks and categories, and the text of a level.
 ghost use Rattle.std.specs.Prelude.{◌≡◌, ◌↔◌, ◌<◌, ◌≤◌, ◌^◌, ℕ, IsTrue, IfOk, IfErr};
-ghost use Rattle.bl_level.specs.Scheme.{SchemeNames, IsScheme, Holds};
+ghost use Rattle.bl_level.specs.Scheme.{SchemeNames, IsScheme, HoldsLevel};
 ghost use Rattle.std.specs.Int.{bit_at};
 ghost use Rattle.bl_level.specs.SchemeFault.{IsSchemeFault};
 
@@ -118,7 +118,7 @@ impl Scheme {
 
     /// Whether the level's rank and each of its categories are the scheme's.
     pub fn holds(&self, level: &Level) -> bool
-        ensures { IsTrue result ↔ Holds self.now level.now }
+        ensures { IsTrue result ↔ HoldsLevel self.now level.now }
     {
         usize::from(level.rank()) < self.ranks.len()
             && are_below(level.categories(), self.categories.len())

@@ -21,7 +21,7 @@ use Rattle.bl_work.proofs.Altered.{unaltered-stays}
 use Rattle.bl_order.specs.Order.{Task, Runs, Applies, is_declared, is_altered, accesses_of}
 use Rattle.bl_order.specs.Past.{Past, lent, deeds, is_done, answer_of, only_if_done, fault_of_task}
 use Rattle.bl_monitor.specs.declared.run.Run.{Run}
-use Rattle.bl_monitor.specs.Undoing.{content_at}
+use Rattle.bl_monitor.specs.Undoing.{content_listed}
 use Rattle.bl_monitor.specs.Running.{StandsAfter, GoesOn, UsesBelow}
 use Rattle.bl_monitor.specs.Judging.{Leaves, left_by, effects_on, content_behind, record_of}
 
@@ -66,10 +66,10 @@ is_there test (a ∷ accesses) doc h = go (a.doc == doc) (test a.mode) (declares
     go false y r s h f = f h
 
 -- a body that keeps to its accesses does on all contents what it does on those that were lent
-same_effects : (contents : List (List ℕ)) (part : Part) → KeepsModes part.accesses part.body → effects_of (content_at contents) part.body ≡ effects_on contents part
+same_effects : (contents : List (List ℕ)) (part : Part) → KeepsModes part.accesses part.body → effects_of (content_listed contents) part.body ≡ effects_on contents part
 same_effects contents part keeps =
-    effects_from-same part.accesses (content_at contents) (lent part.accesses (content_at contents))
-    (λ doc looks. sym (ap (λ b. cond b (content_at contents doc) []) (is_there observes part.accesses doc looks))) part.body [] keeps
+    effects_from-same part.accesses (content_listed contents) (lent part.accesses (content_listed contents))
+    (λ doc looks. sym (ap (λ b. cond b (content_listed contents doc) []) (is_there observes part.accesses doc looks))) part.body [] keeps
 
 -- what a run has come to
 pub record HasRun (contents : List (List ℕ)) (part : Part) (now : List (List ℕ)) (run : Run) : Type 0 where
@@ -80,10 +80,10 @@ pub record HasRun (contents : List (List ℕ)) (part : Part) (now : List (List �
 pub has_run : (contents now : List (List ℕ)) (part : Part) (body : Statements) (first new : Run) → body ≡ part.body → IsBehaviour part → first.shown.items ≡ [] → first.spawned.items ≡ []
     → length now ≡ length contents → GoesOn body contents first now new → HasRun contents part now new
 has_run contents now part body first new is right shown behaviours long goes =
-    let same : effects_of (content_at contents) part.body ≡ effects_on contents part = same_effects contents part right.modes in
-    let stands : StandsAfter (content_at contents) (effects_of (content_at contents) part.body) now new =
-    subst (λ (b : Statements). StandsAfter (content_at contents) (effects_of (content_at contents) b) now new) is
-    (goes (content_at contents) [] (record { contents = λ doc lt. refl; shown = shown; spawned = behaviours })) in
+    let same : effects_of (content_listed contents) part.body ≡ effects_on contents part = same_effects contents part right.modes in
+    let stands : StandsAfter (content_listed contents) (effects_of (content_listed contents) part.body) now new =
+    subst (λ (b : Statements). StandsAfter (content_listed contents) (effects_of (content_listed contents) b) now new) is
+    (goes (content_listed contents) [] (record { contents = λ doc lt. refl; shown = shown; spawned = behaviours })) in
     record {
       shown = stands.shown ∙ ap outputs same;
       spawned = stands.spawned ∙ ap children same;
@@ -93,14 +93,14 @@ has_run contents now part body first new is right shown behaviours long goes =
       };
     }
   where
-    go : effects_of (content_at contents) part.body ≡ effects_on contents part → StandsAfter (content_at contents) (effects_of (content_at contents) part.body) now new
-        → (doc : ℕ) → doc < length contents → (b : Bool) → is_altered part.accesses doc ≡ b → content_at now doc ≡ left_by contents part doc
+    go : effects_of (content_listed contents) part.body ≡ effects_on contents part → StandsAfter (content_listed contents) (effects_of (content_listed contents) part.body) now new
+        → (doc : ℕ) → doc < length contents → (b : Bool) → is_altered part.accesses doc ≡ b → content_listed now doc ≡ left_by contents part doc
     go same stands doc lt true e =
-        stands.contents doc (omega (arith, long)) ∙ ap (λ es. after (content_at contents doc) es doc) same
-        ∙ ap (λ b. cond b (after (content_at contents doc) (effects_on contents part) doc) (content_at contents doc)) (sym e)
+        stands.contents doc (omega (arith, long)) ∙ ap (λ es. after (content_listed contents doc) es doc) same
+        ∙ ap (λ b. cond b (after (content_listed contents doc) (effects_on contents part) doc) (content_listed contents doc)) (sym e)
     go same stands doc lt false e =
-        stands.contents doc (omega (arith, long)) ∙ unaltered-stays part.accesses (content_at contents) part.body right.modes doc e
-        ∙ ap (λ b. cond b (after (content_at contents doc) (effects_on contents part) doc) (content_at contents doc)) (sym e)
+        stands.contents doc (omega (arith, long)) ∙ unaltered-stays part.accesses (content_listed contents) part.body right.modes doc e
+        ∙ ap (λ b. cond b (after (content_listed contents doc) (effects_on contents part) doc) (content_listed contents doc)) (sym e)
 
 -- a behaviour that nothing is held against leaves what it makes
 pub leaves_done : (lost : Bool) (policy : SecurityPolicy) (contents : List (List ℕ)) (subject : ℕ) (script : List Part) (index : ℕ) (now : List (List ℕ))
@@ -113,14 +113,14 @@ leaves_done lost policy contents subject script index now unlost none leaves =
   where
     past_with : Option Denial → Past
     past_with f =
-        let effects : List Effect = deeds (Runs script index) (content_at contents) in
+        let effects : List Effect = deeds (Runs script index) (content_listed contents) in
         record { subject = subject; task = Runs script index; answer = answer_of false f (Runs script index) effects; effects = only_if_done (answer_of false f (Runs script index) effects) effects }
 
 -- a task that is not done leaves the contents
 pub leaves_idle : (contents : List (List ℕ)) (past : Past) → is_done past.answer ≡ false → Leaves contents (content_behind contents past) contents
 leaves_idle contents past idle = record {
   as_many = refl;
-  left = λ doc lt. sym (ap (λ b. cond (b && is_altered (accesses_of past.task) doc) (after (content_at contents doc) past.effects doc) (content_at contents doc)) idle);
+  left = λ doc lt. sym (ap (λ b. cond (b && is_altered (accesses_of past.task) doc) (after (content_listed contents doc) past.effects doc) (content_listed contents doc)) idle);
 }
 
 pub leaves_lost : (lost : Bool) (policy : SecurityPolicy) (contents : List (List ℕ)) (subject : ℕ) (task : Task) → lost ≡ true
@@ -134,13 +134,13 @@ pub leaves_denied : (lost : Bool) (policy : SecurityPolicy) (contents : List (Li
 leaves_denied lost policy contents subject script index denial unlost some =
     leaves_idle contents (record_of lost policy contents subject (Runs script index))
     (ap (λ b. is_done (record_of b policy contents subject (Runs script index)).answer) unlost
-    ∙ sym (ap (λ (f : Option Denial). is_done (answer_of false f (Runs script index) (deeds (Runs script index) (content_at contents)))) some))
+    ∙ sym (ap (λ (f : Option Denial). is_done (answer_of false f (Runs script index) (deeds (Runs script index) (content_listed contents)))) some))
 
 pub leaves_rule : (lost : Bool) (policy : SecurityPolicy) (contents : List (List ℕ)) (subject : ℕ) (task : Task) (rule : Rule) → task ≡ Applies rule
     → Leaves contents (content_behind contents (record_of lost policy contents subject task)) contents
 leaves_rule lost policy contents subject task rule is =
     subst (λ (t : Task). Leaves contents (content_behind contents (record_of lost policy contents subject t)) contents) (sym is)
-    (leaves_idle contents (record_of lost policy contents subject (Applies rule)) (idle lost (fault_of_task policy subject (Applies rule)) (deeds (Applies rule) (content_at contents))))
+    (leaves_idle contents (record_of lost policy contents subject (Applies rule)) (idle lost (fault_of_task policy subject (Applies rule)) (deeds (Applies rule) (content_listed contents))))
   where
     idle : (lost : Bool) (f : Option Denial) (effects : List Effect) → is_done (answer_of lost f (Applies rule) effects) ≡ false
     idle true f effects = refl

@@ -23,11 +23,11 @@ use Rattle.bl_monitor.specs.Heard as heard
 use Rattle.bl_monitor.specs.Kept.{spawned_of}
 use Rattle.bl_monitor.specs.Places as kept
 use Rattle.bl_monitor.specs.Places.{no_place, script_of, HasScript, HasChild}
-use Rattle.bl_monitor.specs.Sound.{heard_of, pasts_of, policy_at, IsRight, Tells, IsSound, CanCome, IsAdmitted}
+use Rattle.bl_monitor.specs.Sound.{heard_of, pasts_of, kept_policy_at, IsRight, Tells, IsSound, CanCome, IsAdmitted}
 use Rattle.std.proofs.lemmas.List.{map-append}
 use Rattle.bl_monitor.specs.declared.judge.Judged.{Judged}
-use Rattle.bl_monitor.specs.Undoing.{content_at}
-use Rattle.bl_monitor.specs.Judging.{HasBelow, IsJudged, IsKnown, Leaves, content_behind, record_of}
+use Rattle.bl_monitor.specs.Undoing.{content_listed}
+use Rattle.bl_monitor.specs.Judging.{HasBelow, IsJudged, KnowsEntry, Leaves, content_behind, record_of}
 use Rattle.bl_order.specs.Known.{KnowsAnswer, KnowsWork}
 use Rattle.bl_monitor.proofs.Ids.{task_ids, answer_ids}
 use Rattle.bl_monitor.proofs.Keeps.{as_many_ruled, length-mapped, sound_more, answer_more}
@@ -73,12 +73,12 @@ module _ (setup : Setup) (policy : SecurityPolicy) (contents : List (List ℕ)) 
   record_at : (k : ℕ) → k < length places → at_place (pasts_of setup places) k ≡ place_at h k
   record_at k lt = at_place-earlier setup (is_lost h) h.order (length places) k lt
 
-  told_at : (k : ℕ) → k < length places → Tells setup (policy_at setup places k) (slice_index_or places k no_place) (place_at h k)
-  told_at k lt = subst (Tells setup (policy_at setup places k) (slice_index_or places k no_place)) (record_at k lt) (sound.told k lt)
+  told_at : (k : ℕ) → k < length places → Tells setup (kept_policy_at setup places k) (slice_index_or places k no_place) (place_at h k)
+  told_at k lt = subst (Tells setup (kept_policy_at setup places k) (slice_index_or places k no_place)) (record_at k lt) (sound.told k lt)
 
   pub child_is : (parent which : ℕ) → HasChild places parent which → IsChild h parent which
   child_is parent which has =
-      let t : Tells setup (policy_at setup places parent) (slice_index_or places parent no_place) (place_at h parent) = told_at parent has.behind in
+      let t : Tells setup (kept_policy_at setup places parent) (slice_index_or places parent no_place) (place_at h parent) = told_at parent has.behind in
       record {
         from_one = has.from_one;
         behind = let b : parent < length places = has.behind in omega (arith, as_long);
@@ -90,7 +90,7 @@ module _ (setup : Setup) (policy : SecurityPolicy) (contents : List (List ℕ)) 
   child_has parent which is =
       let b : parent < length h.order = is.behind in
       let behind : parent < length places = omega (arith, as_long) in
-      let t : Tells setup (policy_at setup places parent) (slice_index_or places parent no_place) (place_at h parent) = told_at parent behind in
+      let t : Tells setup (kept_policy_at setup places parent) (slice_index_or places parent no_place) (place_at h parent) = told_at parent behind in
       record {
         behind = behind;
         done = t.ran ∙ is.done;
@@ -121,7 +121,7 @@ module _ (setup : Setup) (policy : SecurityPolicy) (contents : List (List ℕ)) 
       }) right
   next (entry.Child parent which lost) a knows is right = subst (λ b. HasScript b.work → IsNext setup places (entry.Child parent which lost) b) (sym is.1)
       (λ (r : HasScript (slice_index_or places parent no_place).admitted.work).
-      let t : Tells setup (policy_at setup places parent) (slice_index_or places parent no_place) (at_place (pasts_of setup places) parent) = sound.told parent is.0.behind in
+      let t : Tells setup (kept_policy_at setup places parent) (slice_index_or places parent no_place) (at_place (pasts_of setup places) parent) = sound.told parent is.0.behind in
       let one : 0 < which = is.0.from_one in
       let most : which ≤ length (spawned_of (slice_index_or places parent no_place).children) = is.0.spawned in
       let w : Work = (slice_index_or places parent no_place).admitted.work in
@@ -143,36 +143,36 @@ module _ (setup : Setup) (policy : SecurityPolicy) (contents : List (List ℕ)) 
         lost = refl;
       }) right
 
-  found_at : (n : ℕ) (q : Place) → n < length places → q ≡ get_or places n q → Tells setup (policy_at setup places n) q (place_at h n)
-  found_at n q lt is = subst (λ r. Tells setup (policy_at setup places n) r (place_at h n)) (sym (is ∙ get_or_default places n q no_place lt)) (told_at n lt)
+  found_at : (n : ℕ) (q : Place) → n < length places → q ≡ get_or places n q → Tells setup (kept_policy_at setup places n) q (place_at h n)
+  found_at n q lt is = subst (λ r. Tells setup (kept_policy_at setup places n) r (place_at h n)) (sym (is ∙ get_or_default places n q no_place lt)) (told_at n lt)
 
   below : (n : ℕ) → n < length places → nat_lt n (length h.order) ≡ true
   below n lt = let le : n < length h.order = omega (arith, as_long) in grind (arith, nat_tests)
 
   pub told_fault : (n : ℕ) (q : Place) → n < length places → q ≡ get_or places n q → q.fault ≡ fault_of h n
   told_fault n q lt is =
-      let t : Tells setup (policy_at setup places n) q (place_at h n) = found_at n q lt is in
+      let t : Tells setup (kept_policy_at setup places n) q (place_at h n) = found_at n q lt is in
       t.fault
-      ∙ ap (λ s. first_fault (policy_at setup places n) s (accesses_of (kept.task_of q.admitted))) (sym t.subject)
-      ∙ ap (λ (k : Task). first_fault (policy_at setup places n) (place_at h n).subject (accesses_of k)) (sym t.task)
-      ∙ ap (λ b. cond b (first_fault (policy_at setup places n) (place_at h n).subject (accesses_of (place_at h n).task)) None) (sym (below n lt))
+      ∙ ap (λ s. first_fault (kept_policy_at setup places n) s (accesses_of (kept.task_of q.admitted))) (sym t.subject)
+      ∙ ap (λ (k : Task). first_fault (kept_policy_at setup places n) (place_at h n).subject (accesses_of k)) (sym t.task)
+      ∙ ap (λ b. cond b (first_fault (kept_policy_at setup places n) (place_at h n).subject (accesses_of (place_at h n).task)) None) (sym (below n lt))
 
   pub told_children : (n : ℕ) (q : Place) → n < length places → q ≡ get_or places n q
       → cond (is_some q.children) (Some (length (spawned_of q.children))) None ≡ children_of h n
   told_children n q lt is =
-      let t : Tells setup (policy_at setup places n) q (place_at h n) = found_at n q lt is in
+      let t : Tells setup (kept_policy_at setup places n) q (place_at h n) = found_at n q lt is in
       ap (λ b. cond b (Some (length (spawned_of q.children))) None) t.ran
       ∙ ap (λ xs. cond (is_done (place_at h n).answer) (Some (length xs)) None) t.spawned
       ∙ ap (λ b. cond (b && is_done (place_at h n).answer) (Some (length (children (place_at h n).effects))) None) (sym (below n lt))
 
   pub told_spawned : (n : ℕ) (q : Place) → n < length places → q ≡ get_or places n q → spawned_of q.children ≡ spawned_by h n
   told_spawned n q lt is =
-      let t : Tells setup (policy_at setup places n) q (place_at h n) = found_at n q lt is in
+      let t : Tells setup (kept_policy_at setup places n) q (place_at h n) = found_at n q lt is in
       t.spawned ∙ ap (λ b. cond b (children (place_at h n).effects) []) (sym (below n lt))
 
   pub told_few : (n : ℕ) (q : Place) → n < length places → q ≡ get_or places n q → length (spawned_of q.children) ≤ 32
   told_few n q lt is =
-      let t : Tells setup (policy_at setup places n) q (place_at h n) = found_at n q lt is in
+      let t : Tells setup (kept_policy_at setup places n) q (place_at h n) = found_at n q lt is in
       let few : length (children (place_at h n).effects) ≤ length (script_of q.admitted.work) = t.few in
       let script : length (script_of q.admitted.work) ≤ 32 = few_behaviours q.admitted.work t.right.script in
       omega (arith, ap length t.spawned)
@@ -198,7 +198,7 @@ module _ (setup : Setup) (policy : SecurityPolicy) (contents : List (List ℕ)) 
     next_ids =
         let r : IsRight setup a = coming.right in
         subst (KnowsAnswer setup) (sym judged.answer)
-        (answer_ids setup a.lost (fault_of_task policy a.subject (kept.task_of a)) (kept.task_of a) (deeds (kept.task_of a) (content_at contents))
+        (answer_ids setup a.lost (fault_of_task policy a.subject (kept.task_of a)) (kept.task_of a) (deeds (kept.task_of a) (content_listed contents))
         (task_ids setup policy a.subject r.subject a.work a.index r.ids))
 
     pub next_heard : heard_of setup (places ++ record { admitted = a; fault = j.fault; children = j.children } ∷ []) ≡ heard.with_entry h e
@@ -209,7 +209,7 @@ module _ (setup : Setup) (policy : SecurityPolicy) (contents : List (List ℕ)) 
     }
 
   -- what a judge asks for
-  pub next_known : (e : Entry) (a : Admitted) → Knows setup e → IsAdmitted places e a → HasScript a.work → IsKnown policy contents a
+  pub next_known : (e : Entry) (a : Admitted) → Knows setup e → IsAdmitted places e a → HasScript a.work → KnowsEntry policy contents a
   next_known e a knows is script =
       let n : IsNext setup places e a = next e a knows is script in
       record {

@@ -26,11 +26,11 @@ use Rattle.bl_monitor.specs.declared.place.Place.{Place}
 use Rattle.bl_monitor.specs.declared.judge.Judged.{Judged}
 use Rattle.bl_monitor.specs.Heard.{Heard, is_lost}
 use Rattle.bl_order.specs.Known.{AreBelow}
-use Rattle.bl_monitor.specs.Undoing.{content_at}
+use Rattle.bl_monitor.specs.Undoing.{content_listed}
 use Rattle.bl_monitor.specs.Judging.{HasBelow, Leaves, content_behind, record_of, IsJudged}
 use Rattle.bl_monitor.specs.Places as kept
 use Rattle.bl_monitor.specs.Places.{no_place, script_of, HasScript}
-use Rattle.bl_monitor.specs.Sound.{heard_of, pasts_of, policy_at, IsRight, Tells, IsSound}
+use Rattle.bl_monitor.specs.Sound.{heard_of, pasts_of, kept_policy_at, IsRight, Tells, IsSound}
 use Rattle.bl_monitor.proofs.Spawns.{Spawns, spawns, no_spawns}
 
 -- no task adds or drops a subject or a document
@@ -118,7 +118,7 @@ module _ (setup : Setup) (places : List Place) (p : Place) where
           ∙ get_or-append heard.lost (p.admitted.lost ∷ []) false k (omega (arith, length-mapped (λ (q : Place). q.admitted.lost) places))
 
   -- and so they find the same policy
-  pub policy_more : (n : ℕ) → n ≤ length places → policy_at setup more n ≡ policy_at setup places n
+  pub policy_more : (n : ℕ) → n ≤ length places → kept_policy_at setup more n ≡ kept_policy_at setup places n
   policy_more n le = ap (policy_of setup) (earlier_more n le)
 
   -- the new place stands behind them
@@ -159,7 +159,7 @@ first_sound setup policy contents agree ruled current = record {
   agree = agree;
   ruled = ruled;
   as_many = ap length current;
-  current = λ doc lt. ap (λ cs. content_at cs doc) current;
+  current = λ doc lt. ap (λ cs. content_listed cs doc) current;
   told = λ k lt. absurd (omega (arith, lt));
 }
 
@@ -180,7 +180,7 @@ same_deeds subjects count (work.Rule rule) index f g there same = refl
 pub same_past : (setup : Setup) (policy : SecurityPolicy) (contents : List (List ℕ)) (pasts : List Past) (a : Admitted) → IsRight setup a
     → policy ≡ policy_of setup pasts
     → length setup.policy.documents ≡ length contents
-    → ((doc : ℕ) → doc < length contents → content_at contents doc ≡ content_of setup pasts doc)
+    → ((doc : ℕ) → doc < length contents → content_listed contents doc ≡ content_of setup pasts doc)
     → subject_of pasts (kept.entry_of a) ≡ a.subject → task_of pasts (kept.entry_of a) ≡ kept.task_of a
     → past_of setup a.lost pasts (kept.entry_of a) ≡ record_of a.lost policy contents a.subject (kept.task_of a)
 same_past setup policy contents pasts a right ruled many same subject task =
@@ -188,7 +188,7 @@ same_past setup policy contents pasts a right ruled many same subject task =
     ∙ ap (λ s. judged a.lost (policy_of setup pasts) (deeds (kept.task_of a) (content_of setup pasts)) s (kept.task_of a)) subject
     ∙ ap (λ p. judged a.lost p (deeds (kept.task_of a) (content_of setup pasts)) a.subject (kept.task_of a)) (sym ruled)
     ∙ ap (λ es. judged a.lost policy es a.subject (kept.task_of a))
-    (same_deeds (length setup.policy.subjects) (length setup.policy.documents) a.work a.index (content_of setup pasts) (content_at contents) right.ids
+    (same_deeds (length setup.policy.subjects) (length setup.policy.documents) a.work a.index (content_of setup pasts) (content_listed contents) right.ids
     (λ doc lt. sym (same doc (omega arith))))
 
 -- what is done spawns behaviours of its script
@@ -240,8 +240,8 @@ module _ (setup : Setup) (policy : SecurityPolicy) (contents : List (List ℕ)) 
   here : Tells setup policy added_place added_past
   here =
       let s : Spawns (script_of a.work) added_past.effects =
-      record_spawns (is_done added_past.answer) (deeds (kept.task_of a) (content_at contents)) (script_of a.work)
-      (work_spawns (length setup.policy.subjects) (length setup.policy.documents) a.work a.index (content_at contents) right.script right.ids) in
+      record_spawns (is_done added_past.answer) (deeds (kept.task_of a) (content_listed contents)) (script_of a.work)
+      (work_spawns (length setup.policy.subjects) (length setup.policy.documents) a.work a.index (content_listed contents) right.script right.ids) in
       record {
         right = right;
         subject = refl;
@@ -273,15 +273,15 @@ module _ (setup : Setup) (policy : SecurityPolicy) (contents : List (List ℕ)) 
       count = length-pasts setup (is_lost (heard_of setup places)) (heard_of setup places).order (length places)
 
       go : (k : ℕ) → k < length (places ++ added_place ∷ []) → (((k == length (pasts_of setup places)) ≡ true) × (k ≡ length (pasts_of setup places))) ⊎ (((k == length (pasts_of setup places)) ≡ false) × (k ≡ length (pasts_of setup places) → ⊥))
-          → Tells setup (policy_at setup places k) (get_or (places ++ added_place ∷ []) k no_place) (at_place (pasts_of setup (places ++ added_place ∷ [])) k)
+          → Tells setup (kept_policy_at setup places k) (get_or (places ++ added_place ∷ []) k no_place) (at_place (pasts_of setup (places ++ added_place ∷ [])) k)
       go k lt (inl e) =
-          subst (λ h. Tells setup (policy_at setup places k) (get_or (places ++ added_place ∷ []) k no_place) (at_place h k)) (sym pasts_are)
-          (subst (λ b. Tells setup (policy_at setup places k) (get_or (places ++ added_place ∷ []) k no_place) (cond b added_past (at_place (pasts_of setup places) k))) (sym e.0)
-          (subst (λ n. Tells setup (policy_at setup places n) (get_or (places ++ added_place ∷ []) n no_place) added_past) (sym (e.1 ∙ count))
-          (subst (λ q. Tells setup (policy_at setup places (length places)) q added_past) (sym (last places added_place no_place))
+          subst (λ h. Tells setup (kept_policy_at setup places k) (get_or (places ++ added_place ∷ []) k no_place) (at_place h k)) (sym pasts_are)
+          (subst (λ b. Tells setup (kept_policy_at setup places k) (get_or (places ++ added_place ∷ []) k no_place) (cond b added_past (at_place (pasts_of setup places) k))) (sym e.0)
+          (subst (λ n. Tells setup (kept_policy_at setup places n) (get_or (places ++ added_place ∷ []) n no_place) added_past) (sym (e.1 ∙ count))
+          (subst (λ q. Tells setup (kept_policy_at setup places (length places)) q added_past) (sym (last places added_place no_place))
           (subst (λ p. Tells setup p added_place added_past) sound.ruled here))))
       go k lt (inr e) =
           let before : k < length places = omega (arith, e.1, count, length-append places (added_place ∷ [])) in
-          subst (λ h. Tells setup (policy_at setup places k) (get_or (places ++ added_place ∷ []) k no_place) (at_place h k)) (sym pasts_are)
-          (subst (λ b. Tells setup (policy_at setup places k) (get_or (places ++ added_place ∷ []) k no_place) (cond b added_past (at_place (pasts_of setup places) k))) (sym e.0)
-          (subst (λ q. Tells setup (policy_at setup places k) q (at_place (pasts_of setup places) k)) (sym (get_or-append places (added_place ∷ []) no_place k before)) (sound.told k before)))
+          subst (λ h. Tells setup (kept_policy_at setup places k) (get_or (places ++ added_place ∷ []) k no_place) (at_place h k)) (sym pasts_are)
+          (subst (λ b. Tells setup (kept_policy_at setup places k) (get_or (places ++ added_place ∷ []) k no_place) (cond b added_past (at_place (pasts_of setup places) k))) (sym e.0)
+          (subst (λ q. Tells setup (kept_policy_at setup places k) q (at_place (pasts_of setup places) k)) (sym (get_or-append places (added_place ∷ []) no_place k before)) (sound.told k before)))

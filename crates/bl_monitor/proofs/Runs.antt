@@ -13,7 +13,7 @@ use Rattle.bl_work.specs.Body.{statements_of, depth}
 use Rattle.bl_work.specs.declared.script.Stmt.{Stmt}
 use Rattle.bl_work.specs.declared.script.Stmt.TheVariants as stmt
 use Rattle.bl_monitor.specs.declared.run.Run.{Run}
-use Rattle.bl_monitor.specs.Undoing.{content_at}
+use Rattle.bl_monitor.specs.Undoing.{content_listed}
 use Rattle.bl_monitor.specs.Running.{StandsAfter, GoesOn, UsesBelow}
 
 after-append : (content : List ℕ) (xs ys : List Effect) (doc : ℕ) → after content (xs ++ ys) doc ≡ after (after content xs doc) ys doc
@@ -42,18 +42,18 @@ nothing_more [] = refl
 nothing_more (x ∷ xs) = ap (λ l. x ∷ l) (nothing_more xs)
 
 -- what the code reads at a document's place
-pub read_content : (contents : List (List ℕ)) (doc i : ℕ) (x : List ℕ) → x ≡ get_or contents i x → i ≡ doc → doc < length contents → x ≡ content_at contents doc
+pub read_content : (contents : List (List ℕ)) (doc i : ℕ) (x : List ℕ) → x ≡ get_or contents i x → i ≡ doc → doc < length contents → x ≡ content_listed contents doc
 read_content contents doc i x at same lt = at ∙ ap (λ k. get_or contents k x) same ∙ get_or_default contents doc x [] lt
 
 -- a content among others, once one of them is new
-put_at : (contents : List (List ℕ)) (doc other : ℕ) (text : List ℕ) → other < length contents → content_at (set contents doc text) other ≡ cond (doc == other) text (content_at contents other)
+put_at : (contents : List (List ℕ)) (doc other : ℕ) (text : List ℕ) → other < length contents → content_listed (set contents doc text) other ≡ cond (doc == other) text (content_listed contents other)
 put_at contents doc other text lt = go (eqb_tells doc other)
   where
-    go : (((doc == other) ≡ true) × (doc ≡ other)) ⊎ (((doc == other) ≡ false) × (doc ≡ other → ⊥)) → content_at (set contents doc text) other ≡ cond (doc == other) text (content_at contents other)
+    go : (((doc == other) ≡ true) × (doc ≡ other)) ⊎ (((doc == other) ≡ false) × (doc ≡ other → ⊥)) → content_listed (set contents doc text) other ≡ cond (doc == other) text (content_listed contents other)
     go (inl p) =
         ap (λ k. get_or (set contents k text) other []) p.1 ∙ get_or-set_same contents other text [] lt
-        ∙ ap (λ b. cond b text (content_at contents other)) (sym p.0)
-    go (inr p) = get_or-set_other contents doc other text [] (λ e. p.1 (sym e)) ∙ ap (λ b. cond b text (content_at contents other)) (sym p.0)
+        ∙ ap (λ b. cond b text (content_listed contents other)) (sym p.0)
+    go (inr p) = get_or-set_other contents doc other text [] (λ e. p.1 (sym e)) ∙ ap (λ b. cond b text (content_listed contents other)) (sym p.0)
 
 module _ (start : ℕ → List ℕ) (effects : List Effect) (before : List (List ℕ)) (old : Run) (stands : StandsAfter start effects before old) where
   -- a text is shown
@@ -66,10 +66,10 @@ module _ (start : ℕ → List ℕ) (effects : List Effect) (before : List (List
   }
 
   -- a document's content is shown
-  pub run_shown : (new : Run) (doc : ℕ) → doc < length before → new.shown.items ≡ old.shown.items ++ content_at before doc ∷ [] → new.spawned.items ≡ old.spawned.items
+  pub run_shown : (new : Run) (doc : ℕ) → doc < length before → new.shown.items ≡ old.shown.items ++ content_listed before doc ∷ [] → new.spawned.items ≡ old.spawned.items
       → StandsAfter start (effects ++ Out (after (start doc) effects doc) ∷ []) before new
   run_shown new doc lt shown spawned =
-      subst (λ t. StandsAfter start (effects ++ Out t ∷ []) before new) (stands.contents doc lt) (run_said new (content_at before doc) shown spawned)
+      subst (λ t. StandsAfter start (effects ++ Out t ∷ []) before new) (stands.contents doc lt) (run_said new (content_listed before doc) shown spawned)
 
   -- a behaviour is spawned
   pub run_spawned : (new : Run) (behaviour : ℕ) → new.shown.items ≡ old.shown.items → new.spawned.items ≡ old.spawned.items ++ behaviour ∷ []
@@ -85,7 +85,7 @@ module _ (start : ℕ → List ℕ) (effects : List Effect) (before : List (List
     pub run_put : (text : List ℕ) → now ≡ set before doc text → StandsAfter start (effects ++ Put doc text ∷ []) now new
     run_put text put = record {
       contents = λ other lt.
-          ap (λ c. content_at c other) put
+          ap (λ c. content_listed c other) put
           ∙ put_at before doc other text (omega (arith, ap length put, length-set before doc text))
           ∙ ap (λ t. cond (doc == other) text t) (stands.contents other (omega (arith, ap length put, length-set before doc text)))
           ∙ sym (after-append (start other) effects (Put doc text ∷ []) other);
@@ -94,16 +94,16 @@ module _ (start : ℕ → List ℕ) (effects : List Effect) (before : List (List
     }
 
     -- another document's content does
-    pub run_copied : (from : ℕ) → from < length before → now ≡ set before doc (content_at before from)
+    pub run_copied : (from : ℕ) → from < length before → now ≡ set before doc (content_listed before from)
         → StandsAfter start (effects ++ Put doc (after (start from) effects from) ∷ []) now new
-    run_copied from lt put = subst (λ t. StandsAfter start (effects ++ Put doc t ∷ []) now new) (stands.contents from lt) (run_put (content_at before from) put)
+    run_copied from lt put = subst (λ t. StandsAfter start (effects ++ Put doc t ∷ []) now new) (stands.contents from lt) (run_put (content_listed before from) put)
 
     -- a text is added to a document's content
-    pub run_added : (text : List ℕ) → now ≡ set before doc (added (content_at before doc) text) → StandsAfter start (effects ++ Add doc text ∷ []) now new
+    pub run_added : (text : List ℕ) → now ≡ set before doc (added (content_listed before doc) text) → StandsAfter start (effects ++ Add doc text ∷ []) now new
     run_added text put = record {
       contents = λ other lt.
-          let whole : List ℕ = added (content_at before doc) text in
-          ap (λ c. content_at c other) put
+          let whole : List ℕ = added (content_listed before doc) text in
+          ap (λ c. content_listed c other) put
           ∙ put_at before doc other whole (omega (arith, ap length put, length-set before doc whole))
           ∙ elsewhere other (eqb_tells doc other)
           ∙ ap (λ t. cond (doc == other) (added t text) t) (stands.contents other (omega (arith, ap length put, length-set before doc whole)))
@@ -113,20 +113,20 @@ module _ (start : ℕ → List ℕ) (effects : List Effect) (before : List (List
     }
       where
         elsewhere : (other : ℕ) → (((doc == other) ≡ true) × (doc ≡ other)) ⊎ (((doc == other) ≡ false) × (doc ≡ other → ⊥))
-            → cond (doc == other) (added (content_at before doc) text) (content_at before other)
-            ≡ cond (doc == other) (added (content_at before other) text) (content_at before other)
-        elsewhere other (inl p) = ap (λ d. cond (doc == other) (added (content_at before d) text) (content_at before other)) p.1
+            → cond (doc == other) (added (content_listed before doc) text) (content_listed before other)
+            ≡ cond (doc == other) (added (content_listed before other) text) (content_listed before other)
+        elsewhere other (inl p) = ap (λ d. cond (doc == other) (added (content_listed before d) text) (content_listed before other)) p.1
         elsewhere other (inr p) = rw p.0 refl
 
 -- what a document's content adds to another
-pub poured : (from to : ℕ) (text : List ℕ) (before now : List (List ℕ)) (old new : Run) → from < length before → text ≡ content_at before from
+pub poured : (from to : ℕ) (text : List ℕ) (before now : List (List ℕ)) (old new : Run) → from < length before → text ≡ content_listed before from
     → GoesOn (statement.Add to text statement.Nothing) before old now new → GoesOn (statement.Pour from to statement.Nothing) before old now new
 poured from to text before now old new lt is adds =
     λ start effects stands. subst (λ t. StandsAfter start (effects ++ Add to t ∷ []) now new) (is ∙ stands.contents from lt) (adds start effects stands)
 
 -- the branch that a condition chooses is what an `if` runs
 pub branched : (doc : ℕ) (asks : Condition) (text : List ℕ) (taken left_out : Statements) (b : Bool) (before now : List (List ℕ)) (old new : Run) → doc < length before
-    → b ≡ holds_of asks (content_at before doc) text → GoesOn (cond b taken left_out) before old now new
+    → b ≡ holds_of asks (content_listed before doc) text → GoesOn (cond b taken left_out) before old now new
     → GoesOn (statement.If doc asks text taken left_out statement.Nothing) before old now new
 branched doc asks text taken left_out b before now old new lt holds ran =
     λ start effects stands. subst (λ es. StandsAfter start es now new)

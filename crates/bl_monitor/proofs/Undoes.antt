@@ -8,7 +8,7 @@ use Rattle.bl_work.specs.Content.{most_bytes, added}
 use Rattle.bl_monitor.specs.declared.run.Run.{Run}
 use Rattle.bl_monitor.specs.declared.run.Undo.{Undo}
 use Rattle.bl_monitor.specs.declared.run.Undo.TheVariants.{Cut, Put}
-use Rattle.bl_monitor.specs.Undoing.{content_at, without, undone, IsOf}
+use Rattle.bl_monitor.specs.Undoing.{content_listed, without, undone, IsOf}
 use Rattle.bl_monitor.specs.Running.{LeadsBack}
 
 -- the last change goes first
@@ -54,8 +54,8 @@ set-set (c ∷ contents) zero x y = refl
 set-set (c ∷ contents) (suc doc) x y = ap (λ l. c ∷ l) (set-set contents doc x y)
 
 -- a content that is put back
-pub put_back : (before : List (List ℕ)) (doc : ℕ) (x : List ℕ) → without (Put doc (content_at before doc)) (set before doc x) ≡ before
-put_back before doc x = set-set before doc x (content_at before doc) ∙ set-get_or before doc []
+pub put_back : (before : List (List ℕ)) (doc : ℕ) (x : List ℕ) → without (Put doc (content_listed before doc)) (set before doc x) ≡ before
+put_back before doc x = set-set before doc x (content_listed before doc) ∙ set-get_or before doc []
 
 -- the front of what was added to
 take-added : (content text : List ℕ) → length content ≤ most_bytes → take (length content) (added content text) ≡ content
@@ -63,16 +63,16 @@ unfolding added
 take-added content text le = take-take (length content) most_bytes (content ++ text) le ∙ take-append_seam content text
 
 -- a content that is cut back
-pub cut_back : (before : List (List ℕ)) (doc : ℕ) (text : List ℕ) → doc < length before → length (content_at before doc) ≤ most_bytes
-    → without (Cut doc (length (content_at before doc))) (set before doc (added (content_at before doc) text)) ≡ before
+pub cut_back : (before : List (List ℕ)) (doc : ℕ) (text : List ℕ) → doc < length before → length (content_listed before doc) ≤ most_bytes
+    → without (Cut doc (length (content_listed before doc))) (set before doc (added (content_listed before doc) text)) ≡ before
 cut_back before doc text lt le =
-    let was : List ℕ = content_at before doc in
+    let was : List ℕ = content_listed before doc in
     ap (λ t. set (set before doc (added was text)) doc (take (length was) t)) (get_or-set_same before doc (added was text) [] lt)
     ∙ ap (set (set before doc (added was text)) doc) (take-added was text le)
     ∙ put_back before doc (added was text)
 
 length-without : (u : Undo) (contents : List (List ℕ)) → length (without u contents) ≡ length contents
-length-without (Cut doc len) contents = length-set contents doc (take len (content_at contents doc))
+length-without (Cut doc len) contents = length-set contents doc (take len (content_listed contents doc))
 length-without (Put doc content) contents = length-set contents doc content
 
 -- the last change is of a document that is there

@@ -74,12 +74,12 @@ abbrev pub spawned_by : Heard → ℕ → List ℕ
 spawned_by heard n = if nat_lt n (length heard.order) then children (place_at heard n).effects else []
 
 -- PolicyAt, of the place of an entry
-abbrev pub policy_at : Heard → ℕ → SecurityPolicy
-policy_at heard n = policy_before heard.setup (is_lost heard) heard.order n
+abbrev pub heard_policy_at : Heard → ℕ → SecurityPolicy
+heard_policy_at heard n = policy_before heard.setup (is_lost heard) heard.order n
 
 -- FirstFault of the accesses that an entry declares, at its place: a rule declares none, and has no fault of an access
 abbrev pub fault_of : Heard → ℕ → Option Denial
 fault_of heard n =
     if nat_lt n (length heard.order)
-    then first_fault (policy_at heard n) (place_at heard n).subject (accesses_of (place_at heard n).task)
+    then first_fault (heard_policy_at heard n) (place_at heard n).subject (accesses_of (place_at heard n).task)
     else None

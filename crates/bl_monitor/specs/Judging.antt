@@ -15,7 +15,7 @@ use Rattle.bl_order.specs.Order.{Task, accesses_of, is_altered}
 use Rattle.bl_order.specs.Past.{Past, judged, deeds, lent, is_done}
 use Rattle.bl_order.specs.Known.{AreBelow}
 use Rattle.bl_monitor.specs.Kept.{spawned_of}
-use Rattle.bl_monitor.specs.Undoing.{content_at}
+use Rattle.bl_monitor.specs.Undoing.{content_listed}
 use Rattle.bl_monitor.specs.declared.place.Admitted.{Admitted}
 use Rattle.bl_monitor.specs.declared.judge.Judged.{Judged}
 
@@ -25,7 +25,7 @@ HasBelow subjects documents (work.Behaviour script) index = AreBelow documents s
 HasBelow subjects documents (work.Rule rule) index = HasIdsBelow subjects documents rule
 
 -- the ids of an entry are there, and its script has the behaviour
-pub record IsKnown (policy : SecurityPolicy) (contents : List (List ℕ)) (admitted : Admitted) : Type 0 where
+pub record KnowsEntry (policy : SecurityPolicy) (contents : List (List ℕ)) (admitted : Admitted) : Type 0 where
   pub subject : admitted.subject < length policy.subjects
   pub ids : HasBelow (length policy.subjects) (length policy.documents) admitted.work admitted.index
   pub as_many : length policy.documents ≡ length contents
@@ -33,16 +33,16 @@ pub record IsKnown (policy : SecurityPolicy) (contents : List (List ℕ)) (admit
 -- there are as many contents as before, and each document has the one that is said
 pub record Leaves (contents : List (List ℕ)) (after_it : ℕ → List ℕ) (now : List (List ℕ)) : Type 0 where
   pub as_many : length now ≡ length contents
-  pub left : (doc : ℕ) → doc < length contents → content_at now doc ≡ after_it doc
+  pub left : (doc : ℕ) → doc < length contents → content_listed now doc ≡ after_it doc
 
 -- what a behaviour does on these contents
 abbrev pub effects_on : List (List ℕ) → Part → List Effect
-effects_on contents part = effects_of (lent part.accesses (content_at contents)) part.body
+effects_on contents part = effects_of (lent part.accesses (content_listed contents)) part.body
 
 -- the content of a document once the behaviour ran on these contents
 abbrev pub left_by : List (List ℕ) → Part → ℕ → List ℕ
 left_by contents part doc =
-    if is_altered part.accesses doc then after (content_at contents doc) (effects_on contents part) doc else content_at contents doc
+    if is_altered part.accesses doc then after (content_listed contents doc) (effects_on contents part) doc else content_listed contents doc
 
 -- the behaviour ran on these contents
 pub record IsDone (contents : List (List ℕ)) (part : Part) (j : Judged) : Type 0 where
@@ -59,7 +59,7 @@ pub record IsIdle (given : Answer) (found : Option Denial) (j : Judged) : Type 0
 
 -- the record of a task, by whether it is lost, the policy, the contents and who speaks
 abbrev pub record_of : Bool → SecurityPolicy → List (List ℕ) → ℕ → Task → Past
-record_of lost policy contents subject task = judged lost policy (deeds task (content_at contents)) subject task
+record_of lost policy contents subject task = judged lost policy (deeds task (content_listed contents)) subject task
 
 -- What comes of a task is what its record says. Own choice: of a rule no fault is kept, since it declares no access.
 pub record IsJudged (lost : Bool) (policy : SecurityPolicy) (contents : List (List ℕ)) (subject : ℕ) (task : Task) (j : Judged) : Type 0 where
@@ -72,5 +72,5 @@ pub record IsJudged (lost : Bool) (policy : SecurityPolicy) (contents : List (Li
 abbrev pub content_behind : List (List ℕ) → Past → ℕ → List ℕ
 content_behind contents past doc =
     if is_done past.answer && is_altered (accesses_of past.task) doc
-    then after (content_at contents doc) past.effects doc
-    else content_at contents doc
+    then after (content_listed contents doc) past.effects doc
+    else content_listed contents doc

@@ -2,7 +2,7 @@
 use Rattle.std.specs.Prelude.{◌≡◌, ℕ, ◌<◌, List, length, All}
 use Rattle.bl_work.specs.Effects.{Effect, after, outputs, children, effects_from}
 use Rattle.bl_work.specs.Statements.{Statements, Nothing, Show, Say, Add, Set, Copy, Pour, If, Spawn}
-use Rattle.bl_monitor.specs.Undoing.{content_at, undone, IsOf}
+use Rattle.bl_monitor.specs.Undoing.{content_listed, undone, IsOf}
 use Rattle.bl_monitor.specs.declared.run.Run.{Run}
 
 -- each document that the statements use is below this count
@@ -21,7 +21,7 @@ UsesBelow count (Spawn behaviour rest) = UsesBelow count rest
 -- the contents, the texts that were shown and the behaviours that were spawned are what these effects make of the contents at
 -- the start
 pub record StandsAfter (start : ℕ → List ℕ) (effects : List Effect) (now : List (List ℕ)) (run : Run) : Type 0 where
-  pub contents : (doc : ℕ) → doc < length now → content_at now doc ≡ after (start doc) effects doc
+  pub contents : (doc : ℕ) → doc < length now → content_listed now doc ≡ after (start doc) effects doc
   pub shown : run.shown.items ≡ outputs effects
   pub spawned : run.spawned.items ≡ children effects
 

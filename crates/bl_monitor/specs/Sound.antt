@@ -9,7 +9,7 @@ use Rattle.bl_order.specs.Order.{accesses_of}
 use Rattle.bl_order.specs.Past.{Past, earlier, at_place, policy_before, policy_of, content_of, is_done}
 use Rattle.bl_monitor.specs.Heard.{Heard, is_lost}
 use Rattle.bl_monitor.specs.Judging.{HasBelow}
-use Rattle.bl_monitor.specs.Undoing.{content_at}
+use Rattle.bl_monitor.specs.Undoing.{content_listed}
 use Rattle.bl_monitor.specs.Kept.{spawned_of}
 use Rattle.bl_monitor.specs.Places.{no_place, script_of, HasScript, entry_of, task_of, HasChild}
 use Rattle.bl_monitor.specs.declared.monitor.Entry.{Entry}
@@ -31,8 +31,8 @@ abbrev pub pasts_of : Setup → List Place → List Past
 pasts_of setup places = earlier setup (is_lost (heard_of setup places)) (heard_of setup places).order (length places)
 
 -- the policy at one of the kept places
-abbrev pub policy_at : Setup → List Place → ℕ → SecurityPolicy
-policy_at setup places n = policy_before setup (is_lost (heard_of setup places)) (heard_of setup places).order n
+abbrev pub kept_policy_at : Setup → List Place → ℕ → SecurityPolicy
+kept_policy_at setup places n = policy_before setup (is_lost (heard_of setup places)) (heard_of setup places).order n
 
 -- an entry's ids are in the setup, and its behaviour is one of its script
 pub record IsRight (setup : Setup) (admitted : Admitted) : Type 0 where
@@ -56,8 +56,8 @@ pub record IsSound (setup : Setup) (policy : SecurityPolicy) (contents : List (L
   pub agree : Agree setup
   pub ruled : policy ≡ policy_of setup (pasts_of setup places)
   pub as_many : length contents ≡ length setup.contents
-  pub current : (doc : ℕ) → doc < length contents → content_at contents doc ≡ content_of setup (pasts_of setup places) doc
-  pub told : (k : ℕ) → k < length places → Tells setup (policy_at setup places k) (slice_index_or places k no_place) (at_place (pasts_of setup places) k)
+  pub current : (doc : ℕ) → doc < length contents → content_listed contents doc ≡ content_of setup (pasts_of setup places) doc
+  pub told : (k : ℕ) → k < length places → Tells setup (kept_policy_at setup places k) (slice_index_or places k no_place) (at_place (pasts_of setup places) k)
 
 -- an entry may come behind these places
 abbrev pub CanCome : List Place → Entry → Type 0

@@ -4,12 +4,12 @@ use Rattle.bl_monitor.specs.declared.run.Undo.{Undo}
 use Rattle.bl_monitor.specs.declared.run.Undo.TheVariants.{Cut, Put}
 
 -- a list as a content of each document
-abbrev pub content_at : List (List ℕ) → ℕ → List ℕ
-content_at contents doc = slice_index_or contents doc []
+abbrev pub content_listed : List (List ℕ) → ℕ → List ℕ
+content_listed contents doc = slice_index_or contents doc []
 
 -- the contents without one change
 abbrev pub without : Undo → List (List ℕ) → List (List ℕ)
-without (Cut doc len) contents = slice_set contents doc (take len (content_at contents doc))
+without (Cut doc len) contents = slice_set contents doc (take len (content_listed contents doc))
 without (Put doc content) contents = slice_set contents doc content
 
 -- the contents without the changes, of which the last is undone first

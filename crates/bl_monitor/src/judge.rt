@@ -5,7 +5,7 @@ ghost use Rattle.bl_work.specs.Statements.{no_part};
 ghost use Rattle.bl_order.specs.Order.{Runs, Applies};
 ghost use Rattle.bl_order.specs.Past.{changed};
 ghost use Rattle.bl_order.specs.Known.{AreBelow};
-ghost use Rattle.bl_monitor.specs.Judging.{IsKnown, IsJudged, IsDone, IsIdle, Leaves, left_by, content_behind, record_of};
+ghost use Rattle.bl_monitor.specs.Judging.{KnowsEntry, IsJudged, IsDone, IsIdle, Leaves, left_by, content_behind, record_of};
 ghost use Rattle.bl_monitor.specs.Places.{task_of};
 
 use crate::place::Admitted;
@@ -120,7 +120,7 @@ pub(crate) fn judge(
     contents: &mut [Document],
     admitted: &Admitted,
 ) -> Result<Judged, AllocError>
-    requires { IsKnown policy.old contents.old admitted.now }
+    requires { KnowsEntry policy.old contents.old admitted.now }
     ensures judged { IfOk result (IsJudged admitted.now.lost policy.old contents.old admitted.now.subject (task_of admitted.now)) }
     ensures policy { IfOk result (λ judged. policy.new ≡ changed judged.answer (task_of admitted.now) admitted.now.subject policy.old) }
     ensures left { OnOk result (Leaves contents.old (content_behind contents.old (record_of admitted.now.lost policy.old contents.old admitted.now.subject (task_of admitted.now))) contents.new) }

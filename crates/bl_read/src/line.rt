@@ -9,7 +9,7 @@ ghost use Rattle.bl_work.specs.Grammar.{when, rule as spelled_rule, spell};
 ghost use Rattle.bl_syntax.specs.RawBodies.{raw_access};
 ghost use Rattle.bl_syntax.specs.RawRules.{raw_rule};
 ghost use Rattle.bl_syntax.specs.RawView.{raw_view};
-ghost use Rattle.bl_work.specs.SpelledTexts.{HasContents};
+ghost use Rattle.bl_work.specs.SpelledTexts.{HasSpelledContents};
 ghost use Rattle.bl_work.specs.LineGrammar.{Means, LineOf, most_line_bytes};
 ghost use Rattle.bl_read.specs.LineFaults.{IsFaultOrMemory, IsLineFault, IsWantOfMemory};
 
@@ -50,7 +50,7 @@ pub fn read_line(alloc: Global, names: &Names, bytes: &[u8]) -> Result<Line, Lin
 /// What a line as it was read asks.
 fn asked(alloc: Global, names: &Names, raw: RawLine<'_>) -> Result<Line, LineFault>
     requires proper { AreProper (spell (raw_view raw)) }
-    requires texts { HasContents (raw_view raw) }
+    requires texts { HasSpelledContents (raw_view raw) }
     ensures found { IfOk result (Means names.now (raw_view raw.entry)) }
     ensures fault { IfErr result (IsFaultOrMemory names.now (raw_view raw.entry)) }
 {
@@ -84,7 +84,7 @@ fn behaviour<'a>(
     body: &RawBody<'a>,
 ) -> Result<Line, LineFault>
     requires proper { AreProper (spell (when (raw_access first) (map raw_access more.now) body.now)) }
-    requires texts { HasContents (when (raw_access first) (map raw_access more.now) body.now) }
+    requires texts { HasSpelledContents (when (raw_access first) (map raw_access more.now) body.now) }
     ensures found { IfOk result (Means names.now (when (raw_access first.entry) (map raw_access more.now) body.now)) }
     ensures fault { IfErr result (IsFaultOrMemory names.now (when (raw_access first.entry) (map raw_access more.now) body.now)) }
 {

@@ -12,7 +12,7 @@ use Rattle.bl_order.specs.Known.{KnowsWork}
 use Rattle.bl_wire.specs.declared.label.Origin.TheVariants as origin
 use Rattle.bl_wire.specs.declared.label.Entered.{Entered}
 use Rattle.bl_session.specs.declared.entries.Pages.{Pages}
-use Rattle.bl_session.specs.Told.{Told, Opens, Admits, SameUpTo}
+use Rattle.bl_session.specs.Requests.{Request, Opens, Admits, SameUpTo}
 use Rattle.bl_session.specs.One.{events_of}
 use Rattle.bl_session.specs.Orders.{told_text, AreLater, Mirrors}
 use Rattle.bl_session.specs.Entries.{entry_from, entry_of, order_of, is_line, KnowsOrigin, Each, AreLabelled, AreAnswered}
@@ -94,7 +94,7 @@ module _ (setup : Setup) (limit : ℕ) (s : Pages) (n : ℕ) (w : IsWhole setup 
         subst (λ (e : Entered). e.ordinal ≤ n) (sym (ap (λ l. slice_index_or l p d) is ∙ get_or-append old (new ∷ []) d p there)) (w.before p d lt);
   }
 
-  pub asked_came : (weight : ℕ) → s.subject ≡ Some subject → s.weight + weight_of work ≤ limit → (told : List Told) → Came setup limit s told
+  pub asked_came : (weight : ℕ) → s.subject ≡ Some subject → s.weight + weight_of work ≤ limit → (told : List Request) → Came setup limit s told
       → Came setup limit (record s { entries = es; weight = weight; last = ordinal }) (told ++ Admits ordinal work ∷ [])
   asked_came weight speaks fits told came =
       let x : State = state_after (start setup limit) (events_of (start setup limit) told) in
@@ -118,7 +118,7 @@ module _ (setup : Setup) (limit : ℕ) (s : Pages) (n : ℕ) (w : IsWhole setup 
       )
 
 -- a line for which there is no room
-pub refused_came : (setup : Setup) (limit : ℕ) (s : Pages) (n : ℕ) → IsWhole setup limit s n → (ordinal : ℕ) (work : Work) → limit < s.weight + weight_of work → (told : List Told) → Came setup limit s told
+pub refused_came : (setup : Setup) (limit : ℕ) (s : Pages) (n : ℕ) → IsWhole setup limit s n → (ordinal : ℕ) (work : Work) → limit < s.weight + weight_of work → (told : List Request) → Came setup limit s told
     → Came setup limit s (told ++ Admits ordinal work ∷ [])
 refused_came setup limit s n w ordinal work over told came =
     let x : State = state_after (start setup limit) (events_of (start setup limit) told) in

@@ -5,7 +5,7 @@ use Rattle.std.specs.Io.KnownBytes.{Consumes}
 use Rattle.std.proofs.KnownBytes.{Consumes-trans, Consumes-nil}
 use Rattle.bl_work.specs.Names.{KnownNames}
 use Rattle.bl_wire.specs.Lines.{lines_of, AreLines, HasNoLf}
-use Rattle.bl_wire.specs.Holds.{Holds}
+use Rattle.bl_wire.specs.HoldsLine.{HoldsLine}
 use Rattle.bl_wire.specs.Reads.{TookLine, BrokeOff, ended, IsReadingFault}
 use Rattle.bl_wire.specs.declared.held.Held.{Held}
 use Rattle.bl_wire.specs.declared.lines.Next.{Next}
@@ -127,7 +127,7 @@ module _ (names : KnownNames) (start r r' : Option (List ℕ)) (was left : ℕ) 
       by_case End took some = absurd (some refl)
 
   pub cutting_line : (held : Held) (next : Next) (b : Bool) → b ≡ goes_on next → (next ≡ End → ⊥) → TookLine next r r' held was left
-      → (t : Turn) → ((line : List ℕ) → Holds held line → IsTurn names line t) → Cutting b names start r' left (turns ++ t ∷ [])
+      → (t : Turn) → ((line : List ℕ) → HoldsLine held line → IsTurn names line t) → Cutting b names start r' left (turns ++ t ∷ [])
   cutting_line held next b is some took t tells = record {
     bytes = so_far.bytes ++ ended next took.line;
     lines = so_far.lines ++ took.line ∷ [];

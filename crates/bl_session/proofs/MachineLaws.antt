@@ -7,7 +7,7 @@ use Rattle.bl_order.specs.Order.{Entry, Line}
 use Rattle.bl_order.specs.Machine.{State, Event, change, state_after, start, child_entries, entry_weight, weight_of}
 use Rattle.bl_order.specs.Machine as machine
 use Rattle.bl_wire.specs.declared.turn.Turn.{Turn}
-use Rattle.bl_session.specs.Told.{Told, Opens, Admits, Settles, SameUpTo, told_by}
+use Rattle.bl_session.specs.Requests.{Request, Opens, Admits, Settles, SameUpTo, told_by}
 use Rattle.bl_wire.specs.Replies.{line_text}
 use Rattle.bl_session.specs.One.{place_events, run_from, fits, events_of, one_state}
 use Rattle.bl_session.specs.Orders.{said, told_text, AreLater, Mirrors}
@@ -111,7 +111,7 @@ module _ (setup : Setup) (limit : ℕ) where
       subst (Mirrors setup limit subject A e) (ap (λ b. state_after x (cond b (machine.Admits 0 k w ∷ []) [])) (sym fit)) g
 
   -- what was told and then this
-  pub came_more : (subject : Option ℕ) (B : List Entry) (t : ℕ) (told more : List Told)
+  pub came_more : (subject : Option ℕ) (B : List Entry) (t : ℕ) (told more : List Request)
       → Mirrors setup limit subject B t (state_after (state_after (start setup limit) (events_of (start setup limit) told)) (events_of (state_after (start setup limit) (events_of (start setup limit) told)) more))
       → Mirrors setup limit subject B t (state_after (start setup limit) (events_of (start setup limit) (told ++ more)))
   came_more subject B t told more g = subst (Mirrors setup limit subject B t) (sym (told_append told more (start setup limit))) g
@@ -123,7 +123,7 @@ module _ (setup : Setup) (limit : ℕ) where
   one_whole subject order ended turns g k = sym (mirror_text setup limit subject order ended (one_state setup limit turns) g k)
 
   -- the transcript where the last blocks are still to be settled
-  pub one_part : (subject : Option ℕ) (order : List Entry) (ended n times : ℕ) (told : List Told) (heard : List Turn)
+  pub one_part : (subject : Option ℕ) (order : List Entry) (ended n times : ℕ) (told : List Request) (heard : List Turn)
       → Mirrors setup limit subject order ended (state_after (start setup limit) (events_of (start setup limit) told)) → AreLater ended order n
       → told_by heard ≡ told ++ replicate times Settles
       → SameUpTo n (told_text setup order) (line_text (one_state setup limit heard) 0)

@@ -9,7 +9,7 @@ use Rattle.bl_order.specs.Order.{Entry, Line, Child}
 use Rattle.bl_order.specs.Past.{Past, place, no_entry}
 use Rattle.bl_order.specs.Machine.{State, is_lost, past_at, child_entries}
 use Rattle.bl_order.proofs.Places.{place-grown}
-use Rattle.bl_session.specs.Told.{SameUpTo}
+use Rattle.bl_session.specs.Requests.{SameUpTo}
 use Rattle.bl_wire.specs.Replies.{Tag, Reply, tag, tag_of, tag_at, tags_to, is_of, put_in, replies_to, line_or_full, line_text}
 use Rattle.bl_session.specs.Orders.{said, reply_at, at_rest, told_text, ordinal_of, AreLater}
 

@@ -9,7 +9,7 @@ use Rattle.bl_order.specs.Order.{Entry, Line}
 use Rattle.bl_order.specs.Past.{Past, is_done, earlier, no_entry, deeds, task_of, content_of}
 use Rattle.bl_order.specs.Machine.{State, Event, Session, Phase, Waiting, Running, Ended, Gone, is_gone, is_over, is_running, is_lost, past_at, phase_at, change, state_after, start, children_at, child_entries, runs, has_ended, with_phase}
 use Rattle.bl_order.specs.Machine as machine
-use Rattle.bl_session.specs.Told.{Told, Opens, Admits, Settles, SameUpTo}
+use Rattle.bl_session.specs.Requests.{Request, Opens, Admits, Settles, SameUpTo}
 use Rattle.bl_wire.specs.Replies.{line_text}
 use Rattle.bl_session.specs.One.{place_events, run_from, settling, fits, events_of}
 use Rattle.bl_session.specs.Orders.{said, told_text, AreLater, IsSession, Mirrors}
@@ -299,7 +299,7 @@ run-none x (suc most) =
 -- ---- what is told
 
 -- what is told in two parts
-pub told_append : (told more : List Told) (x : State)
+pub told_append : (told more : List Request) (x : State)
     → state_after x (events_of x (told ++ more)) ≡ state_after (state_after x (events_of x told)) (events_of (state_after x (events_of x told)) more)
 told_append [] more x = refl
 told_append (Opens subject ∷ told) more x = told_append told more (change x (machine.Opens subject))

@@ -21,7 +21,7 @@ use Rattle.bl_wire.specs.declared.turn.Turn.TheVariants.{Skip, Wait, Greets, Bad
 use Rattle.bl_wire.specs.declared.fault.SessionFault.{SessionFault}
 use Rattle.bl_wire.specs.declared.fault.SessionFault.TheVariants.{Memory}
 use Rattle.bl_wire.specs.Turns.{AreServed}
-use Rattle.bl_session.specs.Told.{SameUpTo}
+use Rattle.bl_session.specs.Requests.{SameUpTo}
 use Rattle.bl_wire.specs.Texts.{session_text}
 use Rattle.bl_session.specs.Stages.{Finished, Stopped}
 use Rattle.bl_session.specs.Outcome.{IsServed, IsCutShort}

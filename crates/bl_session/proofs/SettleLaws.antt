@@ -15,7 +15,7 @@ use Rattle.bl_wire.specs.declared.label.Origin.{Origin}
 use Rattle.bl_wire.specs.declared.label.Origin.TheVariants as origin
 use Rattle.bl_wire.specs.declared.label.Entered.{Entered}
 use Rattle.bl_session.specs.declared.entries.Pages.{Pages}
-use Rattle.bl_session.specs.Told.{Told, Settles}
+use Rattle.bl_session.specs.Requests.{Request, Settles}
 use Rattle.bl_session.specs.One.{run_from, events_of}
 use Rattle.bl_session.specs.Orders.{AreLater, Mirrors, ordinal_of}
 use Rattle.bl_session.specs.Entries.{entry_from, entry_of, order_of, is_line, Each, StandsBelow, AreLabelled, AreAnswered}
@@ -155,7 +155,7 @@ module _ (setup : Setup) (limit : ℕ) (s : Pages) (n : ℕ) (w : IsWhole setup 
           absurd (omega (arith, first, second, b.same d))
 
 -- what was told, and then to settle
-pub settled_came : (setup : Setup) (limit : ℕ) (subject : Option ℕ) (A B : List Entry) (e t : ℕ) → HasRun setup limit A e B t → t ≡ length B → e ≤ limit → (told : List Told)
+pub settled_came : (setup : Setup) (limit : ℕ) (subject : Option ℕ) (A B : List Entry) (e t : ℕ) → HasRun setup limit A e B t → t ≡ length B → e ≤ limit → (told : List Request)
     → Mirrors setup limit subject A e (state_after (start setup limit) (events_of (start setup limit) told))
     → Mirrors setup limit subject B t (state_after (start setup limit) (events_of (start setup limit) (told ++ Settles ∷ [])))
 settled_came setup limit subject A B e t run all le told came =

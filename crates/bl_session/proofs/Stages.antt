@@ -10,7 +10,7 @@ use Rattle.bl_wire.specs.declared.turn.Turn.{Turn}
 use Rattle.bl_wire.specs.declared.turn.Turn.TheVariants.{Skip, Wait, Greets, Bad, Ask}
 use Rattle.bl_wire.specs.declared.turn.Pending.{Pending}
 use Rattle.bl_wire.specs.Turns.{AreSkips, IsOpening, IsRefusal, StopsAtRefusal, is_skip, greeted}
-use Rattle.bl_session.specs.Told.{Told, Opens, Settles, told_of, told_by, SameUpTo}
+use Rattle.bl_session.specs.Requests.{Request, Opens, Settles, told_of, told_by, SameUpTo}
 use Rattle.bl_wire.specs.Texts.{text_of, session_text, ok_line, bye_line, refused_hello}
 use Rattle.bl_session.specs.Spoken.{Begins, LacksTheLast, AreSaid, BlockFailed, IsOwnFault, TakesTurn, FailsTurn, block_text}
 use Rattle.bl_session.specs.Stages.{Cutting, Unheard, Stage, Finished, Broken, Stopped, IsCause, AreWhole, IsDuePart, IsPutAt}
@@ -189,7 +189,7 @@ begins-append a b c begins = (begins.0 ++ c, ap (λ l. l ++ c) begins.1 ∙ appe
 heard_opened : (head heard turns : List Turn) → LacksTheLast heard turns → LacksTheLast (head ++ heard) (head ++ turns)
 heard_opened head heard turns lacks = (lacks.0, lacks.1, ap (λ l. head ++ l) lacks.2 ∙ sym (append_assoc head heard lacks.0))
 
-module _ (names : KnownNames) (start r first w : Option (List ℕ)) (f : ℕ → List ℕ) (Settled : ℕ → Type 0) (Came : List Told → Type 0) (after : ℕ) (pending : List Pending) where
+module _ (names : KnownNames) (start r first w : Option (List ℕ)) (f : ℕ → List ℕ) (Settled : ℕ → Type 0) (Came : List Request → Type 0) (after : ℕ) (pending : List Pending) where
   module _ (again : Bool) (left : ℕ) (st : Stage again names start r first w left f Settled Came after pending) where
     -- the text of the open block is due
     due : (later : ℕ → List ℕ) → SameUpTo after f later → Begins (ok_line ++ st.written) (session_text later (st.head ++ st.turns))
@@ -222,7 +222,7 @@ module _ (names : KnownNames) (start r first w : Option (List ℕ)) (f : ℕ →
           (blocks_of later st.subject st.head st.turns st.written st.opened (said f later Settled Came st.subject after pending st.turns st.written st.spoken kept));
     }
 
-    module _ (r' w' : Option (List ℕ)) (left' : ℕ) (t : Turn) (next : Bool) (g : ℕ → List ℕ) (Settled' : ℕ → Type 0) (Came' : List Told → Type 0)
+    module _ (r' w' : Option (List ℕ)) (left' : ℕ) (t : Turn) (next : Bool) (g : ℕ → List ℕ) (Settled' : ℕ → Type 0) (Came' : List Request → Type 0)
         (read : Cutting next names start r' left' ((st.head ++ st.turns) ++ t ∷ [])) where
       read_on : Cutting next names start r' left' (st.head ++ (st.turns ++ t ∷ []))
       read_on = subst (Cutting next names start r' left') (append_assoc st.head st.turns (t ∷ [])) read
@@ -280,9 +280,9 @@ module _ (names : KnownNames) (start r first w : Option (List ℕ)) (f : ℕ →
                 )));
           }
 
-  module _ (left : ℕ) (st : Stage false names start r first w left f Settled Came after pending) (w' : Option (List ℕ)) (g : ℕ → List ℕ) (Settled' : ℕ → Type 0) (Came' : List Told → Type 0) (same : SameUpTo after f g) where
+  module _ (left : ℕ) (st : Stage false names start r first w left f Settled Came after pending) (w' : Option (List ℕ)) (g : ℕ → List ℕ) (Settled' : ℕ → Type 0) (Came' : List Request → Type 0) (same : SameUpTo after f g) where
     -- the last block is written
-    pub stage_done : Appends w w' (block_text g after pending ++ bye_line) → ((told : List Told) → Came told → Came' (told ++ Settles ∷ []))
+    pub stage_done : Appends w w' (block_text g after pending ++ bye_line) → ((told : List Request) → Came told → Came' (told ++ Settles ∷ []))
         → (ordinal : ℕ) → Settled' ordinal → Finished names start r first w' g Settled' Came'
     stage_done put came ordinal settled =
         let turns = st.head ++ st.turns in
@@ -308,7 +308,7 @@ module _ (names : KnownNames) (start r first w : Option (List ℕ)) (f : ℕ →
     -- part of the last block is written
     pub stage_failed : (fault : SessionFault) (read_failed write_failed : Bool) → read_failed ≡ false → IsOwnFault write_failed fault → (ordinal : ℕ) → ordinal ≡ after + length pending → Settled' after
         → BlockFailed fault Settled' w w' ordinal (block_text g after pending ++ bye_line)
-        → ((told : List Told) → Came told → Came' told ⊎ Came' (told ++ Settles ∷ []))
+        → ((told : List Request) → Came told → Came' told ⊎ Came' (told ++ Settles ∷ []))
         → Stopped fault names start r first w' read_failed write_failed g Settled' Came'
     stage_failed fault read_failed write_failed fine own ordinal count settled failed came =
         elim (came (Opens st.subject ∷ told_of 0 st.turns) st.spoken.came) [
@@ -320,7 +320,7 @@ module _ (names : KnownNames) (start r first w : Option (List ℕ)) (f : ℕ →
         turns : List Turn
         turns = st.head ++ st.turns
 
-        made : (told : List Told) → Came' told → (settles : ℕ) → told_by (st.head ++ st.turns) ≡ told ++ replicate settles Settles → Stopped fault names start r first w' read_failed write_failed g Settled' Came'
+        made : (told : List Request) → Came' told → (settles : ℕ) → told_by (st.head ++ st.turns) ≡ told ++ replicate settles Settles → Stopped fault names start r first w' read_failed write_failed g Settled' Came'
         made told came settles is =
             let part = block_part f g Settled Settled' Came st.subject after pending st.turns st.written st.spoken same fault bye_line w w' ordinal count settled failed in
             let text = take failed.much (block_text g after pending ++ bye_line) in
@@ -348,12 +348,12 @@ module _ (names : KnownNames) (start r first w : Option (List ℕ)) (f : ℕ →
             }
 
 -- all lines were read
-pub stage_end : (b : Bool) (names : KnownNames) (start r first w : Option (List ℕ)) (left : ℕ) (f : ℕ → List ℕ) (Settled : ℕ → Type 0) (Came : List Told → Type 0) (after : ℕ) (pending : List Pending)
+pub stage_end : (b : Bool) (names : KnownNames) (start r first w : Option (List ℕ)) (left : ℕ) (f : ℕ → List ℕ) (Settled : ℕ → Type 0) (Came : List Request → Type 0) (after : ℕ) (pending : List Pending)
     → b ≡ false → Stage b names start r first w left f Settled Came after pending → Stage false names start r first w left f Settled Came after pending
 stage_end b names start r first w left f Settled Came after pending is st = subst (λ x. Stage x names start r first w left f Settled Came after pending) is st
 
 -- Before the session is open.
-module _ (names : KnownNames) (start r first : Option (List ℕ)) (Settled : ℕ → Type 0) (f : ℕ → List ℕ) (Came : List Told → Type 0) (settled : Settled 0) (came : Came []) where
+module _ (names : KnownNames) (start r first : Option (List ℕ)) (Settled : ℕ → Type 0) (f : ℕ → List ℕ) (Came : List Request → Type 0) (settled : Settled 0) (came : Came []) where
   -- nothing was heard, and reading failed
   pub stopped_unheard : (fault : SessionFault) (read_failed write_failed : Bool) → (turns : List Turn) × AreSkips turns × Broken fault names start r read_failed write_failed turns
       → Stopped fault names start r first first read_failed write_failed f Settled Came
@@ -435,7 +435,7 @@ module _ (again : Bool) (names : KnownNames) (start r first : Option (List ℕ))
   opens = opens_after subject skips t quiet greets
 
   -- the session is open
-  pub stage_start : (w : Option (List ℕ)) (f : ℕ → List ℕ) (Settled : ℕ → Type 0) (Came : List Told → Type 0) → Appends first w ok_line → Settled 0 → Came (Opens subject ∷ [])
+  pub stage_start : (w : Option (List ℕ)) (f : ℕ → List ℕ) (Settled : ℕ → Type 0) (Came : List Request → Type 0) → Appends first w ok_line → Settled 0 → Came (Opens subject ∷ [])
       → Stage again names start r first w left f Settled Came 0 []
   stage_start w f Settled Came put settled came = record {
     subject = subject;
@@ -464,7 +464,7 @@ module _ (again : Bool) (names : KnownNames) (start r first : Option (List ℕ))
   })
 
   -- the session couldn't be opened, or its first reply couldn't be written
-  pub stopped_greeting : (w : Option (List ℕ)) (f : ℕ → List ℕ) (Settled : ℕ → Type 0) (Came : List Told → Type 0) → (fault : SessionFault) (read_failed write_failed : Bool) → read_failed ≡ false → IsOwnFault write_failed fault
+  pub stopped_greeting : (w : Option (List ℕ)) (f : ℕ → List ℕ) (Settled : ℕ → Type 0) (Came : List Request → Type 0) → (fault : SessionFault) (read_failed write_failed : Bool) → read_failed ≡ false → IsOwnFault write_failed fault
       → Settled 0 → (Came [] × Appends first w []) ⊎ ((fault ≡ Write) × Came (Opens subject ∷ []) × ((much : ℕ) × Appends first w (take much ok_line)))
       → Stopped fault names start r first w read_failed write_failed f Settled Came
   stopped_greeting w f Settled Came fault read_failed write_failed fine own settled (inl before) = record {

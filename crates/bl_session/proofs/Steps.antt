@@ -8,7 +8,7 @@ use Rattle.bl_wire.specs.declared.fault.SessionFault.TheVariants.{Memory}
 use Rattle.bl_wire.specs.declared.turn.Turn.{Turn}
 use Rattle.bl_wire.specs.declared.turn.Turn.TheVariants.{Wait, Ask}
 use Rattle.bl_wire.specs.declared.turn.Pending.{Pending}
-use Rattle.bl_session.specs.Told.{Told, Opens, Admits, Settles, told_of, SameUpTo}
+use Rattle.bl_session.specs.Requests.{Request, Opens, Admits, Settles, told_of, SameUpTo}
 use Rattle.bl_wire.specs.Texts.{text_of, ordinal_after, ok_line}
 use Rattle.bl_wire.specs.Turns.{HasNoWait}
 use Rattle.bl_session.specs.Spoken.{Spoken, AreSaid, pending_of, block_text, Begins, TurnFailed, BlockFailed, FailsTurn}
@@ -22,7 +22,7 @@ if_err-all (Err e) p = p e
 told-more : (subject : ℕ) (turns : List Turn) (t : Turn) → (Opens subject ∷ told_of 0 (turns ++ t ∷ [])) ≡ (Opens subject ∷ told_of 0 turns) ++ told_of (ordinal_after 0 turns) (t ∷ [])
 told-more subject turns t = ap (λ l. Opens subject ∷ l) (told-append 0 turns (t ∷ []))
 
-module _ (f g : ℕ → List ℕ) (Settled : ℕ → Type 0) (Came : List Told → Type 0) (subject after : ℕ) (pending : List Pending) (turns : List Turn) (ws : List ℕ)
+module _ (f g : ℕ → List ℕ) (Settled : ℕ → Type 0) (Came : List Request → Type 0) (subject after : ℕ) (pending : List Pending) (turns : List Turn) (ws : List ℕ)
     (was : Spoken f Settled Came subject after pending turns ws) (same : SameUpTo after f g) where
   -- the last ordinal
   pub last_ordinal : ordinal_after 0 turns ≡ after + length pending
@@ -65,14 +65,14 @@ module _ (f g : ℕ → List ℕ) (Settled : ℕ → Type 0) (Came : List Told �
   pub told-same : (t : Turn) → told_of (ordinal_after 0 turns) (t ∷ []) ≡ [] → Came (Opens subject ∷ told_of 0 (turns ++ t ∷ []))
   told-same t none = subst Came (sym (told-more subject turns t ∙ ap (λ l. (Opens subject ∷ told_of 0 turns) ++ l) none ∙ append-nil (Opens subject ∷ told_of 0 turns))) was.came
 
-  pub told-ask : (Came' : List Told → Type 0) (ordinal : ℕ) (w : Work) → ordinal ≡ after + length pending → ((told : List Told) → Came told → Came' (told ++ Admits (ordinal + 1) w ∷ []))
+  pub told-ask : (Came' : List Request → Type 0) (ordinal : ℕ) (w : Work) → ordinal ≡ after + length pending → ((told : List Request) → Came told → Came' (told ++ Admits (ordinal + 1) w ∷ []))
       → Came' (Opens subject ∷ told_of 0 (turns ++ Ask w ∷ []))
   told-ask Came' ordinal w count came =
       subst Came' (ap (λ k. (Opens subject ∷ told_of 0 turns) ++ Admits (k + 1) w ∷ []) (count ∙ sym last_ordinal) ∙ sym (told-more subject turns (Ask w)))
       (came (Opens subject ∷ told_of 0 turns) was.came)
 
   -- a line at which nothing is written
-  pub quiet : (Settled' : ℕ → Type 0) (Came' : List Told → Type 0) (a : Option (List ℕ)) (t u : Turn) → u ≡ t → HasNoWait (t ∷ []) → Came' (Opens subject ∷ told_of 0 (turns ++ t ∷ [])) → Settled' after
+  pub quiet : (Settled' : ℕ → Type 0) (Came' : List Request → Type 0) (a : Option (List ℕ)) (t u : Turn) → u ≡ t → HasNoWait (t ∷ []) → Came' (Opens subject ∷ told_of 0 (turns ++ t ∷ [])) → Settled' after
       → (after' : ℕ) (pending' : List Pending) → after' ≡ after → pending' ≡ pending ++ pending_of (t ∷ [])
       → (more : List ℕ) × Appends a a more × Spoken g Settled' Came' subject after' pending' (turns ++ u ∷ []) (ws ++ more)
   quiet Settled' Came' a t u is plain came settled after' pending' after_is pending_is = (
@@ -92,9 +92,9 @@ module _ (f g : ℕ → List ℕ) (Settled : ℕ → Type 0) (Came : List Told �
   )
 
   -- a `wait`
-  pub waited : (Settled' : ℕ → Type 0) (Came' : List Told → Type 0) (a b : Option (List ℕ)) (u : Turn) → u ≡ Wait → (ordinal after' : ℕ) (pending' : List Pending)
+  pub waited : (Settled' : ℕ → Type 0) (Came' : List Request → Type 0) (a b : Option (List ℕ)) (u : Turn) → u ≡ Wait → (ordinal after' : ℕ) (pending' : List Pending)
       → Appends a b (block_text g after pending ++ ok_line) → ordinal ≡ after + length pending → Settled' ordinal → after' ≡ ordinal → pending' ≡ []
-      → ((told : List Told) → Came told → Came' (told ++ Settles ∷ []))
+      → ((told : List Request) → Came told → Came' (told ++ Settles ∷ []))
       → (more : List ℕ) × Appends a b more × Spoken g Settled' Came' subject after' pending' (turns ++ u ∷ []) (ws ++ more)
   waited Settled' Came' a b u is ordinal after' pending' put count settled after_is pending_is came = (
     block_text g after pending ++ ok_line,
@@ -114,7 +114,7 @@ module _ (f g : ℕ → List ℕ) (Settled : ℕ → Type 0) (Came : List Told �
   )
 
 -- so much of the block's text and the closing line is written, and the text of the turns and the closing line begins so
-module _ (f g : ℕ → List ℕ) (Settled Settled' : ℕ → Type 0) (Came : List Told → Type 0) (subject after : ℕ) (pending : List Pending) (turns : List Turn) (ws : List ℕ)
+module _ (f g : ℕ → List ℕ) (Settled Settled' : ℕ → Type 0) (Came : List Request → Type 0) (subject after : ℕ) (pending : List Pending) (turns : List Turn) (ws : List ℕ)
     (was : Spoken f Settled Came subject after pending turns ws) (same : SameUpTo after f g) where
   pub record Part (closing : List ℕ) (much : ℕ) : Type 0 where
     pub upto : ℕ
@@ -152,7 +152,7 @@ module _ (f g : ℕ → List ℕ) (Settled Settled' : ℕ → Type 0) (Came : Li
       → (failed : BlockFailed fault Settled' a b ordinal (block_text g after pending ++ closing)) → Part closing failed.much
   block_part fault closing a b ordinal count settled failed = part_of closing failed.much ordinal count settled failed.some
 
-  module _ (fault : SessionFault) (Came' : List Told → Type 0) (a b : Option (List ℕ)) (u : Turn) where
+  module _ (fault : SessionFault) (Came' : List Request → Type 0) (a b : Option (List ℕ)) (u : Turn) where
     said_later : (later : ℕ → List ℕ) → SameUpTo after g later → AreSaid later turns ws
     said_later later kept = said f later Settled Came subject after pending turns ws was (same_trans after f g later same kept)
 
@@ -160,7 +160,7 @@ module _ (f g : ℕ → List ℕ) (Settled Settled' : ℕ → Type 0) (Came : Li
     all_of_it = ([], sym (append-nil (ws ++ []) ∙ append-nil ws))
 
     -- nothing was written, and the turn was not taken
-    pub not_taken : Settled' after → ((told : List Told) → Came told → Came' told)
+    pub not_taken : Settled' after → ((told : List Request) → Came told → Came' told)
         → (more : List ℕ) × Appends a a more × TurnFailed fault g Settled' Came' subject turns u ws more
     not_taken settled came = (
       [],
@@ -214,7 +214,7 @@ module _ (f g : ℕ → List ℕ) (Settled Settled' : ℕ → Type 0) (Came : Li
     -- part of the replies at a `wait` was written
     pub wait_failed : u ≡ Wait → (ordinal : ℕ) → ordinal ≡ after + length pending → Settled' after
         → BlockFailed fault Settled' a b ordinal (block_text g after pending ++ ok_line)
-        → ((told : List Told) → Came told → Came' told ⊎ Came' (told ++ Settles ∷ []))
+        → ((told : List Request) → Came told → Came' told ⊎ Came' (told ++ Settles ∷ []))
         → (more : List ℕ) × Appends a b more × TurnFailed fault g Settled' Came' subject turns u ws more
     wait_failed is ordinal count settled failed came =
         let part = block_part fault ok_line a b ordinal count settled failed in (
@@ -232,7 +232,7 @@ module _ (f g : ℕ → List ℕ) (Settled Settled' : ℕ → Type 0) (Came : Li
         begun part later kept =
             let b = part.begins later kept in (b.0, text-append later 0 turns (Wait ∷ []) ∙ ap (λ l. text_of later 0 turns ++ l) (append-nil ok_line) ∙ b.1)
 
-        made : {much : ℕ} → Part ok_line much → (fault ≡ Memory → much ≡ 0) → (told : List Told) → Came' told → (settles : ℕ) → (Opens subject ∷ (told_of 0 (turns ++ Wait ∷ []) ++ Settles ∷ [])) ≡ told ++ replicate settles Settles
+        made : {much : ℕ} → Part ok_line much → (fault ≡ Memory → much ≡ 0) → (told : List Request) → Came' told → (settles : ℕ) → (Opens subject ∷ (told_of 0 (turns ++ Wait ∷ []) ++ Settles ∷ [])) ≡ told ++ replicate settles Settles
             → TurnFailed fault g Settled' Came' subject turns Wait ws (take much (block_text g after pending ++ ok_line))
         made part none told came settles is = record {
           upto = part.upto;
@@ -254,12 +254,12 @@ module _ (f g : ℕ → List ℕ) (Settled Settled' : ℕ → Type 0) (Came : Li
         }
 
 -- the same as clauses
-module _ {A : Type 0} (r : Result A SessionFault) (f g : ℕ → List ℕ) (Settled Settled' : ℕ → Type 0) (Came Came' : List Told → Type 0) (after : ℕ) (pending : List Pending) (a : Option (List ℕ)) (u : Turn) (same : SameUpTo after f g) (settled : Settled' after) where
-  pub all_not_taken : ((told : List Told) → Came told → Came' told) → IfErr r (λ fault. FailsTurn fault f g Settled Settled' Came Came' after pending a a u)
+module _ {A : Type 0} (r : Result A SessionFault) (f g : ℕ → List ℕ) (Settled Settled' : ℕ → Type 0) (Came Came' : List Request → Type 0) (after : ℕ) (pending : List Pending) (a : Option (List ℕ)) (u : Turn) (same : SameUpTo after f g) (settled : Settled' after) where
+  pub all_not_taken : ((told : List Request) → Came told → Came' told) → IfErr r (λ fault. FailsTurn fault f g Settled Settled' Came Came' after pending a a u)
   all_not_taken came = if_err-all r
       (λ fault subject turns ws was. not_taken f g Settled Settled' Came subject after pending turns ws was same fault Came' a a u settled came)
 
-  pub all_not_kept : (ordinal : ℕ) (w : Work) → u ≡ Ask w → ordinal ≡ after + length pending → ((told : List Told) → Came told → Came' (told ++ Admits (ordinal + 1) w ∷ []))
+  pub all_not_kept : (ordinal : ℕ) (w : Work) → u ≡ Ask w → ordinal ≡ after + length pending → ((told : List Request) → Came told → Came' (told ++ Admits (ordinal + 1) w ∷ []))
       → IfErr r (λ fault. FailsTurn fault f g Settled Settled' Came Came' after pending a a u)
   all_not_kept ordinal w is count came = if_err-all r
       (λ fault subject turns ws was. not_kept f g Settled Settled' Came subject after pending turns ws was same fault Came' a a u settled w is
@@ -267,7 +267,7 @@ module _ {A : Type 0} (r : Result A SessionFault) (f g : ℕ → List ℕ) (Sett
 
   pub all_wait_failed : (fault : SessionFault) (b : Option (List ℕ)) → u ≡ Wait → (ordinal : ℕ) → ordinal ≡ after + length pending
       → BlockFailed fault Settled' a b ordinal (block_text g after pending ++ ok_line)
-      → ((told : List Told) → Came told → Came' told ⊎ Came' (told ++ Settles ∷ []))
+      → ((told : List Request) → Came told → Came' told ⊎ Came' (told ++ Settles ∷ []))
       → FailsTurn fault f g Settled Settled' Came Came' after pending a b u
   all_wait_failed fault b is ordinal count failed came subject turns ws was =
       wait_failed f g Settled Settled' Came subject after pending turns ws was same fault Came' a b u is ordinal count settled failed came

@@ -2,7 +2,7 @@
 use Rattle.std.proofs.Common.{◌≡◌, ℕ, ◌+◌, ◌≤◌, List, [], ◌∷◌, ◌++◌, length, refl, sym, ap, ◌∙◌, append_assoc, arith, codes}
 use Rattle.bl_wire.specs.declared.turn.Turn.{Turn}
 use Rattle.bl_wire.specs.declared.turn.Turn.TheVariants.{Skip, Wait, Greets, Bad, Ask}
-use Rattle.bl_session.specs.Told.{told_of, Admits, Settles, SameUpTo}
+use Rattle.bl_session.specs.Requests.{told_of, Admits, Settles, SameUpTo}
 use Rattle.bl_wire.specs.Texts.{text_of, ordinal_after, refusal, ok_line, fault_words}
 use Rattle.bl_wire.specs.Turns.{HasNoWait}
 use Rattle.bl_wire.specs.declared.turn.Pending.{Pending}

@@ -17,7 +17,7 @@ use Rattle.bl_wire.specs.declared.turn.Turn.{Turn}
 use Rattle.bl_wire.specs.declared.turn.Turn.TheVariants.{Skip, Wait, Greets, Bad, Ask}
 use Rattle.bl_wire.specs.Lines.{onto, lines_of, without_cr}
 use Rattle.bl_wire.specs.Turns.{StandsIn, AreTurns}
-use Rattle.bl_session.specs.Told.{Settles, told_of}
+use Rattle.bl_session.specs.Requests.{Settles, told_of}
 use Rattle.bl_session.specs.One.{place_events, run_from, settling, fits, events_of, one, one_state}
 use Rattle.bl_session.specs.OneTrail.{IsOneTrail}
 use Rattle.bl_session.specs.Orders.{said, Mirrors}

@@ -9,4 +9,4 @@ pub mod Outcome
 pub mod Entries
 pub mod Orders
 pub mod Spoken
-pub mod Told
+pub mod Requests

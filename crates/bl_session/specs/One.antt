@@ -5,7 +5,7 @@ use Rattle.bl_setup.specs.Setup.{Setup}
 use Rattle.bl_order.specs.Machine.{State, Event, runs, has_ended, change, start, state_after, weight_of, entry_weight}
 use Rattle.bl_order.specs.Machine as machine
 use Rattle.bl_wire.specs.declared.turn.Turn.{Turn}
-use Rattle.bl_session.specs.Told.{Told, Opens, Admits, Settles, told_by}
+use Rattle.bl_session.specs.Requests.{Request, Opens, Admits, Settles, told_by}
 
 -- a place that hasn't ended starts, and ends if it runs
 abbrev pub place_events : State → ℕ → List Event
@@ -27,7 +27,7 @@ abbrev pub fits : State → Work → Bool
 fits x work = nat_le (sum_by entry_weight x.order + weight_of work) x.limit
 
 -- the events that what is told leads to
-abbrev pub events_of : State → List Told → List Event
+abbrev pub events_of : State → List Request → List Event
 events_of x [] = []
 events_of x (Opens subject ∷ told) = machine.Opens subject ∷ events_of (change x (machine.Opens subject)) told
 events_of x (Admits ordinal work ∷ told) =

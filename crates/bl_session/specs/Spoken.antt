@@ -8,7 +8,7 @@ use Rattle.bl_wire.specs.declared.turn.Turn.TheVariants.{Skip, Wait, Greets, Bad
 use Rattle.bl_wire.specs.declared.turn.Pending.{Pending}
 use Rattle.bl_wire.specs.declared.turn.Pending.TheVariants.{Again, Refused, Asked}
 use Rattle.bl_wire.specs.Turns.{HasNoWait}
-use Rattle.bl_session.specs.Told.{Told, Opens, Settles, told_of, SameUpTo}
+use Rattle.bl_session.specs.Requests.{Request, Opens, Settles, told_of, SameUpTo}
 use Rattle.bl_wire.specs.Texts.{text_of, refusal, fault_words, ordinal_after}
 
 -- what is kept of the lines of an open block
@@ -35,7 +35,7 @@ abbrev pub Begins : {A : Type 0} → List A → List A → Type 0
 Begins {A} part whole = (rest : List A) × (whole ≡ part ++ rest)
 
 -- after these turns of the subject's session these bytes are written, and this block is open
-pub record Spoken (replies : ℕ → List ℕ) (Settled : ℕ → Type 0) (Came : List Told → Type 0) (subject after : ℕ) (pending : List Pending) (turns : List Turn) (written : List ℕ) : Type 0 where
+pub record Spoken (replies : ℕ → List ℕ) (Settled : ℕ → Type 0) (Came : List Request → Type 0) (subject after : ℕ) (pending : List Pending) (turns : List Turn) (written : List ℕ) : Type 0 where
   pub done : List Turn
   pub open_turns : List Turn
   pub split : turns ≡ done ++ open_turns
@@ -69,10 +69,10 @@ pub record AreSaid (replies : ℕ → List ℕ) (turns : List Turn) (text : List
 -- A turn failed: what is written begins the text of the turns that were heard, whatever is answered later and whatever
 -- comes behind them. All of them were told, and they tell no more but to settle. Before the turn all blocks were written
 -- whole, and where memory was refused nothing more is.
-pub record TurnFailed (fault : SessionFault) (replies : ℕ → List ℕ) (Settled : ℕ → Type 0) (Came : List Told → Type 0) (subject : ℕ) (turns : List Turn) (turn : Turn) (written more : List ℕ) : Type 0 where
+pub record TurnFailed (fault : SessionFault) (replies : ℕ → List ℕ) (Settled : ℕ → Type 0) (Came : List Request → Type 0) (subject : ℕ) (turns : List Turn) (turn : Turn) (written more : List ℕ) : Type 0 where
   pub upto : ℕ
   pub settled : Settled upto
-  pub told : List Told
+  pub told : List Request
   pub came : Came told
   pub heard : List Turn
   pub heard_is : LacksTheLast heard (turns ++ turn ∷ [])
@@ -91,13 +91,13 @@ pub record BlockFailed (fault : SessionFault) (Settled : ℕ → Type 0) (before
   pub put : Appends before after (take much text)
 
 -- taking a turn goes from one point of a session to another
-abbrev pub TakesTurn : (f g : ℕ → List ℕ) → (Settled Settled' : ℕ → Type 0) → (Came Came' : List Told → Type 0) → (after after' : ℕ) → (pending pending' : List Pending) → (kept kept' : Option (List ℕ)) → Turn → Type 0
+abbrev pub TakesTurn : (f g : ℕ → List ℕ) → (Settled Settled' : ℕ → Type 0) → (Came Came' : List Request → Type 0) → (after after' : ℕ) → (pending pending' : List Pending) → (kept kept' : Option (List ℕ)) → Turn → Type 0
 TakesTurn f g Settled Settled' Came Came' after after' pending pending' kept kept' turn =
     (subject : ℕ) (turns : List Turn) (written : List ℕ) → Spoken f Settled Came subject after pending turns written
     → (more : List ℕ) × Appends kept kept' more × Spoken g Settled' Came' subject after' pending' (turns ++ turn ∷ []) (written ++ more)
 
 -- taking a turn failed
-abbrev pub FailsTurn : SessionFault → (f g : ℕ → List ℕ) → (Settled Settled' : ℕ → Type 0) → (Came Came' : List Told → Type 0) → (after : ℕ) → (pending : List Pending) → (kept kept' : Option (List ℕ)) → Turn → Type 0
+abbrev pub FailsTurn : SessionFault → (f g : ℕ → List ℕ) → (Settled Settled' : ℕ → Type 0) → (Came Came' : List Request → Type 0) → (after : ℕ) → (pending : List Pending) → (kept kept' : Option (List ℕ)) → Turn → Type 0
 FailsTurn fault f g Settled Settled' Came Came' after pending kept kept' turn =
     (subject : ℕ) (turns : List Turn) (written : List ℕ) → Spoken f Settled Came subject after pending turns written
     → (more : List ℕ) × Appends kept kept' more × TurnFailed fault g Settled' Came' subject turns turn written more

@@ -9,7 +9,7 @@ use Rattle.bl_wire.specs.declared.fault.SessionFault.TheVariants.{Read, Write, T
 use Rattle.bl_wire.specs.declared.turn.Turn.{Turn}
 use Rattle.bl_wire.specs.declared.turn.Pending.{Pending}
 use Rattle.bl_wire.specs.Turns.{AreTurns, AreSkips, IsOpening, IsRefusal, StopsAtRefusal, HasNoWait, is_skip}
-use Rattle.bl_session.specs.Told.{Told, Settles, told_by, SameUpTo}
+use Rattle.bl_session.specs.Requests.{Request, Settles, told_by, SameUpTo}
 use Rattle.bl_wire.specs.Texts.{text_of, session_text, ok_line, bye_line, refused_hello}
 use Rattle.bl_session.specs.Spoken.{Spoken, Begins, LacksTheLast}
 
@@ -44,7 +44,7 @@ pub record Unheard (again : Bool) (names : KnownNames) (start rest : Option (Lis
   pub quiet : AreSkips turns
 
 -- this is the first line that isn't skipped
-pub record Heard (turn : Turn) (again : Bool) (names : KnownNames) (start rest : Option (List ℕ)) (left : ℕ) : Type 0 where
+pub record HeardFirst (turn : Turn) (again : Bool) (names : KnownNames) (start rest : Option (List ℕ)) (left : ℕ) : Type 0 where
   pub turns : List Turn
   pub read : Cutting again names start rest left (turns ++ turn ∷ [])
   pub quiet : AreSkips turns
@@ -52,10 +52,10 @@ pub record Heard (turn : Turn) (again : Bool) (names : KnownNames) (start rest :
 -- all lines are skipped, or this is the first one that isn't
 abbrev pub IsFirst : Option (Turn × Bool) → KnownNames → Option (List ℕ) → Option (List ℕ) → ℕ → Type 0
 IsFirst None names start rest left = Unheard false names start rest left
-IsFirst (Some found) names start rest left = Heard found.0 found.1 names start rest left × (is_skip found.0 ≡ false)
+IsFirst (Some found) names start rest left = HeardFirst found.0 found.1 names start rest left × (is_skip found.0 ≡ false)
 
 -- between two lines of a session that is open
-pub record Stage (again : Bool) (names : KnownNames) (start rest first kept : Option (List ℕ)) (left : ℕ) (replies : ℕ → List ℕ) (Settled : ℕ → Type 0) (Came : List Told → Type 0) (after : ℕ) (pending : List Pending) : Type 0 where
+pub record Stage (again : Bool) (names : KnownNames) (start rest first kept : Option (List ℕ)) (left : ℕ) (replies : ℕ → List ℕ) (Settled : ℕ → Type 0) (Came : List Request → Type 0) (after : ℕ) (pending : List Pending) : Type 0 where
   pub subject : ℕ
   pub head : List Turn
   pub turns : List Turn
@@ -66,7 +66,7 @@ pub record Stage (again : Bool) (names : KnownNames) (start rest first kept : Op
   pub spoken : Spoken replies Settled Came subject after pending turns written
 
 -- The input was read to its end, or to the end of a first line that was refused and no further, and its transcript is written.
-pub record Finished (names : KnownNames) (start rest first kept : Option (List ℕ)) (replies : ℕ → List ℕ) (Settled : ℕ → Type 0) (Came : List Told → Type 0) : Type 0 where
+pub record Finished (names : KnownNames) (start rest first kept : Option (List ℕ)) (replies : ℕ → List ℕ) (Settled : ℕ → Type 0) (Came : List Request → Type 0) : Type 0 where
   pub bytes : List ℕ
   pub turns : List Turn
   pub took : Consumes start rest bytes
@@ -149,7 +149,7 @@ IsPutAt Clash replies start rest turns heard written = ⊥
 -- The session ended early. What is written begins the transcript of the lines that were heard, which are those that were
 -- read but perhaps the last, whatever is answered later. What was told is what these lines tell, but for settling. Nothing
 -- was read behind a first line that was refused.
-pub record Stopped (fault : SessionFault) (names : KnownNames) (start rest first kept : Option (List ℕ)) (read_failed write_failed : Bool) (replies : ℕ → List ℕ) (Settled : ℕ → Type 0) (Came : List Told → Type 0) : Type 0 where
+pub record Stopped (fault : SessionFault) (names : KnownNames) (start rest first kept : Option (List ℕ)) (read_failed write_failed : Bool) (replies : ℕ → List ℕ) (Settled : ℕ → Type 0) (Came : List Request → Type 0) : Type 0 where
   pub turns : List Turn
   pub read : Broken fault names start rest read_failed write_failed turns
   pub stops : StopsAtRefusal turns
@@ -158,7 +158,7 @@ pub record Stopped (fault : SessionFault) (names : KnownNames) (start rest first
   pub put : Appends first kept written
   pub upto : ℕ
   pub settled : Settled upto
-  pub told : List Told
+  pub told : List Request
   pub came : Came told
   pub heard : List Turn
   pub heard_is : LacksTheLast heard turns

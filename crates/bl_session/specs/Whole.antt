@@ -6,7 +6,7 @@ use Rattle.bl_order.specs.Order.{Entry}
 use Rattle.bl_order.specs.Machine.{State, state_after, start, entry_weight}
 use Rattle.bl_wire.specs.declared.label.Entered.{Entered}
 use Rattle.bl_session.specs.declared.entries.Pages.{Pages}
-use Rattle.bl_session.specs.Told.{Told}
+use Rattle.bl_session.specs.Requests.{Request}
 use Rattle.bl_session.specs.One.{run_from, events_of}
 use Rattle.bl_session.specs.Orders.{Mirrors}
 use Rattle.bl_session.specs.Entries.{Each, KnowsOrigin, order_of, is_line, AreLabelled, AreAnswered, first_children}
@@ -46,6 +46,6 @@ pub record IsWhole (setup : Setup) (limit : ℕ) (s : Pages) (n : ℕ) : Type 0 
   pub before : (p : ℕ) (d : Entered) → p < s.ended → (slice_index_or s.entries.items p d).ordinal ≤ n
 
 -- what was told brought the pages here
-abbrev pub Came : Setup → ℕ → Pages → List Told → Type 0
+abbrev pub Came : Setup → ℕ → Pages → List Request → Type 0
 Came setup limit s told =
     Mirrors setup limit s.subject (order_of s.entries.items) s.ended (state_after (start setup limit) (events_of (start setup limit) told))

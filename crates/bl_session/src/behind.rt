@@ -1,7 +1,7 @@
 //! What stands behind a session: a machine that admits works and answers them.
 ghost use Rattle.std.specs.Prelude.{◌≡◌, ◌≤◌, ◌<◌, ◌++◌, ◌∷◌, [], ◌⊎◌, List, ℕ, OnOk, OnErr, IfOk};
 ghost use Rattle.bl_work.specs.declared.work.Work.{Work};
-ghost use Rattle.bl_session.specs.Told.{Told, Opens, Admits, Settles, SameUpTo};
+ghost use Rattle.bl_session.specs.Requests.{Request, Opens, Admits, Settles, SameUpTo};
 
 use bl_policy::id::SubjectId;
 use bl_work::work::Work;
@@ -31,7 +31,7 @@ pub trait Behind {
     ghost whole: { Self → Self.State → ℕ → Type 0 };
 
     // what was told brought the state here
-    ghost came: { Self → Self.State → List Told → Type 0 };
+    ghost came: { Self → Self.State → List Request → Type 0 };
 
     // the session's last ordinal, or 0
     ghost last: { Self → Self.State → ℕ };
@@ -58,8 +58,8 @@ pub trait Behind {
         requires last { last self.now state.old < ordinal }
         requires settled { (n : ℕ) × (n < ordinal) × settled self.now state.old n }
         ensures whole { OnOk result ((n : ℕ) → n < ordinal → whole self.now state.old n → whole self.now state.new n) }
-        ensures came { OnOk result ((told : List Told) → came self.now state.old told → came self.now state.new (told ++ Admits ordinal work ∷ [])) }
-        ensures err { OnErr result ((told : List Told) → came self.now state.old told → came self.now state.new told) }
+        ensures came { OnOk result ((told : List Request) → came self.now state.old told → came self.now state.new (told ++ Admits ordinal work ∷ [])) }
+        ensures err { OnErr result ((told : List Request) → came self.now state.old told → came self.now state.new told) }
         ensures last { last self.now state.new ≤ ordinal }
         ensures settled { (n : ℕ) → n < ordinal → settled self.now state.old n →
             settled self.now state.new n × SameUpTo n (replies self.now state.old) (replies self.now state.new) };
@@ -75,8 +75,8 @@ pub trait Behind {
         requires settled { settled self.now state.old after }
         requires whole { whole self.now state.old after }
         ensures whole { OnOk result (whole self.now state.new ordinal) }
-        ensures came { OnOk result ((told : List Told) → came self.now state.old told → came self.now state.new (told ++ Settles ∷ [])) }
-        ensures err { OnErr result ((told : List Told) → came self.now state.old told → came self.now state.new told ⊎ came self.now state.new (told ++ Settles ∷ [])) }
+        ensures came { OnOk result ((told : List Request) → came self.now state.old told → came self.now state.new (told ++ Settles ∷ [])) }
+        ensures err { OnErr result ((told : List Request) → came self.now state.old told → came self.now state.new told ⊎ came self.now state.new (told ++ Settles ∷ [])) }
         ensures last { last self.now state.new ≤ ordinal }
         ensures block { IfOk result (λ block. gives self.now state.new block after) }
         ensures done { OnOk result (settled self.now state.new ordinal) }

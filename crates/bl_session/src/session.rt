@@ -5,10 +5,10 @@ ghost use Rattle.std.specs.Io.KnownBytes.{Consumes, Appends, IsAtEnd};
 ghost use Rattle.bl_wire.specs.declared.fault.SessionFault.TheVariants.{Write};
 ghost use Rattle.bl_wire.specs.Turns.{AreSkips, is_skip, IsServed, AreServed, StandsIn};
 ghost use Rattle.bl_wire.specs.declared.turn.Turn.{Turn};
-ghost use Rattle.bl_session.specs.Told.{Told, Opens, Settles, SameUpTo};
+ghost use Rattle.bl_session.specs.Requests.{Request, Opens, Settles, SameUpTo};
 ghost use Rattle.bl_wire.specs.Texts.{ok_line};
 ghost use Rattle.bl_session.specs.Spoken.{block_text, IsOwnFault, BlockFailed, TakesTurn, FailsTurn};
-ghost use Rattle.bl_session.specs.Stages.{Cutting, ReadsOn, IsNearer, Unheard, IsFirst, Heard, Stage, Finished, Broken, Stopped};
+ghost use Rattle.bl_session.specs.Stages.{Cutting, ReadsOn, IsNearer, Unheard, IsFirst, HeardFirst, Stage, Finished, Broken, Stopped};
 
 use crate::behind::Behind;
 use crate::replies::text_block;
@@ -57,7 +57,7 @@ fn end_block<B: Behind, W: Write>(
     ensures text { OnOk result (Appends (W.contents writer.old.inner) (W.contents writer.new.inner)
         (block_text (B.replies behind.now state.new) talk.old.after talk.old.pending.items ++ closing.now)) }
     ensures done { OnOk result (B.settled behind.now state.new talk.old.ordinal) }
-    ensures came { OnOk result ((told : List Told) → B.came behind.now state.old told → B.came behind.now state.new (told ++ Settles ∷ [])) }
+    ensures came { OnOk result ((told : List Request) → B.came behind.now state.old told → B.came behind.now state.new (told ++ Settles ∷ [])) }
     ensures talk { OnOk result ((talk.new.ordinal ≡ talk.old.ordinal) × (talk.new.after ≡ talk.old.ordinal) × (talk.new.pending.items ≡ [])) }
     ensures fine { OnOk result ((writer.new.failed ≡ false) × (writer.new.unflushed ≡ false)) }
     ensures whole { OnOk result (B.whole behind.now state.new talk.new.after) }
@@ -65,7 +65,7 @@ fn end_block<B: Behind, W: Write>(
     ensures fault { IfErr result (IsOwnFault writer.new.failed) }
     ensures part { IfErr result (λ fault. BlockFailed fault (B.settled behind.now state.new) (W.contents writer.old.inner) (W.contents writer.new.inner)
         talk.old.ordinal (block_text (B.replies behind.now state.new) talk.old.after talk.old.pending.items ++ closing.now)) }
-    ensures told { OnErr result ((told : List Told) → B.came behind.now state.old told → B.came behind.now state.new told ⊎ B.came behind.now state.new (told ++ Settles ∷ [])) }
+    ensures told { OnErr result ((told : List Request) → B.came behind.now state.old told → B.came behind.now state.new told ⊎ B.came behind.now state.new (told ++ Settles ∷ [])) }
 {
     let mut block = behind.settle(state, talk.after, talk.ordinal)?;
     let mut text = text_block(alloc, behind, state, &mut block, talk.after, &talk.pending)?;
@@ -373,10 +373,10 @@ fn answer_first<R: BufRead, B: Behind, W: Write>(
     requires spoken { is_skip turn ≡ false }
     requires first { IsServed (B.serves behind.now) (B.takes behind.now) turn }
     requires served { AreServed names.now (B.serves behind.now) (B.takes behind.now) }
-    ensures ok { OnOk result ((start : Option (List ℕ)) → Heard turn more names.now start (R.remaining reader.old.inner) left.old →
+    ensures ok { OnOk result ((start : Option (List ℕ)) → HeardFirst turn more names.now start (R.remaining reader.old.inner) left.old →
         Finished names.now start (R.remaining reader.new.inner) (W.contents writer.old.inner) (W.contents writer.new.inner) (B.replies behind.now state.new) (B.settled behind.now state.new) (B.came behind.now state.new)) }
     ensures fine { OnOk result ((reader.new.failed ≡ false) × (writer.new.failed ≡ false) × (writer.new.unflushed ≡ false)) }
-    ensures err { IfErr result (λ fault. (start : Option (List ℕ)) → Heard turn more names.now start (R.remaining reader.old.inner) left.old →
+    ensures err { IfErr result (λ fault. (start : Option (List ℕ)) → HeardFirst turn more names.now start (R.remaining reader.old.inner) left.old →
         Stopped fault names.now start (R.remaining reader.new.inner) (W.contents writer.old.inner) (W.contents writer.new.inner) reader.new.failed writer.new.failed (B.replies behind.now state.new) (B.settled behind.now state.new) (B.came behind.now state.new)) }
 {
     match turn.greeted() {

@@ -7,7 +7,7 @@ use Rattle.bl_policy.specs.declared.policy.AddFault.{AddFault}
 use Rattle.bl_policy.specs.declared.policy.AddFault.TheVariants as add
 use Rattle.bl_setup.specs.Declaration.{SubjectText, subject}
 use Rattle.bl_setup.specs.Faults.{UnlessMemory, kind_of_add}
-use Rattle.bl_setup.specs.FirstFault.{declared, DeclarationFault, IsTooMuch, FirstFails, asked_of_level}
+use Rattle.bl_setup.specs.FirstSetupFault.{declared, DeclarationFault, IsTooMuch, FirstFails, asked_of_level}
 use Rattle.bl_setup.specs.Setup.{Setup}
 use Rattle.bl_setup.specs.declared.fault.SetupFaultKind.{SetupFaultKind}
 use Rattle.bl_setup.proofs.FaultLemmas.{fails_left, fails_right, hold_both, level_holds}

@@ -11,7 +11,7 @@ use Rattle.bl_level.specs.Scheme.{SchemeNames}
 use Rattle.bl_level.specs.Table.{AreDistinct, IsFirstRepeated}
 use Rattle.bl_level.specs.declared.scheme.LevelFault.{LevelFault}
 use Rattle.bl_level.specs.declared.scheme.LevelFault.TheVariants as levels
-use Rattle.bl_setup.specs.FirstFault.{Question, is_new, is_known, AllHold, FirstFails, asked_of_names, asked_of_categories, asked_of_level}
+use Rattle.bl_setup.specs.FirstSetupFault.{Question, is_new, is_known, AllHold, FirstFails, asked_of_names, asked_of_categories, asked_of_level}
 use Rattle.bl_setup.specs.Faults.{kind_of_level}
 use Rattle.bl_setup.specs.declared.fault.SetupFaultKind.{SetupFaultKind}
 use Rattle.bl_setup.specs.declared.fault.SetupFaultKind.TheVariants.{Unknown, Repeated}

@@ -6,7 +6,7 @@ use Rattle.bl_level.specs.Scheme.{SchemeNames, IsScheme}
 use Rattle.bl_level.specs.Table.{AreDistinct}
 use Rattle.bl_setup.specs.Agreement.{of_scheme}
 use Rattle.bl_setup.specs.Declaration.{Declaration, SubjectText, DocumentText, AllowText, ranks, categories, subject, document, allow, spell_declaration}
-use Rattle.bl_setup.specs.FirstFault.{SoFar, nothing, ranked, declared, IsDue, Declares, Passes, LeadTo, asked, asked_of_level, AllHold, IsTooMuch, IsAbove, DeclarationFault, LineFault, FaultNext, FirstFault, HasOneAnswer}
+use Rattle.bl_setup.specs.FirstSetupFault.{SoFar, nothing, ranked, declared, IsDue, Declares, Passes, LeadTo, asked, asked_of_level, AllHold, IsTooMuch, IsAbove, DeclarationFault, LineFault, FaultNext, FirstSetupFault, HasOneAnswer}
 use Rattle.bl_setup.specs.Grammar.{IsSetup, Adds, AddsSubject, AddsDocument, AddsModes, Leads, Spells}
 use Rattle.bl_setup.specs.Heads.{DeclaresRanks, DeclaresCategories}
 use Rattle.bl_setup.specs.Lines.{is_skipped, kept, lines_read, file_lines}
@@ -234,7 +234,7 @@ pub setup_leads : (bytes : List ℕ) (setup : Setup) → IsSetup bytes setup →
 setup_leads bytes setup s = read_leads nothing (file_lines bytes) (declared setup) (parts_lead (lines_read bytes) setup (parts_of bytes setup s))
 
 -- a text with a fault is no setup
-pub fault_is_no_setup : (bytes : List ℕ) (setup : Setup) (fault : SetupFault) → IsSetup bytes setup → FirstFault bytes fault → ⊥
+pub fault_is_no_setup : (bytes : List ℕ) (setup : Setup) (fault : SetupFault) → IsSetup bytes setup → FirstSetupFault bytes fault → ⊥
 fault_is_no_setup bytes setup fault s (inl f) = let size = s.size in let large = f.0 in omega arith
 fault_is_no_setup bytes setup fault s (inr (size, f)) =
     let r = f.right in
@@ -246,7 +246,7 @@ same_fault : (fault other : SetupFault) → other.line ≡ fault.line → other.
 same_fault fault other line kind = λ i. record { line = line i; kind = kind i }
 
 -- a text has one first fault
-pub one_fault : (bytes : List ℕ) (fault other : SetupFault) → FirstFault bytes fault → FirstFault bytes other → other ≡ fault
+pub one_fault : (bytes : List ℕ) (fault other : SetupFault) → FirstSetupFault bytes fault → FirstSetupFault bytes other → other ≡ fault
 one_fault bytes fault other (inl f) (inl g) = same_fault fault other (g.1 ∙ sym f.1) (g.2 ∙ sym f.2)
 one_fault bytes fault other (inl f) (inr (size, g)) = let large = f.0 in absurd (omega arith)
 one_fault bytes fault other (inr (size, f)) (inl g) = let large = g.0 in absurd (omega arith)

@@ -10,7 +10,7 @@ use Rattle.bl_level.specs.declared.scheme.SchemeFault.{SchemeFault}
 use Rattle.bl_level.specs.declared.scheme.SchemeFault.TheVariants as schemes
 use Rattle.bl_setup.specs.Declaration.{ranks, categories, spell_declaration}
 use Rattle.bl_setup.specs.Faults.{UnlessMemory, kind_of_table, kind_of_scheme}
-use Rattle.bl_setup.specs.FirstFault.{nothing, ranked, LineFault}
+use Rattle.bl_setup.specs.FirstSetupFault.{nothing, ranked, LineFault}
 use Rattle.bl_setup.specs.Heads.{AreRanks}
 use Rattle.bl_setup.specs.declared.fault.SetupFaultKind.TheVariants.{Repeated, TooMany}
 use Rattle.bl_setup.proofs.FaultLemmas.{first_repeated_fails}

@@ -2,7 +2,7 @@
 use Rattle.std.proofs.Common.{◌≡◌, ◌↔◌, ℕ, ◌≤◌, Bool, true, false, not, if◌then◌else◌, List, [], ◌∷◌, length, refl, sym, subst, ◌∙◌, inl, inr}
 use Rattle.bl_level.specs.Scheme.{SchemeNames}
 use Rattle.bl_setup.specs.Agreement.{of_scheme}
-use Rattle.bl_setup.specs.FirstFault.{SoFar, nothing, ranked, declared, Passes, LeadTo}
+use Rattle.bl_setup.specs.FirstSetupFault.{SoFar, nothing, ranked, declared, Passes, LeadTo}
 use Rattle.bl_setup.specs.Grammar.{IsSetup}
 use Rattle.bl_setup.specs.Heads.{DeclaresRanks, BeginsWith, Remain}
 use Rattle.bl_setup.specs.Lines.{is_skipped, kept, lines_read, file_lines}

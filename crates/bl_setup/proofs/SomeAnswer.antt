@@ -17,7 +17,7 @@ use Rattle.bl_policy.specs.Mode.{flag_of}
 use Rattle.bl_work.proofs.MeantLevels.{level_meant, place_some}
 use Rattle.bl_setup.specs.Agreement.{of_scheme}
 use Rattle.bl_setup.specs.Declaration.{Declaration, SubjectText, DocumentText, AllowText, ranks, categories, subject, document, allow, spell_declaration}
-use Rattle.bl_setup.specs.FirstFault.{SoFar, nothing, ranked, declared, IsDue, Declares, Passes, LeadTo, Question, Holds, kind_of, AllHold, FirstFails, asked, asked_of_names, asked_of_categories, asked_of_level, IsTooMuch, IsAbove, LineFault, FaultNext, FirstFault}
+use Rattle.bl_setup.specs.FirstSetupFault.{SoFar, nothing, ranked, declared, IsDue, Declares, Passes, LeadTo, Question, IsSo, kind_of, AllHold, FirstFails, asked, asked_of_names, asked_of_categories, asked_of_level, IsTooMuch, IsAbove, LineFault, FaultNext, FirstSetupFault}
 use Rattle.bl_setup.specs.Grammar.{IsSetup, AddsSubject, AddsDocument, AddsModes}
 use Rattle.bl_setup.specs.Heads.{AreRanks}
 use Rattle.bl_setup.specs.Lines.{is_skipped, file_lines}
@@ -50,9 +50,9 @@ most_from a b none = go (below_or_not a b)
 -- all hold, or one is the first that does not
 questions : (qs : List Question) → (AllHold qs → ⊥) → ((kind : SetupFaultKind) → FirstFails qs kind → ⊥) → ⊥
 questions [] hold fails = hold tt
-questions (q ∷ qs) hold fails = either (Holds q) (go (questions qs))
+questions (q ∷ qs) hold fails = either (IsSo q) (go (questions qs))
   where
-    go : ((AllHold qs → ⊥) → ((kind : SetupFaultKind) → FirstFails qs kind → ⊥) → ⊥) → (Holds q ⊎ (Holds q → ⊥)) → ⊥
+    go : ((AllHold qs → ⊥) → ((kind : SetupFaultKind) → FirstFails qs kind → ⊥) → ⊥) → (IsSo q ⊎ (IsSo q → ⊥)) → ⊥
     go others (inl h) = others (λ all. hold (h, all)) (λ kind f. fails kind (inr (h, f)))
     go others (inr n) = fails (kind_of q) (inl (refl, n))
 
@@ -275,7 +275,7 @@ lines_answer (line ∷ lines) before well lead wrong = go (is_skipped line) refl
 -- ---- a text
 
 fault_at : (bytes : List ℕ) (kind : SetupFaultKind) → length bytes ≤ 16777216 → (at : IsAt nothing (file_lines bytes) kind)
-    → FirstFault bytes (record { line = suc (length at.front); kind = kind })
+    → FirstSetupFault bytes (record { line = suc (length at.front); kind = kind })
 fault_at bytes kind size at = inr (
   size,
   record {
@@ -293,7 +293,7 @@ too_short : (bytes : List ℕ) (after : SoFar) → LeadTo nothing (file_lines by
 too_short bytes after l f =
     record { front = file_lines bytes; rest = []; after = after; split = sym (append-nil (file_lines bytes)); right = l; fault = f }
 
-pub some_answer : (bytes : List ℕ) → ((setup : Setup) → IsSetup bytes setup → ⊥) → ((fault : SetupFault) → FirstFault bytes fault → ⊥) → ⊥
+pub some_answer : (bytes : List ℕ) → ((setup : Setup) → IsSetup bytes setup → ⊥) → ((fault : SetupFault) → FirstSetupFault bytes fault → ⊥) → ⊥
 some_answer bytes none fine = go (below_or_not 16777216 (length bytes))
   where
     go : (16777216 < length bytes) ⊎ (length bytes ≤ 16777216) → ⊥

@@ -4,7 +4,7 @@ use Rattle.std.proofs.lemmas.List.{append_assoc, length-append}
 use Rattle.bl_level.specs.Lexing.{Begins}
 use Rattle.bl_setup.specs.Declaration.{Declaration, spell_declaration}
 use Rattle.bl_setup.specs.Faults.{UnlessMemory, OfSyntax}
-use Rattle.bl_setup.specs.FirstFault.{SoFar, nothing, IsDue, IsBegun, Declares, LeadTo, LineFault, FaultNext, ReadsNext, LeadOn, StopsAt, FirstFault, IsReadAt, asked}
+use Rattle.bl_setup.specs.FirstSetupFault.{SoFar, nothing, IsDue, IsBegun, Declares, LeadTo, LineFault, FaultNext, ReadsNext, LeadOn, StopsAt, FirstSetupFault, IsReadAt, asked}
 use Rattle.bl_setup.specs.Grammar.{IsSetup}
 use Rattle.bl_setup.specs.Lines.{is_skipped, file_lines, lines_of, lines_read, kept, without_cr}
 use Rattle.bl_setup.specs.Setup.{Setup}
@@ -133,10 +133,10 @@ memory_not_next s (line ∷ lines) kind m f = memory_never s line kind m f.1
 
 -- where reading stops is the first fault, unless for want of memory
 pub stopped_first : (bytes : List ℕ) (fault : SetupFault) → length bytes ≤ 16777216 → StopsAt (Stops fault.kind) nothing 0 (file_lines bytes) fault.line
-    → UnlessMemory fault.kind (FirstFault bytes fault)
+    → UnlessMemory fault.kind (FirstSetupFault bytes fault)
 stopped_first bytes fault size s = go s.holds
   where
-    go : Stops fault.kind s.after s.rest → UnlessMemory fault.kind (FirstFault bytes fault)
+    go : Stops fault.kind s.after s.rest → UnlessMemory fault.kind (FirstSetupFault bytes fault)
     go (inl m) = inl m.0
     go (inr f) = inr (inr (size, record { after = s.after; taken = s.taken; rest = s.rest; right = s.right; holds = f; is = s.is }))
 
@@ -149,7 +149,7 @@ stopped_memory bytes fault size s m = go s.holds
     go (inl h) = (size, record { after = s.after; taken = s.taken; rest = s.rest; right = s.right; holds = h.1; is = s.is })
     go (inr f) = absurd (memory_not_next s.after s.rest fault.kind m f)
 
-pub stopped_refuses : (bytes : List ℕ) (fault : SetupFault) → UnlessMemory fault.kind (FirstFault bytes fault) → UnlessMemory fault.kind ((setup : Setup) → IsSetup bytes setup → ⊥)
+pub stopped_refuses : (bytes : List ℕ) (fault : SetupFault) → UnlessMemory fault.kind (FirstSetupFault bytes fault) → UnlessMemory fault.kind ((setup : Setup) → IsSetup bytes setup → ⊥)
 stopped_refuses bytes fault (inl m) = inl m
 stopped_refuses bytes fault (inr f) = inr (λ setup s. fault_is_no_setup bytes setup fault s f)
 

@@ -9,6 +9,6 @@ pub mod Words
 pub mod Parsing
 pub mod Draft
 pub mod Heads
-pub mod FirstFault
+pub mod FirstSetupFault
 pub mod Taking
 pub mod WholeLists

@@ -1,7 +1,7 @@
 -- How the reader takes lines, and where it stops.
 use Rattle.std.specs.Prelude.{◌≡◌, ◌⊎◌, ℕ, suc, ◌+◌, true, false, List, [], ◌∷◌, ◌++◌, length}
 use Rattle.bl_setup.specs.Declaration.{Declaration}
-use Rattle.bl_setup.specs.FirstFault.{SoFar, IsDue, DeclarationFault, FaultNext, ReadsNext}
+use Rattle.bl_setup.specs.FirstSetupFault.{SoFar, IsDue, DeclarationFault, FaultNext, ReadsNext}
 use Rattle.bl_setup.specs.Lines.{is_skipped}
 use Rattle.bl_setup.specs.declared.fault.SetupFault.{SetupFault}
 use Rattle.bl_setup.specs.declared.fault.SetupFaultKind.{SetupFaultKind}

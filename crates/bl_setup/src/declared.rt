@@ -1,6 +1,6 @@
 //! What a setup file declares, as whole lists; and that its text has one answer.
 ghost use Rattle.std.specs.Prelude.{◌↔◌, ◌≤◌, ℕ, List, length};
-ghost use Rattle.bl_setup.specs.FirstFault.{FirstFault, HasOneAnswer, LeadTo, declared, nothing};
+ghost use Rattle.bl_setup.specs.FirstSetupFault.{FirstSetupFault, HasOneAnswer, LeadTo, declared, nothing};
 ghost use Rattle.bl_setup.specs.Setup as setups;
 ghost use Rattle.bl_setup.specs.Grammar.{IsSetup};
 ghost use Rattle.bl_setup.specs.Lines.{file_lines};
@@ -21,7 +21,7 @@ pub fn a_text_has_one_answer()
 /// A text does not lack both: one that is no setup has a first fault.
 pub fn a_text_has_some_answer()
     ensures { (bytes : List ℕ) → ((setup : setups.Setup) → IsSetup bytes setup → ⊥) →
-        ((fault : faults.SetupFault) → FirstFault bytes fault → ⊥) → ⊥ }
+        ((fault : faults.SetupFault) → FirstSetupFault bytes fault → ⊥) → ⊥ }
 {}
 
 /// A text that is not too large is a setup exactly where its lines lead to it, one after the other: what a setup is and where

@@ -2,8 +2,8 @@
 ghost use Rattle.std.specs.Prelude.{◌≡◌, ◌++◌, All, MatchResult, OnOk, IfOk, IfErr};
 ghost use Rattle.bl_level.specs.Name.{IsName};
 ghost use Rattle.bl_setup.specs.Faults.{UnlessMemory};
-ghost use Rattle.bl_setup.specs.FirstFault as first;
-ghost use Rattle.bl_setup.specs.FirstFault.{LineFault};
+ghost use Rattle.bl_setup.specs.FirstSetupFault as first;
+ghost use Rattle.bl_setup.specs.FirstSetupFault.{LineFault};
 ghost use Rattle.bl_setup.specs.Heads.{AreRanks, DeclaresRanks, DeclaresCategories};
 ghost use Rattle.bl_setup.specs.Words.{names_of};
 

@@ -6,8 +6,8 @@ ghost use Rattle.bl_setup.specs.Draft.{setup_of};
 ghost use Rattle.bl_setup.specs.Faults.{UnlessMemory};
 ghost use Rattle.bl_setup.specs.Grammar.{IsSetup};
 ghost use Rattle.bl_setup.specs.Heads.{BeginsWith, Remain};
-ghost use Rattle.bl_setup.specs.FirstFault as first;
-ghost use Rattle.bl_setup.specs.FirstFault.{LeadOn, StopsAt, FirstFault, IsReadAt};
+ghost use Rattle.bl_setup.specs.FirstSetupFault as first;
+ghost use Rattle.bl_setup.specs.FirstSetupFault.{LeadOn, StopsAt, FirstSetupFault, IsReadAt};
 ghost use Rattle.bl_setup.specs.Lines.{lines_read, file_lines};
 ghost use Rattle.bl_setup.specs.Taking.{Takes, EndsEarly, Stops};
 ghost use Rattle.bl_setup.specs.declared.fault.SetupFaultKind.TheVariants.{Memory};
@@ -97,7 +97,7 @@ pub fn read_setup(alloc: Global, bytes: &[u8]) -> Result<Setup, SetupFault>
     ensures setup { IfOk result (IsSetup bytes.now) }
     ensures only { IfOk result (λ setup. (other : setups.Setup) → IsSetup bytes.now other → other ≡ setup) }
     // Any fault but want of memory is the first of the text.
-    ensures first { IfErr result (λ fault. UnlessMemory fault.kind (FirstFault bytes.now fault)) }
+    ensures first { IfErr result (λ fault. UnlessMemory fault.kind (FirstSetupFault bytes.now fault)) }
     // Want of memory names a line that is read, and the lines before it are right.
     ensures memory { IfErr result (λ fault. fault.kind ≡ Memory → IsReadAt bytes.now fault.line) }
     // Any fault but want of memory means that the text is no setup.

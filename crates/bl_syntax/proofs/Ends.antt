@@ -7,7 +7,7 @@ use Rattle.bl_level.specs.Token.{Tok, sign}
 use Rattle.bl_level.specs.Lexing.{Front, nothing, token, broken}
 use Rattle.bl_work.specs.SpelledRules.{SpelledRule, give, rescind, current, classify}
 use Rattle.bl_work.specs.Grammar.{SpelledLine, hello, wait, when, rule, spell}
-use Rattle.bl_work.specs.Fault.{ReadsAs, FirstFault, SyntaxFault}
+use Rattle.bl_work.specs.Fault.{ReadsAs, FirstTokenAtFault, SyntaxFault}
 use Rattle.bl_work.specs.Machine.{a_line, rest_of_level, step}
 use Rattle.bl_syntax.specs.Tokens.{tokens_of, end_of, tokens_from, end_from}
 use Rattle.bl_syntax.specs.Parsing.{Faults, IsFirstFault, LevelEnds, RuleEnds, LineEnds}
@@ -48,7 +48,7 @@ line_refuses (when first more body) t rest over = refl
 line_refuses (rule r) t rest over = rule_refuses r t rest over
 
 -- what stands behind a line is a fault
-pub more_than_line : (l : SpelledLine) (tokens rest : List Tok) → tokens ≡ spell l ++ rest → LineEnds l rest → rest ≢ [] → FirstFault tokens (length rest)
+pub more_than_line : (l : SpelledLine) (tokens rest : List Tok) → tokens ≡ spell l ++ rest → LineEnds l rest → rest ≢ [] → FirstTokenAtFault tokens (length rest)
 more_than_line l tokens [] e over some = absurd (some refl)
 more_than_line l tokens (t ∷ rest) e over some = fault_at tokens (spell l) (t ∷ rest) e (rw (run_line l []) (line_refuses l t rest over))
 
@@ -68,7 +68,7 @@ broken_line bytes l f from same ends is =
 
 -- a token stands there
 pub token_line : (bytes : List ℕ) (l : SpelledLine) (f : Front) (t : Tok) (more : List ℕ) → tokens_of bytes ≡ spell l ++ tokens_from f → LineEnds l (tokens_from f) → f ≡ token t more
-    → FirstFault (tokens_of bytes) (length (tokens_from f))
+    → FirstTokenAtFault (tokens_of bytes) (length (tokens_from f))
 token_line bytes l f t more same over is = more_than_line l (tokens_of bytes) (tokens_from f) same over (rw is some)
   where
     some : t ∷ tokens_of more ≢ []

@@ -7,7 +7,7 @@ use Rattle.bl_level.specs.Token.{Tok}
 use Rattle.bl_level.specs.Lexing.{Front, nothing, token, broken, front, past_blanks, Begins}
 use Rattle.bl_level.specs.Cutting.{Cut, EndsAs}
 use Rattle.bl_work.specs.Grammar.{SpelledLine, spell, CanGoOn}
-use Rattle.bl_work.specs.Fault.{Blocks, FirstFault, FaultAt, SyntaxFault}
+use Rattle.bl_work.specs.Fault.{Blocks, FirstTokenAtFault, FaultAt, SyntaxFault}
 use Rattle.bl_syntax.specs.Reading.{fault_place}
 
 -- all the tokens stand at the front, and what is behind them ends so
@@ -57,12 +57,12 @@ fault_cases (t ∷ after) total bytes ts before ks place left is cut split len g
     rw (← len) (record { before = before; rest = c.0; left = length c.0; begins = c.2; goes_on = goes_on; fault = rw c.3 (refl, blocked); place_is = rw (not_zero (length after), at) (c.4 ∙ is) })
 
 -- the place of the first token at fault is that of the first fault
-pub fault_of : (total : ℕ) (bytes : List ℕ) (ts : List Tok) (ks : List ℕ) (place : Option ℕ) (left : ℕ) → total ≡ length bytes → Cut total bytes ts ks place → FirstFault ts left
+pub fault_of : (total : ℕ) (bytes : List ℕ) (ts : List Tok) (ks : List ℕ) (place : Option ℕ) (left : ℕ) → total ≡ length bytes → Cut total bytes ts ks place → FirstTokenAtFault ts left
     → SyntaxFault bytes (fault_place total ks place left)
 fault_of total bytes ts ks place left is cut f = fault_cases f.after total bytes ts f.before ks place left is cut f.split f.left_is f.goes_on f.blocked
 
 -- there are no fewer tokens than those from the first at fault on
-pub left_within : (tokens : List Tok) (left : ℕ) → FirstFault tokens left → left ≤ length tokens
+pub left_within : (tokens : List Tok) (left : ℕ) → FirstTokenAtFault tokens left → left ≤ length tokens
 left_within tokens left f =
     let long : length tokens ≡ length f.before + length f.after = ap length f.split ∙ length-append f.before f.after in
     let is : length f.after ≡ left = f.left_is in

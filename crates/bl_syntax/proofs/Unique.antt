@@ -15,7 +15,7 @@ use Rattle.bl_work.specs.declared.script.Condition.TheVariants.{Is, Has}
 use Rattle.bl_work.specs.Spelled.{SpelledAccess, SpelledBody, empty, show, say, add, set, copy, pour, if_then, if_else, spawn, mode_word, asks_word, spell_access, spell_more, spell_body}
 use Rattle.bl_work.specs.SpelledRules.{SpelledRule, letter_of, give, rescind, current, classify, spell_rule}
 use Rattle.bl_work.specs.Grammar.{SpelledLine, hello, wait, when, rule, spell}
-use Rattle.bl_work.specs.Fault.{Blocks, FirstFault}
+use Rattle.bl_work.specs.Fault.{Blocks, FirstTokenAtFault}
 use Rattle.bl_work.specs.Machine.{mode_of}
 use Rattle.bl_syntax.specs.Parsing.{BeginsNone, IsNotAt}
 use Rattle.bl_work.proofs.Lists.{proper_behind}
@@ -327,7 +327,7 @@ same_line (when a m b) (when a' m' b') e =
     λ i. when (p.0 i) (q.0 i) (s.0 i)
 same_line _ _ e = absurd (cc)
 
-pub line_no_fault : (l : SpelledLine) (tokens : List Tok) (left : ℕ) → AreProper tokens → spell l ≡ tokens → FirstFault tokens left → ⊥
+pub line_no_fault : (l : SpelledLine) (tokens : List Tok) (left : ℕ) → AreProper tokens → spell l ≡ tokens → FirstTokenAtFault tokens left → ⊥
 line_no_fault l tokens left proper e f = go f.after f.split f.blocked
   where
     go : (after : List Tok) → tokens ≡ f.before ++ after → Blocks f.before after → ⊥

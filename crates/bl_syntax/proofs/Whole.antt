@@ -6,7 +6,7 @@ use Rattle.bl_level.specs.Lexing.{Front, nothing, token, broken, front, Begins}
 use Rattle.bl_level.specs.Name.{AreProper}
 use Rattle.bl_level.specs.Cutting.{Cut, EndsAs}
 use Rattle.bl_work.specs.Grammar.{SpelledLine, spell}
-use Rattle.bl_work.specs.Fault.{ReadsAs, FirstFault, SyntaxFault}
+use Rattle.bl_work.specs.Fault.{ReadsAs, FirstTokenAtFault, SyntaxFault}
 use Rattle.bl_level.proofs.Readings.{one_reading, read_proper}
 use Rattle.bl_syntax.specs.Tokens.{tokens_of, end_of}
 use Rattle.bl_syntax.proofs.Tokens.{IsOver, reaches, reads_whole, tokens_proper}
@@ -64,7 +64,7 @@ line_tokens bytes l reads =
     never t more f = cc
 
 -- among them no token is at fault, nor stands a lexical fault behind them
-pub reads_no_stop : (bytes : List ℕ) (l : SpelledLine) (left : ℕ) → ReadsAs bytes l → FirstFault (tokens_of bytes) left → ⊥
+pub reads_no_stop : (bytes : List ℕ) (l : SpelledLine) (left : ℕ) → ReadsAs bytes l → FirstTokenAtFault (tokens_of bytes) left → ⊥
 reads_no_stop bytes l left reads fault = line_no_fault l (tokens_of bytes) left (tokens_proper bytes) (sym (line_tokens bytes l reads)) fault
 
 pub reads_not_broken : (bytes : List ℕ) (l : SpelledLine) (place : ℕ) → ReadsAs bytes l → SyntaxFault bytes place → ⊥

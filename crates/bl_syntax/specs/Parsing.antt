@@ -15,7 +15,7 @@ use Rattle.bl_syntax.specs.declared.stop.Stop.{Stop}
 use Rattle.bl_syntax.specs.declared.stop.Stop.TheVariants.{Memory, At, Broken}
 use Rattle.bl_syntax.specs.declared.raw.RawStatement.{RawStatement}
 use Rattle.bl_syntax.specs.declared.raw.RawStatement.TheVariants as raw
-use Rattle.bl_work.specs.Fault.{FirstFault, SyntaxFault}
+use Rattle.bl_work.specs.Fault.{FirstTokenAtFault, SyntaxFault}
 use Rattle.bl_work.specs.Grammar.{SpelledLine, hello, wait, when, rule}
 use Rattle.bl_work.specs.SpelledRules.{SpelledRule, give, rescind, current, classify}
 use Rattle.bl_work.specs.Machine.{Due, Stops, statement_due, if_due, when_due, word, a_name, a_text, a_body, rest_of_if}
@@ -46,7 +46,7 @@ Gives P want tokens (Err e) = Faults want tokens e
 -- Of want of memory nothing is said.
 abbrev pub IsFirstFault : List ℕ → Stop → Type 0
 IsFirstFault bytes Memory = Unit {0}
-IsFirstFault bytes (At left) = FirstFault (tokens_of bytes) left
+IsFirstFault bytes (At left) = FirstTokenAtFault (tokens_of bytes) left
 IsFirstFault bytes (Broken place) = SyntaxFault bytes place
 
 -- the next token is not this one

@@ -6,7 +6,7 @@ ghost use Rattle.bl_work.specs.Fault.{ReadsAs, SyntaxFault};
 ghost use Rattle.bl_syntax.specs.RawView.{raw_view};
 ghost use Rattle.bl_work.specs.Content.{most_bytes};
 ghost use Rattle.bl_syntax.specs.Reading.{IsRawFault, fault_place, IsNoMemory};
-ghost use Rattle.bl_work.specs.SpelledTexts.{HasContents};
+ghost use Rattle.bl_work.specs.SpelledTexts.{HasSpelledContents};
 ghost use Rattle.bl_syntax.specs.declared.read.RawFault.TheVariants.{Memory};
 
 use crate::parse::parse_line;
@@ -57,7 +57,7 @@ pub fn read_raw<'a>(alloc: Global, bytes: &'a [u8]) -> Result<RawLine<'a>, RawFa
     // What is spelled so is read, unless memory runs out.
     ensures only { (l : SpelledLine) → ReadsAs bytes.now l → MatchResult result (λ r. raw_view r ≡ l) IsNoMemory }
     // Of bytes that are no more than a content has, its texts are contents.
-    ensures texts { length bytes.now ≤ most_bytes → IfOk result (λ l. HasContents (raw_view l)) }
+    ensures texts { length bytes.now ≤ most_bytes → IfOk result (λ l. HasSpelledContents (raw_view l)) }
     // Which fault it is.
     ensures fault { IfErr result (IsRawFault bytes.now) }
 {

@@ -14,7 +14,7 @@ use Rattle.bl_wire.specs.declared.part.Part.{Part}
 use Rattle.bl_wire.specs.declared.part.Part.TheVariants.{Ends, More, Nothing}
 use Rattle.memchr.specs.Find.{IsFirstByte, is_byte}
 use Rattle.bl_wire.specs.Lines.{HasNoLf}
-use Rattle.bl_wire.specs.Holds.{Holds}
+use Rattle.bl_wire.specs.HoldsLine.{HoldsLine}
 use Rattle.bl_wire.specs.Reads.{IsBegun, TookPart, TookLine, Scanned, Keeping, BrokeOff, IsReadingFault, HasMore}
 use Rattle.bl_wire.specs.declared.fault.SessionFault.{SessionFault}
 use Rattle.bl_wire.specs.declared.fault.SessionFault.TheVariants.{Read, Write, TooLong, Memory, Clash}
@@ -68,12 +68,12 @@ module _ (a b c : Option (List ℕ)) (held new : Held) (begun : Bool) (start was
         count = omega (arith, ap length all, length-append so_far.line (part.some ++ 10 ∷ []), part.count, so_far.count);
       }
 
-  nothing : TookPart Nothing b c held new was left → Consumes a c so_far.line × (left + length so_far.line ≡ start) × Holds new so_far.line × OnSome a (IsAtEnd c)
+  nothing : TookPart Nothing b c held new was left → Consumes a c so_far.line × (left + length so_far.line ≡ start) × HoldsLine new so_far.line × OnSome a (IsAtEnd c)
   nothing part =
       let none : so_far.line ++ part.some ≡ so_far.line = ap (λ l. so_far.line ++ l) part.last.0 ∙ append-nil so_far.line in (
         subst (Consumes a c) none (Consumes-trans a b c so_far.line part.some so_far.bytes part.bytes),
         omega (arith, ap length part.last.0, part.count, so_far.count),
-        subst (Holds new) none (part.holds so_far.line so_far.holds),
+        subst (HoldsLine new) none (part.holds so_far.line so_far.holds),
         known_on a b c so_far.line so_far.bytes part.last.1,
       )
 

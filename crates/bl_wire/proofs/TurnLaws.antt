@@ -1,7 +1,7 @@
 -- What the look of a line and its text tell of its turn.
 use Rattle.std.proofs.Common.{◌≡◌, ℕ, ◌<◌, true, false, List, length, sym, ap, ◌∙◌, arith, subst, take, take_all, ltb-false, Result, Ok, Err, IfOk}
 use Rattle.bl_wire.specs.declared.held.Held.{Held}
-use Rattle.bl_wire.specs.Holds.{Holds}
+use Rattle.bl_wire.specs.HoldsLine.{HoldsLine}
 use Rattle.bl_work.specs.Names.{KnownNames}
 use Rattle.bl_work.specs.declared.asked.LineFault.TheVariants.{Long}
 use Rattle.bl_wire.specs.Lines.{without_cr, is_blank}
@@ -30,7 +30,7 @@ turn_said names line (Bad fault) e is = (filled line e, is)
 turn_said names line (Ask work) e is = (filled line e, is)
 
 pub all_said : {E : Type 0} → (names : KnownNames) (held : Held) (text : List ℕ) → Filled ≡ held.look → held.over ≡ false → text ≡ without_cr held.bytes.items
-    → (r : Result Turn E) → IfOk r (IsSaid names text) → IfOk r (λ turn. (line : List ℕ) → Holds held line → IsTurn names line turn)
+    → (r : Result Turn E) → IfOk r (IsSaid names text) → IfOk r (λ turn. (line : List ℕ) → HoldsLine held line → IsTurn names line turn)
 all_said names held text look over is (Err e) said = tt
 all_said names held text look over is (Ok turn) said = λ line h.
     let all : take 8193 line ≡ line = take_all 8193 line (ltb-false 8193 (length line) (sym h.over ∙ over)) in

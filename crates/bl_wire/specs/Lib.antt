@@ -3,7 +3,7 @@ pub mod Watch
 pub mod Asked
 pub mod Lines
 pub mod Look
-pub mod Holds
+pub mod HoldsLine
 pub mod Reads
 pub mod Turns
 pub mod Texts

@@ -9,7 +9,7 @@ use Rattle.bl_wire.specs.declared.part.Part.TheVariants.{Ends, More, Nothing}
 use Rattle.bl_wire.specs.declared.fault.SessionFault.{SessionFault}
 use Rattle.bl_wire.specs.declared.fault.SessionFault.TheVariants.{Read, Write, TooLong, Memory, Clash}
 use Rattle.bl_wire.specs.Lines.{HasNoLf}
-use Rattle.bl_wire.specs.Holds.{Holds}
+use Rattle.bl_wire.specs.HoldsLine.{HoldsLine}
 
 -- the bytes that were read: a line with its LF, or without it at the end of the input
 abbrev pub ended : Next → List ℕ → List ℕ
@@ -27,7 +27,7 @@ pub record TookLine (next : Next) (before after : Option (List ℕ)) (held : Hel
   pub line : List ℕ
   pub plain : HasNoLf line
   pub bytes : Consumes before after (ended next line)
-  pub holds : Holds held line
+  pub holds : HoldsLine held line
   pub last : IsLast next line before after
   pub count : left + length (ended next line) ≡ was
 
@@ -81,7 +81,7 @@ pub record Scanned (n : ℕ) (part : Part) (shown : List ℕ) (old new : Held) (
   pub within : n ≤ length shown
   pub fits : n ≤ left
   pub front : take n shown ≡ part_bytes part some
-  pub holds : (line : List ℕ) → Holds old line → Holds new (line ++ some)
+  pub holds : (line : List ℕ) → HoldsLine old line → HoldsLine new (line ++ some)
   pub kind : IsFound part some shown
 
 -- a part of a line was read and is held
@@ -89,7 +89,7 @@ pub record TookPart (part : Part) (before after : Option (List ℕ)) (old new : 
   pub some : List ℕ
   pub plain : HasNoLf some
   pub bytes : Consumes before after (part_bytes part some)
-  pub holds : (line : List ℕ) → Holds old line → Holds new (line ++ some)
+  pub holds : (line : List ℕ) → HoldsLine old line → HoldsLine new (line ++ some)
   pub last : IsPart part some before after
   pub count : left + length (part_bytes part some) ≡ was
 
@@ -98,7 +98,7 @@ pub record IsBegun (begun : Bool) (before after : Option (List ℕ)) (held : Hel
   pub line : List ℕ
   pub plain : HasNoLf line
   pub bytes : Consumes before after line
-  pub holds : Holds held line
+  pub holds : HoldsLine held line
   pub some : begun ≡ true → 0 < length line
   pub none : begun ≡ false → line ≡ []
   pub count : left + length line ≡ was

@@ -57,7 +57,7 @@ fn look_on(look: Look, part: &[u8]) -> Look
 }
 
 impl Held {
-    ghost use Rattle.bl_wire.specs.Holds.{Holds};
+    ghost use Rattle.bl_wire.specs.HoldsLine.{Holds};
 
     /// Room for a line; no line has begun.
     pub fn new(alloc: Global) -> Result<Held, AllocError>

@@ -107,8 +107,8 @@ fn said(alloc: Global, names: &Names, text: &[u8]) -> Result<Turn, AllocError>
 /// What the line that is held is to the session. A line of blanks alone is skipped, however long
 /// it is. A line that is too long takes no memory.
 pub fn turn_held(alloc: Global, names: &Names, held: &Held) -> Result<Turn, AllocError>
-    ensures turn { IfOk result (λ turn. (line : List ℕ) → Holds held.now line → IsTurn names.now line turn) }
-    ensures long { (line : List ℕ) → Holds held.now line → most_line_bytes < length (without_cr line) → IsOk result }
+    ensures turn { IfOk result (λ turn. (line : List ℕ) → HoldsLine held.now line → IsTurn names.now line turn) }
+    ensures long { (line : List ℕ) → HoldsLine held.now line → most_line_bytes < length (without_cr line) → IsOk result }
 {
     match held.look {
         Look::Filled => {}
@@ -120,7 +120,7 @@ pub fn turn_held(alloc: Global, names: &Names, held: &Held) -> Result<Turn, Allo
     said(alloc, names, text_held(&held.bytes))
 }
 
-ghost use Rattle.bl_wire.specs.Holds.{Holds};
+ghost use Rattle.bl_wire.specs.HoldsLine.{HoldsLine};
 ghost use Rattle.bl_wire.specs.Turns.{IsSaid, IsTurn, is_skip, greeted};
 ghost use Rattle.bl_work.specs.Names.{KnownNames};
 ghost use Rattle.bl_work.specs.LineGrammar.{LineOf};

@@ -9,7 +9,7 @@ use Rattle.bl_work.specs.Content.{IsContent, most_bytes}
 use Rattle.bl_work.specs.Spelled.{SpelledAccess, SpelledBody, empty, show, say, add, set, copy, pour, if_then, if_else, spawn, spell_more, spell_body}
 use Rattle.bl_work.specs.WhenFaults.{AreContents}
 use Rattle.bl_work.specs.Grammar.{SpelledLine, hello, wait, when, rule, spell}
-use Rattle.bl_work.specs.SpelledTexts.{HasContents}
+use Rattle.bl_work.specs.SpelledTexts.{HasSpelledContents}
 
 -- a text is a content
 abbrev IsFit : Tok → Type 0
@@ -81,7 +81,7 @@ body_contents (spawn first more body rest) (x, (y, (z, (u, behind_first)))) =
     let p = fit_split (spell_body body) (reserved End ∷ sign Semicolon ∷ spell_body rest) d in
     (body_contents body p.0, body_contents rest (behind (sign Semicolon) (spell_body rest) (behind (reserved End) (sign Semicolon ∷ spell_body rest) p.1)))
 
-line_fit : (l : SpelledLine) → AreFit (spell l) → HasContents l
+line_fit : (l : SpelledLine) → AreFit (spell l) → HasSpelledContents l
 line_fit (hello subject) h = tt
 line_fit wait h = tt
 line_fit (rule asked) h = tt
@@ -91,5 +91,5 @@ line_fit (when first more body) (x, (y, (z, behind_first))) =
     body_contents body p.0
 
 -- the texts in a line of proper tokens, whose canonical text is not longer than a content may be, are contents
-pub line_contents : (l : SpelledLine) (most : ℕ) → most ≤ most_bytes → AreProper (spell l) → length (canonical (spell l)) ≤ most → HasContents l
+pub line_contents : (l : SpelledLine) (most : ℕ) → most ≤ most_bytes → AreProper (spell l) → length (canonical (spell l)) ≤ most → HasSpelledContents l
 line_contents l most few proper short = line_fit l (are_fit (spell l) most most_bytes refl few proper short)

@@ -21,7 +21,7 @@ use Rattle.bl_work.specs.declared.script.Condition.TheVariants as asks
 use Rattle.bl_work.specs.Spelled.{SpelledAccess, SpelledBody, empty, show, say, add, set, copy, pour, if_then, if_else, spawn, mode_word, asks_word, spell_access, spell_more, spell_body}
 use Rattle.bl_work.specs.SpelledRules.{SpelledRule, letter_of, give, rescind, current, classify}
 use Rattle.bl_work.specs.Grammar.{SpelledLine, hello, wait, when, rule, spell, CanGoOn}
-use Rattle.bl_work.specs.Fault.{Blocks, FirstFault}
+use Rattle.bl_work.specs.Fault.{Blocks, FirstTokenAtFault}
 use Rattle.bl_work.specs.Machine.{Due, word, a_sign, a_name, a_text, a_mode, is_or_has, more_accesses, a_body, rest_of_if, a_letter, rest_of_level, rest_of_categories, a_line, access_due, when_due, if_due, level_due, cell_due, statement_due, body_due, more_due, rest_due, mode_due, asks_due, mode_of, letter_taken, letter_due, categories_due, category_due, step, run, ends, Refuses, Stops, word_due, sign_due, name_due, text_due, line_due}
 
 pub run_none : (ts : List Tok) → run None ts ≡ None
@@ -529,7 +529,7 @@ goes_on_there before after r = go (run (Some (a_line ∷ [])) before) refl r
     go None e r = absurd r
     go (Some due) e r = run_goes_on before due e
 
-pub fault_at : (tokens before after : List Tok) → tokens ≡ before ++ after → Refuses (run (Some (a_line ∷ [])) before) after → FirstFault tokens (length after)
+pub fault_at : (tokens before after : List Tok) → tokens ≡ before ++ after → Refuses (run (Some (a_line ∷ [])) before) after → FirstTokenAtFault tokens (length after)
 fault_at tokens before after split r = record {
   before = before;
   after = after;
@@ -539,5 +539,5 @@ fault_at tokens before after split r = record {
   blocked = refused_blocks before after r;
 }
 
-pub first_fault : (tokens : List Tok) (left : ℕ) → Stops (a_line ∷ []) tokens left → FirstFault tokens left
-first_fault tokens left s = subst (FirstFault tokens) s.left_is (fault_at tokens s.before s.after s.split (s.refused []))
+pub first_fault : (tokens : List Tok) (left : ℕ) → Stops (a_line ∷ []) tokens left → FirstTokenAtFault tokens left
+first_fault tokens left s = subst (FirstTokenAtFault tokens) s.left_is (fault_at tokens s.before s.after s.split (s.refused []))

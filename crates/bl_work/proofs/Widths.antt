@@ -9,7 +9,7 @@ use Rattle.bl_level.specs.Level.{SecurityLevel}
 use Rattle.bl_level.specs.LevelFronts.{tail_of}
 use Rattle.bl_level.specs.LevelText.{LevelText, IsNamed, spell_level, held_names, text_of}
 use Rattle.bl_level.specs.LevelText as of_level
-use Rattle.bl_level.specs.Scheme.{SchemeNames, IsScheme, Holds}
+use Rattle.bl_level.specs.Scheme.{SchemeNames, IsScheme, HoldsLevel}
 use Rattle.bl_level.specs.Table.{AreDistinct, place_of}
 use Rattle.bl_level.proofs.LevelTexts.{same_place}
 use Rattle.bl_level.proofs.WritingLevels.{level_bytes, text_means}
@@ -97,7 +97,7 @@ place_within table n i at = (position-Some (bytes_eq n) table i [] at).0
 
 module _ (scheme : SchemeNames) (text : LevelText) (level : SecurityLevel) (means : of_level.Means scheme text level) where
   -- the scheme holds what a text means
-  pub held : Holds scheme level
+  pub held : HoldsLevel scheme level
   held = record { rank = place_within scheme.ranks text.rank level.rank means.rank; categories = λ k has. go k ((means.categories k).0 has) }
     where
       go : (k : ℕ) → IsNamed scheme text k → k < length scheme.categories

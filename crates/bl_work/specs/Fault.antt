@@ -31,7 +31,7 @@ Blocks before [] = (line : SpelledLine) → spell line ≡ before → ⊥
 Blocks before (t ∷ more) = CanGoOn (before ++ t ∷ []) → ⊥
 
 -- The first of these tokens that is at fault, from the left, has so many tokens from it on; none where the line ends too early.
-pub record FirstFault (tokens : List Tok) (left : ℕ) : Type 0 where
+pub record FirstTokenAtFault (tokens : List Tok) (left : ℕ) : Type 0 where
   pub before : List Tok
   pub after : List Tok
   pub split : tokens ≡ before ++ after

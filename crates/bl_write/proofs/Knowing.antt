@@ -14,7 +14,7 @@ use Rattle.bl_policy.specs.declared.access.Access.{Access}
 use Rattle.bl_work.specs.declared.asked.Line.TheVariants as line
 use Rattle.bl_work.specs.declared.work.Work.TheVariants.{Behaviour}
 use Rattle.bl_work.specs.Grammar.{SpelledLine, hello, wait, when, rule, spell}
-use Rattle.bl_write.specs.Known.{IsKnown, canonical_script}
+use Rattle.bl_write.specs.Known.{IsKnownScript, canonical_script}
 use Rattle.bl_work.specs.LineGrammar.{Means, LineOf}
 use Rattle.bl_work.specs.Meaning.{whens, document_of, access_of, numbered, spawned_from, script_of}
 use Rattle.bl_work.specs.Names.{KnownNames}
@@ -129,7 +129,7 @@ pub line_shortest : CanonicalIsShortest → (names : KnownNames) (bytes : List �
     → length (canonical_script names script) ≤ length bytes
 line_shortest shortest names bytes script l = (of_line shortest names bytes script l.spelled l.reads l.means).shortest
 
-pub line_known : CanonicalIsShortest → (names : KnownNames) (bytes : List ℕ) (script : List Part) → LineOf names bytes (line.Work (Behaviour script)) → IsKnown names script
+pub line_known : CanonicalIsShortest → (names : KnownNames) (bytes : List ℕ) (script : List Part) → LineOf names bytes (line.Work (Behaviour script)) → IsKnownScript names script
 line_known shortest names bytes script l =
     let p = of_line shortest names bytes script l.spelled l.reads l.means in
     record { there = p.there; short = omega (arith, p.shortest, l.short) }

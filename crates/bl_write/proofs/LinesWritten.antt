@@ -17,7 +17,7 @@ use Rattle.bl_policy.specs.declared.rule.Rule.TheVariants as rule_of
 use Rattle.bl_work.specs.declared.work.Work.TheVariants.{Behaviour, Rule}
 use Rattle.bl_write.specs.CanonicalLine.{IsTidy, IsTidyRule, IsTidyLine, IsCanonicalOf, canonical_line}
 use Rattle.bl_work.specs.Grammar.{SpelledLine, hello, wait, when, rule, spell}
-use Rattle.bl_write.specs.Known.{IsKnown, canonical_script, IsKnownRule, canonical_rule}
+use Rattle.bl_write.specs.Known.{IsKnownScript, canonical_script, IsKnownRule, canonical_rule}
 use Rattle.bl_work.specs.LineGrammar.{Means, LineOf}
 use Rattle.bl_work.specs.Meaning.{script_of}
 use Rattle.bl_work.specs.Names.{KnownNames, AreNames}
@@ -107,7 +107,7 @@ CanonicalReadsAgain = (ts : List Tok) → AreProper ts → Begins (canonical ts)
 
 -- the same of a script
 abbrev pub ScriptReadsAgain : Type 0
-ScriptReadsAgain = (names : KnownNames) (script : List Part) → AreNames names → IsScript script → IsKnown names script
+ScriptReadsAgain = (names : KnownNames) (script : List Part) → AreNames names → IsScript script → IsKnownScript names script
     → LineOf names (canonical_script names script) (line.Work (Behaviour script))
 
 abbrev pub ScriptIsShortest : Type 0
@@ -115,7 +115,7 @@ ScriptIsShortest = (names : KnownNames) (bytes : List ℕ) (script : List Part) 
     → length (canonical_script names script) ≤ length bytes
 
 abbrev pub ScriptIsKnown : Type 0
-ScriptIsKnown = (names : KnownNames) (bytes : List ℕ) (script : List Part) → LineOf names bytes (line.Work (Behaviour script)) → IsKnown names script
+ScriptIsKnown = (names : KnownNames) (bytes : List ℕ) (script : List Part) → LineOf names bytes (line.Work (Behaviour script)) → IsKnownScript names script
 
 -- the same of a rule
 abbrev pub RuleReadsAgain : Type 0
@@ -192,7 +192,7 @@ module _ (names : KnownNames) where
       go (rule asked) reads means = absurd means
 
   -- the `when` that a known script is read back as asks the script
-  script_means : (script : List Part) → AreNames names → IsScript script → IsKnown names script
+  script_means : (script : List Part) → AreNames names → IsScript script → IsKnownScript names script
       → Means names (unread_line names (line.Work (Behaviour script))) (line.Work (Behaviour script))
   script_means script table is known =
       let first = (unread names script).first in

@@ -9,7 +9,7 @@ use Rattle.bl_level.specs.Token.{Tok}
 use Rattle.bl_work.specs.declared.asked.Line.TheVariants as line
 use Rattle.bl_work.specs.declared.work.Work.TheVariants.{Behaviour}
 use Rattle.bl_work.specs.Grammar.{when}
-use Rattle.bl_write.specs.Known.{IsKnown, canonical_script}
+use Rattle.bl_write.specs.Known.{IsKnownScript, canonical_script}
 use Rattle.bl_work.specs.LineGrammar.{most_line_bytes, LineOf}
 use Rattle.bl_work.specs.Meaning.{script_of}
 use Rattle.bl_work.specs.Names.{KnownNames, AreNames}
@@ -25,7 +25,7 @@ use Rattle.bl_write.proofs.Reread.{script_is, names_known}
 abbrev pub CanonicalReadsAgain : Type 0
 CanonicalReadsAgain = (ts : List Tok) → AreProper ts → Begins (canonical ts) ts []
 
-pub script_reads_again : CanonicalReadsAgain → (names : KnownNames) (script : List Part) → AreNames names → IsScript script → IsKnown names script
+pub script_reads_again : CanonicalReadsAgain → (names : KnownNames) (script : List Part) → AreNames names → IsScript script → IsKnownScript names script
     → LineOf names (canonical_script names script) (line.Work (Behaviour script))
 script_reads_again again names script table is known =
     let first = (unread names script).first in
@@ -46,11 +46,11 @@ script_reads_again again names script table is known =
 
 -- what the two laws of scripts say
 abbrev pub ScriptReadsAgain : Type 0
-ScriptReadsAgain = (names : KnownNames) (script : List Part) → AreNames names → IsScript script → IsKnown names script
+ScriptReadsAgain = (names : KnownNames) (script : List Part) → AreNames names → IsScript script → IsKnownScript names script
     → LineOf names (canonical_script names script) (line.Work (Behaviour script))
 
 abbrev pub ScriptIsKnown : Type 0
-ScriptIsKnown = (names : KnownNames) (bytes : List ℕ) (script : List Part) → LineOf names bytes (line.Work (Behaviour script)) → IsKnown names script
+ScriptIsKnown = (names : KnownNames) (bytes : List ℕ) (script : List Part) → LineOf names bytes (line.Work (Behaviour script)) → IsKnownScript names script
 
 -- some text reads as the script
 abbrev pub HasText : KnownNames → List Part → Type 0

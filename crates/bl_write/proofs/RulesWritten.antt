@@ -8,7 +8,7 @@ use Rattle.bl_level.specs.Level.{SecurityLevel}
 use Rattle.bl_level.specs.Lexing.{Begins, word_text}
 use Rattle.bl_level.specs.LevelText.{canonical_level, spell_level, text_of}
 use Rattle.bl_level.specs.Name.{IsName, AreProper}
-use Rattle.bl_level.specs.Scheme.{Holds}
+use Rattle.bl_level.specs.Scheme.{HoldsLevel}
 use Rattle.bl_level.specs.Table.{IsTable}
 use Rattle.bl_level.specs.Token.{Tok, name}
 use Rattle.bl_level.proofs.WritingLevels.{place_is, text_means, level_reads_back}
@@ -54,7 +54,7 @@ module _ (proper : ReadTokensAreProper) (names : KnownNames) (table : AreNames n
   letter_name : (mode : Mode) → IsName (letter_of mode)
   letter_name mode = (proper (letter_of mode) [] (name (letter_of mode) ∷ []) (letter_reads mode)).0
 
-  level_proper : (level : SecurityLevel) → Holds names.scheme level → AreProper (spell_level (text_of names.scheme level))
+  level_proper : (level : SecurityLevel) → HoldsLevel names.scheme level → AreProper (spell_level (text_of names.scheme level))
   level_proper level holds =
       let bytes = canonical_level names.scheme level in
       proper bytes [] (spell_level (text_of names.scheme level)) (level_reads_back names.scheme level table.scheme holds bytes refl).spelled

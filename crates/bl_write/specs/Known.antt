@@ -16,7 +16,7 @@ abbrev pub canonical_script : KnownNames → List Part → List ℕ
 canonical_script names script = canonical (spell (unread_line names (line.Work (Behaviour script))))
 
 -- each document that the script declares is among the names, and its canonical text is no longer than a line
-pub record IsKnown (names : KnownNames) (script : List Part) : Type 0 where
+pub record IsKnownScript (names : KnownNames) (script : List Part) : Type 0 where
   pub there : AreThere names script
   pub short : length (canonical_script names script) ≤ most_line_bytes
 

@@ -1,7 +1,7 @@
 -- What a script or a rule names is there: subjects and documents among the names, levels in the scheme, and the behaviours that the
 -- statements of a script spawn.
 use Rattle.std.specs.Prelude.{ℕ, ◌<◌, List, length, All}
-use Rattle.bl_level.specs.Scheme.{SchemeNames, Holds}
+use Rattle.bl_level.specs.Scheme.{SchemeNames, HoldsLevel}
 use Rattle.bl_policy.specs.declared.access.Access.{Access}
 use Rattle.bl_policy.specs.declared.rule.Rule as asked_rule
 use Rattle.bl_policy.specs.declared.rule.Rule.TheVariants as asked
@@ -34,8 +34,8 @@ AreWithin documents behaviours (Spawn behaviour rest) = (behaviour < behaviours)
 abbrev pub HasHeldLevel : SchemeNames → asked_rule.Rule → Type 0
 HasHeldLevel scheme (asked.Give subject doc mode) = Unit {0}
 HasHeldLevel scheme (asked.Rescind subject doc mode) = Unit {0}
-HasHeldLevel scheme (asked.Current level) = Holds scheme level
-HasHeldLevel scheme (asked.Classify doc level) = Holds scheme level
+HasHeldLevel scheme (asked.Current level) = HoldsLevel scheme level
+HasHeldLevel scheme (asked.Classify doc level) = HoldsLevel scheme level
 
 -- the subject and the document of a rule are among the names, and its level is the scheme's
 pub record IsRuleThere (names : KnownNames) (rule : asked_rule.Rule) : Type 0 where

@@ -10,7 +10,7 @@ ghost use Rattle.bl_work.specs.declared.asked.Line as asked_line;
 ghost use Rattle.bl_work.specs.declared.work.Work as asked_work;
 ghost use Rattle.bl_write.specs.CanonicalLine.{canonical_line};
 ghost use Rattle.bl_policy.specs.declared.rule.Rule as asked_rule;
-ghost use Rattle.bl_write.specs.Known.{canonical_script, IsKnown, canonical_rule, IsKnownRule};
+ghost use Rattle.bl_write.specs.Known.{canonical_script, IsKnownScript, canonical_rule, IsKnownRule};
 ghost use Rattle.bl_work.specs.declared.asked.Line.TheVariants.{Work};
 ghost use Rattle.bl_work.specs.declared.work.Work.TheVariants.{Behaviour, Rule};
 
@@ -18,7 +18,7 @@ use bl_level::laws::{canonical_is_shortest, canonical_reads_again, read_tokens_a
 
 /// The canonical text of a script that the names know reads as the script.
 pub fn canonical_script_reads_again()
-    ensures { (names : KnownNames) (script : List Part) → AreNames names → IsScript script → IsKnown names script
+    ensures { (names : KnownNames) (script : List Part) → AreNames names → IsScript script → IsKnownScript names script
         → LineOf names (canonical_script names script) (Work (Behaviour script)) }
 {
     canonical_reads_again();
@@ -26,7 +26,7 @@ pub fn canonical_script_reads_again()
 
 /// The names know each script that some text reads as by them, and its canonical text is no longer than the text.
 pub fn canonical_script_is_shortest()
-    ensures known { (names : KnownNames) (bytes : List ℕ) (script : List Part) → LineOf names bytes (Work (Behaviour script)) → IsKnown names script }
+    ensures known { (names : KnownNames) (bytes : List ℕ) (script : List Part) → LineOf names bytes (Work (Behaviour script)) → IsKnownScript names script }
     ensures shortest { (names : KnownNames) (bytes : List ℕ) (script : List Part) → LineOf names bytes (Work (Behaviour script))
         → length (canonical_script names script) ≤ length bytes }
 {

@@ -2,7 +2,7 @@
 ghost use Rattle.std.specs.Prelude.{◌≡◌, ◌<◌, if◌then◌else◌, [], ◌∷◌, fold, length, OnOk};
 ghost use Rattle.bl_level.specs.declared.token.Sign.TheVariants.{Comma, Open};
 ghost use Rattle.bl_level.specs.LevelText.{held_names, spell_level, spell_categories, text_of};
-ghost use Rattle.bl_level.specs.Scheme.{Holds};
+ghost use Rattle.bl_level.specs.Scheme.{HoldsLevel};
 ghost use Rattle.bl_level.specs.Token.{reserved, name};
 ghost use Rattle.bl_work.specs.SpelledRules as spelled;
 ghost use Rattle.bl_write.specs.There.{IsRuleThere};
@@ -78,7 +78,7 @@ fn put_categories<S: Sink>(sink: &mut S, scheme: &Scheme, level: &Level) -> Resu
 
 /// Puts a level that the scheme holds.
 fn put_level<S: Sink>(sink: &mut S, scheme: &Scheme, level: &Level) -> Result<(), S::Refusal>
-    requires { Holds scheme.now level.now }
+    requires { HoldsLevel scheme.now level.now }
     ensures { OnOk result (sink.new ≡ fold S.taken sink.old (spell_level (text_of scheme.now level.now))) }
 {
     let rank = scheme.ranks().get(usize::from(level.rank())).unwrap();

@@ -1,5 +1,5 @@
 use Rattle.std.proofs.Common.{refl, ◌∙◌}
-use Rattle.bl_setup.specs.FirstFault.{ranked}
+use Rattle.bl_setup.specs.FirstSetupFault.{ranked}
 use Rattle.bl_setup.specs.Words.{names_of}
 use Rattle.bl_setup.proofs.Parts.{exits}
 use Rattle.bl_setup.proofs.HeadFaults.{categories_refused}

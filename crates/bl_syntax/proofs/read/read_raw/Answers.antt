@@ -1,7 +1,7 @@
 use Rattle.std.proofs.Common.{◌≡◌, ◌≤◌, ◌∷◌, [], length, List, refl, ap, subst, ◌∙◌, suc, arith}
 use Rattle.bl_level.specs.Token.{toks}
 use Rattle.bl_level.specs.declared.token.Token.{Token}
-use Rattle.bl_work.specs.Fault.{FirstFault, SyntaxFault}
+use Rattle.bl_work.specs.Fault.{FirstTokenAtFault, SyntaxFault}
 use Rattle.bl_syntax.specs.Tokens.{tokens_of}
 use Rattle.bl_syntax.specs.Parsing.{IsFirstFault}
 use Rattle.bl_syntax.specs.RawView.{raw_view}
@@ -34,7 +34,7 @@ place_of-requires-clause-cut c = cut_long _ _ _ _ _ c.in_ok-lexed-in-Err-At.ensu
 
 pub place_of-requires-clause-within : goal.place_of-requires-clause-within
 place_of-requires-clause-within c =
-    let fault : FirstFault (tokens_of c.args.bytes.now) c.in-Err-At.left = subst (IsFirstFault c.args.bytes.now) c.in-Err-At.field-0-is c.in-Err-At.ensures in
+    let fault : FirstTokenAtFault (tokens_of c.args.bytes.now) c.in-Err-At.left = subst (IsFirstFault c.args.bytes.now) c.in-Err-At.field-0-is c.in-Err-At.ensures in
     let few : c.in-Err-At.left ≤ length (tokens_of c.args.bytes.now) = left_within (tokens_of c.args.bytes.now) c.in-Err-At.left fault in
     let same = ap length (cut_tokens _ _ _ _ _ c.in_ok-lexed-in-Err-At.ensures.cut) in
     let long = toks_long c.in_ok-lexed-in-Err-At.lexed.tokens.items in
@@ -42,10 +42,10 @@ place_of-requires-clause-within c =
 
 pub returns-in_ok-lexed-in-Err-At-clause-only : goal.returns-in_ok-lexed-in-Err-At-clause-only
 returns-in_ok-lexed-in-Err-At-clause-only c = λ l reads.
-    let fault : FirstFault (tokens_of c.args.bytes.now) c.in-Err-At.left = subst (IsFirstFault c.args.bytes.now) c.in-Err-At.field-0-is c.in-Err-At.ensures in
+    let fault : FirstTokenAtFault (tokens_of c.args.bytes.now) c.in-Err-At.left = subst (IsFirstFault c.args.bytes.now) c.in-Err-At.field-0-is c.in-Err-At.ensures in
     absurd (reads_no_stop c.args.bytes.now l c.in-Err-At.left reads fault)
 
 pub returns-in_ok-lexed-in-Err-At-clause-fault : goal.returns-in_ok-lexed-in-Err-At-clause-fault
 returns-in_ok-lexed-in-Err-At-clause-fault c =
-    let fault : FirstFault (tokens_of c.args.bytes.now) c.in-Err-At.left = subst (IsFirstFault c.args.bytes.now) c.in-Err-At.field-0-is c.in-Err-At.ensures in
+    let fault : FirstTokenAtFault (tokens_of c.args.bytes.now) c.in-Err-At.left = subst (IsFirstFault c.args.bytes.now) c.in-Err-At.field-0-is c.in-Err-At.ensures in
     rw c.place_of.ensures (fault_of _ _ _ _ _ _ refl c.in_ok-lexed-in-Err-At.ensures.cut (rw (cut_tokens _ _ _ _ _ c.in_ok-lexed-in-Err-At.ensures.cut) fault))

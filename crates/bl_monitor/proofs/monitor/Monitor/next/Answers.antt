@@ -3,7 +3,7 @@ use Rattle.std.specs.Arc.{arc_value}
 use Rattle.std.proofs.lemmas.Result.{err_from_is_err_and}
 use Rattle.bl_monitor.specs.Heard.{MayCome, Knows, answer_at}
 use Rattle.bl_order.specs.Known.{KnowsAnswer}
-use Rattle.bl_monitor.specs.Judging.{IsJudged, IsKnown, Leaves, content_behind, record_of}
+use Rattle.bl_monitor.specs.Judging.{IsJudged, KnowsEntry, Leaves, content_behind, record_of}
 use Rattle.bl_monitor.specs.Places.{task_of}
 use Rattle.bl_monitor.specs.Sound.{IsAdmitted, CanCome, IsSound, heard_of}
 use Rattle.bl_monitor.proofs.Errors.{moved, not_memory, not_ok}
@@ -33,7 +33,7 @@ pub judge-requires : goal.judge-requires
 judge-requires c =
     let is : IsAdmitted c.self.inside.places.items c.args.entry c.in_ok-admitted.admitted =
     subst (λ ps. IsAdmitted ps c.args.entry c.in_ok-admitted.admitted) c.deref.ensures.value c.in_ok-admitted.ensures.ok in
-    subst (λ cs. IsKnown c.self.inside.policy cs c.in_ok-admitted.admitted) (sym c.deref_mut.ensures.value)
+    subst (λ cs. KnowsEntry c.self.inside.policy cs c.in_ok-admitted.admitted) (sym c.deref_mut.ensures.value)
     (next_known (arc_value c.self.inside.setup) c.self.inside.policy c.self.inside.contents.items c.self.inside.places.items c.self.invariant c.args.entry c.in_ok-admitted.admitted
     (subst (λ h. Knows h.setup c.args.entry) (sym c.self.view_is) c.requires) is c.behaviours-behaviours.ensures.script)
 

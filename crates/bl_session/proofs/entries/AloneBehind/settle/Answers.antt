@@ -4,7 +4,7 @@ use Rattle.bl_setup.specs.Setup.{Setup}
 use Rattle.bl_order.specs.Machine.{state_after, start}
 use Rattle.bl_wire.specs.declared.label.Entered.{Entered}
 use Rattle.bl_session.specs.declared.block.Block.{Block}
-use Rattle.bl_session.specs.Told.{Settles}
+use Rattle.bl_session.specs.Requests.{Settles}
 use Rattle.bl_session.specs.One.{events_of}
 use Rattle.bl_session.specs.Orders.{Mirrors}
 use Rattle.bl_session.specs.Entries.{order_of, AreAnswered}

@@ -1,6 +1,6 @@
 use Rattle.std.proofs.lemmas.Result.{IfErr-weaker}
 use Rattle.bl_setup.specs.Draft.{setup_of}
-use Rattle.bl_setup.specs.FirstFault.{declared}
+use Rattle.bl_setup.specs.FirstSetupFault.{declared}
 use Rattle.bl_setup.specs.Words.{declaration_of}
 use Rattle.bl_setup.proofs.Parts.{exits}
 use Rattle.bl_setup.proofs.TakingLemmas.{spells_nothing, line_refused}

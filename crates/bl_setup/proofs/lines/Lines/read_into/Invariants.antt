@@ -3,7 +3,7 @@ use Rattle.bl_setup.specs.Setup as setups
 use Rattle.bl_setup.specs.Agreement.{Agree}
 use Rattle.bl_setup.specs.Draft.{setup_of}
 use Rattle.bl_setup.specs.Heads.{Remain}
-use Rattle.bl_setup.specs.FirstFault.{declared, LeadOn}
+use Rattle.bl_setup.specs.FirstSetupFault.{declared, LeadOn}
 use Rattle.bl_setup.specs.Lines.{lines_read, file_lines}
 use Rattle.bl_setup.proofs.lines.Lines.read_into.Given as goal
 

@@ -1,6 +1,6 @@
 use Rattle.std.proofs.Common.{refl}
 use Rattle.bl_setup.specs.Agreement.{of_scheme}
-use Rattle.bl_setup.specs.FirstFault.{nothing, ranked, declared, ReadsNext}
+use Rattle.bl_setup.specs.FirstSetupFault.{nothing, ranked, declared, ReadsNext}
 use Rattle.bl_setup.specs.Taking.{Stops}
 use Rattle.bl_setup.proofs.Parts.{exits}
 use Rattle.bl_setup.proofs.TakingLemmas.{takes_on, leads_both, line_stops, line_reads, end_stops, stops_behind}

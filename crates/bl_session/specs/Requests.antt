@@ -5,13 +5,13 @@ use Rattle.bl_wire.specs.declared.turn.Turn.{Turn}
 use Rattle.bl_wire.specs.declared.turn.Turn.TheVariants.{Skip, Wait, Greets, Bad, Ask}
 
 -- a subject opens the session; a line with its ordinal is to be admitted; all that was admitted is to be answered
-pub data Told : Type 0 where
-  Opens : (subject : ℕ) → Told
-  Admits : (ordinal : ℕ) → (work : Work) → Told
-  Settles : Told
+pub data Request : Type 0 where
+  Opens : (subject : ℕ) → Request
+  Admits : (ordinal : ℕ) → (work : Work) → Request
+  Settles : Request
 
 -- what the lines after an ordinal tell
-abbrev pub told_of : ℕ → List Turn → List Told
+abbrev pub told_of : ℕ → List Turn → List Request
 told_of k [] = []
 told_of k (Skip ∷ turns) = told_of k turns
 told_of k (Wait ∷ turns) = Settles ∷ told_of k turns
@@ -20,7 +20,7 @@ told_of k (Bad fault ∷ turns) = told_of (k + 1) turns
 told_of k (Ask work ∷ turns) = Admits (k + 1) work ∷ told_of (k + 1) turns
 
 -- what all lines of an input and its end tell: nothing unless the first line that isn't skipped opens the session
-abbrev pub told_by : List Turn → List Told
+abbrev pub told_by : List Turn → List Request
 told_by [] = []
 told_by (Skip ∷ turns) = told_by turns
 told_by (Greets subject ∷ turns) = Opens subject ∷ (told_of 0 turns ++ Settles ∷ [])

@@ -49,9 +49,9 @@ pub data Question : Type 0 where
   is_new : (others : List (List ℕ)) → (name : List ℕ) → Question
   is_known : (known : List (List ℕ)) → (name : List ℕ) → Question
 
-abbrev pub Holds : Question → Type 0
-Holds (is_new others name) = Contains others name → ⊥
-Holds (is_known known name) = Contains known name
+abbrev pub IsSo : Question → Type 0
+IsSo (is_new others name) = Contains others name → ⊥
+IsSo (is_known known name) = Contains known name
 
 -- `Repeated` where a name is not new, `Unknown` where it is not there
 abbrev pub kind_of : Question → SetupFaultKind
@@ -60,12 +60,12 @@ kind_of (is_known known name) = Unknown
 
 abbrev pub AllHold : List Question → Type 0
 AllHold [] = Unit {0}
-AllHold (q ∷ qs) = Holds q × AllHold qs
+AllHold (q ∷ qs) = IsSo q × AllHold qs
 
 -- the first of these that does not hold is of this kind
 abbrev pub FirstFails : List Question → SetupFaultKind → Type 0
 FirstFails [] kind = ⊥
-FirstFails (q ∷ qs) kind = ((kind ≡ kind_of q) × (Holds q → ⊥)) ⊎ (Holds q × FirstFails qs kind)
+FirstFails (q ∷ qs) kind = ((kind ≡ kind_of q) × (IsSo q → ⊥)) ⊎ (IsSo q × FirstFails qs kind)
 
 -- each name, from the left, is not among those before it
 abbrev pub asked_of_names : List (List ℕ) → List (List ℕ) → List Question
@@ -154,8 +154,8 @@ pub record StopsAt (P : SoFar → List (List ℕ) → Type 0) (before : SoFar) (
   pub is : number ≡ suc taken
 
 -- Own choice: a text that is too large is at fault as line 0, and otherwise the first line at fault is answered.
-abbrev pub FirstFault : List ℕ → SetupFault → Type 0
-FirstFault bytes fault =
+abbrev pub FirstSetupFault : List ℕ → SetupFault → Type 0
+FirstSetupFault bytes fault =
     ((16777216 < length bytes) × (fault.line ≡ 0) × (fault.kind ≡ TooMany))
     ⊎ ((length bytes ≤ 16777216) × StopsAt (FaultNext fault.kind) nothing 0 (file_lines bytes) fault.line)
 
@@ -166,5 +166,5 @@ IsReadAt bytes number = (length bytes ≤ 16777216) × StopsAt ReadsNext nothing
 -- A text has at most one answer: no two setups, no two faults, and not both.
 pub record HasOneAnswer (bytes : List ℕ) : Type 0 where
   pub setups : (setup other : Setup) → IsSetup bytes setup → IsSetup bytes other → other ≡ setup
-  pub faults : (fault other : SetupFault) → FirstFault bytes fault → FirstFault bytes other → other ≡ fault
-  pub never_both : (setup : Setup) (fault : SetupFault) → IsSetup bytes setup → FirstFault bytes fault → ⊥
+  pub faults : (fault other : SetupFault) → FirstSetupFault bytes fault → FirstSetupFault bytes other → other ≡ fault
+  pub never_both : (setup : Setup) (fault : SetupFault) → IsSetup bytes setup → FirstSetupFault bytes fault → ⊥
