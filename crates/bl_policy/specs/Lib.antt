@@ -1,3 +1,4 @@
+pub mod Limits
 pub mod Mode
 pub mod Matrix
 pub mod Policy

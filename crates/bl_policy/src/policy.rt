@@ -6,6 +6,7 @@
 ghost use Rattle.std.specs.Prelude.{◌≡◌, ◌==◌, ◌&&◌, ◌||◌, ◌≢◌, ℕ, ◌+◌, ◌*◌, ◌<◌, ◌≤◌, ◌↔◌, All, length, vec_capacity, IfOk, OnOk, OnErr, IfNone, IsTrue};
 ghost use Rattle.bl_level.specs.Level.{Dominates};
 ghost use Rattle.bl_policy.specs.Cells.{matrix_of};
+ghost use Rattle.bl_policy.specs.Limits.{most_subjects, most_documents};
 ghost use Rattle.bl_policy.specs.Matrix.{no_triple};
 ghost use Rattle.bl_policy.specs.Mode.{has_mode};
 ghost use Rattle.bl_policy.specs.declared.access.Mode.{Mode};
@@ -22,10 +23,10 @@ use std::alloc::{AllocError, Global};
 use std::marker::Model;
 
 /// How many subjects a policy has at most.
-pub const SUBJECT_LIMIT: usize = 256;
+pub const MOST_SUBJECTS: usize = 256;
 
 /// How many documents a policy has at most.
-pub const DOCUMENT_LIMIT: usize = 1024;
+pub const MOST_DOCUMENTS: usize = 1024;
 
 /// Why a subject or a document is not added.
 #[derive(Clone, Copy, PartialEq, Eq, Debug)]
@@ -94,9 +95,9 @@ fn may_flow(current: &Level, level: &Level, mode: Mode) -> bool
 
 /// The place of a cell among all of them.
 fn cell_place(subject: SubjectId, doc: DocId) -> usize
-    ensures { result ≡ subject * 1024 + doc }
+    ensures { result ≡ subject * most_documents + doc }
 {
-    subject.position() as usize * DOCUMENT_LIMIT + doc.position() as usize
+    subject.position() as usize * MOST_DOCUMENTS + doc.position() as usize
 }
 
 /// Cells with no mode.
@@ -125,9 +126,9 @@ impl Policy {
         ensures { IfOk result (λ policy. policy ≡ no_policy) }
     {
         Ok(Policy {
-            subjects: Vec::with_capacity(alloc, SUBJECT_LIMIT)?,
-            documents: Vec::with_capacity(alloc, DOCUMENT_LIMIT)?,
-            cells: empty_cells(alloc, SUBJECT_LIMIT * DOCUMENT_LIMIT)?,
+            subjects: Vec::with_capacity(alloc, MOST_SUBJECTS)?,
+            documents: Vec::with_capacity(alloc, MOST_DOCUMENTS)?,
+            cells: empty_cells(alloc, MOST_SUBJECTS * MOST_DOCUMENTS)?,
         })
     }
 
@@ -137,8 +138,8 @@ impl Policy {
     {
         let alloc = *self.cells.allocator();
         Ok(Policy {
-            subjects: with_room(alloc, SUBJECT_LIMIT, &self.subjects)?,
-            documents: with_room(alloc, DOCUMENT_LIMIT, &self.documents)?,
+            subjects: with_room(alloc, MOST_SUBJECTS, &self.subjects)?,
+            documents: with_room(alloc, MOST_DOCUMENTS, &self.documents)?,
             cells: Vec::from_slice(alloc, &self.cells)?,
         })
     }
@@ -155,11 +156,11 @@ impl Policy {
     ) -> Result<SubjectId, AddFault>
         ensures ok { IfOk result (λ id. (id ≡ length self.old.subjects)
             × (self.new ≡ with_subject self.old (record { greatest = greatest; current = current; trusted = trusted; admin = admin }))) }
-        ensures too_many { (result ≡ Err AddFault.TooMany) ↔ (256 ≤ length self.old.subjects) }
-        ensures above { (result ≡ Err AddFault.CurrentAboveGreatest) ↔ ((length self.old.subjects < 256) × ¬ Dominates greatest current) }
+        ensures too_many { (result ≡ Err AddFault.TooMany) ↔ (most_subjects ≤ length self.old.subjects) }
+        ensures above { (result ≡ Err AddFault.CurrentAboveGreatest) ↔ ((length self.old.subjects < most_subjects) × ¬ Dominates greatest current) }
         ensures err { OnErr result (self.new ≡ self.old) }
     {
-        if self.subjects.len() == SUBJECT_LIMIT {
+        if self.subjects.len() == MOST_SUBJECTS {
             return Err(AddFault::TooMany);
         }
         if !greatest.dominates(&current) {
@@ -179,11 +180,11 @@ impl Policy {
     /// there are 1,024 documents; then the policy is unchanged.
     pub fn add_document(&mut self, level: Level) -> Result<DocId, AddFault>
         ensures ok { IfOk result (λ id. (id ≡ length self.old.documents) × (self.new ≡ with_document self.old level)) }
-        ensures too_many { (result ≡ Err AddFault.TooMany) ↔ (1024 ≤ length self.old.documents) }
+        ensures too_many { (result ≡ Err AddFault.TooMany) ↔ (most_documents ≤ length self.old.documents) }
         ensures too_many_alone { result ≢ Err AddFault.CurrentAboveGreatest }
         ensures err { OnErr result (self.new ≡ self.old) }
     {
-        if self.documents.len() == DOCUMENT_LIMIT {
+        if self.documents.len() == MOST_DOCUMENTS {
             return Err(AddFault::TooMany);
         }
         let position = self.documents.len() as u16;
@@ -334,7 +335,7 @@ impl Policy {
     /// How many subjects there are.
     pub fn subjects(&self) -> usize
         ensures value { result ≡ length self.now.subjects }
-        ensures within { result ≤ 256 }
+        ensures within { result ≤ most_subjects }
     {
         self.subjects.len()
     }
@@ -342,7 +343,7 @@ impl Policy {
     /// How many documents there are.
     pub fn documents(&self) -> usize
         ensures value { result ≡ length self.now.documents }
-        ensures within { result ≤ 1024 }
+        ensures within { result ≤ most_documents }
     {
         self.documents.len()
     }

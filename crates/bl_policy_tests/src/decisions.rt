@@ -6,7 +6,7 @@ use bitflags::Flags;
 use bl_policy::access::{Access, Mode, ModeSet};
 use bl_policy::denial::Clause;
 use bl_policy::id::{DocId, SubjectId};
-use bl_policy::policy::{AddFault, DOCUMENT_LIMIT, Policy, SUBJECT_LIMIT};
+use bl_policy::policy::{AddFault, MOST_DOCUMENTS, MOST_SUBJECTS, Policy};
 use std::process::Abort;
 use std::test::Fail;
 
@@ -162,7 +162,7 @@ fn current_above_greatest(rt: HostRuntime) -> Result<(), Fail> {
 fn add_subjects_to_the_limit(rt: &impl Abort, policy: &mut Policy) -> Result<(), Fail> {
     let lowest = level(0, 0)?;
     let above = level(1, 0)?;
-    for _ in 0..SUBJECT_LIMIT {
+    for _ in 0..MOST_SUBJECTS {
         policy.add_subject(lowest, lowest, false, false)?;
     }
     let added = policy.add_subject(lowest, above, false, false);
@@ -172,7 +172,7 @@ fn add_subjects_to_the_limit(rt: &impl Abort, policy: &mut Policy) -> Result<(),
 
 fn add_documents_to_the_limit(rt: &impl Abort, policy: &mut Policy) -> Result<(), Fail> {
     let lowest = level(0, 0)?;
-    for _ in 0..DOCUMENT_LIMIT {
+    for _ in 0..MOST_DOCUMENTS {
         policy.add_document(lowest)?;
     }
     assert_eq!(rt; policy.add_document(lowest), Err(AddFault::TooMany));

@@ -11,12 +11,12 @@
 //!     rules    the rule that a line stands for
 #![tactic(auto)]
 
-pub mod build;
-pub mod check;
-pub mod count;
+mod build;
+mod check;
+mod count;
 pub mod known;
 pub mod line;
 mod lookup;
-pub mod modes;
-pub mod once;
-pub mod rules;
+mod modes;
+mod once;
+mod rules;

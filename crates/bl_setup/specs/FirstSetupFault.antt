@@ -4,9 +4,11 @@ use Rattle.bl_level.specs.Level.{SecurityLevel, Dominates}
 use Rattle.bl_level.specs.Lexing.{Begins}
 use Rattle.bl_level.specs.LevelText.{LevelText, Means}
 use Rattle.bl_level.specs.Scheme.{SchemeNames}
+use Rattle.bl_policy.specs.Limits.{most_subjects, most_documents}
+use Rattle.bl_work.specs.Content.{most_bytes}
 use Rattle.bl_setup.specs.Agreement.{of_scheme}
 use Rattle.bl_setup.specs.Declaration.{Declaration, ranks, categories, subject, document, allow, spell_declaration}
-use Rattle.bl_setup.specs.Grammar.{LineAdds, IsSetup}
+use Rattle.bl_setup.specs.Grammar.{LineAdds, IsSetup, most_setup_bytes}
 use Rattle.bl_setup.specs.Heads.{DeclaresRanks, DeclaresCategories}
 use Rattle.bl_setup.specs.Lines.{is_skipped, file_lines}
 use Rattle.bl_setup.specs.Setup.{Setup}
@@ -96,8 +98,8 @@ asked _ _ = []
 abbrev pub IsTooMuch : SoFar → Declaration → Type 0
 IsTooMuch nothing (ranks lowest higher) = 16 < length (lowest ∷ higher)
 IsTooMuch (ranked names) (categories words) = 32 < length words
-IsTooMuch (declared setup) (subject s) = 256 < suc (length setup.names.subjects)
-IsTooMuch (declared setup) (document d) = (1024 < suc (length setup.names.documents)) ⊎ (65536 < length d.content)
+IsTooMuch (declared setup) (subject s) = most_subjects < suc (length setup.names.subjects)
+IsTooMuch (declared setup) (document d) = (most_documents < suc (length setup.names.documents)) ⊎ (most_bytes < length d.content)
 IsTooMuch _ _ = ⊥
 
 -- the subject's levels are the scheme's, and the greatest does not dominate the current one
@@ -156,12 +158,12 @@ pub record StopsAt (P : SoFar → List (List ℕ) → Type 0) (before : SoFar) (
 -- Own choice: a text that is too large is at fault as line 0, and otherwise the first line at fault is answered.
 abbrev pub FirstSetupFault : List ℕ → SetupFault → Type 0
 FirstSetupFault bytes fault =
-    ((16777216 < length bytes) × (fault.line ≡ 0) × (fault.kind ≡ TooMany))
-    ⊎ ((length bytes ≤ 16777216) × StopsAt (FaultNext fault.kind) nothing 0 (file_lines bytes) fault.line)
+    ((most_setup_bytes < length bytes) × (fault.line ≡ 0) × (fault.kind ≡ TooMany))
+    ⊎ ((length bytes ≤ most_setup_bytes) × StopsAt (FaultNext fault.kind) nothing 0 (file_lines bytes) fault.line)
 
 -- the number is that of a line that is read, and the lines before it are right
 abbrev pub IsReadAt : List ℕ → ℕ → Type 0
-IsReadAt bytes number = (length bytes ≤ 16777216) × StopsAt ReadsNext nothing 0 (file_lines bytes) number
+IsReadAt bytes number = (length bytes ≤ most_setup_bytes) × StopsAt ReadsNext nothing 0 (file_lines bytes) number
 
 -- A text has at most one answer: no two setups, no two faults, and not both.
 pub record HasOneAnswer (bytes : List ℕ) : Type 0 where

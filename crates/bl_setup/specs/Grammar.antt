@@ -13,11 +13,17 @@ use Rattle.bl_setup.specs.Lines.{lines_read}
 use Rattle.bl_setup.specs.Declaration.{Declaration, SubjectText, DocumentText, AllowText, ranks, categories, subject, document, allow, spell_declaration}
 use Rattle.bl_setup.specs.Setup.{Setup}
 use Rattle.bl_setup.specs.Agreement.{of_scheme}
+use Rattle.bl_policy.specs.Limits.{most_subjects, most_documents}
+use Rattle.bl_work.specs.Content.{most_bytes}
+
+-- own choice: a setup file has at most so many bytes
+abbrev pub most_setup_bytes : ℕ
+most_setup_bytes = 16777216
 
 -- The subject's name is new, and there is room for it; its texts mean two levels, the greatest of which dominates the
 -- current one; and it stands behind the subjects that were declared before.
 pub record AddsSubject (before : Setup) (s : SubjectText) (after : Setup) : Type 0 where
-  pub room : length before.names.subjects < 256
+  pub room : length before.names.subjects < most_subjects
   pub is_new : Contains before.names.subjects s.name → ⊥
   pub greatest : SecurityLevel
   pub current : SecurityLevel
@@ -32,8 +38,8 @@ pub record AddsSubject (before : Setup) (s : SubjectText) (after : Setup) : Type
 -- The document's name is new, and there is room for it; its text means a level; its content is not too long; and it
 -- stands behind the documents that were declared before.
 pub record AddsDocument (before : Setup) (d : DocumentText) (after : Setup) : Type 0 where
-  pub room : length before.names.documents < 1024
-  pub short : length d.content ≤ 65536
+  pub room : length before.names.documents < most_documents
+  pub short : length d.content ≤ most_bytes
   pub is_new : Contains before.names.documents d.name → ⊥
   pub level : SecurityLevel
   pub means : Means before.names.scheme d.level level
@@ -78,7 +84,7 @@ Spells (line ∷ lines) ds = (d : Declaration) × (rest : List Declaration) × (
 -- Own choice: the lines that are read declare the ranks, then the categories, and then the rest, each name on an earlier
 -- line than the one that uses it.
 pub record IsSetup (bytes : List ℕ) (setup : Setup) : Type 0 where
-  pub size : length bytes ≤ 16777216
+  pub size : length bytes ≤ most_setup_bytes
   pub lowest : List ℕ
   pub higher : List (List ℕ)
   pub names : List (List ℕ)

@@ -2,7 +2,7 @@
 ghost use Rattle.std.specs.Prelude.{◌↔◌, ◌≤◌, ℕ, List, length};
 ghost use Rattle.bl_setup.specs.FirstSetupFault.{FirstSetupFault, HasOneAnswer, LeadTo, declared, nothing};
 ghost use Rattle.bl_setup.specs.Setup as setups;
-ghost use Rattle.bl_setup.specs.Grammar.{IsSetup};
+ghost use Rattle.bl_setup.specs.Grammar.{IsSetup, most_setup_bytes};
 ghost use Rattle.bl_setup.specs.Lines.{file_lines};
 ghost use Rattle.bl_setup.specs.WholeLists.{IsDeclared};
 ghost use Rattle.bl_setup.specs.declared.fault.SetupFault as faults;
@@ -28,5 +28,5 @@ pub fn a_text_has_some_answer()
 /// a text's first fault lies rest on one relation of lines.
 pub fn a_setup_is_what_its_lines_lead_to()
     ensures { (bytes : List ℕ) (setup : setups.Setup) →
-        (IsSetup bytes setup ↔ ((length bytes ≤ 16777216) × LeadTo nothing (file_lines bytes) (declared setup))) }
+        (IsSetup bytes setup ↔ ((length bytes ≤ most_setup_bytes) × LeadTo nothing (file_lines bytes) (declared setup))) }
 {}

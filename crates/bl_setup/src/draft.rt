@@ -25,9 +25,9 @@ use bl_level::level::Level;
 use bl_level::name::Name;
 use bl_level::scheme::Scheme;
 use bl_policy::access::{Mode, ModeSet};
-use bl_policy::policy::Policy;
+use bl_policy::policy::{MOST_DOCUMENTS, MOST_SUBJECTS, Policy};
 use bl_work::document::{Document, MOST_BYTES};
-use bl_work::names::{MOST_DOCUMENTS, MOST_SUBJECTS, Names};
+use bl_work::names::Names;
 use std::alloc::{AllocError, Global};
 
 /// Names, a policy over their places, and the contents of the documents.

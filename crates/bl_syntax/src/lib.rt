@@ -6,7 +6,7 @@
 //!     stop     where parsing stopped
 #![tactic(auto)]
 
-pub mod parse;
+mod parse;
 pub mod raw;
 pub mod read;
-pub mod stop;
+mod stop;

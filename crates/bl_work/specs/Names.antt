@@ -2,6 +2,7 @@
 use Rattle.std.specs.Prelude.{ℕ, ◌≤◌, List, length}
 use Rattle.bl_level.specs.Scheme.{SchemeNames, IsScheme}
 use Rattle.bl_level.specs.Table.{IsTable}
+use Rattle.bl_policy.specs.Limits.{most_subjects, most_documents}
 
 -- The scheme, and the names of the subjects and of the documents: an id is a place in its list.
 -- own choice: a subject and a document may have the same name
@@ -15,5 +16,5 @@ pub record AreNames (names : KnownNames) : Type 0 where
   pub scheme : IsScheme names.scheme
   pub subjects : IsTable names.subjects
   pub documents : IsTable names.documents
-  pub subjects_fit : length names.subjects ≤ 256
-  pub documents_fit : length names.documents ≤ 1024
+  pub subjects_fit : length names.subjects ≤ most_subjects
+  pub documents_fit : length names.documents ≤ most_documents

@@ -2,6 +2,7 @@
 ghost use Rattle.std.specs.Prelude.{◌≡◌, ℕ, ◌<◌, ◌↔◌, ◌++◌, ◌∷◌, [], List, length, OnErr, IfOk, IfSome, IsSome, IsErrOf, Contains, slice_get, Some};
 ghost use Rattle.bl_level.specs.Scheme.{SchemeNames, IsScheme};
 ghost use Rattle.bl_level.specs.Table.{place_of};
+ghost use Rattle.bl_policy.specs.Limits.{most_subjects, most_documents};
 ghost use Rattle.bl_work.specs.Names.{KnownNames, AreNames};
 ghost use Rattle.bl_work.specs.declared.names.NameFault.TheVariants as fault;
 
@@ -9,14 +10,9 @@ use bl_level::name::Name;
 use bl_level::scheme::Scheme;
 use bl_level::table::{NameTable, TableFault};
 use bl_policy::id::{DocId, SubjectId};
+use bl_policy::policy::{MOST_DOCUMENTS, MOST_SUBJECTS};
 use std::alloc::{AllocError, Global};
 use std::marker::Model;
-
-/// How many subjects there may be.
-pub const MOST_SUBJECTS: usize = 256;
-
-/// How many documents there may be.
-pub const MOST_DOCUMENTS: usize = 1_024;
 
 /// The scheme of the levels, and the names of the subjects and the documents, in the order in which they were added.
 #[derive(Drop)]
@@ -112,8 +108,8 @@ impl Names {
     /// Adds a subject behind the others. A fault leaves the names as they were.
     pub fn add_subject(&mut self, name: Name) -> Result<SubjectId, NameFault>
         ensures ok { IfOk result (λ id. (id ≡ length self.old.subjects) × (self.new ≡ record self.old { subjects = self.old.subjects ++ name ∷ [] })) }
-        ensures too_many { IsErrOf result fault.TooMany ↔ (length self.old.subjects ≡ 256) }
-        ensures repeated { IsErrOf result fault.Repeated ↔ ((length self.old.subjects < 256) × Contains self.old.subjects name) }
+        ensures too_many { IsErrOf result fault.TooMany ↔ (length self.old.subjects ≡ most_subjects) }
+        ensures repeated { IsErrOf result fault.Repeated ↔ ((length self.old.subjects < most_subjects) × Contains self.old.subjects name) }
         ensures err { OnErr result (self.new ≡ self.old) }
     {
         let place = self.subjects.len();
@@ -127,8 +123,8 @@ impl Names {
     /// Adds a document behind the others. A fault leaves the names as they were.
     pub fn add_document(&mut self, name: Name) -> Result<DocId, NameFault>
         ensures ok { IfOk result (λ id. (id ≡ length self.old.documents) × (self.new ≡ record self.old { documents = self.old.documents ++ name ∷ [] })) }
-        ensures too_many { IsErrOf result fault.TooMany ↔ (length self.old.documents ≡ 1024) }
-        ensures repeated { IsErrOf result fault.Repeated ↔ ((length self.old.documents < 1024) × Contains self.old.documents name) }
+        ensures too_many { IsErrOf result fault.TooMany ↔ (length self.old.documents ≡ most_documents) }
+        ensures repeated { IsErrOf result fault.Repeated ↔ ((length self.old.documents < most_documents) × Contains self.old.documents name) }
         ensures err { OnErr result (self.new ≡ self.old) }
     {
         let place = self.documents.len();

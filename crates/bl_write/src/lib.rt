@@ -10,7 +10,7 @@
 
 pub mod canonical;
 pub mod knows;
-pub mod sink;
+mod sink;
 mod spell;
 mod spell_rules;
 pub mod write;
