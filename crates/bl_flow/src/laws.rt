@@ -9,6 +9,7 @@ ghost use Rattle.bl_flow.specs.Low.{AgreeLow, History, history_of};
 ghost use Rattle.bl_flow.specs.Purge.{KeepTheSame};
 ghost use Rattle.bl_flow.specs.Sealed.{IsPlain, IsPossible, IsSealed};
 
+use bl_core::machine::Core;
 use bl_level::level::dominates_means_dominance;
 use bl_order::laws::{
     children_follow_their_parent, headline, rules_make_the_policy, tasks_are_of_scripts,
@@ -69,4 +70,18 @@ pub fn states_tell_low_subjects_the_same()
 {
     low_subjects_are_told_the_same();
     reached_orders_bring_scripts();
+}
+
+/// The same of two cores, each in the state that it is in: an entry that is kept of both is answered alike, and so are the
+/// children that it brings.
+pub fn cores_tell_low_subjects_the_same(one: &Core, two: &Core)
+    ensures { (level : SecurityLevel) →
+        IsSealed level (history_of one.now) → IsSealed level (history_of two.now) →
+        AgreeLow level one.now.setup two.now.setup → KeepTheSame level (history_of one.now) (history_of two.now) →
+        TellTheSame level (history_of one.now) (history_of two.now) }
+{
+    // asked for the proof alone: a trail leads to the state of a core
+    let _one = one.policy();
+    let _two = two.policy();
+    states_tell_low_subjects_the_same();
 }
