@@ -57,11 +57,11 @@ fn look_on(look: Look, part: &[u8]) -> Look
 }
 
 impl Held {
-    ghost use Rattle.bl_wire.specs.HoldsLine.{Holds};
+    ghost use Rattle.bl_wire.specs.HoldsLine.{HoldsLine};
 
     /// Room for a line; no line has begun.
     pub fn new(alloc: Global) -> Result<Held, AllocError>
-        ensures { IfOk result (λ held. Holds held []) }
+        ensures { IfOk result (λ held. HoldsLine held []) }
     {
         Ok(Held {
             bytes: Vec::with_capacity(alloc, KEPT)?,
@@ -72,7 +72,7 @@ impl Held {
 
     /// Begins the next line.
     pub fn clear(&mut self)
-        ensures { Holds self.new [] }
+        ensures { HoldsLine self.new [] }
     {
         self.bytes.clear();
         self.look = Look::Blank;
@@ -96,7 +96,7 @@ impl Held {
 
     /// Adds the next part of the line.
     pub fn add(&mut self, part: &[u8])
-        ensures { (line : List ℕ) → Holds self.old line → Holds self.new (line ++ part.now) }
+        ensures { (line : List ℕ) → HoldsLine self.old line → HoldsLine self.new (line ++ part.now) }
     {
         self.keep(part);
         self.look = look_on(self.look, part);
