@@ -67,7 +67,7 @@ module _ (c : Inside) (k : Keeps c) (n : ℕ) (r : runs (state_of c) n ≡ true)
   done : is_done (past_at (state_of c) n).answer ≡ true
   done = sound.allowed n in_order r
 
-  runs-task : (past_at (state_of c) n).task ≡ Runs (script_of (past_at (state_of c) n).task) (index_of (past_at (state_of c) n).task)
+  pub runs-task : (past_at (state_of c) n).task ≡ Runs (script_of (past_at (state_of c) n).task) (index_of (past_at (state_of c) n).task)
   runs-task = runs_of (past_at (state_of c) n).task (behaviour-runs (state_of c) n done)
 
   -- what comes back has a shelf

@@ -45,7 +45,7 @@ pub accesses_part : (t : Task) → (get_or (script_of t) (index_of t) no_part).a
 accesses_part (Runs script index) = refl
 accesses_part (Applies rule) = refl
 
-map-same : (f g : Access → List ℕ) (xs : List Access) → ((i : ℕ) (d : Access) → i < length xs → f (get_or xs i d) ≡ g (get_or xs i d)) → map f xs ≡ map g xs
+pub map-same : (f g : Access → List ℕ) (xs : List Access) → ((i : ℕ) (d : Access) → i < length xs → f (get_or xs i d) ≡ g (get_or xs i d)) → map f xs ≡ map g xs
 map-same f g [] same = refl
 map-same f g (x ∷ xs) same = ap (λ l. f x ∷ l) (map-same f g xs (λ i d lt. same (suc i) d (omega arith))) ∙ ap (λ v. v ∷ map g xs) (same 0 x (omega arith))
 
@@ -56,7 +56,7 @@ or_right : (a b : Bool) → b ≡ true → (a || b) ≡ true
 or_right true b h = refl
 or_right false b h = h
 
-declared-member : (xs : List Access) (i : ℕ) (d : Access) → i < length xs → is_declared xs (get_or xs i d).doc ≡ true
+pub declared-member : (xs : List Access) (i : ℕ) (d : Access) → i < length xs → is_declared xs (get_or xs i d).doc ≡ true
 declared-member [] i d lt = absurd (omega arith)
 declared-member (x ∷ xs) zero d lt = ap (λ b. b || list_any (λ (a : Access). a.doc == x.doc) xs) (equal_self x.doc)
 declared-member (x ∷ xs) (suc i) d lt = or_right (x.doc == (get_or xs i d).doc) (is_declared xs (get_or xs i d).doc) (declared-member xs i d (omega arith))

@@ -16,3 +16,5 @@ pub mod Finishing
 pub mod Lent
 pub mod Beginning
 pub mod Judging
+pub mod Inputs
+pub mod Owning

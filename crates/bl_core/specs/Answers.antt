@@ -7,7 +7,7 @@ use Rattle.bl_work.specs.declared.answer.Answer.TheVariants as answers
 use Rattle.bl_work.specs.declared.work.Work.{Work}
 use Rattle.bl_order.specs.Order.{Task, Runs, Applies, accesses_of}
 use Rattle.bl_order.specs.Past.{is_done}
-use Rattle.bl_order.specs.Machine.{State, past_at, session_at, entry_weight, weight_of, most_sessions}
+use Rattle.bl_order.specs.Machine.{State, past_at, runs, session_at, entry_weight, weight_of, most_sessions}
 use Rattle.bl_order.specs.Now.{content_at}
 use Rattle.bl_eval.specs.Loan.{Loan}
 use Rattle.bl_core.specs.declared.machine.Started.{Started}
@@ -39,6 +39,10 @@ loan_of n task contents = record {
 -- what a place is lent: the contents of what it declares, in declared order, each as it is at the place
 abbrev pub loan_at : State → ℕ → Loan
 loan_at x n = loan_of n (past_at x n).task (λ doc. content_at x doc n)
+
+-- this was lent to a running place
+abbrev pub IsLentBy : State → Loan → Type 0
+IsLentBy x loan = IsTrue (runs x loan.entry) × (loan ≡ loan_at x loan.entry)
 
 -- what a start answers: the denial that the place is answered, that its rule is done, or its behaviour with what it is lent
 abbrev pub IsStarted : State → ℕ → Started → Type 0

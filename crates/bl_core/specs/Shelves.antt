@@ -1,5 +1,5 @@
 -- The shelves: what is lent, and what comes back.
-use Rattle.std.specs.Prelude.{ℕ, Bool, true, false, if◌then◌else◌, List, [], ◌∷◌, slice_index_or, slice_set}
+use Rattle.std.specs.Prelude.{ℕ, Bool, true, false, if◌then◌else◌, List, [], ◌∷◌, map, slice_index_or, slice_set}
 use Rattle.bl_policy.specs.Mode.{is_exclusive}
 use Rattle.bl_policy.specs.declared.access.Access.{Access}
 use Rattle.bl_grant.specs.Loaned.{Back}
@@ -14,6 +14,10 @@ shelf_in shelves doc = slice_index_or shelves doc (new_shelf [])
 
 abbrev pub content_in : List Shelf → ℕ → List ℕ
 content_in shelves doc = (shelf_in shelves doc).content
+
+-- the contents of what the accesses name, in order
+abbrev pub contents_in : List Shelf → List Access → List (List ℕ)
+contents_in shelves accesses = map (λ (a : Access). content_in shelves a.doc) accesses
 
 -- the shelves where what an access alters is lent
 abbrev pub mark_one : List Shelf → Access → List Shelf

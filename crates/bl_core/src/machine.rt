@@ -5,7 +5,8 @@ ghost use Rattle.bl_core.specs.Weights.{IsWeighed, ruled};
 use crate::place::{Origin, Place, Stand, declared, enter_children, first_open, is_clear, work_at};
 use crate::refusal::{Cause, NotReady, OpenRefused, Refused, StartFault, Starved};
 use crate::session::{Session, SessionNo};
-use crate::shelf::{Shelf, contents_of, mark, shelve, take_back};
+use crate::shelf::{Shelf, contents_of, is_done_of, is_unrun_of, mark, shelve, take_back};
+use bl_eval::foreign::{Foreign, ForeignUnrun};
 use bl_eval::lent::{Done, DoneParts, Lent, Unrun, UnrunParts};
 use bl_grant::grants::Grants;
 use bl_order::laws::{
@@ -100,7 +101,7 @@ impl Core {
     ghost use Rattle.bl_order.specs.Now.{content_at, content_now, policy_at, policy_now, IsFirstToAlter};
     ghost use Rattle.bl_order.specs.Order.{Applies, accesses_of, is_altered, is_rule};
     ghost use Rattle.bl_order.specs.Past.{is_done};
-    ghost use Rattle.bl_core.specs.Answers.{IsCause, IsNotOpened, IsStarted, IsStarvedBy, loan_at};
+    ghost use Rattle.bl_core.specs.Answers.{IsCause, IsLentBy, IsNotOpened, IsStarted, IsStarvedBy, loan_at};
 
     /// A core of an empty order over this setup, for lines that weigh no more than the limit, which is 1 to 100,000. An error comes
     /// only where a growth is refused.
@@ -418,6 +419,76 @@ impl Core {
         let place = &mut self.places[entry as usize];
         place.stand = Stand::Ended(Answer::Lost);
         self.first = first_open(self.places.as_slice(), self.first);
+    }
+
+    /// Whether an entry runs.
+    fn is_running(&self, n: u32) -> bool
+        ensures { IsTrue result ↔ IsTrue (runs self.now n) }
+    {
+        if n as usize >= self.places.len() {
+            return false;
+        }
+        self.places[n as usize].stand.is_running()
+    }
+
+    /// Whether this is what was done with what a running entry was lent.
+    fn has_lent(&self, done: &Done) -> bool
+        ensures { IsTrue result ↔ IsLentBy self.now done.now }
+    {
+        if !self.is_running(done.entry()) {
+            return false;
+        }
+        let n = done.entry() as usize;
+        match work_at(self.places.as_slice(), n) {
+            Work::Behaviour(script) => {
+                is_done_of(done, script, self.places[n].index, self.shelves.as_slice())
+            }
+            Work::Rule(_) => false,
+        }
+    }
+
+    /// Whether this is what a running entry was lent, left undone.
+    fn has_lent_unrun(&self, unrun: &Unrun) -> bool
+        ensures { IsTrue result ↔ IsLentBy self.now unrun.now }
+    {
+        if !self.is_running(unrun.entry()) {
+            return false;
+        }
+        let n = unrun.entry() as usize;
+        match work_at(self.places.as_slice(), n) {
+            Work::Behaviour(script) => {
+                is_unrun_of(unrun, script, self.places[n].index, self.shelves.as_slice())
+            }
+            Work::Rule(_) => false,
+        }
+    }
+
+    /// Ends a running entry as `finish_lent` does. `Foreign` comes exactly where the entry does not run here, or the script, the
+    /// index or the inputs are not those that it was lent, and hands back what was done. It takes no memory.
+    pub fn finish(&mut self, done: Done) -> Result<(), Foreign>
+        ensures ok { OnOk result (self.new ≡ change self.old (Ends done.entry)) }
+        ensures err { OnErr result (self.new ≡ self.old) }
+        ensures foreign { MatchResult result (λ _. IsLentBy self.old done) (λ foreign. ¬ IsLentBy self.old done × (foreign ≡ done)) }
+    {
+        if !self.has_lent(&done) {
+            return Err(Foreign::new(done));
+        }
+        self.finish_lent(done);
+        Ok(())
+    }
+
+    /// Ends a running entry as lost, as `lose_lent` does. `ForeignUnrun` comes exactly where the entry does not run here, or the
+    /// script, the index or the inputs are not those that it was lent, and hands them back. It takes no memory.
+    pub fn lose(&mut self, unrun: Unrun) -> Result<(), ForeignUnrun>
+        ensures ok { OnOk result (self.new ≡ change self.old (Loses unrun.entry)) }
+        ensures err { OnErr result (self.new ≡ self.old) }
+        ensures foreign { MatchResult result (λ _. IsLentBy self.old unrun) (λ foreign. ¬ IsLentBy self.old unrun × (foreign ≡ unrun)) }
+    {
+        if !self.has_lent_unrun(&unrun) {
+            return Err(ForeignUnrun::new(unrun));
+        }
+        self.lose_lent(unrun);
+        Ok(())
     }
 
     /// Ends a place that may start as lost.

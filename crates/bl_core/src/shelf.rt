@@ -2,15 +2,18 @@
 //!
 //! A content stays on its shelf while it is lent. Nobody else alters it then, so it is what was lent, and what comes back takes its
 //! place.
-ghost use Rattle.std.specs.Prelude.{◌≡◌, ◌<◌, length, map, All, IfOk};
+ghost use Rattle.std.specs.Prelude.{◌≡◌, ◌<◌, ◌↔◌, length, map, slice_index_or, All, IfOk, IsTrue};
 ghost use Rattle.bl_policy.specs.declared.access.Access.{Access};
+ghost use Rattle.bl_work.specs.Statements.{no_part};
 ghost use Rattle.bl_grant.specs.Loaned.{Back};
-ghost use Rattle.bl_core.specs.Shelves.{content_in, marked, new_shelf, put_back};
+ghost use Rattle.bl_core.specs.Shelves.{content_in, contents_in, marked, new_shelf, put_back};
 
 use crate::place::is_exclusive;
+use bl_eval::lent::{Done, Unrun};
 use bl_grant::grant::Returned;
 use bl_policy::access::Access;
 use bl_work::document::Document;
+use bl_work::script::Script;
 use std::alloc::{AllocError, Global};
 
 /// A document's content, and whether it is lent exclusively.
@@ -48,6 +51,48 @@ pub(crate) fn contents_of(
         documents.push(shelves[access.doc.position() as usize].content.share()?)?;
     }
     Ok(documents)
+}
+
+/// Whether this behaviour had just the contents of these shelves, by its accesses, and was done.
+pub(crate) fn is_done_of(done: &Done, script: &Script, index: u8, shelves: &[Shelf]) -> bool
+    requires there { index < length script.now }
+    requires shelves { All (λ (a : Access). a.doc < length shelves.now) (slice_index_or script.now index no_part).accesses }
+    ensures { IsTrue result ↔ ((done.now.script ≡ script.now) × (done.now.index ≡ index) × (done.now.inputs ≡ contents_in shelves.now (slice_index_or script.now index no_part).accesses)) }
+{
+    let accesses = script.accesses(index as usize);
+    if !done.is_by(script, index) {
+        return false;
+    }
+    if done.inputs() != accesses.len() {
+        return false;
+    }
+    for (i, access) in accesses.iter().enumerate() {
+        if !done.had(i, &shelves[access.doc.position() as usize].content) {
+            return false;
+        }
+    }
+    true
+}
+
+/// Whether this behaviour had just the contents of these shelves, by its accesses, and was left undone.
+pub(crate) fn is_unrun_of(unrun: &Unrun, script: &Script, index: u8, shelves: &[Shelf]) -> bool
+    requires there { index < length script.now }
+    requires shelves { All (λ (a : Access). a.doc < length shelves.now) (slice_index_or script.now index no_part).accesses }
+    ensures { IsTrue result ↔ ((unrun.now.script ≡ script.now) × (unrun.now.index ≡ index) × (unrun.now.inputs ≡ contents_in shelves.now (slice_index_or script.now index no_part).accesses)) }
+{
+    let accesses = script.accesses(index as usize);
+    if !unrun.is_by(script, index) {
+        return false;
+    }
+    if unrun.inputs() != accesses.len() {
+        return false;
+    }
+    for (i, access) in accesses.iter().enumerate() {
+        if !unrun.had(i, &shelves[access.doc.position() as usize].content) {
+            return false;
+        }
+    }
+    true
 }
 
 /// What the accesses alter is lent.

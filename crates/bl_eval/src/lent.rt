@@ -1,7 +1,7 @@
 //! A behaviour that was lent its grants, one that was done, and one that want of memory left undone.
 //!
 //! None of these types has `Drop`: each is taken apart.
-ghost use Rattle.std.specs.Prelude.{◌≡◌, ◌<◌, ◌↔◌, length, slice_index_or, IsTrue};
+ghost use Rattle.std.specs.Prelude.{◌≡◌, ◌<◌, ◌↔◌, [], length, slice_index_or, IsTrue};
 ghost use Rattle.bl_work.specs.Statements.{no_part};
 ghost use Rattle.bl_work.specs.Effects.{outputs, children};
 ghost use Rattle.bl_grant.specs.Loans.{loans, lent_of, entry_of};
@@ -168,6 +168,31 @@ impl Done {
         self.entry
     }
 
+    /// Whether it is of this behaviour of this script.
+    pub fn is_by(&self, script: &Script, index: u8) -> bool
+        ensures { IsTrue result ↔ ((self.now.script ≡ script.now) × (self.now.index ≡ index)) }
+    {
+        if self.index != index {
+            return false;
+        }
+        self.script.is_same(script)
+    }
+
+    /// How many contents were lent.
+    pub fn inputs(&self) -> usize
+        ensures { result ≡ length self.now.inputs }
+    {
+        self.inputs.len()
+    }
+
+    /// Whether this content was lent, in this place of declared order.
+    pub fn had(&self, place: usize, content: &Document) -> bool
+        requires { place < length self.now.inputs }
+        ensures { IsTrue result ↔ (slice_index_or self.now.inputs place [] ≡ content.now) }
+    {
+        &self.inputs[place] == content
+    }
+
     /// Whether this is what a behaviour did that was lent these contents: its number, script, index and inputs are these.
     pub fn is_of(&self, entry: u32, script: &Script, index: u8, contents: &[Document]) -> bool
         ensures { IsTrue result ↔ (self.now ≡ record { entry = entry; script = script.now; index = index; inputs = contents.now }) }
@@ -219,6 +244,31 @@ impl Unrun {
         ensures { result ≡ self.now.entry }
     {
         self.entry
+    }
+
+    /// Whether it is of this behaviour of this script.
+    pub fn is_by(&self, script: &Script, index: u8) -> bool
+        ensures { IsTrue result ↔ ((self.now.script ≡ script.now) × (self.now.index ≡ index)) }
+    {
+        if self.index != index {
+            return false;
+        }
+        self.script.is_same(script)
+    }
+
+    /// How many contents were lent.
+    pub fn inputs(&self) -> usize
+        ensures { result ≡ length self.now.inputs }
+    {
+        self.grants.count()
+    }
+
+    /// Whether this content was lent, in this place of declared order.
+    pub fn had(&self, place: usize, content: &Document) -> bool
+        requires { place < length self.now.inputs }
+        ensures { IsTrue result ↔ (slice_index_or self.now.inputs place [] ≡ content.now) }
+    {
+        self.grants.had(place, content)
     }
 
     /// Whether this is a behaviour that was lent these contents: its number, script, index and inputs are these.

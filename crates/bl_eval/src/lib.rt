@@ -2,6 +2,7 @@
 #![tactic(auto)]
 
 pub mod evaluate;
+pub mod foreign;
 pub mod laws;
 pub mod lent;
 mod told;

@@ -306,7 +306,7 @@ impl Grant {
     }
 
     /// The bytes that were lent.
-    fn lent(&self) -> &[u8]
+    pub(crate) fn lent(&self) -> &[u8]
         ensures { result.now ≡ (loaned_of self.now).lent }
     {
         match self {

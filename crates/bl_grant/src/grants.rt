@@ -1,12 +1,12 @@
 //! The grants of one behaviour: one for each access that it declares, in order.
-ghost use Rattle.std.specs.Prelude.{◌≡◌, ◌+◌, ◌<◌, ◌≤◌, ◌↔◌, ◌==◌, length, map, IsTrue, IfOk, IfErr, OnOk, OnErr, vec_len};
+ghost use Rattle.std.specs.Prelude.{◌≡◌, ◌+◌, ◌<◌, ◌≤◌, ◌↔◌, ◌==◌, length, map, IsTrue, IfOk, IfErr, OnOk, OnErr, slice_index_or, vec_len};
 ghost use Rattle.std.specs.List.{list_all, list_any};
 ghost use Rattle.std.specs.Vec.{vec_capacity};
 ghost use Rattle.bl_policy.specs.declared.access.Access.{Access};
 ghost use Rattle.bl_work.specs.Content.{IsContent, is_content_byte, added};
 ghost use Rattle.bl_work.specs.Modes.{declares, observes, alters, is_write};
 ghost use Rattle.bl_work.specs.Script.{AreApart, most_accesses};
-ghost use Rattle.bl_grant.specs.Loaned.{Loaned, as_lent, back_of};
+ghost use Rattle.bl_grant.specs.Loaned.{Loaned, as_lent, back_of, no_loan};
 ghost use Rattle.bl_grant.specs.Loans.{loans, accesses_of, lent_of, entry_of, content_of, changed, IsPlace};
 ghost use Rattle.bl_grant.specs.Granted.{loaned_of};
 
@@ -124,6 +124,21 @@ impl Grants {
         ensures { result ≡ entry_of self.now }
     {
         self.grants[0].entry()
+    }
+
+    /// How many there are.
+    pub fn count(&self) -> usize
+        ensures { result ≡ length self.now }
+    {
+        self.grants.len()
+    }
+
+    /// Whether the grant in this place was lent this content. It tells nothing of what was done with the grant.
+    pub fn had(&self, place: usize, content: &Document) -> bool
+        requires { place < length self.now }
+        ensures { IsTrue result ↔ ((slice_index_or self.now place no_loan).lent ≡ content.now) }
+    {
+        self.grants[place].lent() == content.bytes()
     }
 
     /// The contents that were lent, in order.

@@ -1,0 +1,114 @@
+//! What a lender hands back that it did not lend.
+//!
+//! Neither of these types has `Drop`: each is taken apart, or buried.
+use crate::lent::{Done, DoneParts, Unrun, UnrunParts};
+use bl_grant::grant::Returned;
+use std::marker::Model;
+
+/// What was done, handed back by a lender that did not lend what it was done with. Its value is what was lent, and to whom.
+pub struct Foreign {
+    done: Done,
+}
+
+impl Model for Foreign {
+    ghost use Rattle.std.specs.Coded.{codes};
+    ghost use Rattle.bl_work.specs.Codes.{coded_part};
+    ghost use Rattle.bl_eval.specs.Loan.{Loan};
+
+    ghost Value = { Loan };
+
+    ghost coded = { Prim.hlevel (codes, coded_part) };
+
+    ghost view = { λ foreign. foreign.done };
+}
+
+impl Foreign {
+    ghost use Rattle.std.specs.Prelude.{◌≡◌};
+
+    /// Hands back what was done.
+    pub fn new(done: Done) -> Foreign
+        ensures { result ≡ done }
+    {
+        Foreign { done }
+    }
+
+    /// What was handed back.
+    pub fn into_done(self) -> Done
+        ensures { result ≡ self }
+    {
+        let Foreign { done } = self;
+        done
+    }
+
+    /// Spends what was done, since its lender is not at hand.
+    pub fn bury(self) {
+        let Foreign { done } = self;
+        let DoneParts {
+            entry: _,
+            script: _,
+            index: _,
+            inputs: _,
+            outputs: _,
+            spawned: _,
+            returned,
+        } = done.into_parts();
+        spend(returned);
+    }
+}
+
+/// What was left undone, handed back by a lender that did not lend it. Its value is what was lent, and to whom.
+pub struct ForeignUnrun {
+    unrun: Unrun,
+}
+
+impl Model for ForeignUnrun {
+    ghost use Rattle.std.specs.Coded.{codes};
+    ghost use Rattle.bl_work.specs.Codes.{coded_part};
+    ghost use Rattle.bl_eval.specs.Loan.{Loan};
+
+    ghost Value = { Loan };
+
+    ghost coded = { Prim.hlevel (codes, coded_part) };
+
+    ghost view = { λ foreign. foreign.unrun };
+}
+
+impl ForeignUnrun {
+    ghost use Rattle.std.specs.Prelude.{◌≡◌};
+
+    /// Hands back what was left undone.
+    pub fn new(unrun: Unrun) -> ForeignUnrun
+        ensures { result ≡ unrun }
+    {
+        ForeignUnrun { unrun }
+    }
+
+    /// What was handed back.
+    pub fn into_unrun(self) -> Unrun
+        ensures { result ≡ self }
+    {
+        let ForeignUnrun { unrun } = self;
+        unrun
+    }
+
+    /// Spends what was left undone, since its lender is not at hand.
+    pub fn bury(self) {
+        let ForeignUnrun { unrun } = self;
+        let UnrunParts {
+            entry: _,
+            script: _,
+            index: _,
+            grants,
+        } = unrun.into_parts();
+        spend(grants.close());
+    }
+}
+
+/// Spends what came back of grants.
+fn spend(returned: Vec<Returned>) {
+    let mut returned = returned;
+    while let Some(back) = returned.pop() {
+        let _content = back.into_content();
+    }
+    returned.destroy_empty();
+}
