@@ -1,7 +1,7 @@
 -- What the calls that only look read off the fields.
-use Rattle.std.proofs.Common.{◌≡◌, ℕ, ◌<◌, ◌≤◌, ◌⊎◌, inl, inr, Bool, true, false, List, [], length, get_or, refl, ap, sym, ◌∙◌, subst, arith}
+use Rattle.std.proofs.Common.{true≢false, ◌≡◌, ℕ, ◌<◌, ◌≤◌, ◌⊎◌, inl, inr, Bool, true, false, List, [], length, get_or, refl, ap, sym, ◌∙◌, subst, arith}
 use Rattle.std.specs.Prelude.{All, IsTrue}
-use Rattle.std.proofs.lemmas.List.{get_or_read}
+use Rattle.std.proofs.lemmas.List.{get_or_past, get_or_read}
 use Rattle.std.proofs.lemmas.List.Elements.{All-get_or}
 use Rattle.bl_policy.specs.RuleEffect.{IsRuleOf, HasIdsBelow}
 use Rattle.bl_policy.specs.declared.access.Access.{Access}
@@ -24,6 +24,7 @@ use Rattle.bl_core.specs.declared.place.Stand.{Stand}
 use Rattle.bl_core.specs.declared.place.Stand.TheVariants.{Ended}
 use Rattle.bl_core.specs.declared.shelf.Shelf.{Shelf}
 use Rattle.bl_core.specs.declared.machine.Core.TheInside.{Inside}
+use Rattle.bl_order.proofs.Steps.{waiting_is_not_over}
 use Rattle.bl_core.proofs.Views.{length-order, phase-read}
 
 below_or_not : (m n : ℕ) → (m < n) ⊎ (n ≤ m)
@@ -91,6 +92,21 @@ module _ (c : Inside) (k : Keeps c) where
   -- the answer that is kept is the place's
   pub answer-at : (n : ℕ) (s : Place) (a : Answer) → n < length c.places.items → s ≡ get_or c.places.items n s → s.stand ≡ Ended a → (past_at (state_of c) n).answer ≡ a
   answer-at n s a lt at is = (k.told n lt).answer a (ap (λ (x : Place). x.stand) (sym (get_or_read c.places.items n s lt at no_place)) ∙ is)
+
+  -- what stands before the first place that has not ended may not start
+  pub none_before : (n : ℕ) → n < c.first → MayStart (state_of c) n → ⊥
+  none_before n lt may =
+      true≢false (sym (k.first n lt) ∙ ap is_over (sym (phase-read c n (start_there n may))) ∙ waiting_is_not_over (phase_at (state_of c) n) may.waits)
+
+  -- no place past the end has ended
+  pub first_within : c.first ≤ length c.places.items
+  first_within = go (below_or_not (length c.places.items) c.first)
+    where
+      go : (length c.places.items < c.first) ⊎ (c.first ≤ length c.places.items) → c.first ≤ length c.places.items
+      go (inl early) =
+          absurd (true≢false (sym (k.first (length c.places.items) early)
+          ∙ ap (λ (t : Place). is_over (phase_of t.stand)) (get_or_past c.places.items (length c.places.items) no_place (omega arith))))
+      go (inr late) = late
 
   -- a place's rule is in the policy
   pub rule-of : (n : ℕ) (rule : Rule) → n < length c.places.items → (past_at (state_of c) n).task ≡ Applies rule → IsRuleOf c.policy rule

@@ -240,7 +240,7 @@ impl Core {
         // read for the proof alone: the order is within the limit
         let _limit = self.limit;
         let count = self.places.len() as u32;
-        for n in 0..count {
+        for n in self.first as u32..count {
             if self.is_ready(n) {
                 return Some(n);
             }
