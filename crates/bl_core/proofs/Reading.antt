@@ -15,6 +15,8 @@ use Rattle.bl_order.specs.Known.{KnowsWork}
 use Rattle.bl_order.specs.Order.{Task, Applies, accesses_of, conflict, is_altered, is_rule}
 use Rattle.bl_order.specs.Past.{Past, first_task, child_task}
 use Rattle.bl_order.specs.Machine.{State, MayStart, past_at, is_waiting, is_over, phase_at, runs}
+use Rattle.bl_order.specs.Now.{IsFirstToAlter, content_at}
+use Rattle.bl_order.proofs.HeadlineProof.{holds-reached}
 use Rattle.bl_core.specs.Places.{no_place, place_in, phase_of, work_in, task_in, HasBehaviour, HaveTasks, IsClear}
 use Rattle.bl_core.specs.Shelves.{new_shelf}
 use Rattle.bl_core.specs.View.{state_of}
@@ -121,6 +123,16 @@ module _ (c : Inside) (k : Keeps c) where
       go : (w : Work) (i : ℕ) → KnowsWork c.setup w → child_task (first_task w) i ≡ Applies rule → IsRuleOf c.setup.policy rule
       go (works.Behaviour script) i knows e = absurd (cc)
       go (works.Rule r) i knows e = subst (IsRuleOf c.setup.policy) (same_rule r rule e) knows
+
+  -- a shelf has the content at the first place that is still to alter its document
+  pub content-first : (place doc n : ℕ) (s : Shelf) → place ≡ doc → doc < length c.setup.contents → s ≡ get_or c.shelves.items place s → IsFirstToAlter (state_of c) doc n
+      → s.content ≡ content_at (state_of c) doc n
+  content-first place doc n s is lt at first =
+      let here : doc < length c.shelves.items = omega (arith, lt, k.as_many) in
+      ap (λ (v : Shelf). v.content) (get_or_read c.shelves.items place s (omega (arith, here, is)) at (new_shelf []))
+      ∙ ap (λ (j : ℕ). (get_or c.shelves.items j (new_shelf [])).content) is
+      ∙ k.shelved.contents doc here
+      ∙ (holds-reached (state_of c) k.reached).content_at_first doc n first
 
   -- a shelf whose content is lent is away
   pub away-at : (place doc : ℕ) (s : Shelf) → place ≡ doc → doc < length c.setup.contents → s ≡ get_or c.shelves.items place s → s.lent ≡ true → IsAway (state_of c) doc

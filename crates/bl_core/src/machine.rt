@@ -543,6 +543,7 @@ impl Core {
     pub fn content(&self, doc: DocId) -> Option<&Document>
         requires { doc < length self.now.setup.contents }
         ensures value { IfSome result (λ content. content.now ≡ content_now self.now doc) }
+        ensures first { IfSome result (λ content. (n : ℕ) → IsFirstToAlter self.now doc n → content.now ≡ content_at self.now doc n) }
         ensures none { IfNone result ((n : ℕ) × IsTrue (runs self.now n) × IsTrue (is_altered (accesses_of (past_at self.now n).task) doc)) }
         ensures some { IfSome result (λ _. (n : ℕ) → IsTrue (runs self.now n) → ¬ IsTrue (is_altered (accesses_of (past_at self.now n).task) doc)) }
     {
