@@ -1,40 +1,36 @@
 -- A session is opened, and a line enters.
-use Rattle.std.proofs.Common.{◌≡◌, ◌≢◌, ℕ, zero, suc, ◌<◌, ◌≤◌, ◌+◌, ◌⊎◌, inl, inr, Bool, true, false, List, [], ◌∷◌, ◌++◌, length, get_or, set, refl, ap, sym, ◌∙◌, subst, arith, length-append, length-set, get_or-set_same, get_or-set_other}
-use Rattle.std.specs.Prelude.{sum_by, map, All}
+use Rattle.std.proofs.Common.{◌≡◌, ◌≢◌, ℕ, zero, suc, ◌<◌, ◌≤◌, ◌+◌, ◌⊎◌, inl, inr, true, List, [], ◌∷◌, ◌++◌, length, get_or, set, refl, ap, sym, ◌∙◌, subst, arith, length-append, length-set, get_or-set_same, get_or-set_other}
+use Rattle.std.specs.Prelude.{map, All}
 use Rattle.std.specs.Vec.{vec_capacity}
 use Rattle.std.proofs.Math.ListN.{get_or-append}
 use Rattle.std.proofs.Math.Seq.{get_or-append_seam}
 use Rattle.std.proofs.lemmas.List.{length-map, map-append, map-set, get_or-map}
 use Rattle.std.proofs.lemmas.List.Sums.{sum_by_push}
-use Rattle.bl_work.specs.declared.answer.Answer.{Answer}
 use Rattle.bl_work.specs.declared.work.Work.{Work}
 use Rattle.bl_policy.specs.Policy.{SecurityPolicy}
 use Rattle.bl_order.specs.Known.{KnowsWork}
 use Rattle.bl_order.specs.Order.{Entry, Task, accesses_of, is_altered}
 use Rattle.bl_order.specs.Order as orders
 use Rattle.bl_order.specs.Past.{Past, no_entry, subject_of, task_of, earlier, first_task, child_task}
-use Rattle.bl_order.specs.Machine.{State, Session, Phase, Opens, Admits, Needs, change, past_at, runs, is_lost, is_running, phase_at, session_at, no_session, entry_weight, weight_of, is_over, Waiting}
-use Rattle.bl_order.specs.Now.{policy_now, content_now}
+use Rattle.bl_order.specs.Machine.{Session, Opens, Admits, Needs, change, past_at, runs, is_lost, is_running, session_at, no_session, entry_weight, weight_of, is_over, Waiting}
 use Rattle.bl_order.proofs.Sound.{IsSound}
 use Rattle.bl_order.proofs.Reached.{sound-reached}
 use Rattle.bl_order.proofs.Trails.{within, past-admitted, phases-admitted}
 use Rattle.bl_order.proofs.Present.{policy_now-admitted, content_now-admitted}
-use Rattle.bl_core.specs.Places.{no_place, place_in, work_of, work_in, task_in, entry_of, phase_of, HasBehaviour, HasTask, AreOver}
+use Rattle.bl_core.specs.Places.{no_place, place_in, work_of, work_in, entry_of, phase_of, HasBehaviour, AreOver}
 use Rattle.bl_core.specs.View.{state_of}
 use Rattle.bl_core.specs.Keeps.{Keeps, Tells, IsAway, AreShelved}
-use Rattle.bl_core.specs.Weights.{IsWeighed}
 use Rattle.bl_core.specs.declared.place.Place.{Place}
-use Rattle.bl_core.specs.declared.place.Origin.TheVariants.{Line}
+use Rattle.bl_core.specs.declared.place.Descent.TheVariants.{Line}
 use Rattle.bl_core.specs.declared.place.Stand.{Stand}
 use Rattle.bl_core.specs.declared.place.Stand.TheVariants as stands
 use Rattle.bl_work.specs.declared.work.Work.TheVariants as works
 use Rattle.bl_core.specs.declared.session.Session.{Session as Row}
-use Rattle.bl_core.specs.declared.shelf.Shelf.{Shelf}
 use Rattle.bl_core.specs.declared.machine.Core.TheInside.{Inside}
 use Rattle.bl_core.proofs.Grown.{Grows, grows-self, grows-append, equal_or_not}
 use Rattle.bl_core.proofs.Views.{length-order}
 use Rattle.bl_core.proofs.Written.{over_within}
-use Rattle.bl_core.proofs.Moved.{Moved, kept-moved}
+use Rattle.bl_core.proofs.Moved.{kept-moved}
 
 abbrev row_value : Row → Session
 row_value s = record { subject = s.subject; last = s.last }
@@ -100,7 +96,7 @@ module _ (c d : Inside) (subject : ℕ) (v : Opened c d subject) where
 -- ---- a line
 
 abbrev pub new_place : ℕ → ℕ → ℕ → ℕ → Work → Place
-new_place n session ordinal subject work = record { origin = Line session ordinal work; root = n; index = 0; subject = subject; stand = stands.Waiting }
+new_place n session ordinal subject work = record { descent = Line session ordinal work; root = n; index = 0; subject = subject; stand = stands.Waiting }
 
 pub record Admitted (c d : Inside) (i o subject : ℕ) (w : Work) : Type 0 where
   pub setup : d.setup ≡ c.setup
@@ -160,8 +156,8 @@ module _ (c d : Inside) (i o subject : ℕ) (w : Work) (v : Admitted c d i o sub
 
     work_new : work_in (c.places.items ++ new_place (length c.places.items) i o subject w ∷ []) (length c.places.items) ≡ w
     work_new =
-        ap (λ (s : Place). work_of (get_or (c.places.items ++ new_place (length c.places.items) i o subject w ∷ []) s.root no_place).origin) new_at
-        ∙ ap (λ (s : Place). work_of s.origin) new_at
+        ap (λ (s : Place). work_of (get_or (c.places.items ++ new_place (length c.places.items) i o subject w ∷ []) s.root no_place).descent) new_at
+        ∙ ap (λ (s : Place). work_of s.descent) new_at
 
     entry_new : get_or (change (state_of c) (Admits i o w)).order (length c.places.items) no_entry ≡ orders.Line i o (session_at (state_of c) i).subject w
     entry_new =

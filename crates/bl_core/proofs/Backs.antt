@@ -9,15 +9,14 @@ use Rattle.bl_policy.specs.declared.access.Access.{Access}
 use Rattle.bl_policy.specs.declared.denial.Denial.{Denial}
 use Rattle.bl_work.specs.Statements.{Part, no_part}
 use Rattle.bl_work.specs.Effects.{Effect, after, effects_of, outputs}
-use Rattle.bl_work.specs.declared.answer.Answer.{Answer}
 use Rattle.bl_work.specs.declared.answer.Answer.TheVariants as answers
-use Rattle.bl_grant.specs.Loaned.{Loaned, Back, back_of}
+use Rattle.bl_grant.specs.Loaned.{Back, back_of}
 use Rattle.bl_grant.specs.Loans.{loans}
-use Rattle.bl_order.specs.Order.{Task, Runs, Applies, accesses_of, is_altered, is_declared}
+use Rattle.bl_order.specs.Order.{Task, Runs, is_altered, is_declared}
 use Rattle.bl_order.specs.Past.{is_done, judged, answer_of, fault_of_task, only_if_done, deeds, lent}
 use Rattle.bl_order.specs.Machine.{State, past_at, is_lost}
 use Rattle.bl_order.specs.Now.{content_at, policy_at}
-use Rattle.bl_eval.specs.Loan.{Loan, backs, input_at, effects_on}
+use Rattle.bl_eval.specs.Loan.{backs, input_at, effects_on}
 use Rattle.bl_core.specs.Answers.{loan_of, loan_at}
 use Rattle.bl_core.specs.Shelves.{new_shelf, shelf_in, put_one, put_back}
 use Rattle.bl_core.specs.declared.shelf.Shelf.{Shelf}

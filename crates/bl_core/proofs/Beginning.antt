@@ -1,16 +1,16 @@
 -- A core in which nothing has happened yet.
-use Rattle.std.proofs.Common.{◌≡◌, ℕ, ◌<◌, ◌≤◌, true, false, List, [], length, get_or, refl, ap, sym, ◌∙◌, subst, arith, true≢false}
-use Rattle.std.specs.Prelude.{map, All}
+use Rattle.std.proofs.Common.{◌≡◌, ℕ, ◌<◌, ◌≤◌, [], length, get_or, ap, sym, ◌∙◌, subst, arith, true≢false}
+use Rattle.std.specs.Prelude.{map}
 use Rattle.std.specs.Vec.{vec_capacity}
 use Rattle.std.proofs.lemmas.List.{length-map, get_or-map}
 use Rattle.bl_policy.specs.Policy.{SecurityPolicy}
 use Rattle.bl_setup.specs.Agreement.{Agree}
 use Rattle.bl_order.specs.Machine.{State, start, most_sessions}
 use Rattle.bl_order.proofs.Reached.{reached-first}
-use Rattle.bl_core.specs.Places.{entry_of, phase_of, AreOver}
+use Rattle.bl_core.specs.Places.{entry_of, phase_of}
 use Rattle.bl_core.specs.Shelves.{new_shelf, shelf_in}
 use Rattle.bl_core.specs.View.{state_of}
-use Rattle.bl_core.specs.Keeps.{Keeps, KeepsAt, Tells, AreShelved}
+use Rattle.bl_core.specs.Keeps.{Keeps, KeepsAt, AreShelved}
 use Rattle.bl_core.specs.declared.place.Place.{Place}
 use Rattle.bl_core.specs.declared.session.Session.{Session}
 use Rattle.bl_core.specs.declared.shelf.Shelf.{Shelf}

@@ -1,6 +1,6 @@
 -- When two places conflict, by what they declare.
-use Rattle.std.proofs.Common.{◌≡◌, ℕ, Bool, true, false, ◌&&◌, ◌||◌, List, [], ◌∷◌, refl, ap, sym, ◌∙◌, true≢false}
-use Rattle.std.specs.Prelude.{◌==◌, map}
+use Rattle.std.proofs.Common.{◌≡◌, false, ◌&&◌, ◌||◌, List, [], ◌∷◌, refl, ap, ◌∙◌, true≢false}
+use Rattle.std.specs.Prelude.{◌==◌}
 use Rattle.std.specs.List.{list_any}
 use Rattle.bl_policy.specs.Mode.{is_exclusive}
 use Rattle.bl_policy.specs.declared.access.Access.{Access}

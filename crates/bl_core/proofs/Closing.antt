@@ -1,12 +1,12 @@
 -- A place that may start ends at once: it is denied, its rule is applied, or it is lost.
-use Rattle.std.proofs.Common.{◌≡◌, ℕ, ◌<◌, ◌⊎◌, inr, false, true, cond, Bool, List, [], ◌++◌, length, get_or, set, refl, ap, sym, ◌∙◌, subst}
+use Rattle.std.proofs.Common.{◌≡◌, ℕ, inr, false, cond, Bool, [], length, get_or, set, refl, ap, sym, ◌∙◌}
 use Rattle.std.specs.Vec.{with_item}
 use Rattle.bl_policy.specs.Policy.{SecurityPolicy}
 use Rattle.bl_work.specs.declared.answer.Answer.{Answer}
 use Rattle.bl_work.specs.declared.answer.Answer.TheVariants as answers
 use Rattle.bl_order.specs.Past.{is_done, changed}
-use Rattle.bl_order.specs.Machine.{State, Running, Ended, MayStart, Starts, Loses, change, past_at}
-use Rattle.bl_core.specs.Places.{no_place, place_in, phase_of, AreOver}
+use Rattle.bl_order.specs.Machine.{Running, Ended, MayStart, Starts, Loses, change, past_at}
+use Rattle.bl_core.specs.Places.{place_in, phase_of, AreOver}
 use Rattle.bl_core.specs.View.{state_of}
 use Rattle.bl_core.specs.Keeps.{Keeps}
 use Rattle.bl_core.specs.declared.place.Place.{Place}

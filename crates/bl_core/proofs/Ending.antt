@@ -5,7 +5,6 @@ use Rattle.std.proofs.Math.Seq.{map-set_same}
 use Rattle.std.proofs.lemmas.List.{get_or-append_right, map-set, map-append}
 use Rattle.std.proofs.lemmas.List.Sums.{sum_by-append}
 use Rattle.bl_work.specs.Effects.{children}
-use Rattle.bl_work.specs.declared.answer.Answer.{Answer}
 use Rattle.bl_work.specs.declared.work.Work.{Work}
 use Rattle.bl_work.specs.declared.work.Work.TheVariants as works
 use Rattle.bl_order.specs.Known.{KnowsWork}
@@ -25,11 +24,11 @@ use Rattle.bl_core.specs.Places.{no_place, place_in, entry_of, phase_of, work_of
 use Rattle.bl_core.specs.View.{state_of}
 use Rattle.bl_core.specs.Keeps.{Keeps, Tells}
 use Rattle.bl_core.specs.declared.place.Place.{Place}
-use Rattle.bl_core.specs.declared.place.Origin.TheVariants.{Child}
+use Rattle.bl_core.specs.declared.place.Descent.TheVariants.{Child}
 use Rattle.bl_core.specs.declared.place.Stand.TheVariants as stands
 use Rattle.bl_core.specs.declared.session.Session.{Session}
 use Rattle.bl_core.specs.declared.machine.Core.TheInside.{Inside}
-use Rattle.bl_core.proofs.Grown.{Same, Grows, grows-set, grows-append, grows-both, work_in-grown}
+use Rattle.bl_core.proofs.Grown.{Same, Grows, grows-set, grows-append, grows-both}
 use Rattle.bl_core.proofs.Views.{length-order}
 use Rattle.bl_core.proofs.Written.{Written, same-entry}
 
@@ -85,7 +84,7 @@ has_behaviour (works.Behaviour script) i is = is.1
 has_behaviour (works.Rule rule) i is = tt
 
 abbrev child_place : ℕ → ℕ → ℕ → ℕ → ℕ → Place
-child_place p which root index subject = record { origin = Child p which; root = root; index = index; subject = subject; stand = stands.Waiting }
+child_place p which root index subject = record { descent = Child p which; root = root; index = index; subject = subject; stand = stands.Waiting }
 
 plus_zero : (a : ℕ) → a ≡ a + 0
 plus_zero a = omega arith
@@ -135,8 +134,8 @@ module _ (c : Inside) (n : ℕ) (t : Place) (ks : List ℕ) (k : Keeps c) (r : r
 
   work-read : (j : ℕ) → j < length ks → work_in after (length c.places.items + j) ≡ work_in c.places.items n
   work-read j l =
-      ap (λ (s : Place). work_of (get_or after s.root no_place).origin) (place-read j l)
-      ∙ ap work_of (grows-after.same (place_in c.places.items n).root (k.told n lt).root).origin
+      ap (λ (s : Place). work_of (get_or after s.root no_place).descent) (place-read j l)
+      ∙ ap work_of (grows-after.same (place_in c.places.items n).root (k.told n lt).root).descent
 
   entry-new : (j : ℕ) → j < length ks → get_or (change (state_of c) (Ends n)).order (length c.places.items + j) no_entry ≡ orders.Child n (1 + j)
   entry-new j l =

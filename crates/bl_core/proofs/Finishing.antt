@@ -1,22 +1,18 @@
 -- A running place ends, or is lost.
-use Rattle.std.proofs.Common.{◌≡◌, ◌≢◌, ℕ, ◌<◌, ◌≤◌, ◌+◌, ◌⊎◌, inl, inr, Bool, true, false, cond, ◌||◌, List, [], ◌∷◌, ◌++◌, length, get_or, set, refl, ap, sym, ◌∙◌, subst, arith, length-set, length-append, true≢false}
-use Rattle.std.specs.Prelude.{map, All, sum_by, IsTrue}
-use Rattle.std.specs.Vec.{vec_capacity}
+use Rattle.std.proofs.Common.{◌≡◌, ℕ, ◌<◌, ◌≤◌, ◌+◌, inl, Bool, true, false, cond, ◌||◌, List, [], length, get_or, set, refl, ap, sym, ◌∙◌, subst, arith, length-set, true≢false}
+use Rattle.std.specs.Prelude.{All}
 use Rattle.bl_policy.specs.Policy.{SecurityPolicy}
 use Rattle.bl_policy.specs.declared.access.Access.{Access}
-use Rattle.bl_work.specs.Statements.{Part, no_part}
 use Rattle.bl_work.specs.Effects.{Effect, after, children, outputs}
-use Rattle.bl_work.specs.declared.answer.Answer.{Answer}
 use Rattle.bl_work.specs.declared.answer.Answer.TheVariants as answers
-use Rattle.bl_grant.specs.Loaned.{Back, back_of}
-use Rattle.bl_grant.specs.Loans.{loans, lent_of}
-use Rattle.bl_eval.specs.Loan.{Loan, backs, part_of, effects_on, AreFor}
+use Rattle.bl_grant.specs.Loaned.{Back}
+use Rattle.bl_eval.specs.Loan.{backs, part_of, effects_on}
 use Rattle.bl_order.specs.Headline.{IsReached}
 use Rattle.bl_order.specs.Room.{IsBehaviourOrRule}
-use Rattle.bl_order.specs.Order.{Task, Runs, accesses_of, is_altered, is_declared, is_rule}
+use Rattle.bl_order.specs.Order.{Runs, accesses_of, is_altered, is_rule}
 use Rattle.bl_order.specs.Past.{Past, is_done}
-use Rattle.bl_order.specs.Machine.{State, Phase, Waiting, Running, Ended, Gone, Ends, Loses, change, with_phase, past_at, runs, is_running, is_over, is_gone, is_lost, phase_at, children_at}
-use Rattle.bl_order.specs.Now.{content_at, content_now, policy_now}
+use Rattle.bl_order.specs.Machine.{State, Ended, Gone, Ends, Loses, change, with_phase, past_at, runs, is_over, is_gone, is_lost, phase_at, children_at}
+use Rattle.bl_order.specs.Now.{content_at, content_now}
 use Rattle.bl_order.proofs.Sound.{IsSound}
 use Rattle.bl_order.proofs.Conflicts.{altered_is_declared}
 use Rattle.bl_order.proofs.Reached.{sound-reached}
@@ -24,9 +20,9 @@ use Rattle.bl_order.proofs.HeadlineProof.{holds-reached}
 use Rattle.bl_order.proofs.Steps.{Moves, equal_self, running_is_not_over, length-child_entries}
 use Rattle.bl_order.proofs.Trails.{within, moves-end, moves-lost, past-ended}
 use Rattle.bl_order.proofs.Present.{moves_on-reached, lost-answer, rule_never_runs, policy_now-ended, policy_now-lost}
-use Rattle.bl_core.specs.Answers.{loan_at, loan_of, script_of, index_of}
-use Rattle.bl_core.specs.Places.{no_place, place_in, task_in, child_places, phase_of}
-use Rattle.bl_core.specs.Shelves.{new_shelf, shelf_in, content_in, put_back}
+use Rattle.bl_core.specs.Answers.{loan_at, script_of, index_of}
+use Rattle.bl_core.specs.Places.{place_in, child_places, phase_of}
+use Rattle.bl_core.specs.Shelves.{new_shelf, shelf_in, put_back}
 use Rattle.bl_core.specs.View.{state_of}
 use Rattle.bl_core.specs.Keeps.{Keeps, Tells, AreShelved}
 use Rattle.bl_core.specs.declared.place.Place.{Place}
@@ -38,7 +34,7 @@ use Rattle.bl_core.proofs.Views.{length-order, phase-read, ended_of}
 use Rattle.bl_core.proofs.Moved.{kept-moved}
 use Rattle.bl_core.proofs.Written.{Written, append_nil, moved-written, state-written, stands_at, same-read}
 use Rattle.bl_core.proofs.Shelving.{shelved-back}
-use Rattle.bl_core.proofs.Backs.{put_back-read, length-put_back, backs-all, backs-unchanged, done-effects}
+use Rattle.bl_core.proofs.Backs.{put_back-read, length-put_back, backs-all, done-effects}
 use Rattle.bl_core.proofs.Reading.{shelves-declared}
 use Rattle.bl_core.proofs.Lending.{runs_of, accesses_part}
 use Rattle.bl_core.proofs.Ending.{alone, state-ended, tells-new, weight-ended}

@@ -1,20 +1,19 @@
 -- Places that only change where they stand, and more places after them.
-use Rattle.std.proofs.Common.{◌≡◌, ◌≢◌, ℕ, zero, suc, ◌<◌, ◌≤◌, ◌+◌, ◌⊎◌, inl, inr, List, [], ◌∷◌, ◌++◌, length, get_or, set, refl, ap, sym, ◌∙◌, subst, arith, length-set, length-append, get_or-set_same, get_or-set_other}
+use Rattle.std.proofs.Common.{◌≡◌, ◌≢◌, ℕ, ◌<◌, ◌≤◌, ◌⊎◌, inl, inr, List, ◌++◌, length, get_or, set, refl, ap, sym, ◌∙◌, subst, arith, length-set, length-append, get_or-set_same, get_or-set_other}
 use Rattle.std.proofs.Math.ListN.{get_or-append}
 use Rattle.bl_work.specs.declared.answer.Answer.{Answer}
 use Rattle.bl_work.specs.declared.work.Work.{Work}
 use Rattle.bl_setup.specs.Setup.{Setup}
 use Rattle.bl_order.specs.Known.{KnowsWork}
-use Rattle.bl_order.specs.Order.{Task}
 use Rattle.bl_order.specs.Past.{Past, first_task, child_task}
-use Rattle.bl_core.specs.Places.{no_place, place_in, work_of, work_in, task_in, HasBehaviour, HasTask}
+use Rattle.bl_core.specs.Places.{no_place, place_in, work_of, work_in, task_in, HasBehaviour}
 use Rattle.bl_core.specs.Keeps.{Tells}
 use Rattle.bl_core.specs.declared.place.Place.{Place}
 use Rattle.bl_core.specs.declared.place.Stand.TheVariants.{Ended}
 
 -- they differ in where they stand alone
 pub record Same (s t : Place) : Type 0 where
-  pub origin : t.origin ≡ s.origin
+  pub descent : t.descent ≡ s.descent
   pub root : t.root ≡ s.root
   pub index : t.index ≡ s.index
   pub subject : t.subject ≡ s.subject
@@ -25,7 +24,7 @@ pub record Grows (old new : List Place) : Type 0 where
   pub same : (m : ℕ) → m < length old → Same (place_in old m) (place_in new m)
 
 pub same_self : (s : Place) → Same s s
-same_self s = record { origin = refl; root = refl; index = refl; subject = refl }
+same_self s = record { descent = refl; root = refl; index = refl; subject = refl }
 
 pub equal_or_not : (m n : ℕ) → (m ≡ n) ⊎ (m ≢ n)
 equal_or_not m n = grind arith
@@ -55,14 +54,14 @@ grows-both a b c g h = record {
   same = λ m lt.
       let s : Same (get_or a m no_place) (get_or b m no_place) = g.same m lt in
       let t : Same (get_or b m no_place) (get_or c m no_place) = h.same m (omega (arith, g.longer)) in
-      record { origin = t.origin ∙ s.origin; root = t.root ∙ s.root; index = t.index ∙ s.index; subject = t.subject ∙ s.subject };
+      record { descent = t.descent ∙ s.descent; root = t.root ∙ s.root; index = t.index ∙ s.index; subject = t.subject ∙ s.subject };
 }
 
 module _ (old new : List Place) (g : Grows old new) where
   pub work_in-grown : (n : ℕ) → n < length old → (place_in old n).root < length old → work_in new n ≡ work_in old n
   work_in-grown n lt rooted =
-      ap (λ (r : ℕ). work_of (get_or new r no_place).origin) (g.same n lt).root
-      ∙ ap work_of (g.same (get_or old n no_place).root rooted).origin
+      ap (λ (r : ℕ). work_of (get_or new r no_place).descent) (g.same n lt).root
+      ∙ ap work_of (g.same (get_or old n no_place).root rooted).descent
 
   pub task_in-grown : (n : ℕ) → n < length old → (place_in old n).root < length old → task_in new n ≡ task_in old n
   task_in-grown n lt rooted =

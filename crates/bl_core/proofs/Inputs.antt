@@ -1,6 +1,6 @@
 -- What was lent is compared with the shelves, one content after another.
 use Rattle.std.proofs.Common.{◌≡◌, ℕ, ◌<◌, ◌+◌, List, [], ◌∷◌, ◌++◌, length, get_or, take, ap, sym, ◌∙◌, arith}
-use Rattle.std.specs.Prelude.{map, All}
+use Rattle.std.specs.Prelude.{All}
 use Rattle.std.proofs.lemmas.List.{get_or_read, get_or-map, length-map, take_more}
 use Rattle.bl_policy.specs.declared.access.Access.{Access}
 use Rattle.bl_core.specs.Shelves.{content_in, contents_in, new_shelf}

@@ -1,6 +1,6 @@
 -- What a start answers of a behaviour.
-use Rattle.std.proofs.Common.{◌≡◌, ℕ, ◌<◌, true, false, List, length, get_or, refl, ap, sym, ◌∙◌, subst, true≢false}
-use Rattle.std.specs.Prelude.{IsTrue, MatchOption, Option, Some, None}
+use Rattle.std.proofs.Common.{◌≡◌, ℕ, true, false, List, get_or, refl, ap, sym, ◌∙◌, true≢false}
+use Rattle.std.specs.Prelude.{MatchOption, Option, Some, None}
 use Rattle.std.proofs.lemmas.List.{get_or_read}
 use Rattle.bl_policy.specs.FirstFault.{first_fault}
 use Rattle.bl_policy.specs.Policy.{SecurityPolicy}
@@ -9,8 +9,8 @@ use Rattle.bl_policy.specs.declared.denial.Denial.{Denial}
 use Rattle.bl_work.specs.declared.answer.Answer.TheVariants as answers
 use Rattle.bl_order.specs.Order.{Task, Runs, Applies, accesses_of, is_rule}
 use Rattle.bl_order.specs.Past.{is_done, fault_of_task}
-use Rattle.bl_order.specs.Machine.{State, MayStart, past_at}
-use Rattle.bl_core.specs.Places.{no_place, place_in, task_in}
+use Rattle.bl_order.specs.Machine.{MayStart, past_at}
+use Rattle.bl_core.specs.Places.{no_place, task_in}
 use Rattle.bl_core.specs.View.{state_of}
 use Rattle.bl_core.specs.Keeps.{Keeps}
 use Rattle.bl_core.specs.declared.place.Place.{Place}

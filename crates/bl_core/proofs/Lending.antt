@@ -1,19 +1,19 @@
 -- What a place that may start is lent.
-use Rattle.std.proofs.Common.{◌≡◌, ℕ, zero, suc, ◌<◌, ◌≤◌, ◌+◌, Bool, true, false, ◌||◌, List, [], ◌∷◌, ◌++◌, length, get_or, take, drop, refl, ap, sym, ◌∙◌, subst, arith, true≢false}
-use Rattle.std.specs.Prelude.{map, All, ◌==◌, IsTrue}
+use Rattle.std.proofs.Common.{◌≡◌, ℕ, zero, suc, ◌<◌, Bool, true, false, ◌||◌, List, [], ◌∷◌, ◌++◌, length, get_or, take, drop, refl, ap, sym, ◌∙◌, subst, arith, true≢false}
+use Rattle.std.specs.Prelude.{map, ◌==◌}
 use Rattle.std.specs.List.{list_any}
 use Rattle.std.specs.Vec.{with_items}
 use Rattle.std.proofs.lemmas.List.{length-map, get_or_read}
 use Rattle.std.proofs.lemmas.Bool.Decides.{nat_tests}
 use Rattle.bl_policy.specs.declared.access.Access.{Access}
-use Rattle.bl_work.specs.Script.{IsBehaviour, most_accesses}
+use Rattle.bl_work.specs.Script.{IsBehaviour}
 use Rattle.bl_work.specs.Statements.{Part, no_part}
 use Rattle.bl_grant.specs.Loaned.{Loaned}
 use Rattle.bl_grant.specs.Loans.{loans, lent_of, entry_of}
 use Rattle.bl_eval.specs.Loan.{Loan, AreFor}
 use Rattle.bl_order.specs.Order.{Task, Runs, Applies, accesses_of, is_declared, is_rule}
-use Rattle.bl_order.specs.Machine.{State, MayStart, past_at}
-use Rattle.bl_order.specs.Now.{content_at, content_now}
+use Rattle.bl_order.specs.Machine.{MayStart}
+use Rattle.bl_order.specs.Now.{content_at}
 use Rattle.bl_order.proofs.HeadlineProof.{holds-reached}
 use Rattle.bl_core.specs.Answers.{loan_of, loan_at, script_of, index_of}
 use Rattle.bl_order.specs.Past.{first_task, child_task}

@@ -2,8 +2,8 @@
 use Rattle.std.proofs.Common.{◌≡◌, ℕ, List, [], true, ap, sym, ◌∙◌}
 use Rattle.bl_work.specs.Effects.{children, outputs}
 use Rattle.bl_order.specs.Machine.{State, runs}
-use Rattle.bl_grant.specs.Loaned.{Back, Loaned, back_of}
-use Rattle.bl_grant.specs.Loans.{loans, lent_of}
+use Rattle.bl_grant.specs.Loaned.{Loaned, back_of}
+use Rattle.bl_grant.specs.Loans.{lent_of}
 use Rattle.std.specs.Prelude.{map}
 use Rattle.bl_eval.specs.Loan.{Loan, AreFor, backs, part_of, effects_on}
 use Rattle.bl_core.specs.Answers.{loan_at}

@@ -18,3 +18,4 @@ pub mod Beginning
 pub mod Judging
 pub mod Inputs
 pub mod Owning
+pub mod Looking

@@ -1,23 +1,21 @@
 -- What every event keeps of the fields.
-use Rattle.std.proofs.Common.{◌≡◌, ℕ, ◌<◌, ◌≤◌, ◌⊎◌, inl, inr, Bool, true, false, ◌||◌, List, length, refl, ap, sym, ◌∙◌, subst, arith}
-use Rattle.std.specs.Prelude.{sum_by, All, IsTrue}
+use Rattle.std.proofs.Common.{◌≡◌, ℕ, ◌<◌, ◌≤◌, ◌⊎◌, inl, inr, Bool, length, refl, ap, sym, ◌∙◌, subst, arith}
+use Rattle.std.specs.Prelude.{sum_by, All}
 use Rattle.std.specs.Vec.{vec_capacity}
 use Rattle.bl_work.specs.declared.answer.Answer.{Answer}
 use Rattle.bl_setup.specs.Setup.{Setup}
 use Rattle.bl_setup.specs.Agreement.{Agree}
 use Rattle.bl_order.specs.Past.{Past}
-use Rattle.bl_order.specs.Machine.{State, Event, Opens, Admits, Starts, Ends, Loses, Needs, MayStart, change, past_at, runs, has_ended, phase_at, is_over, entry_weight, most_sessions}
+use Rattle.bl_order.specs.Machine.{State, Event, Opens, Admits, Starts, Ends, Loses, Needs, change, past_at, phase_at, is_over, entry_weight}
 use Rattle.bl_order.specs.Now.{policy_now}
 use Rattle.bl_order.proofs.Sound.{IsSound}
 use Rattle.bl_order.proofs.Reached.{sound-reached, reached-next}
 use Rattle.bl_order.proofs.Steps.{past-alike, running_is_not_over, waiting_is_not_over}
 use Rattle.bl_order.proofs.Trails.{past-step, past-admitted, past-started, past-ended, within}
 use Rattle.bl_order.proofs.Frame.{IsAlike}
-use Rattle.bl_core.specs.Places.{place_in, AreOver, phase_of}
+use Rattle.bl_core.specs.Places.{place_in, AreOver}
 use Rattle.bl_core.specs.View.{state_of}
 use Rattle.bl_core.specs.Keeps.{Keeps, KeepsAt, Tells, AreShelved}
-use Rattle.bl_core.specs.declared.place.Place.{Place}
-use Rattle.bl_core.specs.declared.place.Stand.{Stand}
 use Rattle.bl_core.specs.declared.place.Stand.TheVariants.{Ended}
 use Rattle.bl_core.specs.declared.session.Session.{Session}
 use Rattle.bl_core.specs.declared.machine.Core.TheInside.{Inside}

@@ -1,6 +1,6 @@
 -- What a running place was lent, by the fields.
 use Rattle.std.proofs.Common.{◌≡◌, ℕ, ◌<◌, true, List, length, get_or, ap, sym, ◌∙◌, subst, true≢false}
-use Rattle.std.specs.Prelude.{map, All, IsTrue}
+use Rattle.std.specs.Prelude.{map, All}
 use Rattle.std.proofs.lemmas.List.{get_or_read}
 use Rattle.bl_policy.specs.declared.access.Access.{Access}
 use Rattle.bl_policy.specs.declared.rule.Rule.{Rule}

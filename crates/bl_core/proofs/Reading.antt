@@ -1,5 +1,5 @@
 -- What the calls that only look read off the fields.
-use Rattle.std.proofs.Common.{true≢false, ◌≡◌, ℕ, ◌<◌, ◌≤◌, ◌⊎◌, inl, inr, Bool, true, false, List, [], length, get_or, refl, ap, sym, ◌∙◌, subst, arith}
+use Rattle.std.proofs.Common.{true≢false, ◌≡◌, ℕ, ◌<◌, ◌≤◌, ◌⊎◌, inl, inr, true, [], length, get_or, ap, sym, ◌∙◌, subst, arith}
 use Rattle.std.specs.Prelude.{All, IsTrue}
 use Rattle.std.proofs.lemmas.List.{get_or_past, get_or_read}
 use Rattle.std.proofs.lemmas.List.Elements.{All-get_or}
@@ -12,9 +12,9 @@ use Rattle.bl_work.specs.declared.work.Work.{Work}
 use Rattle.bl_work.specs.declared.work.Work.TheVariants as works
 use Rattle.bl_setup.specs.Setup.{Setup}
 use Rattle.bl_order.specs.Known.{KnowsWork}
-use Rattle.bl_order.specs.Order.{Task, Applies, accesses_of, conflict, is_altered, is_rule}
-use Rattle.bl_order.specs.Past.{Past, first_task, child_task}
-use Rattle.bl_order.specs.Machine.{State, MayStart, past_at, is_waiting, is_over, phase_at, runs}
+use Rattle.bl_order.specs.Order.{Task, Applies, accesses_of, conflict}
+use Rattle.bl_order.specs.Past.{first_task, child_task}
+use Rattle.bl_order.specs.Machine.{MayStart, past_at, is_waiting, is_over, phase_at}
 use Rattle.bl_order.specs.Now.{IsFirstToAlter, content_at}
 use Rattle.bl_order.proofs.HeadlineProof.{holds-reached}
 use Rattle.bl_core.specs.Places.{no_place, place_in, phase_of, work_in, task_in, HasBehaviour, HaveTasks, IsClear}
@@ -22,7 +22,6 @@ use Rattle.bl_core.specs.Shelves.{new_shelf}
 use Rattle.bl_core.specs.View.{state_of}
 use Rattle.bl_core.specs.Keeps.{Keeps, IsAway}
 use Rattle.bl_core.specs.declared.place.Place.{Place}
-use Rattle.bl_core.specs.declared.place.Stand.{Stand}
 use Rattle.bl_core.specs.declared.place.Stand.TheVariants.{Ended}
 use Rattle.bl_core.specs.declared.shelf.Shelf.{Shelf}
 use Rattle.bl_core.specs.declared.machine.Core.TheInside.{Inside}

@@ -1,17 +1,17 @@
 -- A behaviour that may start runs.
-use Rattle.std.proofs.Common.{◌≡◌, ℕ, ◌<◌, ◌≤◌, ◌⊎◌, inl, false, true, cond, Bool, List, [], ◌++◌, length, get_or, set, refl, ap, sym, ◌∙◌, subst, arith}
+use Rattle.std.proofs.Common.{◌≡◌, ℕ, inl, false, true, cond, Bool, List, [], length, get_or, set, refl, ap, sym, ◌∙◌, subst, arith}
 use Rattle.std.specs.Vec.{with_item, with_items}
 use Rattle.bl_policy.specs.declared.access.Access.{Access}
 use Rattle.bl_work.specs.declared.answer.Answer.{Answer}
-use Rattle.bl_order.specs.Order.{Task, accesses_of, is_rule}
+use Rattle.bl_order.specs.Order.{accesses_of, is_rule}
 use Rattle.bl_order.specs.Past.{is_done, changed}
-use Rattle.bl_order.specs.Machine.{State, Running, Ended, MayStart, Starts, change, past_at, phase_at, is_over, is_running}
+use Rattle.bl_order.specs.Machine.{Running, Ended, MayStart, Starts, change, past_at, phase_at, is_over, is_running}
 use Rattle.bl_order.proofs.Reached.{sound-reached}
 use Rattle.bl_order.proofs.StateLaws.{changed-skips}
 use Rattle.bl_order.proofs.Steps.{waiting_is_not_over}
 use Rattle.bl_order.proofs.Trails.{moves-start}
 use Rattle.bl_order.proofs.Present.{content_now-started}
-use Rattle.bl_core.specs.Places.{no_place, place_in, phase_of, task_in, AreOver}
+use Rattle.bl_core.specs.Places.{place_in, phase_of, task_in}
 use Rattle.bl_core.specs.Shelves.{marked}
 use Rattle.bl_core.specs.View.{state_of}
 use Rattle.bl_core.specs.Keeps.{Keeps, AreShelved}

@@ -1,12 +1,11 @@
 -- The shelves while places start and end.
-use Rattle.std.proofs.Common.{◌≡◌, ◌≢◌, ℕ, zero, suc, ◌<◌, ◌≤◌, ◌⊎◌, inl, inr, Bool, true, false, cond, ◌&&◌, ◌||◌, List, [], ◌∷◌, length, get_or, set, refl, ap, sym, ◌∙◌, subst, arith, length-set, get_or-set_same, get_or-set_other, true≢false}
-use Rattle.std.specs.Prelude.{◌==◌, IsTrue}
-use Rattle.std.specs.List.{list_any}
+use Rattle.std.proofs.Common.{◌≡◌, ◌≢◌, ℕ, ◌<◌, ◌⊎◌, inl, inr, Bool, true, false, cond, ◌&&◌, ◌||◌, List, [], ◌∷◌, length, set, refl, ap, sym, ◌∙◌, subst, arith, length-set, get_or-set_same, get_or-set_other, true≢false}
+use Rattle.std.specs.Prelude.{◌==◌}
 use Rattle.std.proofs.lemmas.Bool.Decides.{eqb_tells}
 use Rattle.bl_policy.specs.Mode.{is_exclusive}
 use Rattle.bl_policy.specs.declared.access.Access.{Access}
 use Rattle.bl_order.specs.Order.{Task, accesses_of, is_altered}
-use Rattle.bl_order.specs.Machine.{State, Phase, Running, past_at, runs, is_running, phase_at}
+use Rattle.bl_order.specs.Machine.{State, Phase, past_at, runs, is_running, phase_at}
 use Rattle.bl_order.specs.Now.{content_now}
 use Rattle.bl_order.proofs.Sound.{IsSound}
 use Rattle.bl_order.proofs.Steps.{Moves, equal_self, not_equal}

@@ -1,27 +1,24 @@
 -- A place starts, or is lost before it starts.
-use Rattle.std.proofs.Common.{◌≡◌, ◌≢◌, ℕ, ◌<◌, ◌≤◌, ◌⊎◌, inl, inr, Bool, true, false, cond, List, [], ◌∷◌, ◌++◌, length, get_or, set, refl, ap, sym, ◌∙◌, subst, arith, true≢false, length-set}
-use Rattle.std.specs.Prelude.{All, IsTrue, Option, Some, None}
+use Rattle.std.proofs.Common.{◌≡◌, ℕ, ◌<◌, ◌≤◌, inr, Bool, true, false, cond, List, [], length, set, refl, ap, sym, ◌∙◌, subst, arith, true≢false, length-set}
+use Rattle.std.specs.Prelude.{Option, Some, None}
 use Rattle.bl_policy.specs.Policy.{SecurityPolicy}
-use Rattle.bl_policy.specs.declared.access.Access.{Access}
 use Rattle.bl_policy.specs.declared.denial.Denial.{Denial}
 use Rattle.bl_policy.specs.declared.rule.Rule.{Rule}
 use Rattle.bl_policy.specs.RuleEffect.{rule_fault, after_rule}
 use Rattle.bl_work.specs.Effects.{Effect}
 use Rattle.bl_work.specs.declared.answer.Answer.{Answer}
 use Rattle.bl_work.specs.declared.answer.Answer.TheVariants as answers
-use Rattle.bl_order.specs.Order.{Task, Runs, Applies, is_rule, accesses_of}
-use Rattle.bl_order.specs.Past.{Past, is_done, changed, was_lost, fault_of_task, answer_of, deeds}
-use Rattle.bl_order.specs.Machine.{State, Phase, Waiting, Running, Ended, Gone, MayStart, Starts, Loses, change, with_phase, past_at, runs, is_lost, is_running, is_waiting, is_over, is_gone, phase_at, has_ended}
-use Rattle.bl_order.specs.Now.{policy_now, policy_at, content_now}
-use Rattle.bl_order.specs.Headline.{Holds}
+use Rattle.bl_order.specs.Order.{Task, Runs, Applies, is_rule}
+use Rattle.bl_order.specs.Past.{Past, is_done, changed, fault_of_task, answer_of}
+use Rattle.bl_order.specs.Machine.{Phase, Waiting, Running, Ended, Gone, MayStart, Starts, Loses, change, with_phase, past_at, is_lost, is_running, is_waiting, is_gone, phase_at}
+use Rattle.bl_order.specs.Now.{policy_at}
 use Rattle.bl_order.proofs.Sound.{IsSound}
 use Rattle.bl_order.proofs.Reached.{sound-reached}
 use Rattle.bl_order.proofs.HeadlineProof.{holds-reached}
-use Rattle.bl_order.proofs.StateLaws.{changed-skips}
 use Rattle.bl_order.proofs.Steps.{Moves, equal_self, waiting_is_not_over}
 use Rattle.bl_order.proofs.Trails.{moves-start, moves-lost, past-started}
 use Rattle.bl_order.proofs.Present.{policy_now-started, policy_now-lost, content_now-started, moves_on-reached, lost-answer}
-use Rattle.bl_core.specs.Places.{no_place, place_in, phase_of}
+use Rattle.bl_core.specs.Places.{place_in, phase_of}
 use Rattle.bl_core.specs.View.{state_of}
 use Rattle.bl_core.specs.Weights.{ruled}
 use Rattle.bl_core.specs.Keeps.{Keeps, AreShelved}
@@ -29,10 +26,10 @@ use Rattle.bl_core.specs.declared.place.Place.{Place}
 use Rattle.bl_core.specs.declared.place.Stand.TheVariants as stands
 use Rattle.bl_core.specs.declared.machine.Core.TheInside.{Inside}
 use Rattle.bl_core.proofs.Grown.{Same}
-use Rattle.bl_core.proofs.Views.{length-order, phase-read}
+use Rattle.bl_core.proofs.Views.{length-order}
 use Rattle.bl_core.proofs.Moved.{kept-moved}
 use Rattle.bl_core.proofs.Written.{Written, append_nil, state-written, moved-written}
-use Rattle.bl_core.proofs.Shelving.{shelved-idle, shelved-marked}
+use Rattle.bl_core.proofs.Shelving.{shelved-idle}
 
 pub waiting_is_not_running : (p : Phase) → is_waiting p ≡ true → is_running p ≡ false
 waiting_is_not_running Waiting h = refl

@@ -1,10 +1,9 @@
 -- The state of a core, read off its fields.
-use Rattle.std.proofs.Common.{◌≡◌, ℕ, ◌<◌, Bool, true, false, ◌≢◌, List, length, get_or, refl, ap, sym, ◌∙◌, subst, arith}
-use Rattle.std.specs.Prelude.{map}
-use Rattle.std.proofs.lemmas.List.{length-map, get_or-map, get_or_read}
+use Rattle.std.proofs.Common.{◌≡◌, ℕ, ◌<◌, true, length, refl, ap, sym, ◌∙◌, subst}
+use Rattle.std.proofs.lemmas.List.{length-map, get_or-map}
 use Rattle.bl_work.specs.declared.answer.Answer.{Answer}
 use Rattle.bl_work.specs.declared.answer.Answer.TheVariants as answers
-use Rattle.bl_order.specs.Machine.{State, Phase, Waiting, phase_at, is_over, has_ended}
+use Rattle.bl_order.specs.Machine.{State, Waiting, phase_at, is_over}
 use Rattle.bl_core.specs.Places.{no_place, place_in, entry_of, phase_of}
 use Rattle.bl_core.specs.View.{state_of}
 use Rattle.bl_core.specs.declared.place.Place.{Place}

@@ -1,19 +1,17 @@
 -- One place stands otherwise, and others may follow.
-use Rattle.std.proofs.Common.{◌≡◌, ◌≢◌, ℕ, zero, suc, ◌<◌, ◌≤◌, ◌+◌, ◌⊎◌, inl, inr, true, false, List, [], ◌∷◌, ◌++◌, length, get_or, set, refl, ap, sym, ◌∙◌, subst, arith, length-append, length-set, get_or-set_same, get_or-set_other, true≢false}
+use Rattle.std.proofs.Common.{◌≡◌, ◌≢◌, ℕ, zero, suc, ◌<◌, ◌≤◌, ◌⊎◌, inl, inr, true, false, List, [], ◌∷◌, ◌++◌, length, get_or, set, refl, ap, sym, ◌∙◌, subst, arith, length-set, get_or-set_same, get_or-set_other, true≢false}
 use Rattle.std.specs.Prelude.{sum_by, map, All}
 use Rattle.std.specs.Vec.{vec_capacity}
 use Rattle.std.proofs.Math.ListN.{get_or-append}
 use Rattle.std.proofs.Math.Seq.{map-set_same}
 use Rattle.std.proofs.lemmas.List.{map-set, get_or_read}
-use Rattle.bl_policy.specs.Policy.{SecurityPolicy}
 use Rattle.bl_work.specs.declared.answer.Answer.{Answer}
-use Rattle.bl_order.specs.Past.{Past}
-use Rattle.bl_order.specs.Machine.{State, Phase, Event, Needs, change, past_at, is_over, with_phase, entry_weight}
+use Rattle.bl_order.specs.Machine.{Phase, Event, change, past_at, is_over, with_phase, entry_weight}
 use Rattle.bl_order.specs.Now.{policy_now}
 use Rattle.bl_core.specs.Places.{no_place, place_in, entry_by, entry_of, phase_of, AreOver}
 use Rattle.bl_core.specs.View.{state_of}
 use Rattle.bl_core.specs.Keeps.{Keeps, Tells, AreShelved}
-use Rattle.bl_core.specs.declared.place.Origin.{Origin}
+use Rattle.bl_core.specs.declared.place.Descent.{Descent}
 use Rattle.bl_core.specs.declared.place.Place.{Place}
 use Rattle.bl_core.specs.declared.place.Stand.{Stand}
 use Rattle.bl_core.specs.declared.place.Stand.TheVariants.{Ended}
@@ -35,12 +33,12 @@ pub record Written (c d : Inside) (n : ℕ) (t : Place) (more : List Place) : Ty
 
 -- the place, standing otherwise
 abbrev pub stands_at : Place → Stand → Place
-stands_at s v = record { origin = s.origin; root = s.root; index = s.index; subject = s.subject; stand = v }
+stands_at s v = record { descent = s.descent; root = s.root; index = s.index; subject = s.subject; stand = v }
 
 pub same-read : (places : List Place) (n : ℕ) (s : Place) (v : Stand) → n < length places → s ≡ get_or places n s → Same (place_in places n) (stands_at s v)
 same-read places n s v lt at =
     let e : s ≡ get_or places n no_place = get_or_read places n s lt at no_place in
-    record { origin = ap (λ (t : Place). t.origin) e; root = ap (λ (t : Place). t.root) e; index = ap (λ (t : Place). t.index) e; subject = ap (λ (t : Place). t.subject) e }
+    record { descent = ap (λ (t : Place). t.descent) e; root = ap (λ (t : Place). t.root) e; index = ap (λ (t : Place). t.index) e; subject = ap (λ (t : Place). t.subject) e }
 
 pub append_nil : {X : Type 0} (xs : List X) → xs ++ [] ≡ xs
 append_nil [] = refl
@@ -90,7 +88,7 @@ open_behind S k n over is = go (below_or_not n k)
     go (inr le) = le
 
 pub same-entry : (s t : Place) → Same s t → entry_of t ≡ entry_of s
-same-entry s t e = ap (λ (o : Origin). entry_by t.subject o) e.origin ∙ ap (λ (u : ℕ). entry_by u s.origin) e.subject
+same-entry s t e = ap (λ (o : Descent). entry_by t.subject o) e.descent ∙ ap (λ (u : ℕ). entry_by u s.descent) e.subject
 
 module _ (c d : Inside) (n : ℕ) (t : Place) (more : List Place) (w : Written c d n t more) (lt : n < length c.places.items) (same : Same (place_in c.places.items n) t) where
   grows : Grows c.places.items d.places.items

@@ -1,4 +1,5 @@
 pub mod Places
+pub mod Origins
 pub mod Shelves
 pub mod Weights
 pub mod View

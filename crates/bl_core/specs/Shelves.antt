@@ -1,5 +1,5 @@
 -- The shelves: what is lent, and what comes back.
-use Rattle.std.specs.Prelude.{ℕ, Bool, true, false, if◌then◌else◌, List, [], ◌∷◌, map, slice_index_or, slice_set}
+use Rattle.std.specs.Prelude.{ℕ, true, false, if◌then◌else◌, List, [], ◌∷◌, map, slice_index_or, slice_set}
 use Rattle.bl_policy.specs.Mode.{is_exclusive}
 use Rattle.bl_policy.specs.declared.access.Access.{Access}
 use Rattle.bl_grant.specs.Loaned.{Back}

@@ -2,6 +2,7 @@
 //! each call that changes it changes it by one event.
 //!
 //!     machine    the core and its calls
+//!     origin     where an entry comes from
 //!     place      what is kept of each place of the order
 //!     shelf      where the documents' contents are kept
 //!     session    the numbers of sessions
@@ -9,6 +10,7 @@
 #![tactic(auto)]
 
 pub mod machine;
+pub mod origin;
 mod place;
 pub mod refusal;
 pub mod session;

@@ -2,7 +2,10 @@
 ghost use Rattle.std.specs.Prelude.{◌≡◌};
 ghost use Rattle.bl_core.specs.Weights.{IsWeighed, ruled};
 
-use crate::place::{Origin, Place, Stand, declared, enter_children, first_open, is_clear, work_at};
+use crate::origin::Origin;
+use crate::place::{
+    Descent, Place, Stand, declared, enter_children, first_open, is_clear, work_at,
+};
 use crate::refusal::{Cause, NotReady, OpenRefused, Refused, StartFault, Starved};
 use crate::session::{Session, SessionNo};
 use crate::shelf::{Shelf, contents_of, is_done_of, is_unrun_of, mark, shelve, take_back};
@@ -10,7 +13,8 @@ use bl_eval::foreign::{Foreign, ForeignUnrun};
 use bl_eval::lent::{Done, DoneParts, Lent, Unrun, UnrunParts};
 use bl_grant::grants::Grants;
 use bl_order::laws::{
-    headline, read_lines_are_in_the_setup, tasks_are_of_scripts, the_order_has_room,
+    headline, lines_are_readable, read_lines_are_in_the_setup, tasks_are_of_scripts,
+    the_order_has_room,
 };
 use bl_policy::denial::Denial;
 use bl_policy::id::{DocId, SubjectId};
@@ -19,6 +23,7 @@ use bl_policy::rule::Rule;
 use bl_setup::setup::Setup;
 use bl_work::answer::Answer;
 use bl_work::document::Document;
+use bl_work::names::Names;
 use bl_work::work::Work;
 use bl_write::knows::KnowsWorks;
 use std::alloc::{AllocError, Global};
@@ -94,14 +99,17 @@ fn ruled(denial: &Option<Denial>) -> Answer
 }
 
 impl Core {
-    ghost use Rattle.std.specs.Prelude.{◌≡◌, ◌<◌, ◌≤◌, ◌↔◌, ℕ, Bool, true, false, IsTrue, IsSome, IsNone, IsOk, length, IfOk, OnErr, OnOk, IfErr, IfSome, IfNone, MatchResult, MatchOption, Some, None, Ok, Err};
+    ghost use Rattle.std.specs.Prelude.{◌≡◌, ◌<◌, ◌≤◌, ◌↔◌, ℕ, Bool, true, false, IsTrue, IsSome, IsNone, IsOk, length, IfOk, OnErr, OnOk, IfErr, IfSome, IfNone, MatchResult, MatchOption, Some, None, Ok, Err, option_map, option_and_then, slice_get};
+    ghost use Rattle.bl_work.specs.Readable.{IsReadable};
     ghost use Rattle.bl_work.specs.declared.answer.Answer.TheVariants as answers;
     ghost use Rattle.bl_order.specs.Headline.{Holds, IsReached};
+    ghost use Rattle.bl_order.specs.Known.{KnowsAnswer, KnowsWork};
     ghost use Rattle.bl_order.specs.Machine.{Opens, Admits, Starts, Ends, Loses, MayStart, Needs, State, change, has_ended, is_lost, past_at, runs, start};
     ghost use Rattle.bl_order.specs.Now.{content_at, content_now, policy_at, policy_now, IsFirstToAlter};
     ghost use Rattle.bl_order.specs.Order.{Applies, accesses_of, is_altered, is_rule};
     ghost use Rattle.bl_order.specs.Past.{is_done};
     ghost use Rattle.bl_core.specs.Answers.{IsCause, IsLentBy, IsNotOpened, IsStarted, IsStarvedBy, loan_at};
+    ghost use Rattle.bl_core.specs.Origins.{origin_of, work_asked};
 
     /// A core of an empty order over this setup, for lines that weigh no more than the limit, which is 1 to 100,000. An error comes
     /// only where a growth is refused.
@@ -204,7 +212,7 @@ impl Core {
         let subject = row.subject;
         self.weight += more;
         self.places.push_reserved(Place {
-            origin: Origin::Line {
+            descent: Descent::Line {
                 session,
                 ordinal,
                 work,
@@ -518,6 +526,7 @@ impl Core {
     pub fn answer(&self, n: u32) -> Option<&Answer>
         ensures value { IfSome result (λ answer. answer.now ≡ (past_at self.now n).answer) }
         ensures some { IsSome result ↔ IsTrue (has_ended self.now n) }
+        ensures known { IfSome result (λ answer. KnowsAnswer self.now.setup answer.now) }
     {
         if n as usize >= self.places.len() {
             return None;
@@ -560,5 +569,67 @@ impl Core {
         ensures { result.now ≡ self.now.setup }
     {
         &self.setup
+    }
+
+    /// The names under which lines are read, which are the setup's.
+    pub fn names(&self) -> &Names
+        ensures { result.now ≡ self.now.setup.names }
+    {
+        self.setup.names()
+    }
+
+    /// The limit that the core began with.
+    pub fn limit(&self) -> u32
+        ensures { result ≡ self.now.limit }
+    {
+        self.limit
+    }
+
+    /// How many entries the order has. It never has more than the limit.
+    pub fn entries(&self) -> u32
+        ensures count { result ≡ length self.now.order }
+        ensures limit { result ≤ self.now.limit }
+    {
+        the_order_has_room();
+        // read for the proof alone: the order is within the limit
+        let _limit = self.limit;
+        self.places.len() as u32
+    }
+
+    /// Where an entry comes from; `None` where it is not there.
+    pub fn origin(&self, n: u32) -> Option<Origin>
+        ensures { result ≡ option_map origin_of (slice_get self.now.order n) }
+    {
+        if n as usize >= self.places.len() {
+            return None;
+        }
+        Some(self.places[n as usize].descent.origin())
+    }
+
+    /// The work of an entry that is a line; `None` for a child, and where it is not there.
+    pub fn work(&self, n: u32) -> Option<&Work>
+        ensures work { MatchOption result (option_and_then work_asked (slice_get self.now.order n) ≡ None) (λ work. option_and_then work_asked (slice_get self.now.order n) ≡ Some work.now) }
+        ensures readable { IfSome result (λ work. IsReadable self.now.setup.names work.now) }
+        ensures known { IfSome result (λ work. KnowsWork self.now.setup work.now) }
+    {
+        lines_are_readable();
+        read_lines_are_in_the_setup();
+        if n as usize >= self.places.len() {
+            return None;
+        }
+        match &self.places[n as usize].descent {
+            Descent::Line { work, .. } => Some(work),
+            Descent::Child { .. } => None,
+        }
+    }
+
+    /// Whether an entry has ended; `false` where it is not there.
+    pub fn is_ended(&self, n: u32) -> bool
+        ensures { result ≡ has_ended self.now n }
+    {
+        if n as usize >= self.places.len() {
+            return false;
+        }
+        self.places[n as usize].stand.is_over()
     }
 }

@@ -7,6 +7,7 @@ ghost use Rattle.bl_policy.specs.declared.access.Access.{Access};
 ghost use Rattle.bl_order.specs.Order.{accesses_of, conflict, is_rule};
 ghost use Rattle.bl_core.specs.Places.{place_in, work_in, task_in, child_places, AreOver, IsClear, HasTask, HaveTasks, shares_a_document};
 
+use crate::origin::Origin;
 use crate::session::SessionNo;
 use bl_policy::access::{Access, Mode};
 use bl_policy::id::SubjectId;
@@ -21,9 +22,9 @@ pub(crate) enum Stand {
     Ended(Answer),
 }
 
-/// Where an entry comes from.
+/// What an entry descends from: a line with its work, or a parent.
 #[derive(Drop)]
-pub(crate) enum Origin {
+pub(crate) enum Descent {
     Line {
         session: SessionNo,
         ordinal: u32,
@@ -35,10 +36,36 @@ pub(crate) enum Origin {
     },
 }
 
+impl Descent {
+    ghost use Rattle.std.specs.Prelude.{◌≡◌, ℕ};
+    ghost use Rattle.bl_core.specs.Origins.{origin_of};
+    ghost use Rattle.bl_core.specs.Places.{entry_by};
+
+    /// The descent of an entry without the work of a line.
+    pub(crate) fn origin(&self) -> Origin
+        ensures { (subject : ℕ) → result ≡ origin_of (entry_by subject self.now) }
+    {
+        match self {
+            Descent::Line {
+                session,
+                ordinal,
+                ..
+            } => Origin::Line {
+                session: *session,
+                ordinal: *ordinal,
+            },
+            Descent::Child { parent, which } => Origin::Child {
+                parent: *parent,
+                which: *which,
+            },
+        }
+    }
+}
+
 /// An entry with where it stands.
 #[derive(Drop)]
 pub(crate) struct Place {
-    pub(crate) origin: Origin,
+    pub(crate) descent: Descent,
     /// The place of the line that it descends from: its own place for a line.
     pub(crate) root: u32,
     /// The number of the behaviour in the script of that line; 0 for a rule.
@@ -112,9 +139,9 @@ pub(crate) fn work_at(places: &[Place], n: usize) -> &Work
     ensures { result.now ≡ work_in places.now n }
 {
     match places.get(places[n].root as usize) {
-        Some(place) => match &place.origin {
-            Origin::Line { work, .. } => work,
-            Origin::Child { .. } => unreachable!(),
+        Some(place) => match &place.descent {
+            Descent::Line { work, .. } => work,
+            Descent::Child { .. } => unreachable!(),
         },
         None => unreachable!(),
     }
@@ -193,7 +220,7 @@ pub(crate) fn enter_children(
     for index in spawned {
         which += 1;
         places.push_reserved(Place {
-            origin: Origin::Child { parent, which },
+            descent: Descent::Child { parent, which },
             root,
             index: *index,
             subject,

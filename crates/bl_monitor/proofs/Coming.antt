@@ -29,7 +29,8 @@ use Rattle.bl_monitor.specs.declared.judge.Judged.{Judged}
 use Rattle.bl_monitor.specs.Undoing.{content_listed}
 use Rattle.bl_monitor.specs.Judging.{HasBelow, IsJudged, KnowsEntry, Leaves, content_behind, record_of}
 use Rattle.bl_order.specs.Known.{KnowsAnswer, KnowsWork}
-use Rattle.bl_monitor.proofs.Ids.{task_ids, answer_ids}
+use Rattle.bl_order.proofs.KnownAnswers.{answer_known}
+use Rattle.bl_monitor.proofs.Ids.{task_ids}
 use Rattle.bl_monitor.proofs.Keeps.{as_many_ruled, length-mapped, sound_more, answer_more}
 
 -- what is known of an entry that is admitted
@@ -198,7 +199,7 @@ module _ (setup : Setup) (policy : SecurityPolicy) (contents : List (List ℕ)) 
     next_ids =
         let r : IsRight setup a = coming.right in
         subst (KnowsAnswer setup) (sym judged.answer)
-        (answer_ids setup a.lost (fault_of_task policy a.subject (kept.task_of a)) (kept.task_of a) (deeds (kept.task_of a) (content_listed contents))
+        (answer_known setup a.lost (fault_of_task policy a.subject (kept.task_of a)) (kept.task_of a) (deeds (kept.task_of a) (content_listed contents))
         (task_ids setup policy a.subject r.subject a.work a.index r.ids))
 
     pub next_heard : heard_of setup (places ++ record { admitted = a; fault = j.fault; children = j.children } ∷ []) ≡ heard.with_entry h e

@@ -20,3 +20,5 @@ pub mod RoomProof
 pub mod AtHandLaws
 pub mod ClaimLaws
 pub mod ReadLines
+pub mod ReadableLines
+pub mod KnownAnswers

@@ -15,7 +15,6 @@ use Rattle.bl_work.specs.declared.answer.Answer.TheVariants.{Lost}
 use Rattle.bl_order.specs.Machine.{State, Phase, is_over, is_gone, phase_at, is_lost, has_ended, runs, past_at, MayStart, Starts, Ends, Admits, change, with_phase, Gone, Ended, Running}
 use Rattle.bl_order.specs.Now.{ended_before, ended_places, policy_now, content_now}
 use Rattle.bl_order.proofs.Sound.{IsSound, has_begun}
-use Rattle.bl_order.specs.Machine.{start}
 use Rattle.bl_order.specs.Headline.{IsReached, MovesOn}
 use Rattle.bl_order.proofs.Places.{made, less_or_equal}
 use Rattle.bl_order.specs.Order.{is_rule}

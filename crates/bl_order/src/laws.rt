@@ -2,7 +2,7 @@
 ghost use Rattle.std.specs.Prelude.{◌≡◌, ◌↔◌, ℕ, ◌+◌, ◌<◌, ◌≤◌, All, Bool, IsTrue, List, length, map, slice_get, Some};
 ghost use Rattle.bl_order.specs.AtHand.{ParentsHaveEnded, RestsOnEndedPlaces};
 ghost use Rattle.bl_order.specs.Claims.{AreFewAndApart, numbered_claims, numbers_conflict};
-ghost use Rattle.bl_order.specs.Known.{KnowsWork};
+ghost use Rattle.bl_order.specs.Known.{IsAsked, KnowsWork};
 ghost use Rattle.bl_order.specs.Headline.{Holds, IsReached, MovesOn};
 ghost use Rattle.bl_order.specs.Laws.{FollowsItsParent, IsAnswered, IsClosed, KeepsPlaces, LeavesThePolicy, LooksBack, RestsOnEnded, RestsOnLossesBefore, RulesMakeThePolicy, RulesStandAlone};
 ghost use Rattle.bl_order.specs.Machine.{Event, MayStart, Needs, State, change, children_at, may_start, past_at, runs, start};
@@ -135,6 +135,11 @@ pub fn claims_go_by_number()
     ensures known { (task : Task) (documents : ℕ) →
         All (λ access. access.doc < documents) (accesses_of task) →
         All (λ claim. claim.cown < documents + 1) (numbered_claims task) }
+{}
+
+/// The work of each line in the order is one that some bytes ask, by the setup's names.
+pub fn lines_are_readable()
+    ensures { (x : State) → IsReached x → All (IsAsked x.setup.names) x.order }
 {}
 
 /// Each place of the order has its phase, and there are no other phases.

@@ -1,4 +1,4 @@
-use Rattle.std.proofs.Common.{◌≡◌, List, ap, sym, ◌∙◌}
+use Rattle.std.proofs.Common.{List, ap, sym, ◌∙◌}
 use Rattle.bl_policy.specs.declared.access.Access.{Access}
 use Rattle.bl_order.specs.Order.{accesses_of}
 use Rattle.bl_core.specs.Places.{task_in, shares_a_document}

@@ -1,7 +1,6 @@
 use Rattle.std.proofs.Common.{refl, sym, subst}
 use Rattle.bl_order.specs.Machine.{State, Needs, Opens}
-use Rattle.bl_core.specs.declared.machine.Core.TheInside.{Inside}
-use Rattle.bl_core.proofs.Admitting.{Opened, kept-opened}
+use Rattle.bl_core.proofs.Admitting.{kept-opened}
 use Rattle.bl_core.proofs.machine.Core.add_session.Goals as goal
 
 pub invariant_of-self : goal.invariant_of-self

@@ -1,8 +1,5 @@
-use Rattle.std.proofs.Common.{◌≡◌, ℕ, false, List, length, set, sym, subst, ap, ◌∙◌, refl}
-use Rattle.std.specs.Prelude.{Option, Some, None}
-use Rattle.bl_policy.specs.Policy.{SecurityPolicy}
+use Rattle.std.proofs.Common.{◌≡◌, ℕ, false, List, set, sym, subst, ap, ◌∙◌}
 use Rattle.bl_policy.specs.RuleEffect.{rule_fault, after_rule}
-use Rattle.bl_policy.specs.declared.denial.Denial.{Denial}
 use Rattle.bl_work.specs.declared.answer.Answer.{Answer}
 use Rattle.bl_order.specs.Order.{Task, Applies}
 use Rattle.bl_order.specs.Past.{changed, is_done}

@@ -1,5 +1,4 @@
-use Rattle.std.proofs.Common.{◌≡◌, ℕ, List, set, sym, subst, ap, ◌∙◌, refl}
-use Rattle.bl_policy.specs.Policy.{SecurityPolicy}
+use Rattle.std.proofs.Common.{◌≡◌, List, set, sym, subst, ap, ◌∙◌, refl}
 use Rattle.bl_work.specs.declared.answer.Answer.TheVariants as answers
 use Rattle.bl_order.specs.Order.{is_rule}
 use Rattle.bl_order.specs.Past.{changed}

@@ -1,10 +1,10 @@
-use Rattle.std.proofs.Common.{◌≡◌, ◌<◌, ◌≤◌, ◌+◌, ◌++◌, ℕ, List, true, length, get_or, set, sym, subst, ap, ◌∙◌, refl, arith, inr}
+use Rattle.std.proofs.Common.{◌≡◌, ◌<◌, ◌≤◌, ◌+◌, ◌++◌, ℕ, List, length, get_or, set, sym, subst, ap, ◌∙◌, refl, arith, inr}
 use Rattle.std.specs.Prelude.{All}
-use Rattle.std.specs.Vec.{with_item, with_items, vec_capacity}
+use Rattle.std.specs.Vec.{with_items}
 use Rattle.std.proofs.lemmas.List.{get_or_read}
 use Rattle.bl_work.specs.declared.answer.Answer.TheVariants as answers
 use Rattle.bl_work.specs.Effects.{children, outputs}
-use Rattle.bl_order.specs.Machine.{State, change, Ends, runs, children_at}
+use Rattle.bl_order.specs.Machine.{State, change, Ends}
 use Rattle.bl_grant.specs.Loaned.{Back}
 use Rattle.bl_eval.specs.Loan.{Loan, backs, part_of, effects_on}
 use Rattle.bl_core.specs.Answers.{loan_at}
@@ -16,7 +16,7 @@ use Rattle.bl_core.specs.declared.place.Stand.{Stand}
 use Rattle.bl_core.specs.declared.place.Stand.TheVariants as stands
 use Rattle.bl_core.specs.declared.shelf.Shelf.{Shelf}
 use Rattle.bl_core.specs.declared.machine.Core.TheInside.{Inside}
-use Rattle.bl_core.proofs.Views.{over-ended, there}
+use Rattle.bl_core.proofs.Views.{over-ended}
 use Rattle.bl_core.proofs.Written.{Written, stands_at, over-written}
 use Rattle.bl_core.proofs.Backs.{length-put_back}
 use Rattle.bl_core.proofs.Lending.{written_items}

@@ -1,4 +1,4 @@
-use Rattle.std.proofs.Common.{◌≡◌, true, false, true≢false, List, sym, subst, ap, ◌∙◌}
+use Rattle.std.proofs.Common.{◌≡◌, true, true≢false, List, sym, subst, ap, ◌∙◌}
 use Rattle.bl_work.specs.declared.work.Work.TheVariants as works
 use Rattle.bl_order.specs.Machine.{State, runs}
 use Rattle.bl_core.specs.Answers.{IsLentBy}

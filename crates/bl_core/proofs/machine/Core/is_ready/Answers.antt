@@ -1,4 +1,4 @@
-use Rattle.std.proofs.Common.{◌≡◌, true, false, true≢false, sym, subst, ap, ◌∙◌, arith, List, ℕ}
+use Rattle.std.proofs.Common.{true≢false, sym, subst, ◌∙◌, arith, List}
 use Rattle.bl_order.specs.Machine.{State, MayStart}
 use Rattle.bl_core.specs.Places.{IsClear, HaveTasks}
 use Rattle.bl_core.specs.declared.place.Place.{Place}

@@ -1,18 +1,13 @@
-use Rattle.std.proofs.Common.{◌≡◌, ◌<◌, ℕ, false, List, length, get_or, sym, subst, ap, ◌∙◌}
-use Rattle.std.specs.Prelude.{All, map}
+use Rattle.std.proofs.Common.{ℕ, List, get_or, sym, subst, ap, ◌∙◌}
+use Rattle.std.specs.Prelude.{map}
 use Rattle.bl_policy.specs.declared.access.Access.{Access}
 use Rattle.bl_work.specs.Script.{IsBehaviour}
 use Rattle.bl_work.specs.Statements.{Part, no_part}
 use Rattle.bl_work.specs.declared.work.Work.TheVariants as works
-use Rattle.bl_grant.specs.Loaned.{Loaned}
-use Rattle.bl_grant.specs.Loans.{loans, lent_of, entry_of}
-use Rattle.bl_eval.specs.Loan.{Loan, AreFor}
-use Rattle.bl_order.specs.Order.{Runs}
 use Rattle.bl_order.specs.Machine.{State, MayStart}
 use Rattle.bl_core.specs.Answers.{loan_at}
-use Rattle.bl_core.specs.Places.{task_in, work_in}
+use Rattle.bl_core.specs.Places.{work_in}
 use Rattle.bl_core.specs.Shelves.{content_in}
-use Rattle.bl_core.specs.View.{state_of}
 use Rattle.bl_core.specs.declared.place.Place.{Place}
 use Rattle.bl_core.specs.declared.shelf.Shelf.{Shelf}
 use Rattle.bl_core.proofs.Starting.{there-may}

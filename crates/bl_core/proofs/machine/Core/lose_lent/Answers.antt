@@ -1,12 +1,12 @@
-use Rattle.std.proofs.Common.{◌≡◌, ◌<◌, ◌++◌, ℕ, List, [], true, length, get_or, set, sym, subst, ap, ◌∙◌, refl, arith, inr}
-use Rattle.std.specs.Prelude.{All, map}
+use Rattle.std.proofs.Common.{◌≡◌, ◌<◌, ℕ, List, [], length, set, sym, subst, ap, ◌∙◌, refl, arith, inr}
+use Rattle.std.specs.Prelude.{All}
 use Rattle.std.specs.Vec.{with_item, with_items}
 use Rattle.bl_work.specs.declared.answer.Answer.TheVariants as answers
-use Rattle.bl_order.specs.Machine.{State, change, Loses, runs}
-use Rattle.bl_grant.specs.Loaned.{Back, Loaned, back_of}
+use Rattle.bl_order.specs.Machine.{State, change, Loses}
+use Rattle.bl_grant.specs.Loaned.{Back}
 use Rattle.bl_eval.specs.Loan.{Loan, backs, part_of}
 use Rattle.bl_core.specs.Answers.{loan_at}
-use Rattle.bl_core.specs.Places.{no_place, AreOver}
+use Rattle.bl_core.specs.Places.{AreOver}
 use Rattle.bl_core.specs.Shelves.{put_back}
 use Rattle.bl_core.specs.View.{state_of}
 use Rattle.bl_core.specs.declared.place.Place.{Place}

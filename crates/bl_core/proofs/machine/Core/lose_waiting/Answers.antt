@@ -1,4 +1,4 @@
-use Rattle.std.proofs.Common.{◌≡◌, ℕ, List, set, sym, subst, ap, ◌∙◌, refl}
+use Rattle.std.proofs.Common.{List, set, sym, subst, ap, ◌∙◌, refl}
 use Rattle.bl_work.specs.declared.answer.Answer.TheVariants as answers
 use Rattle.bl_order.specs.Machine.{State, MayStart, change, Loses}
 use Rattle.bl_core.specs.Places.{AreOver}

@@ -1,7 +1,7 @@
-use Rattle.std.proofs.Common.{◌≡◌, List, refl, ap, ◌∙◌}
+use Rattle.std.proofs.Common.{refl, ap, ◌∙◌}
 use Rattle.std.specs.Prelude.{map}
 use Rattle.bl_core.specs.Shelves.{new_shelf}
-use Rattle.bl_core.proofs.Beginning.{Begun, kept-begun}
+use Rattle.bl_core.proofs.Beginning.{kept-begun}
 use Rattle.bl_core.proofs.machine.Core.new.Goals as goal
 
 pub invariant_of-result : goal.invariant_of-result
