@@ -2,13 +2,7 @@ pub mod Meanings
 pub mod OneAnswer
 pub mod RawLists
 pub mod Built
-pub mod Firsts
-pub mod Joined
-pub mod Passes
 pub mod RuleNames
 pub mod RuleMeanings
-pub mod Declared
-pub mod Few
-pub mod Uses
 pub mod SomeLine
 pub mod Lookups

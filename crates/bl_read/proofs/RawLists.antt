@@ -19,7 +19,7 @@ use Rattle.bl_work.specs.declared.script.Stmt.{Stmt}
 use Rattle.bl_work.specs.declared.script.Stmt.TheVariants as built
 use Rattle.bl_work.proofs.Numbering.{spawned_long}
 use Rattle.bl_work.proofs.WhenFaults.{all_left, all_right}
-use Rattle.bl_read.proofs.Joined.{raw_body-append, lists_in-joined}
+use Rattle.bl_check.proofs.Joined.{raw_body-append, lists_in-joined}
 
 -- a first statement with these behind it
 abbrev put : Statements → Statements → Statements

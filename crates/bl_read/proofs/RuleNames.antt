@@ -16,8 +16,8 @@ use Rattle.bl_syntax.specs.RawRules.{raw_names, raw_rule}
 use Rattle.bl_syntax.specs.declared.raw.RawRule.{RawRule}
 use Rattle.bl_read.specs.RuleFaults.{Mention, mentioned, category_mention, right_mentions, mentions_in_level, mentions_in, categories_in, IsKnown}
 use Rattle.bl_work.specs.SpelledRules.{SpelledRule, give, rescind, current, classify, spell_rule}
-use Rattle.bl_read.proofs.Firsts.{Finds}
-use Rattle.bl_read.proofs.Passes.{IsAdditive}
+use Rattle.bl_check.proofs.Firsts.{Finds}
+use Rattle.bl_check.proofs.Passes.{IsAdditive}
 
 -- what stands for a name past the end
 abbrev pub no_name : Bor (List ℕ)

@@ -14,8 +14,8 @@ ghost use Rattle.bl_work.specs.LineGrammar.{Means, LineOf, most_line_bytes};
 ghost use Rattle.bl_read.specs.LineFaults.{IsFaultOrMemory, IsLineFault, IsWantOfMemory};
 
 use crate::build::build_script;
-use crate::check::{check_when, names_are_names, one_when_fault};
 use crate::rules::read_rule;
+use bl_check::check::{check_when, names_are_names, one_when_fault};
 use bl_level::laws::{one_reading, read_tokens_are_proper};
 use bl_level::name::Name;
 use bl_policy::id::SubjectId;

@@ -1,6 +1,6 @@
 //! Lines of as many steps in one another as 8,192 bytes can have, on the stack that a spawned thread gets.
 use super::fixtures::{names_of, read_by};
-use bl_read::known::check_when_known;
+use bl_check::known::check_when_known;
 use bl_script::asked::LineFault;
 use bl_script::names::Names;
 use bl_syntax::raw::RawLine;

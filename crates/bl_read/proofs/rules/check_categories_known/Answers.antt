@@ -1,7 +1,7 @@
 use Rattle.std.proofs.Common.{refl, arith}
 use Rattle.bl_read.specs.RuleFaults.{mentioned, IsKnown}
-use Rattle.bl_read.proofs.Firsts.{exits}
-use Rattle.bl_read.proofs.Passes.{pass_goes_on_at, pass_stops_at, pass_ends}
+use Rattle.bl_check.proofs.Firsts.{exits}
+use Rattle.bl_check.proofs.Passes.{pass_goes_on_at, pass_stops_at, pass_ends}
 use Rattle.bl_read.proofs.RuleNames.{no_name, mentions_of, mentions_additive}
 use Rattle.bl_read.proofs.rules.check_categories_known.Goals as goal
 

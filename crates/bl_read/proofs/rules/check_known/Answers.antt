@@ -1,7 +1,7 @@
 use Rattle.std.proofs.Common.{[], sym, ◌∙◌}
 use Rattle.std.proofs.lemmas.Bool.{false≢true}
 use Rattle.bl_read.specs.RuleFaults.{mentioned, IsKnown}
-use Rattle.bl_read.proofs.Firsts.{first_here}
+use Rattle.bl_check.proofs.Firsts.{first_here}
 use Rattle.bl_read.proofs.rules.check_known.Goals as goal
 
 pub returns-else-is_known : goal.returns-else-is_known

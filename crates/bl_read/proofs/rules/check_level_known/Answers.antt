@@ -1,7 +1,7 @@
 use Rattle.std.proofs.Common.{[], ◌∷◌}
 use Rattle.bl_read.specs.declared.rules.Role.TheVariants.{Rank}
 use Rattle.bl_read.specs.RuleFaults.{mentioned, IsKnown}
-use Rattle.bl_read.proofs.Firsts.{first_before, finds_behind, exits}
+use Rattle.bl_check.proofs.Firsts.{first_before, finds_behind, exits}
 use Rattle.bl_read.proofs.RuleNames.{mentions_of}
 use Rattle.bl_read.proofs.rules.check_level_known.Goals as goal
 

@@ -2,7 +2,7 @@ use Rattle.std.proofs.Common.{[], ◌∷◌}
 use Rattle.bl_read.specs.declared.rules.Role.TheVariants.{Document}
 use Rattle.bl_syntax.specs.RawRules.{raw_level}
 use Rattle.bl_read.specs.RuleFaults.{mentioned, mentions_in_level, IsKnown}
-use Rattle.bl_read.proofs.Firsts.{first_before, finds_behind, exits}
+use Rattle.bl_check.proofs.Firsts.{first_before, finds_behind, exits}
 use Rattle.bl_read.proofs.RuleNames.{in_rule}
 use Rattle.bl_read.proofs.rules.check_rule_known.Goals as goal
 

@@ -2,7 +2,7 @@ use Rattle.std.proofs.Common.{refl, sym, subst, arith}
 use Rattle.std.specs.Prelude.{Contains}
 use Rattle.std.proofs.lemmas.List.{take_all}
 use Rattle.bl_syntax.specs.RawRules.{raw_names}
-use Rattle.bl_read.proofs.Declared.{is_same, is_other}
+use Rattle.bl_check.proofs.Declared.{is_same, is_other}
 use Rattle.bl_read.proofs.RuleNames.{no_name, name_there, not_more}
 use Rattle.bl_read.proofs.rules.has_name.Goals as goal
 

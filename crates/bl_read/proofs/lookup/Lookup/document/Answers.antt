@@ -1,8 +1,8 @@
 use Rattle.std.proofs.Common.{ap, ◌∙◌, arith}
 use Rattle.bl_work.specs.Meaning.{document_of}
-use Rattle.bl_read.proofs.Declared.{is_same}
+use Rattle.bl_check.proofs.Declared.{is_same}
 use Rattle.bl_read.proofs.Lookups.{document_behind}
-use Rattle.bl_read.proofs.Passes.{no_access}
+use Rattle.bl_check.proofs.Passes.{no_access}
 use Rattle.bl_read.proofs.lookup.Lookup.document.Goals as goal
 
 pub returns-then-eq-2 : goal.returns-then-eq-2

@@ -1,0 +1,2 @@
+pub mod OfDocuments
+pub mod Uses

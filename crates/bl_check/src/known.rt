@@ -1,0 +1,145 @@
+//! The first document from the left that the names do not know.
+ghost use Rattle.std.specs.Prelude.{[], ◌∷◌, map, All, Contains, MatchResult};
+ghost use Rattle.bl_syntax.specs.RawBodies.{raw_access, raw_body};
+ghost use Rattle.bl_work.specs.First.{IsNameOfFirst};
+ghost use Rattle.bl_work.specs.WhenFaults.{documents_in, names_in, names_of_when};
+ghost use Rattle.bl_work.specs.FirstWhenFault.{same_name};
+ghost use Rattle.bl_check.specs.OfDocuments.{AreOfDocuments};
+
+use crate::once::has_document;
+use bl_syntax::raw::{RawAccess, RawBody, RawStatement};
+use bl_work::names::Names;
+
+/// Err has the first name from the left, in a `when` and all within it, that is no document's, and Ok says that there is none.
+pub fn check_when_known<'a>(
+    names: &Names,
+    first: RawAccess<'a>,
+    more: &[RawAccess<'a>],
+    body: &RawBody<'a>,
+) -> Result<(), &'a [u8]>
+    ensures { let P = Contains names.now.documents in
+        let xs = names_of_when (raw_access first.entry) (map raw_access more.now) body.now in
+        MatchResult result (λ _. All P xs) (λ name. IsNameOfFirst P same_name xs name.now) }
+{
+    check_accesses_known(names, first, more)?;
+    check_known(names, first, more, body)
+}
+
+/// The name of the first document in this body that the names do not know. The innermost `when` round the body has these accesses.
+#[cycle(known)]
+fn check_known<'a>(
+    names: &Names,
+    first: RawAccess<'a>,
+    more: &[RawAccess<'a>],
+    body: &RawBody<'a>,
+) -> Result<(), &'a [u8]>
+    requires { AreOfDocuments names.now (raw_access first ∷ map raw_access more.now) }
+    ensures { let P = Contains names.now.documents in
+        MatchResult result (λ _. All P (names_in body.now)) (λ name. IsNameOfFirst P same_name (names_in body.now) name.now) }
+{
+    for statement in body.statements() {
+        check_statement_known(names, first, more, statement)?;
+    }
+    Ok(())
+}
+
+/// The name of the first document in this statement that the names do not know. The innermost `when` round it has these accesses.
+#[cycle(known)]
+fn check_statement_known<'a>(
+    names: &Names,
+    first: RawAccess<'a>,
+    more: &[RawAccess<'a>],
+    statement: &RawStatement<'a>,
+) -> Result<(), &'a [u8]>
+    requires { AreOfDocuments names.now (raw_access first ∷ map raw_access more.now) }
+    ensures { let P = Contains names.now.documents in
+        let xs = names_in (raw_body (statement.now ∷ [])) in
+        MatchResult result (λ _. All P xs) (λ name. IsNameOfFirst P same_name xs name.now) }
+{
+    match statement {
+        RawStatement::Say(_) => Ok(()),
+        RawStatement::Show(document)
+        | RawStatement::Add { document, .. }
+        | RawStatement::Set { document, .. } => check_used_known(names, first, more, document),
+        RawStatement::Copy { from, to } => {
+            check_used_known(names, first, more, from)?;
+            check_used_known(names, first, more, to)
+        }
+        RawStatement::Pour { from, to } => {
+            check_used_known(names, first, more, from)?;
+            check_used_known(names, first, more, to)
+        }
+        RawStatement::IfThen {
+            document,
+            then_body,
+            ..
+        } => {
+            check_used_known(names, first, more, document)?;
+            check_known(names, first, more, then_body)
+        }
+        RawStatement::IfElse {
+            document,
+            then_body,
+            else_body,
+            ..
+        } => {
+            check_used_known(names, first, more, document)?;
+            check_known(names, first, more, then_body)?;
+            check_known(names, first, more, else_body)
+        }
+        RawStatement::Spawn { first, more, body } => {
+            check_accesses_known(names, *first, more)?;
+            check_known(names, *first, more, body)
+        }
+    }
+}
+
+/// The name of the first document of these accesses that the names do not know.
+fn check_accesses_known<'a>(
+    names: &Names,
+    first: RawAccess<'a>,
+    more: &[RawAccess<'a>],
+) -> Result<(), &'a [u8]>
+    ensures { let P = Contains names.now.documents in
+        let xs = documents_in (raw_access first.entry ∷ map raw_access more.now) in
+        MatchResult result (λ _. All P xs) (λ name. IsNameOfFirst P same_name xs name.now) }
+{
+    check_document_known(names, first.document)?;
+    for access in more {
+        check_document_known(names, access.document)?;
+    }
+    Ok(())
+}
+
+/// This name, where it is no document that the names know. It is sought first among these accesses, which they know.
+fn check_used_known<'a>(
+    names: &Names,
+    first: RawAccess<'a>,
+    more: &[RawAccess<'a>],
+    name: &'a [u8],
+) -> Result<(), &'a [u8]>
+    requires { AreOfDocuments names.now (raw_access first ∷ map raw_access more.now) }
+    ensures { let P = Contains names.now.documents in
+        let xs = name.now ∷ [] in
+        MatchResult result (λ _. All P xs) (λ unknown. IsNameOfFirst P same_name xs unknown.now) }
+{
+    if first.document == name {
+        return Ok(());
+    }
+    if has_document(more, name) {
+        return Ok(());
+    }
+    check_document_known(names, name)
+}
+
+/// This name, where it is no document that the names know.
+fn check_document_known<'a>(names: &Names, name: &'a [u8]) -> Result<(), &'a [u8]>
+    ensures { let P = Contains names.now.documents in
+        let xs = name.now ∷ [] in
+        MatchResult result (λ _. All P xs) (λ unknown. IsNameOfFirst P same_name xs unknown.now) }
+{
+    match names.document(name) {
+        Some(_) => Ok(()),
+        None => Err(name),
+    }
+}
