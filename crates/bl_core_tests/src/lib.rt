@@ -1,0 +1,22 @@
+//! The tests of `bl_core`: the worked examples of a core, and one list of entries in many orders.
+//!
+//!     base         a core over the base setup, and what the tests ask of it
+//!     examples     what is allowed, denied and changed, entry after entry
+//!     starts       which entries may start
+//!     refusals     what a core refuses: sessions, names, and what it did not lend
+//!     memory       what is left where a growth is refused
+//!     orders       one list of entries in many orders, each answer compared with the monitor's
+#![tactic(auto)]
+
+#[cfg(test)]
+mod base;
+#[cfg(test)]
+mod examples;
+#[cfg(test)]
+mod memory;
+#[cfg(test)]
+mod orders;
+#[cfg(test)]
+mod refusals;
+#[cfg(test)]
+mod starts;

@@ -1,0 +1,59 @@
+//! Which entries may start.
+use super::base::{
+    ANN, MEMO, ROOT, SHOW_MEMO, Said, admit_all, base_core, done_of, end, finish, has, is_done,
+    lent_to, run,
+};
+use bl_core::machine::Core;
+
+/// Memo is read, written and read again; note is read; then comes a rule.
+const READERS_AND_A_WRITER: [Said<'static>; 5] = [
+    (ANN, SHOW_MEMO),
+    (ANN, b"when write memo do end"),
+    (ANN, SHOW_MEMO),
+    (ANN, b"when read note do show note; end"),
+    (ROOT, b"current u"),
+];
+
+/// Whether just the entries of these numbers may start, of which one is named.
+fn may_start(core: &Core, ready: &[u32]) -> bool {
+    for n in 0..6 {
+        if core.is_ready(n) != ready.contains(&n) {
+            return false;
+        }
+    }
+    match core.ready() {
+        Some(n) => ready.contains(&n),
+        None => ready.is_empty(),
+    }
+}
+
+#[test]
+fn who_may_start(rt: HostRuntime) {
+    let mut core = base_core(&rt);
+    admit_all(&rt, &mut core, &READERS_AND_A_WRITER);
+    assert!(rt; may_start(&core, &[0, 3]));
+    run(&rt, &mut core, 0);
+    assert!(rt; may_start(&core, &[1, 3]));
+    run(&rt, &mut core, 1);
+    run(&rt, &mut core, 3);
+    assert!(rt; may_start(&core, &[2]));
+    run(&rt, &mut core, 2);
+    assert!(rt; may_start(&core, &[4]));
+    end(core);
+}
+
+/// Two readers of memo hold it together, and the second ends before the first.
+#[test]
+fn two_readers_hold_together(rt: HostRuntime) {
+    let mut core = base_core(&rt);
+    let lines: [Said<'_>; 2] = [(ANN, SHOW_MEMO), (ANN, SHOW_MEMO)];
+    admit_all(&rt, &mut core, &lines);
+    let first = lent_to(&rt, &mut core, 0);
+    let second = lent_to(&rt, &mut core, 1);
+    assert!(rt; has(&core, MEMO, b"m1"));
+    finish(&rt, &mut core, done_of(&rt, second));
+    assert!(rt; is_done(&core, 1, &[b"m1"]));
+    finish(&rt, &mut core, done_of(&rt, first));
+    assert!(rt; is_done(&core, 0, &[b"m1"]));
+    end(core);
+}
