@@ -29,8 +29,3 @@ if_ok-map (Err e) f p = tt
 pub if_ok-both : {A E : Type 0} (r : Result A E) {P Q S : A → Type 0} → ((a : A) → P a → Q a → S a) → IfOk r P → IfOk r Q → IfOk r S
 if_ok-both (Ok x) f p q = f x p q
 if_ok-both (Err e) f p q = tt
-
--- what is added is added still under another name of it
-pub said_full : {A E : Type 0} (r : Result A E) (new old text said : List ℕ) → text ≡ said → OnOk r (new ≡ old ++ text) → OnOk r (new ≡ old ++ said)
-said_full (Ok x) new old text said is added = added ∙ ap (λ l. old ++ l) is
-said_full (Err e) new old text said is added = tt

@@ -1,5 +1,5 @@
 -- Laws of texts, of ordinals and of what is told.
-use Rattle.std.proofs.Common.{◌≡◌, ℕ, ◌+◌, ◌≤◌, List, [], ◌∷◌, ◌++◌, length, refl, sym, ap, ◌∙◌, append_assoc, arith, codes}
+use Rattle.std.proofs.Common.{get_or, ◌<◌, zero, suc, take, append-nil, ◌≡◌, ℕ, ◌+◌, ◌≤◌, List, [], ◌∷◌, ◌++◌, length, refl, sym, ap, ◌∙◌, append_assoc, arith, codes}
 use Rattle.bl_wire.specs.declared.turn.Turn.{Turn}
 use Rattle.bl_wire.specs.declared.turn.Turn.TheVariants.{Skip, Wait, Greets, Bad, Ask}
 use Rattle.bl_session.specs.Requests.{told_of, Admits, Settles, SameUpTo}
@@ -7,7 +7,7 @@ use Rattle.bl_wire.specs.Texts.{text_of, ordinal_after, refusal, ok_line, fault_
 use Rattle.bl_wire.specs.Turns.{HasNoWait}
 use Rattle.bl_wire.specs.declared.turn.Pending.{Pending}
 use Rattle.bl_wire.specs.declared.turn.Pending.TheVariants.{Again, Refused, Asked}
-use Rattle.bl_session.specs.Spoken.{pending_of, block_text}
+use Rattle.bl_session.specs.Spoken.{pending_of, block_text, reply_to}
 
 -- one reply in front
 front : (a x y z : List ℕ) → x ≡ y ++ z → a ++ x ≡ (a ++ y) ++ z
@@ -103,3 +103,12 @@ same_refl n f k h = refl
 
 pub same_trans : (n : ℕ) (f g h : ℕ → List ℕ) → SameUpTo n f g → SameUpTo n g h → SameUpTo n f h
 same_trans n f g h one two k le = two k le ∙ one k le
+
+-- the text of one reply more
+pub block-step : (r : ℕ → List ℕ) (k : ℕ) (pending : List Pending) (i ordinal : ℕ) (p : Pending) → i < length pending → p ≡ get_or pending i p → ordinal ≡ k + suc i
+    → block_text r k (take (suc i) pending) ≡ block_text r k (take i pending) ++ reply_to r ordinal p
+block-step r k [] i ordinal p lt is at = absurd (omega (arith, lt))
+block-step r k (q ∷ pending) zero ordinal p lt is at = append-nil (reply_to r (k + 1) q) ∙ ap (λ n. reply_to r n q) (omega (arith, at)) ∙ ap (reply_to r ordinal) (sym is)
+block-step r k (q ∷ pending) (suc i) ordinal p lt is at =
+    ap (λ l. reply_to r (k + 1) q ++ l) (block-step r (k + 1) pending i ordinal p (omega (arith, lt)) is (omega (arith, at)))
+    ∙ sym (append_assoc (reply_to r (k + 1) q) (block_text r (k + 1) (take i pending)) (reply_to r ordinal p))

@@ -1,13 +1,16 @@
 //! What stands behind a session: a machine that admits works and answers them.
 ghost use Rattle.std.specs.Prelude.{◌≡◌, ◌≤◌, ◌<◌, ◌++◌, ◌∷◌, [], ◌⊎◌, List, ℕ, OnOk, OnErr, IfOk};
 ghost use Rattle.bl_work.specs.declared.work.Work.{Work};
+ghost use Rattle.bl_wire.specs.Watch.{end_state, Puts};
 ghost use Rattle.bl_session.specs.Requests.{Request, Opens, Admits, Settles, SameUpTo};
 
 use bl_policy::id::SubjectId;
+use bl_wire::watched::Watched;
 use bl_work::work::Work;
 use std::alloc::AllocError;
+use std::io::Write;
 
-/// A machine that admits the works of one session, has them answered, and gives the texts of the
+/// A machine that admits the works of one session, has them answered, and writes the
 /// replies. A call is refused only for want of memory.
 pub trait Behind {
     /// What changes as the session goes on.
@@ -83,17 +86,17 @@ pub trait Behind {
         ensures settled { (n : ℕ) → settled self.now state.old n →
             settled self.now state.new n × SameUpTo n (replies self.now state.old) (replies self.now state.new) };
 
-    /// Adds the replies to the work of an ordinal.
-    fn answer(
+    /// Writes the replies to the work of an ordinal, unless the writer has failed. It takes no memory.
+    fn answer<W: Write>(
         &self,
         state: &Self::State,
         block: &mut Self::Block,
         ordinal: u32,
-        out: &mut Vec<u8>,
-    ) -> Result<(), AllocError>
+        writer: &mut Watched<W>,
+    )
         requires settled { (n : ℕ) × (ordinal ≤ n) × settled self.now state.now n }
         requires whole { (n : ℕ) × whole self.now state.now n }
         requires gives { (n : ℕ) × (n < ordinal) × gives self.now state.now block.old n }
-        ensures text { OnOk result (out.new.items ≡ out.old.items ++ replies self.now state.now ordinal) }
-        ensures gives { OnOk result (gives self.now state.now block.new ordinal) };
+        ensures text { Puts (replies self.now state.now ordinal) (end_state W.contents writer.old) (end_state W.contents writer.new) }
+        ensures gives { gives self.now state.now block.new ordinal };
 }

@@ -17,11 +17,13 @@ use bl_monitor::monitor::{Entry, Monitor};
 use bl_policy::id::SubjectId;
 use bl_setup::setup::Setup;
 use bl_wire::label::{Entered, Origin};
-use bl_wire::reply::push_refused;
-use bl_wire::words::push_reply;
+use bl_wire::reply::put_refused;
+use bl_wire::watched::Watched;
+use bl_wire::words::put_reply;
 use bl_work::answer::Answer;
 use bl_work::work::Work;
 use std::alloc::{AllocError, Global};
+use std::io::Write;
 use std::sync::Arc;
 
 /// What stays while a session is served: the setup, and the greatest sum of the weights of admitted lines.
@@ -256,24 +258,23 @@ impl Behind for Alone {
         Block::new(self.alloc, &state.entries, state.first, entered)
     }
 
-    fn answer(
+    fn answer<W: Write>(
         &self,
         state: &Pages,
         block: &mut Block,
         ordinal: u32,
-        out: &mut Vec<u8>,
-    ) -> Result<(), AllocError> {
+        writer: &mut Watched<W>,
+    ) {
         let Some(place) = block.line(&state.entries, ordinal) else {
-            return push_refused(out, ordinal, b"full");
+            return put_refused(writer, ordinal, b"full");
         };
         let names = self.setup.names();
         let answer = &state.answers[place - state.first];
-        push_reply(out, names, &state.entries[place], answer)?;
+        put_reply(writer, names, &state.entries[place], answer);
         let kin = block.kin(place);
         for below in kin {
             let answer = &state.answers[*below - state.first];
-            push_reply(out, names, &state.entries[*below], answer)?;
+            put_reply(writer, names, &state.entries[*below], answer);
         }
-        Ok(())
     }
 }

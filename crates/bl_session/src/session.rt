@@ -11,7 +11,7 @@ ghost use Rattle.bl_session.specs.Spoken.{block_text, IsOwnFault, BlockFailed, T
 ghost use Rattle.bl_session.specs.Stages.{Cutting, ReadsOn, IsNearer, Unheard, IsFirst, HeardFirst, Stage, Finished, Broken, Stopped};
 
 use crate::behind::Behind;
-use crate::replies::text_block;
+use crate::replies::put_block;
 use bl_policy::id::SubjectId;
 use bl_wire::fault::SessionFault;
 use bl_wire::held::Held;
@@ -38,7 +38,6 @@ struct Talk {
 /// Has the open block answered, writes its replies and the closing line, and begins the next
 /// block.
 fn end_block<B: Behind, W: Write>(
-    alloc: Global,
     behind: &B,
     state: &mut B::State,
     writer: &mut Watched<W>,
@@ -68,9 +67,8 @@ fn end_block<B: Behind, W: Write>(
     ensures told { OnErr result ((told : List Request) → B.came behind.now state.old told → B.came behind.now state.new told ⊎ B.came behind.now state.new (told ++ Settles ∷ [])) }
 {
     let mut block = behind.settle(state, talk.after, talk.ordinal)?;
-    let mut text = text_block(alloc, behind, state, &mut block, talk.after, &talk.pending)?;
-    text.extend_from_slice(closing)?;
-    if !put_out(writer, &text) {
+    put_block(behind, state, &mut block, writer, talk.after, &talk.pending);
+    if !put_out(writer, closing) {
         return Err(SessionFault::Write);
     }
     talk.after = talk.ordinal;
@@ -92,7 +90,6 @@ fn keep(talk: &mut Talk, line: Pending) -> Result<(), AllocError>
 
 /// Takes one line.
 fn take_turn<B: Behind, W: Write>(
-    alloc: Global,
     behind: &B,
     state: &mut B::State,
     writer: &mut Watched<W>,
@@ -123,7 +120,7 @@ fn take_turn<B: Behind, W: Write>(
 {
     match turn {
         Turn::Skip => Ok(()),
-        Turn::Wait => match end_block(alloc, behind, state, writer, talk, b"ok\n") {
+        Turn::Wait => match end_block(behind, state, writer, talk, b"ok\n") {
             Ok(()) => Ok(()),
             Err(fault) => Err(fault),
         },
@@ -217,7 +214,7 @@ fn one_line<R: BufRead, B: Behind, W: Write>(
         Ok(None) => return Ok(false),
         Err(fault) => return Err(fault),
     };
-    match take_turn(alloc, behind, state, writer, talk, turn) {
+    match take_turn(behind, state, writer, talk, turn) {
         Ok(()) => Ok(more),
         Err(fault) => Err(fault),
     }
@@ -298,7 +295,7 @@ fn listen<R: BufRead, B: Behind, W: Write>(
             Err(fault) => return Err(fault),
         }
     }
-    match end_block(alloc, behind, state, writer, &mut talk, b"bye\n") {
+    match end_block(behind, state, writer, &mut talk, b"bye\n") {
         Ok(()) => Ok(()),
         Err(fault) => Err(fault),
     }

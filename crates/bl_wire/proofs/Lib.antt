@@ -2,3 +2,4 @@ pub mod Parts
 pub mod HeldLines
 pub mod TurnLaws
 pub mod WordLaws
+pub mod PutLaws

@@ -12,13 +12,10 @@ label-more n (x ∷ path) m =
     ∙ sym (append_assoc (decimal n ++ codes ".") (label_text (x ∷ path)) (codes "." ++ decimal m))
 
 -- the label up to a number, and then a dot and the number
-pub label-step : (out : List ℕ) (n : ℕ) (path : List ℕ) (i : ℕ) → i < length path
-    → out ++ label_text (n ∷ take (i + 1) path) ≡ ((out ++ label_text (n ∷ take i path)) ++ codes ".") ++ decimal (slice_index path i)
-label-step out n path i lt =
-    ap (λ l. out ++ label_text (n ∷ l)) (ap (λ k. take k path) (add-one i) ∙ take-suc path i 0 lt)
-    ∙ ap (λ l. out ++ l) (label-more n (take i path) (slice_index path i))
-    ∙ sym (append_assoc out (label_text (n ∷ take i path)) (codes "." ++ decimal (slice_index path i)))
-    ∙ sym (append_assoc (out ++ label_text (n ∷ take i path)) (codes ".") (decimal (slice_index path i)))
+pub label-step : (n : ℕ) (path : List ℕ) (i : ℕ) → i < length path
+    → label_text (n ∷ take (i + 1) path) ≡ label_text (n ∷ take i path) ++ (codes "." ++ decimal (slice_index path i))
+label-step n path i lt =
+    ap (λ l. label_text (n ∷ l)) (ap (λ k. take k path) (add-one i) ∙ take-suc path i 0 lt) ∙ label-more n (take i path) (slice_index path i)
 
 -- the order of labels, number by number
 pub no_before : (a : List ℕ) → is_before a [] ≡ false
@@ -30,8 +27,3 @@ none_before [] zero = grind (arith, nat_tests)
 none_before [] (suc i) = grind (arith, nat_tests)
 none_before (x ∷ b) zero = grind (arith, nat_tests)
 none_before (x ∷ b) (suc i) = none_before b i ∙ grind (arith, nat_tests)
-
--- the words of a denial, piece by piece
-pub denied_words : (out word subject object : List ℕ)
-    → ((((out ++ codes " denied ") ++ word) ++ codes " ") ++ subject) ++ object ≡ out ++ (codes " denied " ++ (word ++ (codes " " ++ (subject ++ object))))
-denied_words out word subject object = simp append_assoc

@@ -8,8 +8,8 @@
 //!     held       a line while it comes
 //!     turn       what a line is to a session
 //!     label      entries with their labels
-//!     words      the texts of answers
-//!     reply      the texts of refusals
+//!     words      writes answers
+//!     reply      writes refusals
 //!     put        writes the whole of some bytes
 #![tactic(auto)]
 

@@ -1,63 +1,56 @@
-//! The texts of replies.
-ghost use Rattle.std.specs.Prelude.{◌≡◌, ◌++◌, OnOk, decimal};
+//! Writes refusals.
 ghost use Rattle.bl_wire.specs.Texts.{fault_words, refusal};
+ghost use Rattle.bl_wire.specs.Watch.{end_state, Puts};
 
+use crate::put::{put, put_number};
+use crate::watched::Watched;
 use bl_work::asked::LineFault;
-use itoa::Buffer;
-use std::alloc::{AllocError, Global};
+use std::io::Write;
 
-/// Adds a number in decimal.
-pub fn push_number(out: &mut Vec<u8>, number: u32) -> Result<(), AllocError>
-    ensures { OnOk result (out.new.items ≡ out.old.items ++ decimal number) }
-{
-    let mut digits = Buffer::new();
-    out.extend_from_slice(digits.format(number).as_bytes())
-}
-
-/// Adds the words for a line's fault.
-fn push_fault(out: &mut Vec<u8>, fault: &LineFault) -> Result<(), AllocError>
-    ensures { OnOk result (out.new.items ≡ out.old.items ++ fault_words fault.now) }
+/// Writes the words for a line's fault.
+fn put_fault<W: Write>(writer: &mut Watched<W>, fault: &LineFault)
+    ensures { Puts (fault_words fault.now) (end_state W.contents writer.old) (end_state W.contents writer.new) }
 {
     match fault {
-        LineFault::Long => out.extend_from_slice(b"long"),
+        LineFault::Long => put(writer, b"long"),
         LineFault::Syntax(byte) => {
-            out.extend_from_slice(b"syntax ")?;
-            push_number(out, *byte)
+            put(writer, b"syntax ");
+            put_number(writer, *byte)
         }
-        LineFault::Deep => out.extend_from_slice(b"deep"),
-        LineFault::Many => out.extend_from_slice(b"many"),
+        LineFault::Deep => put(writer, b"deep"),
+        LineFault::Many => put(writer, b"many"),
         LineFault::Unknown(name) => {
-            out.extend_from_slice(b"unknown ")?;
-            out.extend_from_slice(name.bytes())
+            put(writer, b"unknown ");
+            put(writer, name.bytes())
         }
         LineFault::Twice(name) => {
-            out.extend_from_slice(b"twice ")?;
-            out.extend_from_slice(name.bytes())
+            put(writer, b"twice ");
+            put(writer, name.bytes())
         }
         LineFault::Mode(name) => {
-            out.extend_from_slice(b"mode ")?;
-            out.extend_from_slice(name.bytes())
+            put(writer, b"mode ");
+            put(writer, name.bytes())
         }
-        LineFault::Memory => Ok(()),
-    }
+        LineFault::Memory => put(writer, b""),
+    };
 }
 
-/// Adds the reply to a line that has a fault.
-pub fn push_bad(out: &mut Vec<u8>, ordinal: u32, fault: &LineFault) -> Result<(), AllocError>
-    ensures { OnOk result (out.new.items ≡ out.old.items ++ refusal ordinal (fault_words fault.now)) }
+/// Writes the reply to a line that has a fault, unless the writer has failed.
+pub fn put_bad<W: Write>(writer: &mut Watched<W>, ordinal: u32, fault: &LineFault)
+    ensures { Puts (refusal ordinal (fault_words fault.now)) (end_state W.contents writer.old) (end_state W.contents writer.new) }
 {
-    push_number(out, ordinal)?;
-    out.extend_from_slice(b" refused ")?;
-    push_fault(out, fault)?;
-    out.extend_from_slice(b"\n")
+    put_number(writer, ordinal);
+    put(writer, b" refused ");
+    put_fault(writer, fault);
+    put(writer, b"\n");
 }
 
-/// Adds the reply to a line that is refused for a reason with fixed words.
-pub fn push_refused(out: &mut Vec<u8>, ordinal: u32, words: &[u8]) -> Result<(), AllocError>
-    ensures { OnOk result (out.new.items ≡ out.old.items ++ refusal ordinal words.now) }
+/// Writes the reply to a line that is refused for a reason with fixed words, unless the writer has failed.
+pub fn put_refused<W: Write>(writer: &mut Watched<W>, ordinal: u32, words: &[u8])
+    ensures { Puts (refusal ordinal words.now) (end_state W.contents writer.old) (end_state W.contents writer.new) }
 {
-    push_number(out, ordinal)?;
-    out.extend_from_slice(b" refused ")?;
-    out.extend_from_slice(words)?;
-    out.extend_from_slice(b"\n")
+    put_number(writer, ordinal);
+    put(writer, b" refused ");
+    put(writer, words);
+    put(writer, b"\n");
 }

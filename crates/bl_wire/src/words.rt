@@ -1,85 +1,92 @@
-//! The texts of answers.
-ghost use Rattle.std.specs.Prelude.{◌≡◌, ◌<◌, ◌++◌, ◌∷◌, [], OnOk, IfSome, length, codes, slice_index_or};
+//! Writes answers, with their labels.
+ghost use Rattle.std.specs.Prelude.{◌<◌, ◌∷◌, IfSome, length};
 ghost use Rattle.bl_work.specs.declared.answer.Answer.TheVariants.{Done, Denied};
 ghost use Rattle.bl_wire.specs.Replies.{label_text, answer_text, object_text, reply_text};
 ghost use Rattle.bl_wire.specs.Named.{NamesDenial, NamesAnswer};
+ghost use Rattle.bl_wire.specs.Watch.{end_state, Puts};
 
 use crate::label::Entered;
-use crate::reply::push_number;
+use crate::put::{put, put_number};
+use crate::watched::Watched;
 use bl_policy::denial::Denial;
 use bl_policy::id::DocId;
 use bl_work::answer::{Answer, Outputs};
 use bl_work::names::Names;
-use std::alloc::AllocError;
+use std::io::Write;
 
-/// Adds an entry's label.
-fn push_label(out: &mut Vec<u8>, ordinal: u32, path: &[u32]) -> Result<(), AllocError>
-    ensures { OnOk result (out.new.items ≡ out.old.items ++ label_text (ordinal ∷ path.now)) }
+/// Writes an entry's label.
+fn put_label<W: Write>(writer: &mut Watched<W>, ordinal: u32, path: &[u32])
+    ensures { Puts (label_text (ordinal ∷ path.now)) (end_state W.contents writer.old) (end_state W.contents writer.new) }
 {
-    push_number(out, ordinal)?;
+    put_number(writer, ordinal);
     for number in path {
-        out.extend_from_slice(b".")?;
-        push_number(out, *number)?;
+        put(writer, b".");
+        put_number(writer, *number);
     }
-    Ok(())
 }
 
-/// Adds ` done`, and a space and each output in quotation marks.
-fn push_done(out: &mut Vec<u8>, names: &Names, outputs: &Outputs) -> Result<(), AllocError>
-    ensures { OnOk result (out.new.items ≡ out.old.items ++ answer_text names.now (Done outputs.now)) }
+/// Writes ` done`, and a space and each output in quotation marks.
+fn put_done<W: Write>(writer: &mut Watched<W>, names: &Names, outputs: &Outputs)
+    ensures { Puts (answer_text names.now (Done outputs.now)) (end_state W.contents writer.old) (end_state W.contents writer.new) }
 {
     let _ = names;
-    out.extend_from_slice(b" done")?;
+    put(writer, b" done");
     for text in outputs.texts() {
-        out.extend_from_slice(b" \"")?;
-        out.extend_from_slice(text.bytes())?;
-        out.extend_from_slice(b"\"")?;
+        put(writer, b" \"");
+        put(writer, text.bytes());
+        put(writer, b"\"");
     }
-    Ok(())
 }
 
-/// Adds a space and the document's name, where there is one.
-fn push_object(out: &mut Vec<u8>, names: &Names, object: Option<DocId>) -> Result<(), AllocError>
+/// Writes a space and the document's name, where there is one.
+fn put_object<W: Write>(writer: &mut Watched<W>, names: &Names, object: Option<DocId>)
     requires { IfSome object (λ doc. doc < length names.now.documents) }
-    ensures { OnOk result (out.new.items ≡ out.old.items ++ object_text names.now object) }
+    ensures { Puts (object_text names.now object) (end_state W.contents writer.old) (end_state W.contents writer.new) }
 {
     match object {
         Some(doc) => {
-            out.extend_from_slice(b" ")?;
-            out.extend_from_slice(names.document_name(doc).bytes())
+            put(writer, b" ");
+            put(writer, names.document_name(doc).bytes())
         }
-        None => Ok(()),
-    }
+        None => put(writer, b""),
+    };
 }
 
-/// Adds ` denied CLAUSE SUBJECT`, and a space and the object where there is one.
-fn push_denied(out: &mut Vec<u8>, names: &Names, denial: &Denial) -> Result<(), AllocError>
+/// Writes ` denied CLAUSE SUBJECT`, and a space and the object where there is one.
+fn put_denied<W: Write>(writer: &mut Watched<W>, names: &Names, denial: &Denial)
     requires { NamesDenial names.now denial.now }
-    ensures { OnOk result (out.new.items ≡ out.old.items ++ answer_text names.now (Denied denial.now)) }
+    ensures { Puts (answer_text names.now (Denied denial.now)) (end_state W.contents writer.old) (end_state W.contents writer.new) }
 {
-    out.extend_from_slice(b" denied ")?;
-    out.extend_from_slice(denial.clause.word().as_bytes())?;
-    out.extend_from_slice(b" ")?;
-    out.extend_from_slice(names.subject_name(denial.subject).bytes())?;
-    push_object(out, names, denial.object)
+    put(writer, b" denied ");
+    put(writer, denial.clause.word().as_bytes());
+    put(writer, b" ");
+    put(writer, names.subject_name(denial.subject).bytes());
+    put_object(writer, names, denial.object);
 }
 
-/// Adds an entry's label and its answer.
-pub fn push_reply(
-    out: &mut Vec<u8>,
-    names: &Names,
-    entry: &Entered,
-    answer: &Answer,
-) -> Result<(), AllocError>
+/// Writes an answer as a reply has it behind the label, unless the writer has failed.
+pub fn put_answer<W: Write>(writer: &mut Watched<W>, names: &Names, answer: &Answer)
     requires { NamesAnswer names.now answer.now }
-    ensures { OnOk result (out.new.items ≡ out.old.items ++ reply_text names.now (record { label = entry.now.ordinal ∷ entry.now.path.items; answer = answer.now })) }
+    ensures { Puts (answer_text names.now answer.now) (end_state W.contents writer.old) (end_state W.contents writer.new) }
 {
-    push_label(out, entry.ordinal, &entry.path)?;
     match answer {
-        Answer::Done(outputs) => push_done(out, names, outputs)?,
-        Answer::Denied(denial) => push_denied(out, names, denial)?,
-        Answer::RuleDone => out.extend_from_slice(b" done")?,
-        Answer::Lost => out.extend_from_slice(b" lost")?,
+        Answer::Done(outputs) => put_done(writer, names, outputs),
+        Answer::Denied(denial) => put_denied(writer, names, denial),
+        Answer::RuleDone => {
+            put(writer, b" done");
+        }
+        Answer::Lost => {
+            put(writer, b" lost");
+        }
     }
-    out.extend_from_slice(b"\n")
+}
+
+/// Writes an entry's label and its answer, unless the writer has failed.
+pub fn put_reply<W: Write>(writer: &mut Watched<W>, names: &Names, entry: &Entered, answer: &Answer)
+    requires { NamesAnswer names.now answer.now }
+    ensures { Puts (reply_text names.now (record { label = entry.now.ordinal ∷ entry.now.path.items; answer = answer.now })) (end_state W.contents writer.old) (end_state W.contents writer.new) }
+{
+    put_label(writer, entry.ordinal, &entry.path);
+    put_answer(writer, names, answer);
+    put(writer, b"\n");
 }

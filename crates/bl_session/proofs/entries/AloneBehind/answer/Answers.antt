@@ -1,35 +1,32 @@
-use Rattle.std.proofs.Common.{rules, ◌≡◌, ◌∙◌, ◌<◌, ◌≤◌, ◌-◌, ◌++◌, ◌∷◌, ap, codes, sym, length, map, take, slice_index_or, append_assoc, append-nil, ℕ, Vec}
+use Rattle.std.proofs.Common.{rules, ◌≡◌, ◌∙◌, ◌<◌, ◌≤◌, ◌-◌, ◌++◌, ◌∷◌, ap, codes, sym, length, map, take, slice_index_or, append-nil, ℕ, Vec}
 use Rattle.std.specs.Global.{Global}
 use Rattle.std.specs.Arc.{arc_value}
 use Rattle.std.specs.List.{flat_map}
 use Rattle.bl_setup.specs.Setup.{Setup}
 use Rattle.bl_wire.specs.Replies.{reply_text}
-use Rattle.bl_wire.specs.Texts.{refusal}
-use Rattle.bl_session.specs.Orders.{reply_at, told_text}
+use Rattle.bl_wire.proofs.PutLaws.{puts-two, puts-is}
+use Rattle.bl_session.specs.Orders.{reply_at}
 use Rattle.bl_session.specs.Entries.{order_of}
-use Rattle.bl_session.proofs.Outcomes.{said_full}
 use Rattle.bl_session.proofs.ReplyLaws.{kin_text, text_said, names_known, placed, kin_placed, all_text, missing, gives_on}
 use Rattle.bl_session.proofs.entries.AloneBehind.answer.Goals as goal
 
 pub returns-in_default-clause-text : goal.returns-in_default-clause-text
-returns-in_default-clause-text c =
+returns-in_default-clause-text g c =
     let r = c.requires in
     let none = rw c.in_default.is at c.line.ensures.found in
-    said_full c.push_refused.result c.push_refused.new.out.items c.args.out.now.items (refusal c.args.ordinal (codes "full")) (told_text (arc_value c.args.self.now.setup) (order_of c.args.state.now.entries.items) c.args.ordinal)
-    (missing (arc_value c.args.self.now.setup) c.args.self.now.limit c.args.state.now r.whole.0 r.settled.0 c.args.ordinal r.whole.1 r.settled.2 r.settled.1
-    c.deref.result.now c.deref.ensures.value c.args.block.now c.line.new.self.next r.gives.0 r.gives.2.gives r.gives.1 c.line.ensures.from c.line.ensures.passed none)
-    c.push_refused.ensures
+    puts-is _ _ _ _ (missing (arc_value c.args.self.now.setup) c.args.self.now.limit c.args.state.now r.whole.0 r.settled.0 c.args.ordinal r.whole.1 r.settled.2 r.settled.1
+    c.deref.result.now c.deref.ensures.value c.args.block.now c.line.new.self.next r.gives.0 r.gives.2.gives r.gives.1 c.line.ensures.from c.line.ensures.passed none) c.put_refused.ensures
 
 pub index-answer-requires : goal.index-answer-requires
-index-answer-requires c =
+index-answer-requires g c =
     let r = c.requires in
     let p = placed (arc_value c.args.self.now.setup) c.args.self.now.limit c.args.state.now r.whole.0 r.settled.0 c.args.ordinal r.whole.1 r.settled.2 r.settled.1
     c.deref.result.now c.deref.ensures.value c.args.block.now c.line.new.self.next r.gives.0 r.gives.2 c.line.ensures.from c.in-Some.place (rw c.in-Some.is at c.line.ensures.found) in
     let lt : c.in-Some.place - c.args.state.now.first < length c.args.state.now.answers.items = p.answered in
     search rules
 
-pub push_reply-requires : goal.push_reply-requires
-push_reply-requires c =
+pub put_reply-requires : goal.put_reply-requires
+put_reply-requires g c =
     let r = c.requires in
     let p = placed (arc_value c.args.self.now.setup) c.args.self.now.limit c.args.state.now r.whole.0 r.settled.0 c.args.ordinal r.whole.1 r.settled.2 r.settled.1
     c.deref.result.now c.deref.ensures.value c.args.block.now c.line.new.self.next r.gives.0 r.gives.2 c.line.ensures.from c.in-Some.place (rw c.in-Some.is at c.line.ensures.found) in
@@ -37,17 +34,17 @@ push_reply-requires c =
     c.names-names.result.now (c.names-names.ensures.value ∙ ap (λ (s : Setup). s.names) c.deref-2.ensures) (c.in-Some.place - c.args.state.now.first) c.index-answer.result.now p.answered c.index-answer.ensures
 
 pub loop-below-init : goal.loop-below-init
-loop-below-init c =
+loop-below-init g c =
     let r = c.requires in
     let setup = arc_value c.args.self.now.setup in
     let p = placed setup c.args.self.now.limit c.args.state.now r.whole.0 r.settled.0 c.args.ordinal r.whole.1 r.settled.2 r.settled.1
     c.deref.result.now c.deref.ensures.value c.args.block.now c.line.new.self.next r.gives.0 r.gives.2 c.line.ensures.from c.in-Some.place (rw c.in-Some.is at c.line.ensures.found) in
     let said = text_said setup c.args.self.now.limit c.args.state.now r.whole.0 r.settled.0 c.args.ordinal r.whole.1 r.settled.2 r.settled.1
     c.names-names.result.now (c.names-names.ensures.value ∙ ap (λ (s : Setup). s.names) c.deref-2.ensures) c.in-Some.place c.index.result.now c.index-answer.result.now p.kept p.answered c.index.ensures c.index-answer.ensures in
-    c.in_ok-push_reply.ensures ∙ ap (λ l. c.args.out.now.items ++ l) (said ∙ sym (append-nil (reply_text setup.names (reply_at setup (order_of c.args.state.now.entries.items) c.in-Some.place))))
+    puts-is _ _ _ _ (said ∙ sym (append-nil (reply_text setup.names (reply_at setup (order_of c.args.state.now.entries.items) c.in-Some.place)))) c.put_reply.ensures
 
 pub index-requires-in-loop-below : goal.index-requires-in-loop-below
-index-requires-in-loop-below c =
+index-requires-in-loop-below g c =
     let r = c.requires in
     let setup = arc_value c.args.self.now.setup in
     let p = placed setup c.args.self.now.limit c.args.state.now r.whole.0 r.settled.0 c.args.ordinal r.whole.1 r.settled.2 r.settled.1
@@ -61,7 +58,7 @@ index-requires-in-loop-below c =
     search rules
 
 pub overflow_sub-below : goal.overflow_sub-below
-overflow_sub-below c =
+overflow_sub-below g c =
     let r = c.requires in
     let setup = arc_value c.args.self.now.setup in
     let p = placed setup c.args.self.now.limit c.args.state.now r.whole.0 r.settled.0 c.args.ordinal r.whole.1 r.settled.2 r.settled.1
@@ -75,7 +72,7 @@ overflow_sub-below c =
     search rules
 
 pub index-answer-requires-in-loop-below : goal.index-answer-requires-in-loop-below
-index-answer-requires-in-loop-below c =
+index-answer-requires-in-loop-below g c =
     let r = c.requires in
     let setup = arc_value c.args.self.now.setup in
     let p = placed setup c.args.self.now.limit c.args.state.now r.whole.0 r.settled.0 c.args.ordinal r.whole.1 r.settled.2 r.settled.1
@@ -88,8 +85,8 @@ index-answer-requires-in-loop-below c =
     let lt : slice_index_or c.kin-kin.result.now c.loop-below.below-index 0 - c.args.state.now.first < length c.args.state.now.answers.items = below.2 in
     search rules
 
-pub push_reply-requires-in-loop-below : goal.push_reply-requires-in-loop-below
-push_reply-requires-in-loop-below c =
+pub put_reply-requires-in-loop-below : goal.put_reply-requires-in-loop-below
+put_reply-requires-in-loop-below g c =
     let r = c.requires in
     let setup = arc_value c.args.self.now.setup in
     let p = placed setup c.args.self.now.limit c.args.state.now r.whole.0 r.settled.0 c.args.ordinal r.whole.1 r.settled.2 r.settled.1
@@ -103,7 +100,7 @@ push_reply-requires-in-loop-below c =
     c.names-names.result.now (c.names-names.ensures.value ∙ ap (λ (s : Setup). s.names) c.deref-2.ensures) (slice_index_or c.kin-kin.result.now c.loop-below.below-index 0 - c.args.state.now.first) c.index-answer-in-loop-below.result.now below.2 c.index-answer-in-loop-below.ensures
 
 pub loop-below-preserved : goal.loop-below-preserved
-loop-below-preserved c =
+loop-below-preserved g c =
     let r = c.requires in
     let setup = arc_value c.args.self.now.setup in
     let order = order_of c.args.state.now.entries.items in
@@ -119,13 +116,12 @@ loop-below-preserved c =
     c.index-in-loop-below.result.now c.index-answer-in-loop-below.result.now below.1 below.2 c.index-in-loop-below.ensures c.index-answer-in-loop-below.ensures in
     let so_far = flat_map (reply_text setup.names) (map (reply_at setup order) (c.in-Some.place ∷ take c.loop-below.below-index c.kin-kin.result.now)) in
     let text = reply_text c.names-names.result.now (record { label = c.index-in-loop-below.result.now.ordinal ∷ c.index-in-loop-below.result.now.path.items; answer = c.index-answer-in-loop-below.result.now }) in
-    c.in_ok-push_reply-2.ensures
-    ∙ ap (λ l. l ++ text) c.loop-below.invariant
-    ∙ append_assoc c.args.out.now.items so_far text
-    ∙ ap (λ l. c.args.out.now.items ++ l) (ap (λ l. so_far ++ l) said ∙ sym (kin_text setup.names (reply_at setup order) c.in-Some.place c.kin-kin.result.now c.loop-below.below-index 0 c.loop-below-test.true))
+    puts-two _ so_far text _ _ _
+    (kin_text setup.names (reply_at setup order) c.in-Some.place c.kin-kin.result.now c.loop-below.below-index 0 c.loop-below-test.true ∙ ap (λ l. so_far ++ l) (sym said))
+    c.loop-below.invariant c.put_reply-in-loop-below.ensures
 
 pub returns-clause-text : goal.returns-clause-text
-returns-clause-text c =
+returns-clause-text g c =
     let r = c.requires in
     let setup = arc_value c.args.self.now.setup in
     let p = placed setup c.args.self.now.limit c.args.state.now r.whole.0 r.settled.0 c.args.ordinal r.whole.1 r.settled.2 r.settled.1
@@ -133,13 +129,12 @@ returns-clause-text c =
     let kin : (v : Vec ℕ Global) → c.kin-kin.result.now ≡ (slice_index_or c.args.block.now.kin.items (c.in-Some.place - c.args.block.now.first) v).items =
     λ v. c.kin-kin.ensures v ∙ ap (λ (k : Vec (Vec ℕ Global) Global). (slice_index_or k.items (c.in-Some.place - c.line.new.self.first) v).items) c.line.ensures.kin
     ∙ ap (λ f. (slice_index_or c.args.block.now.kin.items (c.in-Some.place - f) v).items) c.line.ensures.first in
-    c.loop-below.invariant
-    ∙ ap (λ l. c.args.out.now.items ++ l)
+    puts-is _ _ _ _
     (all_text setup c.args.self.now.limit c.args.state.now r.whole.0 r.settled.0 c.args.ordinal r.whole.1 r.settled.2 r.settled.1
-    c.args.block.now r.gives.0 c.in-Some.place r.gives.2.gives p c.kin-kin.result.now kin c.loop-below.below-index c.loop-below-test.false)
+    c.args.block.now r.gives.0 c.in-Some.place r.gives.2.gives p c.kin-kin.result.now kin c.loop-below.below-index c.loop-below-test.false) c.loop-below.invariant
 
 pub returns-clause-gives : goal.returns-clause-gives
-returns-clause-gives c =
+returns-clause-gives g c =
     let r = c.requires in
     record {
       first = r.gives.2.first ∙ sym c.line.ensures.first;

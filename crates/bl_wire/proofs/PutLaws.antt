@@ -1,0 +1,92 @@
+-- Texts that are put one after the other.
+use Rattle.std.proofs.Common.{◌≡◌, ℕ, zero, suc, ◌+◌, ◌≤◌, Bool, true, false, List, [], ◌∷◌, ◌++◌, length, refl, sym, ap, subst, ◌∙◌, append-nil, append_assoc, add-one, ◌<◌, get_or, codes, arith, take, length-append, take_all, Option}
+use Rattle.std.proofs.Math.Seq.{take-append-add, take-suc}
+use Rattle.std.specs.Io.KnownBytes.{Appends, Keeps}
+use Rattle.std.proofs.KnownBytes.{Appends-nil, Appends-trans, Appends-kept}
+use Rattle.std.specs.List.{flat_map}
+use Rattle.std.proofs.lemmas.Grind.{flat_map-append}
+use Rattle.bl_wire.specs.Replies.{output_text}
+use Rattle.bl_wire.specs.Watch.{EndState, Puts}
+
+take-zero : (n : ℕ) (a : List ℕ) → n ≡ 0 → take n a ≡ []
+take-zero n a is = ap (λ k. take k a) is
+
+take-front-of : (n : ℕ) (a b : List ℕ) → take (length (take n a)) (a ++ b) ≡ take n a
+take-front-of zero a b = refl
+take-front-of (suc n) [] b = refl
+take-front-of (suc n) (x ∷ a) b = ap (λ l. x ∷ l) (take-front-of n a b)
+
+take-over-all : (n : ℕ) (a : List ℕ) → length a ≤ n → take n a ≡ a
+take-over-all n a le = take_all n a le
+
+-- all of a text was put on a writer that did not fail
+pub puts-all : (a : List ℕ) (x y : EndState) → Puts a x y → y.failed ≡ false → Appends x.bytes y.bytes a
+puts-all a x y p fine = subst (Appends x.bytes y.bytes) (take-over-all p.much a (p.all fine)) p.bytes
+
+pub puts-nil : (x y : EndState) → y ≡ x → Puts [] x y
+puts-nil x y is = subst (Puts [] x) (sym is) (record { much = 0; bytes = Appends-nil x.bytes; all = λ fine. omega arith; none = λ failed. (refl, failed) })
+
+pub puts-append : (a b : List ℕ) (x y z : EndState) → Puts a x y → Puts b y z → Puts (a ++ b) x z
+puts-append a b x y z p q = go y.failed refl
+  where
+    clash : (b : Bool) → b ≡ true → b ≡ false → ⊥
+    clash b yes' no' = cc
+
+    go : (failed : Bool) → y.failed ≡ failed → Puts (a ++ b) x z
+    go false fine = record {
+      much = length a + q.much;
+      bytes = subst (Appends x.bytes z.bytes) (sym (take-append-add a b q.much)) (Appends-trans x.bytes y.bytes z.bytes a (take q.much b) (puts-all a x y p fine) q.bytes);
+      all = λ well. omega (arith, length-append a b, q.all well);
+      none = λ failed. let hit = (p.none failed).1 in cc;
+    }
+    go true failed = record {
+      much = length (take p.much a);
+      bytes = subst (Appends x.bytes z.bytes)
+          (ap (λ l. take p.much a ++ l) (take-zero q.much b (q.none failed).0) ∙ append-nil (take p.much a) ∙ sym (take-front-of p.much a b))
+          (Appends-trans x.bytes y.bytes z.bytes (take p.much a) (take q.much b) p.bytes q.bytes);
+      all = λ well. absurd (clash z.failed (q.none failed).1 well);
+      none = λ was. (ap (λ k. length (take k a)) (p.none was).0, (q.none failed).1);
+    }
+
+-- the same text under another name
+pub puts-is : (a t : List ℕ) (x y : EndState) → a ≡ t → Puts a x y → Puts t x y
+puts-is a t x y is p = subst (λ l. Puts l x y) is p
+
+-- two texts and three, as one
+pub puts-two : (t a b : List ℕ) (x y z : EndState) → t ≡ a ++ b → Puts a x y → Puts b y z → Puts t x z
+puts-two t a b x y z is p q = subst (λ l. Puts l x z) (sym is) (puts-append a b x y z p q)
+
+pub puts-three : (t a b c : List ℕ) (x y z u : EndState) → t ≡ a ++ (b ++ c) → Puts a x y → Puts b y z → Puts c z u → Puts t x u
+puts-three t a b c x y z u is p q r = puts-two t a (b ++ c) x y u is p (puts-append b c y z u q r)
+
+pub puts-four : (t a b c d : List ℕ) (x y z u v : EndState) → t ≡ a ++ (b ++ (c ++ d)) → Puts a x y → Puts b y z → Puts c z u → Puts d u v → Puts t x v
+puts-four t a b c d x y z u v is p q r s = puts-two t a (b ++ (c ++ d)) x y v is p (puts-three (b ++ (c ++ d)) b c d y z u v refl q r s)
+
+-- the texts of a list, and one more between quotation marks
+pub puts-output : (front : List ℕ) (xs : List (List ℕ)) (i : ℕ) (text d : List ℕ) (x y z u v : EndState) → i < length xs → text ≡ get_or xs i d
+    → Puts (front ++ flat_map output_text (take i xs)) x y → Puts (codes " \"") y z → Puts text z u → Puts (codes "\"") u v
+    → Puts (front ++ flat_map output_text (take (i + 1) xs)) x v
+puts-output front xs i text d x y z u v lt is p q r s =
+    let one : flat_map output_text (take (i + 1) xs) ≡ flat_map output_text (take i xs) ++ output_text text =
+    ap (λ k. flat_map output_text (take k xs)) (add-one i) ∙ ap (flat_map output_text) (take-suc xs i d lt ∙ ap (λ t. take i xs ++ t ∷ []) (sym is))
+    ∙ flat_map-append output_text (take i xs) (text ∷ []) ∙ ap (λ l. flat_map output_text (take i xs) ++ l) (append-nil (output_text text)) in
+    let whole : front ++ flat_map output_text (take (i + 1) xs) ≡ (front ++ flat_map output_text (take i xs)) ++ output_text text =
+    ap (λ l. front ++ l) one ∙ sym (append_assoc front (flat_map output_text (take i xs)) (output_text text)) in
+    puts-two _ (front ++ flat_map output_text (take i xs)) (output_text text) x y v whole p
+    (puts-three (output_text text) (codes " \"") text (codes "\"") y z u v refl q r s)
+
+-- four texts, joined from the left
+pub puts-line : (a b c d : List ℕ) (x y z u v : EndState) → Puts a x y → Puts b y z → Puts c z u → Puts d u v → Puts (((a ++ b) ++ c) ++ d) x v
+puts-line a b c d x y z u v p q r s = puts-append ((a ++ b) ++ c) d x u v (puts-append (a ++ b) c x z u (puts-append a b x y z p q) r) s
+
+-- what was put is handed on, or that failed
+pub puts-kept : (a : List ℕ) (x y z : EndState) → Puts a x y → y.failed ≡ false → Keeps y.bytes z.bytes → Puts a x z
+puts-kept a x y z p fine kept = record {
+  much = p.much;
+  bytes = Appends-kept x.bytes y.bytes z.bytes (take p.much a) p.bytes kept;
+  all = λ well. p.all fine;
+  none = λ was. absurd (clash y.failed (p.none was).1 fine);
+}
+  where
+    clash : (b : Bool) → b ≡ true → b ≡ false → ⊥
+    clash b yes' no' = cc
