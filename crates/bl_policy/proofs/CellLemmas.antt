@@ -1,5 +1,5 @@
 -- The cells against the set of triples that they stand for.
-use Rattle.std.proofs.Common.{◌≡◌, ◌≢◌, ◌⊎◌, inl, inr, ℕ, zero, suc, ◌+◌, ◌*◌, ◌/◌, ◌%◌, ◌<◌, ◌≤◌, Bool, true, false, not, ◌&&◌, ◌||◌, ◌==◌, refl, sym, ◌∙◌, ap, arith, List, [], ◌∷◌, length, get_or, set, replicate}
+use Rattle.std.proofs.Common.{◌≡◌, ◌≢◌, ◌⊎◌, inl, inr, ℕ, zero, suc, ◌+◌, ◌*◌, ◌/◌, ◌%◌, ◌<◌, ◌≤◌, Bool, true, false, not, ◌&&◌, ◌||◌, ◌==◌, refl, sym, ◌∙◌, ap, arith, List, [], ◌∷◌, ◌++◌, length, get_or, set, replicate}
 use Rattle.std.proofs.lemmas.Bool.{cases_eq, cases_lt}
 use Rattle.std.proofs.lemmas.Bool.Decides.{nat_tests}
 use Rattle.std.proofs.lemmas.List.{get_or-set_same, get_or-set_other}
@@ -7,14 +7,14 @@ use Rattle.bl_policy.specs.declared.access.Mode.{Mode}
 use Rattle.bl_policy.specs.declared.access.Mode.TheVariants.{Read, Append, Write}
 use Rattle.bl_policy.specs.declared.access.ModeSet.{ModeSet}
 use Rattle.bl_policy.specs.Mode.{place_of, has_mode}
-use Rattle.bl_policy.specs.Matrix.{Triple, triple, no_triple, is_in, take_out, put_modes}
+use Rattle.bl_policy.specs.Matrix.{Matrix, Triple, triple, no_triple, is_in, take_out, put_modes}
 use Rattle.bl_policy.specs.Cells.{matrix_from, matrix_of}
 use Rattle.bl_policy.proofs.Triples.{is_at, three, same_triple, is_in-put_modes, is_in-take_out, same_members_set}
 
 abbrev pub no_mode : ModeSet
 no_mode = record { 0 = 0 }
 
-no_mode-none : (m : Mode) → has_mode no_mode m ≡ false
+pub no_mode-none : (m : Mode) → has_mode no_mode m ≡ false
 no_mode-none Read = refl
 no_mode-none Append = refl
 no_mode-none Write = refl
@@ -132,6 +132,11 @@ matrix_of-set cells s o cell modes h within adds =
 pub matrix_from-replicate : (n k : ℕ) → matrix_from k (replicate n no_mode) ≡ no_triple
 matrix_from-replicate zero k = refl
 matrix_from-replicate (suc n) k = matrix_from-replicate n (suc k)
+
+-- cells with no mode behind others add no triple
+pub matrix_from-more : (k n : ℕ) (cells : List ModeSet) → matrix_from k (cells ++ replicate n no_mode) ≡ matrix_from k cells
+matrix_from-more k n [] = matrix_from-replicate n k
+matrix_from-more k n (cell ∷ rest) = ap (λ (m : Matrix). put_modes m (k / 1024) (k % 1024) cell) (matrix_from-more (suc k) n rest)
 
 -- ---- taking a mode out of a cell
 

@@ -1,22 +1,26 @@
 -- What is true of the fields of a policy, and what a write of a cell makes of them.
-use Rattle.std.proofs.Common.{◌≡◌, ℕ, ◌+◌, ◌*◌, ◌<◌, not, ◌&&◌, ◌||◌, ◌==◌, sym, ◌∙◌, ap, subst, arith, length, map, get_or, set, length-set}
+use Rattle.std.proofs.Common.{All, ◌≡◌, ℕ, ◌+◌, ◌*◌, ◌<◌, not, ◌&&◌, ◌||◌, ◌==◌, sym, ◌∙◌, ap, subst, arith, refl, zero, suc, List, [], ◌∷◌, ◌++◌, replicate, length, map, get_or, set, take, length-set, Bool, true, ◌-◌, ◌≤◌}
 use Rattle.std.specs.Prelude.{bit_and, bit_or}
-use Rattle.std.specs.Vec.{with_item}
-use Rattle.std.proofs.lemmas.List.{get_or_default, get_or-map, map-set, length-map}
-use Rattle.std.proofs.lemmas.List.Elements.{All-set, All-map}
+use Rattle.std.specs.Vec.{with_item, with_items, vec_capacity}
+use Rattle.std.specs.Prelude.{Vec, if◌then◌else◌}
+use Rattle.std.proofs.lemmas.List.{get_or_default, get_or-map, get_or-set_same, get_or_push, map-set, map-append, length-map, length-append, length-replicate, length_push, take_all, with_items_is}
+use Rattle.std.proofs.lemmas.List.Elements.{All-set, All-map, All-push, All-append, All-replicate}
 use Rattle.bitflags.specs.Sets.{without}
 use Rattle.bl_level.specs.Level.{SecurityLevel, Dominates}
 use Rattle.bl_policy.specs.declared.access.Mode.{Mode}
 use Rattle.bl_policy.specs.declared.access.ModeSet.{ModeSet}
 use Rattle.bl_policy.specs.declared.policy.Subject.{Subject}
+use Rattle.bl_policy.specs.declared.policy.cell.Cell.{Cell}
 use Rattle.bl_policy.specs.declared.policy.Policy.TheInside.{Inside}
 use Rattle.bl_policy.specs.Mode.{place_of, flag_of, has_mode}
 use Rattle.bl_policy.specs.Matrix.{triple, take_out, put_modes}
-use Rattle.bl_policy.specs.Cells.{matrix_of}
-use Rattle.bl_policy.specs.Policy.{SecurityPolicy, Clearance, nobody, clearance_of, with_modes, without_triple, with_current, allows, CurrentBelowGreatest}
-use Rattle.bl_policy.specs.Fields.{clearance_from, policy_of, IsSound}
-use Rattle.bl_policy.proofs.CellLemmas.{no_mode, is_in-matrix_of, matrix_of-set, matrix_of-lost}
-use Rattle.bl_policy.proofs.ModeLemmas.{has_mode-or, or-small, has_mode-without, without-small}
+use Rattle.bl_policy.specs.Cells.{clearance_from, modes_of, matrix_of, clause_of, failed_in, no_cell, cell_at, IsCellOf, HaveFirstFailed, HasMendedRow, HasMendedColumn}
+use Rattle.bl_policy.specs.FirstFault.{fault_of}
+use Rattle.bl_policy.specs.Policy.{SecurityPolicy, Clearance, nobody, lowest, clearance_of, level_of, with_subject, with_modes, without_triple, with_current, allows, CurrentBelowGreatest}
+use Rattle.bl_policy.specs.Fields.{policy_of, IsSound}
+use Rattle.bl_policy.proofs.CellLemmas.{no_mode, is_in-matrix_of, matrix_of-set, matrix_of-lost, matrix_from-more}
+use Rattle.bl_policy.proofs.FirstFailed.{refused, fault-read, first_failed-set, first_failed-append, first_failed-row, first_failed-column, others-set, others-push}
+use Rattle.bl_policy.proofs.ModeLemmas.{has_mode-or, has_mode-without}
 
 -- a position of a subject and one of a document
 pub record AreThere (p : SecurityPolicy) (s o : ℕ) : Type 0 where
@@ -26,99 +30,98 @@ pub record AreThere (p : SecurityPolicy) (s o : ℕ) : Type 0 where
 pub column_within : (p : Inside) → IsSound p → (s o : ℕ) → AreThere (policy_of p) s o → o < 1024
 column_within p sound s o are = omega (arith, are.there, sound.document_limit)
 
-pub row_within : (p : Inside) → IsSound p → (s o : ℕ) → AreThere (policy_of p) s o → s < 256
-row_within p sound s o are = omega (arith, are.known, sound.subject_limit, length-map p.subjects.items clearance_from)
+pub row_within : (p : Inside) → (s o : ℕ) → AreThere (policy_of p) s o → s < length p.subjects.items
+row_within p s o are = omega (arith, are.known, length-map p.subjects.items clearance_from)
 
 pub place_within : (p : Inside) → IsSound p → (s o : ℕ) → AreThere (policy_of p) s o → s * 1024 + o < length p.cells.items
-place_within p sound s o are = omega (arith, column_within p sound s o are, row_within p sound s o are, sound.cell_count)
+place_within p sound s o are = omega (arith, column_within p sound s o are, row_within p s o are, sound.cell_count)
+
+-- the modes of a cell, as one of the sets of modes
+modes-read : (p : Inside) → IsSound p → (s o place : ℕ) (cell : Cell) → AreThere (policy_of p) s o → place ≡ s * 1024 + o → cell ≡ get_or p.cells.items place cell
+    → cell.modes ≡ get_or (modes_of p.cells.items) (s * 1024 + o) no_mode
+modes-read p sound s o place cell are at was =
+    ap (λ (c : Cell). c.modes) (was ∙ ap (λ k. get_or p.cells.items k cell) at)
+    ∙ sym (get_or-map (λ (c : Cell). c.modes) p.cells.items (s * 1024 + o) cell no_mode (place_within p sound s o are))
 
 -- the modes of the cell of a subject and a document are those that the matrix has
-pub cell-allows : (p : Inside) → IsSound p → (s o place : ℕ) (cell : ModeSet) → AreThere (policy_of p) s o → place ≡ s * 1024 + o → cell ≡ get_or p.cells.items place cell
-    → (m : Mode) → has_mode cell m ≡ allows (policy_of p) s o m
-cell-allows p sound s o place cell are at is m =
-    ap (λ c. has_mode c m)
-    (is
-    ∙ ap (λ k. get_or p.cells.items k cell) at
-    ∙ get_or_default p.cells.items (s * 1024 + o) cell no_mode (place_within p sound s o are))
-    ∙ sym (is_in-matrix_of p.cells.items s o m (column_within p sound s o are))
+pub cell-allows : (p : Inside) → IsSound p → (s o place : ℕ) (cell : Cell) → AreThere (policy_of p) s o → place ≡ s * 1024 + o → cell ≡ get_or p.cells.items place cell
+    → (m : Mode) → has_mode cell.modes m ≡ allows (policy_of p) s o m
+cell-allows p sound s o place cell are at was m =
+    ap (λ c. has_mode c m) (modes-read p sound s o place cell are at was)
+    ∙ sym (is_in-matrix_of (modes_of p.cells.items) s o m (column_within p sound s o are))
 
--- the modes are added to the cell at this place
-pub record Adds (p : Inside) (place : ℕ) (old added modes new : ModeSet) : Type 0 where
+-- the modes of a cell are three at most
+pub modes-small : (p : Inside) → IsSound p → (s o place : ℕ) (cell : Cell) → AreThere (policy_of p) s o → place ≡ s * 1024 + o → cell ≡ get_or p.cells.items place cell → cell.modes.0 < 8
+modes-small p sound s o place cell are at was =
+    let within : s * 1024 + o < length (modes_of p.cells.items) = omega (arith, place_within p sound s o are, length-map p.cells.items (λ (c : Cell). c.modes)) in
+    subst (λ (c : ModeSet). c.0 < 8) (sym (modes-read p sound s o place cell are at was)) (sound.modes_only (s * 1024 + o) no_mode within)
+
+-- the cell has the first property that fails
+pub cell-first_failed : (p : Inside) → IsSound p → (s o place : ℕ) (cell : Cell) → AreThere (policy_of p) s o → place ≡ s * 1024 + o → cell ≡ get_or p.cells.items place cell
+    → IsCellOf (clearance_of (policy_of p) s) (level_of (policy_of p) o) cell
+cell-first_failed p sound s o place cell are at was =
+    let here : cell ≡ cell_at p.cells.items (s * 1024 + o) = was ∙ ap (λ k. get_or p.cells.items k cell) at ∙ get_or_default p.cells.items (s * 1024 + o) cell no_cell (place_within p sound s o are) in
+    subst (λ (c : Cell). IsCellOf (clearance_of (policy_of p) s) (level_of (policy_of p) o) c) (sym here) (sound.first_failed s o are.known are.there)
+
+-- the fault of an access, as its cell has it
+pub cell-fault : (p : Inside) → IsSound p → (s o place : ℕ) (m : Mode) (cell : Cell) → AreThere (policy_of p) s o → place ≡ s * 1024 + o → cell ≡ get_or p.cells.items place cell
+    → refused (clause_of (failed_in cell m)) s o ≡ fault_of (policy_of p) s (record { mode = m; doc = o })
+cell-fault p sound s o place m cell are at was =
+    fault-read (policy_of p) s o m cell (cell-first_failed p sound s o place cell are at was) (cell-allows p sound s o place cell are at was m)
+
+-- ---- a cell that is written
+
+-- another cell stands at the place of subject s and document o, with modes of theirs and the first property that fails
+pub record Writes (p : Inside) (s o place : ℕ) (old new : Cell) : Type 0 where
+  pub are : AreThere (policy_of p) s o
+  pub at : place ≡ s * 1024 + o
   pub was : old ≡ get_or p.cells.items place old
-  pub named : added.0 ≡ bit_and modes.0 7
-  pub is : new.0 ≡ bit_or old.0 added.0
+  pub is : IsCellOf (clearance_of (policy_of p) s) (level_of (policy_of p) o) new
 
-new_cell : (p : Inside) (place : ℕ) (old added modes new : ModeSet) → Adds p place old added modes new → new ≡ record { 0 = bit_or old.0 (bit_and modes.0 7) }
-new_cell p place old added modes new adds = λ i. record { 0 = (adds.is ∙ ap (λ n. bit_or old.0 n) adds.named) i }
-
--- the policy then allows those modes too
-pub policy_of-added : (p : Inside) → IsSound p → (s o place : ℕ) (old added modes new : ModeSet) → AreThere (policy_of p) s o → place ≡ s * 1024 + o → Adds p place old added modes new
-    → policy_of (record { subjects = p.subjects; documents = p.documents; cells = with_item p.cells place new }) ≡ with_modes (policy_of p) s o modes
-policy_of-added p sound s o place old added modes new are at adds =
-    let within : s * 1024 + o < length p.cells.items = place_within p sound s o are in
-    let had : old ≡ get_or p.cells.items (s * 1024 + o) no_mode = adds.was ∙ ap (λ k. get_or p.cells.items k old) at ∙ get_or_default p.cells.items (s * 1024 + o) old no_mode within in
-    let matrices : matrix_of (set p.cells.items place new) ≡ put_modes (matrix_of p.cells.items) s o modes =
-    ap (λ k. matrix_of (set p.cells.items k new)) at
-    ∙ matrix_of-set p.cells.items s o new modes (column_within p sound s o are) within
-    (λ m. ap (λ c. has_mode c m) (new_cell p place old added modes new adds) ∙ has_mode-or old.0 modes.0 m ∙ ap (λ c. has_mode c m || has_mode modes m) had) in
-    λ i. record { subjects = (policy_of p).subjects; documents = (policy_of p).documents; matrix = matrices i }
-
--- and its fields stay sound
-pub IsSound-added : (p : Inside) → IsSound p → (s o place : ℕ) (old added modes new : ModeSet) → AreThere (policy_of p) s o → place ≡ s * 1024 + o → Adds p place old added modes new
+-- the fields stay sound
+pub IsSound-written : (p : Inside) → IsSound p → (s o place : ℕ) (old new : Cell) → Writes p s o place old new → new.modes.0 < 8
     → IsSound (record { subjects = p.subjects; documents = p.documents; cells = with_item p.cells place new })
-IsSound-added p sound s o place old added modes new are at adds =
-    let within : place < length p.cells.items = omega (arith, at, place_within p sound s o are) in
-    let small : old.0 < 8 = subst (λ (c : ModeSet). c.0 < 8) (sym adds.was) (sound.modes_only place old within) in
+IsSound-written p sound s o place old new writes small =
     record {
       subject_room = sound.subject_room;
       document_room = sound.document_room;
+      cell_room = sound.cell_room;
       subject_limit = sound.subject_limit;
       document_limit = sound.document_limit;
       cell_count = length-set p.cells.items place new ∙ sound.cell_count;
-      modes_only = All-set (λ cell. cell.0 < 8) p.cells.items place new
-          (subst (λ (c : ModeSet). c.0 < 8) (sym (new_cell p place old added modes new adds)) (or-small old.0 modes.0 small)) sound.modes_only;
+      modes_only = subst (All (λ modes. modes.0 < 8)) (sym (map-set (λ (c : Cell). c.modes) p.cells.items place new)) (All-set (λ modes. modes.0 < 8) (modes_of p.cells.items) place new.modes small sound.modes_only);
       dominated = sound.dominated;
+      first_failed = subst (λ (k : ℕ). HaveFirstFailed (map clearance_from p.subjects.items) p.documents.items (set p.cells.items k new)) (sym writes.at)
+          (first_failed-set (map clearance_from p.subjects.items) p.documents.items p.cells.items s o new sound.document_limit writes.are.there (place_within p sound s o writes.are) writes.is sound.first_failed);
     }
+
+-- the modes are added to those of the cell
+pub policy_of-added : (p : Inside) → IsSound p → (s o place : ℕ) (old new : Cell) (modes : ModeSet) → Writes p s o place old new → new.modes ≡ record { 0 = bit_or old.modes.0 (bit_and modes.0 7) }
+    → policy_of (record { subjects = p.subjects; documents = p.documents; cells = with_item p.cells place new }) ≡ with_modes (policy_of p) s o modes
+policy_of-added p sound s o place old new modes writes added =
+    let within : s * 1024 + o < length (modes_of p.cells.items) = omega (arith, place_within p sound s o writes.are, length-map p.cells.items (λ (c : Cell). c.modes)) in
+    let had : old.modes ≡ get_or (modes_of p.cells.items) (s * 1024 + o) no_mode = modes-read p sound s o place old writes.are writes.at writes.was in
+    let matrices : matrix_of (modes_of (set p.cells.items place new)) ≡ put_modes (matrix_of (modes_of p.cells.items)) s o modes =
+    ap matrix_of (map-set (λ (c : Cell). c.modes) p.cells.items place new)
+    ∙ ap (λ k. matrix_of (set (modes_of p.cells.items) k new.modes)) writes.at
+    ∙ matrix_of-set (modes_of p.cells.items) s o new.modes modes (column_within p sound s o writes.are) within
+    (λ m. ap (λ c. has_mode c m) added ∙ has_mode-or old.modes.0 modes.0 m ∙ ap (λ c. has_mode c m || has_mode modes m) had) in
+    λ i. record { subjects = (policy_of p).subjects; documents = (policy_of p).documents; matrix = matrices i }
+
+-- a mode is taken out of those of the cell
+pub policy_of-taken : (p : Inside) → IsSound p → (s o place : ℕ) (old new : Cell) (m : Mode) → Writes p s o place old new → new.modes ≡ record { 0 = without 8 old.modes.0 (flag_of m) }
+    → policy_of (record { subjects = p.subjects; documents = p.documents; cells = with_item p.cells place new }) ≡ without_triple (policy_of p) (triple s o m)
+policy_of-taken p sound s o place old new m writes taken =
+    let within : s * 1024 + o < length (modes_of p.cells.items) = omega (arith, place_within p sound s o writes.are, length-map p.cells.items (λ (c : Cell). c.modes)) in
+    let had : old.modes ≡ get_or (modes_of p.cells.items) (s * 1024 + o) no_mode = modes-read p sound s o place old writes.are writes.at writes.was in
+    let matrices : matrix_of (modes_of (set p.cells.items place new)) ≡ take_out (matrix_of (modes_of p.cells.items)) (triple s o m) =
+    ap matrix_of (map-set (λ (c : Cell). c.modes) p.cells.items place new)
+    ∙ ap (λ k. matrix_of (set (modes_of p.cells.items) k new.modes)) writes.at
+    ∙ matrix_of-lost (modes_of p.cells.items) s o new.modes m (column_within p sound s o writes.are) within
+    (λ n. ap (λ c. has_mode c n) taken ∙ has_mode-without old.modes.0 m n ∙ ap (λ c. not (place_of m == place_of n) && has_mode c n) had) in
+    λ i. record { subjects = (policy_of p).subjects; documents = (policy_of p).documents; matrix = matrices i }
 
 -- ---- rules
-
--- a mode is taken out of the cell at this place
-pub record Takes (p : Inside) (place : ℕ) (old flag new : ModeSet) (m : Mode) : Type 0 where
-  pub was : old ≡ get_or p.cells.items place old
-  pub named : flag.0 ≡ flag_of m
-  pub is : new.0 ≡ without 8 old.0 flag.0
-
-cut_cell : (p : Inside) (place : ℕ) (old flag new : ModeSet) (m : Mode) → Takes p place old flag new m → new ≡ record { 0 = without 8 old.0 (flag_of m) }
-cut_cell p place old flag new m takes = λ i. record { 0 = (takes.is ∙ ap (λ n. without 8 old.0 n) takes.named) i }
-
--- the policy then has no triple of that mode
-pub policy_of-taken : (p : Inside) → IsSound p → (s o place : ℕ) (old flag new : ModeSet) (m : Mode) → AreThere (policy_of p) s o → place ≡ s * 1024 + o → Takes p place old flag new m
-    → policy_of (record { subjects = p.subjects; documents = p.documents; cells = with_item p.cells place new }) ≡ without_triple (policy_of p) (triple s o m)
-policy_of-taken p sound s o place old flag new m are at takes =
-    let within : s * 1024 + o < length p.cells.items = place_within p sound s o are in
-    let had : old ≡ get_or p.cells.items (s * 1024 + o) no_mode = takes.was ∙ ap (λ k. get_or p.cells.items k old) at ∙ get_or_default p.cells.items (s * 1024 + o) old no_mode within in
-    let matrices : matrix_of (set p.cells.items place new) ≡ take_out (matrix_of p.cells.items) (triple s o m) =
-    ap (λ k. matrix_of (set p.cells.items k new)) at
-    ∙ matrix_of-lost p.cells.items s o new m (column_within p sound s o are) within
-    (λ n. ap (λ c. has_mode c n) (cut_cell p place old flag new m takes) ∙ has_mode-without old.0 m n ∙ ap (λ c. not (place_of m == place_of n) && has_mode c n) had) in
-    λ i. record { subjects = (policy_of p).subjects; documents = (policy_of p).documents; matrix = matrices i }
-
--- and its fields stay sound
-pub IsSound-taken : (p : Inside) → IsSound p → (s o place : ℕ) (old flag new : ModeSet) (m : Mode) → AreThere (policy_of p) s o → place ≡ s * 1024 + o → Takes p place old flag new m
-    → IsSound (record { subjects = p.subjects; documents = p.documents; cells = with_item p.cells place new })
-IsSound-taken p sound s o place old flag new m are at takes =
-    let within : place < length p.cells.items = omega (arith, at, place_within p sound s o are) in
-    let small : old.0 < 8 = subst (λ (c : ModeSet). c.0 < 8) (sym takes.was) (sound.modes_only place old within) in
-    record {
-      subject_room = sound.subject_room;
-      document_room = sound.document_room;
-      subject_limit = sound.subject_limit;
-      document_limit = sound.document_limit;
-      cell_count = length-set p.cells.items place new ∙ sound.cell_count;
-      modes_only = All-set (λ cell. cell.0 < 8) p.cells.items place new
-          (subst (λ (c : ModeSet). c.0 < 8) (sym (cut_cell p place old flag new m takes)) (without-small old.0 (flag_of m) small)) sound.modes_only;
-      dominated = sound.dominated;
-    }
 
 -- what is read of a subject is what the policy has of it
 pub clearance-read : (p : Inside) (s place : ℕ) (read : Subject) → s < length (policy_of p).subjects → place ≡ s → read ≡ get_or p.subjects.items place read → clearance_from read ≡ clearance_of (policy_of p) s
@@ -126,6 +129,142 @@ clearance-read p s place read known at was =
     let within : s < length p.subjects.items = omega (arith, known, length-map p.subjects.items clearance_from) in
     ap clearance_from (was ∙ ap (λ k. get_or p.subjects.items k read) at)
     ∙ sym (get_or-map clearance_from p.subjects.items s read nobody within)
+
+-- what is read of a document is its level
+pub level-read : (p : Inside) (o place : ℕ) (read : SecurityLevel) → o < length (policy_of p).documents → place ≡ o → read ≡ get_or p.documents.items place read → read ≡ level_of (policy_of p) o
+level-read p o place read there at was = was ∙ ap (λ k. get_or p.documents.items k read) at ∙ get_or_default p.documents.items o read lowest there
+
+-- ---- cells that are mended
+
+-- cells with the same modes are as many
+pub length-modes : (cells others : List Cell) → modes_of cells ≡ modes_of others → length cells ≡ length others
+length-modes cells others e = sym (length-map cells (λ (c : Cell). c.modes)) ∙ ap length e ∙ length-map others (λ (c : Cell). c.modes)
+
+-- cells with the same modes are written back whole
+pub written_back : {Z : Type 0} (v : Vec Cell Z) (cells : List Cell) → modes_of cells ≡ modes_of v.items → (with_items v cells).items ≡ cells
+written_back v cells e = with_items_is v cells (length-modes cells v.items e ∙ sym v.ok.0)
+
+-- of fields whose cells have other modes than before, or of which the subjects or the documents are others: what is asked of them
+pub record Mends (p q : Inside) (cells mended : List Cell) : Type 0 where
+  pub subject_room : vec_capacity p.subjects ≤ vec_capacity q.subjects
+  pub document_room : vec_capacity p.documents ≤ vec_capacity q.documents
+  pub cell_room : vec_capacity p.cells ≤ vec_capacity q.cells
+  pub same : modes_of mended ≡ modes_of cells
+  pub small : All (λ modes. modes.0 < 8) (modes_of cells)
+  pub is : q.cells.items ≡ mended
+
+sound-mended : (p q : Inside) (cells mended : List Cell) → IsSound p → Mends p q cells mended → length q.subjects.items ≤ 256 → length q.documents.items ≤ 1024 → length cells ≡ length q.subjects.items * 1024
+    → All (λ (s : Subject). Dominates s.greatest s.current) q.subjects.items → HaveFirstFailed (map clearance_from q.subjects.items) q.documents.items mended → IsSound q
+sound-mended p q cells mended sound mends subjects documents count dominated have =
+    record {
+      subject_room = omega (arith, sound.subject_room, mends.subject_room);
+      document_room = omega (arith, sound.document_room, mends.document_room);
+      cell_room = omega (arith, sound.cell_room, mends.cell_room);
+      subject_limit = subjects;
+      document_limit = documents;
+      cell_count = ap length mends.is ∙ length-modes mended cells mends.same ∙ count;
+      modes_only = subst (All (λ modes. modes.0 < 8)) (sym (ap modes_of mends.is ∙ mends.same)) mends.small;
+      dominated = dominated;
+      first_failed = subst (HaveFirstFailed (map clearance_from q.subjects.items) q.documents.items) (sym mends.is) have;
+    }
+
+-- one subject is another, and its row is mended
+pub IsSound-moved : (p q : Inside) (row : ℕ) (new : Subject) (mended : List Cell) → IsSound p → Mends p q p.cells.items mended → q.subjects.items ≡ set p.subjects.items row new → q.documents.items ≡ p.documents.items
+    → row < length p.subjects.items → Dominates new.greatest new.current → HasMendedRow (row * 1024) (clearance_from new) p.documents.items p.cells.items mended → IsSound q
+IsSound-moved p q row new mended sound mends moved stay within below has =
+    let old = map clearance_from p.subjects.items in
+    let there : row < length old = omega (arith, within, length-map p.subjects.items clearance_from) in
+    let clearances : map clearance_from q.subjects.items ≡ set old row (clearance_from new) = ap (map clearance_from) moved ∙ map-set clearance_from p.subjects.items row new in
+    let many : length q.subjects.items ≡ length p.subjects.items = ap length moved ∙ length-set p.subjects.items row new in
+    sound-mended p q p.cells.items mended sound mends (omega (arith, many, sound.subject_limit)) (omega (arith, ap length stay, sound.document_limit)) (sound.cell_count ∙ ap (λ n. n * 1024) (sym many))
+    (subst (All (λ (s : Subject). Dominates s.greatest s.current)) (sym moved) (All-set (λ (s : Subject). Dominates s.greatest s.current) p.subjects.items row new below sound.dominated))
+    (subst (λ (cs : List Clearance). HaveFirstFailed cs q.documents.items mended) (sym clearances)
+    (subst (λ (ls : List SecurityLevel). HaveFirstFailed (set old row (clearance_from new)) ls mended) (sym stay)
+    (first_failed-row old (set old row (clearance_from new)) p.documents.items p.cells.items mended row sound.document_limit (others-set nobody old row (clearance_from new))
+    (subst (λ (c : Clearance). HasMendedRow (row * 1024) c p.documents.items p.cells.items mended) (sym (get_or-set_same old row (clearance_from new) nobody there)) has) sound.first_failed)))
+
+-- one document has another level, and its column is mended
+pub IsSound-classified : (p q : Inside) (column : ℕ) (level : SecurityLevel) (mended : List Cell) → IsSound p → Mends p q p.cells.items mended → q.subjects.items ≡ p.subjects.items → q.documents.items ≡ set p.documents.items column level
+    → column < length p.documents.items → HasMendedColumn column (map clearance_from p.subjects.items) level p.cells.items mended → IsSound q
+IsSound-classified p q column level mended sound mends stay moved within has =
+    let old = p.documents.items in
+    let many : length q.documents.items ≡ length old = ap length moved ∙ length-set old column level in
+    let few : length (set old column level) ≤ 1024 = omega (arith, length-set old column level, sound.document_limit) in
+    sound-mended p q p.cells.items mended sound mends (omega (arith, ap length stay, sound.subject_limit)) (omega (arith, many, sound.document_limit)) (sound.cell_count ∙ ap (λ n. n * 1024) (sym (ap length stay)))
+    (subst (All (λ (s : Subject). Dominates s.greatest s.current)) (sym stay) sound.dominated)
+    (subst (λ (ss : List Subject). HaveFirstFailed (map clearance_from ss) q.documents.items mended) (sym stay)
+    (subst (λ (ls : List SecurityLevel). HaveFirstFailed (map clearance_from p.subjects.items) ls mended) (sym moved)
+    (first_failed-column (map clearance_from p.subjects.items) old (set old column level) p.cells.items mended column few (others-set lowest old column level)
+    (subst (λ (l : SecurityLevel). HasMendedColumn column (map clearance_from p.subjects.items) l p.cells.items mended) (sym (get_or-set_same old column level lowest within)) has) sound.first_failed)))
+
+-- one more document is there, and its column is mended
+pub IsSound-document : (p q : Inside) (level : SecurityLevel) (mended : List Cell) → IsSound p → Mends p q p.cells.items mended → q.subjects.items ≡ p.subjects.items → q.documents.items ≡ p.documents.items ++ level ∷ []
+    → length p.documents.items < 1024 → HasMendedColumn (length p.documents.items) (map clearance_from p.subjects.items) level p.cells.items mended → IsSound q
+IsSound-document p q level mended sound mends stay more room has =
+    let old = p.documents.items in
+    let few : length (old ++ level ∷ []) ≤ 1024 = omega (arith, length_push old level, room) in
+    sound-mended p q p.cells.items mended sound mends (omega (arith, ap length stay, sound.subject_limit)) (omega (arith, ap length more, few)) (sound.cell_count ∙ ap (λ n. n * 1024) (sym (ap length stay)))
+    (subst (All (λ (s : Subject). Dominates s.greatest s.current)) (sym stay) sound.dominated)
+    (subst (λ (ss : List Subject). HaveFirstFailed (map clearance_from ss) q.documents.items mended) (sym stay)
+    (subst (λ (ls : List SecurityLevel). HaveFirstFailed (map clearance_from p.subjects.items) ls mended) (sym more)
+    (first_failed-column (map clearance_from p.subjects.items) old (old ++ level ∷ []) p.cells.items mended (length old) few (others-push lowest old level)
+    (subst (λ (l : SecurityLevel). HasMendedColumn (length old) (map clearance_from p.subjects.items) l p.cells.items mended) (sym (get_or_push old level lowest (length old) refl)) has) sound.first_failed)))
+
+-- the cells with a row for one more subject
+abbrev pub with_row : List Cell → List Cell
+with_row cells = cells ++ replicate 1024 no_cell
+
+pub modes-with_row : (cells : List Cell) → modes_of (with_row cells) ≡ modes_of cells ++ replicate 1024 no_mode
+modes-with_row cells = map-append (λ (c : Cell). c.modes) cells (replicate 1024 no_cell) ∙ ap (λ modes. modes_of cells ++ modes) (modes-replicate 1024)
+  where
+    modes-replicate : (n : ℕ) → modes_of (replicate n no_cell) ≡ replicate n no_mode
+    modes-replicate zero = refl
+    modes-replicate (suc n) = ap (λ modes. no_mode ∷ modes) (modes-replicate n)
+
+-- the modes of one more row are three at most
+pub small-with_row : (cells : List Cell) → All (λ modes. modes.0 < 8) (modes_of cells) → All (λ modes. modes.0 < 8) (modes_of (with_row cells))
+small-with_row cells small =
+    subst (All (λ modes. modes.0 < 8)) (sym (modes-with_row cells)) (All-append (λ modes. modes.0 < 8) (modes_of cells) (replicate 1024 no_mode) small (All-replicate (λ modes. modes.0 < 8) 1024 no_mode (omega arith)))
+
+-- one more row adds no triple
+pub matrix-with_row : (cells mended : List Cell) → modes_of mended ≡ modes_of (with_row cells) → matrix_of (modes_of mended) ≡ matrix_of (modes_of cells)
+matrix-with_row cells mended same = ap matrix_of (same ∙ modes-with_row cells) ∙ matrix_from-more 0 1024 (modes_of cells)
+
+-- cells that were filled up by one more row
+pub resized-row : (old new : List Cell) (ok : Bool) (n count : ℕ) (value : Cell) → new ≡ (if ok then take n old ++ replicate (n - count) value else old) → ok ≡ true → count ≡ length old → n ≡ count + 1024 → value ≡ no_cell
+    → new ≡ with_row old
+resized-row old new ok n count value e done at more blank =
+    let whole : length old ≤ n = omega (arith, at, more) in
+    let row : n - count ≡ 1024 = omega (arith, more) in
+    e
+    ∙ ap (λ b. if b then take n old ++ replicate (n - count) value else old) done
+    ∙ ap (λ xs. xs ++ replicate (n - count) value) (take_all n old whole)
+    ∙ ap (λ k. old ++ replicate k value) row
+    ∙ ap (λ v. old ++ replicate 1024 v) blank
+
+-- the policy then has one more subject
+pub policy_of-subject : (p q : Inside) (new : Subject) → q.subjects.items ≡ p.subjects.items ++ new ∷ [] → q.documents.items ≡ p.documents.items → modes_of q.cells.items ≡ modes_of (with_row p.cells.items)
+    → policy_of q ≡ with_subject (policy_of p) (clearance_from new)
+policy_of-subject p q new more stay same =
+    λ i. record { subjects = (ap (map clearance_from) more ∙ map-append clearance_from p.subjects.items (new ∷ [])) i; documents = stay i; matrix = matrix-with_row p.cells.items q.cells.items same i }
+
+-- one more subject is there, and its row is mended
+pub IsSound-subject : (p q : Inside) (new : Subject) (mended : List Cell) → IsSound p → Mends p q (with_row p.cells.items) mended → q.subjects.items ≡ p.subjects.items ++ new ∷ [] → q.documents.items ≡ p.documents.items
+    → length p.subjects.items < 256 → Dominates new.greatest new.current → HasMendedRow (length p.cells.items) (clearance_from new) p.documents.items (with_row p.cells.items) mended → IsSound q
+IsSound-subject p q new mended sound mends more stay room below has =
+    let old = map clearance_from p.subjects.items in
+    let many : length old ≡ length p.subjects.items = length-map p.subjects.items clearance_from in
+    let clearances : map clearance_from q.subjects.items ≡ old ++ clearance_from new ∷ [] = ap (map clearance_from) more ∙ map-append clearance_from p.subjects.items (new ∷ []) in
+    let count : length (with_row p.cells.items) ≡ length q.subjects.items * 1024 = omega (arith, length-append p.cells.items (replicate 1024 no_cell), length-replicate 1024 no_cell, sound.cell_count, ap length more, length_push p.subjects.items new) in
+    let rows : length p.cells.items ≡ length old * 1024 = sound.cell_count ∙ ap (λ n. n * 1024) (sym many) in
+    sound-mended p q (with_row p.cells.items) mended sound mends (omega (arith, ap length more, length_push p.subjects.items new, room)) (omega (arith, ap length stay, sound.document_limit)) count
+    (subst (All (λ (s : Subject). Dominates s.greatest s.current)) (sym more) (All-push (λ (s : Subject). Dominates s.greatest s.current) p.subjects.items new sound.dominated below))
+    (subst (λ (cs : List Clearance). HaveFirstFailed cs q.documents.items mended) (sym clearances)
+    (subst (λ (ls : List SecurityLevel). HaveFirstFailed (old ++ clearance_from new ∷ []) ls mended) (sym stay)
+    (first_failed-row old (old ++ clearance_from new ∷ []) p.documents.items (with_row p.cells.items) mended (length old) sound.document_limit (others-push nobody old (clearance_from new))
+    (subst (λ (c : Clearance). HasMendedRow (length old * 1024) c p.documents.items (with_row p.cells.items) mended) (sym (get_or_push old (clearance_from new) nobody (length old) refl))
+    (subst (λ (k : ℕ). HasMendedRow k (clearance_from new) p.documents.items (with_row p.cells.items) mended) rows has))
+    (first_failed-append old p.documents.items p.cells.items (replicate 1024 no_cell) sound.document_limit rows sound.first_failed))))
 
 -- a subject of which another current level is kept
 pub record Moves (p : Inside) (s place : ℕ) (old : Subject) (level : SecurityLevel) (new : Subject) : Type 0 where
@@ -135,14 +274,14 @@ pub record Moves (p : Inside) (s place : ℕ) (old : Subject) (level : SecurityL
   pub is : clearance_from new ≡ record (clearance_from old) { current = level }
 
 -- the policy then has that current level
-pub policy_of-moved : (p : Inside) (s place : ℕ) (old : Subject) (level : SecurityLevel) (new : Subject) → Moves p s place old level new
-    → policy_of (record { subjects = with_item p.subjects place new; documents = p.documents; cells = p.cells }) ≡ with_current (policy_of p) s level
-policy_of-moved p s place old level new moves =
+pub policy_of-moved : (p q : Inside) (s place : ℕ) (old : Subject) (level : SecurityLevel) (new : Subject) → Moves p s place old level new
+    → q.subjects.items ≡ set p.subjects.items place new → q.documents.items ≡ p.documents.items → modes_of q.cells.items ≡ modes_of p.cells.items → policy_of q ≡ with_current (policy_of p) s level
+policy_of-moved p q s place old level new moves moved stay same =
     let had : clearance_from old ≡ clearance_of (policy_of p) s = clearance-read p s place old moves.known moves.at moves.was in
     let changed : set (map clearance_from p.subjects.items) place (clearance_from new) ≡ set (map clearance_from p.subjects.items) s (record (clearance_of (policy_of p) s) { current = level }) =
     ap (λ k. set (map clearance_from p.subjects.items) k (clearance_from new)) moves.at
     ∙ ap (λ c. set (map clearance_from p.subjects.items) s c) (moves.is ∙ ap (λ (c : Clearance). record c { current = level }) had) in
-    λ i. record { subjects = (map-set clearance_from p.subjects.items place new ∙ changed) i; documents = p.documents.items; matrix = (policy_of p).matrix }
+    λ i. record { subjects = (ap (map clearance_from) moved ∙ map-set clearance_from p.subjects.items place new ∙ changed) i; documents = stay i; matrix = matrix_of (same i) }
 
 -- each greatest level dominates the current one
 pub below-of_sound : (p : Inside) → IsSound p → CurrentBelowGreatest (policy_of p)

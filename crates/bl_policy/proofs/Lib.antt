@@ -1,6 +1,7 @@
 pub mod Triples
 pub mod CellLemmas
 pub mod ModeLemmas
+pub mod FirstFailed
 pub mod FieldLemmas
 pub mod Decisions
 pub mod Rows

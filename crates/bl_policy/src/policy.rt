@@ -1,22 +1,21 @@
 // The policy (Bell and La Padula 1976): a greatest and a current level for each subject, a level for each document,
 // the trusted subjects, the administrators, and the matrix; and what it decides.
 //
-// All memory is taken when a policy is made, for the most subjects and documents that there may be. The
-// matrix is kept as one row of cells after another, so a decision reads one cell.
+// All memory is taken when a policy is made, for the most subjects and documents that there may be. A row of cells, one
+// for each document that there may be, stands for each subject that is there, and a decision reads one cell for each access.
 ghost use Rattle.std.specs.Prelude.{◌≡◌, ◌==◌, ◌&&◌, ◌||◌, ◌≢◌, ℕ, ◌+◌, ◌*◌, ◌<◌, ◌≤◌, ◌↔◌, All, length, vec_capacity, IfOk, OnOk, OnErr, IfNone, IsTrue};
 ghost use Rattle.bl_level.specs.Level.{Dominates};
-ghost use Rattle.bl_policy.specs.Cells.{matrix_of};
 ghost use Rattle.bl_policy.specs.Limits.{most_subjects, most_documents};
-ghost use Rattle.bl_policy.specs.Matrix.{no_triple};
 ghost use Rattle.bl_policy.specs.Mode.{has_mode};
 ghost use Rattle.bl_policy.specs.declared.access.Mode.{Mode};
-ghost use Rattle.bl_policy.specs.Properties.{observes, Observes, flows, Flows, is_simple, Simple, is_star, Star, is_discretionary, Discretionary, IsSecure};
+ghost use Rattle.bl_policy.specs.Properties.{IsSecure};
 ghost use Rattle.bl_policy.specs.FirstFault.{fault_of, first_fault};
 ghost use Rattle.bl_policy.specs.Policy.{no_policy, greatest_of, current_of, level_of, is_trusted, is_admin, allows, with_subject, with_document, with_modes};
 
-use crate::access::{Access, Mode, ModeSet};
-use crate::denial::{Clause, Denial};
+use crate::access::{Access, ModeSet};
+use crate::denial::Denial;
 use crate::id::{DocId, SubjectId};
+use crate::policy::cell::{Cell, mend_column, mend_row};
 use bitflags::Flags;
 use bl_level::level::Level;
 use std::alloc::{AllocError, Global};
@@ -27,6 +26,9 @@ pub const MOST_SUBJECTS: usize = 256;
 
 /// How many documents a policy has at most.
 pub const MOST_DOCUMENTS: usize = 1024;
+
+/// How many cells a policy has at most, of four bytes each.
+const MOST_CELLS: usize = MOST_SUBJECTS * MOST_DOCUMENTS;
 
 /// Why a subject or a document is not added.
 #[derive(Clone, Copy, PartialEq, Eq, Debug)]
@@ -51,7 +53,7 @@ struct Subject {
 pub struct Policy {
     subjects: Vec<Subject>,
     documents: Vec<Level>,
-    cells: Vec<ModeSet>,
+    cells: Vec<Cell>,
 }
 
 impl Model for Policy {
@@ -70,43 +72,11 @@ impl Model for Policy {
     ghost invariant = { IsSound };
 }
 
-/// Whether the greatest level dominates what an access observes.
-fn may_observe(greatest: &Level, level: &Level, mode: Mode) -> bool
-    ensures test { result ≡ observes greatest.now level.now mode }
-    ensures property { IsTrue result ↔ Observes greatest.now level.now mode }
-{
-    match mode {
-        Mode::Read | Mode::Write => greatest.dominates(level),
-        Mode::Append => true,
-    }
-}
-
-/// Whether an access keeps to the current level: it observes nothing from above and alters nothing below.
-fn may_flow(current: &Level, level: &Level, mode: Mode) -> bool
-    ensures test { result ≡ flows current.now level.now mode }
-    ensures property { IsTrue result ↔ Flows current.now level.now mode }
-{
-    match mode {
-        Mode::Read => current.dominates(level),
-        Mode::Append => level.dominates(current),
-        Mode::Write => *current == *level,
-    }
-}
-
 /// The place of a cell among all of them.
 fn cell_place(subject: SubjectId, doc: DocId) -> usize
     ensures { result ≡ subject * most_documents + doc }
 {
     subject.position() as usize * MOST_DOCUMENTS + doc.position() as usize
-}
-
-/// Cells with no mode.
-fn empty_cells(alloc: Global, count: usize) -> Result<Vec<ModeSet>, AllocError>
-    ensures len { IfOk result (λ cells. length cells.items ≡ count) }
-    ensures empty { IfOk result (λ cells. matrix_of cells.items ≡ no_triple) }
-    ensures modes_only { IfOk result (λ cells. All (λ cell. cell.0 < 8) cells.items) }
-{
-    vec![in alloc; ModeSet::empty(); count]
 }
 
 /// These items, with room for more.
@@ -128,7 +98,7 @@ impl Policy {
         Ok(Policy {
             subjects: Vec::with_capacity(alloc, MOST_SUBJECTS)?,
             documents: Vec::with_capacity(alloc, MOST_DOCUMENTS)?,
-            cells: empty_cells(alloc, MOST_SUBJECTS * MOST_DOCUMENTS)?,
+            cells: Vec::with_capacity(alloc, MOST_CELLS)?,
         })
     }
 
@@ -140,7 +110,7 @@ impl Policy {
         Ok(Policy {
             subjects: with_room(alloc, MOST_SUBJECTS, &self.subjects)?,
             documents: with_room(alloc, MOST_DOCUMENTS, &self.documents)?,
-            cells: Vec::from_slice(alloc, &self.cells)?,
+            cells: with_room(alloc, MOST_CELLS, &self.cells)?,
         })
     }
 
@@ -166,13 +136,19 @@ impl Policy {
         if !greatest.dominates(&current) {
             return Err(AddFault::CurrentAboveGreatest);
         }
-        let position = self.subjects.len() as u16;
-        self.subjects.push_reserved(Subject {
+        let subject = Subject {
             greatest,
             current,
             trusted,
             admin,
-        });
+        };
+        let position = self.subjects.len() as u16;
+        let first = self.cells.len();
+        self.cells
+            .resize(first + MOST_DOCUMENTS, Cell::empty())
+            .unwrap();
+        mend_row(&mut self.cells, first, &subject, &self.documents);
+        self.subjects.push_reserved(subject);
         Ok(SubjectId::new(position))
     }
 
@@ -187,9 +163,10 @@ impl Policy {
         if self.documents.len() == MOST_DOCUMENTS {
             return Err(AddFault::TooMany);
         }
-        let position = self.documents.len() as u16;
+        let position = self.documents.len();
+        mend_column(&mut self.cells, position, &self.subjects, &level);
         self.documents.push_reserved(level);
-        Ok(DocId::new(position))
+        Ok(DocId::new(position as u16))
     }
 
     /// Adds modes to those in which the subject may use the document. Bits that are no mode add nothing.
@@ -202,41 +179,9 @@ impl Policy {
     {
         let place = cell_place(subject, doc);
         let added = modes.intersection(ModeSet::all());
-        self.cells[place].insert(added);
-    }
-
-    /// Whether the access has the simple-security property.
-    fn is_simple(&self, subject: SubjectId, access: &Access) -> bool
-        requires known { subject < length self.now.subjects }
-        requires there { access.now.doc < length self.now.documents }
-        ensures test { result ≡ is_simple self.now subject access.now.doc access.now.mode }
-        ensures property { IsTrue result ↔ Simple self.now subject access.now.doc access.now.mode }
-    {
-        let clearance = &self.subjects[subject.position() as usize];
-        let level = &self.documents[access.doc.position() as usize];
-        may_observe(&clearance.greatest, level, access.mode)
-    }
-
-    /// Whether the access has the star property.
-    fn is_star(&self, subject: SubjectId, access: &Access) -> bool
-        requires known { subject < length self.now.subjects }
-        requires there { access.now.doc < length self.now.documents }
-        ensures test { result ≡ is_star self.now subject access.now.doc access.now.mode }
-        ensures property { IsTrue result ↔ Star self.now subject access.now.doc access.now.mode }
-    {
-        let clearance = &self.subjects[subject.position() as usize];
-        let level = &self.documents[access.doc.position() as usize];
-        clearance.trusted || may_flow(&clearance.current, level, access.mode)
-    }
-
-    /// Whether the access has the discretionary property.
-    fn is_discretionary(&self, subject: SubjectId, access: &Access) -> bool
-        requires known { subject < length self.now.subjects }
-        requires there { access.now.doc < length self.now.documents }
-        ensures { result ≡ is_discretionary self.now subject access.now.doc access.now.mode }
-    {
-        self.cell(subject, access.doc)
-            .contains(ModeSet::from(access.mode))
+        let modes = self.cells[place].modes.union(added);
+        let level = &self.documents[doc.position() as usize];
+        self.cells[place] = self.subjects[subject.position() as usize].cell(level, modes);
     }
 
     /// What the access fails first: simple security, then the star property, then the discretionary one.
@@ -246,17 +191,9 @@ impl Policy {
         ensures first { result ≡ fault_of self.now subject access.now }
         ensures secure { IfNone result (IsSecure self.now subject access.now.doc access.now.mode) }
     {
-        let clause = if !self.is_simple(subject, access) {
-            Clause::Simple
-        } else if !self.is_star(subject, access) {
-            Clause::Star
-        } else if !self.is_discretionary(subject, access) {
-            Clause::Discretionary
-        } else {
-            return None;
-        };
+        let failed = self.cells[cell_place(subject, access.doc)].failed(access.mode);
         Some(Denial {
-            clause,
+            clause: failed.clause()?,
             subject,
             object: Some(access.doc),
         })
@@ -329,7 +266,7 @@ impl Policy {
         ensures modes { (mode : Mode) → has_mode result mode ≡ allows self.now subject doc mode }
         ensures modes_only { result.0 < 8 }
     {
-        self.cells[cell_place(subject, doc)]
+        self.cells[cell_place(subject, doc)].modes
     }
 
     /// How many subjects there are.
@@ -350,3 +287,4 @@ impl Policy {
 }
 
 mod apply;
+mod cell;

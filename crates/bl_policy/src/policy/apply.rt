@@ -1,14 +1,16 @@
 // What a rule makes of the policy (Bell and La Padula 1976, rules).
 //
-// A rule writes one place: a cell of the matrix, a current level, or the level of a document.
+// A rule writes one place: a cell of the matrix, a current level, or the level of a document. Then it mends the cells that
+// this touches: that cell, the row of the speaker, or the column of the document.
 ghost use Rattle.std.specs.Prelude.{◌≡◌, ◌<◌, length, IfNone, OnSome};
 ghost use Rattle.bl_level.specs.Level.{Dominates};
 ghost use Rattle.bl_policy.specs.Matrix.{triple};
-ghost use Rattle.bl_policy.specs.Fields.{clearance_from};
+ghost use Rattle.bl_policy.specs.Cells.{clearance_from};
 ghost use Rattle.bl_policy.specs.Policy.{clearance_of, greatest_of, without_triple, with_current, with_level, CurrentBelowGreatest};
 ghost use Rattle.bl_policy.specs.RuleEffect.{IsRuleOf, Permits, failed_condition, rule_fault, rule_makes, after_rule};
 
-use super::{Policy, Subject, cell_place};
+use super::cell::{mend_column, mend_row};
+use super::{MOST_DOCUMENTS, Policy, Subject, cell_place};
 use crate::access::{Mode, ModeSet};
 use crate::denial::{Clause, Denial};
 use crate::id::{DocId, SubjectId};
@@ -84,7 +86,10 @@ impl Policy {
         requires there { doc < length self.old.documents }
         ensures { self.new ≡ without_triple self.old (triple subject doc mode) }
     {
-        self.cells[cell_place(subject, doc)].remove(ModeSet::from(mode));
+        let place = cell_place(subject, doc);
+        let modes = self.cells[place].modes.difference(ModeSet::from(mode));
+        let level = &self.documents[doc.position() as usize];
+        self.cells[place] = self.subjects[subject.position() as usize].cell(level, modes);
     }
 
     /// Gives a subject a current level, which its greatest level has to dominate.
@@ -93,7 +98,14 @@ impl Policy {
         requires below { Dominates (greatest_of self.old subject) level }
         ensures { self.new ≡ with_current self.old subject level }
     {
-        self.subjects[subject.position() as usize].current = level;
+        let row = subject.position() as usize;
+        let moved = Subject {
+            current: level,
+            ..self.subjects[row]
+        };
+        let first = row * MOST_DOCUMENTS;
+        mend_row(&mut self.cells, first, &moved, &self.documents);
+        self.subjects[row] = moved;
     }
 
     /// Gives a document a level.
@@ -101,6 +113,8 @@ impl Policy {
         requires { doc < length self.old.documents }
         ensures { self.new ≡ with_level self.old doc level }
     {
-        self.documents[doc.position() as usize] = level;
+        let column = doc.position() as usize;
+        mend_column(&mut self.cells, column, &self.subjects, &level);
+        self.documents[column] = level;
     }
 }

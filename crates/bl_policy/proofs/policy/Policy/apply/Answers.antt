@@ -1,7 +1,7 @@
 use Rattle.std.proofs.Common.{◌≡◌, ◌<◌, ◌∙◌, length, sym, ap, subst, Option}
 use Rattle.std.specs.Prelude.{IfNone}
 use Rattle.bl_policy.specs.declared.denial.Clause.{Clause}
-use Rattle.bl_policy.specs.Fields.{clearance_from}
+use Rattle.bl_policy.specs.Cells.{clearance_from}
 use Rattle.bl_policy.specs.Policy.{SecurityPolicy, Clearance, clearance_of, CurrentBelowGreatest}
 use Rattle.bl_policy.specs.RuleEffect.{Permits}
 use Rattle.bl_policy.proofs.FieldLemmas.{clearance-read, below-of_sound}
