@@ -10,6 +10,7 @@ use Rattle.bl_wire.specs.Reads.{TookLine, BrokeOff, ended, IsReadingFault}
 use Rattle.bl_wire.specs.declared.held.Held.{Held}
 use Rattle.bl_wire.specs.declared.lines.Next.{Next}
 use Rattle.bl_wire.specs.declared.lines.Next.TheVariants.{Whole, Last, End}
+use Rattle.bl_wire.specs.Faults.{is_write}
 use Rattle.bl_wire.specs.declared.fault.SessionFault.{SessionFault}
 use Rattle.bl_wire.specs.declared.fault.SessionFault.TheVariants.{Read, Write, TooLong, Memory, Clash}
 use Rattle.bl_wire.specs.declared.turn.Turn.{Turn}
@@ -138,7 +139,7 @@ module _ (names : KnownNames) (start r r' : Option (List ℕ)) (was left : ℕ) 
   }
 
   -- reading stopped within a line
-  pub broken_reading : (fault : SessionFault) (read_failed write_failed : Bool) → write_failed ≡ false → BrokeOff fault r r' read_failed was left → Broken fault names start r' read_failed write_failed turns
+  pub broken_reading : (fault : SessionFault) (read_failed write_failed : Bool) → write_failed ≡ is_write fault → BrokeOff fault r r' read_failed was left → Broken fault names start r' read_failed write_failed turns
   broken_reading fault read_failed write_failed fine off = record {
     bytes = so_far.bytes;
     part = off.part;
@@ -147,18 +148,18 @@ module _ (names : KnownNames) (start r r' : Option (List ℕ)) (was left : ℕ) 
     lines = inl (whole_lines so_far.bytes so_far.lines so_far.cut);
     dropped = inl off.plain;
     are = now_are true names start r was turns so_far;
-    why = why fault (reading_on fault start r r' read_failed left so_far.bytes so_far.took off.why);
+    why = why fault fine (reading_on fault start r r' read_failed left so_far.bytes so_far.took off.why);
   }
     where
       taken : left ≡ 0 → length (so_far.bytes ++ off.part) ≡ 16777216
       taken none = omega (arith, none, so_far.count, off.count, length-append so_far.bytes off.part)
 
-      why : (fault : SessionFault) → IsReadingFault fault start r' read_failed left → IsCause fault start r' read_failed write_failed (length (so_far.bytes ++ off.part))
-      why Read reason = (reason, fine)
-      why TooLong reason = (reason.0, fine, taken reason.1, reason.2)
-      why Write reason = absurd reason
-      why Memory reason = absurd reason
-      why Clash reason = absurd reason
+      why : (fault : SessionFault) → write_failed ≡ is_write fault → IsReadingFault fault start r' read_failed left → IsCause fault start r' read_failed write_failed (length (so_far.bytes ++ off.part))
+      why Read mark reason = (reason, mark)
+      why TooLong mark reason = (reason.0, mark, taken reason.1, reason.2)
+      why Write mark reason = (reason, mark)
+      why Memory mark reason = absurd reason
+      why Clash mark reason = absurd reason
 
   -- memory was refused when a line was to be understood
   pub broken_memory : (held : Held) (next : Next) (read_failed write_failed : Bool) → read_failed ≡ false → write_failed ≡ false → TookLine next r r' held was left → Broken Memory names start r' read_failed write_failed turns

@@ -1,7 +1,7 @@
 -- How a session goes on, from its first byte.
 use Rattle.std.proofs.Common.{◌≡◌, ℕ, ◌+◌, ◌≤◌, Bool, true, false, ◌⊎◌, inl, inr, List, [], ◌∷◌, ◌++◌, length, refl, sym, ap, subst, ◌∙◌, append_assoc, append-nil, arith, Option, Some, None, OnSome, take, drop, take-append-drop, replicate}
-use Rattle.std.specs.Io.KnownBytes.{Appends, IsAtEnd}
-use Rattle.std.proofs.KnownBytes.{Appends-trans, Appends-nil}
+use Rattle.std.specs.Io.KnownBytes.{Appends, Keeps, IsAtEnd}
+use Rattle.std.proofs.KnownBytes.{Appends-trans, Appends-nil, Appends-kept}
 use Rattle.bl_work.specs.Names.{KnownNames}
 use Rattle.bl_wire.specs.Lines.{lines_of, AreLines}
 use Rattle.bl_wire.specs.declared.fault.SessionFault.{SessionFault}
@@ -346,6 +346,60 @@ module _ (names : KnownNames) (start r first w : Option (List ℕ)) (f : ℕ →
                   (blocks_of later st.subject st.head st.turns st.written st.opened (said f later Settled Came st.subject after pending st.turns st.written st.spoken (part.kept later kept)))
                   fault write_failed own (λ is. ap (λ n. take n (block_text g after pending ++ bye_line)) (failed.none is)) (inl st.read.cut.1));
             }
+
+-- what was written is handed on
+kept_append : (a b c : Option (List ℕ)) (text : List ℕ) → Keeps a b → Appends b c text → Appends a c text
+kept_append a b c text kept put = Appends-trans a b c [] text (Appends-kept a a b [] (Appends-nil a) kept) put
+
+pub stage_kept : (again : Bool) (names : KnownNames) (start r first w w' : Option (List ℕ)) (left : ℕ) (f : ℕ → List ℕ) (Settled : ℕ → Type 0) (Came : List Request → Type 0) (after : ℕ) (pending : List Pending)
+    → Keeps w w' → Stage again names start r first w left f Settled Came after pending → Stage again names start r first w' left f Settled Came after pending
+stage_kept again names start r first w w' left f Settled Came after pending kept st = record {
+  subject = st.subject;
+  head = st.head;
+  turns = st.turns;
+  written = st.written;
+  opened = st.opened;
+  read = st.read;
+  put = Appends-kept first w w' (ok_line ++ st.written) st.put kept;
+  spoken = st.spoken;
+}
+
+pub finished_kept : (names : KnownNames) (start r first w w' : Option (List ℕ)) (f : ℕ → List ℕ) (Settled : ℕ → Type 0) (Came : List Request → Type 0)
+    → Keeps first w → Finished names start r w w' f Settled Came → Finished names start r first w' f Settled Came
+finished_kept names start r first w w' f Settled Came kept s = record {
+  bytes = s.bytes;
+  turns = s.turns;
+  took = s.took;
+  within = s.within;
+  whole = s.whole;
+  stops = s.stops;
+  are = s.are;
+  put = kept_append first w w' (session_text f s.turns) kept s.put;
+  came = s.came;
+  upto = s.upto;
+  settled = s.settled;
+}
+
+pub stopped_kept : (fault : SessionFault) (names : KnownNames) (start r first w w' : Option (List ℕ)) (read_failed write_failed : Bool) (f : ℕ → List ℕ) (Settled : ℕ → Type 0) (Came : List Request → Type 0)
+    → Keeps first w → Stopped fault names start r w w' read_failed write_failed f Settled Came → Stopped fault names start r first w' read_failed write_failed f Settled Came
+stopped_kept fault names start r first w w' read_failed write_failed f Settled Came kept s = record {
+  turns = s.turns;
+  read = s.read;
+  stops = s.stops;
+  unread = s.unread;
+  written = s.written;
+  put = kept_append first w w' s.written kept s.put;
+  upto = s.upto;
+  settled = s.settled;
+  told = s.told;
+  came = s.came;
+  heard = s.heard;
+  heard_is = s.heard_is;
+  settles = s.settles;
+  told_is = s.told_is;
+  begins = s.begins;
+  closed = s.closed;
+}
 
 -- all lines were read
 pub stage_end : (b : Bool) (names : KnownNames) (start r first w : Option (List ℕ)) (left : ℕ) (f : ℕ → List ℕ) (Settled : ℕ → Type 0) (Came : List Request → Type 0) (after : ℕ) (pending : List Pending)

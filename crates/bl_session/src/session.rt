@@ -1,12 +1,13 @@
 //! The engine of a session: it reads lines, has them admitted and answered by the machine behind
-//! it, and writes the replies of a block at each `wait` and at the end of the input.
+//! it, and writes the replies of a block at each `wait` and at the end of the input. What was written is handed on before a read
+//! that may wait, and at the end.
 ghost use Rattle.std.specs.Prelude.{◌≡◌, take, ◌≤◌, ◌<◌, ◌+◌, ◌^◌, ◌++◌, ◌∷◌, [], ◌⊎◌, List, ℕ, Bool, true, false, Option, OnOk, OnErr, IfOk, IfErr, IfSome, OnSome, length};
-ghost use Rattle.std.specs.Io.KnownBytes.{Consumes, Appends, IsAtEnd};
+ghost use Rattle.std.specs.Io.KnownBytes.{Consumes, Appends, Keeps, IsAtEnd};
 ghost use Rattle.bl_wire.specs.declared.fault.SessionFault.TheVariants.{Write};
 ghost use Rattle.bl_wire.specs.Turns.{AreSkips, is_skip, IsServed, AreServed, StandsIn};
 ghost use Rattle.bl_wire.specs.declared.turn.Turn.{Turn};
 ghost use Rattle.bl_session.specs.Requests.{Request, Opens, Settles, SameUpTo};
-ghost use Rattle.bl_wire.specs.Texts.{ok_line};
+ghost use Rattle.bl_wire.specs.Texts.{ok_line, bye_line};
 ghost use Rattle.bl_session.specs.Spoken.{block_text, IsOwnFault, BlockFailed, TakesTurn, FailsTurn};
 ghost use Rattle.bl_session.specs.Stages.{Cutting, ReadsOn, IsNearer, Unheard, IsFirst, HeardFirst, Stage, Finished, Broken, Stopped};
 
@@ -16,7 +17,7 @@ use bl_policy::id::SubjectId;
 use bl_wire::fault::SessionFault;
 use bl_wire::held::Held;
 use bl_wire::lines::{Next, next_line};
-use bl_wire::put::put_out;
+use bl_wire::put::{put, put_out};
 use bl_wire::turn::{Pending, Turn, turn_held};
 use bl_wire::watched::Watched;
 use bl_work::names::Names;
@@ -58,7 +59,7 @@ fn end_block<B: Behind, W: Write>(
     ensures done { OnOk result (B.settled behind.now state.new talk.old.ordinal) }
     ensures came { OnOk result ((told : List Request) → B.came behind.now state.old told → B.came behind.now state.new (told ++ Settles ∷ [])) }
     ensures talk { OnOk result ((talk.new.ordinal ≡ talk.old.ordinal) × (talk.new.after ≡ talk.old.ordinal) × (talk.new.pending.items ≡ [])) }
-    ensures fine { OnOk result ((writer.new.failed ≡ false) × (writer.new.unflushed ≡ false)) }
+    ensures fine { OnOk result (writer.new.failed ≡ false) }
     ensures whole { OnOk result (B.whole behind.now state.new talk.new.after) }
 
     ensures fault { IfErr result (IsOwnFault writer.new.failed) }
@@ -68,12 +69,49 @@ fn end_block<B: Behind, W: Write>(
 {
     let mut block = behind.settle(state, talk.after, talk.ordinal)?;
     put_block(behind, state, &mut block, writer, talk.after, &talk.pending);
-    if !put_out(writer, closing) {
+    if !put(writer, closing) {
         return Err(SessionFault::Write);
     }
     talk.after = talk.ordinal;
     talk.pending.clear();
     Ok(())
+}
+
+/// Ends the last block with the closing words, and hands on all that was written.
+fn last_block<B: Behind, W: Write>(
+    behind: &B,
+    state: &mut B::State,
+    writer: &mut Watched<W>,
+    talk: &mut Talk,
+) -> Result<(), SessionFault>
+    requires writer { writer.old.failed ≡ false }
+    requires count { talk.old.ordinal ≡ talk.old.after + length talk.old.pending.items }
+    requires last { B.last behind.now state.old ≤ talk.old.ordinal }
+    requires settled { B.settled behind.now state.old talk.old.after }
+    requires whole { B.whole behind.now state.old talk.old.after }
+    ensures settled { (n : ℕ) → B.settled behind.now state.old n →
+        B.settled behind.now state.new n × SameUpTo n (B.replies behind.now state.old) (B.replies behind.now state.new) }
+
+    ensures text { OnOk result (Appends (W.contents writer.old.inner) (W.contents writer.new.inner)
+        (block_text (B.replies behind.now state.new) talk.old.after talk.old.pending.items ++ bye_line)) }
+    ensures done { OnOk result (B.settled behind.now state.new talk.old.ordinal) }
+    ensures came { OnOk result ((told : List Request) → B.came behind.now state.old told → B.came behind.now state.new (told ++ Settles ∷ [])) }
+    ensures fine { OnOk result ((writer.new.failed ≡ false) × (writer.new.unflushed ≡ false)) }
+
+    ensures fault { IfErr result (IsOwnFault writer.new.failed) }
+    ensures part { IfErr result (λ fault. BlockFailed fault (B.settled behind.now state.new) (W.contents writer.old.inner) (W.contents writer.new.inner)
+        talk.old.ordinal (block_text (B.replies behind.now state.new) talk.old.after talk.old.pending.items ++ bye_line)) }
+    ensures told { OnErr result ((told : List Request) → B.came behind.now state.old told → B.came behind.now state.new told ⊎ B.came behind.now state.new (told ++ Settles ∷ [])) }
+{
+    match end_block(behind, state, writer, talk, b"bye\n") {
+        Ok(()) => {}
+        Err(fault) => return Err(fault),
+    }
+    if writer.flush() {
+        Ok(())
+    } else {
+        Err(SessionFault::Write)
+    }
 }
 
 /// Keeps a line of the open block.
@@ -140,26 +178,31 @@ fn take_turn<B: Behind, W: Write>(
     }
 }
 
-/// Reads one line and what it is; none at the end of the input. Says whether there may be more.
-fn next_turn<R: BufRead>(
+/// Reads one line and what it is; none at the end of the input. Says whether there may be more. What was written is handed on
+/// before a read that may wait.
+fn next_turn<R: BufRead, W: Write>(
     alloc: Global,
     names: &Names,
     reader: &mut Watched<R>,
+    writer: &mut Watched<W>,
     held: &mut Held,
     left: &mut usize,
 ) -> Result<Option<(Turn, bool)>, SessionFault>
     requires reader { reader.old.failed ≡ false }
+    requires writer { writer.old.failed ≡ false }
     ensures ok { IfOk result (λ found. (start : Option (List ℕ)) (turns : List Turn) →
         Cutting true names.now start (R.remaining reader.old.inner) left.old turns →
         ReadsOn found names.now start (R.remaining reader.new.inner) left.new turns) }
     ensures said { IfOk result (λ found. IfSome found (λ f. StandsIn names.now f.0)) }
     ensures nearer { IfOk result (λ found. IsNearer found left.old left.new) }
-    ensures fine { OnOk result (reader.new.failed ≡ false) }
-    ensures err { IfErr result (λ fault. (start : Option (List ℕ)) (turns : List Turn) (write_failed : Bool) → write_failed ≡ false →
+    ensures fine { OnOk result ((reader.new.failed ≡ false) × (writer.new.failed ≡ false)) }
+    ensures written { Keeps (W.contents writer.old.inner) (W.contents writer.new.inner) }
+    ensures handed_on { reader.old.at_hand ≡ false → writer.new.failed ≡ false → writer.new.unflushed ≡ false }
+    ensures err { IfErr result (λ fault. (start : Option (List ℕ)) (turns : List Turn) →
         Cutting true names.now start (R.remaining reader.old.inner) left.old turns →
-        Broken fault names.now start (R.remaining reader.new.inner) reader.new.failed write_failed turns) }
+        Broken fault names.now start (R.remaining reader.new.inner) reader.new.failed writer.new.failed turns) }
 {
-    let next = match next_line(reader, held, left) {
+    let next = match next_line(reader, writer, held, left) {
         Ok(next) => next,
         Err(fault) => return Err(fault),
     };
@@ -209,7 +252,7 @@ fn one_line<R: BufRead, B: Behind, W: Write>(
         Stage true names.now start (R.remaining reader.old.inner) first (W.contents writer.old.inner) left.old (B.replies behind.now state.old) (B.settled behind.now state.old) (B.came behind.now state.old) talk.old.after talk.old.pending.items →
         Stopped fault names.now start (R.remaining reader.new.inner) first (W.contents writer.new.inner) reader.new.failed writer.new.failed (B.replies behind.now state.new) (B.settled behind.now state.new) (B.came behind.now state.new)) }
 {
-    let (turn, more) = match next_turn(alloc, names, reader, held, left) {
+    let (turn, more) = match next_turn(alloc, names, reader, writer, held, left) {
         Ok(Some(found)) => found,
         Ok(None) => return Ok(false),
         Err(fault) => return Err(fault),
@@ -222,26 +265,29 @@ fn one_line<R: BufRead, B: Behind, W: Write>(
 
 /// Reads up to the first line that isn't skipped, and what it is; none where there is no such
 /// line. Says whether more lines may come.
-fn first_turn<R: BufRead>(
+fn first_turn<R: BufRead, W: Write>(
     alloc: Global,
     names: &Names,
     reader: &mut Watched<R>,
+    writer: &mut Watched<W>,
     held: &mut Held,
     left: &mut usize,
 ) -> Result<Option<(Turn, bool)>, SessionFault>
     requires reader { reader.old.failed ≡ false }
+    requires writer { writer.old.failed ≡ false }
     ensures ok { IfOk result (λ found. (start : Option (List ℕ)) →
         Unheard true names.now start (R.remaining reader.old.inner) left.old →
         IsFirst found names.now start (R.remaining reader.new.inner) left.new) }
     ensures said { IfOk result (λ found. IfSome found (λ f. StandsIn names.now f.0)) }
     ensures fewer { OnOk result (left.new ≤ left.old) }
-    ensures fine { OnOk result (reader.new.failed ≡ false) }
-    ensures err { IfErr result (λ fault. (start : Option (List ℕ)) (write_failed : Bool) → write_failed ≡ false →
+    ensures fine { OnOk result ((reader.new.failed ≡ false) × (writer.new.failed ≡ false)) }
+    ensures written { Keeps (W.contents writer.old.inner) (W.contents writer.new.inner) }
+    ensures err { IfErr result (λ fault. (start : Option (List ℕ)) →
         Unheard true names.now start (R.remaining reader.old.inner) left.old →
-        (turns : List Turn) × AreSkips turns × Broken fault names.now start (R.remaining reader.new.inner) reader.new.failed write_failed turns) }
+        (turns : List Turn) × AreSkips turns × Broken fault names.now start (R.remaining reader.new.inner) reader.new.failed writer.new.failed turns) }
 {
     'lines: loop {
-        let (turn, more) = match next_turn(alloc, names, reader, held, left) {
+        let (turn, more) = match next_turn(alloc, names, reader, writer, held, left) {
             Ok(Some(found)) => found,
             Ok(None) => return Ok(None),
             Err(fault) => return Err(fault),
@@ -295,13 +341,13 @@ fn listen<R: BufRead, B: Behind, W: Write>(
             Err(fault) => return Err(fault),
         }
     }
-    match end_block(behind, state, writer, &mut talk, b"bye\n") {
+    match last_block(behind, state, writer, &mut talk) {
         Ok(()) => Ok(()),
         Err(fault) => Err(fault),
     }
 }
 
-/// Writes words.
+/// Writes the last words and hands them on.
 fn say<W: Write>(writer: &mut Watched<W>, words: &[u8]) -> Result<(), SessionFault>
     requires { writer.old.failed ≡ false }
     ensures ok { OnOk result (Appends (W.contents writer.old.inner) (W.contents writer.new.inner) words.now) }
@@ -343,9 +389,10 @@ fn greet<B: Behind, W: Write>(
         Ok(()) => {}
         Err(_) => return Err(SessionFault::Memory),
     }
-    match say(writer, b"ok\n") {
-        Ok(()) => Ok(()),
-        Err(fault) => Err(fault),
+    if put(writer, b"ok\n") {
+        Ok(())
+    } else {
+        Err(SessionFault::Write)
     }
 }
 
@@ -413,7 +460,7 @@ pub fn converse<R: BufRead, B: Behind, W: Write>(
         Err(_) => return Err(SessionFault::Memory),
     };
     let mut left = MOST;
-    match first_turn(alloc, names, reader, &mut held, &mut left) {
+    match first_turn(alloc, names, reader, writer, &mut held, &mut left) {
         Ok(Some((turn, more))) => answer_first(
             alloc, names, behind, state, reader, writer, &mut held, &mut left, turn, more,
         ),

@@ -1,4 +1,5 @@
-//! That replies are flushed before the next line is read, and a flush that fails.
+//! That replies are flushed before a read that may wait, that the replies to lines which come together are one write, and a flush
+//! that fails.
 use crate::base::base;
 use bl_session::alone::serve_alone;
 use bl_wire::fault::SessionFault;
@@ -6,7 +7,7 @@ use bl_wire::watched::Watched;
 use std::alloc::Global;
 use std::cell::Cell;
 use std::io;
-use std::io::{BufReader, Read, Write};
+use std::io::{BufReader, BufWriter, Read, Write};
 use std::process::Abort;
 use std::test::Fail;
 
@@ -24,30 +25,41 @@ const OUTPUT: &[u8] = b"ok\n1 done \"m1\"\nok\nok\nbye\n";
 /// How many bytes of it each of its replies ends behind.
 const ENDS: [usize; 4] = [3, 18, 21, 25];
 
-/// Gives one line at a time, and notes before each how many bytes were flushed.
+/// The same session, all of whose lines come together.
+const TOGETHER: [&str; 1] = ["hello ann\nwhen read memo do show memo; end\nwait\nwait\n"];
+
+/// The same session, in two pieces, of which the first ends within the last line.
+const HALVES: [&str; 2] = [
+    "hello ann\nwhen read memo do show memo; end\nwait\nwa",
+    "it\n",
+];
+
+/// Gives one piece at a time, and notes before each how many bytes were flushed.
 #[derive(Drop)]
-struct LineByLine<'a> {
+struct PieceByPiece<'a> {
+    pieces: &'a [&'a str],
     at: usize,
     flushed: &'a Cell<usize>,
     seen: Vec<usize>,
 }
 
-impl Read for LineByLine<'_> {
+impl Read for PieceByPiece<'_> {
     fn read(&mut self, buf: &mut [u8]) -> io::Result<usize> {
         self.seen.push(self.flushed.get())?;
-        if self.at >= LINES.len() {
+        if self.at >= self.pieces.len() {
             return Ok(0);
         }
-        let mut line = LINES[self.at].as_bytes();
+        let mut piece = self.pieces[self.at].as_bytes();
         self.at += 1;
-        line.read(buf)
+        piece.read(buf)
     }
 }
 
-/// A writer whose bytes are seen once they are flushed. The flush before which `left` others are done fails.
+/// A writer whose bytes are seen once they are flushed. The flush before which `left` others are done fails. It counts its writes.
 #[derive(Drop)]
 struct SeenOnceFlushed<'a> {
     written: Vec<u8>,
+    writes: &'a Cell<usize>,
     flushed: &'a Cell<usize>,
     left: Option<usize>,
 }
@@ -55,6 +67,7 @@ struct SeenOnceFlushed<'a> {
 impl Write for SeenOnceFlushed<'_> {
     fn write(&mut self, buf: &[u8]) -> io::Result<usize> {
         self.written.extend_from_slice(buf)?;
+        self.writes.set(self.writes.get() + 1);
         Ok(buf.len())
     }
 
@@ -79,16 +92,19 @@ struct Ended {
     flushed: usize,
 }
 
-/// Serves the session with this flush failing.
-fn serve_seen(alloc: Global, left: Option<usize>) -> Result<Ended, Fail> {
+/// Serves the session that comes in these pieces, with this flush failing.
+fn serve_seen(alloc: Global, pieces: &[&str], left: Option<usize>) -> Result<Ended, Fail> {
     let flushed = Cell::new(0);
-    let input = LineByLine {
+    let writes = Cell::new(0);
+    let input = PieceByPiece {
+        pieces,
         at: 0,
         flushed: &flushed,
         seen: Vec::new(alloc),
     };
     let output = SeenOnceFlushed {
         written: Vec::new(alloc),
+        writes: &writes,
         flushed: &flushed,
         left,
     };
@@ -105,18 +121,56 @@ fn serve_seen(alloc: Global, left: Option<usize>) -> Result<Ended, Fail> {
     })
 }
 
-/// Asserts that the session came to its end, and that before each read what was written was flushed.
-fn assert_seen<R: Abort>(rt: &R, ended: &Ended) {
+/// Asserts that the session came to its end, and that before each read so many bytes were flushed.
+fn assert_seen<R: Abort>(rt: &R, ended: &Ended, seen: &[usize]) {
     assert!(rt; ended.result == Ok(()));
     assert!(rt; ended.written.as_slice() == OUTPUT);
-    assert!(rt; ended.seen.as_slice() == [0, 3, 3, 18, 21].as_slice());
+    assert!(rt; ended.seen.as_slice() == seen);
     assert_eq!(rt; ended.flushed, 25);
 }
 
 /// Each `ok` is seen before the next line is read, and `bye` at the end.
 #[test]
 fn replies_are_seen_before_the_next_line(rt: HostRuntime) -> Result<(), Fail> {
-    assert_seen(&rt, &serve_seen(rt.alloc(), None)?);
+    let ended = serve_seen(rt.alloc(), LINES.as_slice(), None)?;
+    assert_seen(&rt, &ended, [0, 3, 3, 18, 21].as_slice());
+    Ok(())
+}
+
+/// The replies to lines that come together are flushed once, before the next read.
+#[test]
+fn a_batch_is_flushed_once(rt: HostRuntime) -> Result<(), Fail> {
+    let ended = serve_seen(rt.alloc(), TOGETHER.as_slice(), None)?;
+    assert_seen(&rt, &ended, [0, 21].as_slice());
+    Ok(())
+}
+
+/// No reply stays back behind half a line.
+#[test]
+fn replies_are_seen_before_the_rest_of_a_line(rt: HostRuntime) -> Result<(), Fail> {
+    let ended = serve_seen(rt.alloc(), HALVES.as_slice(), None)?;
+    assert_seen(&rt, &ended, [0, 18, 21].as_slice());
+    Ok(())
+}
+
+/// Through a writer's buffer the replies to lines that come together are one write, and so is `bye`.
+#[test]
+fn a_batch_is_one_write(rt: HostRuntime) -> Result<(), Fail> {
+    let alloc = rt.alloc();
+    let flushed = Cell::new(0);
+    let writes = Cell::new(0);
+    let output = SeenOnceFlushed {
+        written: Vec::new(alloc),
+        writes: &writes,
+        flushed: &flushed,
+        left: None,
+    };
+    let mut reader = Watched::new(TOGETHER[0].as_bytes());
+    let mut writer = Watched::new(BufWriter::new(alloc, output)?);
+    let result = serve_alone(alloc, base(alloc)?, 10_000, &mut reader, &mut writer);
+    assert!(rt; result == Ok(()));
+    assert_eq!(rt; flushed.get(), 25);
+    assert_eq!(rt; writes.get(), 2);
     Ok(())
 }
 
@@ -131,8 +185,12 @@ fn assert_cut<R: Abort>(rt: &R, ended: &Ended, written: &[u8]) {
 #[test]
 fn flush_each_fails(rt: HostRuntime) -> Result<(), Fail> {
     for k in 0..ENDS.len() {
-        assert_cut(&rt, &serve_seen(rt.alloc(), Some(k))?, &OUTPUT[..ENDS[k]]);
+        assert_cut(
+            &rt,
+            &serve_seen(rt.alloc(), LINES.as_slice(), Some(k))?,
+            &OUTPUT[..ENDS[k]],
+        );
     }
-    assert!(rt; serve_seen(rt.alloc(), Some(ENDS.len()))?.result == Ok(()));
+    assert!(rt; serve_seen(rt.alloc(), LINES.as_slice(), Some(ENDS.len()))?.result == Ok(()));
     Ok(())
 }

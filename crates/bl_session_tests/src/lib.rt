@@ -11,7 +11,7 @@
 //!     blocks       the replies of each block
 //!     limits       long input
 //!     ends         readers and writers that fail
-//!     flushes      that replies are flushed before the next line is read
+//!     flushes      that replies are flushed before a read that may wait, and together
 #![tactic(auto)]
 
 #[cfg(test)]

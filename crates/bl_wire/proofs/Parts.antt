@@ -37,7 +37,7 @@ more_on (Some xs) (Some ys) c bs moved e = e
 pub reading_on : (fault : SessionFault) (a b c : Option (List ℕ)) (failed : Bool) (left : ℕ) (bs : List ℕ) → Consumes a b bs → IsReadingFault fault b c failed left → IsReadingFault fault a c failed left
 reading_on Read a b c failed left bs moved why = why
 reading_on TooLong a b c failed left bs moved why = (why.0, why.1, more_on a b c bs moved why.2)
-reading_on Write a b c failed left bs moved why = absurd why
+reading_on Write a b c failed left bs moved why = why
 reading_on Memory a b c failed left bs moved why = absurd why
 reading_on Clash a b c failed left bs moved why = absurd why
 
@@ -99,6 +99,12 @@ broke_off a b c held begun start was left so_far fault failed keeping = record {
   count = ap (λ n. n + length so_far.line) keeping.same ∙ so_far.count;
   why = reading_on fault a b c failed left so_far.line so_far.bytes keeping.why;
 }
+
+-- What was written is handed on: in the first part of a line where nothing was at hand, and in a later one as it was before.
+pub handed : (begun at_hand initial was now : Bool) → (begun ≡ true → initial ≡ false → was ≡ false) → (begun ≡ false → at_hand ≡ initial)
+    → (at_hand ≡ false → now ≡ false) → (was ≡ false → now ≡ false) → initial ≡ false → now ≡ false
+handed true at_hand initial was now first same asked still none = still (first refl none)
+handed false at_hand initial was now first same asked still none = asked (same refl ∙ none)
 
 -- the first n of a list, of which the first n are kept
 pub take-front : (n : ℕ) (l p : List ℕ) → take n (take n l ++ p) ≡ take n (l ++ p)

@@ -36,11 +36,12 @@ abbrev pub HasMore : Option (List ℕ) → Type 0
 HasMore None = ⊤
 HasMore (Some bytes) = 0 < length bytes
 
--- reading stopped because the reader failed, or because no byte may be taken and another one is there of a reader that has not
+-- Reading stopped because the reader failed, or because no byte may be taken and another one is there of a reader that has not, or
+-- because what was written could not be handed on before.
 abbrev pub IsReadingFault : SessionFault → Option (List ℕ) → Option (List ℕ) → Bool → ℕ → Type 0
 IsReadingFault Read before after failed left = failed ≡ true
 IsReadingFault TooLong before after failed left = (failed ≡ false) × (left ≡ 0) × OnSome before (HasMore after)
-IsReadingFault Write before after failed left = ⊥
+IsReadingFault Write before after failed left = failed ≡ false
 IsReadingFault Memory before after failed left = ⊥
 IsReadingFault Clash before after failed left = ⊥
 

@@ -6,16 +6,18 @@ use Rattle.std.specs.Result.{result_ok}
 use Rattle.std.specs.Borrow.{Bor}
 use Rattle.std.specs.Io.KnownBytes.{Appends}
 
--- a reader or a writer, whether a call of it failed, and whether something was written to it that was not handed on
+-- a reader or a writer, whether a call of it failed, whether something was written to it that was not handed on, and whether it
+-- showed more bytes than were taken
 pub record Watch (T : Type 0) : Type 0 where
   pub inner : T
   pub failed : Bool
   pub unflushed : Bool
+  pub at_hand : Bool
 
 abbrev pub watch_code : {T : Type 0} → Coded T → Coded (Watch T)
 watch_code {T} code =
-    code_by (T × (Bool × Bool)) (coded× code (coded× coded_bool coded_bool)) (λ w. (w.inner, (w.failed, w.unflushed)))
-    (λ p. record { inner = p.0; failed = p.1.0; unflushed = p.1.1 }) (λ _. refl)
+    code_by (T × (Bool × (Bool × Bool))) (coded× code (coded× coded_bool (coded× coded_bool coded_bool))) (λ w. (w.inner, (w.failed, (w.unflushed, w.at_hand))))
+    (λ p. record { inner = p.0; failed = p.1.0; unflushed = p.1.1.0; at_hand = p.1.1.1 }) (λ _. refl)
 
 -- what was done to an end: what is known of its bytes before and after, and whether a call of it failed
 pub record Use : Type 0 where

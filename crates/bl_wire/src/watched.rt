@@ -4,22 +4,24 @@
 ghost use Rattle.std.specs.Prelude.{◌≡◌, ◌==◌, ◌≤◌, ◌<◌, nat_lt, false, not, ◌||◌, ◌&&◌, IfOk, IfErr, OnOk, length, take};
 ghost use Rattle.std.specs.Io.KnownBytes.{Keeps, Appends};
 ghost use Rattle.bl_wire.specs.Asked.{IsAsked};
+ghost use Rattle.bl_wire.specs.Faults.{is_write};
 ghost use Rattle.bl_wire.specs.Reads.{TookPart, Keeping};
 
 use crate::ends::{Source, Target};
 use crate::fault::SessionFault;
 use crate::held::Held;
-use crate::part::{Part, take_shown};
+use crate::part::{Taken, take_shown};
 use std::marker::Model;
 
-/// A reader or a writer, whether a call of it failed, and whether something was written to it
-/// that was not handed on. Any error counts, `Interrupted` too. An end that failed isn't called
+/// A reader or a writer, whether a call of it failed, whether something was written to it
+/// that was not handed on, and whether it showed more bytes than were taken. Any error counts, `Interrupted` too. An end that failed isn't called
 /// again.
 #[derive(Drop)]
 pub struct Watched<T> {
     inner: T,
     failed: bool,
     unflushed: bool,
+    at_hand: bool,
 }
 
 impl<T> Model for Watched<T> {
@@ -29,18 +31,19 @@ impl<T> Model for Watched<T> {
 
     ghost coded = { watch_code T.code };
 
-    ghost view = { λ w. record { inner = w.inner; failed = w.failed; unflushed = w.unflushed } };
+    ghost view = { λ w. record { inner = w.inner; failed = w.failed; unflushed = w.unflushed; at_hand = w.at_hand } };
 }
 
 impl<T> Watched<T> {
     /// The reader or writer, of which no call has failed yet.
     pub fn new(inner: T) -> Watched<T>
-        ensures { result ≡ record { inner = inner; failed = false; unflushed = false } }
+        ensures { result ≡ record { inner = inner; failed = false; unflushed = false; at_hand = false } }
     {
         Watched {
             inner,
             failed: false,
             unflushed: false,
+            at_hand: false,
         }
     }
 
@@ -51,6 +54,20 @@ impl<T> Watched<T> {
         self.failed
     }
 
+    /// Whether something was written that was not handed on.
+    pub fn unflushed(&self) -> bool
+        ensures { result ≡ self.now.unflushed }
+    {
+        self.unflushed
+    }
+
+    /// Whether bytes are at hand, so that the next read need not wait: those that were shown and not taken.
+    pub fn at_hand(&self) -> bool
+        ensures { result ≡ self.now.at_hand }
+    {
+        self.at_hand
+    }
+
     /// The reader or writer itself.
     pub fn into_inner(self) -> T
         ensures { result ≡ self.inner }
@@ -59,6 +76,7 @@ impl<T> Watched<T> {
             inner,
             failed: _,
             unflushed: _,
+            at_hand: _,
         } = self;
         inner
     }
@@ -71,15 +89,20 @@ impl<R: Source> Watched<R> {
         &mut self,
         held: &mut Held,
         left: &mut usize,
-    ) -> Result<Part, SessionFault>
+    ) -> Result<Taken, SessionFault>
         requires { self.old.failed ≡ false }
-        ensures ok { IfOk result (λ part. TookPart part (R.remaining self.old.inner) (R.remaining self.new.inner) held.old held.new left.old left.new) }
+        ensures ok { IfOk result (λ taken. TookPart taken.part (R.remaining self.old.inner) (R.remaining self.new.inner) held.old held.new left.old left.new) }
         ensures err { IfErr result (λ fault. Keeping fault (R.remaining self.old.inner) (R.remaining self.new.inner) self.new.failed left.old left.new) }
         ensures fine { OnOk result (self.new.failed ≡ false) }
+        ensures fault { IfErr result (λ fault. is_write fault ≡ false) }
         ensures asked { IsAsked (R.shows self.old.inner) result }
+        ensures at_hand { IfOk result (λ taken. self.new.at_hand ≡ taken.at_hand) }
     {
         match take_shown(&mut self.inner, held, left) {
-            Ok(part) => Ok(part),
+            Ok(taken) => {
+                self.at_hand = taken.at_hand;
+                Ok(taken)
+            }
             Err(fault) => {
                 self.failed = fault.is_read();
                 Err(fault)
@@ -110,7 +133,7 @@ impl<W: Target> Watched<W> {
     }
 
     /// Hands on what was written, and says whether that was done; otherwise the writer is marked.
-    pub(crate) fn flush(&mut self) -> bool
+    pub fn flush(&mut self) -> bool
         requires { self.old.failed ≡ false }
         ensures bytes { Keeps (W.contents self.old.inner) (W.contents self.new.inner) }
         ensures failed { self.new.failed ≡ not result }

@@ -1,4 +1,5 @@
 use Rattle.std.proofs.Common.{rules, ◌≡◌, arith, true, false}
+use Rattle.std.proofs.KnownBytes.{Keeps-trans}
 use Rattle.bl_wire.specs.Turns.{is_skip}
 use Rattle.bl_session.proofs.Stages.{unheard_more}
 use Rattle.bl_session.proofs.session.first_turn.Goals as goal
@@ -9,9 +10,9 @@ returns-in-Ok-None-clause-ok g c start before =
     record { turns = now.turns; read = (rw c.in-Ok-None.field-0-is at c.in-Ok-None.ensures).ok start now.turns now.read; quiet = now.quiet }
 
 pub returns-in-Err-clause-err : goal.returns-in-Err-clause-err
-returns-in-Err-clause-err g c start write_failed fine before =
+returns-in-Err-clause-err g c start before =
     let now = c.lines.invariant.0 start before in
-    (now.turns, now.quiet, c.in-Err.ensures.err start now.turns write_failed fine now.read)
+    (now.turns, now.quiet, c.in-Err.ensures.err start now.turns now.read)
 
 pub returns-then-not-is_skip-clause-ok : goal.returns-then-not-is_skip-clause-ok
 returns-then-not-is_skip-clause-ok g c start before =
@@ -37,4 +38,5 @@ lines-preserved g c =
           unheard_more _ _ _ start _ _ now.turns _ now.quiet skip more (found.ok start now.turns now.read)),
       omega (arith, found.nearer.0, c.lines.invariant.1),
       found.fine,
+      Keeps-trans _ _ _ c.lines.invariant.3 c.next_turn.ensures.written,
     )

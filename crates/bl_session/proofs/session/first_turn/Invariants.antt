@@ -1,4 +1,5 @@
 use Rattle.std.proofs.Common.{◌≡◌, ◌≤◌, ℕ, List, Option, true, false}
+use Rattle.std.specs.Io.KnownBytes.{Keeps}
 use Rattle.bl_session.specs.Stages.{Unheard}
 use Rattle.bl_session.proofs.session.first_turn.Given as goal
 
@@ -6,7 +7,8 @@ abbrev pub invariant-lines : goal.invariant-lines
 invariant-lines g l =
     ((start : Option (List ℕ)) → Unheard true l.names start (g.R.Read.remaining l.initial.reader.inner) l.initial.left → Unheard true l.names start (g.R.Read.remaining l.reader.inner) l.left)
     × (l.left ≤ l.initial.left)
-    × (l.reader.failed ≡ false)
+    × ((l.reader.failed ≡ false) × (l.writer.failed ≡ false))
+    × Keeps (g.W.Write.contents l.initial.writer.inner) (g.W.Write.contents l.writer.inner)
 
 abbrev pub decreases-lines : goal.decreases-lines
 decreases-lines g l = l.left

@@ -5,7 +5,7 @@ use Rattle.bl_session.proofs.session.next_turn.Goals as goal
 use Rattle.bl_session.proofs.session.next_turn.Goals.{in-Last, in-Whole}
 
 pub returns-in-Err-clause-err : goal.returns-in-Err-clause-err
-returns-in-Err-clause-err g c start turns write_failed fine so_far = broken_reading _ start _ _ _ _ turns so_far _ _ write_failed fine c.in-Err.ensures.err
+returns-in-Err-clause-err g c start turns so_far = broken_reading _ start _ _ _ _ turns so_far _ _ _ c.in-Err.ensures.writer c.in-Err.ensures.err
 
 pub returns-in-End-clause-ok : goal.returns-in-End-clause-ok
 returns-in-End-clause-ok g c start turns so_far = cutting_end _ start _ _ _ _ turns so_far _ c.in-Ok.next c.in-End.is c.in-Ok.ensures.ok
@@ -17,8 +17,8 @@ returns-in-Ok-turn_held-clause-ok g c start turns so_far =
     cutting_line _ start _ _ _ _ turns so_far _ c.in-Ok.next _ kind.0 kind.1 c.in-Ok.ensures.ok c.in-Ok-turn_held.turn c.in-Ok-turn_held.ensures.turn
 
 pub returns-in-Err-turn_held-clause-err : goal.returns-in-Err-turn_held-clause-err
-returns-in-Err-turn_held-clause-err g c start turns write_failed fine so_far =
-    broken_memory _ start _ _ _ _ turns so_far _ c.in-Ok.next _ write_failed c.in-Ok.ensures.fine fine c.in-Ok.ensures.ok
+returns-in-Err-turn_held-clause-err g c start turns so_far =
+    broken_memory _ start _ _ _ _ turns so_far _ c.in-Ok.next _ _ c.in-Ok.ensures.fine.0 c.in-Ok.ensures.fine.1 c.in-Ok.ensures.ok
 
 pub returns-in-Ok-turn_held-clause-said : goal.returns-in-Ok-turn_held-clause-said
 returns-in-Ok-turn_held-clause-said g c = (c.in-Ok.ensures.ok.line, c.in-Ok-turn_held.ensures.turn c.in-Ok.ensures.ok.line c.in-Ok.ensures.ok.holds)

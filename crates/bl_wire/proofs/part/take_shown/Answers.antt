@@ -8,8 +8,8 @@ use Rattle.bl_wire.proofs.part.take_shown.Goals as goal
 pub returns-in-Some-clause-ok : goal.returns-in-Some-clause-ok
 returns-in-Some-clause-ok g c =
     let shown = c.in-Ok.shown.now in
-    let n = c.in-Some.n in
-    let s : Scanned n c.in-Some.part shown c.args.held.now c.scan-found.new.held c.args.left.now = c.in-Some.ensures.found in
+    let n = c.in-Some.taken.bytes in
+    let s : Scanned n c.in-Some.taken.part shown c.args.held.now c.scan-found.new.held c.args.left.now = c.in-Some.ensures.found in
     let rested = c.show.follows.lender-at-none in
     let filled = subst (FillKeeps _ (g.R.Read.remaining rested) (g.R.BufRead.consumable_len rested)) c.in-Ok.is c.show.follows.holds-at-none in
     let within : n ≤ length shown = s.within in
