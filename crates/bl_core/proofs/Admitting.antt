@@ -8,16 +8,20 @@ use Rattle.std.proofs.lemmas.List.{length-map, map-append, map-set, get_or-map}
 use Rattle.std.proofs.lemmas.List.Sums.{sum_by_push}
 use Rattle.bl_work.specs.declared.work.Work.{Work}
 use Rattle.bl_policy.specs.Policy.{SecurityPolicy}
+use Rattle.bl_setup.specs.Setup.{Setup}
+use Rattle.bl_order.specs.Headline.{IsReached}
 use Rattle.bl_order.specs.Known.{KnowsWork}
+use Rattle.bl_order.specs.Room.{IsBehaviourOrRule}
 use Rattle.bl_order.specs.Order.{Entry, Task, accesses_of, is_altered}
 use Rattle.bl_order.specs.Order as orders
 use Rattle.bl_order.specs.Past.{Past, no_entry, subject_of, task_of, earlier, first_task, child_task}
-use Rattle.bl_order.specs.Machine.{Session, Opens, Admits, Needs, change, past_at, runs, is_lost, is_running, session_at, no_session, entry_weight, weight_of, is_over, Waiting}
+use Rattle.bl_order.specs.Machine.{State, Session, Opens, Admits, Needs, change, past_at, runs, is_lost, is_running, session_at, no_session, entry_weight, weight_of, is_over, Waiting}
 use Rattle.bl_order.proofs.Sound.{IsSound}
-use Rattle.bl_order.proofs.Reached.{sound-reached}
+use Rattle.bl_order.proofs.Reached.{sound-reached, reached-next}
 use Rattle.bl_order.proofs.Trails.{within, past-admitted, phases-admitted}
 use Rattle.bl_order.proofs.Present.{policy_now-admitted, content_now-admitted}
-use Rattle.bl_core.specs.Places.{no_place, place_in, work_of, work_in, entry_of, phase_of, HasBehaviour, AreOver}
+use Rattle.bl_core.specs.Places.{no_place, place_in, work_of, work_in, entry_of, phase_of, HasBehaviour}
+use Rattle.bl_core.specs.Queueing.{MayEnter, QueuesTell, stand_for}
 use Rattle.bl_core.specs.View.{state_of}
 use Rattle.bl_core.specs.Keeps.{Keeps, Tells, IsAway, AreShelved}
 use Rattle.bl_core.specs.declared.place.Place.{Place}
@@ -29,7 +33,7 @@ use Rattle.bl_core.specs.declared.session.Session.{Session as Row}
 use Rattle.bl_core.specs.declared.machine.Core.TheInside.{Inside}
 use Rattle.bl_core.proofs.Grown.{Grows, grows-self, grows-append, equal_or_not}
 use Rattle.bl_core.proofs.Views.{length-order}
-use Rattle.bl_core.proofs.Written.{over_within}
+use Rattle.bl_core.proofs.Queueing.{claims-right, tell-grown, tell-own}
 use Rattle.bl_core.proofs.Moved.{kept-moved}
 
 abbrev row_value : Row → Session
@@ -44,7 +48,7 @@ pub record Opened (c d : Inside) (subject : ℕ) : Type 0 where
   pub sessions : d.sessions.items ≡ c.sessions.items ++ record { subject = subject; last = 0 } ∷ []
   pub rooms : vec_capacity d.sessions ≡ vec_capacity c.sessions
   pub places : d.places ≡ c.places
-  pub first : d.first ≡ c.first
+  pub queues : d.queues ≡ c.queues
   pub policy : d.policy ≡ c.policy
   pub shelves : d.shelves ≡ c.shelves
 
@@ -84,7 +88,10 @@ module _ (c d : Inside) (subject : ℕ) (v : Opened c d subject) where
         shelved = subst (AreShelved (change (state_of c) (Opens subject))) (sym (ap (λ h. h.items) v.shelves))
             (record { contents = k.shelved.contents; away = k.shelved.away; home = k.shelved.home });
         weight = v.weight ∙ k.weight;
-        first = subst (λ (l : List Place). AreOver l d.first) (sym places) (subst (AreOver c.places.items) (sym v.first) k.first);
+        queued = subst (λ (s : Setup). QueuesTell (length s.policy.documents + 1) d.limit d.places.items (length d.places.items) d.queues) (sym v.setup)
+            (subst (λ (l : ℕ). QueuesTell (length c.setup.policy.documents + 1) l d.places.items (length d.places.items) d.queues) (sym v.limit)
+            (subst (λ (l : List Place). QueuesTell (length c.setup.policy.documents + 1) c.limit l (length l) d.queues) (sym places)
+            (subst (QueuesTell (length c.setup.policy.documents + 1) c.limit c.places.items (length c.places.items)) (sym v.queues) k.queued)));
         limit = v.limit;
         capacity = ap (λ p. vec_capacity p) v.places;
         rooms = v.rooms;
@@ -93,6 +100,7 @@ module _ (c d : Inside) (subject : ℕ) (v : Opened c d subject) where
       places : d.places.items ≡ c.places.items
       places = ap (λ p. p.items) v.places
 
+-- ---- a line
 -- ---- a line
 
 abbrev pub new_place : ℕ → ℕ → ℕ → ℕ → Work → Place
@@ -106,7 +114,7 @@ pub record Admitted (c d : Inside) (i o subject : ℕ) (w : Work) : Type 0 where
   pub rooms : vec_capacity d.sessions ≡ vec_capacity c.sessions
   pub places : d.places.items ≡ c.places.items ++ new_place (length c.places.items) i o subject w ∷ []
   pub capacity : vec_capacity d.places ≡ vec_capacity c.places
-  pub first : d.first ≡ c.first
+  pub queued : QueuesTell (length d.setup.policy.documents + 1) d.limit d.places.items (length d.places.items) d.queues
   pub policy : d.policy ≡ c.policy
   pub shelves : d.shelves ≡ c.shelves
 
@@ -119,6 +127,75 @@ All-set P xs i x all is k d lt = go (equal_or_not k i)
     go : (k ≡ i) ⊎ (k ≢ i) → P (get_or (set xs i x) k d)
     go (inl e) = subst P (sym (ap (λ j. get_or (set xs i x) j d) e ∙ get_or-set_same xs i x d (subst (λ (j : ℕ). j < length xs) e before))) is
     go (inr ne) = subst P (sym (get_or-set_other xs i k x d ne)) (all k d before)
+
+-- the new place
+module _ (c : Inside) (i o subject : ℕ) (w : Work) (speaks : subject ≡ (session_at (state_of c) i).subject)
+    (k : Keeps c) (needs : Needs (state_of c) (Admits i o w)) (known : subject < length c.setup.policy.subjects) (knows : KnowsWork c.setup w) (first : HasBehaviour w 0) where
+  new_at : get_or (c.places.items ++ new_place (length c.places.items) i o subject w ∷ []) (length c.places.items) no_place ≡ new_place (length c.places.items) i o subject w
+  new_at = get_or-append_seam c.places.items (new_place (length c.places.items) i o subject w) [] no_place
+
+  work_new : work_in (c.places.items ++ new_place (length c.places.items) i o subject w ∷ []) (length c.places.items) ≡ w
+  work_new =
+      ap (λ (s : Place). work_of (get_or (c.places.items ++ new_place (length c.places.items) i o subject w ∷ []) s.root no_place).descent) new_at
+      ∙ ap (λ (s : Place). work_of s.descent) new_at
+
+  entry_new : get_or (change (state_of c) (Admits i o w)).order (length c.places.items) no_entry ≡ orders.Line i o (session_at (state_of c) i).subject w
+  entry_new =
+      ap (λ (m : ℕ). get_or (change (state_of c) (Admits i o w)).order m no_entry) (sym (length-order c))
+      ∙ get_or-append_seam (state_of c).order (orders.Line i o (session_at (state_of c) i).subject w) [] no_entry
+
+  pub tells_new : Tells c.setup (c.places.items ++ new_place (length c.places.items) i o subject w ∷ []) (length c.places.items) (past_at (change (state_of c) (Admits i o w)) (length c.places.items))
+  tells_new = record {
+    task =
+        ap (task_of (earlier (change (state_of c) (Admits i o w)).setup (is_lost (change (state_of c) (Admits i o w))) (change (state_of c) (Admits i o w)).order (length c.places.items))) entry_new
+        ∙ child_first w
+        ∙ ap (λ (u : Work). child_task (first_task u) 0) (sym work_new)
+        ∙ ap (λ (s : Place). child_task (first_task (work_in (c.places.items ++ new_place (length c.places.items) i o subject w ∷ []) (length c.places.items))) s.index) (sym new_at);
+    subject =
+        ap (subject_of (earlier (change (state_of c) (Admits i o w)).setup (is_lost (change (state_of c) (Admits i o w))) (change (state_of c) (Admits i o w)).order (length c.places.items))) entry_new
+        ∙ sym speaks ∙ ap (λ (s : Place). s.subject) (sym new_at);
+    answer = λ a e. let f : stands.Waiting ≡ stands.Ended a = ap (λ (s : Place). s.stand) (sym new_at) ∙ e in absurd (cc);
+    root = subst (λ (s : Place). s.root < length (c.places.items ++ new_place (length c.places.items) i o subject w ∷ [])) (sym new_at)
+        (omega (arith, length-append c.places.items (new_place (length c.places.items) i o subject w ∷ [])));
+    behaviour = subst (λ (u : Work). HasBehaviour u (get_or (c.places.items ++ new_place (length c.places.items) i o subject w ∷ []) (length c.places.items) no_place).index) (sym work_new)
+        (subst (λ (s : Place). HasBehaviour w s.index) (sym new_at) first);
+    speaks = subst (λ (s : Place). s.subject < length c.setup.policy.subjects) (sym new_at) known;
+    knows = subst (KnowsWork c.setup) (sym work_new) knows;
+  }
+    where
+      child_first : (u : Work) → first_task u ≡ child_task (first_task u) 0
+      child_first (works.Behaviour script) = refl
+      child_first (works.Rule rule) = refl
+
+  -- may enter the queues
+  pub enters_new : ((x : State) (m : ℕ) → IsReached x → m < length x.order → IsBehaviourOrRule (past_at x m).task)
+      → MayEnter (length c.setup.policy.documents + 1) (c.places.items ++ new_place (length c.places.items) i o subject w ∷ []) (length c.places.items)
+  enters_new law = record {
+    task = tells_new.behaviour;
+    claims = claims-right c.setup (c.places.items ++ new_place (length c.places.items) i o subject w ∷ []) (length c.places.items)
+        (past_at (change (state_of c) (Admits i o w)) (length c.places.items)) tells_new
+        (subst IsBehaviourOrRule tells_new.task
+        (law (change (state_of c) (Admits i o w)) (length c.places.items) (reached-next (state_of c) (Admits i o w) k.reached needs)
+        (omega (arith, length-order c, length-append (state_of c).order (orders.Line i o (session_at (state_of c) i).subject w ∷ [])))));
+    waits = ap (λ (s : Place). stand_for s.stand) new_at;
+  }
+
+  -- the queues tell of the places before it
+  pub tells_before : QueuesTell c.queues.cowns c.queues.limit (c.places.items ++ new_place (length c.places.items) i o subject w ∷ []) (length c.places.items) c.queues
+  tells_before =
+      tell-own (length c.setup.policy.documents + 1) c.limit (c.places.items ++ new_place (length c.places.items) i o subject w ∷ []) (length c.places.items) c.queues
+      (tell-grown c.places.items (c.places.items ++ new_place (length c.places.items) i o subject w ∷ []) (grows-append c.places.items (new_place (length c.places.items) i o subject w ∷ []))
+      (λ m lt. (k.told m lt).root) (length c.setup.policy.documents + 1) c.limit c.queues k.queued
+      (λ m lt. ap (λ (s : Place). s.stand) (get_or-append c.places.items (new_place (length c.places.items) i o subject w ∷ []) no_place m lt)))
+
+  -- and it may enter behind them
+  pub enters_last : ((x : State) (m : ℕ) → IsReached x → m < length x.order → IsBehaviourOrRule (past_at x m).task) → (m : ℕ) → length c.places.items ≤ m
+      → m < length (c.places.items ++ new_place (length c.places.items) i o subject w ∷ [])
+      → MayEnter c.queues.cowns (c.places.items ++ new_place (length c.places.items) i o subject w ∷ []) m
+  enters_last law m ge lt =
+      subst (λ (j : ℕ). MayEnter j (c.places.items ++ new_place (length c.places.items) i o subject w ∷ []) m) (sym k.queued.cowns_are)
+      (subst (MayEnter (length c.setup.policy.documents + 1) (c.places.items ++ new_place (length c.places.items) i o subject w ∷ []))
+      (omega (arith, ge, lt, length-append c.places.items (new_place (length c.places.items) i o subject w ∷ []))) (enters_new law))
 
 module _ (c d : Inside) (i o subject : ℕ) (w : Work) (v : Admitted c d i o subject w) (speaks : subject ≡ (session_at (state_of c) i).subject) where
   pub state-admitted : state_of d ≡ change (state_of c) (Admits i o w)
@@ -150,42 +227,6 @@ module _ (c d : Inside) (i o subject : ℕ) (w : Work) (v : Admitted c d i o sub
   module _ (k : Keeps c) (needs : Needs (state_of c) (Admits i o w)) (known : subject < length c.setup.policy.subjects) (knows : KnowsWork c.setup w) (first : HasBehaviour w 0) where
     sound : IsSound (state_of c)
     sound = sound-reached (state_of c) k.reached
-
-    new_at : get_or (c.places.items ++ new_place (length c.places.items) i o subject w ∷ []) (length c.places.items) no_place ≡ new_place (length c.places.items) i o subject w
-    new_at = get_or-append_seam c.places.items (new_place (length c.places.items) i o subject w) [] no_place
-
-    work_new : work_in (c.places.items ++ new_place (length c.places.items) i o subject w ∷ []) (length c.places.items) ≡ w
-    work_new =
-        ap (λ (s : Place). work_of (get_or (c.places.items ++ new_place (length c.places.items) i o subject w ∷ []) s.root no_place).descent) new_at
-        ∙ ap (λ (s : Place). work_of s.descent) new_at
-
-    entry_new : get_or (change (state_of c) (Admits i o w)).order (length c.places.items) no_entry ≡ orders.Line i o (session_at (state_of c) i).subject w
-    entry_new =
-        ap (λ (m : ℕ). get_or (change (state_of c) (Admits i o w)).order m no_entry) (sym (length-order c))
-        ∙ get_or-append_seam (state_of c).order (orders.Line i o (session_at (state_of c) i).subject w) [] no_entry
-
-    tells_new : Tells c.setup (c.places.items ++ new_place (length c.places.items) i o subject w ∷ []) (length c.places.items) (past_at (change (state_of c) (Admits i o w)) (length c.places.items))
-    tells_new = record {
-      task =
-          ap (task_of (earlier (change (state_of c) (Admits i o w)).setup (is_lost (change (state_of c) (Admits i o w))) (change (state_of c) (Admits i o w)).order (length c.places.items))) entry_new
-          ∙ child_first w
-          ∙ ap (λ (u : Work). child_task (first_task u) 0) (sym work_new)
-          ∙ ap (λ (s : Place). child_task (first_task (work_in (c.places.items ++ new_place (length c.places.items) i o subject w ∷ []) (length c.places.items))) s.index) (sym new_at);
-      subject =
-          ap (subject_of (earlier (change (state_of c) (Admits i o w)).setup (is_lost (change (state_of c) (Admits i o w))) (change (state_of c) (Admits i o w)).order (length c.places.items))) entry_new
-          ∙ sym speaks ∙ ap (λ (s : Place). s.subject) (sym new_at);
-      answer = λ a e. let f : stands.Waiting ≡ stands.Ended a = ap (λ (s : Place). s.stand) (sym new_at) ∙ e in absurd (cc);
-      root = subst (λ (s : Place). s.root < length (c.places.items ++ new_place (length c.places.items) i o subject w ∷ [])) (sym new_at)
-          (omega (arith, length-append c.places.items (new_place (length c.places.items) i o subject w ∷ [])));
-      behaviour = subst (λ (u : Work). HasBehaviour u (get_or (c.places.items ++ new_place (length c.places.items) i o subject w ∷ []) (length c.places.items) no_place).index) (sym work_new)
-          (subst (λ (s : Place). HasBehaviour w s.index) (sym new_at) first);
-      speaks = subst (λ (s : Place). s.subject < length c.setup.policy.subjects) (sym new_at) known;
-      knows = subst (KnowsWork c.setup) (sym work_new) knows;
-    }
-      where
-        child_first : (u : Work) → first_task u ≡ child_task (first_task u) 0
-        child_first (works.Behaviour script) = refl
-        child_first (works.Rule rule) = refl
 
     runs_same : (n : ℕ) → runs (change (state_of c) (Admits i o w)) n ≡ runs (state_of c) n
     runs_same n = ap is_running (phases-admitted (state_of c) sound i o w n)
@@ -221,7 +262,7 @@ module _ (c d : Inside) (i o subject : ℕ) (w : Work) (v : Admitted c d i o sub
           grows = subst (Grows c.places.items) (sym v.places) (grows-append c.places.items (new_place (length c.places.items) i o subject w ∷ []));
           stands = λ m lt. inl (stands_same m lt);
           new = λ m ge lt. subst (λ (j : ℕ). Tells c.setup d.places.items j (past_at (change (state_of c) (Admits i o w)) j)) (last m ge lt)
-              (subst (λ (l : List Place). Tells c.setup l (length c.places.items) (past_at (change (state_of c) (Admits i o w)) (length c.places.items))) (sym v.places) tells_new);
+              (subst (λ (l : List Place). Tells c.setup l (length c.places.items) (past_at (change (state_of c) (Admits i o w)) (length c.places.items))) (sym v.places) (tells_new c i o subject w speaks k needs known knows first));
           policy = v.policy ∙ k.policy ∙ sym (policy_now-admitted (state_of c) i o w sound);
           subjects = ap (λ (p : SecurityPolicy). length p.subjects) v.policy;
           documents = ap (λ (p : SecurityPolicy). length p.documents) v.policy;
@@ -230,8 +271,7 @@ module _ (c d : Inside) (i o subject : ℕ) (w : Work) (v : Admitted c d i o sub
           as_many = ap (λ h. length h.items) v.shelves;
           shelved = subst (AreShelved (change (state_of c) (Admits i o w))) (sym (ap (λ h. h.items) v.shelves)) shelved;
           weight = v.weight ∙ ap (λ (n : ℕ). n + weight_of w) k.weight ∙ sym (sum_by_push entry_weight (state_of c).order (orders.Line i o (session_at (state_of c) i).subject w));
-          first = subst (AreOver d.places.items) (sym v.first) (λ m lt.
-              ap (λ (s : Stand). is_over (phase_of s)) (stands_same m (over_within c.places.items m (k.first m lt))) ∙ k.first m lt);
+          queued = v.queued;
           limit = v.limit;
           capacity = v.capacity;
           rooms = v.rooms;

@@ -1,5 +1,5 @@
 -- A core in which nothing has happened yet.
-use Rattle.std.proofs.Common.{◌≡◌, ℕ, ◌<◌, ◌≤◌, [], length, get_or, ap, sym, ◌∙◌, subst, arith, true≢false}
+use Rattle.std.proofs.Common.{◌≡◌, ℕ, ◌+◌, ◌<◌, ◌≤◌, [], length, get_or, ap, sym, ◌∙◌, subst, arith, true≢false}
 use Rattle.std.specs.Prelude.{map}
 use Rattle.std.specs.Vec.{vec_capacity}
 use Rattle.std.proofs.lemmas.List.{length-map, get_or-map}
@@ -9,6 +9,7 @@ use Rattle.bl_order.specs.Machine.{State, start, most_sessions}
 use Rattle.bl_order.proofs.Reached.{reached-first}
 use Rattle.bl_core.specs.Places.{entry_of, phase_of}
 use Rattle.bl_core.specs.Shelves.{new_shelf, shelf_in}
+use Rattle.bl_queue.specs.Queues.{Queue}
 use Rattle.bl_core.specs.View.{state_of}
 use Rattle.bl_core.specs.Keeps.{Keeps, KeepsAt, AreShelved}
 use Rattle.bl_core.specs.declared.place.Place.{Place}
@@ -23,7 +24,7 @@ pub record Begun (d : Inside) : Type 0 where
   pub places : d.places.items ≡ []
   pub shelves : d.shelves.items ≡ map new_shelf d.setup.contents
   pub weight : d.weight ≡ 0
-  pub first : d.first ≡ 0
+  pub queues : d.queues ≡ record { cowns = length d.setup.policy.documents + 1; limit = d.limit; entries = [] }
   pub reserved : d.limit ≤ vec_capacity d.places
   pub rooms : most_sessions ≤ vec_capacity d.sessions
 
@@ -62,7 +63,12 @@ module _ (d : Inside) (b : Begun d) where
     as_many = ap length b.shelves ∙ length-map d.setup.contents new_shelf;
     shelved = subst (AreShelved (start d.setup d.limit)) (sym b.shelves) shelved;
     weight = b.weight;
-    first = λ m lt. absurd (omega (arith, lt, b.first));
+    queued = record {
+      cowns_are = ap (λ (q : Queue). q.cowns) b.queues;
+      limit_is = ap (λ (q : Queue). q.limit) b.queues;
+      as_many = ap (λ (q : Queue). length q.entries) b.queues ∙ ap length (sym b.places);
+      each = λ m lt. absurd (none m lt);
+    };
     reserved = b.reserved;
     rooms = b.rooms;
   }

@@ -1,32 +1,33 @@
 -- A place that may start ends at once: it is denied, its rule is applied, or it is lost.
-use Rattle.std.proofs.Common.{◌≡◌, ℕ, inr, false, cond, Bool, [], length, get_or, set, refl, ap, sym, ◌∙◌}
+use Rattle.std.proofs.Common.{◌≡◌, ℕ, ◌+◌, false, cond, Bool, [], length, get_or, set, refl, ap, sym, subst, ◌∙◌}
 use Rattle.std.specs.Vec.{with_item}
 use Rattle.bl_policy.specs.Policy.{SecurityPolicy}
 use Rattle.bl_work.specs.declared.answer.Answer.{Answer}
 use Rattle.bl_work.specs.declared.answer.Answer.TheVariants as answers
 use Rattle.bl_order.specs.Past.{is_done, changed}
 use Rattle.bl_order.specs.Machine.{Running, Ended, MayStart, Starts, Loses, change, past_at}
-use Rattle.bl_core.specs.Places.{place_in, phase_of, AreOver}
+use Rattle.bl_core.specs.Places.{place_in, phase_of}
+use Rattle.bl_core.specs.Queueing.{QueuesTell}
+use Rattle.bl_queue.specs.Queues.{Queue, with_stand}
+use Rattle.bl_queue.specs.declared.entry.Stand.TheVariants as queues
 use Rattle.bl_core.specs.View.{state_of}
 use Rattle.bl_core.specs.Keeps.{Keeps}
 use Rattle.bl_core.specs.declared.place.Place.{Place}
 use Rattle.bl_core.specs.declared.place.Stand.TheVariants as stands
 use Rattle.bl_core.specs.declared.machine.Core.TheInside.{Inside}
 use Rattle.bl_core.proofs.Grown.{Same}
-use Rattle.bl_core.proofs.Views.{over-ended, ended_of}
-use Rattle.bl_core.proofs.Written.{Written, append_nil, stands_at, same-read, over-set}
+use Rattle.bl_core.proofs.Views.{ended_of}
+use Rattle.bl_core.proofs.Written.{Written, append_nil, stands_at, same-read}
+use Rattle.bl_core.proofs.Queueing.{tell-set}
 use Rattle.bl_core.proofs.Starting.{there-may, state-started, kept-started, shelved-ended, state-lost, kept-lost}
 
 -- the fields after a place ended, with this policy
-abbrev pub closed : Inside → ℕ → Place → Answer → ℕ → SecurityPolicy → Inside
-closed c n s a first p = record c { places = with_item c.places n (stands_at s (stands.Ended a)); first = first; policy = p }
+abbrev pub closed : Inside → ℕ → Place → Answer → Queue → SecurityPolicy → Inside
+closed c n s a q p = record c { places = with_item c.places n (stands_at s (stands.Ended a)); queues = q; policy = p }
 
 module _ (c : Inside) (k : Keeps c) (n : ℕ) (s : Place) (a : Answer) (may : MayStart (state_of c) n) (at : s ≡ get_or c.places.items n s) where
-  pub over-closed : AreOver (set c.places.items n (stands_at s (stands.Ended a))) c.first
-  over-closed = over-set c.places.items n (stands_at s (stands.Ended a)) (there-may c n may) c.first (inr (over-ended a)) k.first
-
-  module _ (first : ℕ) (p : SecurityPolicy) (over : AreOver (set c.places.items n (stands_at s (stands.Ended a))) first) where
-    written : Written c (closed c n s a first p) n (stands_at s (stands.Ended a)) []
+  module _ (q : Queue) (p : SecurityPolicy) (ended : q ≡ with_stand c.queues n queues.Ended) where
+    written : Written c (closed c n s a q p) n (stands_at s (stands.Ended a)) []
     written = record {
       setup = refl;
       limit = refl;
@@ -35,7 +36,9 @@ module _ (c : Inside) (k : Keeps c) (n : ℕ) (s : Place) (a : Answer) (may : Ma
       rooms = refl;
       places = sym (append_nil (set c.places.items n (stands_at s (stands.Ended a))));
       capacity = refl;
-      first = over;
+      queued = subst
+          (QueuesTell (length c.setup.policy.documents + 1) c.limit (set c.places.items n (stands_at s (stands.Ended a))) (length (set c.places.items n (stands_at s (stands.Ended a))))) (sym ended)
+          (tell-set c.places.items n s (stands.Ended a) (length c.setup.policy.documents + 1) c.limit c.queues (there-may c n may) at (λ m lt. (k.told m lt).root) k.queued);
     }
 
     same : Same (place_in c.places.items n) (stands_at s (stands.Ended a))
@@ -51,20 +54,20 @@ module _ (c : Inside) (k : Keeps c) (n : ℕ) (s : Place) (a : Answer) (may : Ma
       stays : phase_of (stands.Ended a) ≡ cond (is_done (past_at (state_of c) n).answer) Running Ended
       stays = ends ∙ ap (λ (b : Bool). cond b Running Ended) (sym not_done)
 
-      pub closed-state : state_of (closed c n s a first p) ≡ change (state_of c) (Starts n)
+      pub closed-state : state_of (closed c n s a q p) ≡ change (state_of c) (Starts n)
       closed-state =
-          state-started c (closed c n s a first p) n (stands_at s (stands.Ended a)) written k may same stays (λ b e. is ∙ ended_of a b e) policy subjects documents refl
-          (shelved-ended c (closed c n s a first p) n (stands_at s (stands.Ended a)) written k may same not_done)
+          state-started c (closed c n s a q p) n (stands_at s (stands.Ended a)) written k may same stays (λ b e. is ∙ ended_of a b e) policy subjects documents refl
+          (shelved-ended c (closed c n s a q p) n (stands_at s (stands.Ended a)) written k may same not_done)
 
-      pub closed-kept : Keeps (closed c n s a first p)
+      pub closed-kept : Keeps (closed c n s a q p)
       closed-kept =
-          kept-started c (closed c n s a first p) n (stands_at s (stands.Ended a)) written k may same stays (λ b e. is ∙ ended_of a b e) policy subjects documents refl
-          (shelved-ended c (closed c n s a first p) n (stands_at s (stands.Ended a)) written k may same not_done)
+          kept-started c (closed c n s a q p) n (stands_at s (stands.Ended a)) written k may same stays (λ b e. is ∙ ended_of a b e) policy subjects documents refl
+          (shelved-ended c (closed c n s a q p) n (stands_at s (stands.Ended a)) written k may same not_done)
 
     -- lost
     module _ (lost : a ≡ answers.Lost) (policy : p ≡ c.policy) where
-      pub lost-state : state_of (closed c n s a first p) ≡ change (state_of c) (Loses n)
-      lost-state = state-lost c (closed c n s a first p) n (stands_at s (stands.Ended a)) written k may same (ap stands.Ended lost) policy refl
+      pub lost-state : state_of (closed c n s a q p) ≡ change (state_of c) (Loses n)
+      lost-state = state-lost c (closed c n s a q p) n (stands_at s (stands.Ended a)) written k may same (ap stands.Ended lost) policy refl
 
-      pub lost-kept : Keeps (closed c n s a first p)
-      lost-kept = kept-lost c (closed c n s a first p) n (stands_at s (stands.Ended a)) written k may same (ap stands.Ended lost) policy refl
+      pub lost-kept : Keeps (closed c n s a q p)
+      lost-kept = kept-lost c (closed c n s a q p) n (stands_at s (stands.Ended a)) written k may same (ap stands.Ended lost) policy refl

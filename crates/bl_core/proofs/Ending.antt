@@ -21,6 +21,7 @@ use Rattle.bl_order.proofs.Reached.{sound-reached, reached-next}
 use Rattle.bl_order.proofs.Steps.{length-child_entries, running_is_not_over}
 use Rattle.bl_order.proofs.Trails.{past-ended, within}
 use Rattle.bl_core.specs.Places.{no_place, place_in, entry_of, phase_of, work_of, work_in, task_in, child_places, HasBehaviour}
+use Rattle.bl_core.specs.Queueing.{MayEnter, stand_for}
 use Rattle.bl_core.specs.View.{state_of}
 use Rattle.bl_core.specs.Keeps.{Keeps, Tells}
 use Rattle.bl_core.specs.declared.place.Place.{Place}
@@ -28,6 +29,7 @@ use Rattle.bl_core.specs.declared.place.Descent.TheVariants.{Child}
 use Rattle.bl_core.specs.declared.place.Stand.TheVariants as stands
 use Rattle.bl_core.specs.declared.session.Session.{Session}
 use Rattle.bl_core.specs.declared.machine.Core.TheInside.{Inside}
+use Rattle.bl_core.proofs.Queueing.{claims-right}
 use Rattle.bl_core.proofs.Grown.{Same, Grows, grows-set, grows-append, grows-both}
 use Rattle.bl_core.proofs.Views.{length-order}
 use Rattle.bl_core.proofs.Written.{Written, same-entry}
@@ -193,6 +195,21 @@ module _ (c : Inside) (n : ℕ) (t : Place) (ks : List ℕ) (k : Keeps c) (r : r
       subst (λ (j : ℕ). Tells c.setup after j (past_at (change (state_of c) (Ends n)) j)) (over_length m ge)
       (tells-child (m - length c.places.items)
       (omega (arith, ge, l, length-append (set c.places.items n t) family, length-set c.places.items n t, length-child_places n (place_in c.places.items n).root (place_in c.places.items n).subject 1 ks)))
+
+  -- and may enter the queues
+  pub enters-new : (m : ℕ) → length c.places.items ≤ m → m < length after → MayEnter (length c.setup.policy.documents + 1) after m
+  enters-new m ge l =
+      subst (MayEnter (length c.setup.policy.documents + 1) after) (over_length m ge)
+      (enters (m - length c.places.items)
+      (omega (arith, ge, l, length-append (set c.places.items n t) family, length-set c.places.items n t, length-child_places n (place_in c.places.items n).root (place_in c.places.items n).subject 1 ks)))
+    where
+      enters : (j : ℕ) → j < length ks → MayEnter (length c.setup.policy.documents + 1) after (length c.places.items + j)
+      enters j lj = record {
+        task = (tells-child j lj).behaviour;
+        claims = claims-right c.setup after (length c.places.items + j) (past_at (change (state_of c) (Ends n)) (length c.places.items + j)) (tells-child j lj)
+            (subst IsBehaviourOrRule (task-new j lj) (law (change (state_of c) (Ends n)) (length c.places.items + j) (reached-next (state_of c) (Ends n) k.reached r) (in_order j lj)));
+        waits = ap (λ (s : Place). stand_for s.stand) (place-read j lj);
+      }
 
 pub state-ended : (c d : Inside) (n root subject : ℕ) (t : Place) (ks : List ℕ) → Written c d n t (child_places n root subject 1 ks) → Same (place_in c.places.items n) t
     → phase_of t.stand ≡ Ended → ks ≡ children (past_at (state_of c) n).effects → state_of d ≡ change (state_of c) (Ends n)

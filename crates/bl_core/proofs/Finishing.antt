@@ -1,9 +1,12 @@
 -- A running place ends, or is lost.
-use Rattle.std.proofs.Common.{◌≡◌, ℕ, ◌<◌, ◌≤◌, ◌+◌, inl, Bool, true, false, cond, ◌||◌, List, [], length, get_or, set, refl, ap, sym, ◌∙◌, subst, arith, length-set, true≢false}
+use Rattle.std.proofs.Common.{◌≡◌, ℕ, ◌<◌, ◌≤◌, ◌+◌, inl, Bool, true, false, cond, ◌||◌, List, [], length, get_or, set, ◌++◌, refl, ap, sym, ◌∙◌, subst, arith, length-set, get_or-set_same, get_or-set_other, true≢false}
 use Rattle.std.specs.Prelude.{All}
+use Rattle.std.specs.Vec.{with_item, with_items}
+use Rattle.std.proofs.Math.ListN.{get_or-append}
 use Rattle.bl_policy.specs.Policy.{SecurityPolicy}
 use Rattle.bl_policy.specs.declared.access.Access.{Access}
 use Rattle.bl_work.specs.Effects.{Effect, after, children, outputs}
+use Rattle.bl_work.specs.declared.answer.Answer.{Answer}
 use Rattle.bl_work.specs.declared.answer.Answer.TheVariants as answers
 use Rattle.bl_grant.specs.Loaned.{Back}
 use Rattle.bl_eval.specs.Loan.{backs, part_of, effects_on}
@@ -21,23 +24,31 @@ use Rattle.bl_order.proofs.Steps.{Moves, equal_self, running_is_not_over, length
 use Rattle.bl_order.proofs.Trails.{within, moves-end, moves-lost, past-ended}
 use Rattle.bl_order.proofs.Present.{moves_on-reached, lost-answer, rule_never_runs, policy_now-ended, policy_now-lost}
 use Rattle.bl_core.specs.Answers.{loan_at, script_of, index_of}
-use Rattle.bl_core.specs.Places.{place_in, child_places, phase_of}
+use Rattle.bl_core.specs.Places.{no_place, place_in, child_places, phase_of}
 use Rattle.bl_core.specs.Shelves.{new_shelf, shelf_in, put_back}
+use Rattle.bl_queue.specs.Queues.{Queue, with_stand}
+use Rattle.bl_queue.specs.declared.entry.Stand.TheVariants as queues
+use Rattle.bl_core.specs.Queueing.{MayEnter, QueuesTell}
 use Rattle.bl_core.specs.View.{state_of}
 use Rattle.bl_core.specs.Keeps.{Keeps, Tells, AreShelved}
 use Rattle.bl_core.specs.declared.place.Place.{Place}
 use Rattle.bl_core.specs.declared.place.Stand.TheVariants as stands
 use Rattle.bl_core.specs.declared.shelf.Shelf.{Shelf}
 use Rattle.bl_core.specs.declared.machine.Core.TheInside.{Inside}
-use Rattle.bl_core.proofs.Grown.{Same}
+use Rattle.bl_core.proofs.Grown.{Same, grows-set, grows-append, grows-both}
 use Rattle.bl_core.proofs.Views.{length-order, phase-read, ended_of}
 use Rattle.bl_core.proofs.Moved.{kept-moved}
 use Rattle.bl_core.proofs.Written.{Written, append_nil, moved-written, state-written, stands_at, same-read}
 use Rattle.bl_core.proofs.Shelving.{shelved-back}
 use Rattle.bl_core.proofs.Backs.{put_back-read, length-put_back, backs-all, done-effects}
 use Rattle.bl_core.proofs.Reading.{shelves-declared}
-use Rattle.bl_core.proofs.Lending.{runs_of, accesses_part}
-use Rattle.bl_core.proofs.Ending.{alone, state-ended, tells-new, weight-ended}
+use Rattle.bl_core.proofs.Lending.{runs_of, accesses_part, written_items}
+use Rattle.bl_core.proofs.Queueing.{tell-set, tell-stands}
+use Rattle.bl_core.proofs.Ending.{alone, enters-new, state-ended, tells-new, weight-ended}
+
+-- the fields after a running place was lost
+abbrev pub lost : Inside → ℕ → Place → Queue → List Shelf → Inside
+lost c n s q h = record c { places = with_item c.places n (stands_at s (stands.Ended answers.Lost)); queues = q; shelves = with_items c.shelves h }
 
 -- a running place is a behaviour
 behaviour-runs : (x : State) (n : ℕ) → is_done (past_at x n).answer ≡ true → is_rule (past_at x n).task ≡ false
@@ -101,6 +112,27 @@ module _ (c : Inside) (k : Keeps c) (n : ℕ) (r : runs (state_of c) n ≡ true)
   end_room m fits is =
       omega (arith, fits, is, length-order c, length-child_entries n 1 (children (past_at (state_of c) n).effects), ap (λ (es : List Effect). length (children es)) both.1)
 
+  -- the queues tell of the places that were there, where one has ended and others follow
+  pub end_tell : (s : Place) (a : Answer) (more : List Place) → s ≡ get_or c.places.items n s
+      → QueuesTell (length c.setup.policy.documents + 1) c.limit (set c.places.items n (stands_at s (stands.Ended a)) ++ more) (length c.places.items) (with_stand c.queues n queues.Ended)
+  end_tell s a more at =
+      tell-stands c.places.items (set c.places.items n (stands_at s (stands.Ended a)) ++ more)
+      (grows-both c.places.items (set c.places.items n (stands_at s (stands.Ended a))) (set c.places.items n (stands_at s (stands.Ended a)) ++ more) (grows-set c.places.items n (stands_at s (stands.Ended a)) end_there (same-read c.places.items n s (stands.Ended a) end_there at)) (grows-append (set c.places.items n (stands_at s (stands.Ended a))) more))
+      (λ m lt. (k.told m lt).root) (length c.setup.policy.documents + 1) c.limit c.queues k.queued n (stands.Ended a) end_there
+      (ap (λ (v : Place). v.stand) (get_or-append (set c.places.items n (stands_at s (stands.Ended a))) more no_place n (omega (arith, end_there, length-set c.places.items n (stands_at s (stands.Ended a)))) ∙ get_or-set_same c.places.items n (stands_at s (stands.Ended a)) no_place end_there))
+      (λ m within ne. ap (λ (v : Place). v.stand)
+      (get_or-append (set c.places.items n (stands_at s (stands.Ended a))) more no_place m (omega (arith, within, length-set c.places.items n (stands_at s (stands.Ended a)))) ∙ get_or-set_other c.places.items n m (stands_at s (stands.Ended a)) no_place ne))
+
+  -- the children may enter the queues
+  pub end_enters : (s : Place) (outs : List (List ℕ)) (ks : List ℕ) → s ≡ get_or c.places.items n s → ks ≡ children (effects_on (loan_at (state_of c) n))
+      → ((x : State) (m : ℕ) → IsReached x → m < length x.order → IsBehaviourOrRule (past_at x m).task) → (m : ℕ) → length c.places.items ≤ m
+      → m < length (set c.places.items n (stands_at s (stands.Ended (answers.Done outs))) ++ child_places n (place_in c.places.items n).root (place_in c.places.items n).subject 1 ks)
+      → MayEnter (length c.setup.policy.documents + 1)
+      (set c.places.items n (stands_at s (stands.Ended (answers.Done outs))) ++ child_places n (place_in c.places.items n).root (place_in c.places.items n).subject 1 ks) m
+  end_enters s outs ks at named law =
+      enters-new c n (stands_at s (stands.Ended (answers.Done outs))) ks k r (same-read c.places.items n s (stands.Ended (answers.Done outs)) end_there at)
+      (named ∙ ap children (sym both.1)) law
+
   module _ (d : Inside) (s : Place) (at : s ≡ get_or c.places.items n s) (outs : List (List ℕ)) (shown : outs ≡ outputs (effects_on (loan_at (state_of c) n)))
       (ks : List ℕ) (named : ks ≡ children (effects_on (loan_at (state_of c) n)))
       (w : Written c d n (stands_at s (stands.Ended (answers.Done outs))) (child_places n (place_in c.places.items n).root (place_in c.places.items n).subject 1 ks))
@@ -139,9 +171,33 @@ module _ (c : Inside) (k : Keeps c) (n : ℕ) (r : runs (state_of c) n ≡ true)
         shelved (weight-ended (state_of c) n))
 
   -- ---- it is lost
-  module _ (d : Inside) (s : Place) (at : s ≡ get_or c.places.items n s)
-      (w : Written c d n (stands_at s (stands.Ended answers.Lost)) []) (policy : d.policy ≡ c.policy)
-      (shelves : d.shelves.items ≡ put_back c.shelves.items (backs n (part_of (loan_at (state_of c) n)).accesses (loan_at (state_of c) n).inputs [])) where
+  module _ (s : Place) (at : s ≡ get_or c.places.items n s) (q : Queue) (ended : q ≡ with_stand c.queues n queues.Ended)
+      (h : List Shelf) (back : h ≡ put_back c.shelves.items (backs n (part_of (loan_at (state_of c) n)).accesses (loan_at (state_of c) n).inputs [])) where
+    abbrev d : Inside
+    d = lost c n s q h
+
+    shelves : d.shelves.items ≡ put_back c.shelves.items (backs n (part_of (loan_at (state_of c) n)).accesses (loan_at (state_of c) n).inputs [])
+    shelves =
+        written_items c h
+        (omega (arith, ap length back, length-put_back c.shelves.items (backs n (part_of (loan_at (state_of c) n)).accesses (loan_at (state_of c) n).inputs []), c.shelves.ok.0)) ∙ back
+
+    w : Written c d n (stands_at s (stands.Ended answers.Lost)) []
+    w = record {
+      setup = refl;
+      limit = refl;
+      weight = refl;
+      sessions = refl;
+      rooms = refl;
+      places = sym (append_nil (set c.places.items n (stands_at s (stands.Ended answers.Lost))));
+      capacity = refl;
+      queued = subst
+          (QueuesTell (length c.setup.policy.documents + 1) c.limit (set c.places.items n (stands_at s (stands.Ended answers.Lost))) (length (set c.places.items n (stands_at s (stands.Ended answers.Lost))))) (sym ended)
+          (tell-set c.places.items n s (stands.Ended answers.Lost) (length c.setup.policy.documents + 1) c.limit c.queues end_there at (λ m lt. (k.told m lt).root) k.queued);
+    }
+
+    policy : d.policy ≡ c.policy
+    policy = refl
+
     moves : Moves (state_of c) (with_phase (state_of c) n Gone) n Gone
     moves = moves-lost (state_of c) sound n in_order (running_is_not_over (phase_at (state_of c) n) r) (inl (begun (runs (state_of c) n) (is_over (phase_at (state_of c) n)) r))
       where

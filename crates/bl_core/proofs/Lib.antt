@@ -8,7 +8,6 @@ pub mod Ending
 pub mod Written
 pub mod Starting
 pub mod Closing
-pub mod Clashes
 pub mod Reading
 pub mod Lending
 pub mod Running
@@ -19,3 +18,4 @@ pub mod Judging
 pub mod Inputs
 pub mod Owning
 pub mod Looking
+pub mod Queueing

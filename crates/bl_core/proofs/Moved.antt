@@ -1,5 +1,5 @@
 -- What every event keeps of the fields.
-use Rattle.std.proofs.Common.{◌≡◌, ℕ, ◌<◌, ◌≤◌, ◌⊎◌, inl, inr, Bool, length, refl, ap, sym, ◌∙◌, subst, arith}
+use Rattle.std.proofs.Common.{◌≡◌, ℕ, ◌<◌, ◌≤◌, ◌+◌, ◌⊎◌, inl, inr, Bool, length, refl, ap, sym, ◌∙◌, subst, arith}
 use Rattle.std.specs.Prelude.{sum_by, All}
 use Rattle.std.specs.Vec.{vec_capacity}
 use Rattle.bl_work.specs.declared.answer.Answer.{Answer}
@@ -13,7 +13,8 @@ use Rattle.bl_order.proofs.Reached.{sound-reached, reached-next}
 use Rattle.bl_order.proofs.Steps.{past-alike, running_is_not_over, waiting_is_not_over}
 use Rattle.bl_order.proofs.Trails.{past-step, past-admitted, past-started, past-ended, within}
 use Rattle.bl_order.proofs.Frame.{IsAlike}
-use Rattle.bl_core.specs.Places.{place_in, AreOver}
+use Rattle.bl_core.specs.Places.{place_in}
+use Rattle.bl_core.specs.Queueing.{QueuesTell}
 use Rattle.bl_core.specs.View.{state_of}
 use Rattle.bl_core.specs.Keeps.{Keeps, KeepsAt, Tells, AreShelved}
 use Rattle.bl_core.specs.declared.place.Stand.TheVariants.{Ended}
@@ -60,7 +61,7 @@ pub record Moved (c d : Inside) (e : Event) : Type 0 where
   pub as_many : length d.shelves.items ≡ length c.shelves.items
   pub shelved : AreShelved (change (state_of c) e) d.shelves.items
   pub weight : d.weight ≡ sum_by entry_weight (change (state_of c) e).order
-  pub first : AreOver d.places.items d.first
+  pub queued : QueuesTell (length d.setup.policy.documents + 1) d.limit d.places.items (length d.places.items) d.queues
   pub limit : d.limit ≡ c.limit
   pub capacity : vec_capacity d.places ≡ vec_capacity c.places
   pub rooms : vec_capacity d.sessions ≡ vec_capacity c.sessions
@@ -107,7 +108,7 @@ module _ (c d : Inside) (e : Event) (k : Keeps c) (needs : Needs (state_of c) e)
     as_many = v.as_many ∙ k.as_many ∙ ap (λ (s : Setup). length s.contents) (sym v.setup);
     shelved = v.shelved;
     weight = v.weight;
-    first = v.first;
+    queued = v.queued;
     reserved = omega (arith, k.reserved, v.limit, v.capacity);
     rooms = omega (arith, k.rooms, v.rooms);
   }

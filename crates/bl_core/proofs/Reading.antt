@@ -17,7 +17,7 @@ use Rattle.bl_order.specs.Past.{first_task, child_task}
 use Rattle.bl_order.specs.Machine.{MayStart, past_at, is_waiting, is_over, phase_at}
 use Rattle.bl_order.specs.Now.{IsFirstToAlter, content_at}
 use Rattle.bl_order.proofs.HeadlineProof.{holds-reached}
-use Rattle.bl_core.specs.Places.{no_place, place_in, phase_of, work_in, task_in, HasBehaviour, HaveTasks, IsClear}
+use Rattle.bl_core.specs.Places.{no_place, place_in, phase_of, work_in, task_in, HasBehaviour}
 use Rattle.bl_core.specs.Shelves.{new_shelf}
 use Rattle.bl_core.specs.View.{state_of}
 use Rattle.bl_core.specs.Keeps.{Keeps, IsAway}
@@ -28,9 +28,6 @@ use Rattle.bl_core.specs.declared.machine.Core.TheInside.{Inside}
 use Rattle.bl_order.proofs.Steps.{waiting_is_not_over}
 use Rattle.bl_core.proofs.Views.{length-order, phase-read}
 
-below_or_not : (m n : ℕ) → (m < n) ⊎ (n ≤ m)
-below_or_not m n = grind arith
-
 -- what a task of a known work declares is in the setup
 pub accesses-known : (setup : Setup) (w : Work) (i : ℕ) → KnowsWork setup w → HasBehaviour w i
     → All (λ (a : Access). a.doc < length setup.policy.documents) (accesses_of (child_task (first_task w) i))
@@ -39,9 +36,6 @@ accesses-known setup (works.Behaviour script) i knows lt =
 accesses-known setup (works.Rule rule) i knows lt = λ j d l. absurd (omega (arith, l))
 
 module _ (c : Inside) (k : Keeps c) where
-  pub tasks : HaveTasks c.places.items
-  tasks n lt = (k.told n lt).behaviour
-
   -- there are as many shelves as documents
   pub shelves-documents : length c.setup.policy.documents ≡ length c.shelves.items
   shelves-documents = sym k.agree.documents ∙ k.agree.contents ∙ sym k.as_many
@@ -57,57 +51,12 @@ module _ (c : Inside) (k : Keeps c) where
       subst (λ (m : ℕ). All (λ (a : Access). a.doc < m) (accesses_of (task_in c.places.items n))) (sym k.documents)
       (accesses-known c.setup (work_in c.places.items n) (place_in c.places.items n).index (k.told n lt).knows (k.told n lt).behaviour)
 
-  conflict-read : (m n : ℕ) → m < length c.places.items → n < length c.places.items
-      → conflict (past_at (state_of c) m).task (past_at (state_of c) n).task ≡ conflict (task_in c.places.items m) (task_in c.places.items n)
-  conflict-read m n lm ln =
-      ap (λ (t : Task). conflict t (past_at (state_of c) n).task) (k.told m lm).task ∙ ap (conflict (task_in c.places.items m)) (k.told n ln).task
-
-  -- a waiting place whose conflicts have ended may start
-  pub may_start : (n : ℕ) (s : Place) → n < length c.places.items → s ≡ get_or c.places.items n s → is_waiting (phase_of s.stand) ≡ true
-      → IsClear c.places.items c.first n → MayStart (state_of c) n
-  may_start n s lt at waits clear = record {
-    there = subst (λ (m : ℕ). n < m) (sym (length-order c)) lt;
-    waits = ap is_waiting (phase-read c n lt ∙ ap (λ (t : Place). phase_of t.stand) (sym (get_or_read c.places.items n s lt at no_place))) ∙ waits;
-    clear = λ m below h. ap is_over (phase-read c m (omega arith)) ∙ go m below h (below_or_not m c.first);
-  }
-    where
-      go : (m : ℕ) → m < n → IsTrue (conflict (past_at (state_of c) m).task (past_at (state_of c) n).task) → (m < c.first) ⊎ (c.first ≤ m)
-          → is_over (phase_of (place_in c.places.items m).stand) ≡ true
-      go m below h (inl early) = k.first m early
-      go m below h (inr late) = clear m late below (sym (conflict-read m n (omega arith) lt) ∙ h)
-
   pub start_there : (n : ℕ) → MayStart (state_of c) n → n < length c.places.items
   start_there n may = subst (λ (m : ℕ). n < m) (length-order c) may.there
-
-  pub start_waits : (n : ℕ) (s : Place) → MayStart (state_of c) n → s ≡ get_or c.places.items n s → is_waiting (phase_of s.stand) ≡ true
-  start_waits n s may at =
-      ap (λ (t : Place). is_waiting (phase_of t.stand)) (get_or_read c.places.items n s (start_there n may) at no_place)
-      ∙ ap is_waiting (sym (phase-read c n (start_there n may))) ∙ may.waits
-
-  pub start_clear : (n : ℕ) → MayStart (state_of c) n → IsClear c.places.items c.first n
-  start_clear n may m late below h =
-      let lt : n < length c.places.items = start_there n may in
-      let lm : m < length c.places.items = omega (arith, lt, below) in
-      ap is_over (sym (phase-read c m lm)) ∙ may.clear m below (conflict-read m n lm lt ∙ h)
 
   -- the answer that is kept is the place's
   pub answer-at : (n : ℕ) (s : Place) (a : Answer) → n < length c.places.items → s ≡ get_or c.places.items n s → s.stand ≡ Ended a → (past_at (state_of c) n).answer ≡ a
   answer-at n s a lt at is = (k.told n lt).answer a (ap (λ (x : Place). x.stand) (sym (get_or_read c.places.items n s lt at no_place)) ∙ is)
-
-  -- what stands before the first place that has not ended may not start
-  pub none_before : (n : ℕ) → n < c.first → MayStart (state_of c) n → ⊥
-  none_before n lt may =
-      true≢false (sym (k.first n lt) ∙ ap is_over (sym (phase-read c n (start_there n may))) ∙ waiting_is_not_over (phase_at (state_of c) n) may.waits)
-
-  -- no place past the end has ended
-  pub first_within : c.first ≤ length c.places.items
-  first_within = go (below_or_not (length c.places.items) c.first)
-    where
-      go : (length c.places.items < c.first) ⊎ (c.first ≤ length c.places.items) → c.first ≤ length c.places.items
-      go (inl early) =
-          absurd (true≢false (sym (k.first (length c.places.items) early)
-          ∙ ap (λ (t : Place). is_over (phase_of t.stand)) (get_or_past c.places.items (length c.places.items) no_place (omega arith))))
-      go (inr late) = late
 
   -- a place's rule is in the policy
   pub rule-of : (n : ℕ) (rule : Rule) → n < length c.places.items → (past_at (state_of c) n).task ≡ Applies rule → IsRuleOf c.policy rule

@@ -1,5 +1,5 @@
 -- A behaviour that may start runs.
-use Rattle.std.proofs.Common.{◌≡◌, ℕ, inl, false, true, cond, Bool, List, [], length, get_or, set, refl, ap, sym, ◌∙◌, subst, arith}
+use Rattle.std.proofs.Common.{◌≡◌, ℕ, ◌+◌, false, true, cond, Bool, List, [], length, get_or, set, refl, ap, sym, ◌∙◌, subst, arith}
 use Rattle.std.specs.Vec.{with_item, with_items}
 use Rattle.bl_policy.specs.declared.access.Access.{Access}
 use Rattle.bl_work.specs.declared.answer.Answer.{Answer}
@@ -13,6 +13,9 @@ use Rattle.bl_order.proofs.Trails.{moves-start}
 use Rattle.bl_order.proofs.Present.{content_now-started}
 use Rattle.bl_core.specs.Places.{place_in, phase_of, task_in}
 use Rattle.bl_core.specs.Shelves.{marked}
+use Rattle.bl_core.specs.Queueing.{QueuesTell}
+use Rattle.bl_queue.specs.Queues.{Queue, with_stand}
+use Rattle.bl_queue.specs.declared.entry.Stand.TheVariants as queues
 use Rattle.bl_core.specs.View.{state_of}
 use Rattle.bl_core.specs.Keeps.{Keeps, AreShelved}
 use Rattle.bl_core.specs.declared.place.Place.{Place}
@@ -21,24 +24,22 @@ use Rattle.bl_core.specs.declared.shelf.Shelf.{Shelf}
 use Rattle.bl_core.specs.declared.machine.Core.TheInside.{Inside}
 use Rattle.bl_core.proofs.Grown.{Same}
 use Rattle.bl_core.proofs.Views.{phase-read}
-use Rattle.bl_core.proofs.Written.{Written, append_nil, stands_at, same-read, over-set, open_behind}
+use Rattle.bl_core.proofs.Written.{Written, append_nil, stands_at, same-read}
+use Rattle.bl_core.proofs.Queueing.{tell-set}
 use Rattle.bl_core.proofs.Starting.{there-may, state-started, kept-started, waiting_is_not_running}
 use Rattle.bl_core.proofs.Shelving.{shelved-marked, length-marked}
 use Rattle.bl_core.proofs.Lending.{written_items}
 
-abbrev pub running : Inside → ℕ → Place → List Shelf → Inside
-running c n s h = record c { places = with_item c.places n (stands_at s stands.Running); shelves = with_items c.shelves h }
+abbrev pub running : Inside → ℕ → Place → Queue → List Shelf → Inside
+running c n s q h = record c { places = with_item c.places n (stands_at s stands.Running); queues = q; shelves = with_items c.shelves h }
 
 module _ (c : Inside) (k : Keeps c) (n : ℕ) (s : Place) (may : MayStart (state_of c) n) (at : s ≡ get_or c.places.items n s)
     (behaviour : is_rule (past_at (state_of c) n).task ≡ false) (done : is_done (past_at (state_of c) n).answer ≡ true)
-    (h : List Shelf) (xs : List Access) (for : xs ≡ accesses_of (task_in c.places.items n)) (lends : h ≡ marked c.shelves.items xs) where
+    (q : Queue) (begun : q ≡ with_stand c.queues n queues.Started) (h : List Shelf) (xs : List Access) (for : xs ≡ accesses_of (task_in c.places.items n)) (lends : h ≡ marked c.shelves.items xs) where
   lent_items : (with_items c.shelves h).items ≡ marked c.shelves.items xs
   lent_items = written_items c h (omega (arith, ap length lends, length-marked c.shelves.items xs, c.shelves.ok.0)) ∙ lends
 
-  open_before : is_over (phase_of (place_in c.places.items n).stand) ≡ false
-  open_before = ap is_over (sym (phase-read c n (there-may c n may))) ∙ waiting_is_not_over (phase_at (state_of c) n) may.waits
-
-  written : Written c (running c n s h) n (stands_at s stands.Running) []
+  written : Written c (running c n s q h) n (stands_at s stands.Running) []
   written = record {
     setup = refl;
     limit = refl;
@@ -47,7 +48,9 @@ module _ (c : Inside) (k : Keeps c) (n : ℕ) (s : Place) (may : MayStart (state
     rooms = refl;
     places = sym (append_nil (set c.places.items n (stands_at s stands.Running)));
     capacity = refl;
-    first = over-set c.places.items n (stands_at s stands.Running) (there-may c n may) c.first (inl (open_behind c.places.items c.first n k.first open_before)) k.first;
+    queued = subst
+        (QueuesTell (length c.setup.policy.documents + 1) c.limit (set c.places.items n (stands_at s stands.Running)) (length (set c.places.items n (stands_at s stands.Running)))) (sym begun)
+        (tell-set c.places.items n s stands.Running (length c.setup.policy.documents + 1) c.limit c.queues (there-may c n may) at (λ m lt. (k.told m lt).root) k.queued);
   }
 
   same : Same (place_in c.places.items n) (stands_at s stands.Running)
@@ -70,12 +73,12 @@ module _ (c : Inside) (k : Keeps c) (n : ℕ) (s : Place) (may : MayStart (state
       (ap (λ (b : Bool). is_running (cond b Running Ended)) done) xs (for ∙ ap accesses_of (sym (k.told n (there-may c n may)).task))
       c.shelves.items (λ o. content_now-started (state_of c) n o (sound-reached (state_of c) k.reached) may) k.shelved)
 
-  pub run-state : state_of (running c n s h) ≡ change (state_of c) (Starts n)
+  pub run-state : state_of (running c n s q h) ≡ change (state_of c) (Starts n)
   run-state =
-      state-started c (running c n s h) n (stands_at s stands.Running) written k may same phase unanswered policy refl refl
+      state-started c (running c n s q h) n (stands_at s stands.Running) written k may same phase unanswered policy refl refl
       (ap length lent_items ∙ length-marked c.shelves.items xs) shelved
 
-  pub run-kept : Keeps (running c n s h)
+  pub run-kept : Keeps (running c n s q h)
   run-kept =
-      kept-started c (running c n s h) n (stands_at s stands.Running) written k may same phase unanswered policy refl refl
+      kept-started c (running c n s q h) n (stands_at s stands.Running) written k may same phase unanswered policy refl refl
       (ap length lent_items ∙ length-marked c.shelves.items xs) shelved

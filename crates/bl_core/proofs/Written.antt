@@ -1,5 +1,5 @@
 -- One place stands otherwise, and others may follow.
-use Rattle.std.proofs.Common.{◌≡◌, ◌≢◌, ℕ, zero, suc, ◌<◌, ◌≤◌, ◌⊎◌, inl, inr, true, false, List, [], ◌∷◌, ◌++◌, length, get_or, set, refl, ap, sym, ◌∙◌, subst, arith, length-set, get_or-set_same, get_or-set_other, true≢false}
+use Rattle.std.proofs.Common.{◌≡◌, ◌≢◌, ℕ, zero, suc, ◌<◌, ◌≤◌, ◌+◌, ◌⊎◌, inl, inr, true, false, List, [], ◌∷◌, ◌++◌, length, get_or, set, refl, ap, sym, ◌∙◌, subst, arith, length-set, get_or-set_same, get_or-set_other, true≢false}
 use Rattle.std.specs.Prelude.{sum_by, map, All}
 use Rattle.std.specs.Vec.{vec_capacity}
 use Rattle.std.proofs.Math.ListN.{get_or-append}
@@ -8,7 +8,8 @@ use Rattle.std.proofs.lemmas.List.{map-set, get_or_read}
 use Rattle.bl_work.specs.declared.answer.Answer.{Answer}
 use Rattle.bl_order.specs.Machine.{Phase, Event, change, past_at, is_over, with_phase, entry_weight}
 use Rattle.bl_order.specs.Now.{policy_now}
-use Rattle.bl_core.specs.Places.{no_place, place_in, entry_by, entry_of, phase_of, AreOver}
+use Rattle.bl_core.specs.Places.{no_place, place_in, entry_by, entry_of, phase_of}
+use Rattle.bl_core.specs.Queueing.{QueuesTell}
 use Rattle.bl_core.specs.View.{state_of}
 use Rattle.bl_core.specs.Keeps.{Keeps, Tells, AreShelved}
 use Rattle.bl_core.specs.declared.place.Descent.{Descent}
@@ -29,7 +30,7 @@ pub record Written (c d : Inside) (n : ℕ) (t : Place) (more : List Place) : Ty
   pub rooms : vec_capacity d.sessions ≡ vec_capacity c.sessions
   pub places : d.places.items ≡ set c.places.items n t ++ more
   pub capacity : vec_capacity d.places ≡ vec_capacity c.places
-  pub first : AreOver d.places.items d.first
+  pub queued : QueuesTell (length d.setup.policy.documents + 1) d.limit d.places.items (length d.places.items) d.queues
 
 -- the place, standing otherwise
 abbrev pub stands_at : Place → Stand → Place
@@ -44,12 +45,6 @@ pub append_nil : {X : Type 0} (xs : List X) → xs ++ [] ≡ xs
 append_nil [] = refl
 append_nil (x ∷ xs) = ap (λ l. x ∷ l) (append_nil xs)
 
--- a place that has ended is there
-pub over_within : (places : List Place) (m : ℕ) → is_over (phase_of (place_in places m).stand) ≡ true → m < length places
-over_within [] m h = absurd (true≢false (sym h))
-over_within (p ∷ places) zero h = omega arith
-over_within (p ∷ places) (suc m) h = omega (arith, over_within places m h)
-
 module _ (S : List Place) (n : ℕ) (t : Place) (more : List Place) (lt : n < length S) where
   -- the stand of a place that was there
   pub stand-written : (m : ℕ) → m < length S
@@ -61,31 +56,6 @@ module _ (S : List Place) (n : ℕ) (t : Place) (more : List Place) (lt : n < le
           inl (e, ap (λ (s : Place). s.stand) (get_or-append (set S n t) more no_place m (omega (arith, length-set S n t)) ∙ ap (λ (j : ℕ). get_or (set S n t) j no_place) e ∙ get_or-set_same S n t no_place lt))
       go (inr ne) =
           inr (ap (λ (s : Place). s.stand) (get_or-append (set S n t) more no_place m (omega (arith, length-set S n t)) ∙ get_or-set_other S n m t no_place ne))
-
-  -- the places before one that have ended stay so, where the one that stands otherwise has ended or is not among them
-  pub over-written : (k : ℕ) → (k ≤ n) ⊎ (is_over (phase_of t.stand) ≡ true) → AreOver S k → AreOver (set S n t ++ more) k
-  over-written k either over m below = go either (stand-written m (over_within S m (over m below)))
-    where
-      go : (k ≤ n) ⊎ (is_over (phase_of t.stand) ≡ true)
-          → ((m ≡ n) × ((place_in (set S n t ++ more) m).stand ≡ t.stand)) ⊎ ((place_in (set S n t ++ more) m).stand ≡ (place_in S m).stand)
-          → is_over (phase_of (place_in (set S n t ++ more) m).stand) ≡ true
-      go e (inr same) = ap (λ (s : Stand). is_over (phase_of s)) same ∙ over m below
-      go (inl le) (inl q) = absurd (omega (arith, q.0, le, below))
-      go (inr is) (inl q) = ap (λ (s : Stand). is_over (phase_of s)) q.1 ∙ is
-
-pub over-set : (S : List Place) (n : ℕ) (t : Place) → n < length S → (k : ℕ) → (k ≤ n) ⊎ (is_over (phase_of t.stand) ≡ true) → AreOver S k → AreOver (set S n t) k
-over-set S n t lt k either over = subst (λ (l : List Place). AreOver l k) (append_nil (set S n t)) (over-written S n t [] lt k either over)
-
--- a place that has not ended is not among the first ones
-pub open_behind : (S : List Place) (k n : ℕ) → AreOver S k → is_over (phase_of (place_in S n).stand) ≡ false → k ≤ n
-open_behind S k n over is = go (below_or_not n k)
-  where
-    below_or_not : (a b : ℕ) → (a < b) ⊎ (b ≤ a)
-    below_or_not a b = grind arith
-
-    go : (n < k) ⊎ (k ≤ n) → k ≤ n
-    go (inl lt) = absurd (true≢false (sym (over n lt) ∙ is))
-    go (inr le) = le
 
 pub same-entry : (s t : Place) → Same s t → entry_of t ≡ entry_of s
 same-entry s t e = ap (λ (o : Descent). entry_by t.subject o) e.descent ∙ ap (λ (u : ℕ). entry_by u s.descent) e.subject
@@ -131,7 +101,7 @@ module _ (c d : Inside) (n : ℕ) (t : Place) (more : List Place) (w : Written c
       as_many = as_many;
       shelved = shelved;
       weight = w.weight ∙ k.weight ∙ sym weight;
-      first = w.first;
+      queued = w.queued;
       limit = w.limit;
       capacity = w.capacity;
       rooms = w.rooms;

@@ -1,5 +1,5 @@
 -- What a core keeps.
-use Rattle.std.specs.Prelude.{◌≡◌, ℕ, ◌<◌, ◌≤◌, true, false, List, length, sum_by, All}
+use Rattle.std.specs.Prelude.{◌≡◌, ℕ, ◌+◌, ◌<◌, ◌≤◌, true, false, List, length, sum_by, All}
 use Rattle.std.specs.Vec.{vec_capacity}
 use Rattle.bl_work.specs.declared.answer.Answer.{Answer}
 use Rattle.bl_setup.specs.Setup.{Setup}
@@ -10,7 +10,8 @@ use Rattle.bl_order.specs.Machine.{State, past_at, runs, entry_weight, most_sess
 use Rattle.bl_order.specs.Now.{policy_now, content_now}
 use Rattle.bl_order.specs.Headline.{IsReached}
 use Rattle.bl_order.specs.Known.{KnowsWork}
-use Rattle.bl_core.specs.Places.{place_in, work_in, task_in, HasTask, AreOver}
+use Rattle.bl_core.specs.Places.{place_in, work_in, task_in, HasTask}
+use Rattle.bl_core.specs.Queueing.{QueuesTell}
 use Rattle.bl_core.specs.Shelves.{shelf_in, content_in}
 use Rattle.bl_core.specs.View.{state_of}
 use Rattle.bl_core.specs.declared.place.Place.{Place}
@@ -40,8 +41,8 @@ pub record AreShelved (x : State) (shelves : List Shelf) : Type 0 where
   pub home : (doc : ℕ) → doc < length shelves → (shelf_in shelves doc).lent ≡ false
       → (n : ℕ) → runs x n ≡ true → is_altered (accesses_of (past_at x n).task) doc ≡ false
 
--- what the fields keep at a state: a trail leads to it, the policy and the contents are those now, each place is told, and there
--- is room for all that may still come
+-- what the fields keep at a state: a trail leads to it, the policy and the contents are those now, each place is told, the queues
+-- have all places, and there is room for all that may still come
 pub record KeepsAt (x : State) (c : Inside) : Type 0 where
   pub reached : IsReached x
   pub agree : Agree c.setup
@@ -53,7 +54,7 @@ pub record KeepsAt (x : State) (c : Inside) : Type 0 where
   pub as_many : length c.shelves.items ≡ length c.setup.contents
   pub shelved : AreShelved x c.shelves.items
   pub weight : c.weight ≡ sum_by entry_weight x.order
-  pub first : AreOver c.places.items c.first
+  pub queued : QueuesTell (length c.setup.policy.documents + 1) c.limit c.places.items (length c.places.items) c.queues
   pub reserved : c.limit ≤ vec_capacity c.places
   pub rooms : most_sessions ≤ vec_capacity c.sessions
 

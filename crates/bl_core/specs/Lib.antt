@@ -1,5 +1,6 @@
 pub mod Places
 pub mod Origins
+pub mod Queueing
 pub mod Shelves
 pub mod Weights
 pub mod View

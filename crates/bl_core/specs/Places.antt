@@ -62,25 +62,8 @@ HasBehaviour (works.Rule rule) index = Unit {0}
 abbrev pub HasTask : List Place → ℕ → Type 0
 HasTask places n = HasBehaviour (work_in places n) (place_in places n).index
 
-abbrev pub HaveTasks : List Place → Type 0
-HaveTasks places = (n : ℕ) → n < length places → HasTask places n
-
 -- the children of a place, from this number on
 abbrev pub child_places : ℕ → ℕ → ℕ → ℕ → List ℕ → List Place
 child_places parent root subject which [] = []
 child_places parent root subject which (index ∷ rest) =
     record { descent = Child parent which; root = root; index = index; subject = subject; stand = Waiting } ∷ child_places parent root subject (which + 1) rest
-
--- two lists of accesses name one document, which one of them alters
-abbrev pub shares_a_document : List Access → List Access → Bool
-shares_a_document accesses others =
-    list_any (λ (x : Access). list_any (λ (y : Access). (x.doc == y.doc) && (is_exclusive x.mode || is_exclusive y.mode)) others) accesses
-
--- each place before this one has ended
-abbrev pub AreOver : List Place → ℕ → Type 0
-AreOver places n = (m : ℕ) → m < n → is_over (phase_of (place_in places m).stand) ≡ true
-
--- each place from the first to this one that conflicts with it has ended
-abbrev pub IsClear : List Place → ℕ → ℕ → Type 0
-IsClear places first n =
-    (m : ℕ) → first ≤ m → m < n → conflict (task_in places m) (task_in places n) ≡ true → is_over (phase_of (place_in places m).stand) ≡ true

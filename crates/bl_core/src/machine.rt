@@ -3,9 +3,7 @@ ghost use Rattle.std.specs.Prelude.{◌≡◌};
 ghost use Rattle.bl_core.specs.Weights.{IsWeighed, ruled};
 
 use crate::origin::Origin;
-use crate::place::{
-    Descent, Place, Stand, declared, enter_children, first_open, is_clear, work_at,
-};
+use crate::place::{Descent, Place, Stand, declared, enter_children, enter_queues, work_at};
 use crate::refusal::{Cause, NotReady, OpenRefused, Refused, StartFault, Starved};
 use crate::session::{Session, SessionNo};
 use crate::shelf::{Shelf, contents_of, is_done_of, is_unrun_of, mark, shelve, take_back};
@@ -20,6 +18,7 @@ use bl_policy::denial::Denial;
 use bl_policy::id::{DocId, SubjectId};
 use bl_policy::policy::Policy;
 use bl_policy::rule::Rule;
+use bl_queue::queues::Queues;
 use bl_setup::setup::Setup;
 use bl_work::answer::Answer;
 use bl_work::document::Document;
@@ -44,8 +43,8 @@ pub struct Core {
     weight: u32,
     sessions: Vec<Session>,
     places: Vec<Place>,
-    /// The places before this one have ended.
-    first: usize,
+    /// Each place with its claims, so that who may start is told without a look at the others.
+    queues: Queues,
     policy: Policy,
     shelves: Vec<Shelf>,
 }
@@ -122,6 +121,8 @@ impl Core {
         let shelves = shelve(alloc, setup.contents())?;
         let sessions = Vec::with_capacity(alloc, MOST_SESSIONS)?;
         let places = Vec::with_capacity(alloc, limit as usize)?;
+        let cowns = policy.documents() as u32 + 1;
+        let queues = Queues::new(alloc, cowns, limit)?;
         Ok(Core {
             alloc,
             setup,
@@ -129,7 +130,7 @@ impl Core {
             weight: 0,
             sessions,
             places,
-            first: 0,
+            queues,
             policy,
             shelves,
         })
@@ -204,6 +205,7 @@ impl Core {
         ensures change { self.new ≡ change self.old (Admits session ordinal work) }
     {
         the_order_has_room();
+        tasks_are_of_scripts();
         read_lines_are_in_the_setup();
         let n = self.places.len() as u32;
         let more = weight(&work);
@@ -222,6 +224,7 @@ impl Core {
             subject,
             stand: Stand::Waiting,
         });
+        enter_queues(&mut self.queues, self.places.as_slice(), n as usize);
         n
     }
 
@@ -229,31 +232,15 @@ impl Core {
     pub fn is_ready(&self, n: u32) -> bool
         ensures { IsTrue result ↔ MayStart self.now n }
     {
-        let n = n as usize;
-        if n >= self.places.len() {
-            return false;
-        }
-        if !self.places[n].stand.is_waiting() {
-            return false;
-        }
-        is_clear(self.places.as_slice(), self.first, n)
+        self.queues.is_ready(n)
     }
 
-    /// The first entry that may start. There is none only where no entry may.
+    /// An entry that may start: of those, the one that came first to wait for nothing. There is none only where no entry may.
     pub fn ready(&self) -> Option<u32>
         ensures some { IfSome result (λ n. MayStart self.now n) }
         ensures none { IsNone result → (n : ℕ) → ¬ MayStart self.now n }
     {
-        the_order_has_room();
-        // read for the proof alone: the order is within the limit
-        let _limit = self.limit;
-        let count = self.places.len() as u32;
-        for n in self.first as u32..count {
-            if self.is_ready(n) {
-                return Some(n);
-            }
-        }
-        None
+        self.queues.ready()
     }
 
     /// The rule of a place; `None` for a behaviour.
@@ -276,9 +263,9 @@ impl Core {
     {
         let subject = self.places[n as usize].subject;
         let denial = self.policy.apply(subject, rule);
+        self.queues.end(n);
         let place = &mut self.places[n as usize];
         place.stand = Stand::Ended(ruled(&denial));
-        self.first = first_open(self.places.as_slice(), self.first);
         match denial {
             Some(denial) => Started::Denied(denial),
             None => Started::RuleDone,
@@ -305,9 +292,9 @@ impl Core {
         requires denied { (past_at self.old n).answer ≡ answers.Denied denial.now }
         ensures { self.new ≡ change self.old (Starts n) }
     {
+        self.queues.end(n);
         let place = &mut self.places[n as usize];
         place.stand = Stand::Ended(Answer::Denied(*denial));
-        self.first = first_open(self.places.as_slice(), self.first);
     }
 
     /// What the behaviour of a place that may start is lent.
@@ -340,6 +327,7 @@ impl Core {
             unreachable!()
         };
         mark(self.shelves.as_mut_slice(), accesses);
+        self.queues.started(n);
         let place = &mut self.places[n as usize];
         place.stand = Stand::Running;
     }
@@ -403,12 +391,14 @@ impl Core {
             returned,
         } = done.into_parts();
         take_back(self.shelves.as_mut_slice(), returned);
+        self.queues.end(entry);
         let place = &mut self.places[entry as usize];
         place.stand = Stand::Ended(Answer::Done(outputs));
         let root = place.root;
         let subject = place.subject;
+        let first = self.places.len();
         enter_children(&mut self.places, entry, root, subject, spawned.as_slice());
-        self.first = first_open(self.places.as_slice(), self.first);
+        enter_queues(&mut self.queues, self.places.as_slice(), first);
     }
 
     /// Ends a running entry as lost, with what it was lent: nothing that it was lent has changed.
@@ -424,9 +414,9 @@ impl Core {
             grants,
         } = unrun.into_parts();
         take_back(self.shelves.as_mut_slice(), grants.close());
+        self.queues.end(entry);
         let place = &mut self.places[entry as usize];
         place.stand = Stand::Ended(Answer::Lost);
-        self.first = first_open(self.places.as_slice(), self.first);
     }
 
     /// Whether an entry runs.
@@ -504,9 +494,9 @@ impl Core {
         requires { MayStart self.old n }
         ensures { self.new ≡ change self.old (Loses n) }
     {
+        self.queues.end(n);
         let place = &mut self.places[n as usize];
         place.stand = Stand::Ended(Answer::Lost);
-        self.first = first_open(self.places.as_slice(), self.first);
     }
 
     /// Ends an entry as lost that was refused memory at its start. `NotReady` comes where the entry may not start.

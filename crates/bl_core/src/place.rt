@@ -1,16 +1,17 @@
 //! What is kept of each place of the order.
-ghost use Rattle.std.specs.Prelude.{◌≡◌, ◌<◌, ◌≤◌, ◌++◌, ◌+◌, ◌^◌, ◌==◌, ◌&&◌, ◌||◌, ◌↔◌, ℕ, true, false, length, vec_len, MatchOption, IsTrue};
+ghost use Rattle.std.specs.Prelude.{◌≡◌, ◌<◌, ◌≤◌, ◌++◌, ◌+◌, ◌^◌, ℕ, true, false, length, vec_len, MatchOption};
 ghost use Rattle.std.specs.Vec.{vec_capacity};
-ghost use Rattle.std.specs.List.{list_any};
 ghost use Rattle.bl_policy.specs.Mode.{is_exclusive};
-ghost use Rattle.bl_policy.specs.declared.access.Access.{Access};
-ghost use Rattle.bl_order.specs.Order.{accesses_of, conflict, is_rule};
-ghost use Rattle.bl_core.specs.Places.{place_in, work_in, task_in, child_places, AreOver, IsClear, HasTask, HaveTasks, shares_a_document};
+ghost use Rattle.bl_order.specs.Order.{accesses_of, is_rule};
+ghost use Rattle.bl_core.specs.Places.{work_in, task_in, child_places, HasTask};
+ghost use Rattle.bl_core.specs.Queueing.{claims_for, MayEnter, QueuesTell};
 
+use crate::claims::Claims;
 use crate::origin::Origin;
 use crate::session::SessionNo;
 use bl_policy::access::{Access, Mode};
 use bl_policy::id::SubjectId;
+use bl_queue::queues::Queues;
 use bl_work::answer::Answer;
 use bl_work::work::Work;
 
@@ -117,21 +118,6 @@ pub(crate) fn is_exclusive(mode: Mode) -> bool
     }
 }
 
-/// Whether the access and one of the others are of one document, which one of the two alters.
-fn meets(access: &Access, others: &[Access]) -> bool
-    ensures { result ≡ list_any (λ (y : Access). (access.now.doc == y.doc) && (is_exclusive access.now.mode || is_exclusive y.mode)) others.now }
-{
-    others.iter().any(|other| access.doc == other.doc
-        && (is_exclusive(access.mode) || is_exclusive(other.mode)))
-}
-
-/// Whether they share a document that one of them alters.
-fn shares_a_document(accesses: &[Access], others: &[Access]) -> bool
-    ensures { result ≡ shares_a_document accesses.now others.now }
-{
-    accesses.iter().any(|access| meets(access, others))
-}
-
 /// The work of the line that a place descends from.
 pub(crate) fn work_at(places: &[Place], n: usize) -> &Work
     requires there { n < length places.now }
@@ -159,48 +145,32 @@ pub(crate) fn declared(places: &[Place], n: usize) -> Option<&[Access]>
     }
 }
 
-/// Whether two places may not run together: a rule with no other place, and behaviours that share a document which one of them
-/// alters.
-fn conflict(places: &[Place], earlier: usize, later: usize) -> bool
-    requires earlier { earlier < length places.now }
-    requires later { later < length places.now }
-    requires tasks { HaveTasks places.now }
-    ensures { result ≡ conflict (task_in places.now earlier) (task_in places.now later) }
-{
-    let Some(accesses) = declared(places, earlier) else {
-        return true;
-    };
-    let Some(others) = declared(places, later) else {
-        return true;
-    };
-    shares_a_document(accesses, others)
-}
-
-/// Whether each place that stands before this one, from the first on, and that it conflicts with, has ended.
-pub(crate) fn is_clear(places: &[Place], first: usize, n: usize) -> bool
+/// The claims of a place.
+fn claims_at(places: &[Place], n: usize) -> Claims
     requires there { n < length places.now }
-    requires tasks { HaveTasks places.now }
-    ensures { IsTrue result ↔ IsClear places.now first n }
+    requires task { HasTask places.now n }
+    requires few { length (claims_for (task_in places.now n)) ≤ 9 }
+    ensures { result ≡ claims_for (task_in places.now n) }
 {
-    for m in first..n {
-        if !places[m].stand.is_over() && conflict(places, m, n) {
-            return false;
-        }
+    match declared(places, n) {
+        Some(accesses) => Claims::of_behaviour(accesses),
+        None => Claims::of_rule(),
     }
-    true
 }
 
-/// The first place from this one on that has not ended, or the end of the order.
-pub(crate) fn first_open(places: &[Place], from: usize) -> usize
-    requires { AreOver places.now from }
-    ensures { AreOver places.now result }
+/// The places from this one on enter the queues, each behind those before it.
+pub(crate) fn enter_queues(queues: &mut Queues, places: &[Place], from: usize)
+    requires before { QueuesTell queues.old.cowns queues.old.limit places.now from queues.old }
+    requires from { from ≤ length places.now }
+    requires room { length places.now ≤ queues.old.limit }
+    requires few { length places.now < 2 ^ 32 }
+    requires may { (n : ℕ) → from ≤ n → n < length places.now → MayEnter queues.old.cowns places.now n }
+    ensures { QueuesTell queues.old.cowns queues.old.limit places.now (length places.now) queues.new }
 {
     for n in from..places.len() {
-        if !places[n].stand.is_over() {
-            return n;
-        }
+        let claims = claims_at(places, n);
+        queues.enter(n as u32, claims.as_slice());
     }
-    places.len()
 }
 
 /// The children of a place enter, in order, by the numbers of their behaviours.

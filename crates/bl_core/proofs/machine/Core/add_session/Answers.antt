@@ -13,7 +13,7 @@ invariant_of-self c =
       sessions = c.push_reserved.ensures.items;
       rooms = c.push_reserved.ensures.capacity;
       places = refl;
-      first = refl;
+      queues = refl;
       policy = refl;
       shelves = refl;
     })

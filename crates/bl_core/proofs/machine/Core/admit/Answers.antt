@@ -1,31 +1,38 @@
-use Rattle.std.proofs.Common.{◌≡◌, ◌<◌, ◌+◌, ◌++◌, ◌∷◌, [], ℕ, length, sym, subst, ap, ◌∙◌, get_or, arith, refl, set}
+use Rattle.std.proofs.Common.{◌≡◌, ◌<◌, ◌≤◌, ◌+◌, ◌++◌, ◌∷◌, [], ℕ, List, length, length-append, sym, subst, ap, ◌∙◌, get_or, arith, refl, set}
 use Rattle.std.specs.Vec.{with_item}
-use Rattle.bl_order.specs.Machine.{State, Admits, Needs, change}
+use Rattle.bl_order.specs.Machine.{State, Admits, Needs, change, session_at}
+use Rattle.bl_order.specs.Order.{Entry, Line}
+use Rattle.bl_order.proofs.Reached.{reached-next}
+use Rattle.bl_core.specs.Queueing.{MayEnter, QueuesTell}
 use Rattle.bl_core.specs.View.{state_of}
+use Rattle.bl_core.specs.declared.place.Place.{Place}
 use Rattle.bl_core.specs.declared.session.Session.{Session}
 use Rattle.bl_core.specs.declared.machine.Core.TheInside.{Inside}
-use Rattle.bl_core.proofs.Admitting.{Admitted, kept-admitted, state-admitted, session-read, length-sessions, new_place}
+use Rattle.bl_core.proofs.Admitting.{Admitted, kept-admitted, state-admitted, session-read, length-sessions, new_place, tells_before, enters_last}
+use Rattle.bl_core.proofs.Queueing.{tell-as}
+use Rattle.bl_core.proofs.Views.{length-order}
 use Rattle.bl_core.proofs.machine.Core.admit.Goals as goal
-use Rattle.bl_core.proofs.machine.Core.admit.Goals.{After-push_reserved}
+use Rattle.bl_core.proofs.machine.Core.admit.Goals.{After-as_slice, After-enter_queues}
 
 -- the fields at the end
-abbrev after : After-push_reserved → Inside
+abbrev after : After-enter_queues → Inside
 after c = record c.self.inside {
   weight = c.self.inside.weight + c.weight-more.result;
   sessions = with_item c.self.inside.sessions c.number.result (record { subject = c.index_mut-row.result.now.subject; last = c.args.ordinal });
   places = c.push_reserved.new.self;
+  queues = c.enter_queues.new.queues;
 }
 
-needs : (c : After-push_reserved) → Needs (state_of c.self.inside) (Admits c.args.session c.args.ordinal c.args.work)
+needs : (c : After-enter_queues) → Needs (state_of c.self.inside) (Admits c.args.session c.args.ordinal c.args.work)
 needs c = subst (λ (x : State). Needs x (Admits c.args.session c.args.ordinal c.args.work)) (sym c.self.view_is) c.requires
 
-there : (c : After-push_reserved) → c.args.session < length c.self.inside.sessions.items
+there : (c : After-enter_queues) → c.args.session < length c.self.inside.sessions.items
 there c = omega (arith, (needs c).0, length-sessions c.self.inside)
 
-row : (c : After-push_reserved) → c.index_mut-row.result.now ≡ get_or c.self.inside.sessions.items c.args.session c.index_mut-row.result.now
+row : (c : After-enter_queues) → c.index_mut-row.result.now ≡ get_or c.self.inside.sessions.items c.args.session c.index_mut-row.result.now
 row c = c.index_mut-row.ensures.value ∙ ap (λ (j : ℕ). get_or c.self.inside.sessions.items j c.index_mut-row.result.now) c.number.ensures
 
-admitted : (c : After-push_reserved) → Admitted c.self.inside (after c) c.args.session c.args.ordinal c.index_mut-row.result.now.subject c.args.work
+admitted : (c : After-enter_queues) → Admitted c.self.inside (after c) c.args.session c.args.ordinal c.index_mut-row.result.now.subject c.args.work
 admitted c = record {
   setup = refl;
   limit = refl;
@@ -35,10 +42,77 @@ admitted c = record {
   places = c.push_reserved.ensures.items
       ∙ ap (λ (m : ℕ). c.self.inside.places.items ++ new_place m c.args.session c.args.ordinal c.index_mut-row.result.now.subject c.args.work ∷ []) (c.len-n.ensures ∙ c.self.inside.places.ok.0);
   capacity = c.push_reserved.ensures.capacity;
-  first = refl;
+  queued = tell-as (length c.self.inside.setup.policy.documents + 1) c.self.inside.limit c.push_reserved.new.self.items (length c.push_reserved.new.self.items)
+      c.self.inside.queues c.enter_queues.new.queues c.self.invariant.queued.cowns_are c.self.invariant.queued.limit_is
+      (subst (λ (l : List Place). QueuesTell c.self.inside.queues.cowns c.self.inside.queues.limit l (length l) c.enter_queues.new.queues) c.as_slice.ensures.value c.enter_queues.ensures);
   policy = refl;
   shelves = refl;
 }
+
+-- the same, as the queues are told of the new place
+asked : (c : After-as_slice) → Needs (state_of c.self.inside) (Admits c.args.session c.args.ordinal c.args.work)
+asked c = subst (λ (x : State). Needs x (Admits c.args.session c.args.ordinal c.args.work)) (sym c.self.view_is) c.requires
+
+open_there : (c : After-as_slice) → c.args.session < length c.self.inside.sessions.items
+open_there c = omega (arith, (asked c).0, length-sessions c.self.inside)
+
+kept_row : (c : After-as_slice) → c.index_mut-row.result.now ≡ get_or c.self.inside.sessions.items c.args.session c.index_mut-row.result.now
+kept_row c = c.index_mut-row.ensures.value ∙ ap (λ (j : ℕ). get_or c.self.inside.sessions.items j c.index_mut-row.result.now) c.number.ensures
+
+count : (c : After-as_slice) → c.len-n.result ≡ length c.self.inside.places.items
+count c = c.len-n.ensures ∙ c.self.inside.places.ok.0
+
+listed : (c : After-as_slice) → c.as_slice.result.now
+    ≡ c.self.inside.places.items ++ new_place (length c.self.inside.places.items) c.args.session c.args.ordinal c.index_mut-row.result.now.subject c.args.work ∷ []
+listed c =
+    c.as_slice.ensures.value ∙ c.push_reserved.ensures.items
+    ∙ ap (λ (m : ℕ). c.self.inside.places.items ++ new_place m c.args.session c.args.ordinal c.index_mut-row.result.now.subject c.args.work ∷ []) (count c)
+
+longer : (c : After-as_slice) → length c.as_slice.result.now ≡ length c.self.inside.places.items + 1
+longer c =
+    ap length (listed c)
+    ∙ length-append c.self.inside.places.items (new_place (length c.self.inside.places.items) c.args.session c.args.ordinal c.index_mut-row.result.now.subject c.args.work ∷ [])
+
+-- the order has room for the new place
+within : (c : After-as_slice) → length c.self.inside.places.items + 1 ≤ c.self.inside.limit
+within c =
+    omega (
+      arith,
+      length-order c.self.inside,
+      length-append (state_of c.self.inside).order (new_entry c ∷ []),
+      c.the_order_has_room.ensures.order (change (state_of c.self.inside) (Admits c.args.session c.args.ordinal c.args.work))
+          (reached-next (state_of c.self.inside) (Admits c.args.session c.args.ordinal c.args.work) c.self.invariant.reached (asked c)),
+    )
+  where
+    new_entry : (c : After-as_slice) → Entry
+    new_entry c = Line c.args.session c.args.ordinal (session_at (state_of c.self.inside) c.args.session).subject c.args.work
+
+pub enter_queues-requires-clause-before : goal.enter_queues-requires-clause-before
+enter_queues-requires-clause-before c =
+    subst (λ (m : ℕ). QueuesTell c.self.inside.queues.cowns c.self.inside.queues.limit c.as_slice.result.now m c.self.inside.queues) (sym (count c))
+    (subst (λ (l : List Place). QueuesTell c.self.inside.queues.cowns c.self.inside.queues.limit l (length c.self.inside.places.items) c.self.inside.queues) (sym (listed c))
+    (tells_before c.self.inside c.args.session c.args.ordinal c.index_mut-row.result.now.subject c.args.work
+    (session-read c.self.inside c.args.session c.index_mut-row.result.now (open_there c) (kept_row c)) c.self.invariant (asked c)
+    (subst (λ (r : Session). r.subject < length c.self.inside.setup.policy.subjects) (sym (kept_row c)) (c.self.invariant.speakers c.args.session c.index_mut-row.result.now (open_there c)))
+    (c.read_lines_are_in_the_setup.ensures.work c.self.inside.setup (asked c).1.0 c.args.work c.self.invariant.agree (asked c).1.1) c.weight-more.ensures.first))
+
+pub enter_queues-requires-clause-from : goal.enter_queues-requires-clause-from
+enter_queues-requires-clause-from c = omega (arith, count c, longer c)
+
+pub enter_queues-requires-clause-room : goal.enter_queues-requires-clause-room
+enter_queues-requires-clause-room c = omega (arith, longer c, within c, c.self.invariant.queued.limit_is)
+
+pub enter_queues-requires-clause-few : goal.enter_queues-requires-clause-few
+enter_queues-requires-clause-few c = omega (arith, longer c, within c)
+
+pub enter_queues-requires-clause-may : goal.enter_queues-requires-clause-may
+enter_queues-requires-clause-may c m ge lt =
+    subst (λ (l : List Place). MayEnter c.self.inside.queues.cowns l m) (sym (listed c))
+    (enters_last c.self.inside c.args.session c.args.ordinal c.index_mut-row.result.now.subject c.args.work
+    (session-read c.self.inside c.args.session c.index_mut-row.result.now (open_there c) (kept_row c)) c.self.invariant (asked c)
+    (subst (λ (r : Session). r.subject < length c.self.inside.setup.policy.subjects) (sym (kept_row c)) (c.self.invariant.speakers c.args.session c.index_mut-row.result.now (open_there c)))
+    (c.read_lines_are_in_the_setup.ensures.work c.self.inside.setup (asked c).1.0 c.args.work c.self.invariant.agree (asked c).1.1) c.weight-more.ensures.first
+    c.tasks_are_of_scripts.ensures m (omega (arith, ge, count c)) (subst (λ (l : List Place). m < length l) (listed c) lt))
 
 pub invariant_of-self : goal.invariant_of-self
 invariant_of-self c =

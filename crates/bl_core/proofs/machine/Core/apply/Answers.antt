@@ -1,27 +1,23 @@
-use Rattle.std.proofs.Common.{◌≡◌, ℕ, false, List, set, sym, subst, ap, ◌∙◌}
+use Rattle.std.proofs.Common.{◌≡◌, ℕ, false, inl, sym, subst, ap, ◌∙◌}
 use Rattle.bl_policy.specs.RuleEffect.{rule_fault, after_rule}
 use Rattle.bl_work.specs.declared.answer.Answer.{Answer}
 use Rattle.bl_order.specs.Order.{Task, Applies}
 use Rattle.bl_order.specs.Past.{changed, is_done}
 use Rattle.bl_order.specs.Machine.{State, MayStart, past_at, change, Starts, Ended}
-use Rattle.bl_core.specs.Places.{AreOver, phase_of}
+use Rattle.bl_core.specs.Places.{phase_of}
 use Rattle.bl_core.specs.View.{state_of}
 use Rattle.bl_core.specs.Answers.{IsStarted}
 use Rattle.bl_core.specs.Weights.{ruled}
-use Rattle.bl_core.specs.declared.place.Place.{Place}
 use Rattle.bl_core.specs.declared.place.Stand.TheVariants as stands
-use Rattle.bl_core.proofs.Written.{stands_at}
-use Rattle.bl_core.proofs.Closing.{over-closed, closed-state, closed-kept}
+use Rattle.bl_core.proofs.Closing.{closed-state, closed-kept}
+use Rattle.bl_core.proofs.Queueing.{queue-may}
 use Rattle.bl_core.proofs.Starting.{ruled-by, ruled-not_done, ruled-ends, changed-ruled}
 use Rattle.bl_core.proofs.Judging.{subject-read}
 use Rattle.bl_core.proofs.machine.Core.apply.Goals as goal
 use Rattle.bl_core.proofs.machine.Core.apply.Goals.{in-Some, in-None}
 
-pub first_open-self-inside-requires : goal.first_open-self-inside-requires
-first_open-self-inside-requires c =
-    subst (λ (l : List Place). AreOver l c.self.inside.first) (sym c.as_slice.ensures.value)
-    (over-closed c.self.inside c.self.invariant c.args.n c.index_mut-place.result.now c.ruled.result
-    (subst (λ (x : State). MayStart x c.args.n) (sym c.self.view_is) c.requires.may) c.index_mut-place.ensures.value)
+pub end-requires : goal.end-requires
+end-requires c = inl (queue-may c.self.inside c.self.invariant c.args.n (subst (λ (x : State). MayStart x c.args.n) (sym c.self.view_is) c.requires.may))
 
 may : (c : goal.Joined-denial) → MayStart (state_of c.self.inside) c.args.n
 may c = subst (λ (x : State). MayStart x c.args.n) (sym c.self.view_is) c.requires.may
@@ -48,9 +44,6 @@ policy_is c =
     ∙ ap (λ (t : Task). changed (ruled c.apply-denial.result) t (past_at (state_of c.self.inside) c.args.n).subject c.self.inside.policy) (sym (rule_is c))
     ∙ ap (λ (a : Answer). changed a (past_at (state_of c.self.inside) c.args.n).task (past_at (state_of c.self.inside) c.args.n).subject c.self.inside.policy) (sym (answer_is c))
 
-over : (c : goal.Joined-denial) → AreOver (set c.self.inside.places.items c.args.n (stands_at c.index_mut-place.result.now (stands.Ended c.ruled.result))) c.first_open-self-inside.result
-over c = subst (λ (l : List Place). AreOver l c.first_open-self-inside.result) c.as_slice.ensures.value c.first_open-self-inside.ensures
-
 ends : (c : goal.Joined-denial) → phase_of (stands.Ended c.ruled.result) ≡ Ended
 ends c = ap (λ (a : Answer). phase_of (stands.Ended a)) c.ruled.ensures ∙ ruled-ends c.apply-denial.result
 
@@ -59,12 +52,12 @@ idle c = ap is_done c.ruled.ensures ∙ ruled-not_done c.apply-denial.result
 
 pub invariant_of-self : goal.invariant_of-self
 invariant_of-self c =
-    closed-kept c.self.inside c.self.invariant c.args.n c.index_mut-place.result.now c.ruled.result (may c) c.index_mut-place.ensures.value c.first_open-self-inside.result c.apply-denial.new.self (over c)
+    closed-kept c.self.inside c.self.invariant c.args.n c.index_mut-place.result.now c.ruled.result (may c) c.index_mut-place.ensures.value c.end.new.self c.apply-denial.new.self c.end.ensures
     (answer_is c ∙ sym c.ruled.ensures) (ends c) (idle c) (policy_is c) c.apply-denial.ensures.same_ids.0 c.apply-denial.ensures.same_ids.1
 
 pub returns-clause-change : goal.returns-clause-change
 returns-clause-change c =
-    closed-state c.self.inside c.self.invariant c.args.n c.index_mut-place.result.now c.ruled.result (may c) c.index_mut-place.ensures.value c.first_open-self-inside.result c.apply-denial.new.self (over c)
+    closed-state c.self.inside c.self.invariant c.args.n c.index_mut-place.result.now c.ruled.result (may c) c.index_mut-place.ensures.value c.end.new.self c.apply-denial.new.self c.end.ensures
     (answer_is c ∙ sym c.ruled.ensures) (ends c) (idle c) (policy_is c) c.apply-denial.ensures.same_ids.0 c.apply-denial.ensures.same_ids.1
     ∙ ap (λ (x : State). change x (Starts c.args.n)) c.self.view_is
 

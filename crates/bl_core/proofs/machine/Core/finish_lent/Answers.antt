@@ -1,4 +1,4 @@
-use Rattle.std.proofs.Common.{◌≡◌, ◌<◌, ◌≤◌, ◌+◌, ◌++◌, ℕ, List, length, get_or, set, sym, subst, ap, ◌∙◌, refl, arith, inr}
+use Rattle.std.proofs.Common.{◌≡◌, ◌<◌, ◌≤◌, ◌+◌, ◌++◌, ℕ, List, length, get_or, set, length-append, length-set, sym, subst, ap, ◌∙◌, refl, arith, inr}
 use Rattle.std.specs.Prelude.{All}
 use Rattle.std.specs.Vec.{with_items}
 use Rattle.std.proofs.lemmas.List.{get_or_read}
@@ -8,22 +8,25 @@ use Rattle.bl_order.specs.Machine.{State, change, Ends}
 use Rattle.bl_grant.specs.Loaned.{Back}
 use Rattle.bl_eval.specs.Loan.{Loan, backs, part_of, effects_on}
 use Rattle.bl_core.specs.Answers.{loan_at}
-use Rattle.bl_core.specs.Places.{child_places, no_place, place_in, AreOver}
+use Rattle.bl_core.specs.Places.{child_places, no_place, place_in}
 use Rattle.bl_core.specs.Shelves.{put_back}
+use Rattle.bl_queue.specs.Queues.{Queue}
+use Rattle.bl_core.specs.Queueing.{MayEnter, QueuesTell}
 use Rattle.bl_core.specs.View.{state_of}
 use Rattle.bl_core.specs.declared.place.Place.{Place}
 use Rattle.bl_core.specs.declared.place.Stand.{Stand}
 use Rattle.bl_core.specs.declared.place.Stand.TheVariants as stands
 use Rattle.bl_core.specs.declared.shelf.Shelf.{Shelf}
 use Rattle.bl_core.specs.declared.machine.Core.TheInside.{Inside}
-use Rattle.bl_core.proofs.Views.{over-ended}
-use Rattle.bl_core.proofs.Written.{Written, stands_at, over-written}
+use Rattle.bl_core.proofs.Written.{Written, stands_at}
 use Rattle.bl_core.proofs.Backs.{length-put_back}
 use Rattle.bl_core.proofs.Lending.{written_items}
 use Rattle.bl_core.proofs.Lent.{runs-here, backs-here, outputs-here, children-here}
-use Rattle.bl_core.proofs.Finishing.{end_there, end_shelves, end_room, end-state, end-kept}
+use Rattle.bl_core.proofs.Queueing.{queue-runs, tell-as, tell-own}
+use Rattle.bl_core.proofs.Ending.{length-child_places}
+use Rattle.bl_core.proofs.Finishing.{end_there, end_shelves, end_room, end_tell, end_enters, end-state, end-kept}
 use Rattle.bl_core.proofs.machine.Core.finish_lent.Goals as goal
-use Rattle.bl_core.proofs.machine.Core.finish_lent.Goals.{After-as_slice}
+use Rattle.bl_core.proofs.machine.Core.finish_lent.Goals.{After-as_slice, After-as_slice-2}
 
 -- the places after the children entered
 entered : (old new : List Place) (n : ℕ) (s : Place) (v : Stand) (ks : List ℕ) → n < length old → s ≡ get_or old n s
@@ -59,12 +62,53 @@ enter_children-requires-clause-room c = omega (arith, fits c, c.self.invariant.r
 pub enter_children-requires-clause-few : goal.enter_children-requires-clause-few
 enter_children-requires-clause-few c = omega (arith, fits c)
 
-pub first_open-self-inside-requires : goal.first_open-self-inside-requires
-first_open-self-inside-requires c =
-    subst (λ (l : List Place). AreOver l c.self.inside.first) (sym (c.as_slice-2.ensures.value ∙ (entered c.self.inside.places.items c.enter_children.new.places.items c.into_parts-entry.result.entry c.index_mut-place.result.now (stands.Ended (answers.Done c.into_parts-entry.result.outputs)) c.as_slice.result.now (end_there c.self.inside c.self.invariant c.into_parts-entry.result.entry (runs-here c.self.inside c.args.self.now c.self.view_is c.args.done c.into_parts-entry.result.entry (ap (λ (l : Loan). l.entry) c.into_parts-entry.ensures.loan) c.requires.running)) c.index_mut-place.ensures.value c.enter_children.ensures.items)))
-    (over-written c.self.inside.places.items c.into_parts-entry.result.entry (stands_at c.index_mut-place.result.now (stands.Ended (answers.Done c.into_parts-entry.result.outputs))) (child_places c.into_parts-entry.result.entry (place_in c.self.inside.places.items c.into_parts-entry.result.entry).root (place_in c.self.inside.places.items c.into_parts-entry.result.entry).subject 1 c.as_slice.result.now)
-    (end_there c.self.inside c.self.invariant c.into_parts-entry.result.entry (runs-here c.self.inside c.args.self.now c.self.view_is c.args.done c.into_parts-entry.result.entry (ap (λ (l : Loan). l.entry) c.into_parts-entry.ensures.loan) c.requires.running))
-    c.self.inside.first (inr (over-ended (answers.Done c.into_parts-entry.result.outputs))) c.self.invariant.first)
+pub end-requires : goal.end-requires
+end-requires c = inr (queue-runs c.self.inside c.self.invariant c.into_parts-entry.result.entry (end_there c.self.inside c.self.invariant c.into_parts-entry.result.entry (runs-here c.self.inside c.args.self.now c.self.view_is c.args.done c.into_parts-entry.result.entry (ap (λ (l : Loan). l.entry) c.into_parts-entry.ensures.loan) c.requires.running)) (runs-here c.self.inside c.args.self.now c.self.view_is c.args.done c.into_parts-entry.result.entry (ap (λ (l : Loan). l.entry) c.into_parts-entry.ensures.loan) c.requires.running))
+
+-- the places as the children enter the queues
+listed : (c : After-as_slice-2) → c.as_slice-2.result.now ≡ (set c.self.inside.places.items c.into_parts-entry.result.entry (stands_at c.index_mut-place.result.now (stands.Ended (answers.Done c.into_parts-entry.result.outputs))) ++ child_places c.into_parts-entry.result.entry (place_in c.self.inside.places.items c.into_parts-entry.result.entry).root (place_in c.self.inside.places.items c.into_parts-entry.result.entry).subject 1 c.as_slice.result.now)
+listed c = c.as_slice-2.ensures.value ∙ (entered c.self.inside.places.items c.enter_children.new.places.items c.into_parts-entry.result.entry c.index_mut-place.result.now (stands.Ended (answers.Done c.into_parts-entry.result.outputs)) c.as_slice.result.now (end_there c.self.inside c.self.invariant c.into_parts-entry.result.entry (runs-here c.self.inside c.args.self.now c.self.view_is c.args.done c.into_parts-entry.result.entry (ap (λ (l : Loan). l.entry) c.into_parts-entry.ensures.loan) c.requires.running)) c.index_mut-place.ensures.value c.enter_children.ensures.items)
+
+count : (c : After-as_slice-2) → c.len-first.result ≡ length c.self.inside.places.items
+count c = c.len-first.ensures ∙ c.self.inside.places.ok.0
+
+longer : (c : After-as_slice-2) → length c.as_slice-2.result.now ≡ length c.self.inside.places.items + length c.as_slice.result.now
+longer c =
+    ap length (listed c)
+    ∙ length-append (set c.self.inside.places.items c.into_parts-entry.result.entry (stands_at c.index_mut-place.result.now (stands.Ended (answers.Done c.into_parts-entry.result.outputs)))) (child_places c.into_parts-entry.result.entry (place_in c.self.inside.places.items c.into_parts-entry.result.entry).root (place_in c.self.inside.places.items c.into_parts-entry.result.entry).subject 1 c.as_slice.result.now)
+    ∙ ap (λ (m : ℕ). m + length (child_places c.into_parts-entry.result.entry (place_in c.self.inside.places.items c.into_parts-entry.result.entry).root (place_in c.self.inside.places.items c.into_parts-entry.result.entry).subject 1 c.as_slice.result.now)) (length-set c.self.inside.places.items c.into_parts-entry.result.entry (stands_at c.index_mut-place.result.now (stands.Ended (answers.Done c.into_parts-entry.result.outputs))))
+    ∙ ap (λ (m : ℕ). length c.self.inside.places.items + m) (length-child_places c.into_parts-entry.result.entry (place_in c.self.inside.places.items c.into_parts-entry.result.entry).root (place_in c.self.inside.places.items c.into_parts-entry.result.entry).subject 1 c.as_slice.result.now)
+
+within : (c : After-as_slice-2) → length c.self.inside.places.items + length c.as_slice.result.now ≤ c.self.inside.limit
+within c =
+    end_room c.self.inside c.self.invariant c.into_parts-entry.result.entry (runs-here c.self.inside c.args.self.now c.self.view_is c.args.done c.into_parts-entry.result.entry (ap (λ (l : Loan). l.entry) c.into_parts-entry.ensures.loan) c.requires.running) (length c.as_slice.result.now)
+    (c.the_order_has_room.ensures.children (state_of c.self.inside) c.into_parts-entry.result.entry c.self.invariant.reached (runs-here c.self.inside c.args.self.now c.self.view_is c.args.done c.into_parts-entry.result.entry (ap (λ (l : Loan). l.entry) c.into_parts-entry.ensures.loan) c.requires.running))
+    (ap length (c.as_slice.ensures.value ∙ c.into_parts-entry.ensures.spawned ∙ children-here c.self.inside c.args.self.now c.self.view_is c.args.done c.into_parts-entry.result.entry (ap (λ (l : Loan). l.entry) c.into_parts-entry.ensures.loan) c.requires.lent))
+
+pub enter_queues-requires-clause-before : goal.enter_queues-requires-clause-before
+enter_queues-requires-clause-before c =
+    tell-own (length c.self.inside.setup.policy.documents + 1) c.self.inside.limit c.as_slice-2.result.now c.len-first.result c.end.new.self
+    (subst (λ (m : ℕ). QueuesTell (length c.self.inside.setup.policy.documents + 1) c.self.inside.limit c.as_slice-2.result.now m c.end.new.self) (sym (count c))
+    (subst (λ (l : List Place). QueuesTell (length c.self.inside.setup.policy.documents + 1) c.self.inside.limit l (length c.self.inside.places.items) c.end.new.self) (sym (listed c))
+    (subst (QueuesTell (length c.self.inside.setup.policy.documents + 1) c.self.inside.limit (set c.self.inside.places.items c.into_parts-entry.result.entry (stands_at c.index_mut-place.result.now (stands.Ended (answers.Done c.into_parts-entry.result.outputs))) ++ child_places c.into_parts-entry.result.entry (place_in c.self.inside.places.items c.into_parts-entry.result.entry).root (place_in c.self.inside.places.items c.into_parts-entry.result.entry).subject 1 c.as_slice.result.now) (length c.self.inside.places.items)) (sym c.end.ensures)
+    (end_tell c.self.inside c.self.invariant c.into_parts-entry.result.entry (runs-here c.self.inside c.args.self.now c.self.view_is c.args.done c.into_parts-entry.result.entry (ap (λ (l : Loan). l.entry) c.into_parts-entry.ensures.loan) c.requires.running) c.index_mut-place.result.now (answers.Done c.into_parts-entry.result.outputs)
+    (child_places c.into_parts-entry.result.entry (place_in c.self.inside.places.items c.into_parts-entry.result.entry).root (place_in c.self.inside.places.items c.into_parts-entry.result.entry).subject 1 c.as_slice.result.now) c.index_mut-place.ensures.value))))
+
+pub enter_queues-requires-clause-from : goal.enter_queues-requires-clause-from
+enter_queues-requires-clause-from c = omega (arith, count c, longer c)
+
+pub enter_queues-requires-clause-room : goal.enter_queues-requires-clause-room
+enter_queues-requires-clause-room c = omega (arith, longer c, within c, ap (λ (q : Queue). q.limit) c.end.ensures, c.self.invariant.queued.limit_is)
+
+pub enter_queues-requires-clause-few : goal.enter_queues-requires-clause-few
+enter_queues-requires-clause-few c = omega (arith, longer c, within c)
+
+pub enter_queues-requires-clause-may : goal.enter_queues-requires-clause-may
+enter_queues-requires-clause-may c m ge lt =
+    subst (λ (k : ℕ). MayEnter k c.as_slice-2.result.now m) (sym (ap (λ (q : Queue). q.cowns) c.end.ensures ∙ c.self.invariant.queued.cowns_are))
+    (subst (λ (l : List Place). MayEnter (length c.self.inside.setup.policy.documents + 1) l m) (sym (listed c))
+    (end_enters c.self.inside c.self.invariant c.into_parts-entry.result.entry (runs-here c.self.inside c.args.self.now c.self.view_is c.args.done c.into_parts-entry.result.entry (ap (λ (l : Loan). l.entry) c.into_parts-entry.ensures.loan) c.requires.running) c.index_mut-place.result.now c.into_parts-entry.result.outputs c.as_slice.result.now c.index_mut-place.ensures.value
+    (c.as_slice.ensures.value ∙ c.into_parts-entry.ensures.spawned ∙ children-here c.self.inside c.args.self.now c.self.view_is c.args.done c.into_parts-entry.result.entry (ap (λ (l : Loan). l.entry) c.into_parts-entry.ensures.loan) c.requires.lent) c.tasks_are_of_scripts.ensures m (omega (arith, ge, count c)) (subst (λ (l : List Place). m < length l) (listed c) lt)))
 
 -- the fields at the end
 abbrev after : goal.After-drop-spawned → Inside
@@ -75,7 +119,7 @@ after c = record {
   weight = c.self.inside.weight;
   sessions = c.self.inside.sessions;
   places = c.enter_children.new.places;
-  first = c.first_open-self-inside.result;
+  queues = c.enter_queues.new.queues;
   policy = c.self.inside.policy;
   shelves = with_items c.self.inside.shelves c.take_back.new.shelves;
 }
@@ -98,7 +142,9 @@ written c = record {
   rooms = refl;
   places = (entered c.self.inside.places.items c.enter_children.new.places.items c.into_parts-entry.result.entry c.index_mut-place.result.now (stands.Ended (answers.Done c.into_parts-entry.result.outputs)) c.as_slice.result.now (end_there c.self.inside c.self.invariant c.into_parts-entry.result.entry (runs-here c.self.inside c.args.self.now c.self.view_is c.args.done c.into_parts-entry.result.entry (ap (λ (l : Loan). l.entry) c.into_parts-entry.ensures.loan) c.requires.running)) c.index_mut-place.ensures.value c.enter_children.ensures.items);
   capacity = c.enter_children.ensures.room;
-  first = subst (λ (l : List Place). AreOver l c.first_open-self-inside.result) c.as_slice-2.ensures.value c.first_open-self-inside.ensures;
+  queued = tell-as (length c.self.inside.setup.policy.documents + 1) c.self.inside.limit c.enter_children.new.places.items (length c.enter_children.new.places.items) c.end.new.self c.enter_queues.new.queues
+      (ap (λ (q : Queue). q.cowns) c.end.ensures ∙ c.self.invariant.queued.cowns_are) (ap (λ (q : Queue). q.limit) c.end.ensures ∙ c.self.invariant.queued.limit_is)
+      (subst (λ (l : List Place). QueuesTell c.end.new.self.cowns c.end.new.self.limit l (length l) c.enter_queues.new.queues) c.as_slice-2.ensures.value c.enter_queues.ensures);
 }
 
 pub invariant_of-self : goal.invariant_of-self

@@ -1,5 +1,6 @@
-use Rattle.std.proofs.Common.{refl, ap, ◌∙◌}
+use Rattle.std.proofs.Common.{ℕ, ◌+◌, [], length, refl, ap, ◌∙◌}
 use Rattle.std.specs.Prelude.{map}
+use Rattle.bl_policy.specs.Policy.{SecurityPolicy}
 use Rattle.bl_core.specs.Shelves.{new_shelf}
 use Rattle.bl_core.proofs.Beginning.{kept-begun}
 use Rattle.bl_core.proofs.machine.Core.new.Goals as goal
@@ -14,7 +15,7 @@ invariant_of-result c =
       weight = 0;
       sessions = c.in_ok-sessions.sessions;
       places = c.in_ok-places.places;
-      first = 0;
+      queues = c.in_ok-queues.queues;
       policy = c.in_ok-policy.policy;
       shelves = c.in_ok-shelves.shelves;
     })
@@ -25,7 +26,7 @@ invariant_of-result c =
       places = c.in_ok-places.ensures.items;
       shelves = c.in_ok-shelves.ensures ∙ ap (map new_shelf) c.contents.ensures.value;
       weight = refl;
-      first = refl;
+      queues = c.in_ok-queues.ensures ∙ ap (λ (m : ℕ). record { cowns = m + 1; limit = c.args.limit; entries = [] }) (c.documents.ensures.value ∙ ap (λ (p : SecurityPolicy). length p.documents) (c.in_ok-policy.ensures ∙ c.policy.ensures.value));
       reserved = c.in_ok-places.ensures.capacity;
       rooms = c.in_ok-sessions.ensures.capacity;
     })

@@ -1,18 +1,20 @@
-use Rattle.std.proofs.Common.{arith, subst, sym}
+use Rattle.std.proofs.Common.{ℕ, subst, sym}
+use Rattle.std.specs.Prelude.{IfSome, Option, Some, None}
 use Rattle.bl_order.specs.Machine.{State, MayStart}
-use Rattle.bl_core.specs.View.{state_of}
-use Rattle.bl_core.proofs.Views.{length-order}
-use Rattle.bl_core.proofs.Reading.{first_within, none_before}
+use Rattle.bl_queue.specs.Entries as entries
+use Rattle.bl_core.proofs.Queueing.{may-queued, queue-may}
 use Rattle.bl_core.proofs.machine.Core.ready.Goals as goal
 
-pub overflow_cast-count : goal.overflow_cast-count
-overflow_cast-count c =
-    omega (arith, c.the_order_has_room.ensures.order (state_of c.self.inside) c.self.invariant.reached, length-order c.self.inside, c.self.inside.places.ok.0)
+-- what is said of the number in an option
+if_some : (o : Option ℕ) (P Q : ℕ → Type 0) → ((n : ℕ) → P n → Q n) → IfSome o P → IfSome o Q
+if_some None P Q f h = tt
+if_some (Some n) P Q f h = f n h
 
-pub overflow_step-n : goal.overflow_step-n
-overflow_step-n c =
-    omega (arith, first_within c.self.inside c.self.invariant, c.the_order_has_room.ensures.order (state_of c.self.inside) c.self.invariant.reached, length-order c.self.inside, c.self.inside.places.ok.0)
+pub returns-clause-some : goal.returns-clause-some
+returns-clause-some c =
+    if_some c.ready.result (entries.MayStart c.self.inside.queues.entries) (MayStart c.args.self.now)
+    (λ n may. subst (λ (x : State). MayStart x n) c.self.view_is (may-queued c.self.inside c.self.invariant n may)) c.ready.ensures.some
 
--- what stands before the first place that has not ended may not start
-pub loop-n-init : goal.loop-n-init
-loop-n-init c m lt may = none_before c.self.inside c.self.invariant m lt (subst (λ (x : State). MayStart x m) (sym c.self.view_is) may)
+pub returns-clause-none : goal.returns-clause-none
+returns-clause-none c none n may =
+    c.ready.ensures.none none n (queue-may c.self.inside c.self.invariant n (subst (λ (x : State). MayStart x n) (sym c.self.view_is) may))

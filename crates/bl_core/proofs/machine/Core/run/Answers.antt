@@ -8,6 +8,7 @@ use Rattle.bl_core.specs.Places.{task_in}
 use Rattle.bl_core.specs.Shelves.{marked}
 use Rattle.bl_core.specs.declared.place.Place.{Place}
 use Rattle.bl_core.specs.declared.shelf.Shelf.{Shelf}
+use Rattle.bl_core.proofs.Queueing.{queue-may}
 use Rattle.bl_core.proofs.Reading.{shelves-declared}
 use Rattle.bl_core.proofs.Starting.{there-may}
 use Rattle.bl_core.proofs.Running.{run-kept, run-state}
@@ -20,13 +21,16 @@ mark-requires c =
     (subst (λ (h : List Shelf). All (λ (a : Access). a.doc < length h) (accesses_of (task_in c.self.inside.places.items c.args.n))) (sym c.as_mut_slice.ensures.value)
     (shelves-declared c.self.inside c.self.invariant c.args.n (there-may c.self.inside c.args.n (subst (λ (x : State). MayStart x c.args.n) (sym c.self.view_is) c.requires.may))))
 
+pub started-requires : goal.started-requires
+started-requires c = queue-may c.self.inside c.self.invariant c.args.n (subst (λ (x : State). MayStart x c.args.n) (sym c.self.view_is) c.requires.may)
+
 pub invariant_of-self : goal.invariant_of-self
 invariant_of-self c =
     run-kept c.self.inside c.self.invariant c.args.n c.index_mut-place.result.now (subst (λ (x : State). MayStart x c.args.n) (sym c.self.view_is) c.requires.may)
     c.index_mut-place.ensures.value
     (ap (λ (x : State). is_rule (past_at x c.args.n).task) c.self.view_is ∙ c.requires.behaviour)
     (ap (λ (x : State). is_done (past_at x c.args.n).answer) c.self.view_is ∙ c.requires.done)
-    c.mark.new.shelves c.in-Some.accesses.now
+    c.started.new.self c.started.ensures c.mark.new.shelves c.in-Some.accesses.now
     (c.in-Some.ensures.1 ∙ ap (λ (l : List Place). accesses_of (task_in l c.args.n)) c.as_slice.ensures.value)
     (c.mark.ensures ∙ ap (λ (h : List Shelf). marked h c.in-Some.accesses.now) c.as_mut_slice.ensures.value)
 
@@ -36,7 +40,7 @@ returns c =
     c.index_mut-place.ensures.value
     (ap (λ (x : State). is_rule (past_at x c.args.n).task) c.self.view_is ∙ c.requires.behaviour)
     (ap (λ (x : State). is_done (past_at x c.args.n).answer) c.self.view_is ∙ c.requires.done)
-    c.mark.new.shelves c.in-Some.accesses.now
+    c.started.new.self c.started.ensures c.mark.new.shelves c.in-Some.accesses.now
     (c.in-Some.ensures.1 ∙ ap (λ (l : List Place). accesses_of (task_in l c.args.n)) c.as_slice.ensures.value)
     (c.mark.ensures ∙ ap (λ (h : List Shelf). marked h c.in-Some.accesses.now) c.as_mut_slice.ensures.value)
     ∙ ap (λ (x : State). change x (Starts c.args.n)) c.self.view_is
