@@ -4,6 +4,7 @@ use Rattle.std.specs.Prelude.{All}
 use Rattle.std.proofs.lemmas.List.Elements.{All-cons, All-nil, All-append}
 use Rattle.std.specs.Result.{IsErrAnd}
 use Rattle.std.proofs.lemmas.Result.{err_from_is_err_and}
+use Rattle.bl_work.specs.Spelled.{SpelledBody}
 use Rattle.bl_syntax.specs.declared.raw.RawStatement.{RawStatement}
 use Rattle.bl_work.specs.First.{IsNameOfFirst}
 
@@ -73,3 +74,8 @@ exits P name_of xs r e is f =
 pub in_statement : {X U : Type 0} (F : List RawStatement → List X) (P : X → Type 0) (name_of : X → List ℕ) (s t : RawStatement) (r : Result U (Bor (List ℕ))) → s ≡ t
     → Finds P name_of (F (t ∷ [])) r → Finds P name_of (F (s ∷ [])) r
 in_statement F P name_of s t r same found = subst (λ z. Finds P name_of (F (z ∷ [])) r) (sym same) found
+
+-- a search in a body that is known to be this one
+pub in_body : {X U : Type 0} (F : SpelledBody → List X) (P : X → Type 0) (name_of : X → List ℕ) (a b : SpelledBody) (r : Result U (Bor (List ℕ))) → a ≡ b
+    → Finds P name_of (F b) r → Finds P name_of (F a) r
+in_body F P name_of a b r same found = subst (λ z. Finds P name_of (F z) r) (sym same) found

@@ -30,12 +30,12 @@ raw_body-append (Add document words ∷ xs) ys = ap (λ b. add document.now word
 raw_body-append (Set document words ∷ xs) ys = ap (λ b. set document.now words.now b) (raw_body-append xs ys)
 raw_body-append (Copy from to ∷ xs) ys = ap (λ b. copy from.now to.now b) (raw_body-append xs ys)
 raw_body-append (Pour from to ∷ xs) ys = ap (λ b. pour from.now to.now b) (raw_body-append xs ys)
-raw_body-append (IfThen document asks words then_body ∷ xs) ys =
-    ap (λ b. if_then document.now asks words.now then_body b) (raw_body-append xs ys)
-raw_body-append (IfElse document asks words then_body else_body ∷ xs) ys =
-    ap (λ b. if_else document.now asks words.now then_body else_body b) (raw_body-append xs ys)
-raw_body-append (Spawn first more body ∷ xs) ys =
-    ap (λ b. spawn (raw_access first) (map raw_access more.items) body b) (raw_body-append xs ys)
+raw_body-append (IfThen choice ∷ xs) ys =
+    let c = choice.value in ap (λ b. if_then c.document.now c.test c.text.now c.then_body b) (raw_body-append xs ys)
+raw_body-append (IfElse choice ∷ xs) ys =
+    let c = choice.value in ap (λ b. if_else c.document.now c.test c.text.now c.then_body c.else_body b) (raw_body-append xs ys)
+raw_body-append (Spawn spawned ∷ xs) ys =
+    let w = spawned.value in ap (λ b. spawn (raw_access w.first) (map raw_access w.more.items) w.body b) (raw_body-append xs ys)
 
 -- ---- each list of a body, in two bodies
 
@@ -153,9 +153,9 @@ depth-cons (Add document words) xs = (omega arith, omega arith)
 depth-cons (Set document words) xs = (omega arith, omega arith)
 depth-cons (Copy from to) xs = (omega arith, omega arith)
 depth-cons (Pour from to) xs = (omega arith, omega arith)
-depth-cons (IfThen document asks words then_body) xs = (omega arith, omega arith)
-depth-cons (IfElse document asks words then_body else_body) xs = (omega arith, omega arith)
-depth-cons (Spawn first more body) xs = (omega arith, omega arith)
+depth-cons (IfThen choice) xs = (omega arith, omega arith)
+depth-cons (IfElse choice) xs = (omega arith, omega arith)
+depth-cons (Spawn spawned) xs = (omega arith, omega arith)
 
 -- a statement goes no deeper than the body that it stands in
 pub depth-at : (xs : List RawStatement) (i : ℕ) (x : RawStatement) → i < length xs → x ≡ get_or xs i x → spelled_depth (raw_body (x ∷ [])) ≤ spelled_depth (raw_body xs)
@@ -170,9 +170,9 @@ depth_in-cons (Add document words) xs = (omega arith, omega arith)
 depth_in-cons (Set document words) xs = (omega arith, omega arith)
 depth_in-cons (Copy from to) xs = (omega arith, omega arith)
 depth_in-cons (Pour from to) xs = (omega arith, omega arith)
-depth_in-cons (IfThen document asks words then_body) xs = (omega arith, omega arith)
-depth_in-cons (IfElse document asks words then_body else_body) xs = (omega arith, omega arith)
-depth_in-cons (Spawn first more body) xs = (omega arith, omega arith)
+depth_in-cons (IfThen choice) xs = (omega arith, omega arith)
+depth_in-cons (IfElse choice) xs = (omega arith, omega arith)
+depth_in-cons (Spawn spawned) xs = (omega arith, omega arith)
 
 -- nothing in a statement is deeper than the deepest of its body
 pub depth_in-at : (xs : List RawStatement) (i : ℕ) (x : RawStatement) → i < length xs → x ≡ get_or xs i x → depth_in (raw_body (x ∷ [])) ≤ depth_in (raw_body xs)

@@ -34,15 +34,20 @@ fn is_statement_shallow(statement: &RawStatement<'_>, most: usize) -> bool
     ensures { IsTrue result ↔ (depth_in (raw_body (statement.now ∷ [])) ≤ most) }
 {
     match statement {
-        RawStatement::IfThen { then_body, .. } => most > 0 && is_body_shallow(then_body, most - 1),
-        RawStatement::IfElse {
-            then_body,
-            else_body,
-            ..
-        } => {
-            most > 0 && is_body_shallow(then_body, most - 1) && is_body_shallow(else_body, most - 1)
+        RawStatement::IfThen(choice) => {
+            let choice = choice.as_ref();
+            most > 0 && is_body_shallow(&choice.then_body, most - 1)
         }
-        RawStatement::Spawn { body, .. } => most > 0 && is_body_shallow(body, most - 1),
+        RawStatement::IfElse(choice) => {
+            let choice = choice.as_ref();
+            most > 0
+                && is_body_shallow(&choice.then_body, most - 1)
+                && is_body_shallow(&choice.else_body, most - 1)
+        }
+        RawStatement::Spawn(when) => {
+            let when = when.as_ref();
+            most > 0 && is_body_shallow(&when.body, most - 1)
+        }
         _ => true,
     }
 }
@@ -75,20 +80,21 @@ fn whens_left_behind(statement: &RawStatement<'_>, most: usize) -> Option<usize>
         MatchOption result (AreFewIn most body → ⊥) (λ left. AreFewIn most body × (whens body + left ≡ most)) }
 {
     match statement {
-        RawStatement::IfThen { then_body, .. } => whens_left(then_body, most),
-        RawStatement::IfElse {
-            then_body,
-            else_body,
-            ..
-        } => {
-            let left = whens_left(then_body, most)?;
-            whens_left(else_body, left)
+        RawStatement::IfThen(choice) => {
+            let choice = choice.as_ref();
+            whens_left(&choice.then_body, most)
         }
-        RawStatement::Spawn { more, body, .. } => {
-            if most == 0 || more.len() >= MOST_ACCESSES {
+        RawStatement::IfElse(choice) => {
+            let choice = choice.as_ref();
+            let left = whens_left(&choice.then_body, most)?;
+            whens_left(&choice.else_body, left)
+        }
+        RawStatement::Spawn(when) => {
+            let when = when.as_ref();
+            if most == 0 || when.more.len() >= MOST_ACCESSES {
                 return None;
             }
-            whens_left(body, most - 1)
+            whens_left(&when.body, most - 1)
         }
         _ => Some(most),
     }

@@ -69,27 +69,21 @@ fn check_statement_known<'a>(
             check_used_known(names, first, more, from)?;
             check_used_known(names, first, more, to)
         }
-        RawStatement::IfThen {
-            document,
-            then_body,
-            ..
-        } => {
-            check_used_known(names, first, more, document)?;
-            check_known(names, first, more, then_body)
+        RawStatement::IfThen(choice) => {
+            let choice = choice.as_ref();
+            check_used_known(names, first, more, choice.document)?;
+            check_known(names, first, more, &choice.then_body)
         }
-        RawStatement::IfElse {
-            document,
-            then_body,
-            else_body,
-            ..
-        } => {
-            check_used_known(names, first, more, document)?;
-            check_known(names, first, more, then_body)?;
-            check_known(names, first, more, else_body)
+        RawStatement::IfElse(choice) => {
+            let choice = choice.as_ref();
+            check_used_known(names, first, more, choice.document)?;
+            check_known(names, first, more, &choice.then_body)?;
+            check_known(names, first, more, &choice.else_body)
         }
-        RawStatement::Spawn { first, more, body } => {
-            check_accesses_known(names, *first, more)?;
-            check_known(names, *first, more, body)
+        RawStatement::Spawn(when) => {
+            let when = when.as_ref();
+            check_accesses_known(names, when.first, &when.more)?;
+            check_known(names, when.first, &when.more, &when.body)
         }
     }
 }

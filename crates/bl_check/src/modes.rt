@@ -62,25 +62,21 @@ fn check_statement_declared<'a>(
             check_use(first, more, Does::Observes, from)?;
             check_use(first, more, Does::Alters, to)
         }
-        RawStatement::IfThen {
-            document,
-            then_body,
-            ..
-        } => {
-            check_use(first, more, Does::Observes, document)?;
-            check_declared(first, more, then_body)
+        RawStatement::IfThen(choice) => {
+            let choice = choice.as_ref();
+            check_use(first, more, Does::Observes, choice.document)?;
+            check_declared(first, more, &choice.then_body)
         }
-        RawStatement::IfElse {
-            document,
-            then_body,
-            else_body,
-            ..
-        } => {
-            check_use(first, more, Does::Observes, document)?;
-            check_declared(first, more, then_body)?;
-            check_declared(first, more, else_body)
+        RawStatement::IfElse(choice) => {
+            let choice = choice.as_ref();
+            check_use(first, more, Does::Observes, choice.document)?;
+            check_declared(first, more, &choice.then_body)?;
+            check_declared(first, more, &choice.else_body)
         }
-        RawStatement::Spawn { first, more, body } => check_declared(*first, more, body),
+        RawStatement::Spawn(when) => {
+            let when = when.as_ref();
+            check_declared(when.first, &when.more, &when.body)
+        }
     }
 }
 

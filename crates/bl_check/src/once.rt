@@ -40,18 +40,19 @@ fn check_statement_once<'a>(statement: &RawStatement<'a>) -> Result<(), &'a [u8]
         MatchResult result (λ _. All IsOnce xs) (λ name. IsNameOfFirst IsOnce declared_document xs name.now) }
 {
     match statement {
-        RawStatement::IfThen { then_body, .. } => check_once(then_body),
-        RawStatement::IfElse {
-            then_body,
-            else_body,
-            ..
-        } => {
-            check_once(then_body)?;
-            check_once(else_body)
+        RawStatement::IfThen(choice) => {
+            let choice = choice.as_ref();
+            check_once(&choice.then_body)
         }
-        RawStatement::Spawn { first, more, body } => {
-            check_accesses_once(*first, more)?;
-            check_once(body)
+        RawStatement::IfElse(choice) => {
+            let choice = choice.as_ref();
+            check_once(&choice.then_body)?;
+            check_once(&choice.else_body)
+        }
+        RawStatement::Spawn(when) => {
+            let when = when.as_ref();
+            check_accesses_once(when.first, &when.more)?;
+            check_once(&when.body)
         }
         _ => Ok(()),
     }

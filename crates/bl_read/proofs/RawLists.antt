@@ -52,9 +52,9 @@ whens_first (Add d w) rest = omega arith
 whens_first (Set d w) rest = omega arith
 whens_first (Copy d e) rest = omega arith
 whens_first (Pour d e) rest = omega arith
-whens_first (IfThen d a w t) rest = omega arith
-whens_first (IfElse d a w t e) rest = omega arith
-whens_first (Spawn f m b) rest = omega arith
+whens_first (IfThen choice) rest = omega arith
+whens_first (IfElse choice) rest = omega arith
+whens_first (Spawn spawned) rest = omega arith
 
 -- a list is as deep as its first statement or as the others
 depth_first : (x : RawStatement) (rest : List RawStatement) → spelled_depth (raw_body (x ∷ rest)) ≡ max (spelled_depth (raw_body (x ∷ []))) (spelled_depth (raw_body rest))
@@ -64,9 +64,9 @@ depth_first (Add d w) rest = omega arith
 depth_first (Set d w) rest = omega arith
 depth_first (Copy d e) rest = omega arith
 depth_first (Pour d e) rest = omega arith
-depth_first (IfThen d a w t) rest = omega arith
-depth_first (IfElse d a w t e) rest = omega arith
-depth_first (Spawn f m b) rest = omega arith
+depth_first (IfThen choice) rest = omega arith
+depth_first (IfElse choice) rest = omega arith
+depth_first (Spawn spawned) rest = omega arith
 
 -- a statement is no deeper than the list that it stands in
 pub depth_at : (xs : List RawStatement) (i : ℕ) (x : RawStatement) → i < length xs → x ≡ get_or xs i x → spelled_depth (raw_body (x ∷ [])) ≤ spelled_depth (raw_body xs)
@@ -92,9 +92,9 @@ contents_first (Add d w) rest (c, h) = ((c, tt), h)
 contents_first (Set d w) rest (c, h) = ((c, tt), h)
 contents_first (Copy d e) rest h = (tt, h)
 contents_first (Pour d e) rest h = (tt, h)
-contents_first (IfThen d a w t) rest (c, (h, i)) = ((c, (h, tt)), i)
-contents_first (IfElse d a w t e) rest (c, (h, (i, j))) = ((c, (h, (i, tt))), j)
-contents_first (Spawn f m b) rest (h, i) = ((h, tt), i)
+contents_first (IfThen choice) rest (c, (h, i)) = ((c, (h, tt)), i)
+contents_first (IfElse choice) rest (c, (h, (i, j))) = ((c, (h, (i, tt))), j)
+contents_first (Spawn spawned) rest (h, i) = ((h, tt), i)
 
 -- the accesses of a list are those of its first statement and those of the others
 accesses_first : (x : RawStatement) (rest : List RawStatement) → All HasFewAccesses (lists_in (raw_body (x ∷ rest)))
@@ -117,15 +117,21 @@ module _ (names : KnownNames) where
   numbered_first (Set d w) rest n = rw add-zero refl
   numbered_first (Copy d e) rest n = rw add-zero refl
   numbered_first (Pour d e) rest n = rw add-zero refl
-  numbered_first (IfThen d a w t) rest n =
+  numbered_first (IfThen choice) rest n =
+      let t = choice.value.then_body in
       let same : n + whens t ≡ n + (whens t + 0) = omega arith in
-      ap (λ k. put (numbered names n (raw_body (IfThen d a w t ∷ []))) (numbered names k (raw_body rest))) same
-  numbered_first (IfElse d a w t e) rest n =
+      ap (λ k. put (numbered names n (raw_body (IfThen choice ∷ []))) (numbered names k (raw_body rest))) same
+  numbered_first (IfElse choice) rest n =
+      let t = choice.value.then_body in
+      let e = choice.value.else_body in
       let same : n + whens t + whens e ≡ n + (whens t + (whens e + 0)) = omega arith in
-      ap (λ k. put (numbered names n (raw_body (IfElse d a w t e ∷ []))) (numbered names k (raw_body rest))) same
-  numbered_first (Spawn f m b) rest n =
+      ap (λ k. put (numbered names n (raw_body (IfElse choice ∷ []))) (numbered names k (raw_body rest))) same
+  numbered_first (Spawn spawned) rest n =
+      let f = spawned.value.first in
+      let m = spawned.value.more in
+      let b = spawned.value.body in
       let same : n + 1 + whens b ≡ n + (1 + (whens b + 0)) = omega arith in
-      ap (λ k. put (numbered names n (raw_body (Spawn f m b ∷ []))) (numbered names k (raw_body rest))) same
+      ap (λ k. put (numbered names n (raw_body (Spawn spawned ∷ []))) (numbered names k (raw_body rest))) same
 
   -- what the others spawn stands behind what the first statement spawns
   spawned_first : (x : RawStatement) (rest : List RawStatement) (n : ℕ)
@@ -136,18 +142,24 @@ module _ (names : KnownNames) where
   spawned_first (Set d w) rest n = rw add-zero refl
   spawned_first (Copy d e) rest n = rw add-zero refl
   spawned_first (Pour d e) rest n = rw add-zero refl
-  spawned_first (IfThen d a w t) rest n =
+  spawned_first (IfThen choice) rest n =
+      let t = choice.value.then_body in
       let same : n + whens t ≡ n + (whens t + 0) = omega arith in
       ap (λ k. spawned_from names n t ++ spawned_from names k (raw_body rest)) same
       ∙ ap (λ l. l ++ spawned_from names (n + (whens t + 0)) (raw_body rest)) (sym (append-nil (spawned_from names n t)))
-  spawned_first (IfElse d a w t e) rest n =
+  spawned_first (IfElse choice) rest n =
+      let t = choice.value.then_body in
+      let e = choice.value.else_body in
       let same : n + whens t + whens e ≡ n + (whens t + (whens e + 0)) = omega arith in
       let x = spawned_from names n t in
       let y = spawned_from names (n + whens t) e in
       ap (λ k. x ++ (y ++ spawned_from names k (raw_body rest))) same
       ∙ sym (append_assoc x y (spawned_from names (n + (whens t + (whens e + 0))) (raw_body rest)))
       ∙ ap (λ l. (x ++ l) ++ spawned_from names (n + (whens t + (whens e + 0))) (raw_body rest)) (sym (append-nil y))
-  spawned_first (Spawn f m b) rest n =
+  spawned_first (Spawn spawned) rest n =
+      let f = spawned.value.first in
+      let m = spawned.value.more in
+      let b = spawned.value.body in
       let same : n + 1 + whens b ≡ n + (1 + (whens b + 0)) = omega arith in
       let own : Part = record { accesses = map (access_of names) (raw_access f ∷ map raw_access m.items); body = numbered names (n + 1) b } in
       ap (λ k. own ∷ (spawned_from names (n + 1) b ++ spawned_from names k (raw_body rest))) same

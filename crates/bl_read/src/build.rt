@@ -62,13 +62,18 @@ fn whens_of(statement: &RawStatement<'_>) -> usize
     ensures { result ≡ whens (raw_body (statement.now ∷ [])) }
 {
     match statement {
-        RawStatement::IfThen { then_body, .. } => whens_in(then_body),
-        RawStatement::IfElse {
-            then_body,
-            else_body,
-            ..
-        } => whens_in(then_body) + whens_in(else_body),
-        RawStatement::Spawn { body, .. } => 1 + whens_in(body),
+        RawStatement::IfThen(choice) => {
+            let choice = choice.as_ref();
+            whens_in(&choice.then_body)
+        }
+        RawStatement::IfElse(choice) => {
+            let choice = choice.as_ref();
+            whens_in(&choice.then_body) + whens_in(&choice.else_body)
+        }
+        RawStatement::Spawn(when) => {
+            let when = when.as_ref();
+            1 + whens_in(&when.body)
+        }
         _ => 0,
     }
 }
@@ -195,47 +200,46 @@ fn statement_of(
         RawStatement::Pour { from, to } => {
             Ok(Stmt::Pour(lookup.document(from), lookup.document(to)))
         }
-        RawStatement::IfThen {
-            document,
-            test,
-            text,
-            then_body,
-        } => {
-            let text = Document::new(alloc, text)?;
-            let body = body_of(alloc, lookup, then_body, spawned)?;
-            let choice = Choice {
-                doc: lookup.document(document),
-                test: *test,
+        RawStatement::IfThen(choice) => {
+            let choice = choice.as_ref();
+            let text = Document::new(alloc, choice.text)?;
+            let body = body_of(alloc, lookup, &choice.then_body, spawned)?;
+            let built = Choice {
+                doc: lookup.document(choice.document),
+                test: choice.test,
                 text,
                 then_body: body,
                 else_body: Body::empty(),
             };
-            let statement = choice_statement(alloc, choice)?;
+            let statement = choice_statement(alloc, built)?;
             Ok(statement)
         }
-        RawStatement::IfElse {
-            document,
-            test,
-            text,
-            then_body,
-            else_body,
-        } => {
-            let text = Document::new(alloc, text)?;
-            let then_body = body_of(alloc, lookup, then_body, spawned)?;
-            let else_body = body_of(alloc, lookup, else_body, spawned)?;
-            let choice = Choice {
-                doc: lookup.document(document),
-                test: *test,
+        RawStatement::IfElse(choice) => {
+            let choice = choice.as_ref();
+            let text = Document::new(alloc, choice.text)?;
+            let then_body = body_of(alloc, lookup, &choice.then_body, spawned)?;
+            let else_body = body_of(alloc, lookup, &choice.else_body, spawned)?;
+            let built = Choice {
+                doc: lookup.document(choice.document),
+                test: choice.test,
                 text,
                 then_body,
                 else_body,
             };
-            let statement = choice_statement(alloc, choice)?;
+            let statement = choice_statement(alloc, built)?;
             Ok(statement)
         }
-        RawStatement::Spawn { first, more, body } => {
+        RawStatement::Spawn(when) => {
+            let when = when.as_ref();
             let number = 1 + spawned.len();
-            push_when(alloc, lookup.names, *first, more, body, spawned)?;
+            push_when(
+                alloc,
+                lookup.names,
+                when.first,
+                &when.more,
+                &when.body,
+                spawned,
+            )?;
             Ok(Stmt::Spawn(number as u8))
         }
     }

@@ -41,18 +41,18 @@ pub fn read_line(alloc: Global, names: &Names, bytes: &[u8]) -> Result<Line, Lin
         return Err(LineFault::Long);
     }
     match read_raw(alloc, bytes) {
-        Ok(raw) => asked(alloc, names, raw),
+        Ok(raw) => asked(alloc, names, &raw),
         Err(RawFault::Syntax(place)) => Err(LineFault::Syntax(place as u32)),
         Err(RawFault::Memory) => Err(LineFault::Memory),
     }
 }
 
 /// What a line as it was read asks.
-fn asked(alloc: Global, names: &Names, raw: RawLine<'_>) -> Result<Line, LineFault>
-    requires proper { AreProper (spell (raw_view raw)) }
-    requires texts { HasSpelledContents (raw_view raw) }
-    ensures found { IfOk result (Means names.now (raw_view raw.entry)) }
-    ensures fault { IfErr result (IsFaultOrMemory names.now (raw_view raw.entry)) }
+fn asked(alloc: Global, names: &Names, raw: &RawLine<'_>) -> Result<Line, LineFault>
+    requires proper { AreProper (spell (raw_view raw.now)) }
+    requires texts { HasSpelledContents (raw_view raw.now) }
+    ensures found { IfOk result (Means names.now (raw_view raw.now)) }
+    ensures fault { IfErr result (IsFaultOrMemory names.now (raw_view raw.now)) }
 {
     match raw {
         RawLine::Hello(name) => match names.subject(name) {
@@ -60,8 +60,8 @@ fn asked(alloc: Global, names: &Names, raw: RawLine<'_>) -> Result<Line, LineFau
             None => Err(LineFault::Unknown(Name::new(name).unwrap())),
         },
         RawLine::Wait => Ok(Line::Wait),
-        RawLine::Rule(rule) => change(names, &rule),
-        RawLine::When { first, more, body } => behaviour(alloc, names, first, &more, &body),
+        RawLine::Rule(rule) => change(names, rule),
+        RawLine::When(when) => behaviour(alloc, names, when.first, &when.more, &when.body),
     }
 }
 

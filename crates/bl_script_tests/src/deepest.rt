@@ -39,8 +39,8 @@ fn ended_steps(alloc: Global, step: &[u8], count: usize) -> Result<Vec<u8>, Fail
 /// Whether the line is read, and knows each name to its deepest step.
 fn is_walked_by(alloc: Global, names: &Names, line: &[u8]) -> bool {
     match read_raw(alloc, line) {
-        Ok(RawLine::When { first, more, body }) => {
-            check_when_known(names, first, &more, &body).is_ok()
+        Ok(RawLine::When(when)) => {
+            check_when_known(names, when.first, &when.more, &when.body).is_ok()
         }
         _ => false,
     }

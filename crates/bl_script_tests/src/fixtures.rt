@@ -93,6 +93,14 @@ pub fn read(alloc: Global, line: &[u8]) -> Result<Line, LineFault> {
     }
 }
 
+/// The work that a line asks by the base names, of which memo is the first document and note the second.
+pub fn work_of(alloc: Global, line: &[u8]) -> Result<Work, Fail> {
+    match read(alloc, line)? {
+        Line::Work(work) => Ok(work),
+        _ => Err(Fail::new("no work")),
+    }
+}
+
 /// Why a line is refused by the base names.
 pub fn fault_of(alloc: Global, line: &[u8]) -> Result<LineFault, Fail> {
     match read(alloc, line).err() {

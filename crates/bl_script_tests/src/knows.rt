@@ -1,19 +1,8 @@
 //! Which works some text reads as, by given names.
-use super::fixtures::{is_known_by, names_of, read};
-use bl_policy::id::DocId;
-use bl_script::asked::Line;
-use bl_script::script::Script;
+use super::fixtures::{is_known_by, names_of, work_of};
 use bl_script::work::Work;
 use std::alloc::Global;
 use std::test::Fail;
-
-/// What a line asks where memo is the first document.
-fn work_of(alloc: Global, line: &[u8]) -> Result<Work, Fail> {
-    match read(alloc, line)? {
-        Line::Work(work) => Ok(work),
-        _ => Err(Fail::new("no work")),
-    }
-}
 
 /// Whether some text reads as the work where its one document has this name.
 fn is_known(alloc: Global, document: &[u8], work: &Work) -> Result<bool, Fail> {
@@ -21,12 +10,6 @@ fn is_known(alloc: Global, document: &[u8], work: &Work) -> Result<bool, Fail> {
         Some(names) => Ok(is_known_by(names, work)),
         None => Err(Fail::new("no names")),
     }
-}
-
-/// The work of a read of the document of this number, as a script of one behaviour.
-fn one_read(alloc: Global, document: u16) -> Result<Work, Fail> {
-    let script = Script::one_read(alloc, DocId::new(document))?;
-    Ok(Work::Behaviour(script))
 }
 
 /// The work of `when read memo do `, so many times `show memo;`, and `end`.
@@ -63,8 +46,10 @@ fn knows_what_it_reads(rt: HostRuntime) -> Result<(), Fail> {
 
 #[test]
 fn knows_no_document_that_is_not_there(rt: HostRuntime) -> Result<(), Fail> {
-    assert!(rt; is_known(rt.alloc(), b"memo", &one_read(rt.alloc(), 0)?)?);
-    assert!(rt; !is_known(rt.alloc(), b"memo", &one_read(rt.alloc(), 1)?)?);
+    let first = work_of(rt.alloc(), b"when read memo do show memo;end")?;
+    assert!(rt; is_known(rt.alloc(), b"memo", &first)?);
+    let second = work_of(rt.alloc(), b"when read note do show note;end")?;
+    assert!(rt; !is_known(rt.alloc(), b"memo", &second)?);
     Ok(())
 }
 

@@ -1,4 +1,5 @@
 //! Each call that gives one more owner, once with ample memory.
+use super::fixtures::work_of;
 use bl_policy::access::Mode;
 use bl_policy::id::{DocId, SubjectId};
 use bl_policy::rule::Rule;
@@ -20,9 +21,9 @@ fn shares_a_document(rt: HostRuntime) -> Result<(), Fail> {
     Ok(())
 }
 
-/// What is shared of the work that reads and shows a document.
-fn shared_read(alloc: Global, document: DocId) -> Result<Script, Fail> {
-    let work = Work::Behaviour(Script::one_read(alloc, document)?);
+/// What is shared of the work that reads and shows note.
+fn shared_read(alloc: Global) -> Result<Script, Fail> {
+    let work = work_of(alloc, b"when read note do show note;end")?;
     match work.share()? {
         Work::Behaviour(script) => Ok(script),
         Work::Rule(_) => Err(Fail::new("not a behaviour")),
@@ -38,9 +39,8 @@ fn assert_one_read(rt: &impl Abort, script: &Script, document: DocId) {
 
 #[test]
 fn shares_a_work_of_one_read(rt: HostRuntime) -> Result<(), Fail> {
-    let memo = DocId::new(3);
-    let script = shared_read(rt.alloc(), memo)?;
-    assert_one_read(&rt, &script, memo);
+    let script = shared_read(rt.alloc())?;
+    assert_one_read(&rt, &script, DocId::new(1));
     Ok(())
 }
 

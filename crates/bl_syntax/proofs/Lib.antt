@@ -7,3 +7,4 @@ pub mod Places
 pub mod Whole
 pub mod OneFault
 pub mod Unique
+pub mod Boxed

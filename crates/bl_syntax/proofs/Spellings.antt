@@ -20,22 +20,25 @@ run_statement (raw.Add document words) due ts = refl
 run_statement (raw.Set document words) due ts = refl
 run_statement (raw.Copy from to) due ts = refl
 run_statement (raw.Pour from to) due ts = refl
-run_statement (raw.IfThen document asks words then_body) due ts =
-    run_test document.now asks words.now (a_body ∷ rest_of_if ∷ a_sign Semicolon ∷ a_body ∷ due) _
-    ∙ ap (run (Some (a_body ∷ rest_of_if ∷ a_sign Semicolon ∷ a_body ∷ due))) (append_assoc (spell_body then_body) (reserved End ∷ []) ts)
-    ∙ run_body then_body (rest_of_if ∷ a_sign Semicolon ∷ a_body ∷ due) (reserved End ∷ ts)
-run_statement (raw.IfElse document asks words then_body else_body) due ts =
-    run_test document.now asks words.now (a_body ∷ rest_of_if ∷ a_sign Semicolon ∷ a_body ∷ due) _
-    ∙ ap (run (Some (a_body ∷ rest_of_if ∷ a_sign Semicolon ∷ a_body ∷ due))) (append_assoc (spell_body then_body) (reserved Else ∷ (spell_body else_body ++ reserved End ∷ [])) ts)
-    ∙ run_body then_body (rest_of_if ∷ a_sign Semicolon ∷ a_body ∷ due) (reserved Else ∷ ((spell_body else_body ++ reserved End ∷ []) ++ ts))
-    ∙ ap (run (Some (a_body ∷ word End ∷ a_sign Semicolon ∷ a_body ∷ due))) (append_assoc (spell_body else_body) (reserved End ∷ []) ts)
-    ∙ run_body else_body (word End ∷ a_sign Semicolon ∷ a_body ∷ due) (reserved End ∷ ts)
-run_statement (raw.Spawn first more body) due ts =
+run_statement (raw.IfThen choice) due ts =
+    let c = choice.value in
+    run_test c.document.now c.test c.text.now (a_body ∷ rest_of_if ∷ a_sign Semicolon ∷ a_body ∷ due) _
+    ∙ ap (run (Some (a_body ∷ rest_of_if ∷ a_sign Semicolon ∷ a_body ∷ due))) (append_assoc (spell_body c.then_body) (reserved End ∷ []) ts)
+    ∙ run_body c.then_body (rest_of_if ∷ a_sign Semicolon ∷ a_body ∷ due) (reserved End ∷ ts)
+run_statement (raw.IfElse choice) due ts =
+    let c = choice.value in
+    run_test c.document.now c.test c.text.now (a_body ∷ rest_of_if ∷ a_sign Semicolon ∷ a_body ∷ due) _
+    ∙ ap (run (Some (a_body ∷ rest_of_if ∷ a_sign Semicolon ∷ a_body ∷ due))) (append_assoc (spell_body c.then_body) (reserved Else ∷ (spell_body c.else_body ++ reserved End ∷ [])) ts)
+    ∙ run_body c.then_body (rest_of_if ∷ a_sign Semicolon ∷ a_body ∷ due) (reserved Else ∷ ((spell_body c.else_body ++ reserved End ∷ []) ++ ts))
+    ∙ ap (run (Some (a_body ∷ word End ∷ a_sign Semicolon ∷ a_body ∷ due))) (append_assoc (spell_body c.else_body) (reserved End ∷ []) ts)
+    ∙ run_body c.else_body (word End ∷ a_sign Semicolon ∷ a_body ∷ due) (reserved End ∷ ts)
+run_statement (raw.Spawn spawned) due ts =
+    let w = spawned.value in
     ap (run (Some (a_body ∷ due)))
-    (ap (λ x. reserved Spawn ∷ reserved When ∷ spell_access (raw_access first) x) (more_append (map raw_access more.items) (reserved Do ∷ (spell_body body ++ reserved End ∷ [])) ts))
-    ∙ run_accesses (raw_access first) (map raw_access more.items) (a_sign Semicolon ∷ a_body ∷ due) ((spell_body body ++ reserved End ∷ []) ++ ts)
-    ∙ ap (run (Some (a_body ∷ word End ∷ a_sign Semicolon ∷ a_body ∷ due))) (append_assoc (spell_body body) (reserved End ∷ []) ts)
-    ∙ run_body body (word End ∷ a_sign Semicolon ∷ a_body ∷ due) (reserved End ∷ ts)
+    (ap (λ x. reserved Spawn ∷ reserved When ∷ spell_access (raw_access w.first) x) (more_append (map raw_access w.more.items) (reserved Do ∷ (spell_body w.body ++ reserved End ∷ [])) ts))
+    ∙ run_accesses (raw_access w.first) (map raw_access w.more.items) (a_sign Semicolon ∷ a_body ∷ due) ((spell_body w.body ++ reserved End ∷ []) ++ ts)
+    ∙ ap (run (Some (a_body ∷ word End ∷ a_sign Semicolon ∷ a_body ∷ due))) (append_assoc (spell_body w.body) (reserved End ∷ []) ts)
+    ∙ run_body w.body (word End ∷ a_sign Semicolon ∷ a_body ∷ due) (reserved End ∷ ts)
 
 -- the tokens of a body are those of its first statement, a semicolon and those of the rest
 spell_first : (s : RawStatement) (rest : List RawStatement) → spell_body (raw_body (s ∷ rest)) ≡ spell_statement s ++ sign Semicolon ∷ spell_body (raw_body rest)
@@ -45,17 +48,20 @@ spell_first (raw.Add document words) rest = refl
 spell_first (raw.Set document words) rest = refl
 spell_first (raw.Copy from to) rest = refl
 spell_first (raw.Pour from to) rest = refl
-spell_first (raw.IfThen document asks words then_body) rest =
-    ap (λ x. reserved If ∷ name document.now ∷ reserved (asks_word asks) ∷ text words.now ∷ reserved Then ∷ x)
-    (sym (append_assoc (spell_body then_body) (reserved End ∷ []) (sign Semicolon ∷ spell_body (raw_body rest))))
-spell_first (raw.IfElse document asks words then_body else_body) rest =
-    ap (λ x. reserved If ∷ name document.now ∷ reserved (asks_word asks) ∷ text words.now ∷ reserved Then ∷ x)
-    (ap (λ x. spell_body then_body ++ reserved Else ∷ x) (sym (append_assoc (spell_body else_body) (reserved End ∷ []) (sign Semicolon ∷ spell_body (raw_body rest))))
-    ∙ sym (append_assoc (spell_body then_body) (reserved Else ∷ (spell_body else_body ++ reserved End ∷ [])) (sign Semicolon ∷ spell_body (raw_body rest))))
-spell_first (raw.Spawn first more body) rest =
-    ap (λ x. reserved Spawn ∷ reserved When ∷ spell_access (raw_access first) x)
-    (ap (λ x. spell_more (map raw_access more.items) (reserved Do ∷ x)) (sym (append_assoc (spell_body body) (reserved End ∷ []) (sign Semicolon ∷ spell_body (raw_body rest))))
-    ∙ sym (more_append (map raw_access more.items) (reserved Do ∷ (spell_body body ++ reserved End ∷ [])) (sign Semicolon ∷ spell_body (raw_body rest))))
+spell_first (raw.IfThen choice) rest =
+    let c = choice.value in
+    ap (λ x. reserved If ∷ name c.document.now ∷ reserved (asks_word c.test) ∷ text c.text.now ∷ reserved Then ∷ x)
+    (sym (append_assoc (spell_body c.then_body) (reserved End ∷ []) (sign Semicolon ∷ spell_body (raw_body rest))))
+spell_first (raw.IfElse choice) rest =
+    let c = choice.value in
+    ap (λ x. reserved If ∷ name c.document.now ∷ reserved (asks_word c.test) ∷ text c.text.now ∷ reserved Then ∷ x)
+    (ap (λ x. spell_body c.then_body ++ reserved Else ∷ x) (sym (append_assoc (spell_body c.else_body) (reserved End ∷ []) (sign Semicolon ∷ spell_body (raw_body rest))))
+    ∙ sym (append_assoc (spell_body c.then_body) (reserved Else ∷ (spell_body c.else_body ++ reserved End ∷ [])) (sign Semicolon ∷ spell_body (raw_body rest))))
+spell_first (raw.Spawn spawned) rest =
+    let w = spawned.value in
+    ap (λ x. reserved Spawn ∷ reserved When ∷ spell_access (raw_access w.first) x)
+    (ap (λ x. spell_more (map raw_access w.more.items) (reserved Do ∷ x)) (sym (append_assoc (spell_body w.body) (reserved End ∷ []) (sign Semicolon ∷ spell_body (raw_body rest))))
+    ∙ sym (more_append (map raw_access w.more.items) (reserved Do ∷ (spell_body w.body ++ reserved End ∷ [])) (sign Semicolon ∷ spell_body (raw_body rest))))
 
 -- one more statement at the end of a body
 pub spell_push : (ss : List RawStatement) (s : RawStatement) (ts : List Tok) → spell_body (raw_body (ss ++ s ∷ [])) ++ ts ≡ spell_body (raw_body ss) ++ (spell_statement s ++ sign Semicolon ∷ ts)

@@ -115,12 +115,15 @@ spell_statement (raw.Add document words) = reserved Add ∷ name document.now �
 spell_statement (raw.Set document words) = reserved Set ∷ name document.now ∷ text words.now ∷ []
 spell_statement (raw.Copy from to) = reserved Copy ∷ name from.now ∷ reserved To ∷ name to.now ∷ []
 spell_statement (raw.Pour from to) = reserved Pour ∷ name from.now ∷ reserved To ∷ name to.now ∷ []
-spell_statement (raw.IfThen document asks words then_body) =
-    reserved If ∷ name document.now ∷ reserved (asks_word asks) ∷ text words.now ∷ reserved Then
-    ∷ (spell_body then_body ++ reserved End ∷ [])
-spell_statement (raw.IfElse document asks words then_body else_body) =
-    reserved If ∷ name document.now ∷ reserved (asks_word asks) ∷ text words.now ∷ reserved Then
-    ∷ (spell_body then_body ++ reserved Else ∷ (spell_body else_body ++ reserved End ∷ []))
-spell_statement (raw.Spawn first more body) =
+spell_statement (raw.IfThen choice) =
+    let c = choice.value in
+    reserved If ∷ name c.document.now ∷ reserved (asks_word c.test) ∷ text c.text.now ∷ reserved Then
+    ∷ (spell_body c.then_body ++ reserved End ∷ [])
+spell_statement (raw.IfElse choice) =
+    let c = choice.value in
+    reserved If ∷ name c.document.now ∷ reserved (asks_word c.test) ∷ text c.text.now ∷ reserved Then
+    ∷ (spell_body c.then_body ++ reserved Else ∷ (spell_body c.else_body ++ reserved End ∷ []))
+spell_statement (raw.Spawn spawned) =
+    let w = spawned.value in
     reserved Spawn ∷ reserved When
-    ∷ spell_access (raw_access first) (spell_more (map raw_access more.items) (reserved Do ∷ (spell_body body ++ reserved End ∷ [])))
+    ∷ spell_access (raw_access w.first) (spell_more (map raw_access w.more.items) (reserved Do ∷ (spell_body w.body ++ reserved End ∷ [])))

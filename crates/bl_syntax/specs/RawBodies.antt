@@ -17,8 +17,9 @@ raw_body (Add document words ∷ rest) = spelled.add document.now words.now (raw
 raw_body (Set document words ∷ rest) = spelled.set document.now words.now (raw_body rest)
 raw_body (Copy from to ∷ rest) = spelled.copy from.now to.now (raw_body rest)
 raw_body (Pour from to ∷ rest) = spelled.pour from.now to.now (raw_body rest)
-raw_body (IfThen document asks words then_body ∷ rest) =
-    spelled.if_then document.now asks words.now then_body (raw_body rest)
-raw_body (IfElse document asks words then_body else_body ∷ rest) =
-    spelled.if_else document.now asks words.now then_body else_body (raw_body rest)
-raw_body (Spawn first more body ∷ rest) = spelled.spawn (raw_access first) (map raw_access more.items) body (raw_body rest)
+raw_body (IfThen choice ∷ rest) =
+    let c = choice.value in spelled.if_then c.document.now c.test c.text.now c.then_body (raw_body rest)
+raw_body (IfElse choice ∷ rest) =
+    let c = choice.value in spelled.if_else c.document.now c.test c.text.now c.then_body c.else_body (raw_body rest)
+raw_body (Spawn spawned ∷ rest) =
+    let w = spawned.value in spelled.spawn (raw_access w.first) (map raw_access w.more.items) w.body (raw_body rest)

@@ -9,5 +9,5 @@ use Rattle.bl_syntax.specs.declared.raw.RawLine.TheVariants as raw
 abbrev pub raw_view : RawLine → SpelledLine
 raw_view (raw.Hello subject) = hello subject.now
 raw_view raw.Wait = wait
-raw_view (raw.When first more body) = when (raw_access first) (map raw_access more.items) body
+raw_view (raw.When w) = when (raw_access w.first) (map raw_access w.more.items) w.body
 raw_view (raw.Rule asked) = rule (raw_rule asked)

@@ -18,11 +18,15 @@ ghost use Rattle.bl_work.specs.Machine as machine;
 ghost use Rattle.bl_syntax.specs.Parsing.{Gives, IsFirstFault, IsNotAt, BeginsNone, first_word, start_word, start_due, spell_statement, left, ending, LevelEnds, LineEnds};
 ghost use Rattle.bl_syntax.specs.declared.stop.Stop.TheVariants.{At};
 
-use crate::raw::{RawAccess, RawBody, RawLevel, RawLine, RawRight, RawRule, RawStatement};
+use crate::raw::{
+    RawAccess, RawBody, RawIfElse, RawIfThen, RawLevel, RawLine, RawRight, RawRule, RawStatement,
+    RawWhen,
+};
 use crate::stop::Stop;
 use bl_level::lexer::{Front, next_token};
 use bl_level::token::{Keyword, Sign, Token};
 use bl_policy::access::Mode;
+use bl_work::few::Few;
 use bl_work::script::Condition;
 use std::alloc::Global;
 
@@ -57,14 +61,6 @@ struct Test<'a> {
     document: &'a [u8],
     test: Condition,
     text: &'a [u8],
-}
-
-/// What a `when` has.
-#[derive(Drop)]
-struct Behaviour<'a> {
-    first: RawAccess<'a>,
-    more: Vec<RawAccess<'a>>,
-    body: RawBody<'a>,
 }
 
 /// The mode of a letter: `r` for read, `a` for append, `w` for write.
@@ -414,8 +410,8 @@ impl<'a> Cursor<'a> {
             Start::If => self.choice(alloc),
             Start::Spawn => {
                 self.key(Keyword::When)?;
-                let Behaviour { first, more, body } = self.when(alloc)?;
-                Ok(RawStatement::Spawn { first, more, body })
+                let when = self.when(alloc)?;
+                Ok(RawStatement::Spawn(Box::new(alloc, when)?))
             }
         }
     }
@@ -436,27 +432,29 @@ impl<'a> Cursor<'a> {
         if self.takes(Keyword::Else) {
             let else_body = self.body(alloc)?;
             self.key(Keyword::End)?;
-            Ok(RawStatement::IfElse {
+            let choice = RawIfElse {
                 document,
                 test,
                 text,
                 then_body,
                 else_body,
-            })
+            };
+            Ok(RawStatement::IfElse(Box::new(alloc, choice)?))
         } else {
             self.key(Keyword::End)?;
-            Ok(RawStatement::IfThen {
+            let choice = RawIfThen {
                 document,
                 test,
                 text,
                 then_body,
-            })
+            };
+            Ok(RawStatement::IfThen(Box::new(alloc, choice)?))
         }
     }
 
     /// A behaviour behind its `when`.
     #[cycle(parser)]
-    fn when(&mut self, alloc: Global) -> Result<Behaviour<'a>, Stop>
+    fn when(&mut self, alloc: Global) -> Result<RawWhen<'a>, Stop>
         ensures gives { Gives (λ w. reserved When ∷ left self.old ≡ spell_when (raw_access w.first) (map raw_access w.more.items) w.body ++ left self.new)
             (when_due []) (left self.old) result }
         ensures ending { ending self.new ≡ ending self.old }
@@ -466,7 +464,7 @@ impl<'a> Cursor<'a> {
         self.key(Keyword::Do)?;
         let body = self.body(alloc)?;
         self.key(Keyword::End)?;
-        Ok(Behaviour { first, more, body })
+        Ok(RawWhen { first, more, body })
     }
 
     /// Statements, as many as there are.
@@ -475,11 +473,11 @@ impl<'a> Cursor<'a> {
         ensures gives { Gives (λ b. (left self.old ≡ spell_body b ++ left self.new) × BeginsNone (left self.new)) (a_body ∷ []) (left self.old) result }
         ensures ending { ending self.new ≡ ending self.old }
     {
-        let mut statements = Vec::new(alloc);
+        let mut statements = Few::Nothing;
         while let Some(start) = self.start() {
             let statement = self.statement(alloc, start)?;
             self.sign(Sign::Semicolon)?;
-            statements.push(statement)?;
+            statements.push(alloc, statement)?;
         }
         Ok(RawBody::new(statements))
     }
@@ -537,10 +535,7 @@ impl<'a> Cursor<'a> {
         match self.first()? {
             First::Hello => Ok(RawLine::Hello(self.name()?)),
             First::Wait => Ok(RawLine::Wait),
-            First::When => {
-                let Behaviour { first, more, body } = self.when(alloc)?;
-                Ok(RawLine::When { first, more, body })
-            }
+            First::When => Ok(RawLine::When(self.when(alloc)?)),
             First::Give => Ok(RawLine::Rule(RawRule::Give(self.right()?))),
             First::Rescind => Ok(RawLine::Rule(RawRule::Rescind(self.right()?))),
             First::Current => Ok(RawLine::Rule(RawRule::Current(self.level(alloc)?))),

@@ -1,6 +1,7 @@
 //! Lines as they are spelled, with names and texts that nothing has looked up. They borrow their bytes from the line.
 
 use bl_policy::access::Mode;
+use bl_work::few::Few;
 use bl_work::script::Condition;
 use std::marker::Model;
 
@@ -15,7 +16,7 @@ pub struct RawAccess<'a> {
 #[cycle(raw)]
 #[derive(Drop)]
 pub struct RawBody<'a> {
-    statements: Vec<RawStatement<'a>>,
+    statements: Few<RawStatement<'a>>,
 }
 
 /// A statement.
@@ -27,46 +28,50 @@ pub enum RawStatement<'a> {
     /// `say TEXT`.
     Say(&'a [u8]),
     /// `add NAME TEXT`.
-    Add {
-        document: &'a [u8],
-        text: &'a [u8],
-    },
+    Add { document: &'a [u8], text: &'a [u8] },
     /// `set NAME TEXT`.
-    Set {
-        document: &'a [u8],
-        text: &'a [u8],
-    },
+    Set { document: &'a [u8], text: &'a [u8] },
     /// `copy NAME to NAME`.
-    Copy {
-        from: &'a [u8],
-        to: &'a [u8],
-    },
+    Copy { from: &'a [u8], to: &'a [u8] },
     /// `pour NAME to NAME`.
-    Pour {
-        from: &'a [u8],
-        to: &'a [u8],
-    },
-    /// `if NAME is TEXT then BODY end`, or with `has`.
-    IfThen {
-        document: &'a [u8],
-        test: Condition,
-        text: &'a [u8],
-        then_body: RawBody<'a>,
-    },
+    Pour { from: &'a [u8], to: &'a [u8] },
+    /// `if NAME is TEXT then BODY end`, or with `has`. It has a block of its own, as the next two have, so that the other
+    /// statements are small.
+    IfThen(Box<RawIfThen<'a>>),
     /// `if NAME is TEXT then BODY else BODY end`, or with `has`.
-    IfElse {
-        document: &'a [u8],
-        test: Condition,
-        text: &'a [u8],
-        then_body: RawBody<'a>,
-        else_body: RawBody<'a>,
-    },
+    IfElse(Box<RawIfElse<'a>>),
     /// `spawn when ACCESS, .. do BODY end`.
-    Spawn {
-        first: RawAccess<'a>,
-        more: Vec<RawAccess<'a>>,
-        body: RawBody<'a>,
-    },
+    Spawn(Box<RawWhen<'a>>),
+}
+
+/// An `if` without an `else`.
+#[cycle(raw)]
+#[derive(Drop)]
+pub struct RawIfThen<'a> {
+    pub document: &'a [u8],
+    pub test: Condition,
+    pub text: &'a [u8],
+    pub then_body: RawBody<'a>,
+}
+
+/// An `if` with an `else`.
+#[cycle(raw)]
+#[derive(Drop)]
+pub struct RawIfElse<'a> {
+    pub document: &'a [u8],
+    pub test: Condition,
+    pub text: &'a [u8],
+    pub then_body: RawBody<'a>,
+    pub else_body: RawBody<'a>,
+}
+
+/// A `when`.
+#[cycle(raw)]
+#[derive(Drop)]
+pub struct RawWhen<'a> {
+    pub first: RawAccess<'a>,
+    pub more: Vec<RawAccess<'a>>,
+    pub body: RawBody<'a>,
 }
 
 impl<'a> Model for RawBody<'a> {
@@ -79,24 +84,26 @@ impl<'a> Model for RawBody<'a> {
 
     ghost use Rattle.bl_syntax.specs.RawBodies.{raw_body};
     ghost use Rattle.bl_work.specs.SpelledDepth.{spelled_depth};
+    ghost use Rattle.bl_work.specs.Few.{items_of};
 
-    ghost view = { λ b. raw_body b.statements.items };
+    ghost view = { λ b. raw_body (items_of b.statements) };
 
     ghost size = { spelled_depth };
 
     ghost use Rattle.std.proofs.Common.{arith};
-    ghost use Rattle.bl_syntax.specs.RawFalls.{raw_falls};
+    ghost use Rattle.bl_syntax.specs.RawFalls.{few_fall};
 
-    ghost size_decreases = { λ a h. omega (arith, raw_falls a.statements.items) };
+    ghost size_decreases = { λ a h. omega (arith, few_fall a.statements) };
 }
 
 impl<'a> RawBody<'a> {
     ghost use Rattle.std.specs.Prelude.{◌≡◌};
+    ghost use Rattle.bl_work.specs.Few.{items_of};
     ghost use Rattle.bl_syntax.specs.RawBodies.{raw_body};
 
     /// A body of these statements.
-    pub fn new(statements: Vec<RawStatement<'a>>) -> RawBody<'a>
-        ensures { result ≡ raw_body statements.entry.items }
+    pub fn new(statements: Few<RawStatement<'a>>) -> RawBody<'a>
+        ensures { result ≡ raw_body (items_of statements.entry) }
     {
         RawBody { statements }
     }
@@ -150,9 +157,5 @@ pub enum RawLine<'a> {
     /// One of the rules.
     Rule(RawRule<'a>),
     /// `when ACCESS, .. do BODY end`.
-    When {
-        first: RawAccess<'a>,
-        more: Vec<RawAccess<'a>>,
-        body: RawBody<'a>,
-    },
+    When(RawWhen<'a>),
 }

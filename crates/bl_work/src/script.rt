@@ -5,7 +5,7 @@ ghost use Rattle.bl_policy.specs.declared.access.Access.{Access};
 use crate::accesses::Accesses;
 use crate::document::Document;
 use crate::few::Few;
-use bl_policy::access::{Access, Mode};
+use bl_policy::access::Access;
 use bl_policy::id::DocId;
 use std::alloc::{AllocError, Global};
 use std::marker::Model;
@@ -273,8 +273,7 @@ fn are_alike(behaviours: &[Behaviour], others: &[Behaviour]) -> bool
 
 impl Script {
     ghost use Rattle.std.specs.Prelude.{◌≡◌, ◌<◌, ◌↔◌, length, slice_index_or, IfOk, IsTrue, [], ◌∷◌};
-    ghost use Rattle.bl_policy.specs.declared.access.Mode.TheVariants.{Read};
-    ghost use Rattle.bl_work.specs.Statements.{no_part, Nothing, Show};
+    ghost use Rattle.bl_work.specs.Statements.{no_part};
     ghost use Rattle.bl_work.specs.Body.{statements_of};
     ghost use Rattle.bl_work.specs.Script.{IsScript, IsBehaviour};
 
@@ -287,18 +286,6 @@ impl Script {
             Ok(behaviours) => Ok(Script { behaviours }),
             Err(_) => Err(AllocError),
         }
-    }
-
-    /// The script of one behaviour that reads a document and shows it.
-    pub fn one_read(alloc: Global, shown: DocId) -> Result<Script, AllocError>
-        ensures { IfOk result (λ s. s ≡ record { accesses = record { mode = Read; doc = shown } ∷ []; body = Show shown Nothing } ∷ []) }
-    {
-        let accesses = Accesses::new(Access {
-            mode: Mode::Read,
-            doc: shown,
-        });
-        let body = Body::one(Stmt::Show(shown));
-        Script::new(alloc, Behaviour::new(accesses, body), Vec::new(alloc))
     }
 
     /// The number of behaviours, which is the number of `when` in the line.

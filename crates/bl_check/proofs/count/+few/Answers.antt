@@ -5,6 +5,7 @@ use Rattle.bl_work.specs.Meaning.{whens}
 use Rattle.bl_work.specs.FirstWhenFault.{AreFewIn}
 use Rattle.bl_check.proofs.Joined.{depth-at}
 use Rattle.bl_check.proofs.Few.{Leaves, few_stops, few_goes_on, few_else, few_spawn}
+use Rattle.bl_syntax.proofs.Boxed.{raw_if_else, raw_spawn}
 use Rattle.bl_check.proofs.count.+few.Goals as goal
 
 pub whens_left-whens_left_behind-requires : goal.whens_left-whens_left_behind-requires
@@ -25,13 +26,13 @@ whens_left-loop-statement-preserved t c =
 
 pub whens_left_behind-returns-in_ok-left-in-IfElse : goal.whens_left_behind-returns-in_ok-left-in-IfElse
 whens_left_behind-returns-in_ok-left-in-IfElse t c =
-    let here : AreFewIn c.args.most c.in-IfElse.then_body × (whens c.in-IfElse.then_body + c.in_ok-left-in-IfElse.left ≡ c.args.most) = c.in_ok-left-in-IfElse.ensures in
-    subst (λ s. Leaves c.args.most (raw_body (s ∷ [])) c.whens_left-in-IfElse-2.result) (sym c.in-IfElse.is)
-    (few_else c.in-IfElse.document.now c.in-IfElse.test c.in-IfElse.text.now c.in-IfElse.then_body c.in-IfElse.else_body c.args.most c.in_ok-left-in-IfElse.left _
+    let here : AreFewIn c.args.most c.as_ref-choice-in-IfElse.result.now.then_body × (whens c.as_ref-choice-in-IfElse.result.now.then_body + c.in_ok-left-in-IfElse.left ≡ c.args.most) = c.in_ok-left-in-IfElse.ensures in
+    subst (λ b. Leaves c.args.most b c.whens_left-in-IfElse-2.result) (sym (raw_if_else _ _ _ c.in-IfElse.is c.as_ref-choice-in-IfElse.ensures))
+    (few_else c.as_ref-choice-in-IfElse.result.now.document.now c.as_ref-choice-in-IfElse.result.now.test c.as_ref-choice-in-IfElse.result.now.text.now c.as_ref-choice-in-IfElse.result.now.then_body c.as_ref-choice-in-IfElse.result.now.else_body c.args.most c.in_ok-left-in-IfElse.left _
     here.0 here.1 c.whens_left-in-IfElse-2.ensures)
 
 pub whens_left_behind-returns-else-len-ge-MOST_ACCESSES : goal.whens_left_behind-returns-else-len-ge-MOST_ACCESSES
 whens_left_behind-returns-else-len-ge-MOST_ACCESSES t c =
-    subst (λ s. Leaves c.args.most (raw_body (s ∷ [])) c.whens_left-in-Spawn.result) (sym c.in-Spawn.is)
-    (few_spawn (raw_access c.in-Spawn.first) c.in-Spawn.more.items c.in-Spawn.body c.args.most _ (omega arith)
-    (omega (arith, c.len.ensures, c.in-Spawn.more.ok.0)) c.whens_left-in-Spawn.ensures)
+    subst (λ b. Leaves c.args.most b c.whens_left-in-Spawn.result) (sym (raw_spawn _ _ _ c.in-Spawn.is c.as_ref-when.ensures))
+    (few_spawn (raw_access c.as_ref-when.result.now.first) c.as_ref-when.result.now.more.items c.as_ref-when.result.now.body c.args.most _ (omega arith)
+    (omega (arith, c.len.ensures, c.as_ref-when.result.now.more.ok.0)) c.whens_left-in-Spawn.ensures)

@@ -6,11 +6,12 @@ use Rattle.bl_syntax.specs.RawBodies.{raw_access, raw_body}
 use Rattle.bl_work.specs.SpelledDepth.{spelled_depth}
 use Rattle.bl_work.specs.First.{IsNameOfFirst}
 use Rattle.bl_check.proofs.Joined.{depth-at}
-use Rattle.bl_check.proofs.Firsts.{first_behind, first_before, finds_behind, finds_end, exits, in_statement}
+use Rattle.bl_check.proofs.Firsts.{first_behind, first_before, finds_behind, finds_end, exits, in_statement, in_body}
 use Rattle.bl_check.proofs.Passes.{pass_goes_on, pass_stops, pass_ends, names_of, names_additive}
 use Rattle.bl_work.specs.WhenFaults.{documents_in, names_in}
 use Rattle.bl_work.specs.FirstWhenFault.{same_name}
 use Rattle.bl_check.specs.OfDocuments.{AreOfDocuments}
+use Rattle.bl_syntax.proofs.Boxed.{raw_if_then, raw_if_else, raw_spawn}
 use Rattle.bl_check.proofs.known.+known.Goals as goal
 
 pub check_known-check_statement_known-requires : goal.check_known-check_statement_known-requires
@@ -47,27 +48,27 @@ check_statement_known-returns-in_err-check_used_known-in-Pour t c =
 
 pub check_statement_known-returns-in_err-check_used_known-in-IfThen : goal.check_statement_known-returns-in_err-check_used_known-in-IfThen
 check_statement_known-returns-in_err-check_used_known-in-IfThen t c =
-    in_statement names_of (Contains c.args.names.now.documents) same_name _ _ _ c.in-IfThen.is
+    in_body names_in (Contains c.args.names.now.documents) same_name _ _ _ (raw_if_then _ _ _ c.in-IfThen.is c.as_ref-choice.ensures)
     (exits (Contains c.args.names.now.documents) same_name _ _ _ c.from_residual-in_err-check_used_known-in-IfThen.ensures.1 (first_before (Contains c.args.names.now.documents) same_name _ _ _ c.in_err-check_used_known-in-IfThen.ensures))
 
 pub check_statement_known-returns-in_err-check_used_known-in-IfElse : goal.check_statement_known-returns-in_err-check_used_known-in-IfElse
 check_statement_known-returns-in_err-check_used_known-in-IfElse t c =
-    in_statement names_of (Contains c.args.names.now.documents) same_name _ _ _ c.in-IfElse.is
+    in_body names_in (Contains c.args.names.now.documents) same_name _ _ _ (raw_if_else _ _ _ c.in-IfElse.is c.as_ref-choice-in-IfElse.ensures)
     (exits (Contains c.args.names.now.documents) same_name _ _ _ c.from_residual-in_err-check_used_known-in-IfElse.ensures.1 (first_before (Contains c.args.names.now.documents) same_name _ _ _ c.in_err-check_used_known-in-IfElse.ensures))
 
 pub check_statement_known-returns-in_err-check_known-in-IfElse : goal.check_statement_known-returns-in_err-check_known-in-IfElse
 check_statement_known-returns-in_err-check_known-in-IfElse t c =
-    in_statement names_of (Contains c.args.names.now.documents) same_name _ _ _ c.in-IfElse.is
+    in_body names_in (Contains c.args.names.now.documents) same_name _ _ _ (raw_if_else _ _ _ c.in-IfElse.is c.as_ref-choice-in-IfElse.ensures)
     (exits (Contains c.args.names.now.documents) same_name _ _ _ c.from_residual-in_err-check_known-in-IfElse.ensures.1
-    (first_behind (Contains c.args.names.now.documents) same_name (c.in-IfElse.document.now ∷ []) (names_in c.in-IfElse.then_body ++ (names_in c.in-IfElse.else_body ++ [])) _ c.in_ok-check_used_known-in-IfElse.ensures
-    (first_before (Contains c.args.names.now.documents) same_name (names_in c.in-IfElse.then_body) (names_in c.in-IfElse.else_body ++ []) _ c.in_err-check_known-in-IfElse.ensures)))
+    (first_behind (Contains c.args.names.now.documents) same_name (c.as_ref-choice-in-IfElse.result.now.document.now ∷ []) (names_in c.as_ref-choice-in-IfElse.result.now.then_body ++ (names_in c.as_ref-choice-in-IfElse.result.now.else_body ++ [])) _ c.in_ok-check_used_known-in-IfElse.ensures
+    (first_before (Contains c.args.names.now.documents) same_name (names_in c.as_ref-choice-in-IfElse.result.now.then_body) (names_in c.as_ref-choice-in-IfElse.result.now.else_body ++ []) _ c.in_err-check_known-in-IfElse.ensures)))
 
 pub check_statement_known-returns-in_err-check_accesses_known-in-Spawn : goal.check_statement_known-returns-in_err-check_accesses_known-in-Spawn
 check_statement_known-returns-in_err-check_accesses_known-in-Spawn t c =
-    let found = subst (λ l. IsNameOfFirst (Contains c.args.names.now.documents) same_name (documents_in (raw_access c.in-Spawn.first ∷ map raw_access l)) c.in_err-check_accesses_known-in-Spawn.field-0.0.now) c.deref.ensures.value c.in_err-check_accesses_known-in-Spawn.ensures in
-    in_statement names_of (Contains c.args.names.now.documents) same_name _ _ _ c.in-Spawn.is
+    let found = subst (λ l. IsNameOfFirst (Contains c.args.names.now.documents) same_name (documents_in (raw_access c.as_ref-when.result.now.first ∷ map raw_access l)) c.in_err-check_accesses_known-in-Spawn.field-0.0.now) c.deref.ensures.value c.in_err-check_accesses_known-in-Spawn.ensures in
+    in_body names_in (Contains c.args.names.now.documents) same_name _ _ _ (raw_spawn _ _ _ c.in-Spawn.is c.as_ref-when.ensures)
     (exits (Contains c.args.names.now.documents) same_name _ _ _ c.from_residual-in_err-check_accesses_known-in-Spawn.ensures.1
-    (first_before (Contains c.args.names.now.documents) same_name (documents_in (raw_access c.in-Spawn.first ∷ map raw_access c.in-Spawn.more.items)) (names_in c.in-Spawn.body ++ []) _ found))
+    (first_before (Contains c.args.names.now.documents) same_name (documents_in (raw_access c.as_ref-when.result.now.first ∷ map raw_access c.as_ref-when.result.now.more.items)) (names_in c.as_ref-when.result.now.body ++ []) _ found))
 
 pub check_statement_known-returns-in_ok-check_used_known-in-Copy : goal.check_statement_known-returns-in_ok-check_used_known-in-Copy
 check_statement_known-returns-in_ok-check_used_known-in-Copy t c =
@@ -81,28 +82,28 @@ check_statement_known-returns-in_ok-check_used_known-in-Pour t c =
 
 pub check_statement_known-returns-in_ok-check_used_known-in-IfThen : goal.check_statement_known-returns-in_ok-check_used_known-in-IfThen
 check_statement_known-returns-in_ok-check_used_known-in-IfThen t c =
-    in_statement names_of (Contains c.args.names.now.documents) same_name _ _ _ c.in-IfThen.is
-    (finds_behind (Contains c.args.names.now.documents) same_name (c.in-IfThen.document.now ∷ []) (names_in c.in-IfThen.then_body ++ []) _ c.in_ok-check_used_known-in-IfThen.ensures
-    (finds_end (Contains c.args.names.now.documents) same_name (names_in c.in-IfThen.then_body) _ c.check_known.ensures))
+    in_body names_in (Contains c.args.names.now.documents) same_name _ _ _ (raw_if_then _ _ _ c.in-IfThen.is c.as_ref-choice.ensures)
+    (finds_behind (Contains c.args.names.now.documents) same_name (c.as_ref-choice.result.now.document.now ∷ []) (names_in c.as_ref-choice.result.now.then_body ++ []) _ c.in_ok-check_used_known-in-IfThen.ensures
+    (finds_end (Contains c.args.names.now.documents) same_name (names_in c.as_ref-choice.result.now.then_body) _ c.check_known.ensures))
 
 pub check_statement_known-returns-in_ok-check_known-in-IfElse : goal.check_statement_known-returns-in_ok-check_known-in-IfElse
 check_statement_known-returns-in_ok-check_known-in-IfElse t c =
-    in_statement names_of (Contains c.args.names.now.documents) same_name _ _ _ c.in-IfElse.is
-    (finds_behind (Contains c.args.names.now.documents) same_name (c.in-IfElse.document.now ∷ []) (names_in c.in-IfElse.then_body ++ (names_in c.in-IfElse.else_body ++ [])) _ c.in_ok-check_used_known-in-IfElse.ensures
-    (finds_behind (Contains c.args.names.now.documents) same_name (names_in c.in-IfElse.then_body) (names_in c.in-IfElse.else_body ++ []) _ c.in_ok-check_known-in-IfElse.ensures
-    (finds_end (Contains c.args.names.now.documents) same_name (names_in c.in-IfElse.else_body) _ c.check_known-in-IfElse-2.ensures)))
+    in_body names_in (Contains c.args.names.now.documents) same_name _ _ _ (raw_if_else _ _ _ c.in-IfElse.is c.as_ref-choice-in-IfElse.ensures)
+    (finds_behind (Contains c.args.names.now.documents) same_name (c.as_ref-choice-in-IfElse.result.now.document.now ∷ []) (names_in c.as_ref-choice-in-IfElse.result.now.then_body ++ (names_in c.as_ref-choice-in-IfElse.result.now.else_body ++ [])) _ c.in_ok-check_used_known-in-IfElse.ensures
+    (finds_behind (Contains c.args.names.now.documents) same_name (names_in c.as_ref-choice-in-IfElse.result.now.then_body) (names_in c.as_ref-choice-in-IfElse.result.now.else_body ++ []) _ c.in_ok-check_known-in-IfElse.ensures
+    (finds_end (Contains c.args.names.now.documents) same_name (names_in c.as_ref-choice-in-IfElse.result.now.else_body) _ c.check_known-in-IfElse-2.ensures)))
 
 pub check_statement_known-returns-in_ok-check_accesses_known-in-Spawn : goal.check_statement_known-returns-in_ok-check_accesses_known-in-Spawn
 check_statement_known-returns-in_ok-check_accesses_known-in-Spawn t c =
-    let here : All (Contains c.args.names.now.documents) (documents_in (raw_access c.in-Spawn.first ∷ map raw_access c.deref.result.now)) = c.in_ok-check_accesses_known-in-Spawn.ensures in
-    in_statement names_of (Contains c.args.names.now.documents) same_name _ _ _ c.in-Spawn.is
-    (finds_behind (Contains c.args.names.now.documents) same_name (documents_in (raw_access c.in-Spawn.first ∷ map raw_access c.in-Spawn.more.items)) (names_in c.in-Spawn.body ++ []) _ (subst (λ l. All (Contains c.args.names.now.documents) (documents_in (raw_access c.in-Spawn.first ∷ map raw_access l))) c.deref.ensures.value here)
-    (finds_end (Contains c.args.names.now.documents) same_name (names_in c.in-Spawn.body) _ c.check_known-in-Spawn.ensures))
+    let here : All (Contains c.args.names.now.documents) (documents_in (raw_access c.as_ref-when.result.now.first ∷ map raw_access c.deref.result.now)) = c.in_ok-check_accesses_known-in-Spawn.ensures in
+    in_body names_in (Contains c.args.names.now.documents) same_name _ _ _ (raw_spawn _ _ _ c.in-Spawn.is c.as_ref-when.ensures)
+    (finds_behind (Contains c.args.names.now.documents) same_name (documents_in (raw_access c.as_ref-when.result.now.first ∷ map raw_access c.as_ref-when.result.now.more.items)) (names_in c.as_ref-when.result.now.body ++ []) _ (subst (λ l. All (Contains c.args.names.now.documents) (documents_in (raw_access c.as_ref-when.result.now.first ∷ map raw_access l))) c.deref.ensures.value here)
+    (finds_end (Contains c.args.names.now.documents) same_name (names_in c.as_ref-when.result.now.body) _ c.check_known-in-Spawn.ensures))
 
 pub check_statement_known-check_known-requires-in-Spawn : goal.check_statement_known-check_known-requires-in-Spawn
 check_statement_known-check_known-requires-in-Spawn t c =
-    let deep = ap (λ (s : RawStatement). spelled_depth (raw_body (s ∷ []))) c.in-Spawn.is in (
+    let deep = ap spelled_depth (raw_spawn _ _ _ c.in-Spawn.is c.as_ref-when.ensures) in (
       omega (arith, c.decreases, deep),
-      subst (λ (l : List RawAccess). AreOfDocuments c.args.names.now (raw_access c.in-Spawn.first ∷ map raw_access l))
+      subst (λ (l : List RawAccess). AreOfDocuments c.args.names.now (raw_access c.as_ref-when.result.now.first ∷ map raw_access l))
           (c.deref.ensures.value ∙ sym c.deref-in-Spawn.ensures.value) c.in_ok-check_accesses_known-in-Spawn.ensures,
     )

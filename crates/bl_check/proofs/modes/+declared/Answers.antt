@@ -3,10 +3,11 @@ use Rattle.bl_syntax.specs.RawBodies.{raw_access}
 use Rattle.bl_work.specs.SpelledDepth.{spelled_depth}
 use Rattle.bl_work.specs.Modes.{observes, alters, is_write}
 use Rattle.bl_check.proofs.Joined.{depth-at}
-use Rattle.bl_check.proofs.Firsts.{first_behind, first_before, finds_behind, finds_end, exits, in_statement}
+use Rattle.bl_check.proofs.Firsts.{first_behind, first_before, finds_behind, finds_end, exits, in_statement, in_body}
 use Rattle.bl_check.proofs.Passes.{pass_goes_on, pass_stops, pass_ends, uses_of, uses_additive}
 use Rattle.bl_work.specs.WhenFaults.{IsDeclared, uses_in}
 use Rattle.bl_work.specs.FirstWhenFault.{used_document}
+use Rattle.bl_syntax.proofs.Boxed.{raw_if_then, raw_if_else}
 use Rattle.bl_check.proofs.modes.+declared.Goals as goal
 
 pub check_declared-check_statement_declared-requires : goal.check_declared-check_statement_declared-requires
@@ -44,21 +45,21 @@ check_statement_declared-returns-in_err-check_use-in-Pour t c =
 
 pub check_statement_declared-returns-in_err-check_use-in-IfThen : goal.check_statement_declared-returns-in_err-check_use-in-IfThen
 check_statement_declared-returns-in_err-check_use-in-IfThen t c =
-    in_statement (uses_of (raw_access c.args.first ∷ map raw_access c.args.more.now)) IsDeclared used_document _ _ _ c.in-IfThen.is
+    in_body (uses_in (raw_access c.args.first ∷ map raw_access c.args.more.now)) IsDeclared used_document _ _ _ (raw_if_then _ _ _ c.in-IfThen.is c.as_ref-choice.ensures)
     (exits IsDeclared used_document _ _ _ c.from_residual-in_err-check_use-in-IfThen.ensures.1 (first_before IsDeclared used_document _ _ _ c.in_err-check_use-in-IfThen.ensures))
 
 pub check_statement_declared-returns-in_err-check_use-in-IfElse : goal.check_statement_declared-returns-in_err-check_use-in-IfElse
 check_statement_declared-returns-in_err-check_use-in-IfElse t c =
-    in_statement (uses_of (raw_access c.args.first ∷ map raw_access c.args.more.now)) IsDeclared used_document _ _ _ c.in-IfElse.is
+    in_body (uses_in (raw_access c.args.first ∷ map raw_access c.args.more.now)) IsDeclared used_document _ _ _ (raw_if_else _ _ _ c.in-IfElse.is c.as_ref-choice-in-IfElse.ensures)
     (exits IsDeclared used_document _ _ _ c.from_residual-in_err-check_use-in-IfElse.ensures.1 (first_before IsDeclared used_document _ _ _ c.in_err-check_use-in-IfElse.ensures))
 
 pub check_statement_declared-returns-in_err-check_declared-in-IfElse : goal.check_statement_declared-returns-in_err-check_declared-in-IfElse
 check_statement_declared-returns-in_err-check_declared-in-IfElse t c =
-    in_statement (uses_of (raw_access c.args.first ∷ map raw_access c.args.more.now)) IsDeclared used_document _ _ _ c.in-IfElse.is
+    in_body (uses_in (raw_access c.args.first ∷ map raw_access c.args.more.now)) IsDeclared used_document _ _ _ (raw_if_else _ _ _ c.in-IfElse.is c.as_ref-choice-in-IfElse.ensures)
     (exits IsDeclared used_document _ _ _ c.from_residual-in_err-check_declared-in-IfElse.ensures.1
-    (first_behind IsDeclared used_document (record { declared = raw_access c.args.first ∷ map raw_access c.args.more.now; asked = observes; document = c.in-IfElse.document.now } ∷ [])
-    (uses_in (raw_access c.args.first ∷ map raw_access c.args.more.now) c.in-IfElse.then_body ++ (uses_in (raw_access c.args.first ∷ map raw_access c.args.more.now) c.in-IfElse.else_body ++ [])) _ c.in_ok-check_use-in-IfElse.ensures
-    (first_before IsDeclared used_document (uses_in (raw_access c.args.first ∷ map raw_access c.args.more.now) c.in-IfElse.then_body) (uses_in (raw_access c.args.first ∷ map raw_access c.args.more.now) c.in-IfElse.else_body ++ []) _ c.in_err-check_declared-in-IfElse.ensures)))
+    (first_behind IsDeclared used_document (record { declared = raw_access c.args.first ∷ map raw_access c.args.more.now; asked = observes; document = c.as_ref-choice-in-IfElse.result.now.document.now } ∷ [])
+    (uses_in (raw_access c.args.first ∷ map raw_access c.args.more.now) c.as_ref-choice-in-IfElse.result.now.then_body ++ (uses_in (raw_access c.args.first ∷ map raw_access c.args.more.now) c.as_ref-choice-in-IfElse.result.now.else_body ++ [])) _ c.in_ok-check_use-in-IfElse.ensures
+    (first_before IsDeclared used_document (uses_in (raw_access c.args.first ∷ map raw_access c.args.more.now) c.as_ref-choice-in-IfElse.result.now.then_body) (uses_in (raw_access c.args.first ∷ map raw_access c.args.more.now) c.as_ref-choice-in-IfElse.result.now.else_body ++ []) _ c.in_err-check_declared-in-IfElse.ensures)))
 
 pub check_statement_declared-returns-in_ok-check_use-in-Copy : goal.check_statement_declared-returns-in_ok-check_use-in-Copy
 check_statement_declared-returns-in_ok-check_use-in-Copy t c =
@@ -74,14 +75,14 @@ check_statement_declared-returns-in_ok-check_use-in-Pour t c =
 
 pub check_statement_declared-returns-in_ok-check_use-in-IfThen : goal.check_statement_declared-returns-in_ok-check_use-in-IfThen
 check_statement_declared-returns-in_ok-check_use-in-IfThen t c =
-    in_statement (uses_of (raw_access c.args.first ∷ map raw_access c.args.more.now)) IsDeclared used_document _ _ _ c.in-IfThen.is
-    (finds_behind IsDeclared used_document (record { declared = raw_access c.args.first ∷ map raw_access c.args.more.now; asked = observes; document = c.in-IfThen.document.now } ∷ []) (uses_in (raw_access c.args.first ∷ map raw_access c.args.more.now) c.in-IfThen.then_body ++ []) _
-    c.in_ok-check_use-in-IfThen.ensures (finds_end IsDeclared used_document (uses_in (raw_access c.args.first ∷ map raw_access c.args.more.now) c.in-IfThen.then_body) _ c.check_declared.ensures))
+    in_body (uses_in (raw_access c.args.first ∷ map raw_access c.args.more.now)) IsDeclared used_document _ _ _ (raw_if_then _ _ _ c.in-IfThen.is c.as_ref-choice.ensures)
+    (finds_behind IsDeclared used_document (record { declared = raw_access c.args.first ∷ map raw_access c.args.more.now; asked = observes; document = c.as_ref-choice.result.now.document.now } ∷ []) (uses_in (raw_access c.args.first ∷ map raw_access c.args.more.now) c.as_ref-choice.result.now.then_body ++ []) _
+    c.in_ok-check_use-in-IfThen.ensures (finds_end IsDeclared used_document (uses_in (raw_access c.args.first ∷ map raw_access c.args.more.now) c.as_ref-choice.result.now.then_body) _ c.check_declared.ensures))
 
 pub check_statement_declared-returns-in_ok-check_declared-in-IfElse : goal.check_statement_declared-returns-in_ok-check_declared-in-IfElse
 check_statement_declared-returns-in_ok-check_declared-in-IfElse t c =
-    in_statement (uses_of (raw_access c.args.first ∷ map raw_access c.args.more.now)) IsDeclared used_document _ _ _ c.in-IfElse.is
-    (finds_behind IsDeclared used_document (record { declared = raw_access c.args.first ∷ map raw_access c.args.more.now; asked = observes; document = c.in-IfElse.document.now } ∷ [])
-    (uses_in (raw_access c.args.first ∷ map raw_access c.args.more.now) c.in-IfElse.then_body ++ (uses_in (raw_access c.args.first ∷ map raw_access c.args.more.now) c.in-IfElse.else_body ++ [])) _ c.in_ok-check_use-in-IfElse.ensures
-    (finds_behind IsDeclared used_document (uses_in (raw_access c.args.first ∷ map raw_access c.args.more.now) c.in-IfElse.then_body) (uses_in (raw_access c.args.first ∷ map raw_access c.args.more.now) c.in-IfElse.else_body ++ []) _ c.in_ok-check_declared-in-IfElse.ensures
-    (finds_end IsDeclared used_document (uses_in (raw_access c.args.first ∷ map raw_access c.args.more.now) c.in-IfElse.else_body) _ c.check_declared-in-IfElse-2.ensures)))
+    in_body (uses_in (raw_access c.args.first ∷ map raw_access c.args.more.now)) IsDeclared used_document _ _ _ (raw_if_else _ _ _ c.in-IfElse.is c.as_ref-choice-in-IfElse.ensures)
+    (finds_behind IsDeclared used_document (record { declared = raw_access c.args.first ∷ map raw_access c.args.more.now; asked = observes; document = c.as_ref-choice-in-IfElse.result.now.document.now } ∷ [])
+    (uses_in (raw_access c.args.first ∷ map raw_access c.args.more.now) c.as_ref-choice-in-IfElse.result.now.then_body ++ (uses_in (raw_access c.args.first ∷ map raw_access c.args.more.now) c.as_ref-choice-in-IfElse.result.now.else_body ++ [])) _ c.in_ok-check_use-in-IfElse.ensures
+    (finds_behind IsDeclared used_document (uses_in (raw_access c.args.first ∷ map raw_access c.args.more.now) c.as_ref-choice-in-IfElse.result.now.then_body) (uses_in (raw_access c.args.first ∷ map raw_access c.args.more.now) c.as_ref-choice-in-IfElse.result.now.else_body ++ []) _ c.in_ok-check_declared-in-IfElse.ensures
+    (finds_end IsDeclared used_document (uses_in (raw_access c.args.first ∷ map raw_access c.args.more.now) c.as_ref-choice-in-IfElse.result.now.else_body) _ c.check_declared-in-IfElse-2.ensures)))

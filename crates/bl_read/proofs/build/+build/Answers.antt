@@ -11,8 +11,8 @@ use Rattle.bl_syntax.specs.RawBodies.{raw_access, raw_body}
 use Rattle.bl_work.specs.SpelledDepth.{spelled_depth}
 use Rattle.bl_work.specs.Building.{IsBuilt}
 use Rattle.bl_syntax.specs.declared.raw.RawAccess.{RawAccess}
-use Rattle.bl_syntax.specs.declared.raw.RawStatement.{RawStatement}
-use Rattle.bl_syntax.specs.declared.raw.RawStatement.TheVariants.{IfThen, IfElse}
+use Rattle.bl_syntax.proofs.Boxed.{raw_if_then, raw_if_else, raw_spawn}
+use Rattle.bl_work.specs.Spelled.{SpelledBody, if_then, if_else, empty}
 use Rattle.bl_work.specs.Body.{statements_of}
 use Rattle.bl_work.specs.declared.script.Stmt.{Stmt}
 use Rattle.bl_work.proofs.WhenFaults.{all_left, all_right}
@@ -79,14 +79,14 @@ long_body_of-returns t c =
 
 pub statement_of-body_of-requires-in-IfElse-2 : goal.statement_of-body_of-requires-in-IfElse-2
 statement_of-body_of-requires-in-IfElse-2 t c =
-    let deep = ap (λ (s : RawStatement). spelled_depth (raw_body (s ∷ []))) c.in-IfElse.is in
-    let count = ap (λ (s : RawStatement). whens (raw_body (s ∷ []))) c.in-IfElse.is in
-    let long = built_long c.args.lookup.now.names.now c.in-IfElse.then_body (with_outermost c.args.spawned.now.items)
+    let deep = ap spelled_depth (raw_if_else _ _ _ c.in-IfElse.is c.as_ref-choice-in-IfElse.ensures) in
+    let count = ap whens (raw_if_else _ _ _ c.in-IfElse.is c.as_ref-choice-in-IfElse.ensures) in
+    let long = built_long c.args.lookup.now.names.now c.as_ref-choice-in-IfElse.result.now.then_body (with_outermost c.args.spawned.now.items)
     (with_outermost c.body_of-in-IfElse.new.spawned.items) c.in_ok-then_body-in-IfElse.then_body c.in_ok-then_body-in-IfElse.ensures in
-    let few = subst (λ (s : RawStatement). All HasFewAccesses (lists_in (raw_body (s ∷ [])))) c.in-IfElse.is c.requires.accesses in
-    let then_lists = lists_in c.in-IfElse.then_body in
-    let else_lists = lists_in c.in-IfElse.else_body in
-    let texts = subst (λ (s : RawStatement). AreContents (raw_body (s ∷ []))) c.in-IfElse.is c.requires.texts in (
+    let few = subst (λ (b : SpelledBody). All HasFewAccesses (lists_in b)) (raw_if_else _ _ _ c.in-IfElse.is c.as_ref-choice-in-IfElse.ensures) c.requires.accesses in
+    let then_lists = lists_in c.as_ref-choice-in-IfElse.result.now.then_body in
+    let else_lists = lists_in c.as_ref-choice-in-IfElse.result.now.else_body in
+    let texts = subst AreContents (raw_if_else _ _ _ c.in-IfElse.is c.as_ref-choice-in-IfElse.ensures) c.requires.texts in (
       omega (arith, c.decreases, deep),
       (
         omega (arith, c.requires.few, count, long),
@@ -96,34 +96,34 @@ statement_of-body_of-requires-in-IfElse-2 t c =
 
 pub statement_of-body_of-requires : goal.statement_of-body_of-requires
 statement_of-body_of-requires t c =
-    let deep = ap (λ (s : RawStatement). spelled_depth (raw_body (s ∷ []))) c.in-IfThen.is in
-    let count = ap (λ (s : RawStatement). whens (raw_body (s ∷ []))) c.in-IfThen.is in
-    let few = subst (λ (s : RawStatement). All HasFewAccesses (lists_in (raw_body (s ∷ [])))) c.in-IfThen.is c.requires.accesses in
-    let texts = subst (λ (s : RawStatement). AreContents (raw_body (s ∷ []))) c.in-IfThen.is c.requires.texts in
-    (omega (arith, c.decreases, deep), (omega (arith, c.requires.few, count), (all_left HasFewAccesses (lists_in c.in-IfThen.then_body) [] few, texts.1.0)))
+    let deep = ap spelled_depth (raw_if_then _ _ _ c.in-IfThen.is c.as_ref-choice.ensures) in
+    let count = ap whens (raw_if_then _ _ _ c.in-IfThen.is c.as_ref-choice.ensures) in
+    let few = subst (λ (b : SpelledBody). All HasFewAccesses (lists_in b)) (raw_if_then _ _ _ c.in-IfThen.is c.as_ref-choice.ensures) c.requires.accesses in
+    let texts = subst AreContents (raw_if_then _ _ _ c.in-IfThen.is c.as_ref-choice.ensures) c.requires.texts in
+    (omega (arith, c.decreases, deep), (omega (arith, c.requires.few, count), (all_left HasFewAccesses (lists_in c.as_ref-choice.result.now.then_body) [] few, texts.1.0)))
 
 pub statement_of-body_of-requires-in-IfElse : goal.statement_of-body_of-requires-in-IfElse
 statement_of-body_of-requires-in-IfElse t c =
-    let deep = ap (λ (s : RawStatement). spelled_depth (raw_body (s ∷ []))) c.in-IfElse.is in
-    let count = ap (λ (s : RawStatement). whens (raw_body (s ∷ []))) c.in-IfElse.is in
-    let few = subst (λ (s : RawStatement). All HasFewAccesses (lists_in (raw_body (s ∷ [])))) c.in-IfElse.is c.requires.accesses in
-    let texts = subst (λ (s : RawStatement). AreContents (raw_body (s ∷ []))) c.in-IfElse.is c.requires.texts in (
+    let deep = ap spelled_depth (raw_if_else _ _ _ c.in-IfElse.is c.as_ref-choice-in-IfElse.ensures) in
+    let count = ap whens (raw_if_else _ _ _ c.in-IfElse.is c.as_ref-choice-in-IfElse.ensures) in
+    let few = subst (λ (b : SpelledBody). All HasFewAccesses (lists_in b)) (raw_if_else _ _ _ c.in-IfElse.is c.as_ref-choice-in-IfElse.ensures) c.requires.accesses in
+    let texts = subst AreContents (raw_if_else _ _ _ c.in-IfElse.is c.as_ref-choice-in-IfElse.ensures) c.requires.texts in (
       omega (arith, c.decreases, deep),
-      (omega (arith, c.requires.few, count), (all_left HasFewAccesses (lists_in c.in-IfElse.then_body) (lists_in c.in-IfElse.else_body ++ []) few, texts.1.0)),
+      (omega (arith, c.requires.few, count), (all_left HasFewAccesses (lists_in c.as_ref-choice-in-IfElse.result.now.then_body) (lists_in c.as_ref-choice-in-IfElse.result.now.else_body ++ []) few, texts.1.0)),
     )
 
 pub statement_of-push_when-requires : goal.statement_of-push_when-requires
 statement_of-push_when-requires t c =
-    let deep = ap (λ (s : RawStatement). spelled_depth (raw_body (s ∷ []))) c.in-Spawn.is in
-    let count = ap (λ (s : RawStatement). whens (raw_body (s ∷ []))) c.in-Spawn.is in
-    let few = subst (λ (s : RawStatement). All HasFewAccesses (lists_in (raw_body (s ∷ [])))) c.in-Spawn.is c.requires.accesses in
-    let lists = all_left HasFewAccesses ((raw_access c.in-Spawn.first ∷ map raw_access c.in-Spawn.more.items) ∷ lists_in c.in-Spawn.body) [] few in
-    let texts = subst (λ (s : RawStatement). AreContents (raw_body (s ∷ []))) c.in-Spawn.is c.requires.texts in (
+    let deep = ap spelled_depth (raw_spawn _ _ _ c.in-Spawn.is c.as_ref-when.ensures) in
+    let count = ap whens (raw_spawn _ _ _ c.in-Spawn.is c.as_ref-when.ensures) in
+    let few = subst (λ (b : SpelledBody). All HasFewAccesses (lists_in b)) (raw_spawn _ _ _ c.in-Spawn.is c.as_ref-when.ensures) c.requires.accesses in
+    let lists = all_left HasFewAccesses ((raw_access c.as_ref-when.result.now.first ∷ map raw_access c.as_ref-when.result.now.more.items) ∷ lists_in c.as_ref-when.result.now.body) [] few in
+    let texts = subst AreContents (raw_spawn _ _ _ c.in-Spawn.is c.as_ref-when.ensures) c.requires.texts in (
       omega (arith, c.decreases, deep),
       (
         omega (arith, c.requires.few, count),
         (
-          subst (λ (l : List RawAccess). All HasFewAccesses ((raw_access c.in-Spawn.first ∷ map raw_access l) ∷ lists_in c.in-Spawn.body)) (sym c.deref.ensures.value) lists,
+          subst (λ (l : List RawAccess). All HasFewAccesses ((raw_access c.as_ref-when.result.now.first ∷ map raw_access l) ∷ lists_in c.as_ref-when.result.now.body)) (sym c.deref.ensures.value) lists,
           texts.0,
         ),
       ),
@@ -131,26 +131,28 @@ statement_of-push_when-requires t c =
 
 pub statement_of-returns-in_ok-statement-in-IfThen : goal.statement_of-returns-in_ok-statement-in-IfThen
 statement_of-returns-in_ok-statement-in-IfThen t c =
+    let v = c.as_ref-choice.result.now in
     let names = c.args.lookup.now.names.now in
     let old = with_outermost c.args.spawned.now.items in
     let new = with_outermost c.body_of.new.spawned.items in
-    let whole = built_if_then names c.in-IfThen.document.now c.in-IfThen.test c.in-IfThen.text.now c.in-IfThen.then_body old new c.document-in-IfThen.result
+    let whole = built_if_then names c.as_ref-choice.result.now.document.now c.as_ref-choice.result.now.test c.as_ref-choice.result.now.text.now c.as_ref-choice.result.now.then_body old new c.document-in-IfThen.result
     c.in_ok-text-in-IfThen.text c.in_ok-body-in-IfThen.body c.document-in-IfThen.ensures c.in_ok-text-in-IfThen.ensures c.in_ok-body-in-IfThen.ensures in
     let is = c.in_ok-statement-in-IfThen.ensures
-    ∙ ap (λ (e : Statements). If c.document-in-IfThen.result c.in-IfThen.test c.in_ok-text-in-IfThen.text c.in_ok-body-in-IfThen.body e Nothing) c.empty.ensures in
-    subst (λ (s : RawStatement). IsBuilt names (raw_body (s ∷ [])) old new (statements_of (c.in_ok-statement-in-IfThen.statement ∷ []))) (sym c.in-IfThen.is)
-    (subst (λ (b : Statements). IsBuilt names (raw_body (IfThen c.in-IfThen.document c.in-IfThen.test c.in-IfThen.text c.in-IfThen.then_body ∷ [])) old new b)
+    ∙ ap (λ (e : Statements). If c.document-in-IfThen.result c.as_ref-choice.result.now.test c.in_ok-text-in-IfThen.text c.in_ok-body-in-IfThen.body e Nothing) c.empty.ensures in
+    subst (λ (s : SpelledBody). IsBuilt names s old new (statements_of (c.in_ok-statement-in-IfThen.statement ∷ []))) (sym (raw_if_then _ _ _ c.in-IfThen.is c.as_ref-choice.ensures))
+    (subst (λ (b : Statements). IsBuilt names (if_then v.document.now v.test v.text.now v.then_body empty) old new b)
     (sym is) whole)
 
 pub statement_of-returns-in_ok-statement-in-IfElse : goal.statement_of-returns-in_ok-statement-in-IfElse
 statement_of-returns-in_ok-statement-in-IfElse t c =
+    let v = c.as_ref-choice-in-IfElse.result.now in
     let names = c.args.lookup.now.names.now in
     let old = with_outermost c.args.spawned.now.items in
     let mid = with_outermost c.body_of-in-IfElse.new.spawned.items in
     let new = with_outermost c.body_of-in-IfElse-2.new.spawned.items in
-    let whole = built_if_else names c.in-IfElse.document.now c.in-IfElse.test c.in-IfElse.text.now c.in-IfElse.then_body c.in-IfElse.else_body old mid new
+    let whole = built_if_else names c.as_ref-choice-in-IfElse.result.now.document.now c.as_ref-choice-in-IfElse.result.now.test c.as_ref-choice-in-IfElse.result.now.text.now c.as_ref-choice-in-IfElse.result.now.then_body c.as_ref-choice-in-IfElse.result.now.else_body old mid new
     c.document-in-IfElse.result c.in_ok-text-in-IfElse.text c.in_ok-then_body-in-IfElse.then_body c.in_ok-else_body-in-IfElse.else_body c.document-in-IfElse.ensures
     c.in_ok-text-in-IfElse.ensures c.in_ok-then_body-in-IfElse.ensures c.in_ok-else_body-in-IfElse.ensures in
-    subst (λ (s : RawStatement). IsBuilt names (raw_body (s ∷ [])) old new (statements_of (c.in_ok-statement-in-IfElse.statement ∷ []))) (sym c.in-IfElse.is)
-    (subst (λ (b : Statements). IsBuilt names (raw_body (IfElse c.in-IfElse.document c.in-IfElse.test c.in-IfElse.text c.in-IfElse.then_body c.in-IfElse.else_body ∷ [])) old new b)
+    subst (λ (s : SpelledBody). IsBuilt names s old new (statements_of (c.in_ok-statement-in-IfElse.statement ∷ []))) (sym (raw_if_else _ _ _ c.in-IfElse.is c.as_ref-choice-in-IfElse.ensures))
+    (subst (λ (b : Statements). IsBuilt names (if_else v.document.now v.test v.text.now v.then_body v.else_body empty) old new b)
     (sym c.in_ok-statement-in-IfElse.ensures) whole)

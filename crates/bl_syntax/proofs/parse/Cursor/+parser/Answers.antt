@@ -1,5 +1,6 @@
 use Rattle.std.proofs.Common.{◌∷◌, [], ◌∙◌, arith}
 use Rattle.bl_level.specs.declared.token.Keyword.TheVariants.{When, Do}
+use Rattle.bl_work.specs.Few.{items_of}
 use Rattle.bl_syntax.specs.RawBodies.{raw_access}
 use Rattle.bl_work.specs.Machine.{word, more_accesses, a_body}
 use Rattle.bl_syntax.proofs.Faults.{exits, behind_access, behind_more, behind_word, behind_test, behind_body, behind_else, no_else, in_statement, behind_statement, first_due}
@@ -63,10 +64,10 @@ choice-returns-in_err-key-2-clause-gives t c =
     (behind_test _ _ _ _ _ _ _ c.in_ok-document.ensures.gives (behind_body _ _ _ _ _ c.in_ok-then_body.ensures.gives.0 c.in_ok-then_body.ensures.gives.1
     (no_else _ _ _ c.if-takes.ensures.gives.1 (rw c.if-takes.ensures.gives.0 at c.in_err-key-2.ensures.gives))))
 
-pub statement-returns-in_err-first-in-Spawn-clause-gives : goal.statement-returns-in_err-first-in-Spawn-clause-gives
-statement-returns-in_err-first-in-Spawn-clause-gives t c =
-    exits _ _ _ _ _ c.from_residual-in_err-first-in-Spawn.ensures.1
-    (rw c.in-Spawn.is (behind_word When _ _ _ _ c.in_ok-key-in-Spawn.ensures.gives c.in_err-first-in-Spawn.ensures.gives))
+pub statement-returns-in_err-when-in-Spawn-clause-gives : goal.statement-returns-in_err-when-in-Spawn-clause-gives
+statement-returns-in_err-when-in-Spawn-clause-gives t c =
+    exits _ _ _ _ _ c.from_residual-in_err-when-in-Spawn.ensures.1
+    (rw c.in-Spawn.is (behind_word When _ _ _ _ c.in_ok-key-in-Spawn.ensures.gives c.in_err-when-in-Spawn.ensures.gives))
 
 pub body-returns-in_err-statement-clause-gives : goal.body-returns-in_err-statement-clause-gives
 body-returns-in_err-statement-clause-gives t c =
@@ -79,7 +80,7 @@ body-returns-in_err-sign-clause-gives t c =
 
 pub body-loop-start-preserved : goal.body-loop-start-preserved
 body-loop-start-preserved t c = record {
-  taken = rw c.in_ok-push.ensures.items
-      (body_pushed c.loop-start.statements.items c.in_ok-statement.statement _ _ _ _ c.loop-start.invariant.taken (c.in-Some.ensures.gives ∙ c.in_ok-statement.ensures.gives) c.in_ok-sign.ensures.gives);
+  taken = rw c.in_ok-push.ensures.ok
+      (body_pushed (items_of c.loop-start.statements) c.in_ok-statement.statement _ _ _ _ c.loop-start.invariant.taken (c.in-Some.ensures.gives ∙ c.in_ok-statement.ensures.gives) c.in_ok-sign.ensures.gives);
   ending = c.in_ok-sign.ensures.ending ∙ c.in_ok-statement.ensures.ending ∙ c.in-Some.ensures.ending ∙ c.loop-start.invariant.ending;
 }

@@ -7,9 +7,9 @@ pub returns-in_err-name-in-Hello-clause-gives : goal.returns-in_err-name-in-Hell
 returns-in_err-name-in-Hello-clause-gives c =
     exits _ _ _ _ _ c.from_residual-in_err-name-in-Hello.ensures.1 (behind_hello _ _ _ _ (rw c.in-Hello.is at c.in_ok-first.ensures.gives) c.in_err-name-in-Hello.ensures.gives)
 
-pub returns-in_err-first-in-When-clause-gives : goal.returns-in_err-first-in-When-clause-gives
-returns-in_err-first-in-When-clause-gives c =
-    exits _ _ _ _ _ c.from_residual-in_err-first-in-When.ensures.1 (behind_when _ _ _ _ (rw c.in-When.is at c.in_ok-first.ensures.gives) c.in_err-first-in-When.ensures.gives)
+pub returns-in_err-when-in-When-clause-gives : goal.returns-in_err-when-in-When-clause-gives
+returns-in_err-when-in-When-clause-gives c =
+    exits _ _ _ _ _ c.from_residual-in_err-when-in-When.ensures.1 (behind_when _ _ _ _ (rw c.in-When.is at c.in_ok-first.ensures.gives) c.in_err-when-in-When.ensures.gives)
 
 pub returns-in_err-right-in-Give-clause-gives : goal.returns-in_err-right-in-Give-clause-gives
 returns-in_err-right-in-Give-clause-gives c =
