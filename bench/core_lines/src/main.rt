@@ -16,7 +16,7 @@ use std::io;
 
 /// A subject and a document that it reads.
 const SETUP: &[u8] =
-    b"ranks u\nsubject ann greatest u current u\ndocument memo u \"m1\"\nallow ann memo r\n";
+    b"ranks u\ncategories x\nsubject ann greatest u current u\ndocument memo u \"m1\"\nallow ann memo r\n";
 
 /// The line.
 const SHOW_MEMO: &[u8] = b"when read memo do show memo; end";
