@@ -1,4 +1,5 @@
-//! A monitor over the base setup, and what the tests ask of it.
+//! A monitor over the base setup, and what the tests ask of it. A monitor is let go by `drop`, which is proved once for all tests, and
+//! not at the end of a scope, where the proof takes it apart each time.
 ghost use Rattle.std.specs.Prelude.{IfOk};
 ghost use Rattle.bl_monitor.specs.Heard.{Knows};
 

@@ -22,7 +22,9 @@ fn check_write_needs_equal_levels(
 #[test]
 fn write_needs_equal_levels(rt: HostRuntime) -> Result<(), Fail> {
     let mut monitor = base_monitor(rt.alloc())?;
-    check_write_needs_equal_levels(&rt, rt.alloc(), &mut monitor)
+    let checked = check_write_needs_equal_levels(&rt, rt.alloc(), &mut monitor);
+    drop(monitor);
+    checked
 }
 
 fn check_denial_changes_nothing(
@@ -41,7 +43,9 @@ fn check_denial_changes_nothing(
 #[test]
 fn denial_changes_nothing(rt: HostRuntime) -> Result<(), Fail> {
     let mut monitor = base_monitor(rt.alloc())?;
-    check_denial_changes_nothing(&rt, rt.alloc(), &mut monitor)
+    let checked = check_denial_changes_nothing(&rt, rt.alloc(), &mut monitor);
+    drop(monitor);
+    checked
 }
 
 fn check_append_upward(rt: &impl Abort, alloc: Global, monitor: &mut Monitor) -> Result<(), Fail> {
@@ -55,7 +59,9 @@ fn check_append_upward(rt: &impl Abort, alloc: Global, monitor: &mut Monitor) ->
 #[test]
 fn append_upward(rt: HostRuntime) -> Result<(), Fail> {
     let mut monitor = monitor_over(rt.alloc(), b"\"n1\"", b"allow root log r\n")?;
-    check_append_upward(&rt, rt.alloc(), &mut monitor)
+    let checked = check_append_upward(&rt, rt.alloc(), &mut monitor);
+    drop(monitor);
+    checked
 }
 
 const CHOOSE_AND_POUR: &[u8] =
@@ -65,21 +71,19 @@ show memo; if memo has \"1n\" then say \"yes\"; end; end";
 #[test]
 fn choose_and_pour(rt: HostRuntime) -> Result<(), Fail> {
     let mut monitor = base_monitor(rt.alloc())?;
-    assert!(rt;
-        ann_is_shown(
-            &mut monitor,
-            rt.alloc(),
-            CHOOSE_AND_POUR,
-            &[b"m1n1", b"yes"]
-        )?
-    );
+    let texts: [&[u8]; 2] = [b"m1n1", b"yes"];
+    let shown = ann_is_shown(&mut monitor, rt.alloc(), CHOOSE_AND_POUR, &texts);
+    drop(monitor);
+    assert!(rt; shown?);
     Ok(())
 }
 
 #[test]
 fn choose_and_pour_else(rt: HostRuntime) -> Result<(), Fail> {
     let mut monitor = monitor_over(rt.alloc(), b"\"n2\"", b"")?;
-    assert!(rt; ann_is_shown(&mut monitor, rt.alloc(), CHOOSE_AND_POUR, &[b"no"])?);
+    let shown = ann_is_shown(&mut monitor, rt.alloc(), CHOOSE_AND_POUR, &[b"no"]);
+    drop(monitor);
+    assert!(rt; shown?);
     Ok(())
 }
 
@@ -98,7 +102,9 @@ fn check_child_enters_after_admitted_line(
 #[test]
 fn child_enters_after_admitted_line(rt: HostRuntime) -> Result<(), Fail> {
     let mut monitor = base_monitor(rt.alloc())?;
-    check_child_enters_after_admitted_line(&rt, rt.alloc(), &mut monitor)
+    let checked = check_child_enters_after_admitted_line(&rt, rt.alloc(), &mut monitor);
+    drop(monitor);
+    checked
 }
 
 fn check_counts_children_that_were_spawned(
@@ -122,7 +128,9 @@ else spawn when read note do show note; end; end; end";
 #[test]
 fn counts_children_that_were_spawned(rt: HostRuntime) -> Result<(), Fail> {
     let mut monitor = base_monitor(rt.alloc())?;
-    check_counts_children_that_were_spawned(&rt, rt.alloc(), &mut monitor)
+    let checked = check_counts_children_that_were_spawned(&rt, rt.alloc(), &mut monitor);
+    drop(monitor);
+    checked
 }
 
 fn check_no_child(rt: &impl Abort, alloc: Global, monitor: &mut Monitor) -> Result<(), Fail> {
@@ -136,7 +144,9 @@ fn check_no_child(rt: &impl Abort, alloc: Global, monitor: &mut Monitor) -> Resu
 #[test]
 fn no_child(rt: HostRuntime) -> Result<(), Fail> {
     let mut monitor = base_monitor(rt.alloc())?;
-    check_no_child(&rt, rt.alloc(), &mut monitor)
+    let checked = check_no_child(&rt, rt.alloc(), &mut monitor);
+    drop(monitor);
+    checked
 }
 
 fn check_no_child_of_what_did_not_run(
@@ -158,7 +168,9 @@ fn check_no_child_of_what_did_not_run(
 #[test]
 fn no_child_of_what_did_not_run(rt: HostRuntime) -> Result<(), Fail> {
     let mut monitor = base_monitor(rt.alloc())?;
-    check_no_child_of_what_did_not_run(&rt, rt.alloc(), &mut monitor)
+    let checked = check_no_child_of_what_did_not_run(&rt, rt.alloc(), &mut monitor);
+    drop(monitor);
+    checked
 }
 
 fn check_lost_entry_keeps_its_fault(
@@ -176,5 +188,7 @@ fn check_lost_entry_keeps_its_fault(
 #[test]
 fn lost_entry_keeps_its_fault(rt: HostRuntime) -> Result<(), Fail> {
     let mut monitor = base_monitor(rt.alloc())?;
-    check_lost_entry_keeps_its_fault(&rt, rt.alloc(), &mut monitor)
+    let checked = check_lost_entry_keeps_its_fault(&rt, rt.alloc(), &mut monitor);
+    drop(monitor);
+    checked
 }

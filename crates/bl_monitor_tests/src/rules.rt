@@ -197,7 +197,9 @@ fn check_rules_and_their_checks(
 #[test]
 fn rules_and_their_checks(rt: HostRuntime) -> Result<(), Fail> {
     let mut monitor = base_monitor(rt.alloc())?;
-    check_rules_and_their_checks(&rt, rt.alloc(), &mut monitor)
+    let checked = check_rules_and_their_checks(&rt, rt.alloc(), &mut monitor);
+    drop(monitor);
+    checked
 }
 
 fn check_rules_have_neither_faults_nor_children(
@@ -215,7 +217,9 @@ fn check_rules_have_neither_faults_nor_children(
 #[test]
 fn rules_have_neither_faults_nor_children(rt: HostRuntime) -> Result<(), Fail> {
     let mut monitor = base_monitor(rt.alloc())?;
-    check_rules_have_neither_faults_nor_children(&rt, &mut monitor)
+    let checked = check_rules_have_neither_faults_nor_children(&rt, &mut monitor);
+    drop(monitor);
+    checked
 }
 
 const APPEND_B: &[u8] = b"when append memo do add memo \"b\"; end";
@@ -236,7 +240,9 @@ fn check_write_does_not_stand_for_append(
 #[test]
 fn write_does_not_stand_for_append(rt: HostRuntime) -> Result<(), Fail> {
     let mut monitor = base_monitor(rt.alloc())?;
-    check_write_does_not_stand_for_append(&rt, rt.alloc(), &mut monitor)
+    let checked = check_write_does_not_stand_for_append(&rt, rt.alloc(), &mut monitor);
+    drop(monitor);
+    checked
 }
 
 fn check_rescind_between_reads(
@@ -253,7 +259,9 @@ fn check_rescind_between_reads(
 #[test]
 fn rescind_between_reads(rt: HostRuntime) -> Result<(), Fail> {
     let mut monitor = base_monitor(rt.alloc())?;
-    check_rescind_between_reads(&rt, rt.alloc(), &mut monitor)
+    let checked = check_rescind_between_reads(&rt, rt.alloc(), &mut monitor);
+    drop(monitor);
+    checked
 }
 
 fn check_lost_rule_changes_nothing(
@@ -270,7 +278,9 @@ fn check_lost_rule_changes_nothing(
 #[test]
 fn lost_rule_changes_nothing(rt: HostRuntime) -> Result<(), Fail> {
     let mut monitor = base_monitor(rt.alloc())?;
-    check_lost_rule_changes_nothing(&rt, rt.alloc(), &mut monitor)
+    let checked = check_lost_rule_changes_nothing(&rt, rt.alloc(), &mut monitor);
+    drop(monitor);
+    checked
 }
 
 fn check_classify_needs_trust(
@@ -290,5 +300,7 @@ fn check_classify_needs_trust(
 fn classify_needs_trust(rt: HostRuntime) -> Result<(), Fail> {
     let more = b"subject dan greatest u current u admin\n";
     let mut monitor = monitor_over(rt.alloc(), b"\"n1\"", more)?;
-    check_classify_needs_trust(&rt, rt.alloc(), &mut monitor)
+    let checked = check_classify_needs_trust(&rt, rt.alloc(), &mut monitor);
+    drop(monitor);
+    checked
 }
