@@ -1,4 +1,5 @@
-//! A core over the base setup, and what the tests ask of it.
+//! A core over the base setup, and what the tests ask of it. A core is let go by `drop`, which is proved once for all tests, and not at
+//! the end of a scope, where the proof takes it apart each time.
 ghost use Rattle.std.specs.Prelude.{◌≡◌, Ok};
 
 use bl_core::machine::{Core, Started};
@@ -132,11 +133,6 @@ fn open_for_all(core: &mut Core) {
     for subject in 0..subjects {
         let _session = core.open(SubjectId::new(subject));
     }
-}
-
-/// Lets a core go. A test that ends so has one way out alone.
-pub(super) fn end(core: Core) {
-    let _core = core;
 }
 
 /// What a line of a setup asks.

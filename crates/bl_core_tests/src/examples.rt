@@ -1,7 +1,7 @@
 //! What is allowed, denied and changed, entry after entry, as the worked examples have it.
 use super::base::{
-    ANN, BOB, DAN, LOG, MEMO, NOTE, ROOT, SHOW_MEMO, Said, base_core, core_over, end, has,
-    has_modes, is_denied, is_done, is_made, right, run_all, setup_with,
+    ANN, BOB, DAN, LOG, MEMO, NOTE, ROOT, SHOW_MEMO, Said, base_core, core_over, has, has_modes,
+    is_denied, is_done, is_made, right, run_all, setup_with,
 };
 use bl_core::machine::Core;
 use bl_policy::access::ModeSet;
@@ -18,7 +18,7 @@ fn append_upward(rt: HostRuntime) {
     run_all(&rt, &mut core, &lines);
     assert!(rt; is_done(&core, 0, &[]));
     assert!(rt; has(&core, LOG, b"x"));
-    end(core);
+    drop(core);
 }
 
 const APPEND_B: &[u8] = b"when append memo do add memo \"b\"; end";
@@ -40,7 +40,7 @@ fn write_does_not_stand_for_append(rt: HostRuntime) {
     assert!(rt; answered);
     assert!(rt; has(&core, MEMO, b"m1b"));
     assert!(rt; has_modes(&core, BOB, MEMO, ModeSet::READ | ModeSet::WRITE));
-    end(core);
+    drop(core);
 }
 
 #[test]
@@ -56,7 +56,7 @@ fn rescind_between_reads(rt: HostRuntime) {
         && is_made(&core, 1)
         && is_denied(&core, 2, Clause::Discretionary, ANN, MEMO);
     assert!(rt; answered);
-    end(core);
+    drop(core);
 }
 
 #[test]
@@ -75,7 +75,7 @@ fn classify_needs_trust(rt: HostRuntime) {
         && is_made(&core, 2)
         && is_denied(&core, 3, Clause::Star, BOB, NOTE);
     assert!(rt; answered);
-    end(core);
+    drop(core);
 }
 
 /// 65,535 times `a`.
@@ -111,5 +111,5 @@ fn addition_cut_at_the_limit(rt: HostRuntime) {
     run_all(&rt, &mut core, &lines);
     assert!(rt; is_done(&core, 0, &[]));
     assert!(rt; is_cut(&core));
-    end(core);
+    drop(core);
 }

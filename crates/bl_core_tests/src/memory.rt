@@ -1,7 +1,5 @@
 //! What is left where a growth is refused.
-use super::base::{
-    ANN, MEMO, SHOW_MEMO, end, finish, has, is_done, is_lost, right, run, setup_text,
-};
+use super::base::{ANN, MEMO, SHOW_MEMO, finish, has, is_done, is_lost, right, run, setup_text};
 use bl_core::machine::{Core, Started};
 use bl_core::refusal::{NotReady, StartFault, Starved};
 use bl_core::session::SessionNo;
@@ -37,7 +35,7 @@ fn admitted(alloc: Global) -> Option<Core> {
     if admits(&mut core, alloc, 1, add) && admits(&mut core, alloc, 2, SHOW_MEMO) {
         Some(core)
     } else {
-        end(core);
+        drop(core);
         None
     }
 }
@@ -114,6 +112,6 @@ fn starved_and_lost(rt: HostRuntime) {
         assert!(rt; has(&core, MEMO, memo));
         show(&rt, &mut core);
         assert!(rt; is_lost(&core, 1) || is_done(&core, 1, &[memo]));
-        end(core);
+        drop(core);
     }
 }

@@ -1,7 +1,7 @@
 //! One list of entries in many orders, each answer compared with the monitor's.
 ghost use Rattle.bl_monitor.specs.Heard.{Knows};
 
-use super::base::{ANN, BOB, ROOT, admit, base, base_core, done_of, end, finish, right, started};
+use super::base::{ANN, BOB, ROOT, admit, base, base_core, done_of, finish, right, started};
 use bl_core::machine::{Core, Started};
 use bl_eval::lent::Done;
 use bl_monitor::monitor::{Entry, Monitor};
@@ -256,13 +256,8 @@ fn assert_order<R: AllocGlobal + Abort>(rt: &R, order: &Order, newest: bool) {
     assert!(rt; sources.len() == ENTRIES as usize);
     let mut monitor = right(rt, Monitor::new(rt.alloc(), base(rt)));
     assert_answers(rt, &core, &mut monitor, &sources);
-    end_monitor(monitor);
-    end(core);
-}
-
-/// Lets a monitor go.
-fn end_monitor(monitor: Monitor) {
-    let _monitor = monitor;
+    drop(monitor);
+    drop(core);
 }
 
 #[test]

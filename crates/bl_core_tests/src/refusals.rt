@@ -1,7 +1,7 @@
 //! What a core refuses: sessions, names, and what it did not lend.
 use super::base::{
-    ANN, DAN, SHOW_MEMO, admit, base, base_core, core_over, done_of, end, finish, is_done,
-    is_not_ready, lent_to, right, setup_with, work_of,
+    ANN, DAN, SHOW_MEMO, admit, base, base_core, core_over, done_of, finish, is_done, is_not_ready,
+    lent_to, right, setup_with, work_of,
 };
 use bl_core::machine::Core;
 use bl_core::refusal::{Cause, OpenRefused};
@@ -28,7 +28,7 @@ fn sessions_full(rt: HostRuntime) {
     assert!(rt; refused == Err(OpenRefused::SessionsFull));
     let refused = core.open(SubjectId::new(DAN));
     assert!(rt; refused == Err(OpenRefused::Stranger));
-    end(core);
+    drop(core);
 }
 
 /// What was done, which the core did not lend and hands back.
@@ -54,8 +54,8 @@ fn foreign_finish(rt: HostRuntime) {
     finish_in_turn(&rt, &mut core, &mut other);
     assert!(rt; is_done(&core, 0, &[b"m1"]));
     assert!(rt; is_not_ready(&rt, &mut core, 0));
-    end(core);
-    end(other);
+    drop(core);
+    drop(other);
 }
 
 /// A name of 32 bytes.
@@ -98,7 +98,7 @@ fn long_work<R: AllocGlobal + Abort>(rt: &R) -> Work {
     let text = right(rt, show_often(rt.alloc()));
     let core = base_core(rt);
     let work = work_of(rt, core.setup(), &text);
-    end(core);
+    drop(core);
     work
 }
 
@@ -107,7 +107,7 @@ fn refused_with<R: AllocGlobal + Abort>(rt: &R, name: &[u8]) -> Option<(Cause, b
     let work = long_work(rt);
     let mut core = core_naming(rt, name);
     let cause = cause_of(&mut core, right(rt, work.share()), &work);
-    end(core);
+    drop(core);
     cause
 }
 

@@ -1,7 +1,7 @@
 //! Which entries may start.
 use super::base::{
-    ANN, MEMO, ROOT, SHOW_MEMO, Said, admit_all, base_core, done_of, end, finish, has, is_done,
-    lent_to, run,
+    ANN, MEMO, ROOT, SHOW_MEMO, Said, admit_all, base_core, done_of, finish, has, is_done, lent_to,
+    run,
 };
 use bl_core::machine::Core;
 
@@ -39,7 +39,7 @@ fn who_may_start(rt: HostRuntime) {
     assert!(rt; may_start(&core, &[2]));
     run(&rt, &mut core, 2);
     assert!(rt; may_start(&core, &[4]));
-    end(core);
+    drop(core);
 }
 
 /// Two readers of memo hold it together, and the second ends before the first.
@@ -55,5 +55,5 @@ fn two_readers_hold_together(rt: HostRuntime) {
     assert!(rt; is_done(&core, 1, &[b"m1"]));
     finish(&rt, &mut core, done_of(&rt, first));
     assert!(rt; is_done(&core, 0, &[b"m1"]));
-    end(core);
+    drop(core);
 }
