@@ -1,0 +1,9 @@
+mod Base
+mod Rows
+pub mod Words
+pub mod Following
+pub mod OneEventLaw
+pub mod AskingLaws
+pub mod Verdicts
+pub mod OneVerdict
+pub mod SmallTrails

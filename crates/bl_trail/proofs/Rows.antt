@@ -1,0 +1,32 @@
+-- The worked examples, computed from the definitions alone.
+use Rattle.std.specs.Prelude.{◌≡◌, [], ◌∷◌, codes, refl}
+use Rattle.std.specs.Fmt.{digits}
+use Rattle.bl_work.specs.Content.{added}
+use Rattle.bl_order.specs.Machine.{Opens, Admits, Starts, Loses}
+use Rattle.bl_trail.specs.TrueText.{trail_lines}
+use Rattle.bl_trail.proofs.Base.{base, read_one, later_child, ann, memo, reads}
+
+trail-of-read-one :
+    trail_lines base 10000 read_one
+    ≡ codes "trail 1" ∷ codes "limit 10000" ∷ codes "open ann" ∷ codes "line 0 1 when read memo do show memo;end" ∷ codes "start 0 run"
+    ∷ codes "end 0 done \"m1\"" ∷ codes "stop" ∷ []
+unfolding digits
+trail-of-read-one = refl
+
+trail-of-later-child :
+    trail_lines base 10000 later_child
+    ≡ codes "trail 1" ∷ codes "limit 10000" ∷ codes "open ann"
+    ∷ codes "line 0 1 when write memo do add memo\"a\";spawn when read memo do show memo;end;end"
+    ∷ codes "line 0 2 when write memo do add memo\"b\";end"
+    ∷ codes "start 0 run" ∷ codes "end 0 done" ∷ codes "start 1 run" ∷ codes "end 1 done" ∷ codes "start 2 run" ∷ codes "end 2 done \"m1ab\""
+    ∷ codes "stop" ∷ []
+unfolding digits added
+trail-of-later-child = refl
+
+-- an entry that ran says `run` at its start, though it is lost later; one that is lost at once says nothing else
+lost-later :
+    trail_lines base 1 (Opens ann ∷ Admits 0 1 (reads memo) ∷ Starts 0 ∷ Loses 0 ∷ [])
+    ≡ codes "trail 1" ∷ codes "limit 1" ∷ codes "open ann" ∷ codes "line 0 1 when read memo do show memo;end" ∷ codes "start 0 run"
+    ∷ codes "lost 0" ∷ codes "stop" ∷ []
+unfolding digits
+lost-later = refl

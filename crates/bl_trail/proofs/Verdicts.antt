@@ -1,0 +1,227 @@
+-- From how far the events are right to the verdict on the text.
+use Rattle.std.proofs.Common.{◌≡◌, ◌≢◌, ℕ, suc, ◌+◌, ◌<◌, ◌^◌, List, [], ◌∷◌, ◌++◌, length, drop, get_or, refl, sym, ◌∙◌, ap, subst, inl, inr, arith, ◌⊎◌, append_assoc, length-append, lit<}
+use Rattle.std.specs.Prelude.{codes, decimal}
+use Rattle.std.specs.List.{AllByRecursion}
+use Rattle.std.proofs.lemmas.Fmt.{decimal_injective}
+use Rattle.bl_setup.specs.Agreement.{Agree}
+use Rattle.bl_setup.specs.Setup.{Setup}
+use Rattle.bl_order.specs.Machine.{State, Event, Opens, Admits, Starts, Ends, Loses, IsTrail, change, state_after, start}
+use Rattle.bl_trail.specs.Asks.{HasNo}
+use Rattle.bl_trail.specs.OneEvent.{Reads, IsSmall, AreSmall}
+use Rattle.bl_trail.specs.TrueText.{IsLimit, event_texts, head_lines, trail_lines, joined, GoesOn, AreRight, IsWrong, IsTrueText, FirstWrong}
+use Rattle.bl_trail.specs.Follow.{Followed, IsNoEvent, IsNotNext, IsMore, IsFollowed, IsVerdict}
+use Rattle.bl_trail.specs.declared.verdict.Verdict.{Verdict}
+use Rattle.bl_trail.specs.declared.verdict.Verdict.TheVariants.{Accepted, Rejected}
+use Rattle.bl_trail.proofs.Following.{joined-append, all-append}
+use Rattle.bl_trail.proofs.OneEventLaw.{one_event, not_stop, decimal-has_no}
+
+abbrev pub stop : List ℕ
+stop = codes "stop"
+
+setup-kept : (x : State) (e : Event) → x.setup ≡ (change x e).setup
+setup-kept x (Opens s) = refl
+setup-kept x (Admits i k w) = refl
+setup-kept x (Starts n) = refl
+setup-kept x (Ends n) = refl
+setup-kept x (Loses n) = refl
+
+-- what is known of a state whose events have one text each
+abbrev IsPlain : State → Type 0
+IsPlain x = Reads x.setup.names × Agree x.setup
+
+plain-kept : (x : State) (e : Event) → IsPlain x → IsPlain (change x e)
+plain-kept x e p = subst (λ (s : Setup). Reads s.names × Agree s) (setup-kept x e) p
+
+small-here : (x : State) (es : List Event) → AreSmall x es → IsSmall x
+small-here x [] small = small
+small-here x (e ∷ es) small = small.0
+
+small-end : (x : State) (es : List Event) → AreSmall x es → IsSmall (state_after x es)
+small-end x [] small = small
+small-end x (e ∷ es) small = small-end (change x e) es small.1
+
+plain-end : (x : State) (es : List Event) → IsPlain x → IsPlain (state_after x es)
+plain-end x [] p = p
+plain-end x (e ∷ es) p = plain-end (change x e) es (plain-kept x e p)
+
+-- events that go on behind others, up to a `stop`
+pub record Rest (y : State) (tail : List (List ℕ)) : Type 0 where
+  pub events : List Event
+  pub steps : IsTrail y events
+  pub texts : event_texts y events ++ stop ∷ [] ≡ tail
+
+-- of two trails that begin with the same lines, the second goes on from where the first leads
+walk : (x : State) (es fs : List Event) (tail : List (List ℕ)) → IsPlain x → AreSmall x es → IsTrail x es → IsTrail x fs
+    → event_texts x fs ++ stop ∷ [] ≡ event_texts x es ++ tail → Rest (state_after x es) tail
+walk x [] fs tail plain small steps others h = record { events = fs; steps = others; texts = h }
+walk x (e ∷ es) [] tail plain small steps others h = absurd (not_stop x plain.0 plain.1 small.0 e (sym (ap (λ l. get_or l 0 []) h)))
+walk x (e ∷ es) (f ∷ fs) tail plain small steps others h =
+    let same : f ≡ e = one_event x plain.0 plain.1 small.0 f e others.0 steps.0 (ap (λ l. get_or l 0 []) h) in
+    walk (change x e) es fs tail (plain-kept x e plain) small.1 steps.1
+    (subst (λ d. IsTrail (change x d) fs) same others.1)
+    (ap (λ d. event_texts (change x d) fs ++ stop ∷ []) (sym same) ∙ ap (drop 1) h)
+
+module _ (setup : Setup) (limit : ℕ) (is_limit : IsLimit limit) (plain : IsPlain (start setup limit)) (events : List Event)
+    (steps : IsTrail (start setup limit) events) (small : AreSmall (start setup limit) events) where
+  abbrev pub x0 : State
+  x0 = start setup limit
+
+  abbrev pub before : List (List ℕ)
+  before = head_lines limit ++ event_texts x0 events
+
+  -- a true text that begins with these lines goes on from where they lead
+  goes-on : (tail : List (List ℕ)) (lines more : List (List ℕ)) → GoesOn setup lines more → lines ++ more ≡ before ++ tail → Rest (state_after x0 events) tail
+  goes-on tail lines more g is =
+      let all : trail_lines setup g.limit g.events ≡ before ++ tail = g.is ∙ is in
+      let low : limit < 2 ^ 64 = omega (arith, is_limit.1) in
+      let low2 : g.limit < 2 ^ 64 = omega (arith, g.is_limit.1) in
+      let same : g.limit ≡ limit = decimal_injective g.limit limit low2 low (ap (λ l. drop 6 (get_or l 1 [])) all) in
+      walk x0 events g.events tail plain small steps (subst (λ m. IsTrail (start setup m) g.events) same g.steps)
+      (ap (λ m. event_texts (start setup m) g.events ++ stop ∷ []) (sym same) ∙ ap (drop 2) all)
+
+  abbrev pub end : State
+  end = state_after x0 events
+
+  -- what is not next is wrong behind them
+  no_event : (line : List ℕ) (more : List (List ℕ)) → line ≢ stop → IsNoEvent end line → Rest (state_after x0 events) (line ∷ more) → ⊥
+  no_event line more other none r = go r.events r.steps r.texts
+    where
+      go : (gs : List Event) → IsTrail (state_after x0 events) gs → event_texts (state_after x0 events) gs ++ stop ∷ [] ≡ line ∷ more → ⊥
+      go [] s h = other (sym (ap (λ l. get_or l 0 []) h))
+      go (g ∷ gs) s h = none g s.0 (sym (ap (λ l. get_or l 0 []) h))
+
+  no_end : Rest (state_after x0 events) [] → ⊥
+  no_end r = go r.events r.texts
+    where
+      go : (gs : List Event) → event_texts (state_after x0 events) gs ++ stop ∷ [] ≡ [] → ⊥
+      go [] h = absurd (omega (arith, ap length h))
+      go (g ∷ gs) h = absurd (omega (arith, ap length h))
+
+  no_more : (line : List ℕ) (more : List (List ℕ)) → Rest (state_after x0 events) (stop ∷ line ∷ more) → ⊥
+  no_more line more r = go r.events r.texts
+    where
+      e : IsPlain (state_after x0 events)
+      e = plain-end x0 events plain
+
+      go : (gs : List Event) → event_texts (state_after x0 events) gs ++ stop ∷ [] ≡ stop ∷ line ∷ more → ⊥
+      go [] h = absurd (omega (arith, ap length h))
+      go (g ∷ gs) h = not_stop (state_after x0 events) e.0 e.1 (small-end x0 events small) g (ap (λ l. get_or l 0 []) h)
+
+  append-nil : {A : Type 0} (a : List A) → a ++ [] ≡ a
+  append-nil [] = refl
+  append-nil (b ∷ a) = ap (λ l. b ∷ l) (append-nil a)
+
+  regroup : (a b c : List (List ℕ)) → (a ++ b) ++ c ≡ a ++ (b ++ c)
+  regroup a b c = append_assoc a b c
+
+  wrong-next : (rest : List ℕ) → IsNotNext end rest → IsWrong setup before rest
+  wrong-next rest (inl none) = inl (none, λ empty all. no_end (goes-on [] before [] all refl))
+  wrong-next rest (inr t) =
+      inr (t.0, t.1, t.2.plain, t.2.split, λ right. no_event t.0 right.0 t.3 t.4 (goes-on (t.0 ∷ right.0) (before ++ t.0 ∷ []) right.0 right.1 (regroup before (t.0 ∷ []) right.0)))
+
+  wrong-more : (rest : List ℕ) → IsMore rest → IsWrong setup (before ++ stop ∷ []) rest
+  wrong-more rest (inl t) = inl (t.0, λ empty all. t.1 empty)
+  wrong-more rest (inr t) =
+      inr (
+        t.0,
+        t.1,
+        t.2.plain,
+        t.2.split,
+        λ right. no_more t.0 right.0 (goes-on (stop ∷ t.0 ∷ right.0) ((before ++ stop ∷ []) ++ t.0 ∷ []) right.0 right.1
+            (regroup (before ++ stop ∷ []) (t.0 ∷ []) right.0 ∙ regroup before (stop ∷ []) (t.0 ∷ right.0))),
+      )
+
+  right : AreRight setup before
+  right = (stop ∷ [], record { limit = limit; is_limit = is_limit; events = events; steps = steps; is = sym (regroup (head_lines limit) (event_texts x0 events) (stop ∷ [])) })
+
+  right-closed : AreRight setup (before ++ stop ∷ [])
+  right-closed = ([], record { limit = limit; is_limit = is_limit; events = events; steps = steps; is = sym (append-nil (before ++ stop ∷ []) ∙ regroup (head_lines limit) (event_texts x0 events) (stop ∷ [])) })
+
+  length-texts : (x : State) (es : List Event) → length (event_texts x es) ≡ length es
+  length-texts x [] = refl
+  length-texts x (e ∷ es) = ap suc (length-texts (change x e) es)
+
+  module _ (text rest : List ℕ) (head : AllByRecursion (HasNo 10) (head_lines limit)) (followed : Followed x0 text rest events) where
+    split : joined (head_lines limit) ++ text ≡ joined before ++ rest
+    split =
+        ap (λ t. joined (head_lines limit) ++ t) followed.split
+        ∙ sym (append_assoc (joined (head_lines limit)) (joined (event_texts x0 events)) rest)
+        ∙ ap (λ t. t ++ rest) (sym (joined-append (head_lines limit) (event_texts x0 events)))
+
+    plain-before : AllByRecursion (HasNo 10) before
+    plain-before = all-append (HasNo 10) (head_lines limit) (event_texts x0 events) head followed.plain
+
+    pub rejected-next : (number : ℕ) → IsNotNext end rest → number ≡ length events + 3 → FirstWrong setup (joined (head_lines limit) ++ text) number
+    rejected-next number next is = record {
+      before = before;
+      behind = rest;
+      whole = plain-before;
+      split = split;
+      right = right;
+      wrong = wrong-next rest next;
+      is = omega (arith, is, length-texts x0 events);
+    }
+
+  -- the events end by a `stop` with this behind it
+  module _ (text rest : List ℕ) (head : AllByRecursion (HasNo 10) (head_lines limit)) (plain_stop : HasNo 10 stop) (followed : Followed x0 text (stop ++ 10 ∷ rest) events) where
+    split-closed : joined (head_lines limit) ++ text ≡ joined (before ++ stop ∷ []) ++ rest
+    split-closed =
+        split text (stop ++ 10 ∷ rest) head followed
+        ∙ sym (append_assoc (joined before) (joined (stop ∷ [])) rest)
+        ∙ ap (λ t. t ++ rest) (sym (joined-append before (stop ∷ [])))
+
+    pub rejected-more : (number : ℕ) → IsMore rest → number ≡ length events + 4 → FirstWrong setup (joined (head_lines limit) ++ text) number
+    rejected-more number more is = record {
+      before = before ++ stop ∷ [];
+      behind = rest;
+      whole = all-append (HasNo 10) before (stop ∷ []) (plain-before text (stop ++ 10 ∷ rest) head followed) (plain_stop, tt);
+      split = split-closed;
+      right = right-closed;
+      wrong = wrong-more rest more;
+      is = omega (arith, is, length-texts x0 events, length-append before (stop ∷ []));
+    }
+
+    pub accepted : (count : ℕ) → rest ≡ [] → count ≡ length events → IsTrueText setup (joined (head_lines limit) ++ text) count
+    accepted count none is = record {
+      limit = limit;
+      is_limit = is_limit;
+      events = events;
+      steps = steps;
+      plain = subst (AllByRecursion (HasNo 10)) (regroup (head_lines limit) (event_texts x0 events) (stop ∷ [])) (all-append (HasNo 10) before (stop ∷ []) (plain-before text (stop ++ 10 ∷ rest) head followed) (plain_stop, tt));
+      counted = is;
+      is = split-closed ∙ ap (λ r. joined (before ++ stop ∷ []) ++ r) none ∙ append-nil (joined (before ++ stop ∷ []))
+          ∙ ap joined (regroup (head_lines limit) (event_texts x0 events) (stop ∷ []));
+    }
+
+-- THE VERDICT: where the lines behind the head were followed, the verdict is that of TrueText
+pub verdict-is : (setup : Setup) (limit : ℕ) → IsLimit limit → Reads setup.names → Agree setup
+    → ((events : List Event) → IsTrail (start setup limit) events → AreSmall (start setup limit) events)
+    → AllByRecursion (HasNo 10) (head_lines limit) → HasNo 10 stop → (text : List ℕ) (verdict : Verdict) → IsFollowed (start setup limit) text verdict
+    → IsVerdict setup (joined (head_lines limit) ++ text) verdict
+verdict-is setup limit is_limit reads agree small head plain_stop text (Accepted count) f =
+    accepted setup limit is_limit (reads, agree) f.0 f.1.steps (small f.0 f.1.steps) text [] head plain_stop f.1 count refl f.2
+verdict-is setup limit is_limit reads agree small head plain_stop text (Rejected number) f = go f.2
+  where
+    go : ((Followed (start setup limit) text f.1 f.0 × IsNotNext (state_after (start setup limit) f.0) f.1 × (number ≡ length f.0 + 3))
+        ⊎ (Followed (start setup limit) text (stop ++ 10 ∷ f.1) f.0 × IsMore f.1 × (number ≡ length f.0 + 4)))
+        → FirstWrong setup (joined (head_lines limit) ++ text) number
+    go (inl t) = rejected-next setup limit is_limit (reads, agree) f.0 t.0.steps (small f.0 t.0.steps) text f.1 head t.0 number t.1 t.2
+    go (inr t) = rejected-more setup limit is_limit (reads, agree) f.0 t.0.steps (small f.0 t.0.steps) text f.1 head plain_stop t.0 number t.1 t.2
+
+-- the head lines and the closing `stop` have no LF
+no_lf : (n : ℕ) → 10 < n → n ≢ 10
+no_lf n lt e = absurd (omega (arith, e))
+
+pub stop-plain : HasNo 10 stop
+stop-plain = (no_lf 115 (lit< tt), (no_lf 116 (lit< tt), (no_lf 111 (lit< tt), (no_lf 112 (lit< tt), tt))))
+
+limit-plain : (limit : ℕ) → limit < 2 ^ 64 → HasNo 10 (codes "limit " ++ decimal limit)
+limit-plain limit lt =
+    (no_lf 108 (lit< tt), (no_lf 105 (lit< tt), (no_lf 109 (lit< tt), (no_lf 105 (lit< tt), (no_lf 116 (lit< tt), (no_lf 32 (lit< tt), decimal-has_no 10 (lit< tt) limit lt))))))
+
+trail-plain : HasNo 10 (codes "trail 1")
+trail-plain =
+    (no_lf 116 (lit< tt), (no_lf 114 (lit< tt), (no_lf 97 (lit< tt), (no_lf 105 (lit< tt), (no_lf 108 (lit< tt), (no_lf 32 (lit< tt), (no_lf 49 (lit< tt), tt)))))))
+
+pub head-plain : (limit : ℕ) → IsLimit limit → AllByRecursion (HasNo 10) (head_lines limit)
+head-plain limit is_limit = (trail-plain, (limit-plain limit (omega (arith, is_limit.1)), tt))

@@ -1,0 +1,14 @@
+//! The text of a trail: what it is, what its lines ask, and how its lines are followed.
+//!
+//!     verdict    what a replay answers of a text
+//!     follow     the lines of a trail one after another, as whatever follows them takes them
+//!     ask        which event a line would be
+//!     work       the work whose canonical text a line has
+//!
+//! The definitions stand in specs/: EventText and TrueText say what a true text is.
+#![tactic(auto)]
+
+pub mod ask;
+pub mod follow;
+pub mod verdict;
+pub mod work;
