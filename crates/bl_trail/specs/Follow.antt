@@ -1,7 +1,7 @@
 -- How far the events behind the head lines are right.
 use Rattle.std.specs.Prelude.{◌≡◌, ◌≢◌, ◌⊎◌, ℕ, ◌+◌, List, [], ◌∷◌, ◌++◌, length, codes}
 use Rattle.std.specs.List.{AllByRecursion}
-use Rattle.bl_order.specs.Machine.{State, Event, Needs, IsTrail, state_after}
+use Rattle.bl_order.specs.Machine.{State, Event, Needs, IsTrail, change, state_after}
 use Rattle.bl_trail.specs.Asks.{HasNo}
 use Rattle.bl_trail.specs.EventText.{event_text}
 use Rattle.bl_setup.specs.Setup.{Setup}
@@ -13,12 +13,9 @@ use Rattle.bl_trail.specs.declared.verdict.Verdict.TheVariants.{Accepted, Reject
 abbrev pub IsNoEvent : State → List ℕ → Type 0
 IsNoEvent x line = (event : Event) → Needs x event → line ≡ event_text x event → ⊥
 
--- the line is the text of an event that may come next, and that leads on
-pub record IsEvent (x : State) (line : List ℕ) (y : State) : Type 0 where
-  pub event : Event
-  pub step : Needs x event
-  pub text : line ≡ event_text x event
-  pub leads : y ≡ state_after x (event ∷ [])
+-- the line is the text of an event that may come next, and this is so of the state that it leads to
+abbrev pub IsTaken : State → List ℕ → (State → Type 0) → Type 0
+IsTaken x line next = (event : Event) × Needs x event × (line ≡ event_text x event) × next (change x event)
 
 -- the text is that of these events, and then something else
 pub record Followed (x : State) (text rest : List ℕ) (events : List Event) : Type 0 where

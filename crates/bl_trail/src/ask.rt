@@ -36,7 +36,7 @@ fn word_len(text: &[u8], sign: u8) -> usize
 }
 
 /// The bytes before the first one of this kind, and those behind it if there is one.
-pub(crate) fn split_word(text: &[u8], sign: u8) -> (&[u8], Option<&[u8]>)
+pub fn split_word(text: &[u8], sign: u8) -> (&[u8], Option<&[u8]>)
     ensures before { result.0.now ≡ before sign text.now }
     ensures behind { option_copied result.1 ≡ behind sign text.now }
 {
