@@ -24,9 +24,21 @@ take-requires-clause-stands g c =
 pub returns-then-not-branch : goal.returns-then-not-branch
 returns-then-not-branch g c x stands =
     let inv = c.lines.invariant.goes x stands in
-    let cut : IsLine c.lines.rest.now c.in-Some.line.now c.in-Some.behind.now = c.in-Some.ensures in
-    (inv.0, c.lines.rest.now, inl (inv.1, inr (c.in-Some.line.now, c.in-Some.behind.now, cut, (λ is. true≢false (sym (c.is_stop.ensures.1 is) ∙ c.if-is_stop.false)),
-        c.in_ok-take.ensures.wrong c.if-not-branch.true (state_after x inv.0) c.in-Some.behind.now (subst (g.M.Follows.stands c.lines.machine (state_after x inv.0)) cut.split inv.2)), omega (arith, inv.3)))
+    let cut : IsLine c.lines.rest.now c.in-Some.line.now c.in-Some.behind.now = c.in-Some.ensures in (
+      inv.0,
+      c.lines.rest.now,
+      inl (
+        inv.1,
+        inr (
+          c.in-Some.line.now,
+          c.in-Some.behind.now,
+          cut,
+          (λ is. true≢false (sym (c.is_stop.ensures.1 is) ∙ c.if-is_stop.false)),
+          c.in_ok-take.ensures.wrong c.if-not-branch.true (state_after x inv.0) c.in-Some.behind.now (subst (g.M.Follows.stands c.lines.machine (state_after x inv.0)) cut.split inv.2),
+        ),
+        omega (arith, inv.3),
+      ),
+    )
 
 pub returns-then-is_empty : goal.returns-then-is_empty
 returns-then-is_empty g c x stands =
@@ -49,7 +61,7 @@ lines-preserved g c = record {
       let inv = c.lines.invariant.goes x stands in
       let cut : IsLine c.lines.rest.now c.in-Some.line.now c.in-Some.behind.now = c.in-Some.ensures in
       let right : IsTaken (state_after x inv.0) c.in-Some.line.now (λ y. g.M.Follows.stands c.take.new.self y c.in-Some.behind.now) =
-          c.in_ok-take.ensures.right c.if-not-branch.false (state_after x inv.0) c.in-Some.behind.now (subst (g.M.Follows.stands c.lines.machine (state_after x inv.0)) cut.split inv.2) in (
+      c.in_ok-take.ensures.right c.if-not-branch.false (state_after x inv.0) c.in-Some.behind.now (subst (g.M.Follows.stands c.lines.machine (state_after x inv.0)) cut.split inv.2) in (
         inv.0 ++ right.0 ∷ [],
         followed-more x c.args.text.now c.lines.rest.now c.in-Some.line.now c.in-Some.behind.now inv.0 right.0 inv.1 cut right.1 right.2,
         subst (λ y. g.M.Follows.stands c.take.new.self y c.in-Some.behind.now) (sym (state-more x inv.0 right.0)) right.3,
