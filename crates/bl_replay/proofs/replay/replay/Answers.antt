@@ -1,0 +1,37 @@
+use Rattle.std.proofs.Common.{◌≡◌, ◌++◌, ℕ, List, sym, ◌∙◌, ap, subst}
+use Rattle.bl_work.specs.Names.{AreNames}
+use Rattle.bl_order.specs.Machine.{start}
+use Rattle.bl_trail.specs.Follow.{IsVerdict}
+use Rattle.bl_trail.specs.TrueText.{IsLimit, head_lines, joined}
+use Rattle.bl_replay.specs.Heads.{IsHead}
+use Rattle.bl_replay.specs.Marks.{lost_later}
+use Rattle.bl_replay.proofs.Taking.{if-ok}
+use Rattle.bl_replay.proofs.replay.replay.Goals as goal
+
+pub follow-requires : goal.follow-requires
+follow-requires c = (
+  start c.args.setup.now c.in-Right.limit,
+  record {
+    keeps = c.in_ok-replayer-in-Right.ensures.keeps;
+    found = c.in_ok-marks-in-Right.ensures.0;
+    are = c.in_ok-marks-in-Right.ensures.1;
+    foretell = λ k. ap (λ m. lost_later m.items k) c.in_ok-replayer-in-Right.ensures.marks ∙ c.in_ok-marks-in-Right.ensures.2 k;
+  },
+)
+
+pub returns-in-Wrong : goal.returns-in-Wrong
+returns-in-Wrong c = subst (IsHead c.args.text.now) c.in-Wrong.is c.in_ok-line.ensures c.args.setup.now
+
+pub returns-in_ok-replayer-in-Right : goal.returns-in_ok-replayer-in-Right
+returns-in_ok-replayer-in-Right c =
+    let head : IsLimit c.in-Right.limit × (c.args.text.now ≡ joined (head_lines c.in-Right.limit) ++ c.in-Right.lines.now) = subst (IsHead c.args.text.now) c.in-Right.is c.in_ok-line.ensures in
+    if-ok c.follow.result _ _ c.follow.ensures
+    (λ verdict followed. subst (λ (t : List ℕ). IsVerdict c.args.setup.now t verdict) (sym head.1)
+    (c.what_was_followed_tells_the_verdict.ensures c.args.setup.now c.in-Right.limit head.0 c.names-names.ensures.agree
+    (subst AreNames c.names.ensures.value c.subjects-subjects.ensures.names) c.in-Right.lines.now verdict
+    (followed (start c.args.setup.now c.in-Right.limit) (record {
+      keeps = c.in_ok-replayer-in-Right.ensures.keeps;
+      found = c.in_ok-marks-in-Right.ensures.0;
+      are = c.in_ok-marks-in-Right.ensures.1;
+      foretell = λ k. ap (λ m. lost_later m.items k) c.in_ok-replayer-in-Right.ensures.marks ∙ c.in_ok-marks-in-Right.ensures.2 k;
+    }))))

@@ -1,0 +1,8 @@
+pub mod Marks
+pub mod Findings
+pub mod Told
+pub mod Fed
+pub mod Words
+pub mod Kept
+pub mod Keeps
+pub mod Heads
