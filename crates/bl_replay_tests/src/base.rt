@@ -1,0 +1,63 @@
+//! The setup of the worked examples, and verdicts over it.
+use bl_replay::replay::replay;
+use bl_setup::reader::read_setup;
+use bl_setup::setup::Setup;
+use bl_trail::verdict::Verdict;
+use std::process::Abort;
+use std::test::Fail;
+
+/// The base setup.
+const BASE: &str = "ranks u c s t\n\
+categories nato crypto\n\
+subject ann greatest s{nato} current s{nato}\n\
+subject bob greatest s{nato} current u\n\
+subject cat greatest s{crypto} current s{crypto}\n\
+subject root greatest t{nato,crypto} current u trusted admin\n\
+document memo s{nato} \"m1\"\n\
+document note u \"n1\"\n\
+document log t{nato,crypto} \"\"\n\
+allow ann memo r w\n\
+allow ann note r w\n\
+allow ann log r a\n\
+allow bob memo r w a\n\
+allow bob note r w\n\
+allow cat memo r\n\
+allow root note r w\n";
+
+/// Asserts the verdict on a text over a setup.
+fn assert_verdict<R: AllocGlobal + Abort>(
+    rt: &R,
+    setup: &Setup,
+    text: &[u8],
+    verdict: Verdict,
+) -> Result<(), Fail> {
+    let said = replay(rt.alloc(), setup, text)?;
+    assert_eq!(rt; said, verdict);
+    Ok(())
+}
+
+/// Asserts the verdicts on several texts over the base setup.
+pub fn assert_verdicts<R: AllocGlobal + Abort>(
+    rt: &R,
+    cases: &[(&str, Verdict)],
+) -> Result<(), Fail> {
+    let setup = read_setup(rt.alloc(), BASE.as_bytes())?;
+    for (text, verdict) in cases {
+        assert_verdict(rt, &setup, text.as_bytes(), *verdict)?;
+    }
+    Ok(())
+}
+
+/// Asserts that each proper prefix of a text is rejected at the line at which it ends.
+pub fn assert_prefixes_rejected<R: AllocGlobal + Abort>(rt: &R, text: &str) -> Result<(), Fail> {
+    let setup = read_setup(rt.alloc(), BASE.as_bytes())?;
+    let bytes = text.as_bytes();
+    let mut line: u64 = 1;
+    for (end, byte) in bytes.iter().enumerate() {
+        assert_verdict(rt, &setup, &bytes[..end], Verdict::Rejected(line))?;
+        if *byte == b'\n' && line < 100_000 {
+            line += 1;
+        }
+    }
+    Ok(())
+}

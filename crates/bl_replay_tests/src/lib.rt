@@ -1,0 +1,10 @@
+//! The tests of `bl_replay`: texts of trails that are true, and texts with a line that is not right.
+//!
+//!     base     the setup of the worked examples, and verdicts over it
+//!     trails   the worked examples of replays
+#![tactic(auto)]
+
+#[cfg(test)]
+mod base;
+#[cfg(test)]
+mod trails;
