@@ -1,6 +1,6 @@
 -- Cells that have the first property that fails: what they say of an access, and that they have it after each change.
 use Rattle.std.proofs.Common.{◌≡◌, ◌≢◌, ◌⊎◌, inl, inr, ℕ, suc, ◌+◌, ◌*◌, ◌<◌, ◌≤◌, Bool, true, false, refl, sym, ◌∙◌, ap, subst, arith, List, [], ◌∷◌, ◌++◌, length, get_or, set, length-set, map, Option, Some, None}
-use Rattle.std.specs.Prelude.{if◌then◌else◌, ◌||◌}
+use Rattle.std.specs.Prelude.{if◌then◌else◌}
 use Rattle.std.proofs.Math.ListN.{get_or-map}
 use Rattle.std.proofs.Math.Seq.{map-set_same}
 use Rattle.std.proofs.lemmas.Bool.{cases_eq}
@@ -17,7 +17,7 @@ use Rattle.bl_policy.specs.declared.policy.cell.Failed.{Failed}
 use Rattle.bl_policy.specs.declared.policy.cell.Failed.TheVariants.{Nothing, Simple, Star, Discretionary}
 use Rattle.bl_policy.specs.Mode.{has_mode}
 use Rattle.bl_policy.specs.Policy.{SecurityPolicy, Clearance, nobody, lowest, clearance_of, level_of, allows}
-use Rattle.bl_policy.specs.Properties.{observes, flows, is_simple, is_star}
+use Rattle.bl_policy.specs.Properties.{is_simple, is_star}
 use Rattle.bl_policy.specs.FirstFault.{denied, fault_of}
 use Rattle.bl_policy.specs.Cells.{modes_of, clause_of, failed_in, failed_property, cell_of, no_cell, cell_at, IsCellOf, HaveFirstFailed, HasMendedRow, HasMendedColumn}
 
@@ -136,12 +136,7 @@ others-push none xs x j within apart =
     let there : j < length xs = omega (arith, within, apart, length_push xs x) in
     (there, get_or_append_left xs (x ∷ []) none j there)
 
--- ---- how a cell is made
-
--- the first property that fails, where the three tests are known
-pub failed_property-tests : (subject : Clearance) (level : SecurityLevel) (modes : ModeSet) (m : Mode) (x y z : Bool) → observes subject.greatest level m ≡ x → (subject.trusted || flows subject.current level m) ≡ y → has_mode modes m ≡ z
-    → failed_property subject level modes m ≡ (if x then (if y then (if z then Nothing else Discretionary) else Star) else Simple)
-failed_property-tests subject level modes m x y z e f g = λ i. if e i then (if f i then (if g i then Nothing else Discretionary) else Star) else Simple
+-- ---- one more cell of a row or a column is mended
 
 -- cells with the same modes have them at each place
 pub modes_at : (cells others : List Cell) (k : ℕ) → modes_of cells ≡ modes_of others → (cell_at cells k).modes ≡ (cell_at others k).modes
@@ -149,8 +144,6 @@ modes_at cells others k e =
     sym (get_or-map (λ (c : Cell). c.modes) cells k no_cell)
     ∙ ap (λ modes. get_or modes k (record { 0 = 0 })) e
     ∙ get_or-map (λ (c : Cell). c.modes) others k no_cell
-
--- ---- one more cell of a row or a column is mended
 
 -- the modes stay
 pub modes-mended : (cells others : List Cell) (k : ℕ) (subject : Clearance) (level : SecurityLevel) (d cell : Cell) → modes_of cells ≡ modes_of others → cell ≡ cell_of subject level (get_or cells k d).modes → modes_of (set cells k cell) ≡ modes_of others
@@ -208,10 +201,3 @@ pub column-others : (column i : ℕ) (cells others : List Cell) (cell : Cell) �
 column-others column i cells others cell last stay s o h apart =
     let aside : s * 1024 + o ≢ i * 1024 + column = omega (arith, h, last, apart) in
     get_or-set_other cells (i * 1024 + column) (s * 1024 + o) cell no_cell aside ∙ stay s o h apart
-
-pub or_first : (a b : Bool) → a ≡ true → (a || b) ≡ true
-or_first a b e = ap (λ x. x || b) e
-
-pub or_second : (a b : Bool) → b ≡ true → (a || b) ≡ true
-or_second true b e = refl
-or_second false b e = e

@@ -1,5 +1,5 @@
 -- How the cells of a policy are kept: a row of them for each subject, one row after another, with a cell for each document that there may be.
-use Rattle.std.specs.Prelude.{◌≡◌, ◌≢◌, ◌⊎◌, ℕ, suc, ◌+◌, ◌*◌, ◌/◌, ◌%◌, ◌<◌, ◌≤◌, List, [], ◌∷◌, length, map, slice_index_or, Option, Some, None, ◌||◌, if◌then◌else◌}
+use Rattle.std.specs.Prelude.{◌≡◌, ◌≢◌, ◌⊎◌, ℕ, Bool, suc, ◌+◌, ◌*◌, ◌/◌, ◌%◌, ◌<◌, ◌≤◌, List, [], ◌∷◌, length, map, slice_index_or, Option, Some, None, ◌||◌, if◌then◌else◌}
 use Rattle.bl_level.specs.Level.{SecurityLevel}
 use Rattle.bl_policy.specs.declared.access.Mode.{Mode}
 use Rattle.bl_policy.specs.declared.access.Mode.TheVariants.{Read, Append, Write}
@@ -37,15 +37,13 @@ matrix_of cells = matrix_from 0 cells
 
 -- ---- the first property that fails
 
--- of a subject with this clearance, a document of this level and the modes of the matrix: the first property that the mode fails, in the order
--- simple, star, discretionary
+-- the first property that does not hold, in the order simple, star, discretionary
+abbrev pub first_failed : Bool → Bool → Bool → Failed
+first_failed simple star discretionary = if simple then (if star then (if discretionary then Nothing else Discretionary) else Star) else Simple
+
+-- the first property that an access fails, by the clearance of its subject, the level of its document, the modes that the matrix has, and its mode
 abbrev pub failed_property : Clearance → SecurityLevel → ModeSet → Mode → Failed
-failed_property subject level modes m =
-    if observes subject.greatest level m then
-    (if subject.trusted || flows subject.current level m then
-    (if has_mode modes m then Nothing else Discretionary)
-    else Star)
-    else Simple
+failed_property subject level modes m = first_failed (observes subject.greatest level m) (subject.trusted || flows subject.current level m) (has_mode modes m)
 
 -- the property as a refusal names it
 abbrev pub clause_of : Failed → Option Clause

@@ -4,7 +4,7 @@
 // A decision reads cells and asks nothing else. So what changes a level or the matrix mends each cell that it touches.
 ghost use Rattle.std.specs.Prelude.{◌≡◌, ◌↔◌, ◌+◌, ◌*◌, ◌<◌, ◌≤◌, IsTrue, length, map};
 ghost use Rattle.bl_policy.specs.declared.access.Mode.{Mode};
-ghost use Rattle.bl_policy.specs.Cells.{modes_of, failed_in, no_cell, cell_of, failed_property, clause_of, clearance_from, HasMendedRow, HasMendedColumn};
+ghost use Rattle.bl_policy.specs.Cells.{modes_of, failed_in, no_cell, cell_of, first_failed, failed_property, clause_of, clearance_from, HasMendedRow, HasMendedColumn};
 ghost use Rattle.bl_policy.specs.Limits.{most_subjects, most_documents};
 ghost use Rattle.bl_policy.specs.Properties.{observes, Observes, flows, Flows};
 
@@ -95,21 +95,31 @@ fn may_flow(current: &Level, level: &Level, mode: Mode) -> bool
     }
 }
 
+/// The first property that does not hold: simple security, then the star property, then the discretionary one.
+fn first_failed(simple: bool, star: bool, discretionary: bool) -> Failed
+    ensures { result ≡ first_failed simple star discretionary }
+{
+    if !simple {
+        Failed::Simple
+    } else if !star {
+        Failed::Star
+    } else if !discretionary {
+        Failed::Discretionary
+    } else {
+        Failed::Nothing
+    }
+}
+
 impl Subject {
     /// The first property that an access in this mode fails at a document of this level, where the matrix has these
-    /// modes: simple security, then the star property, then the discretionary one.
+    /// modes.
     fn failed_property(&self, level: &Level, modes: ModeSet, mode: Mode) -> Failed
         ensures { result ≡ failed_property (clearance_from self.now) level.now modes mode }
     {
-        if !may_observe(&self.greatest, level, mode) {
-            Failed::Simple
-        } else if !self.trusted && !may_flow(&self.current, level, mode) {
-            Failed::Star
-        } else if !modes.contains(ModeSet::from(mode)) {
-            Failed::Discretionary
-        } else {
-            Failed::Nothing
-        }
+        let simple = may_observe(&self.greatest, level, mode);
+        let star = self.trusted || may_flow(&self.current, level, mode);
+        let discretionary = modes.contains(ModeSet::from(mode));
+        first_failed(simple, star, discretionary)
     }
 
     /// The cell of this subject and a document of this level, where the matrix has these modes.

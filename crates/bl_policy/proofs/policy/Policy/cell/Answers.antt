@@ -1,4 +1,4 @@
-use Rattle.std.proofs.Common.{◌≡◌, sym, subst}
+use Rattle.std.proofs.Common.{sym, subst}
 use Rattle.bl_policy.specs.Policy.{SecurityPolicy}
 use Rattle.bl_policy.specs.Fields.{policy_of}
 use Rattle.bl_policy.proofs.FieldLemmas.{AreThere, cell-allows, modes-small}

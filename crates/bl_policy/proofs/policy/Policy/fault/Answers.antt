@@ -1,4 +1,4 @@
-use Rattle.std.proofs.Common.{◌≡◌, sym, subst, ap, ◌∙◌, Option, None, rules}
+use Rattle.std.proofs.Common.{sym, subst, ap, ◌∙◌, Option}
 use Rattle.std.specs.Prelude.{IfNone}
 use Rattle.bl_level.proofs.Dominance.{dominates-sets}
 use Rattle.bl_policy.specs.declared.denial.Denial.{Denial}
@@ -6,7 +6,6 @@ use Rattle.bl_policy.specs.Policy.{SecurityPolicy}
 use Rattle.bl_policy.specs.Properties.{IsSecure}
 use Rattle.bl_policy.specs.FirstFault.{fault_of}
 use Rattle.bl_policy.specs.Cells.{clause_of}
-use Rattle.bl_policy.specs.Fields.{policy_of}
 use Rattle.bl_policy.proofs.FirstFailed.{refused}
 use Rattle.bl_policy.proofs.FieldLemmas.{AreThere, cell-fault}
 use Rattle.bl_policy.proofs.Properties.{secure-of_none}
