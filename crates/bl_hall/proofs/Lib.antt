@@ -1,0 +1,17 @@
+pub mod Trails
+pub mod Labels
+pub mod Tags
+pub mod Lines
+pub mod Ordered
+pub mod Leading
+pub mod Entering
+pub mod Tallying
+pub mod Happening
+pub mod Recalling
+pub mod Keeping
+pub mod Events
+pub mod Ways
+pub mod Gathering
+pub mod Beginning
+pub mod Starting
+pub mod Answering

@@ -1,0 +1,35 @@
+use Rattle.std.proofs.Common.{◌≡◌, ◌∷◌, ◌++◌, ℕ, List, [], get_or, map, take, sym, ap, subst, ◌∙◌, arith}
+use Rattle.std.proofs.lemmas.List.{map-append, take_more}
+use Rattle.bl_order.specs.Headline.{IsReached}
+use Rattle.bl_order.specs.Labels.{Reply, tag}
+use Rattle.bl_order.specs.Machine.{State, past_at}
+use Rattle.bl_hall.specs.declared.reply.Reply as owned
+use Rattle.bl_hall.specs.Chronicle.{state_now}
+use Rattle.bl_hall.specs.Told.{reply_in, reply_of}
+use Rattle.bl_hall.proofs.Answering.{ended-there}
+use Rattle.bl_hall.proofs.Keeping.{core-is, reached}
+use Rattle.bl_hall.proofs.hall.Hall.replies.Goals as goal
+
+pub write_label-requires : goal.write_label-requires
+write_label-requires c =
+    ended-there (state_now c.args.self.now) (subst IsReached (core-is c.self.inside c.self.invariant c.args.self.now c.self.view_is) (reached c.self.inside c.self.invariant))
+    _ (c.requires c.loop-n.n-index 0 c.loop-n-test.true)
+
+pub loop-n-preserved : goal.loop-n-preserved
+loop-n-preserved c =
+    let x : State = state_now c.args.self.now in
+    let n : ℕ = get_or c.args.places.now c.loop-n.n-index 0 in
+    let reply : owned.Reply = record { label = c.write_label.new.label; answer = c.in_ok-answer.answer } in
+    let label : c.write_label.new.label.items ≡ (tag x.order n).label = c.in_ok-write_label.ensures in
+    let answer : c.in_ok-answer.answer ≡ (past_at x n).answer =
+    c.in_ok-answer.ensures ∙ c.in-Some.ensures.value ∙ ap (λ (y : State). (past_at y n).answer) (core-is c.self.inside c.self.invariant c.args.self.now c.self.view_is)
+    in
+    let same : reply_of reply ≡ reply_in x n = (λ i. record { label = label i; answer = answer i }) in (
+      ap (map reply_of) c.push_reserved.ensures.items ∙ map-append reply_of c.loop-n.replies.items (reply ∷ [])
+          ∙ ap (λ (l : List Reply). l ++ reply_of reply ∷ []) c.loop-n.invariant.0
+          ∙ ap (λ (r : Reply). map (reply_in x) (take c.loop-n.n-index c.args.places.now) ++ r ∷ []) same
+          ∙ sym (map-append (reply_in x) (take c.loop-n.n-index c.args.places.now) (n ∷ []))
+          ∙ ap (map (reply_in x)) (sym (take_more c.args.places.now c.loop-n.n-index 0 c.loop-n-test.true)),
+      omega (arith, c.push_reserved.ensures.len, c.loop-n.invariant.1),
+      c.push_reserved.ensures.capacity ∙ c.loop-n.invariant.2,
+    )

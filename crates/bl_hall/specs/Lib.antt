@@ -1,0 +1,7 @@
+pub mod Chronicle
+pub mod EventCodes
+pub mod Told
+pub mod Awaited
+pub mod Recalled
+pub mod Linked
+pub mod Keeps

@@ -1,0 +1,54 @@
+//! Which events a hall keeps.
+use super::base::{ADD_AND_SPAWN, ANN, BOB, SHOW_MEMO, admit, base_hall, end, run_all, work_of};
+use bl_core::refusal::StartFault;
+use bl_core::session::SessionNo;
+use bl_hall::event::Event;
+use bl_hall::hall::Hall;
+use bl_policy::id::SubjectId;
+use std::process::Abort;
+
+/// The events of `ann`'s line with a child, behind the openings of both sessions.
+fn events_of_a_child() -> [Event; 7] {
+    [
+        Event::Open(SubjectId::new(ANN)),
+        Event::Open(SubjectId::new(BOB)),
+        Event::Line {
+            session: SessionNo::new(0),
+            ordinal: 1,
+        },
+        Event::Start(0),
+        Event::End(0),
+        Event::Start(1),
+        Event::End(1),
+    ]
+}
+
+#[test]
+fn trail_of_a_child(rt: HostRuntime) {
+    let mut hall = base_hall(&rt);
+    admit(&rt, &mut hall, 0, 1, ADD_AND_SPAWN);
+    run_all(&rt, &mut hall, 2);
+    assert!(rt; hall.trail() == events_of_a_child().as_slice());
+    end(hall);
+}
+
+/// Whether an entry may not start, as its start says.
+fn is_not_ready(rt: &impl Abort, hall: &mut Hall, n: u32) -> bool {
+    match hall.start(n) {
+        Ok(_started) => panic!(rt; "started"),
+        Err(StartFault::NotReady) => true,
+        Err(StartFault::Memory(_)) => false,
+    }
+}
+
+/// What is refused adds no event.
+#[test]
+fn refusals_leave_the_trail(rt: HostRuntime) {
+    let mut hall = base_hall(&rt);
+    assert!(rt; hall.open(SubjectId::new(9)).is_err());
+    let work = work_of(&rt, &hall, SHOW_MEMO);
+    assert!(rt; hall.line(SessionNo::new(2), 1, work).is_err());
+    assert!(rt; is_not_ready(&rt, &mut hall, 0));
+    assert!(rt; hall.trail().len() == 2 && hall.ready().is_none());
+    end(hall);
+}
