@@ -15,7 +15,7 @@ use Rattle.bl_wire.specs.declared.fault.SessionFault.{SessionFault}
 use Rattle.bl_wire.specs.declared.fault.SessionFault.TheVariants.{Read, Write, TooLong, Memory, Clash}
 use Rattle.bl_wire.specs.declared.turn.Turn.{Turn}
 use Rattle.bl_wire.specs.Turns.{IsTurn, AreTurns}
-use Rattle.bl_session.specs.Spoken.{IsOwnFault}
+use Rattle.bl_session.specs.Spoken.{IsOwnFault, is_reading}
 use Rattle.bl_session.specs.Stages.{IsCut, Cutting, Broken, IsCause, IsDropped, AreWholeLines}
 use Rattle.bl_session.proofs.LineLaws.{AreLines-whole, AreLines-append, AreLines-nil, lines-last}
 use Rattle.bl_wire.proofs.Parts.{known_on, reading_on}
@@ -49,12 +49,12 @@ whole_lines : (bytes : List ℕ) (lines : List (List ℕ)) → AreLines bytes li
 whole_lines bytes lines cut = subst (AreLines bytes) (sym (lines-now bytes lines cut)) cut
 
 -- a fault that came of no reading
-own_fault : (w : Bool) (fault : SessionFault) → IsOwnFault w fault → (fault ≡ Write) ⊎ (fault ≡ Memory)
-own_fault w Write own = inl refl
-own_fault w Memory own = inr refl
+own_fault : (w : Bool) (fault : SessionFault) → IsOwnFault w fault → is_reading fault ≡ false
+own_fault w Write own = refl
+own_fault w Memory own = refl
 own_fault w Read own = absurd own
 own_fault w TooLong own = absurd own
-own_fault w Clash own = absurd own
+own_fault w Clash own = refl
 
 -- nothing was read
 pub cutting_start : (names : KnownNames) (a : Option (List ℕ)) (left : ℕ) → left ≡ 16777216 → Cutting true names a a left []
@@ -94,7 +94,7 @@ module _ (b : Bool) (names : KnownNames) (start r : Option (List ℕ)) (left : �
       why Memory own = (fine, own)
       why Read own = absurd own
       why TooLong own = absurd own
-      why Clash own = absurd own
+      why Clash own = (fine, own)
 
   -- no line was begun behind them
   pub after_nothing : (fault : SessionFault) (read_failed write_failed : Bool) (fine : read_failed ≡ false) (own : IsOwnFault write_failed fault)

@@ -1,5 +1,5 @@
 -- What the machine of one worker holds before the first line, and what is asked of it.
-use Rattle.std.proofs.Common.{◌≡◌, ℕ, ◌<◌, Bool, true, false, inl, List, [], length, refl, sym, ap, subst, ◌∙◌, arith, Option, Some, None, IfSome, sum_by}
+use Rattle.std.proofs.Common.{◌≡◌, ℕ, ◌<◌, Bool, true, false, ◌⊎◌, inl, inr, List, [], length, refl, sym, ap, subst, ◌∙◌, arith, Option, Some, None, IfSome, sum_by}
 use mathlib.Core.Path.{fun_ext}
 use Rattle.std.specs.Io.KnownBytes.{Appends}
 use Rattle.std.proofs.KnownBytes.{Appends-nil}
@@ -174,3 +174,8 @@ unserved setup limit start kept read_failed write_failed reader writer = record 
   begins = (transcript setup limit [], refl);
   closed = ([], [], omega arith, refl, inl (tt, refl));
 }
+
+-- what cannot be is left out
+pub not_full : (A B : Type 0) → A ⊎ (⊥ × B) → A
+not_full A B (inl a) = a
+not_full A B (inr b) = absurd b.0

@@ -4,6 +4,7 @@ use Rattle.std.specs.Io.KnownBytes.{Appends, Keeps, IsAtEnd}
 use Rattle.std.proofs.KnownBytes.{Appends-trans, Appends-nil, Appends-kept}
 use Rattle.bl_work.specs.Names.{KnownNames}
 use Rattle.bl_wire.specs.Lines.{lines_of, AreLines}
+use Rattle.bl_wire.specs.Faults.{is_write}
 use Rattle.bl_wire.specs.declared.fault.SessionFault.{SessionFault}
 use Rattle.bl_wire.specs.declared.fault.SessionFault.TheVariants.{Read, Write, TooLong, Memory, Clash}
 use Rattle.bl_wire.specs.declared.turn.Turn.{Turn}
@@ -13,7 +14,7 @@ use Rattle.bl_wire.specs.Turns.{AreSkips, IsOpening, IsRefusal, StopsAtRefusal, 
 use Rattle.bl_session.specs.Requests.{Request, Opens, Settles, told_of, told_by, SameUpTo}
 use Rattle.bl_wire.specs.Texts.{text_of, session_text, ok_line, bye_line, refused_hello}
 use Rattle.bl_session.specs.Spoken.{Begins, LacksTheLast, AreSaid, BlockFailed, IsOwnFault, TakesTurn, FailsTurn, block_text}
-use Rattle.bl_session.specs.Stages.{Cutting, Unheard, Stage, Finished, Broken, Stopped, IsCause, AreWhole, IsDuePart, IsPutAt}
+use Rattle.bl_session.specs.Stages.{Cutting, Unheard, Stage, Finished, Broken, Stopped, TurnedAway, TurnedAwayInPart, IsCause, AreWhole, IsDuePart, IsPutAt}
 use Rattle.bl_session.proofs.Steps.{whole, block_part, said}
 use Rattle.bl_session.proofs.Cuttings.{cut-now, now_are, broken_after, after_nothing}
 
@@ -158,20 +159,20 @@ put_whole Write r start rest read_failed write_failed taken turns written why ar
   (written, (turns, [], omega arith, sym (append-nil turns), are), ([], sym (append-nil written))),
   inr (written, inl are, ([], sym (append-nil written))),
 )
-put_whole Clash r start rest read_failed write_failed taken turns written why are = absurd why
+put_whole Clash r start rest read_failed write_failed taken turns written why are = (turns, [], omega arith, sym (append-nil turns), are)
 
 -- behind the whole blocks nothing was written where memory was refused, and a part of what comes next where writing failed
 module _ (r : ℕ → List ℕ) (start rest : Option (List ℕ)) (front last turns heard : List Turn) (done more : List ℕ) (few : length last ≤ 1) (split : turns ≡ front ++ last)
     (are : AreWhole r front done) where
-  put_part : (fault : SessionFault) (write_failed : Bool) → IsOwnFault write_failed fault → (fault ≡ Memory → more ≡ []) → IsDuePart r start rest heard (done ++ more)
+  put_part : (fault : SessionFault) (write_failed : Bool) → IsOwnFault write_failed fault → (is_write fault ≡ false → more ≡ []) → IsDuePart r start rest heard (done ++ more)
       → IsPutAt fault r start rest turns heard (done ++ more)
   put_part Memory write_failed own none due = (front, last, few, split, subst (AreWhole r front) (sym (ap (λ l. done ++ l) (none refl) ∙ append-nil done)) are)
   put_part Write write_failed own none due = ((done, (front, last, few, split, are), (more, refl)), due)
   put_part Read write_failed own none due = absurd own
   put_part TooLong write_failed own none due = absurd own
-  put_part Clash write_failed own none due = absurd own
+  put_part Clash write_failed own none due = (front, last, few, split, subst (AreWhole r front) (sym (ap (λ l. done ++ l) (none refl) ∙ append-nil done)) are)
 
-write-memory : (fault : SessionFault) (more : List ℕ) → fault ≡ Write → fault ≡ Memory → more ≡ []
+write-memory : (fault : SessionFault) (more : List ℕ) → fault ≡ Write → is_write fault ≡ false → more ≡ []
 write-memory Read more one two = cc
 write-memory Write more one two = cc
 write-memory TooLong more one two = cc
@@ -564,3 +565,60 @@ module _ (again : Bool) (names : KnownNames) (start r first : Option (List ℕ))
         (write-memory fault (take after.2.0 ok_line) after.0)
         (inr (ok_line, inl (only_opened later), (drop after.2.0 ok_line, sym (take-append-drop after.2.0 ok_line))));
   }
+
+-- The session is not opened, as there are as many as there may be.
+pub turned_away : (names : KnownNames) (start r first w : Option (List ℕ)) (again : Bool) (left subject : ℕ) (skips : List Turn) (t : Turn) (Came : List Request → Type 0) (text : List ℕ)
+    → AreSkips skips → greeted t ≡ Some subject → Cutting again names start r left (skips ++ t ∷ []) → Came [] → Appends first w text → TurnedAway names start r first w Came text
+turned_away names start r first w again left subject skips t Came text quiet greets read came put = record {
+  subject = subject;
+  turns = skips ++ t ∷ [];
+  opened = opens_after subject skips t quiet greets;
+  again = again;
+  left = left;
+  read = read;
+  put = put;
+  came = came;
+}
+
+pub same_known : (a b c : Option (List ℕ)) (text : List ℕ) → a ≡ b → Appends a c text → Appends b c text
+same_known a b c text is put = subst (λ k. Appends k c text) is put
+
+pub write_marked : (fault : SessionFault) (failed : Bool) → IsOwnFault failed fault → fault ≡ Write → failed ≡ true
+write_marked Write failed own is = own
+write_marked Read failed own is = cc
+write_marked TooLong failed own is = cc
+write_marked Memory failed own is = cc
+write_marked Clash failed own is = cc
+
+turned_kept : (names : KnownNames) (start r first w w' : Option (List ℕ)) (Came : List Request → Type 0) (text : List ℕ) → Keeps first w → TurnedAway names start r w w' Came text → TurnedAway names start r first w' Came text
+turned_kept names start r first w w' Came text kept s = record {
+  subject = s.subject;
+  turns = s.turns;
+  opened = s.opened;
+  again = s.again;
+  left = s.left;
+  read = s.read;
+  put = kept_append first w w' text kept s.put;
+  came = s.came;
+}
+
+pub ended_kept : (names : KnownNames) (start r first w w' : Option (List ℕ)) (f : ℕ → List ℕ) (Settled : ℕ → Type 0) (Came : List Request → Type 0) (Fills : Type 0) (text : List ℕ) → Keeps first w
+    → Finished names start r w w' f Settled Came ⊎ (Fills × TurnedAway names start r w w' Came text)
+    → Finished names start r first w' f Settled Came ⊎ (Fills × TurnedAway names start r first w' Came text)
+ended_kept names start r first w w' f Settled Came Fills text kept (inl done) = inl (finished_kept names start r first w w' f Settled Came kept done)
+ended_kept names start r first w w' f Settled Came Fills text kept (inr turned) = inr (turned.0, turned_kept names start r first w w' Came text kept turned.1)
+
+pub broken_kept : (fault : SessionFault) (names : KnownNames) (start r first w w' : Option (List ℕ)) (read_failed write_failed : Bool) (f : ℕ → List ℕ) (Settled : ℕ → Type 0) (Came : List Request → Type 0) (Fills : Type 0) (text : List ℕ) → Keeps first w
+    → Stopped fault names start r w w' read_failed write_failed f Settled Came ⊎ (Fills × TurnedAwayInPart fault names start r w w' read_failed write_failed Came text)
+    → Stopped fault names start r first w' read_failed write_failed f Settled Came ⊎ (Fills × TurnedAwayInPart fault names start r first w' read_failed write_failed Came text)
+broken_kept fault names start r first w w' read_failed write_failed f Settled Came Fills text kept (inl stopped) = inl (stopped_kept fault names start r first w w' read_failed write_failed f Settled Came kept stopped)
+broken_kept fault names start r first w w' read_failed write_failed f Settled Came Fills text kept (inr turned) = inr (
+  turned.0,
+  record {
+    much = turned.1.much;
+    part = turned_kept names start r first w w' Came (take turned.1.much text) kept turned.1.part;
+    is_write = turned.1.is_write;
+    read_fine = turned.1.read_fine;
+    write_marked = turned.1.write_marked;
+  },
+)

@@ -1,8 +1,9 @@
 -- What one line does to how far a session has come.
-use Rattle.std.proofs.Common.{◌≡◌, ℕ, zero, suc, ◌+◌, ◌<◌, ◌⊎◌, inl, inr, List, [], ◌∷◌, ◌++◌, length, refl, sym, ap, subst, ◌∙◌, append_assoc, append-nil, arith, take, drop, take-append-drop, Option, Result, Ok, Err, IfErr, replicate}
+use Rattle.std.proofs.Common.{false, ◌≡◌, ℕ, zero, suc, ◌+◌, ◌<◌, ◌⊎◌, inl, inr, List, [], ◌∷◌, ◌++◌, length, refl, sym, ap, subst, ◌∙◌, append_assoc, append-nil, arith, take, drop, take-append-drop, Option, Result, Ok, Err, IfErr, replicate}
 use Rattle.std.specs.Io.KnownBytes.{Appends}
 use Rattle.std.proofs.KnownBytes.{Appends-nil}
 use Rattle.bl_work.specs.declared.work.Work.{Work}
+use Rattle.bl_wire.specs.Faults.{is_write}
 use Rattle.bl_wire.specs.declared.fault.SessionFault.{SessionFault}
 use Rattle.bl_wire.specs.declared.fault.SessionFault.TheVariants.{Memory}
 use Rattle.bl_wire.specs.declared.turn.Turn.{Turn}
@@ -232,7 +233,7 @@ module _ (f g : ℕ → List ℕ) (Settled Settled' : ℕ → Type 0) (Came : Li
         begun part later kept =
             let b = part.begins later kept in (b.0, text-append later 0 turns (Wait ∷ []) ∙ ap (λ l. text_of later 0 turns ++ l) (append-nil ok_line) ∙ b.1)
 
-        made : {much : ℕ} → Part ok_line much → (fault ≡ Memory → much ≡ 0) → (told : List Request) → Came' told → (settles : ℕ) → (Opens subject ∷ (told_of 0 (turns ++ Wait ∷ []) ++ Settles ∷ [])) ≡ told ++ replicate settles Settles
+        made : {much : ℕ} → Part ok_line much → (is_write fault ≡ false → much ≡ 0) → (told : List Request) → Came' told → (settles : ℕ) → (Opens subject ∷ (told_of 0 (turns ++ Wait ∷ []) ++ Settles ∷ [])) ≡ told ++ replicate settles Settles
             → TurnFailed fault g Settled' Came' subject turns Wait ws (take much (block_text g after pending ++ ok_line))
         made part none told came settles is = record {
           upto = part.upto;

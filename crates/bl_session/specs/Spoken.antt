@@ -1,6 +1,7 @@
 -- How far a session has come after its first line.
 use Rattle.std.specs.Prelude.{◌≡◌, ℕ, ◌+◌, ◌<◌, List, [], ◌∷◌, ◌++◌, codes, take, length, ◌≤◌, Bool, true, false, Option, replicate}
 use Rattle.std.specs.Io.KnownBytes.{Appends}
+use Rattle.bl_wire.specs.Faults.{is_write}
 use Rattle.bl_wire.specs.declared.fault.SessionFault.{SessionFault}
 use Rattle.bl_wire.specs.declared.fault.SessionFault.TheVariants.{Read, Write, TooLong, Memory, Clash}
 use Rattle.bl_wire.specs.declared.turn.Turn.{Turn}
@@ -56,7 +57,7 @@ IsOwnFault failed Write = failed ≡ true
 IsOwnFault failed Memory = failed ≡ false
 IsOwnFault failed Read = ⊥
 IsOwnFault failed TooLong = ⊥
-IsOwnFault failed Clash = ⊥
+IsOwnFault failed Clash = failed ≡ false
 
 -- each block whose `wait` came is this text, and nothing else
 pub record AreSaid (replies : ℕ → List ℕ) (turns : List Turn) (text : List ℕ) : Type 0 where
@@ -66,9 +67,17 @@ pub record AreSaid (replies : ℕ → List ℕ) (turns : List Turn) (text : List
   pub in_block : HasNoWait open_turns
   pub is : text ≡ text_of replies 0 done
 
+-- whether the fault came when lines were read
+abbrev pub is_reading : SessionFault → Bool
+is_reading Read = true
+is_reading Write = false
+is_reading TooLong = true
+is_reading Memory = false
+is_reading Clash = false
+
 -- A turn failed: what is written begins the text of the turns that were heard, whatever is answered later and whatever
 -- comes behind them. All of them were told, and they tell no more but to settle. Before the turn all blocks were written
--- whole, and where memory was refused nothing more is.
+-- whole, and unless writing failed nothing more is.
 pub record TurnFailed (fault : SessionFault) (replies : ℕ → List ℕ) (Settled : ℕ → Type 0) (Came : List Request → Type 0) (subject : ℕ) (turns : List Turn) (turn : Turn) (written more : List ℕ) : Type 0 where
   pub upto : ℕ
   pub settled : Settled upto
@@ -81,13 +90,13 @@ pub record TurnFailed (fault : SessionFault) (replies : ℕ → List ℕ) (Settl
   pub begins : (later : ℕ → List ℕ) → SameUpTo upto replies later → Begins (written ++ more) (text_of later 0 heard)
   pub said : (later : ℕ → List ℕ) → SameUpTo upto replies later → AreSaid later turns written
   pub due : (later : ℕ → List ℕ) → SameUpTo upto replies later → (text : List ℕ) × AreSaid later heard text × Begins (written ++ more) text
-  pub none : fault ≡ Memory → more ≡ []
+  pub none : is_write fault ≡ false → more ≡ []
 
--- A block failed: of its text and the closing line so much is written, none unless it is settled, nor where memory was refused.
+-- A block failed: of its text and the closing line so much is written, none unless it is settled, nor unless writing failed.
 pub record BlockFailed (fault : SessionFault) (Settled : ℕ → Type 0) (before after : Option (List ℕ)) (ordinal : ℕ) (text : List ℕ) : Type 0 where
   pub much : ℕ
   pub some : 0 < much → Settled ordinal
-  pub none : fault ≡ Memory → much ≡ 0
+  pub none : is_write fault ≡ false → much ≡ 0
   pub put : Appends before after (take much text)
 
 -- taking a turn goes from one point of a session to another

@@ -1,5 +1,5 @@
 -- How far a session has come, from its first byte on.
-use Rattle.std.specs.Prelude.{◌≡◌, ℕ, ◌+◌, ◌≤◌, ◌<◌, Bool, true, false, List, [], ◌∷◌, ◌++◌, length, Option, Some, None, OnSome, ◌⊎◌, replicate}
+use Rattle.std.specs.Prelude.{◌≡◌, ℕ, ◌+◌, ◌≤◌, ◌<◌, Bool, true, false, List, [], ◌∷◌, ◌++◌, length, Option, Some, None, OnSome, ◌⊎◌, replicate, codes, take}
 use Rattle.std.specs.Io.KnownBytes.{Consumes, Appends, IsAtEnd}
 use Rattle.bl_work.specs.Names.{KnownNames}
 use Rattle.bl_wire.specs.Lines.{lines_of, AreLines, HasNoLf}
@@ -11,7 +11,7 @@ use Rattle.bl_wire.specs.declared.turn.Pending.{Pending}
 use Rattle.bl_wire.specs.Turns.{AreTurns, AreSkips, IsOpening, IsRefusal, StopsAtRefusal, HasNoWait, is_skip}
 use Rattle.bl_session.specs.Requests.{Request, Settles, told_by, SameUpTo}
 use Rattle.bl_wire.specs.Texts.{text_of, session_text, ok_line, bye_line, refused_hello}
-use Rattle.bl_session.specs.Spoken.{Spoken, Begins, LacksTheLast}
+use Rattle.bl_session.specs.Spoken.{Spoken, Begins, LacksTheLast, is_reading}
 
 -- the lines that were consumed: more may come, or these are all
 abbrev pub IsCut : Bool → List ℕ → List (List ℕ) → Option (List ℕ) → Option (List ℕ) → Type 0
@@ -79,13 +79,37 @@ pub record Finished (names : KnownNames) (start rest first kept : Option (List �
   pub upto : ℕ
   pub settled : Settled upto
 
+-- Own choice: what is written where the session cannot be opened, as there are as many as there may be
+abbrev pub refused_sessions : List ℕ
+refused_sessions = codes "refused sessions\n"
+
+-- The first line that is not skipped asked for a session, and there were as many as there may be. The input was read to the end of
+-- that line and no further, nothing was told, and this text is written.
+pub record TurnedAway (names : KnownNames) (start rest first kept : Option (List ℕ)) (Came : List Request → Type 0) (text : List ℕ) : Type 0 where
+  pub subject : ℕ
+  pub turns : List Turn
+  pub opened : IsOpening subject turns
+  pub again : Bool
+  pub left : ℕ
+  pub read : Cutting again names start rest left turns
+  pub put : Appends first kept text
+  pub came : Came []
+
+-- a first part of these words is written, and writing failed
+pub record TurnedAwayInPart (fault : SessionFault) (names : KnownNames) (start rest first kept : Option (List ℕ)) (read_failed write_failed : Bool) (Came : List Request → Type 0) (text : List ℕ) : Type 0 where
+  pub much : ℕ
+  pub part : TurnedAway names start rest first kept Came (take much text)
+  pub is_write : fault ≡ Write
+  pub read_fine : read_failed ≡ false
+  pub write_marked : write_failed ≡ true
+
 -- Why a session ended early, by how its ends stand and how many bytes it took. Only the end that is told has failed.
 abbrev pub IsCause : SessionFault → Option (List ℕ) → Option (List ℕ) → Bool → Bool → ℕ → Type 0
 IsCause Read start rest read_failed write_failed taken = (read_failed ≡ true) × (write_failed ≡ false)
 IsCause Write start rest read_failed write_failed taken = (read_failed ≡ false) × (write_failed ≡ true)
 IsCause TooLong start rest read_failed write_failed taken = (read_failed ≡ false) × (write_failed ≡ false) × (taken ≡ 16777216) × OnSome start (HasMore rest)
 IsCause Memory start rest read_failed write_failed taken = (read_failed ≡ false) × (write_failed ≡ false)
-IsCause Clash start rest read_failed write_failed taken = ⊥
+IsCause Clash start rest read_failed write_failed taken = (read_failed ≡ false) × (write_failed ≡ false)
 
 -- a begun line, or at want of memory a line that wasn't understood
 abbrev pub IsDropped : SessionFault → List ℕ → Type 0
@@ -94,7 +118,7 @@ IsDropped fault part = HasNoLf part ⊎ ((fault ≡ Memory) × ((line : List ℕ
 -- the bytes are whole lines, or where it wasn't reading that stopped they may be all of an input whose last line has no LF
 abbrev pub AreWholeLines : SessionFault → List ℕ → List ℕ → Option (List ℕ) → Option (List ℕ) → Type 0
 AreWholeLines fault bytes part start rest =
-    AreLines bytes (lines_of bytes) ⊎ (((fault ≡ Write) ⊎ (fault ≡ Memory)) × (part ≡ []) × OnSome start (IsAtEnd rest))
+    AreLines bytes (lines_of bytes) ⊎ ((is_reading fault ≡ false) × (part ≡ []) × OnSome start (IsAtEnd rest))
 
 -- these turns were read whole, and then a part that is dropped
 pub record Broken (fault : SessionFault) (names : KnownNames) (start rest : Option (List ℕ)) (read_failed write_failed : Bool) (turns : List Turn) : Type 0 where
@@ -136,7 +160,7 @@ abbrev pub IsDuePart : (ℕ → List ℕ) → (start rest : Option (List ℕ)) �
 IsDuePart replies start rest heard written = OnSome start (IsAtEnd rest) ⊎ ((text : List ℕ) × IsDue replies heard text × Begins written text)
 
 -- What a session that ended early has written. Where reading stopped it is all blocks whose `wait` came. Where memory was
--- refused it is they as well, but the block that the last line closes may be lacking. Where writing failed a part of what is
+-- refused, or somebody else spoke for the session, it is they as well, but the block that the last line closes may be lacking. Where writing failed a part of what is
 -- written next may follow.
 abbrev pub IsPutAt : SessionFault → (ℕ → List ℕ) → (start rest : Option (List ℕ)) → (turns heard : List Turn) → List ℕ → Type 0
 IsPutAt Read replies start rest turns heard written = AreWhole replies turns written
@@ -144,7 +168,7 @@ IsPutAt TooLong replies start rest turns heard written = AreWhole replies turns 
 IsPutAt Memory replies start rest turns heard written = AreWholeBefore replies turns written
 IsPutAt Write replies start rest turns heard written =
     ((done : List ℕ) × AreWholeBefore replies turns done × Begins done written) × IsDuePart replies start rest heard written
-IsPutAt Clash replies start rest turns heard written = ⊥
+IsPutAt Clash replies start rest turns heard written = AreWholeBefore replies turns written
 
 -- The session ended early. What is written begins the transcript of the lines that were heard, which are those that were
 -- read but perhaps the last, whatever is answered later. What was told is what these lines tell, but for settling. Nothing

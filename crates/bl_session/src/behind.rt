@@ -2,6 +2,8 @@
 ghost use Rattle.std.specs.Prelude.{◌≡◌, ◌≤◌, ◌<◌, ◌++◌, ◌∷◌, [], ◌⊎◌, List, ℕ, OnOk, OnErr, IfOk};
 ghost use Rattle.bl_work.specs.declared.work.Work.{Work};
 ghost use Rattle.bl_wire.specs.Watch.{end_state, Puts};
+ghost use Rattle.bl_session.specs.declared.behind.Asking.TheVariants.{Taken, Clash};
+ghost use Rattle.bl_session.specs.declared.behind.Opening.TheVariants.{Open, Full};
 ghost use Rattle.bl_session.specs.Requests.{Request, Opens, Admits, Settles, SameUpTo};
 
 use bl_policy::id::SubjectId;
@@ -9,6 +11,24 @@ use bl_wire::watched::Watched;
 use bl_work::work::Work;
 use std::alloc::AllocError;
 use std::io::Write;
+
+/// How a machine takes a subject who asks for a session.
+#[derive(Clone, Copy, Debug, PartialEq, Eq)]
+pub enum Opening {
+    /// The session is open.
+    Open,
+    /// There are as many sessions as there may be, and none was opened.
+    Full,
+}
+
+/// How a machine takes a work that is asked for.
+#[derive(Clone, Copy, Debug, PartialEq, Eq)]
+pub enum Asking {
+    /// It was admitted, or there is no room for it, as its reply tells.
+    Taken,
+    /// Somebody else spoke for the session, and nothing was admitted.
+    Clash,
+}
 
 /// A machine that admits the works of one session, has them answered, and writes the
 /// replies. A call is refused only for want of memory.
@@ -23,6 +43,12 @@ pub trait Behind {
     ghost serves: { Self → ℕ → Type 0 };
 
     ghost takes: { Self → Work → Type 0 };
+
+    // there may be as many sessions as there may be
+    ghost fills: { Self → Type 0 };
+
+    // somebody else may speak for the session
+    ghost clashes: { Self → Type 0 };
 
     // the text of the replies to the work of an ordinal, as things stand
     ghost replies: { Self → Self.State → ℕ → List ℕ };
@@ -42,26 +68,28 @@ pub trait Behind {
     // the replies above this ordinal are still to be taken from the block
     ghost gives: { Self → Self.State → Self.Block → ℕ → Type 0 };
 
-    /// Opens the session for a subject.
-    fn open(&self, state: &mut Self::State, subject: SubjectId) -> Result<(), AllocError>
+    /// Opens the session for a subject, or finds that there are as many as there may be.
+    fn open(&self, state: &mut Self::State, subject: SubjectId) -> Result<Opening, AllocError>
         requires serves { serves self.now subject }
         requires whole { whole self.now state.old 0 }
         requires came { came self.now state.old [] }
         requires settled { settled self.now state.old 0 }
-        ensures whole { OnOk result (whole self.now state.new 0) }
-        ensures came { OnOk result (came self.now state.new (Opens subject ∷ [])) }
+        ensures whole { IfOk result (λ opening. opening ≡ Open → whole self.now state.new 0) }
+        ensures came { IfOk result (λ opening. opening ≡ Open → came self.now state.new (Opens subject ∷ [])) }
+        ensures full { IfOk result (λ opening. opening ≡ Full → fills self.now × came self.now state.new []) }
         ensures err { OnErr result (came self.now state.new []) }
-        ensures last { OnOk result (last self.now state.new ≡ 0) }
+        ensures last { IfOk result (λ opening. opening ≡ Open → last self.now state.new ≡ 0) }
         ensures settled { settled self.now state.new 0 };
 
-    /// Admits a work, or finds no room for it.
-    fn ask(&self, state: &mut Self::State, ordinal: u32, work: Work) -> Result<(), AllocError>
+    /// Admits a work, or finds no room for it, or that somebody else spoke for the session.
+    fn ask(&self, state: &mut Self::State, ordinal: u32, work: Work) -> Result<Asking, AllocError>
         requires takes { takes self.now work }
         requires whole { (n : ℕ) × (n < ordinal) × whole self.now state.old n }
         requires last { last self.now state.old < ordinal }
         requires settled { (n : ℕ) × (n < ordinal) × settled self.now state.old n }
-        ensures whole { OnOk result ((n : ℕ) → n < ordinal → whole self.now state.old n → whole self.now state.new n) }
-        ensures came { OnOk result ((told : List Request) → came self.now state.old told → came self.now state.new (told ++ Admits ordinal work ∷ [])) }
+        ensures whole { IfOk result (λ asking. asking ≡ Taken → (n : ℕ) → n < ordinal → whole self.now state.old n → whole self.now state.new n) }
+        ensures came { IfOk result (λ asking. asking ≡ Taken → (told : List Request) → came self.now state.old told → came self.now state.new (told ++ Admits ordinal work ∷ [])) }
+        ensures clash { IfOk result (λ asking. asking ≡ Clash → clashes self.now × ((told : List Request) → came self.now state.old told → came self.now state.new told)) }
         ensures err { OnErr result ((told : List Request) → came self.now state.old told → came self.now state.new told) }
         ensures last { last self.now state.new ≤ ordinal }
         ensures settled { (n : ℕ) → n < ordinal → settled self.now state.old n →

@@ -11,7 +11,7 @@ ghost use Rattle.bl_session.specs.Entries.{order_of, told_of, is_line, AreLabell
 ghost use Rattle.bl_session.specs.Whole.{AreKnown, HasEntered, HasRun, IsWhole, Came};
 ghost use Rattle.bl_session.specs.Blocks.{IsLastBlock};
 
-use crate::behind::Behind;
+use crate::behind::{Asking, Behind, Opening};
 use crate::block::Block;
 use bl_monitor::monitor::{Entry, Monitor};
 use bl_policy::id::SubjectId;
@@ -197,6 +197,10 @@ impl Behind for Alone {
 
     ghost takes = { λ a work. KnowsWork (arc_value a.setup) work };
 
+    ghost fills = { λ _. ⊥ };
+
+    ghost clashes = { λ _. ⊥ };
+
     ghost replies = { λ a s k. told_text (arc_value a.setup) (order_of s.entries.items) k };
 
     ghost settled = { λ a s n. AreLater s.ended (order_of s.entries.items) n };
@@ -209,19 +213,19 @@ impl Behind for Alone {
 
     ghost gives = { λ a s block n. IsLastBlock (arc_value a.setup) s block n };
 
-    fn open(&self, state: &mut Pages, subject: SubjectId) -> Result<(), AllocError> {
+    fn open(&self, state: &mut Pages, subject: SubjectId) -> Result<Opening, AllocError> {
         state.subject = Some(subject);
         state.last = 0;
-        Ok(())
+        Ok(Opening::Open)
     }
 
-    fn ask(&self, state: &mut Pages, ordinal: u32, work: Work) -> Result<(), AllocError> {
+    fn ask(&self, state: &mut Pages, ordinal: u32, work: Work) -> Result<Asking, AllocError> {
         let Some(subject) = state.subject else {
             return Err(AllocError);
         };
         let weight = weight_of(&work);
         if self.limit - state.weight < weight {
-            return Ok(());
+            return Ok(Asking::Taken);
         }
         if state.entries.len() >= self.limit as usize {
             return Err(AllocError);
@@ -232,7 +236,7 @@ impl Behind for Alone {
             .push(Entered::line(self.alloc, place, ordinal, subject, work))?;
         state.weight += weight;
         state.last = ordinal;
-        Ok(())
+        Ok(Asking::Taken)
     }
 
     fn settle(&self, state: &mut Pages, after: u32, ordinal: u32) -> Result<Block, AllocError> {

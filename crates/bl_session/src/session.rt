@@ -1,17 +1,18 @@
 //! The engine of a session: it reads lines, has them admitted and answered by the machine behind
 //! it, and writes the replies of a block at each `wait` and at the end of the input. What was written is handed on before a read
 //! that may wait, and at the end.
-ghost use Rattle.std.specs.Prelude.{◌≡◌, take, ◌≤◌, ◌<◌, ◌+◌, ◌^◌, ◌++◌, ◌∷◌, [], ◌⊎◌, List, ℕ, Bool, true, false, Option, OnOk, OnErr, IfOk, IfErr, IfSome, OnSome, length};
+ghost use Rattle.std.specs.Prelude.{◌≡◌, ◌≢◌, take, ◌≤◌, ◌<◌, ◌+◌, ◌^◌, ◌++◌, ◌∷◌, [], ◌⊎◌, List, ℕ, Bool, true, false, Option, OnOk, OnErr, IfOk, IfErr, IfSome, OnSome, length};
 ghost use Rattle.std.specs.Io.KnownBytes.{Consumes, Appends, Keeps, IsAtEnd};
-ghost use Rattle.bl_wire.specs.declared.fault.SessionFault.TheVariants.{Write};
+ghost use Rattle.bl_wire.specs.declared.fault.SessionFault.TheVariants.{Write, Clash};
 ghost use Rattle.bl_wire.specs.Turns.{AreSkips, is_skip, IsServed, AreServed, StandsIn};
 ghost use Rattle.bl_wire.specs.declared.turn.Turn.{Turn};
 ghost use Rattle.bl_session.specs.Requests.{Request, Opens, Settles, SameUpTo};
 ghost use Rattle.bl_wire.specs.Texts.{ok_line, bye_line};
 ghost use Rattle.bl_session.specs.Spoken.{block_text, IsOwnFault, BlockFailed, TakesTurn, FailsTurn};
-ghost use Rattle.bl_session.specs.Stages.{Cutting, ReadsOn, IsNearer, Unheard, IsFirst, HeardFirst, Stage, Finished, Broken, Stopped};
+ghost use Rattle.bl_session.specs.Stages.{Cutting, ReadsOn, IsNearer, Unheard, IsFirst, HeardFirst, Stage, Finished, Broken, Stopped, TurnedAway, TurnedAwayInPart, refused_sessions};
+ghost use Rattle.bl_session.specs.declared.behind.Opening.TheVariants.{Open, Full};
 
-use crate::behind::Behind;
+use crate::behind::{Asking, Behind, Opening};
 use crate::replies::put_block;
 use bl_policy::id::SubjectId;
 use bl_wire::fault::SessionFault;
@@ -66,6 +67,7 @@ fn end_block<B: Behind, W: Write>(
     ensures part { IfErr result (λ fault. BlockFailed fault (B.settled behind.now state.new) (W.contents writer.old.inner) (W.contents writer.new.inner)
         talk.old.ordinal (block_text (B.replies behind.now state.new) talk.old.after talk.old.pending.items ++ closing.now)) }
     ensures told { OnErr result ((told : List Request) → B.came behind.now state.old told → B.came behind.now state.new told ⊎ B.came behind.now state.new (told ++ Settles ∷ [])) }
+    ensures never { IfErr result (λ fault. fault ≢ Clash) }
 {
     let mut block = behind.settle(state, talk.after, talk.ordinal)?;
     put_block(behind, state, &mut block, writer, talk.after, &talk.pending);
@@ -102,6 +104,7 @@ fn last_block<B: Behind, W: Write>(
     ensures part { IfErr result (λ fault. BlockFailed fault (B.settled behind.now state.new) (W.contents writer.old.inner) (W.contents writer.new.inner)
         talk.old.ordinal (block_text (B.replies behind.now state.new) talk.old.after talk.old.pending.items ++ bye_line)) }
     ensures told { OnErr result ((told : List Request) → B.came behind.now state.old told → B.came behind.now state.new told ⊎ B.came behind.now state.new (told ++ Settles ∷ [])) }
+    ensures never { IfErr result (λ fault. fault ≢ Clash) }
 {
     match end_block(behind, state, writer, talk, b"bye\n") {
         Ok(()) => {}
@@ -155,6 +158,7 @@ fn take_turn<B: Behind, W: Write>(
     ensures err { IfErr result (λ fault. FailsTurn fault (B.replies behind.now state.old) (B.replies behind.now state.new)
         (B.settled behind.now state.old) (B.settled behind.now state.new) (B.came behind.now state.old) (B.came behind.now state.new)
         talk.old.after talk.old.pending.items (W.contents writer.old.inner) (W.contents writer.new.inner) turn) }
+    ensures clash { IfErr result (λ fault. fault ≡ Clash → B.clashes behind.now) }
 {
     match turn {
         Turn::Skip => Ok(()),
@@ -171,7 +175,10 @@ fn take_turn<B: Behind, W: Write>(
             Ok(())
         }
         Turn::Ask(work) => {
-            behind.ask(state, talk.ordinal + 1, work)?;
+            match behind.ask(state, talk.ordinal + 1, work)? {
+                Asking::Taken => {}
+                Asking::Clash => return Err(SessionFault::Clash),
+            }
             keep(talk, Pending::Asked)?;
             Ok(())
         }
@@ -201,6 +208,7 @@ fn next_turn<R: BufRead, W: Write>(
     ensures err { IfErr result (λ fault. (start : Option (List ℕ)) (turns : List Turn) →
         Cutting true names.now start (R.remaining reader.old.inner) left.old turns →
         Broken fault names.now start (R.remaining reader.new.inner) reader.new.failed writer.new.failed turns) }
+    ensures never { IfErr result (λ fault. fault ≢ Clash) }
 {
     let next = match next_line(reader, writer, held, left) {
         Ok(next) => next,
@@ -251,6 +259,7 @@ fn one_line<R: BufRead, B: Behind, W: Write>(
     ensures err { IfErr result (λ fault. (start first : Option (List ℕ)) →
         Stage true names.now start (R.remaining reader.old.inner) first (W.contents writer.old.inner) left.old (B.replies behind.now state.old) (B.settled behind.now state.old) (B.came behind.now state.old) talk.old.after talk.old.pending.items →
         Stopped fault names.now start (R.remaining reader.new.inner) first (W.contents writer.new.inner) reader.new.failed writer.new.failed (B.replies behind.now state.new) (B.settled behind.now state.new) (B.came behind.now state.new)) }
+    ensures clash { IfErr result (λ fault. fault ≡ Clash → B.clashes behind.now) }
 {
     let (turn, more) = match next_turn(alloc, names, reader, writer, held, left) {
         Ok(Some(found)) => found,
@@ -285,6 +294,7 @@ fn first_turn<R: BufRead, W: Write>(
     ensures err { IfErr result (λ fault. (start : Option (List ℕ)) →
         Unheard true names.now start (R.remaining reader.old.inner) left.old →
         (turns : List Turn) × AreSkips turns × Broken fault names.now start (R.remaining reader.new.inner) reader.new.failed writer.new.failed turns) }
+    ensures never { IfErr result (λ fault. fault ≢ Clash) }
 {
     'lines: loop {
         let (turn, more) = match next_turn(alloc, names, reader, writer, held, left) {
@@ -326,6 +336,7 @@ fn listen<R: BufRead, B: Behind, W: Write>(
     ensures err { IfErr result (λ fault. (start first : Option (List ℕ)) →
         Stage more names.now start (R.remaining reader.old.inner) first (W.contents writer.old.inner) left.old (B.replies behind.now state.old) (B.settled behind.now state.old) (B.came behind.now state.old) 0 [] →
         Stopped fault names.now start (R.remaining reader.new.inner) first (W.contents writer.new.inner) reader.new.failed writer.new.failed (B.replies behind.now state.new) (B.settled behind.now state.new) (B.came behind.now state.new)) }
+    ensures clash { IfErr result (λ fault. fault ≡ Clash → B.clashes behind.now) }
 {
     let mut talk = Talk {
         ordinal: 0,
@@ -363,34 +374,37 @@ fn say<W: Write>(writer: &mut Watched<W>, words: &[u8]) -> Result<(), SessionFau
     }
 }
 
-/// Opens the session for a subject and says so.
+/// Opens the session for a subject and says so; nothing is said where there are as many sessions as there may be.
 fn greet<B: Behind, W: Write>(
     behind: &B,
     state: &mut B::State,
     writer: &mut Watched<W>,
     subject: SubjectId,
-) -> Result<(), SessionFault>
+) -> Result<Opening, SessionFault>
     requires writer { writer.old.failed ≡ false }
     requires serves { B.serves behind.now subject }
     requires came { B.came behind.now state.old [] }
     requires settled { B.settled behind.now state.old 0 }
     requires whole { B.whole behind.now state.old 0 }
     ensures settled { B.settled behind.now state.new 0 }
-    ensures ok { OnOk result (Appends (W.contents writer.old.inner) (W.contents writer.new.inner) ok_line) }
+    ensures ok { IfOk result (λ opening. opening ≡ Open → Appends (W.contents writer.old.inner) (W.contents writer.new.inner) ok_line) }
     ensures fine { OnOk result (writer.new.failed ≡ false) }
-    ensures whole { OnOk result (B.whole behind.now state.new 0) }
-    ensures came { OnOk result (B.came behind.now state.new (Opens subject ∷ [])) }
-    ensures last { OnOk result (B.last behind.now state.new ≡ 0) }
+    ensures whole { IfOk result (λ opening. opening ≡ Open → B.whole behind.now state.new 0) }
+    ensures came { IfOk result (λ opening. opening ≡ Open → B.came behind.now state.new (Opens subject ∷ [])) }
+    ensures last { IfOk result (λ opening. opening ≡ Open → B.last behind.now state.new ≡ 0) }
+    ensures full { IfOk result (λ opening. opening ≡ Full → B.fills behind.now × B.came behind.now state.new [] × (W.contents writer.new.inner ≡ W.contents writer.old.inner) × (writer.new.failed ≡ false)) }
     ensures fault { IfErr result (IsOwnFault writer.new.failed) }
     ensures told { IfErr result (λ fault. (B.came behind.now state.new [] × Appends (W.contents writer.old.inner) (W.contents writer.new.inner) [])
         ⊎ ((fault ≡ Write) × B.came behind.now state.new (Opens subject ∷ []) × ((much : ℕ) × Appends (W.contents writer.old.inner) (W.contents writer.new.inner) (take much ok_line)))) }
+    ensures never { IfErr result (λ fault. fault ≢ Clash) }
 {
     match behind.open(state, subject) {
-        Ok(()) => {}
+        Ok(Opening::Open) => {}
+        Ok(Opening::Full) => return Ok(Opening::Full),
         Err(_) => return Err(SessionFault::Memory),
     }
     if put(writer, b"ok\n") {
-        Ok(())
+        Ok(Opening::Open)
     } else {
         Err(SessionFault::Write)
     }
@@ -418,16 +432,20 @@ fn answer_first<R: BufRead, B: Behind, W: Write>(
     requires first { IsServed (B.serves behind.now) (B.takes behind.now) turn }
     requires served { AreServed names.now (B.serves behind.now) (B.takes behind.now) }
     ensures ok { OnOk result ((start : Option (List ℕ)) → HeardFirst turn more names.now start (R.remaining reader.old.inner) left.old →
-        Finished names.now start (R.remaining reader.new.inner) (W.contents writer.old.inner) (W.contents writer.new.inner) (B.replies behind.now state.new) (B.settled behind.now state.new) (B.came behind.now state.new)) }
+        Finished names.now start (R.remaining reader.new.inner) (W.contents writer.old.inner) (W.contents writer.new.inner) (B.replies behind.now state.new) (B.settled behind.now state.new) (B.came behind.now state.new)
+        ⊎ (B.fills behind.now × TurnedAway names.now start (R.remaining reader.new.inner) (W.contents writer.old.inner) (W.contents writer.new.inner) (B.came behind.now state.new) (refused_sessions ++ bye_line))) }
     ensures fine { OnOk result ((reader.new.failed ≡ false) × (writer.new.failed ≡ false) × (writer.new.unflushed ≡ false)) }
     ensures err { IfErr result (λ fault. (start : Option (List ℕ)) → HeardFirst turn more names.now start (R.remaining reader.old.inner) left.old →
-        Stopped fault names.now start (R.remaining reader.new.inner) (W.contents writer.old.inner) (W.contents writer.new.inner) reader.new.failed writer.new.failed (B.replies behind.now state.new) (B.settled behind.now state.new) (B.came behind.now state.new)) }
+        Stopped fault names.now start (R.remaining reader.new.inner) (W.contents writer.old.inner) (W.contents writer.new.inner) reader.new.failed writer.new.failed (B.replies behind.now state.new) (B.settled behind.now state.new) (B.came behind.now state.new)
+        ⊎ (B.fills behind.now × TurnedAwayInPart fault names.now start (R.remaining reader.new.inner) (W.contents writer.old.inner) (W.contents writer.new.inner) reader.new.failed writer.new.failed (B.came behind.now state.new) (refused_sessions ++ bye_line))) }
+    ensures clash { IfErr result (λ fault. fault ≡ Clash → B.clashes behind.now) }
 {
     match turn.greeted() {
         Some(subject) => match greet(behind, state, writer, subject) {
-            Ok(()) => listen(
+            Ok(Opening::Open) => listen(
                 alloc, names, behind, state, reader, writer, held, left, more,
             ),
+            Ok(Opening::Full) => say(writer, b"refused sessions\nbye\n"),
             Err(fault) => Err(fault),
         },
         None => say(writer, b"refused hello\nbye\n"),
@@ -450,10 +468,13 @@ pub fn converse<R: BufRead, B: Behind, W: Write>(
     requires whole { B.whole behind.now state.old 0 }
     requires served { AreServed names.now (B.serves behind.now) (B.takes behind.now) }
     ensures ok { OnOk result (Finished names.now (R.remaining reader.old.inner) (R.remaining reader.new.inner) (W.contents writer.old.inner) (W.contents writer.new.inner)
-        (B.replies behind.now state.new) (B.settled behind.now state.new) (B.came behind.now state.new)) }
+        (B.replies behind.now state.new) (B.settled behind.now state.new) (B.came behind.now state.new)
+        ⊎ (B.fills behind.now × TurnedAway names.now (R.remaining reader.old.inner) (R.remaining reader.new.inner) (W.contents writer.old.inner) (W.contents writer.new.inner) (B.came behind.now state.new) (refused_sessions ++ bye_line))) }
     ensures fine { OnOk result ((reader.new.failed ≡ false) × (writer.new.failed ≡ false) × (writer.new.unflushed ≡ false)) }
     ensures err { IfErr result (λ fault. Stopped fault names.now (R.remaining reader.old.inner) (R.remaining reader.new.inner) (W.contents writer.old.inner) (W.contents writer.new.inner)
-        reader.new.failed writer.new.failed (B.replies behind.now state.new) (B.settled behind.now state.new) (B.came behind.now state.new)) }
+        reader.new.failed writer.new.failed (B.replies behind.now state.new) (B.settled behind.now state.new) (B.came behind.now state.new)
+        ⊎ (B.fills behind.now × TurnedAwayInPart fault names.now (R.remaining reader.old.inner) (R.remaining reader.new.inner) (W.contents writer.old.inner) (W.contents writer.new.inner) reader.new.failed writer.new.failed (B.came behind.now state.new) (refused_sessions ++ bye_line))) }
+    ensures clash { IfErr result (λ fault. fault ≡ Clash → B.clashes behind.now) }
 {
     let mut held = match Held::new(alloc) {
         Ok(held) => held,

@@ -12,7 +12,7 @@ use Rattle.bl_session.specs.Entries.{order_of}
 use Rattle.bl_session.specs.Whole.{Came}
 use Rattle.bl_session.specs.Stages.{Finished, Stopped}
 use Rattle.bl_session.specs.Outcome.{IsServed, IsCutShort}
-use Rattle.bl_session.proofs.ServeLaws.{are_served, served_whole, served_part, unserved}
+use Rattle.bl_session.proofs.ServeLaws.{are_served, served_whole, served_part, unserved, not_full}
 use Rattle.bl_session.proofs.alone.serve_and_keep.Goals as goal
 
 pub returns-in-Err-clause-err : goal.returns-in-Err-clause-err
@@ -41,7 +41,7 @@ returns-in-Ok-converse-clause-ok g c =
     subst (λ (k : Setup). IsServed k c.args.limit (used R c.args.reader.now c.converse.new.reader) (used W c.args.writer.now c.converse.new.writer)) is
     (served_whole own c.args.limit s (R c.args.reader.now.inner) (R c.converse.new.reader.inner) (W c.args.writer.now.inner) (W c.converse.new.writer.inner) Settled
     (subst (λ (k : KnownNames). Finished k (R c.args.reader.now.inner) (R c.converse.new.reader.inner) (W c.args.writer.now.inner) (W c.converse.new.writer.inner)
-    (told_text own (order_of s.entries.items)) Settled (Came own c.args.limit s)) names c.in-Ok-converse.ensures.ok)
+    (told_text own (order_of s.entries.items)) Settled (Came own c.args.limit s)) names (not_full _ _ c.in-Ok-converse.ensures.ok))
     _ _ c.in-Ok-converse.ensures.fine.0 c.in-Ok-converse.ensures.fine.1)
 
 pub returns-in-Err-converse-clause-err : goal.returns-in-Err-converse-clause-err
@@ -58,4 +58,4 @@ returns-in-Err-converse-clause-err g c =
     (served_part own c.args.limit s (R c.args.reader.now.inner) (R c.converse.new.reader.inner) (W c.args.writer.now.inner) (W c.converse.new.writer.inner) fault
     c.converse.new.reader.failed c.converse.new.writer.failed
     (subst (λ (k : KnownNames). Stopped fault k (R c.args.reader.now.inner) (R c.converse.new.reader.inner) (W c.args.writer.now.inner) (W c.converse.new.writer.inner)
-    c.converse.new.reader.failed c.converse.new.writer.failed (told_text own (order_of s.entries.items)) Settled (Came own c.args.limit s)) names c.in-Err-converse.ensures.err))
+    c.converse.new.reader.failed c.converse.new.writer.failed (told_text own (order_of s.entries.items)) Settled (Came own c.args.limit s)) names (not_full _ _ c.in-Err-converse.ensures.err)))

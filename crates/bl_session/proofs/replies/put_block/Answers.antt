@@ -1,6 +1,6 @@
-use Rattle.std.proofs.Common.{rules, ◌≡◌, ◌∙◌, ◌<◌, ◌≤◌, ◌+◌, ap, length, arith, add-one, refl, take}
+use Rattle.std.proofs.Common.{rules, ◌∙◌, ◌<◌, ◌+◌, ap, length, arith, add-one, take}
 use Rattle.bl_wire.proofs.PutLaws.{puts-two}
-use Rattle.bl_session.specs.Spoken.{block_text, reply_to}
+use Rattle.bl_session.specs.Spoken.{block_text}
 use Rattle.bl_session.proofs.Texts.{block-step}
 use Rattle.bl_session.proofs.replies.put_block.Goals as goal
 

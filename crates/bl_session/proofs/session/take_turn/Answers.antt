@@ -1,7 +1,8 @@
-use Rattle.std.proofs.Common.{sym, refl, append-nil, arith}
+use Rattle.std.proofs.Common.{rules, sym, refl, append-nil, arith}
+use Rattle.bl_wire.specs.declared.fault.SessionFault.TheVariants.{Clash}
 use Rattle.bl_wire.specs.declared.turn.Turn.TheVariants.{Skip, Greets, Bad, Ask}
 use Rattle.bl_session.proofs.Texts.{same_refl}
-use Rattle.bl_session.proofs.Steps.{quiet, waited, told-same, told-ask, all_not_taken, all_not_kept, all_wait_failed}
+use Rattle.bl_session.proofs.Steps.{quiet, waited, told-same, told-ask, all_not_taken, all_not_kept, all_wait_failed, not_taken}
 use Rattle.bl_session.proofs.session.take_turn.Goals as goal
 
 pub returns-in_err-keep-in-Greets-clause-err : goal.returns-in_err-keep-in-Greets-clause-err
@@ -20,7 +21,7 @@ returns-in_err-ask-in-Ask-clause-err g c =
 pub returns-in_err-keep-in-Ask-clause-err : goal.returns-in_err-keep-in-Ask-clause-err
 returns-in_err-keep-in-Ask-clause-err g c =
     let kept = c.ask.ensures.settled c.args.talk.now.after (omega (arith, c.requires.count)) c.requires.settled in
-    all_not_kept _ _ _ _ _ _ _ _ _ (g.W.Write.contents c.args.writer.now.inner) _ kept.1 kept.0 c.args.talk.now.ordinal c.in-Ask.work c.in-Ask.is c.requires.count c.in_ok-ask-in-Ask.ensures.came
+    all_not_kept _ _ _ _ _ _ _ _ _ (g.W.Write.contents c.args.writer.now.inner) _ kept.1 kept.0 c.args.talk.now.ordinal c.in-Ask.work c.in-Ask.is c.requires.count (c.in_ok-ask-in-Ask.ensures.came (search rules))
 
 pub returns-in-Skip-clause-ok : goal.returns-in-Skip-clause-ok
 returns-in-Skip-clause-ok g c subject turns ws was =
@@ -40,7 +41,7 @@ pub returns-in_ok-keep-in-Ask-clause-ok : goal.returns-in_ok-keep-in-Ask-clause-
 returns-in_ok-keep-in-Ask-clause-ok g c subject turns ws was =
     let kept = c.ask.ensures.settled c.args.talk.now.after (omega (arith, c.requires.count)) c.requires.settled in
     quiet _ _ _ _ _ _ _ turns ws was kept.1 _ _ _ (Ask c.in-Ask.work) _ c.in-Ask.is tt
-    (told-ask _ _ _ _ _ _ _ turns ws was kept.1 (g.B.Behind.came c.args.behind.now c.ask.new.state) _ c.in-Ask.work c.requires.count c.in_ok-ask-in-Ask.ensures.came)
+    (told-ask _ _ _ _ _ _ _ turns ws was kept.1 (g.B.Behind.came c.args.behind.now c.ask.new.state) _ c.in-Ask.work c.requires.count (c.in_ok-ask-in-Ask.ensures.came (search rules)))
     kept.0 _ _ c.keep-in-Ask.ensures.after c.in_ok-keep-in-Ask.ensures.pending
 
 pub returns-in-Ok-clause-ok : goal.returns-in-Ok-clause-ok
@@ -53,3 +54,10 @@ pub returns-in-Err-clause-err : goal.returns-in-Err-clause-err
 returns-in-Err-clause-err g c =
     let kept = c.end_block.ensures.settled c.args.talk.now.after c.requires.settled in
     all_wait_failed c.end_block.result _ _ _ _ _ _ _ _ _ _ kept.1 kept.0 c.in-Err.fault _ c.in-Wait.is _ c.requires.count c.in-Err.ensures.part c.in-Err.ensures.told
+
+pub returns-in-Clash-clause-err : goal.returns-in-Clash-clause-err
+returns-in-Clash-clause-err g c subject turns ws was =
+    let kept = c.ask.ensures.settled c.args.talk.now.after (omega (arith, c.requires.count)) c.requires.settled in
+    let w = g.W.Write.contents c.args.writer.now.inner in
+    not_taken _ _ _ (g.B.Behind.settled c.args.behind.now c.ask.new.state) _ subject _ _ turns ws was kept.1 Clash (g.B.Behind.came c.args.behind.now c.ask.new.state) w w c.args.turn kept.0
+    (c.in_ok-ask-in-Ask.ensures.clash (search rules)).1

@@ -5,14 +5,14 @@ use Rattle.bl_session.proofs.AskLaws.{asked_whole, asked_came, asked_settled, re
 use Rattle.bl_session.proofs.entries.AloneBehind.ask.Goals as goal
 
 pub returns-then-self-state-clause-came : goal.returns-then-self-state-clause-came
-returns-then-self-state-clause-came c told came =
+returns-then-self-state-clause-came c taken told came =
     let s = c.args.state.now in
     let w = c.requires.whole in
     let over : c.args.self.now.limit < s.weight + weight_of c.args.work = omega (arith, c.if-self-state.true, c.weight_of-weight.ensures.value, w.2.fits) in
     refused_came (arc_value c.args.self.now.setup) c.args.self.now.limit s w.0 w.2 c.args.ordinal c.args.work over told came
 
 pub returns-clause-whole : goal.returns-clause-whole
-returns-clause-whole c n lt w =
+returns-clause-whole c taken n lt w =
     let s = c.args.state.now in
     let old = s.entries.items in
     let line = c.line.result in
@@ -26,7 +26,7 @@ returns-clause-whole c n lt w =
     (s.weight + c.weight_of-weight.result) speaks c.requires.takes c.requires.last (c.line.ensures.line ∙ place) c.line.ensures.path room heavier fits
 
 pub returns-clause-came : goal.returns-clause-came
-returns-clause-came c told came =
+returns-clause-came c taken told came =
     let s = c.args.state.now in
     let w = c.requires.whole.2 in
     let line = c.line.result in
