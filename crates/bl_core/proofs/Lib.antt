@@ -19,3 +19,4 @@ pub mod Inputs
 pub mod Owning
 pub mod Looking
 pub mod Queueing
+pub mod HeldLaws

@@ -6,3 +6,4 @@ pub mod Weights
 pub mod View
 pub mod Keeps
 pub mod Answers
+pub mod HeldItems

@@ -2,12 +2,14 @@
 ghost use Rattle.std.specs.Prelude.{◌≡◌};
 ghost use Rattle.bl_core.specs.Weights.{IsWeighed, ruled};
 
+use crate::held::Held;
 use crate::origin::Origin;
 use crate::place::{Descent, Place, Stand, declared, enter_children, enter_queues, work_at};
-use crate::refusal::{Cause, NotReady, OpenRefused, Refused, StartFault, Starved};
+use crate::refusal::{
+    Cause, Foreign, ForeignUnrun, NotReady, OpenRefused, Refused, StartFault, Starved,
+};
 use crate::session::{Session, SessionNo};
 use crate::shelf::{Shelf, contents_of, is_done_of, is_unrun_of, mark, shelve, take_back};
-use bl_eval::foreign::{Foreign, ForeignUnrun};
 use bl_eval::lent::{Done, DoneParts, Lent, Unrun, UnrunParts};
 use bl_grant::grants::Grants;
 use bl_order::laws::{
@@ -98,12 +100,14 @@ fn ruled(denial: &Option<Denial>) -> Answer
 }
 
 impl Core {
-    ghost use Rattle.std.specs.Prelude.{◌≡◌, ◌<◌, ◌≤◌, ◌↔◌, ℕ, Bool, true, false, IsTrue, IsSome, IsNone, IsOk, length, IfOk, OnErr, OnOk, IfErr, IfSome, IfNone, MatchResult, MatchOption, Some, None, Ok, Err, option_map, option_and_then, slice_get};
+    ghost use Rattle.std.specs.Prelude.{◌≡◌, ◌<◌, ◌≤◌, ◌↔◌, ℕ, Bool, true, false, IsTrue, IsSome, IsNone, IsOk, length, IfOk, OnErr, OnOk, IfErr, IfSome, IfNone, MatchResult, MatchOption, Some, None, Ok, Err, option_map, option_and_then, slice_get, map, All};
+    ghost use Rattle.bl_policy.specs.Properties.{IsSecure};
+    ghost use Rattle.bl_core.specs.HeldItems.{item_of};
     ghost use Rattle.bl_work.specs.Readable.{IsReadable};
     ghost use Rattle.bl_work.specs.declared.answer.Answer.TheVariants as answers;
     ghost use Rattle.bl_order.specs.Headline.{Holds, IsReached};
     ghost use Rattle.bl_order.specs.Known.{KnowsAnswer, KnowsWork};
-    ghost use Rattle.bl_order.specs.Machine.{Opens, Admits, Starts, Ends, Loses, MayStart, Needs, State, change, has_ended, is_lost, past_at, runs, start};
+    ghost use Rattle.bl_order.specs.Machine.{Opens, Admits, Starts, Ends, Loses, MayStart, Hold, Needs, State, change, has_ended, held, is_lost, past_at, runs, start};
     ghost use Rattle.bl_order.specs.Now.{content_at, content_now, policy_at, policy_now, IsFirstToAlter};
     ghost use Rattle.bl_order.specs.Order.{Applies, accesses_of, is_altered, is_rule};
     ghost use Rattle.bl_order.specs.Past.{is_done};
@@ -525,6 +529,17 @@ impl Core {
             Stand::Ended(answer) => Some(answer),
             Stand::Waiting | Stand::Running => None,
         }
+    }
+
+    /// The accesses that are held: for each running entry, in the order of entries, what it declares, in declared order, with the
+    /// subject that it speaks for. Under the policy now each has the three properties. It takes no memory, and looks at each entry once.
+    pub fn held(&self) -> Held<'_>
+        ensures items { result ≡ map item_of (held self.now) }
+        ensures secure { All (λ (h : Hold). IsSecure (policy_now self.now) h.subject h.doc h.mode) (held self.now) }
+    {
+        headline();
+        tasks_are_of_scripts();
+        Held::new(self.places.as_slice())
     }
 
     /// The policy now: the setup's, changed in order by the ended rules that are not lost.

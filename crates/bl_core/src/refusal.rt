@@ -1,4 +1,5 @@
 //! Why a call changed nothing.
+pub use bl_eval::foreign::{Foreign, ForeignUnrun};
 use bl_work::work::Work;
 use std::marker::Model;
 

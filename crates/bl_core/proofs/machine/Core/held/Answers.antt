@@ -1,0 +1,25 @@
+use Rattle.std.proofs.Common.{◌≡◌, ◌∙◌, List, length, ap, sym, subst}
+use Rattle.std.specs.Prelude.{All, map}
+use Rattle.bl_policy.specs.Properties.{IsSecure}
+use Rattle.bl_order.specs.Machine.{Hold, State, held}
+use Rattle.bl_order.specs.Now.{policy_now}
+use Rattle.bl_core.specs.HeldItems.{item_of, items_from, AreBehaviours}
+use Rattle.bl_core.specs.View.{state_of}
+use Rattle.bl_core.specs.declared.place.Place.{Place}
+use Rattle.bl_core.proofs.HeldLaws.{items-held, behaviours}
+use Rattle.bl_core.proofs.machine.Core.held.Goals as goal
+
+pub new-requires : goal.new-requires
+new-requires c = subst AreBehaviours (sym c.as_slice.ensures.value) (behaviours c.self.inside c.self.invariant c.tasks_are_of_scripts.ensures)
+
+pub returns-clause-items : goal.returns-clause-items
+returns-clause-items c =
+    c.new.ensures
+    ∙ ap (λ (l : List Place). items_from l 0 (length l)) c.as_slice.ensures.value
+    ∙ items-held c.self.inside c.self.invariant
+    ∙ ap (λ (x : State). map item_of (held x)) c.self.view_is
+
+pub returns-clause-secure : goal.returns-clause-secure
+returns-clause-secure c =
+    subst (λ (x : State). All (λ (h : Hold). IsSecure (policy_now x) h.subject h.doc h.mode) (held x)) c.self.view_is
+    (c.headline.ensures (state_of c.self.inside) c.self.invariant.reached).secure
