@@ -1,6 +1,6 @@
 -- What the record of a place says.
-use Rattle.std.proofs.Common.{◌≡◌, ℕ, zero, suc, ◌-◌, ◌<◌, ◌≤◌, Bool, true, false, cond, ◌&&◌, ◌||◌, not, List, [], ◌∷◌, length, map, refl, sym, ◌∙◌, ap, inl, inr, arith, ◌⊎◌, true≢false, get_or}
-use Rattle.std.specs.Prelude.{Option, Some, None, slice_get, slice_index_or, nat_lt}
+use Rattle.std.proofs.Common.{◌≡◌, ℕ, zero, suc, ◌-◌, ◌<◌, ◌≤◌, Bool, true, false, cond, ◌&&◌, ◌||◌, not, List, [], ◌∷◌, length, map, refl, sym, ◌∙◌, ap, inl, inr, arith, ◌⊎◌, true≢false, get_or, eqb-true}
+use Rattle.std.specs.Prelude.{◌==◌, Option, Some, None, slice_get, slice_index_or, nat_lt}
 use Rattle.bl_policy.specs.Policy.{SecurityPolicy}
 use Rattle.bl_policy.specs.RuleEffect.{rule_fault, rule_makes, unless_failed, after_rule}
 use Rattle.bl_policy.specs.declared.denial.Denial.{Denial}
@@ -10,10 +10,10 @@ use Rattle.bl_work.specs.declared.answer.Answer.TheVariants.{RuleDone, Denied, L
 use Rattle.bl_setup.specs.Setup.{Setup}
 use Rattle.bl_order.specs.Order.{Entry, Child, Task, Runs, Applies, is_rule, conflict, is_altered, accesses_of, Line, unnamed}
 use Rattle.bl_order.specs.Past.{Past, earlier, place, past_of, no_entry, policy_of, content_of, is_done, subject_of, task_of, child_task, deeds, answer_of, was_lost, fault_of_task, changed}
-use Rattle.bl_order.specs.Laws.{IsAnswered, IsClosed, RulesMakeThePolicy, fault_at}
+use Rattle.bl_order.specs.Laws.{IsAnswered, IsClosed, KeepsAnswers, lost_too, RulesMakeThePolicy, fault_at}
 use Rattle.bl_order.specs.Machine.{State, past_at, has_ended, phase_at, MayStart, may_start, is_clear, is_waiting}
 use Rattle.std.proofs.lemmas.Bool.Decides.{nat_tests}
-use Rattle.bl_order.proofs.Places.{at_place-earlier, less_or_equal}
+use Rattle.bl_order.proofs.Places.{at_place-earlier, less_or_equal, place-grown}
 use Rattle.bl_order.proofs.StateLaws.{changed-skips}
 use Rattle.bl_order.proofs.Sound.{HasParent}
 use Rattle.bl_order.proofs.Frame.{place-alike}
@@ -252,3 +252,21 @@ pub rests_on_ended : (setup : Setup) (lost others ended : ℕ → Bool) (order :
 rests_on_ended setup lost others ended order closed same n lt over =
     (place-alike setup order lost others ended same closed.conflicts
     (λ m at. parent-closed setup lost ended order closed m (get_or order m no_entry) (get-within order m at)) n lt).all over
+
+-- ---- the frame law
+
+not_the_same : (ended : ℕ → Bool) (m k : ℕ) → ended m ≡ false → ended k ≡ true → (b : Bool) → (b ≡ true → k ≡ m) → b ≡ false
+not_the_same ended m k unended over true same = absurd (true≢false (sym over ∙ ap ended (same refl) ∙ unended))
+not_the_same ended m k unended over false same = refl
+
+or_nothing : (a b : Bool) → b ≡ false → a ≡ (a || b)
+or_nothing true b h = refl
+or_nothing false b h = sym h
+
+pub answers-kept : (setup : Setup) (lost ended : ℕ → Bool) (order : List Entry) → IsClosed setup lost order ended → KeepsAnswers setup order ended lost
+answers-kept setup lost ended order closed = record {
+  grown = λ more n lt over. ap (λ p. p.answer) (place-grown setup lost lost order more n (λ k. refl) lt);
+  gained = λ m n unended lt over.
+      ap (λ p. p.answer) (sym (rests_on_ended setup lost (lost_too lost m) ended order closed
+      (λ k e. or_nothing (lost k) (k == m) (not_the_same ended m k unended e (k == m) (eqb-true k m))) n lt over));
+}

@@ -1,5 +1,5 @@
 -- What is said of places, in the words of their answers, contents and children.
-use Rattle.std.specs.Prelude.{◌≡◌, ℕ, suc, ◌-◌, ◌<◌, ◌≤◌, Bool, true, false, ◌&&◌, List, [], ◌++◌, length, slice_index_or, Option, Some, None, slice_get}
+use Rattle.std.specs.Prelude.{◌≡◌, ℕ, suc, ◌-◌, ◌<◌, ◌≤◌, Bool, true, false, ◌&&◌, ◌||◌, ◌==◌, List, [], ◌++◌, length, slice_index_or, Option, Some, None, slice_get}
 use Rattle.bl_policy.specs.RuleEffect.{rule_makes, after_rule}
 use Rattle.bl_policy.specs.declared.denial.Denial.{Denial}
 use Rattle.bl_policy.specs.declared.rule.Rule.{Rule}
@@ -90,3 +90,14 @@ abbrev pub RestsOnEnded : Setup → List Entry → (ℕ → Bool) → (ℕ → B
 RestsOnEnded setup order ended lost =
     (others : ℕ → Bool) → ((k : ℕ) → ended k ≡ true → lost k ≡ others k)
     → (n : ℕ) → n < length order → ended n ≡ true → place setup lost order n ≡ place setup others order n
+
+-- a place more is lost
+abbrev pub lost_too : (ℕ → Bool) → ℕ → ℕ → Bool
+lost_too lost m n = lost n || (n == m)
+
+-- The frame law: the answer of an ended place stays the same where the order grows, and where a place is lost that had not ended.
+pub record KeepsAnswers (setup : Setup) (order : List Entry) (ended lost : ℕ → Bool) : Type 0 where
+  pub grown : (more : List Entry) (n : ℕ) → n < length order → ended n ≡ true
+      → (place setup lost (order ++ more) n).answer ≡ (place setup lost order n).answer
+  pub gained : (m n : ℕ) → ended m ≡ false → n < length order → ended n ≡ true
+      → (place setup (lost_too lost m) order n).answer ≡ (place setup lost order n).answer

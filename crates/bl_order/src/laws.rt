@@ -4,7 +4,7 @@ ghost use Rattle.bl_order.specs.AtHand.{ParentsHaveEnded, RestsOnEndedPlaces};
 ghost use Rattle.bl_order.specs.Claims.{AreFewAndApart, numbered_claims, numbers_conflict};
 ghost use Rattle.bl_order.specs.Known.{IsAsked, KnowsWork};
 ghost use Rattle.bl_order.specs.Headline.{Holds, IsReached, MovesOn};
-ghost use Rattle.bl_order.specs.Laws.{FollowsItsParent, IsAnswered, IsClosed, KeepsPlaces, LeavesThePolicy, LooksBack, RestsOnEnded, RestsOnLossesBefore, RulesMakeThePolicy, RulesStandAlone};
+ghost use Rattle.bl_order.specs.Laws.{FollowsItsParent, IsAnswered, IsClosed, KeepsAnswers, KeepsPlaces, LeavesThePolicy, LooksBack, RestsOnEnded, RestsOnLossesBefore, RulesMakeThePolicy, RulesStandAlone};
 ghost use Rattle.bl_order.specs.Machine.{Event, MayStart, Needs, State, change, children_at, may_start, past_at, runs, start};
 ghost use Rattle.bl_order.specs.Order.{Child, Entry, Task, accesses_of, conflict, unnamed};
 ghost use Rattle.bl_order.specs.Past.{place};
@@ -36,6 +36,13 @@ pub fn places_rest_on_the_past()
 pub fn ended_places_rest_on_ended_places()
     ensures { (setup : Setup) (lost ended : ℕ → Bool) (order : List Entry) →
         IsClosed setup lost order ended → RestsOnEnded setup order ended lost }
+{}
+
+/// The frame law: the answer of a place that has ended stays as it is where the order grows, and where a place is lost that had
+/// not ended, so it depends on ended places alone.
+pub fn answers_keep_their_frame()
+    ensures { (setup : Setup) (lost ended : ℕ → Bool) (order : List Entry) →
+        IsClosed setup lost order ended → KeepsAnswers setup order ended lost }
 {}
 
 /// The content at a place is what the last place before it that wrote the document left there.
