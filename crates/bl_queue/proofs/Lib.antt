@@ -12,3 +12,4 @@ pub mod Ready
 pub mod Steps
 pub mod Fresh
 pub mod Kept
+pub mod Counts

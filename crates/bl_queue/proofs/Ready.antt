@@ -85,7 +85,7 @@ not_ended Ended e = absurd (both_ways false refl e)
 
 -- of two claims of one cown that are not both shared, one of which stands before the other, the first is over where the second
 -- does not wait and is not over
-over_where_free : (s : Holders) (m p q : ℕ) → AreHeld s m → p < q → q < length s.claims → (held_at s.claims p).cown ≡ (held_at s.claims q).cown
+pub over_where_free : (s : Holders) (m p q : ℕ) → AreHeld s m → p < q → q < length s.claims → (held_at s.claims p).cown ≡ (held_at s.claims q).cown
     → ((held_at s.claims p).shared ≡ false) ⊎ ((held_at s.claims q).shared ≡ false)
     → q < place_of (cown_at s.cowns (held_at s.claims q).cown).first → over_at s.over q ≡ false → over_at s.over p ≡ true
 over_where_free s m p q are lt below on one before stays =

@@ -6,3 +6,4 @@ pub mod Queues
 pub mod Queued
 pub mod RosterRooms
 pub mod Rooms
+pub mod Counts
