@@ -1,9 +1,11 @@
 //! Which entries may start.
 use super::base::{
-    ANN, MEMO, ROOT, SHOW_MEMO, Said, admit_all, base_core, done_of, finish, has, is_done, lent_to,
-    run,
+    ANN, MEMO, ROOT, SHOW_MEMO, Said, admit, admit_all, base_core, done_of, finish, has, is_done,
+    lent_to, right, run,
 };
 use bl_core::machine::Core;
+use bl_policy::access::Mode;
+use bl_policy::id::SubjectId;
 
 /// Memo is read, written and read again; note is read; then comes a rule.
 const READERS_AND_A_WRITER: [Said<'static>; 5] = [
@@ -55,5 +57,34 @@ fn two_readers_hold_together(rt: HostRuntime) {
     assert!(rt; is_done(&core, 1, &[b"m1"]));
     finish(&rt, &mut core, done_of(&rt, first));
     assert!(rt; is_done(&core, 0, &[b"m1"]));
+    drop(core);
+}
+
+/// Whether just so many reads of memo by ann are held.
+fn are_held(core: &Core, count: usize) -> bool {
+    let mut found = 0_usize;
+    for (subject, doc, mode) in core.held() {
+        if subject.position() != ANN || doc.position() != MEMO || mode != Mode::Read {
+            return false;
+        }
+        found = found.saturating_add(1);
+    }
+    found == count
+}
+
+/// Two sessions of ann read memo side by side: both hold it while both run.
+#[test]
+fn two_sessions_read_together(rt: HostRuntime) {
+    let mut core = base_core(&rt);
+    let other = right(&rt, core.open(SubjectId::new(ANN))).number() as u16;
+    admit(&rt, &mut core, ANN, 1, SHOW_MEMO);
+    admit(&rt, &mut core, other, 1, SHOW_MEMO);
+    let first = lent_to(&rt, &mut core, 0);
+    assert!(rt; are_held(&core, 1));
+    let second = lent_to(&rt, &mut core, 1);
+    assert!(rt; are_held(&core, 2));
+    finish(&rt, &mut core, done_of(&rt, first));
+    finish(&rt, &mut core, done_of(&rt, second));
+    assert!(rt; are_held(&core, 0));
     drop(core);
 }
