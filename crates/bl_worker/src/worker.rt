@@ -1,0 +1,57 @@
+//! A worker, turn by turn.
+ghost use Rattle.std.specs.Prelude.{◌≡◌};
+ghost use Rattle.bl_gate.specs.Gates.{Follows};
+
+use crate::bell::Bell;
+use crate::pause::Pause;
+use crate::turn::{Turn, WorkFault, work_once};
+use bl_gate::gate::Gate;
+use bl_gate::pass::Pass;
+use crossbeam_utils::Backoff;
+use std::alloc::Global;
+use std::sync::Wait;
+
+/// Waits a moment where there was nothing to do: at first for another thread's step, and then at the bell. Says whether the bell is
+/// closed.
+fn rest<R: Wait>(rt: &R, bell: &Bell, backoff: &Backoff, seen: u64) -> bool {
+    for _ in rt.forever() {
+        if backoff.is_completed() {
+            break;
+        }
+        backoff.snooze();
+        if bell.rings() != seen {
+            return false;
+        }
+    }
+    bell.wait_ring(rt, seen)
+}
+
+/// Takes turns until the bell is closed and nothing is ready, and rings after each turn that was not idle. While there is nothing
+/// to do it sleeps at the bell.
+pub fn run_worker<P: Pause, R: Wait>(
+    rt: &R,
+    alloc: Global,
+    gate: &Gate,
+    pass: &mut Pass,
+    pause: &P,
+    bell: &Bell,
+) -> Result<(), WorkFault>
+    requires gate { pass.old.gate ≡ gate.now.id }
+    ensures follows { Follows pass.old pass.new }
+{
+    let backoff = Backoff::new();
+    let mut closed = false;
+    for _ in rt.forever() {
+        let seen = bell.rings();
+        match work_once(rt, alloc, gate, pass, pause)? {
+            Turn::Idle if closed => break,
+            Turn::Idle => closed = rest(rt, bell, &backoff, seen),
+            Turn::Missed(_) => backoff.snooze(),
+            Turn::Denied(_) | Turn::Done(_) | Turn::Lost(_) => {
+                backoff.reset();
+                bell.ring(rt);
+            }
+        }
+    }
+    Ok(())
+}
