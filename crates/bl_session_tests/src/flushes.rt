@@ -67,7 +67,7 @@ struct SeenOnceFlushed<'a> {
 impl Write for SeenOnceFlushed<'_> {
     fn write(&mut self, buf: &[u8]) -> io::Result<usize> {
         self.written.extend_from_slice(buf)?;
-        self.writes.set(self.writes.get() + 1);
+        self.writes.set(self.writes.get().saturating_add(1));
         Ok(buf.len())
     }
 
