@@ -1,7 +1,6 @@
 -- How many `when` stand in a body, and how many accesses each has.
 use Rattle.std.proofs.Common.{◌≡◌, ℕ, ◌+◌, ◌-◌, ◌<◌, ◌≤◌, List, [], ◌∷◌, ◌++◌, length, get_or, map, take, drop, Option, Some, None, MatchOption, ap, sym, subst, ◌∙◌, arith}
-use Rattle.std.specs.Prelude.{All, IsTrue, is_some, Bool}
-use Rattle.std.proofs.lemmas.Bool.{false≢true}
+use Rattle.std.specs.Prelude.{All}
 use Rattle.std.proofs.lemmas.List.{take-append-drop, length-map}
 use Rattle.std.proofs.lemmas.List.Elements.{All-cons, All-nil, All-tail, All-append}
 use Rattle.bl_work.specs.Spelled.{SpelledAccess, SpelledBody, empty, spawn, if_else}
@@ -105,20 +104,12 @@ few_spawn first more body most None some short many = λ few. many record {
 
 -- ---- in a whole `when`
 
-pub few_when : (first : SpelledAccess) (more : List RawAccess) (body : SpelledBody) → length more < 8 → AreFewIn 31 body → AreFew first (map raw_access more) body
-few_when first more body short p = record {
-  whens = omega (arith, p.count);
-  accesses = All-cons HasFewAccesses (first ∷ map raw_access more) (lists_in body) (omega (arith, length-map more raw_access, short)) p.accesses;
-}
+-- the number of `when` in the body, where there are few
+abbrev pub Counts : SpelledAccess → List SpelledAccess → SpelledBody → Option ℕ → Type 0
+Counts first more body r = MatchOption r (AreFew first more body → ⊥) (λ count. AreFew first more body × (count ≡ whens body))
 
 pub few_in_when : (first : SpelledAccess) (more : List SpelledAccess) (body : SpelledBody) → AreFew first more body → AreFewIn 31 body
 few_in_when first more body p = record {
   count = omega (arith, p.whens);
   accesses = All-tail HasFewAccesses (first ∷ more) (lists_in body) p.accesses;
 }
-
--- whether there are few, by whether some may still stand behind the body
-pub few_decides : (first : SpelledAccess) (more : List RawAccess) (body : SpelledBody) (r : Option ℕ) (b : Bool) → length more < 8 → b ≡ is_some r → Leaves 31 body r
-    → (IsTrue b → AreFew first (map raw_access more) body) × (AreFew first (map raw_access more) body → IsTrue b)
-few_decides first more body (Some left) b short e found = (λ h. few_when first more body short found.0, λ few. e)
-few_decides first more body None b short e many = (λ h. absurd (false≢true (sym e ∙ h)), λ few. absurd (many (few_in_when first (map raw_access more) body few)))

@@ -63,12 +63,16 @@ pub finds_end : {X U : Type 0} (P : X → Type 0) (name_of : X → List ℕ) (xs
     → Finds P name_of (xs ++ []) r
 finds_end P name_of xs r found = subst (λ l. Finds P name_of l r) (sym (append-nil xs)) found
 
--- a search that stops early answers what it stopped at
+-- a search that stops early answers what it stopped at, whatever it would have found
+pub leaves : {X U : Type 0} (Q : U → Type 0) (P : X → Type 0) (name_of : X → List ℕ) (xs : List X) (r : Result U (Bor (List ℕ))) (e : Bor (List ℕ)) → IsErrAnd r (λ y. y ≡ e)
+    → IsNameOfFirst P name_of xs e.now → MatchResult r Q (λ name. IsNameOfFirst P name_of xs name.now)
+leaves Q P name_of xs r e is f =
+    let p = err_from_is_err_and r is in
+    subst (λ z. MatchResult z Q (λ name. IsNameOfFirst P name_of xs name.now)) (sym (p.1 ∙ ap Err p.2)) f
+
 pub exits : {X U : Type 0} (P : X → Type 0) (name_of : X → List ℕ) (xs : List X) (r : Result U (Bor (List ℕ))) (e : Bor (List ℕ)) → IsErrAnd r (λ y. y ≡ e)
     → IsNameOfFirst P name_of xs e.now → Finds P name_of xs r
-exits P name_of xs r e is f =
-    let p = err_from_is_err_and r is in
-    subst (λ z. Finds P name_of xs z) (sym (p.1 ∙ ap Err p.2)) f
+exits P name_of xs r e is f = leaves (λ _. All P xs) P name_of xs r e is f
 
 -- a search in a statement that is known to be this one
 pub in_statement : {X U : Type 0} (F : List RawStatement → List X) (P : X → Type 0) (name_of : X → List ℕ) (s t : RawStatement) (r : Result U (Bor (List ℕ))) → s ≡ t

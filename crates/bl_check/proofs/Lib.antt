@@ -4,3 +4,4 @@ pub mod Passes
 pub mod Declared
 pub mod Few
 pub mod Uses
+pub mod Looked

@@ -1,2 +1,3 @@
 pub mod OfDocuments
 pub mod Uses
+pub mod Checked

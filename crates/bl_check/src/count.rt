@@ -52,11 +52,16 @@ fn is_statement_shallow(statement: &RawStatement<'_>, most: usize) -> bool
     }
 }
 
-/// Whether there are not too many `when`, and none has too many accesses.
-pub fn are_few(more: &[RawAccess<'_>], body: &RawBody<'_>) -> bool
-    ensures { (first : SpelledAccess) → (IsTrue result ↔ AreFew first (map raw_access more.now) body.now) }
+/// How many `when` stand in this body. None where the line has too many, or one that has too many accesses.
+pub fn few_whens(more: &[RawAccess<'_>], body: &RawBody<'_>) -> Option<usize>
+    ensures { (first : SpelledAccess) → let few = AreFew first (map raw_access more.now) body.now in
+        MatchOption result (few → ⊥) (λ count. few × (count ≡ whens body.now)) }
 {
-    more.len() < MOST_ACCESSES && whens_left(body, MOST_WHENS - 1).is_some()
+    if more.len() >= MOST_ACCESSES {
+        return None;
+    }
+    let left = whens_left(body, MOST_WHENS - 1)?;
+    Some(MOST_WHENS - 1 - left)
 }
 
 /// How many `when` may stand behind this body, where so many may from its begin on. None where it has more than may stand, or

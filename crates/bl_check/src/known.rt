@@ -1,16 +1,73 @@
 //! The first document from the left that the names do not know.
-ghost use Rattle.std.specs.Prelude.{[], ◌∷◌, map, All, Contains, MatchResult};
+ghost use Rattle.std.specs.Prelude.{◌≡◌, ◌<◌, [], ◌∷◌, map, length, All, Contains, MatchResult};
 ghost use Rattle.bl_syntax.specs.RawBodies.{raw_access, raw_body};
 ghost use Rattle.bl_work.specs.First.{IsNameOfFirst};
+ghost use Rattle.bl_work.specs.Meaning.{access_of as spelled_access};
 ghost use Rattle.bl_work.specs.WhenFaults.{documents_in, names_in, names_of_when};
 ghost use Rattle.bl_work.specs.FirstWhenFault.{same_name};
 ghost use Rattle.bl_check.specs.OfDocuments.{AreOfDocuments};
 
 use crate::once::has_document;
+use bl_policy::access::Access;
 use bl_syntax::raw::{RawAccess, RawBody, RawStatement};
+use bl_work::accesses::{Accesses, MOST_ACCESSES};
 use bl_work::names::Names;
 
+/// The accesses of a `when`, in order, their documents looked up. Err has the first name from the left, in the `when` and all within
+/// it, that is no document's, and Ok says that there is none.
+pub(crate) fn look_up_when<'a>(
+    names: &Names,
+    first: RawAccess<'a>,
+    more: &[RawAccess<'a>],
+    body: &RawBody<'a>,
+) -> Result<Accesses, &'a [u8]>
+    requires { length more.now < MOST_ACCESSES }
+    ensures { let P = Contains names.now.documents in
+        let xs = names_of_when (raw_access first.entry) (map raw_access more.now) body.now in
+        MatchResult result (λ accesses. All P xs × (accesses ≡ map (spelled_access names.now) (raw_access first.entry ∷ map raw_access more.now)))
+        (λ name. IsNameOfFirst P same_name xs name.now) }
+{
+    let accesses = look_up(names, first, more)?;
+    check_known(names, first, more, body)?;
+    Ok(accesses)
+}
+
+/// These accesses, in order, their documents looked up. Err has the first of their names that is no document's.
+fn look_up<'a>(
+    names: &Names,
+    first: RawAccess<'a>,
+    more: &[RawAccess<'a>],
+) -> Result<Accesses, &'a [u8]>
+    requires { length more.now < MOST_ACCESSES }
+    ensures { let P = Contains names.now.documents in
+        let xs = documents_in (raw_access first.entry ∷ map raw_access more.now) in
+        MatchResult result (λ accesses. All P xs × (accesses ≡ map (spelled_access names.now) (raw_access first.entry ∷ map raw_access more.now)))
+        (λ name. IsNameOfFirst P same_name xs name.now) }
+{
+    let mut accesses = Accesses::new(access_of(names, first)?);
+    for access in more {
+        accesses.push(access_of(names, *access)?);
+    }
+    Ok(accesses)
+}
+
+/// The access, its document looked up; or the name of it, where it is no document's.
+fn access_of<'a>(names: &Names, access: RawAccess<'a>) -> Result<Access, &'a [u8]>
+    ensures { let P = Contains names.now.documents in
+        let xs = access.entry.document.now ∷ [] in
+        MatchResult result (λ found. All P xs × (found ≡ spelled_access names.now (raw_access access.entry))) (λ name. IsNameOfFirst P same_name xs name.now) }
+{
+    match names.document(access.document) {
+        Some(doc) => Ok(Access {
+            mode: access.mode,
+            doc,
+        }),
+        None => Err(access.document),
+    }
+}
+
 /// Err has the first name from the left, in a `when` and all within it, that is no document's, and Ok says that there is none.
+#[cycle(known)]
 pub fn check_when_known<'a>(
     names: &Names,
     first: RawAccess<'a>,
@@ -82,8 +139,7 @@ fn check_statement_known<'a>(
         }
         RawStatement::Spawn(when) => {
             let when = when.as_ref();
-            check_accesses_known(names, when.first, &when.more)?;
-            check_known(names, when.first, &when.more, &when.body)
+            check_when_known(names, when.first, &when.more, &when.body)
         }
     }
 }

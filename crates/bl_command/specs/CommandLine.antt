@@ -22,6 +22,14 @@ limit_rule = record (new_rule (codes "limit")) {
 abbrev pub alone_app : App
 alone_app = with_rule (with_rule (new_app (codes "alone")) setup_rule) limit_rule
 
--- own choice: a command has to be given, and `alone` is the only one; the program has a version
+-- `--trail` has to be given, and takes any text
+abbrev pub trail_rule : Rule
+trail_rule = record (new_rule (codes "trail")) { long = Some (codes "trail"); required = true; action = Some Set }
+
+-- the command `replay` has a setup and a trail
+abbrev pub replay_app : App
+replay_app = with_rule (with_rule (new_app (codes "replay")) setup_rule) trail_rule
+
+-- own choice: a command has to be given, `alone` or `replay`; the program has a version
 abbrev pub server_app : App
-server_app = with_subcommand (on_top (λ s. record s { has_version = true; subcommand_required = true }) (new_app (codes "bl_server"))) alone_app.top
+server_app = with_subcommand (with_subcommand (on_top (λ s. record s { has_version = true; subcommand_required = true }) (new_app (codes "bl_server"))) alone_app.top) replay_app.top

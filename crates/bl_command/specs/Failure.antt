@@ -5,15 +5,15 @@ use Rattle.bl_setup.specs.Setup as setups
 use Rattle.bl_setup.specs.Faults.{UnlessMemory}
 use Rattle.bl_setup.specs.FirstSetupFault.{FirstSetupFault, IsReadAt}
 use Rattle.bl_setup.specs.Grammar.{IsSetup}
-use Rattle.bl_setup.specs.declared.fault.SetupFault.{SetupFault}
-use Rattle.bl_setup.specs.declared.fault.SetupFaultKind.{SetupFaultKind}
-use Rattle.bl_setup.specs.declared.fault.SetupFaultKind.TheVariants as kinds
+use Rattle.bl_declare.specs.declared.fault.SetupFault.{SetupFault}
+use Rattle.bl_declare.specs.declared.fault.SetupFaultKind.{SetupFaultKind}
+use Rattle.bl_declare.specs.declared.fault.SetupFaultKind.TheVariants as kinds
 use Rattle.bl_session.specs.Outcome.{IsCutShort}
 use Rattle.bl_wire.specs.Watch.{Use}
 use Rattle.bl_wire.specs.declared.fault.SessionFault.{SessionFault}
 use Rattle.bl_wire.specs.declared.fault.SessionFault.TheVariants as failing
 use Rattle.bl_command.specs.declared.fault.ProgramFault.{ProgramFault}
-use Rattle.bl_command.specs.declared.fault.ProgramFault.TheVariants.{CannotReadSetup, Setup, Read, Write, TooLong, NoMemory}
+use Rattle.bl_command.specs.declared.fault.ProgramFault.TheVariants.{CannotReadSetup, Setup, CannotReadTrail, CannotWriteTrail, Read, Write, TooLong, NoMemory}
 
 -- the words for a kind of fault; want of memory has none, and is told without a line
 abbrev pub kind_words : SetupFaultKind → List ℕ
@@ -28,6 +28,8 @@ kind_words kinds.Memory = []
 abbrev pub IsOfSetup : SetupFault → ProgramFault → Type 0
 IsOfSetup of CannotReadSetup = ⊥
 IsOfSetup of (Setup line kind) = (of.kind ≢ kinds.Memory) × (line ≡ of.line) × (kind.now ≡ kind_words of.kind)
+IsOfSetup of CannotReadTrail = ⊥
+IsOfSetup of CannotWriteTrail = ⊥
 IsOfSetup of Read = ⊥
 IsOfSetup of Write = ⊥
 IsOfSetup of TooLong = ⊥
@@ -41,16 +43,20 @@ IsOfSession failing.TooLong fault = fault ≡ TooLong
 IsOfSession failing.Memory fault = fault ≡ NoMemory
 IsOfSession failing.Clash fault = ⊥
 
--- No session began: nothing was read or written. The fault that is told is the first of the text, with its line and kind, and
--- the text is no setup, unless memory was refused; and that was at a line that is read, with the lines before it right.
-pub record IsNotBegun (setup : List ℕ) (fault : ProgramFault) (input output : Use) : Type 0 where
-  pub unread : Keeps input.before input.after
+-- The text is no setup, unless memory was refused, and nothing was written. The fault that is told is the first of the text, with
+-- its line and kind; where memory was refused, that was at a line that is read, with the lines before it right.
+pub record IsNotRead (setup : List ℕ) (fault : ProgramFault) (output : Use) : Type 0 where
   pub unwritten : Keeps output.before output.after
   pub of : SetupFault
   pub named : IsOfSetup of fault
   pub why : UnlessMemory of.kind ((begun : setups.Setup) → IsSetup setup begun → ⊥)
   pub earliest : UnlessMemory of.kind (FirstSetupFault setup of)
   pub refused : of.kind ≡ kinds.Memory → IsReadAt setup of.line
+
+-- no session began, and nothing was read
+pub record IsNotBegun (setup : List ℕ) (fault : ProgramFault) (input output : Use) : Type 0 where
+  pub unread : Keeps input.before input.after
+  pub unmet : IsNotRead setup fault output
 
 -- A session of the setup that the text is began, and ended early by the fault that is told.
 pub record IsEnded (setup : List ℕ) (limit : ℕ) (fault : ProgramFault) (input output : Use) : Type 0 where

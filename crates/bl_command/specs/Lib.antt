@@ -3,4 +3,5 @@ pub mod Status
 pub mod Failure
 pub mod Message
 pub mod CommandLine
+pub mod Replays
 pub mod Runs

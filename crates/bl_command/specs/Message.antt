@@ -1,12 +1,14 @@
 -- What a run says on standard error of the fault that ends it.
 use Rattle.std.specs.Prelude.{ℕ, List, ◌++◌, codes, decimal}
 use Rattle.bl_command.specs.declared.fault.ProgramFault.{ProgramFault}
-use Rattle.bl_command.specs.declared.fault.ProgramFault.TheVariants.{CannotReadSetup, Setup, Read, Write, TooLong, NoMemory}
+use Rattle.bl_command.specs.declared.fault.ProgramFault.TheVariants.{CannotReadSetup, Setup, CannotReadTrail, CannotWriteTrail, Read, Write, TooLong, NoMemory}
 
 -- own choice: the words for each fault; of a setup those for what is wrong with its line
 abbrev pub words_of : ProgramFault → List ℕ
 words_of CannotReadSetup = codes "cannot read setup"
 words_of (Setup line kind) = kind.now
+words_of CannotReadTrail = codes "cannot read trail"
+words_of CannotWriteTrail = codes "cannot write trail"
 words_of Read = codes "read fault"
 words_of Write = codes "write fault"
 words_of TooLong = codes "too long"
@@ -16,6 +18,8 @@ words_of NoMemory = codes "no memory"
 abbrev pub message_of : ProgramFault → List ℕ
 message_of (Setup line kind) = codes "setup " ++ decimal line ++ codes ": " ++ kind.now
 message_of CannotReadSetup = words_of CannotReadSetup
+message_of CannotReadTrail = words_of CannotReadTrail
+message_of CannotWriteTrail = words_of CannotWriteTrail
 message_of Read = words_of Read
 message_of Write = words_of Write
 message_of TooLong = words_of TooLong

@@ -1,17 +1,18 @@
 -- How a run of a command ends.
-use Rattle.std.specs.Prelude.{◌≡◌, ◌⊎◌, ℕ, false, List, [], ◌∷◌, ◌++◌, Vec, Result, Ok, Err}
-use Rattle.std.specs.Global.{Global}
+use Rattle.std.specs.Prelude.{◌≡◌, ◌⊎◌, ℕ, false, List, [], ◌∷◌, ◌++◌, Result, Ok, Err}
 use Rattle.std.specs.Io.KnownBytes.{Keeps, Appends}
 use Rattle.bl_setup.specs.Setup as setups
 use Rattle.bl_setup.specs.Grammar.{IsSetup}
 use Rattle.bl_wire.specs.Watch.{Use}
 use Rattle.bl_session.specs.Outcome.{IsServed}
 use Rattle.bl_command.specs.declared.command.Command.{Command}
-use Rattle.bl_command.specs.declared.command.Command.TheVariants.{Alone}
+use Rattle.bl_command.specs.declared.command.Command.TheVariants.{Alone, Replay}
 use Rattle.bl_command.specs.declared.fault.ProgramFault.{ProgramFault}
-use Rattle.bl_command.specs.Failure.{HasFailed}
+use Rattle.bl_command.specs.Failure.{HasFailed, IsNotRead}
 use Rattle.bl_command.specs.Message.{message_of}
+use Rattle.bl_command.specs.Replays.{HasReplayed, IsCut}
 use Rattle.bl_command.specs.Status.{status_of}
+use Rattle.bl_command.specs.declared.run.Files.{Files}
 
 -- the status of a run, and what it did to its input, its output and standard error
 pub record Run : Type 0 where
@@ -38,12 +39,28 @@ abbrev pub IsRun : List ℕ → ℕ → Run → Type 0
 IsRun setup limit run =
     HasServed setup limit run ⊎ ((fault : ProgramFault) × HasTold fault run.status run.errors × HasFailed setup limit fault run.input run.output)
 
--- a run of this command after the setup of these bytes
-abbrev pub IsRunOf : Command → List ℕ → Run → Type 0
-IsRunOf (Alone path limit) setup run = IsRun setup limit run
+-- no verdict was told: the setup is none, or the verdict was cut
+abbrev pub HasNoVerdict : List ℕ → List ℕ → ProgramFault → Use → Type 0
+HasNoVerdict setup trail fault output = IsNotRead setup fault output ⊎ IsCut setup trail fault output
 
--- a run of this command, where its setup file has these bytes, or could not be read for this fault
-abbrev pub IsRunAfter : Command → Result (Vec ℕ Global) ProgramFault → Run → Type 0
-IsRunAfter command (Ok bytes) run = IsRunOf command bytes.items run
+-- the verdict was told, and nothing was said; or the run ended with a fault of the setup, of memory or of the output, and told it
+abbrev pub IsReplayOn : List ℕ → List ℕ → ℕ → Use → Use → Type 0
+IsReplayOn setup trail status output errors =
+    (HasReplayed setup trail status output × Keeps errors.before errors.after)
+    ⊎ ((fault : ProgramFault) × HasTold fault status errors × HasNoVerdict setup trail fault output)
+
+-- a replay reads nothing of its input
+pub record IsReplay (setup trail : List ℕ) (run : Run) : Type 0 where
+  pub ends : IsReplayOn setup trail run.status run.output run.errors
+  pub unread : Keeps run.input.before run.input.after
+
+-- a run of this command, after its files had these bytes
+abbrev pub IsRunOf : Command → Files → Run → Type 0
+IsRunOf (Alone path limit) files run = IsRun files.setup.items limit run
+IsRunOf (Replay path name) files run = IsReplay files.setup.items files.trail.items run
+
+-- a run of this command, where its files have these bytes, or could not be read for this fault
+abbrev pub IsRunAfter : Command → Result Files ProgramFault → Run → Type 0
+IsRunAfter command (Ok files) run = IsRunOf command files run
 IsRunAfter command (Err fault) run =
     HasTold fault run.status run.errors × Keeps run.input.before run.input.after × Keeps run.output.before run.output.after

@@ -1,5 +1,5 @@
 -- What the words of a command line name.
-use Rattle.std.specs.Prelude.{◌≡◌, ◌≤◌, ℕ, List, Option, Some, codes}
+use Rattle.std.specs.Prelude.{◌≡◌, ◌≤◌, ℕ, List, Option, Some, None, codes}
 use Rattle.std.specs.Str.Parse.{IsNumeral, digits_value, without_leading_plus}
 use Rattle.clap.specs.Matches.{found_of, first_value, one_text}
 use Rattle.clap.specs.Faults.{fault_of}
@@ -9,11 +9,12 @@ use Rattle.clap.specs.Walk.{Row, rows_of}
 use Rattle.clap.specs.declared.parser.matches.ArgMatches.{ArgMatches}
 use Rattle.bl_command.specs.CommandLine.{server_app}
 use Rattle.bl_command.specs.declared.command.Command.{Command}
-use Rattle.bl_command.specs.declared.command.Command.TheVariants.{Alone}
+use Rattle.bl_command.specs.declared.command.Command.TheVariants.{Alone, Replay}
 
 -- each number is in its range
 abbrev pub IsInRange : Command → Type 0
 IsInRange (Alone setup limit) = (1 ≤ limit) × (limit ≤ 100000)
+IsInRange (Replay setup trail) = Unit {0}
 
 -- the text is a decimal numeral, before which a plus may stand, and this is the number that it writes
 abbrev pub Writes : List ℕ → ℕ → Type 0
@@ -26,15 +27,24 @@ HasNumber options name n = (text : List ℕ) × (one_text (found_of options) nam
 -- the name of a command's setup file
 abbrev pub setup_of : Command → List ℕ
 setup_of (Alone setup limit) = setup.now
+setup_of (Replay setup trail) = setup.now
+
+-- the name of the trail file that a command reads
+abbrev pub read_trail_of : Command → Option (List ℕ)
+read_trail_of (Alone setup limit) = None
+read_trail_of (Replay setup trail) = Some trail.now
 
 -- the word for a command
 abbrev pub word_of : Command → List ℕ
 word_of (Alone setup limit) = codes "alone"
+word_of (Replay setup trail) = codes "replay"
 
 -- the options of a command are these
 abbrev pub HasOptions : ArgMatches → Command → Type 0
 HasOptions options (Alone setup limit) =
     (first_value (found_of options) (codes "setup") ≡ Some setup.now) × HasNumber options (codes "limit") limit
+HasOptions options (Replay setup trail) =
+    (first_value (found_of options) (codes "setup") ≡ Some setup.now) × (first_value (found_of options) (codes "trail") ≡ Some trail.now)
 
 -- a subcommand's word and what was found of its options are those of the command
 abbrev pub IsEntered : Option (List ℕ × List Row) → Command → Type 0

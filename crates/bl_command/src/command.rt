@@ -1,10 +1,10 @@
 //! The command line.
-ghost use Rattle.std.specs.Prelude.{◌≡◌, ◌≤◌, [], ◌∷◌, false, map, string_bytes, IfOk, IfErr, OnOk, IfSome};
+ghost use Rattle.std.specs.Prelude.{◌≡◌, ◌≤◌, [], ◌∷◌, false, map, option_copied, string_bytes, IfOk, IfErr, OnOk, IfSome};
 ghost use Rattle.clap.specs.Words.{kind_of, rule_of, app_of, HasKind};
 ghost use Rattle.clap.specs.declared.builder.command.Command.TheViews.{out-Command as fields_of};
-ghost use Rattle.bl_command.specs.CommandLine.{setup_rule, limit_rule, alone_app, server_app};
+ghost use Rattle.bl_command.specs.CommandLine.{setup_rule, limit_rule, trail_rule, alone_app, replay_app, server_app};
 ghost use Rattle.bl_command.specs.Status.{status_for, IsStatus};
-ghost use Rattle.bl_command.specs.Words.{IsInRange, HasNumber, IsOf, Name, faults_of, setup_of};
+ghost use Rattle.bl_command.specs.Words.{IsInRange, HasNumber, IsOf, Name, faults_of, setup_of, read_trail_of};
 
 use clap::error::ErrorKind;
 use clap::{Arg, ArgAction, ArgMatches, Command as Parser, Error, value_parser};
@@ -19,6 +19,13 @@ pub enum Command<'a> {
         setup: &'a str,
         /// The weight of the lines that are admitted at most, 1 to 100,000.
         limit: u32,
+    },
+    /// A replay of the trail of a run, over the setup that the run began with.
+    Replay {
+        /// The name of the setup file.
+        setup: &'a str,
+        /// The name of the trail file.
+        trail: &'a str,
     },
 }
 
@@ -48,6 +55,17 @@ fn limit_option<'a>(alloc: Global) -> Arg<'a>
         .help("The weight of the lines that are admitted, 1 to 100000")
 }
 
+fn trail_option<'a>(alloc: Global) -> Arg<'a>
+    ensures rule { rule_of result ≡ trail_rule }
+    ensures own { result.global ≡ false }
+{
+    Arg::new(alloc, "trail")
+        .long("trail")
+        .required(true)
+        .action(ArgAction::Set)
+        .help("The trail file")
+}
+
 fn alone_parser<'a>(alloc: Global) -> Result<Parser<'a>, AllocError>
     ensures app { IfOk result (λ parser. app_of parser ≡ alone_app) }
     ensures own { IfOk result (λ parser. (fields_of parser).has_globals ≡ false) }
@@ -58,6 +76,16 @@ fn alone_parser<'a>(alloc: Global) -> Result<Parser<'a>, AllocError>
         .arg(limit_option(alloc))
 }
 
+fn replay_parser<'a>(alloc: Global) -> Result<Parser<'a>, AllocError>
+    ensures app { IfOk result (λ parser. app_of parser ≡ replay_app) }
+    ensures own { IfOk result (λ parser. (fields_of parser).has_globals ≡ false) }
+{
+    Parser::new(alloc, "replay")
+        .about("The verdict on a trail")
+        .arg(setup_option(alloc))?
+        .arg(trail_option(alloc))
+}
+
 fn parser<'a>(alloc: Global) -> Result<Parser<'a>, AllocError>
     ensures { IfOk result (λ parser. app_of parser ≡ server_app) }
 {
@@ -65,7 +93,8 @@ fn parser<'a>(alloc: Global) -> Result<Parser<'a>, AllocError>
         .version("0.1.0")
         .about("A document server that enforces Bell and La Padula")
         .subcommand_required(true)
-        .subcommand(alone_parser(alloc)?)
+        .subcommand(alone_parser(alloc)?)?
+        .subcommand(replay_parser(alloc)?)
 }
 
 /// The number of an option, where it is 1 to `most`.
@@ -92,6 +121,11 @@ fn command_of<'a>(found: &ArgMatches<'a>) -> Option<Command<'a>>
             let limit = number(options, "limit", MOST_LIMIT)?;
             Some(Command::Alone { setup, limit })
         }
+        "replay" => {
+            let setup = options.get_str("setup")?;
+            let trail = options.get_str("trail")?;
+            Some(Command::Replay { setup, trail })
+        }
         _ => None,
     }
 }
@@ -102,7 +136,17 @@ impl<'a> Command<'a> {
         ensures { result.now ≡ setup_of self.now }
     {
         match self {
-            Command::Alone { setup, .. } => setup,
+            Command::Alone { setup, .. } | Command::Replay { setup, .. } => setup,
+        }
+    }
+
+    /// The name of the trail file that the command reads; `None` for a command that reads none.
+    pub fn read_trail(&self) -> Option<&'a str>
+        ensures { option_copied result ≡ read_trail_of self.now }
+    {
+        match self {
+            Command::Alone { .. } => None,
+            Command::Replay { trail, .. } => Some(trail),
         }
     }
 }

@@ -24,9 +24,13 @@ pub enum ProgramFault {
         /// The words for what is wrong with it.
         kind: &'static str,
     },
+    /// The trail file cannot be opened or read, or has more bytes than one may have.
+    CannotReadTrail,
+    /// The trail file cannot be written, or cannot be moved to its name.
+    CannotWriteTrail,
     /// The session's input failed.
     Read,
-    /// The session's output failed.
+    /// The output failed.
     Write,
     /// The session's input has more bytes than a session may read.
     TooLong,
@@ -44,6 +48,8 @@ impl fmt::Display for ProgramFault {
         match self {
             ProgramFault::Setup { line, kind } => write!(f, "setup {line}: {kind}"),
             ProgramFault::CannotReadSetup
+            | ProgramFault::CannotReadTrail
+            | ProgramFault::CannotWriteTrail
             | ProgramFault::Read
             | ProgramFault::Write
             | ProgramFault::TooLong
@@ -63,6 +69,8 @@ impl ProgramFault {
         match self {
             ProgramFault::CannotReadSetup => "cannot read setup",
             ProgramFault::Setup { kind, .. } => kind,
+            ProgramFault::CannotReadTrail => "cannot read trail",
+            ProgramFault::CannotWriteTrail => "cannot write trail",
             ProgramFault::Read => "read fault",
             ProgramFault::Write => "write fault",
             ProgramFault::TooLong => "too long",
@@ -79,6 +87,8 @@ impl ProgramFault {
             ProgramFault::NoMemory => 4,
             ProgramFault::CannotReadSetup
             | ProgramFault::Setup { .. }
+            | ProgramFault::CannotReadTrail
+            | ProgramFault::CannotWriteTrail
             | ProgramFault::Read
             | ProgramFault::Write
             | ProgramFault::TooLong => 3,
@@ -119,14 +129,14 @@ pub fn of_session(fault: SessionFault) -> ProgramFault
     }
 }
 
-/// What a failure to read the setup file is to the program.
-pub fn of_file(error: &io::Error) -> ProgramFault
+/// What a failure to read or to write a file is to the program: want of memory, or `other`.
+pub fn of_file(error: &io::Error, other: ProgramFault) -> ProgramFault
     ensures memory { error_kind error.now ≡ ErrorKind.OutOfMemory → result ≡ ProgramFault.NoMemory }
-    ensures other { error_kind error.now ≢ ErrorKind.OutOfMemory → result ≡ ProgramFault.CannotReadSetup }
+    ensures other { error_kind error.now ≢ ErrorKind.OutOfMemory → result ≡ other }
 {
     if error.kind() == ErrorKind::OutOfMemory {
         ProgramFault::NoMemory
     } else {
-        ProgramFault::CannotReadSetup
+        other
     }
 }

@@ -1,18 +1,22 @@
-//! What the program takes from the system: its words, its setup file and its ends.
-ghost use Rattle.std.specs.Prelude.{◌≡◌, ◌+◌, ◌<◌, ◌^◌, IfOk, IfSome, take};
+//! What the program takes from the system: its words, its files and its ends.
+ghost use Rattle.std.specs.Prelude.{◌≡◌, ◌≢◌, ◌+◌, ◌<◌, ◌≤◌, ◌^◌, Err, IfErr, IfOk, IfSome, Ok, length, take};
+ghost use Rattle.std.specs.IoError.{error_kind};
 ghost use Rattle.bl_command.specs.Status.{IsStatus};
 
-use crate::command::read_words;
+use crate::command::{Command, read_words};
 use crate::fault::{ProgramFault, of_file};
-use crate::run::{run_asked, run_unread, tell};
+use crate::run::{Files, run_asked, run_unread, tell};
 use bl_wire::watched::Watched;
 use std::alloc::Global;
-use std::io::{BufReader, BufWriter, Read, Write};
-use std::rt::{Env, Files};
+use std::io::{BufReader, BufWriter, ErrorKind, Read, Write};
+use std::rt::{Env, Files as OpensFiles};
 use std::{env, fs, io, str};
 
 /// How many bytes a setup file has at most.
 const MOST_SETUP: u64 = 16_777_216;
+
+/// How many bytes a trail file has at most.
+const MOST_TRAIL: u64 = 1_073_741_824;
 
 /// Standard error as a writer of texts.
 #[derive(Drop)]
@@ -52,18 +56,46 @@ pub fn read_most<F: Read + Drop>(alloc: Global, file: F, most: u64) -> io::Resul
     Ok(bytes)
 }
 
-/// The bytes of the setup file, and at most one more than it may have.
-fn read_file<R: AllocGlobal + Files>(rt: &R, path: &str) -> Result<Vec<u8>, ProgramFault> {
-    let bytes = match fs::open(rt, path) {
-        Ok(file) => read_most(rt.alloc(), file, MOST_SETUP),
-        Err(error) => Err(error),
-    };
-    bytes.map_err(|error| of_file(&error))
+/// The bytes of a file, and at most one more than `most` of them.
+fn read_file<R: AllocGlobal + OpensFiles>(rt: &R, path: &str, most: u64) -> io::Result<Vec<u8>>
+    requires { most < 2 ^ 32 }
+{
+    read_most(rt.alloc(), fs::open(rt, path)?, most)
 }
 
-/// A run of the program. The result is its status: 0 where all was done, or help or the version was asked for, 2
-/// for bad arguments, 3 for a fault of the setup or of the session, and 4 for want of memory.
-pub fn run<R: AllocGlobal + Env + Files + Print + Eprint + Input>(rt: &R) -> u8
+/// What was read of a trail file, of which a byte more than it may have was read where it has one: such a file is not read.
+pub fn read_within(bytes: io::Result<Vec<u8>>, most: u64) -> Result<Vec<u8>, ProgramFault>
+    ensures ok { IfOk result (λ trail. (bytes ≡ Ok trail) × (length trail.items ≤ most)) }
+    ensures long { IfOk bytes (λ all. most < length all.items → result ≡ Err ProgramFault.CannotReadTrail) }
+    ensures memory { IfErr bytes (λ error. error_kind error ≡ ErrorKind.OutOfMemory → result ≡ Err ProgramFault.NoMemory) }
+    ensures other { IfErr bytes (λ error. error_kind error ≢ ErrorKind.OutOfMemory → result ≡ Err ProgramFault.CannotReadTrail) }
+{
+    match bytes {
+        Ok(trail) if trail.len() as u64 <= most => Ok(trail),
+        Ok(_) => Err(ProgramFault::CannotReadTrail),
+        Err(error) => Err(of_file(&error, ProgramFault::CannotReadTrail)),
+    }
+}
+
+/// The files that a command reads, in the order in which their faults are told.
+fn read_files<R: AllocGlobal + OpensFiles>(
+    rt: &R,
+    command: &Command<'_>,
+) -> Result<Files, ProgramFault> {
+    let setup = match read_file(rt, command.setup(), MOST_SETUP) {
+        Ok(setup) => setup,
+        Err(error) => return Err(of_file(&error, ProgramFault::CannotReadSetup)),
+    };
+    let trail = match command.read_trail() {
+        Some(path) => read_within(read_file(rt, path, MOST_TRAIL), MOST_TRAIL)?,
+        None => Vec::new(rt.alloc()),
+    };
+    Ok(Files { setup, trail })
+}
+
+/// A run of the program. The result is its status: 0 where all was done, or help or the version was asked for, 1 for a trail
+/// that was rejected, 2 for bad arguments, 3 for a fault of the setup or of the session, and 4 for want of memory.
+pub fn run<R: AllocGlobal + Env + OpensFiles + Print + Eprint + Input>(rt: &R) -> u8
     ensures { IsStatus result }
 {
     let alloc = rt.alloc();
@@ -73,9 +105,12 @@ pub fn run<R: AllocGlobal + Env + Files + Print + Eprint + Input>(rt: &R) -> u8
         Err(error) => return run_unread(&error, &mut errors),
     };
     let asked = read_words(alloc, words.as_slice());
-    let setup = match &asked {
-        Ok(command) => read_file(rt, command.setup()),
-        Err(_) => Ok(Vec::new(alloc)),
+    let files = match &asked {
+        Ok(command) => read_files(rt, command),
+        Err(_) => Ok(Files {
+            setup: Vec::new(alloc),
+            trail: Vec::new(alloc),
+        }),
     };
     let Ok(reader) = BufReader::new(alloc, rt.reader()) else {
         return tell(&mut errors, &ProgramFault::NoMemory);
@@ -86,7 +121,7 @@ pub fn run<R: AllocGlobal + Env + Files + Print + Eprint + Input>(rt: &R) -> u8
     run_asked(
         alloc,
         asked,
-        setup,
+        files,
         &mut Watched::new(reader),
         &mut Watched::new(writer),
         &mut errors,

@@ -1,8 +1,8 @@
 //! What the program says, and the status that it ends with.
 use bl_command::command::read_words;
 use bl_command::fault::{ProgramFault, of_file, of_setup};
-use bl_command::run::{alone_on, run_asked, run_unread};
-use bl_command::shell::read_most;
+use bl_command::run::{Files, alone_on, replay_on, run_asked, run_unread};
+use bl_command::shell::{read_most, read_within};
 use bl_setup::fault::{SetupFault, SetupFaultKind};
 use bl_wire::watched::Watched;
 use std::alloc::Global;
@@ -113,6 +113,8 @@ fn names_a_fault_of_the_output(rt: HostRuntime) {
 fn tells_each_fault(rt: HostRuntime) -> Result<(), Fail> {
     let faults = [
         (ProgramFault::CannotReadSetup, "cannot read setup"),
+        (ProgramFault::CannotReadTrail, "cannot read trail"),
+        (ProgramFault::CannotWriteTrail, "cannot write trail"),
         (ProgramFault::Read, "read fault"),
         (ProgramFault::Write, "write fault"),
         (ProgramFault::TooLong, "too long"),
@@ -144,11 +146,19 @@ fn tells_each_fault_of_a_setup(rt: HostRuntime) -> Result<(), Fail> {
     Ok(())
 }
 
-/// A run of what these words ask, after this setup was read or could not be read.
+/// Files of these bytes.
+fn files(alloc: Global, setup: &[u8], trail: &[u8]) -> Result<Files, Fail> {
+    Ok(Files {
+        setup: Vec::from_slice(alloc, setup)?,
+        trail: Vec::from_slice(alloc, trail)?,
+    })
+}
+
+/// A run of what these words ask, after this setup and a trail were read, or could not be read.
 fn run_words(
     alloc: Global,
     text: &str,
-    setup: Result<Vec<u8>, ProgramFault>,
+    files: Result<Files, ProgramFault>,
     input: &'static [u8],
 ) -> Result<Ended, Fail> {
     let mut words = Vec::new(alloc);
@@ -159,7 +169,7 @@ fn run_words(
     let mut reader = Watched::new(input);
     let mut writer = Watched::new(Vec::new(alloc));
     let mut errors = Watched::new(Vec::new(alloc));
-    let status = run_asked(alloc, asked, setup, &mut reader, &mut writer, &mut errors);
+    let status = run_asked(alloc, asked, files, &mut reader, &mut writer, &mut errors);
     Ok(Ended {
         status,
         unread: reader.into_inner(),
@@ -182,8 +192,8 @@ fn serves_under_its_limit(rt: HostRuntime) -> Result<(), Fail> {
         ),
     ];
     for (words, output) in given {
-        let setup = Vec::from_slice(rt.alloc(), ONE_MEMO)?;
-        let ended = run_words(rt.alloc(), words, Ok(setup), TWO_READS)?;
+        let files = files(rt.alloc(), ONE_MEMO, b"")?;
+        let ended = run_words(rt.alloc(), words, Ok(files), TWO_READS)?;
         assert_eq!(rt; ended.status, 0);
         assert!(rt; ended.written.as_slice() == output.as_bytes());
         assert!(rt; ended.said.is_empty());
@@ -204,10 +214,15 @@ fn tells_bad_words(rt: HostRuntime) -> Result<(), Fail> {
         "bl_server alone --setup memo.txt --limit few",
         "bl_server alone --setup memo.txt --setup memo.txt",
         "bl_server alone --setup memo.txt --port 7",
+        "bl_server alone --setup memo.txt --trail trail.txt",
+        "bl_server replay",
+        "bl_server replay --setup memo.txt",
+        "bl_server replay --trail trail.txt",
+        "bl_server replay --setup memo.txt --trail trail.txt --limit 7",
     ];
     for words in given {
-        let setup = Vec::from_slice(rt.alloc(), ONE_MEMO)?;
-        let ended = run_words(rt.alloc(), words, Ok(setup), INPUT)?;
+        let files = files(rt.alloc(), ONE_MEMO, b"")?;
+        let ended = run_words(rt.alloc(), words, Ok(files), INPUT)?;
         assert_eq!(rt; ended.status, 2, "at {words}");
         assert!(rt; ended.unread == INPUT);
         assert!(rt; ended.written.is_empty());
@@ -222,9 +237,11 @@ fn shows_what_is_asked_for(rt: HostRuntime) -> Result<(), Fail> {
     for words in [
         "bl_server --help",
         "bl_server alone --help",
+        "bl_server replay --help",
         "bl_server --version",
     ] {
-        let ended = run_words(rt.alloc(), words, Ok(Vec::new(rt.alloc())), INPUT)?;
+        let files = files(rt.alloc(), b"", b"")?;
+        let ended = run_words(rt.alloc(), words, Ok(files), INPUT)?;
         assert_eq!(rt; ended.status, 0, "at {words}");
         assert!(rt; ended.unread == INPUT);
         assert!(rt; !ended.written.is_empty());
@@ -240,7 +257,7 @@ fn tells_a_setup_that_cannot_be_read(rt: HostRuntime) -> Result<(), Fail> {
         (io::ErrorKind::OutOfMemory, 4, "no memory\n"),
     ];
     for (kind, status, said) in faults {
-        let fault = of_file(&io::Error::from(kind));
+        let fault = of_file(&io::Error::from(kind), ProgramFault::CannotReadSetup);
         let words = "bl_server alone --setup memo.txt";
         let ended = run_words(rt.alloc(), words, Err(fault), INPUT)?;
         assert_eq!(rt; ended.status, status);
@@ -275,4 +292,84 @@ fn ends_where_words_cannot_be_read(rt: HostRuntime) {
         assert_eq!(rt; run_unread(&io::Error::from(kind), &mut errors), status);
         assert!(rt; errors.into_inner().as_slice() == said.as_bytes());
     }
+}
+
+/// The trail of one read of the memo.
+const ONE_READ: &str = "trail 1\nlimit 10000\nopen ann\nline 0 1 when read memo do show memo;end\n\
+    start 0 run\nend 0 done \"m1\"\nstop\n";
+
+/// A replay reads nothing, and tells its verdict alone.
+#[test]
+fn tells_verdicts(rt: HostRuntime) -> Result<(), Fail> {
+    let changed = "trail 1\nlimit 10000\nopen ann\nline 0 1 when read memo do show memo;end\n\
+    start 0 run\nend 0 done \"m2\"\nstop\n";
+    let given = [
+        (ONE_READ, 0, "accepted 4\n"),
+        ("trail 1\nlimit 10000\nstop\n", 0, "accepted 0\n"),
+        (changed, 1, "rejected 6\n"),
+        ("", 1, "rejected 1\n"),
+    ];
+    for (trail, status, told) in given {
+        let files = files(rt.alloc(), ONE_MEMO, trail.as_bytes())?;
+        let words = "bl_server replay --setup memo.txt --trail trail.txt";
+        let ended = run_words(rt.alloc(), words, Ok(files), INPUT)?;
+        assert_eq!(rt; ended.status, status, "at {trail}");
+        assert!(rt; ended.unread == INPUT);
+        assert!(rt; ended.written.as_slice() == told.as_bytes(), "at {trail}");
+        assert!(rt; ended.said.is_empty());
+    }
+    Ok(())
+}
+
+/// A fault of the setup comes before the verdict, and is told on standard error alone.
+#[test]
+fn tells_the_setups_fault_and_no_verdict(rt: HostRuntime) -> Result<(), Fail> {
+    let files = files(rt.alloc(), b"rank u\n", b"")?;
+    let words = "bl_server replay --setup memo.txt --trail trail.txt";
+    let ended = run_words(rt.alloc(), words, Ok(files), INPUT)?;
+    assert_eq!(rt; ended.status, 3);
+    assert!(rt; ended.written.is_empty());
+    assert!(rt; ended.said.as_slice() == b"setup 1: syntax\n".as_slice());
+    Ok(())
+}
+
+#[test]
+fn tells_a_trail_that_cannot_be_read(rt: HostRuntime) -> Result<(), Fail> {
+    let given = [
+        (io::ErrorKind::NotFound, 3, "cannot read trail\n"),
+        (io::ErrorKind::OutOfMemory, 4, "no memory\n"),
+    ];
+    for (kind, status, said) in given {
+        let Err(fault) = read_within(Err(io::Error::from(kind)), 7) else {
+            return Err(Fail::new("read"));
+        };
+        let words = "bl_server replay --setup memo.txt --trail trail.txt";
+        let ended = run_words(rt.alloc(), words, Err(fault), INPUT)?;
+        assert_eq!(rt; ended.status, status);
+        assert!(rt; ended.written.is_empty());
+        assert!(rt; ended.said.as_slice() == said.as_bytes());
+    }
+    Ok(())
+}
+
+/// A trail of one byte too many is not read.
+#[test]
+fn reads_a_trail_up_to_its_limit(rt: HostRuntime) -> Result<(), Fail> {
+    let alloc = rt.alloc();
+    let whole = read_most(alloc, b"trail 1\n".as_slice(), 8);
+    assert!(rt; read_within(whole, 8).is_ok());
+    let longer = read_most(alloc, b"trail 1\n".as_slice(), 7);
+    assert_eq!(rt; read_within(longer, 7), Err(ProgramFault::CannotReadTrail));
+    Ok(())
+}
+
+#[test]
+fn tells_a_fault_of_the_output_of_a_replay(rt: HostRuntime) {
+    let alloc = rt.alloc();
+    let mut writer = Watched::new(TakesNothing {});
+    let mut errors = Watched::new(Vec::new(alloc));
+    let trail = ONE_READ.as_bytes();
+    let status = replay_on(alloc, ONE_MEMO, trail, &mut writer, &mut errors);
+    assert_eq!(rt; status, 3);
+    assert!(rt; errors.into_inner().as_slice() == b"write fault\n".as_slice());
 }

@@ -17,7 +17,7 @@ fn name_alone(alloc: Global, text: &str, most: u32) -> Result<bool, Fail> {
     let given = words(alloc, text)?;
     Ok(match read_words(alloc, given.as_slice()) {
         Ok(Command::Alone { setup, limit }) => setup == "base.txt" && limit == most,
-        Err(_) => false,
+        Ok(Command::Replay { .. }) | Err(_) => false,
     })
 }
 
@@ -105,6 +105,24 @@ fn tells_its_version(rt: HostRuntime) -> Result<(), Fail> {
             "at {text}"
         );
         assert!(rt; said_without_a_command(rt.alloc(), text)?.as_str() == "bl_server 0.1.0\n");
+    }
+    Ok(())
+}
+
+#[test]
+fn reads_replay(rt: HostRuntime) -> Result<(), Fail> {
+    for text in [
+        "bl_server replay --setup base.txt --trail run.trail",
+        "bl_server replay --trail run.trail --setup base.txt",
+    ] {
+        let given = words(rt.alloc(), text)?;
+        let read = match read_words(rt.alloc(), given.as_slice()) {
+            Ok(command) => {
+                command.setup() == "base.txt" && command.read_trail() == Some("run.trail")
+            }
+            Err(_) => false,
+        };
+        assert!(rt; read, "at {text}");
     }
     Ok(())
 }

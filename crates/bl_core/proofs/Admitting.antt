@@ -15,19 +15,18 @@ use Rattle.bl_order.specs.Room.{IsBehaviourOrRule}
 use Rattle.bl_order.specs.Order.{Entry, Task, accesses_of, is_altered}
 use Rattle.bl_order.specs.Order as orders
 use Rattle.bl_order.specs.Past.{Past, no_entry, subject_of, task_of, earlier, first_task, child_task}
-use Rattle.bl_order.specs.Machine.{State, Session, Opens, Admits, Needs, change, past_at, runs, is_lost, is_running, session_at, no_session, entry_weight, weight_of, is_over, Waiting}
+use Rattle.bl_order.specs.Machine.{State, Session, Opens, Admits, Needs, change, past_at, runs, is_lost, is_running, session_at, no_session, entry_weight, weight_of, Waiting}
 use Rattle.bl_order.proofs.Sound.{IsSound}
 use Rattle.bl_order.proofs.Reached.{sound-reached, reached-next}
 use Rattle.bl_order.proofs.Trails.{within, past-admitted, phases-admitted}
 use Rattle.bl_order.proofs.Present.{policy_now-admitted, content_now-admitted}
-use Rattle.bl_core.specs.Places.{no_place, place_in, work_of, work_in, entry_of, phase_of, HasBehaviour}
-use Rattle.bl_core.specs.Queueing.{MayEnter, QueuesTell, stand_for}
+use Rattle.bl_place.specs.Places.{no_place, place_in, work_of, work_in, entry_of, phase_of, HasBehaviour}
+use Rattle.bl_place.specs.Queueing.{MayEnter, QueuesTell, stand_for}
 use Rattle.bl_core.specs.View.{state_of}
 use Rattle.bl_core.specs.Keeps.{Keeps, Tells, IsAway, AreShelved}
-use Rattle.bl_core.specs.declared.place.Place.{Place}
-use Rattle.bl_core.specs.declared.place.Descent.TheVariants.{Line}
-use Rattle.bl_core.specs.declared.place.Stand.{Stand}
-use Rattle.bl_core.specs.declared.place.Stand.TheVariants as stands
+use Rattle.bl_place.specs.declared.place.Place.{Place}
+use Rattle.bl_place.specs.declared.place.Descent.TheVariants.{Line}
+use Rattle.bl_place.specs.declared.place.Stand.TheVariants as stands
 use Rattle.bl_work.specs.declared.work.Work.TheVariants as works
 use Rattle.bl_core.specs.declared.session.Session.{Session as Row}
 use Rattle.bl_core.specs.declared.machine.Core.TheInside.{Inside}

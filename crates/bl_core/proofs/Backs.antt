@@ -1,5 +1,5 @@
 -- What comes back when a place ends.
-use Rattle.std.proofs.Common.{◌≡◌, ℕ, zero, suc, ◌<◌, ◌⊎◌, inl, inr, Bool, true, false, cond, ◌&&◌, ◌||◌, List, [], ◌∷◌, ◌++◌, length, get_or, set, refl, ap, sym, ◌∙◌, subst, arith, length-set, get_or-set_same, get_or-set_other, true≢false}
+use Rattle.std.proofs.Common.{◌≡◌, ℕ, zero, suc, ◌<◌, ◌⊎◌, inl, inr, Bool, true, false, cond, ◌&&◌, ◌||◌, List, [], ◌∷◌, length, get_or, set, refl, ap, sym, ◌∙◌, subst, arith, length-set, get_or-set_same, get_or-set_other, true≢false}
 use mathlib.Core.Path.{fun_ext}
 use Rattle.std.specs.Prelude.{map, ◌==◌, All, Option, Some, None}
 use Rattle.std.proofs.lemmas.Bool.Decides.{eqb_tells}
@@ -18,33 +18,10 @@ use Rattle.bl_order.specs.Machine.{State, past_at, is_lost}
 use Rattle.bl_order.specs.Now.{content_at, policy_at}
 use Rattle.bl_eval.specs.Loan.{backs, input_at, effects_on}
 use Rattle.bl_core.specs.Answers.{loan_of, loan_at}
-use Rattle.bl_core.specs.Shelves.{new_shelf, shelf_in, put_one, put_back}
-use Rattle.bl_core.specs.declared.shelf.Shelf.{Shelf}
+use Rattle.bl_place.specs.Shelves.{new_shelf, shelf_in, put_one, put_back}
+use Rattle.bl_place.specs.declared.shelf.Shelf.{Shelf}
 
 -- ---- the shelves
-
-pub put_back-last : (s : List Shelf) (xs : List Back) (b : Back) → put_back s (xs ++ b ∷ []) ≡ put_back (put_one s b) xs
-put_back-last s [] b = refl
-put_back-last s (x ∷ xs) b = ap (λ t. put_one t x) (put_back-last s xs b)
-
-module _ (s : List Shelf) (xs ys : List Back) (t : List Shelf) (b : Back) (a : Access) (content : List ℕ)
-    (popped : xs ≡ ys ++ b ∷ []) (for : a ≡ b.access) (was : put_back s xs ≡ t) where
-  last : put_back (put_one s b) ys ≡ t
-  last = sym (put_back-last s ys b) ∙ ap (put_back s) (sym popped) ∙ was
-
-  -- the last one is put on its shelf
-  pub put-taken : content ≡ b.content → is_exclusive a.mode ≡ true → put_back (set s a.doc (new_shelf content)) ys ≡ t
-  put-taken held alone =
-      ap (λ (c : List ℕ). put_back (set s a.doc (new_shelf c)) ys) held
-      ∙ ap (λ (e : Access). put_back (set s e.doc (new_shelf b.content)) ys) for
-      ∙ ap (λ (v : Bool). put_back (cond v (set s b.access.doc (new_shelf b.content)) s) ys) (sym alone ∙ ap (λ (e : Access). is_exclusive e.mode) for)
-      ∙ last
-
-  -- one that was lent for reading changes nothing
-  pub put-read : is_exclusive a.mode ≡ false → put_back s ys ≡ t
-  put-read shared =
-      ap (λ (v : Bool). put_back (cond v (set s b.access.doc (new_shelf b.content)) s) ys) (sym shared ∙ ap (λ (e : Access). is_exclusive e.mode) for)
-      ∙ last
 
 length-put_one : (h : List Shelf) (b : Back) → length (put_one h b) ≡ length h
 length-put_one h b = go (is_exclusive b.access.mode)

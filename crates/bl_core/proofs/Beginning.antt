@@ -7,14 +7,14 @@ use Rattle.bl_policy.specs.Policy.{SecurityPolicy}
 use Rattle.bl_setup.specs.Agreement.{Agree}
 use Rattle.bl_order.specs.Machine.{State, start, most_sessions}
 use Rattle.bl_order.proofs.Reached.{reached-first}
-use Rattle.bl_core.specs.Places.{entry_of, phase_of}
-use Rattle.bl_core.specs.Shelves.{new_shelf, shelf_in}
+use Rattle.bl_place.specs.Places.{entry_of, phase_of}
+use Rattle.bl_place.specs.Shelves.{new_shelf, shelf_in}
 use Rattle.bl_queue.specs.Queues.{Queue}
 use Rattle.bl_core.specs.View.{state_of}
 use Rattle.bl_core.specs.Keeps.{Keeps, KeepsAt, AreShelved}
-use Rattle.bl_core.specs.declared.place.Place.{Place}
+use Rattle.bl_place.specs.declared.place.Place.{Place}
 use Rattle.bl_core.specs.declared.session.Session.{Session}
-use Rattle.bl_core.specs.declared.shelf.Shelf.{Shelf}
+use Rattle.bl_place.specs.declared.shelf.Shelf.{Shelf}
 use Rattle.bl_core.specs.declared.machine.Core.TheInside.{Inside}
 
 pub record Begun (d : Inside) : Type 0 where

@@ -6,14 +6,14 @@ use Rattle.bl_work.specs.declared.answer.Answer.{Answer}
 use Rattle.bl_work.specs.declared.answer.Answer.TheVariants as answers
 use Rattle.bl_order.specs.Past.{is_done, changed}
 use Rattle.bl_order.specs.Machine.{Running, Ended, MayStart, Starts, Loses, change, past_at}
-use Rattle.bl_core.specs.Places.{place_in, phase_of}
-use Rattle.bl_core.specs.Queueing.{QueuesTell}
+use Rattle.bl_place.specs.Places.{place_in, phase_of}
+use Rattle.bl_place.specs.Queueing.{QueuesTell}
 use Rattle.bl_queue.specs.Queues.{Queue, with_stand}
 use Rattle.bl_queue.specs.declared.entry.Stand.TheVariants as queues
 use Rattle.bl_core.specs.View.{state_of}
 use Rattle.bl_core.specs.Keeps.{Keeps}
-use Rattle.bl_core.specs.declared.place.Place.{Place}
-use Rattle.bl_core.specs.declared.place.Stand.TheVariants as stands
+use Rattle.bl_place.specs.declared.place.Place.{Place}
+use Rattle.bl_place.specs.declared.place.Stand.TheVariants as stands
 use Rattle.bl_core.specs.declared.machine.Core.TheInside.{Inside}
 use Rattle.bl_core.proofs.Grown.{Same}
 use Rattle.bl_core.proofs.Views.{ended_of}

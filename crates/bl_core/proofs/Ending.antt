@@ -20,13 +20,13 @@ use Rattle.bl_order.proofs.Places.{at_place-earlier}
 use Rattle.bl_order.proofs.Reached.{sound-reached, reached-next}
 use Rattle.bl_order.proofs.Steps.{length-child_entries, running_is_not_over}
 use Rattle.bl_order.proofs.Trails.{past-ended, within}
-use Rattle.bl_core.specs.Places.{no_place, place_in, entry_of, phase_of, work_of, work_in, task_in, child_places, HasBehaviour}
-use Rattle.bl_core.specs.Queueing.{MayEnter, stand_for}
+use Rattle.bl_place.specs.Places.{no_place, place_in, entry_of, phase_of, work_of, work_in, task_in, child_places, HasBehaviour}
+use Rattle.bl_place.specs.Queueing.{MayEnter, stand_for}
 use Rattle.bl_core.specs.View.{state_of}
 use Rattle.bl_core.specs.Keeps.{Keeps, Tells}
-use Rattle.bl_core.specs.declared.place.Place.{Place}
-use Rattle.bl_core.specs.declared.place.Descent.TheVariants.{Child}
-use Rattle.bl_core.specs.declared.place.Stand.TheVariants as stands
+use Rattle.bl_place.specs.declared.place.Place.{Place}
+use Rattle.bl_place.specs.declared.place.Descent.TheVariants.{Child}
+use Rattle.bl_place.specs.declared.place.Stand.TheVariants as stands
 use Rattle.bl_core.specs.declared.session.Session.{Session}
 use Rattle.bl_core.specs.declared.machine.Core.TheInside.{Inside}
 use Rattle.bl_core.proofs.Queueing.{claims-right}

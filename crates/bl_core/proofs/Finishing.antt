@@ -24,16 +24,16 @@ use Rattle.bl_order.proofs.Steps.{Moves, equal_self, running_is_not_over, length
 use Rattle.bl_order.proofs.Trails.{within, moves-end, moves-lost, past-ended}
 use Rattle.bl_order.proofs.Present.{moves_on-reached, lost-answer, rule_never_runs, policy_now-ended, policy_now-lost}
 use Rattle.bl_core.specs.Answers.{loan_at, script_of, index_of}
-use Rattle.bl_core.specs.Places.{no_place, place_in, child_places, phase_of}
-use Rattle.bl_core.specs.Shelves.{new_shelf, shelf_in, put_back}
+use Rattle.bl_place.specs.Places.{no_place, place_in, child_places, phase_of}
+use Rattle.bl_place.specs.Shelves.{new_shelf, shelf_in, put_back}
 use Rattle.bl_queue.specs.Queues.{Queue, with_stand}
 use Rattle.bl_queue.specs.declared.entry.Stand.TheVariants as queues
-use Rattle.bl_core.specs.Queueing.{MayEnter, QueuesTell}
+use Rattle.bl_place.specs.Queueing.{MayEnter, QueuesTell}
 use Rattle.bl_core.specs.View.{state_of}
 use Rattle.bl_core.specs.Keeps.{Keeps, Tells, AreShelved}
-use Rattle.bl_core.specs.declared.place.Place.{Place}
-use Rattle.bl_core.specs.declared.place.Stand.TheVariants as stands
-use Rattle.bl_core.specs.declared.shelf.Shelf.{Shelf}
+use Rattle.bl_place.specs.declared.place.Place.{Place}
+use Rattle.bl_place.specs.declared.place.Stand.TheVariants as stands
+use Rattle.bl_place.specs.declared.shelf.Shelf.{Shelf}
 use Rattle.bl_core.specs.declared.machine.Core.TheInside.{Inside}
 use Rattle.bl_core.proofs.Grown.{Same, grows-set, grows-append, grows-both}
 use Rattle.bl_core.proofs.Views.{length-order, phase-read, ended_of}

@@ -6,10 +6,10 @@ use Rattle.bl_work.specs.declared.work.Work.{Work}
 use Rattle.bl_setup.specs.Setup.{Setup}
 use Rattle.bl_order.specs.Known.{KnowsWork}
 use Rattle.bl_order.specs.Past.{Past, first_task, child_task}
-use Rattle.bl_core.specs.Places.{no_place, place_in, work_of, work_in, task_in, HasBehaviour}
+use Rattle.bl_place.specs.Places.{no_place, place_in, work_of, work_in, task_in, HasBehaviour}
 use Rattle.bl_core.specs.Keeps.{Tells}
-use Rattle.bl_core.specs.declared.place.Place.{Place}
-use Rattle.bl_core.specs.declared.place.Stand.TheVariants.{Ended}
+use Rattle.bl_place.specs.declared.place.Place.{Place}
+use Rattle.bl_place.specs.declared.place.Stand.TheVariants.{Ended}
 
 -- they differ in where they stand alone
 pub record Same (s t : Place) : Type 0 where

@@ -7,19 +7,18 @@ use Rattle.bl_policy.specs.declared.access.Mode.{Mode}
 use Rattle.bl_order.specs.Headline.{IsReached}
 use Rattle.bl_order.specs.Order.{Task, Runs, Applies, accesses_of, is_rule}
 use Rattle.bl_order.specs.Room.{IsBehaviourOrRule}
-use Rattle.bl_order.specs.Past.{Past}
-use Rattle.bl_order.specs.Machine.{Hold, State, held, held_below, is_running, past_at, runs}
+use Rattle.bl_order.specs.Machine.{State, held, held_below, is_running, past_at, runs}
 use Rattle.bl_order.proofs.Reached.{sound-reached}
 use Rattle.bl_order.proofs.Present.{rule_never_runs}
 use Rattle.bl_work.specs.Script.{IsBehaviour}
-use Rattle.bl_work.specs.Statements.{Part, no_part}
+use Rattle.bl_work.specs.Statements.{no_part}
 use Rattle.std.proofs.lemmas.List.Elements.{All-get_or}
 use Rattle.bl_core.specs.HeldItems.{item_of, items_by, items_at, items_from, items_left, AreBehaviours}
 use Rattle.bl_core.specs.declared.held.Held.TheInside.{Inside as Left}
-use Rattle.bl_core.specs.Places.{place_in, phase_of, task_in, HasTask}
+use Rattle.bl_place.specs.Places.{place_in, phase_of, task_in}
 use Rattle.bl_core.specs.Keeps.{Keeps}
 use Rattle.bl_core.specs.View.{state_of}
-use Rattle.bl_core.specs.declared.place.Place.{Place}
+use Rattle.bl_place.specs.declared.place.Place.{Place}
 use Rattle.bl_core.specs.declared.machine.Core.TheInside.{Inside}
 use Rattle.bl_core.proofs.Views.{length-order, phase-read}
 

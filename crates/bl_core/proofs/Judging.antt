@@ -10,10 +10,10 @@ use Rattle.bl_work.specs.declared.answer.Answer.TheVariants as answers
 use Rattle.bl_order.specs.Order.{Task, Runs, Applies, accesses_of, is_rule}
 use Rattle.bl_order.specs.Past.{is_done, fault_of_task}
 use Rattle.bl_order.specs.Machine.{MayStart, past_at}
-use Rattle.bl_core.specs.Places.{no_place, task_in}
+use Rattle.bl_place.specs.Places.{no_place, task_in}
 use Rattle.bl_core.specs.View.{state_of}
 use Rattle.bl_core.specs.Keeps.{Keeps}
-use Rattle.bl_core.specs.declared.place.Place.{Place}
+use Rattle.bl_place.specs.declared.place.Place.{Place}
 use Rattle.bl_core.specs.declared.machine.Core.TheInside.{Inside}
 use Rattle.bl_core.proofs.Starting.{there-may, denied-by, done-by}
 

@@ -19,12 +19,12 @@ use Rattle.bl_core.specs.Answers.{loan_of, loan_at, script_of, index_of}
 use Rattle.bl_order.specs.Past.{first_task, child_task}
 use Rattle.bl_work.specs.declared.work.Work.{Work}
 use Rattle.bl_work.specs.declared.work.Work.TheVariants as works
-use Rattle.bl_core.specs.Places.{no_place, place_in, work_in, task_in}
-use Rattle.bl_core.specs.declared.place.Place.{Place}
-use Rattle.bl_core.specs.Shelves.{content_in}
+use Rattle.bl_place.specs.Places.{no_place, place_in, work_in, task_in}
+use Rattle.bl_place.specs.declared.place.Place.{Place}
+use Rattle.bl_place.specs.Shelves.{content_in}
 use Rattle.bl_core.specs.View.{state_of}
 use Rattle.bl_core.specs.Keeps.{Keeps}
-use Rattle.bl_core.specs.declared.shelf.Shelf.{Shelf}
+use Rattle.bl_place.specs.declared.shelf.Shelf.{Shelf}
 use Rattle.bl_core.specs.declared.machine.Core.TheInside.{Inside}
 use Rattle.bl_core.proofs.Reading.{shelves-declared, start_there}
 

@@ -15,8 +15,8 @@ pub mod Finishing
 pub mod Lent
 pub mod Beginning
 pub mod Judging
-pub mod Inputs
 pub mod Owning
 pub mod Looking
 pub mod Queueing
 pub mod HeldLaws
+pub mod HeldQueues

@@ -13,11 +13,11 @@ use Rattle.bl_order.specs.Machine.{State, is_lost, past_at}
 use Rattle.bl_order.specs.Now.{content_at, policy_at}
 use Rattle.bl_order.proofs.KnownAnswers.{answer_known, denial_known}
 use Rattle.bl_core.specs.Keeps.{Keeps, Tells}
-use Rattle.bl_core.specs.Places.{entry_by, entry_of, place_in, work_in, HasBehaviour}
+use Rattle.bl_place.specs.Places.{entry_by, entry_of, place_in, work_in, HasBehaviour}
 use Rattle.bl_core.specs.View.{state_of}
-use Rattle.bl_core.specs.declared.place.Descent.{Descent}
-use Rattle.bl_core.specs.declared.place.Descent.TheVariants.{Line}
-use Rattle.bl_core.specs.declared.place.Place.{Place}
+use Rattle.bl_place.specs.declared.place.Descent.{Descent}
+use Rattle.bl_place.specs.declared.place.Descent.TheVariants.{Line}
+use Rattle.bl_place.specs.declared.place.Place.{Place}
 use Rattle.bl_core.specs.declared.machine.Core.TheInside.{Inside}
 use Rattle.bl_core.proofs.Reading.{accesses-known}
 use Rattle.bl_core.proofs.Views.{length-order}

@@ -13,11 +13,11 @@ use Rattle.bl_order.proofs.Reached.{sound-reached, reached-next}
 use Rattle.bl_order.proofs.Steps.{past-alike, running_is_not_over, waiting_is_not_over}
 use Rattle.bl_order.proofs.Trails.{past-step, past-admitted, past-started, past-ended, within}
 use Rattle.bl_order.proofs.Frame.{IsAlike}
-use Rattle.bl_core.specs.Places.{place_in}
-use Rattle.bl_core.specs.Queueing.{QueuesTell}
+use Rattle.bl_place.specs.Places.{place_in}
+use Rattle.bl_place.specs.Queueing.{QueuesTell}
 use Rattle.bl_core.specs.View.{state_of}
 use Rattle.bl_core.specs.Keeps.{Keeps, KeepsAt, Tells, AreShelved}
-use Rattle.bl_core.specs.declared.place.Stand.TheVariants.{Ended}
+use Rattle.bl_place.specs.declared.place.Stand.TheVariants.{Ended}
 use Rattle.bl_core.specs.declared.session.Session.{Session}
 use Rattle.bl_core.specs.declared.machine.Core.TheInside.{Inside}
 use Rattle.bl_core.proofs.Grown.{Grows, tells-grown}

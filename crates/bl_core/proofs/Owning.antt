@@ -16,12 +16,12 @@ use Rattle.bl_order.proofs.HeadlineProof.{holds-reached}
 use Rattle.bl_order.proofs.Reached.{sound-reached}
 use Rattle.bl_order.proofs.Trails.{within}
 use Rattle.bl_core.specs.Answers.{IsLentBy, index_of, loan_at, loan_of, script_of}
-use Rattle.bl_core.specs.Places.{HasBehaviour, no_place, place_in, task_in, work_in}
-use Rattle.bl_core.specs.Shelves.{content_in, contents_in}
+use Rattle.bl_place.specs.Places.{HasBehaviour, no_place, place_in, task_in, work_in}
+use Rattle.bl_place.specs.Shelves.{content_in, contents_in}
 use Rattle.bl_core.specs.View.{state_of}
 use Rattle.bl_core.specs.Keeps.{Keeps}
-use Rattle.bl_core.specs.declared.place.Place.{Place}
-use Rattle.bl_core.specs.declared.shelf.Shelf.{Shelf}
+use Rattle.bl_place.specs.declared.place.Place.{Place}
+use Rattle.bl_place.specs.declared.shelf.Shelf.{Shelf}
 use Rattle.bl_core.specs.declared.machine.Core.TheInside.{Inside}
 use Rattle.bl_core.proofs.Reading.{shelves-declared}
 use Rattle.bl_core.proofs.Lending.{declared-member, map-same, task-runs}

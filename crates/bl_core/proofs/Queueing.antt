@@ -1,17 +1,13 @@
 -- The queues tell of the places, through each change of these.
-use Rattle.std.proofs.Common.{◌≡◌, ◌≢◌, ℕ, ◌+◌, ◌<◌, ◌≤◌, ◌⊎◌, inl, inr, Bool, true, false, ◌||◌, List, [], ◌∷◌, ◌++◌, length, length-append, get_or, set, refl, ap, sym, ◌∙◌, subst, arith, length-set, get_or-set_same, get_or-set_other, true≢false}
-use Rattle.std.specs.Prelude.{All, AllPairs, map}
+use Rattle.std.proofs.Common.{◌≡◌, ◌≢◌, ℕ, ◌+◌, ◌<◌, ◌⊎◌, inl, inr, Bool, true, false, ◌||◌, List, [], ◌∷◌, length, get_or, set, refl, ap, sym, ◌∙◌, subst, arith, length-set, get_or-set_same, get_or-set_other, true≢false}
+use Rattle.std.specs.Prelude.{map}
 use Rattle.std.specs.List.{list_any}
-use Rattle.std.proofs.Math.ListN.{get_or-append}
-use Rattle.std.proofs.Math.Seq.{get_or-append_seam}
 use Rattle.std.proofs.lemmas.List.{length-map, get_or-map}
 use Rattle.std.proofs.lemmas.List.Elements.{All-map}
-use Rattle.bl_policy.specs.declared.access.Access.{Access}
-use Rattle.bl_work.specs.declared.answer.Answer.{Answer}
 use Rattle.bl_work.specs.declared.answer.Answer.TheVariants as answers
 use Rattle.bl_setup.specs.Setup.{Setup}
-use Rattle.bl_order.specs.Claims.{NumberedClaim, numbered, numbered_claims, numbers_exclude, AreFewAndApart}
-use Rattle.bl_order.specs.Order.{Task, Runs, Applies, accesses_of, conflict, document_claims, is_rule}
+use Rattle.bl_order.specs.Claims.{NumberedClaim, numbered_claims, numbers_exclude, AreFewAndApart}
+use Rattle.bl_order.specs.Order.{Task, Runs, Applies, conflict, is_rule}
 use Rattle.bl_order.specs.Past.{Past}
 use Rattle.bl_order.specs.Machine.{MayStart, past_at, phase_at, runs, is_waiting, is_running, is_over}
 use Rattle.bl_order.specs.Room.{IsBehaviourOrRule}
@@ -20,19 +16,17 @@ use Rattle.bl_queue.specs.Claims.{AreClaims, excludes}
 use Rattle.bl_queue.specs.Claims as queues
 use Rattle.bl_queue.specs.Entries.{Entry, no_entry, entry_at, entered, standing, is_started, is_ended}
 use Rattle.bl_queue.specs.Entries as entries
-use Rattle.bl_queue.specs.Queues.{Queue, with_entry, with_stand}
+use Rattle.bl_queue.specs.Queues.{Queue, with_stand}
 use Rattle.bl_queue.specs.declared.claim.Claim.{Claim}
-use Rattle.bl_queue.specs.declared.entry.Stand.TheVariants as stands
-use Rattle.bl_core.specs.Places.{no_place, place_in, phase_of, work_in, task_in}
-use Rattle.bl_core.specs.Queueing.{claims_for, document_claim, behaviour_claims, policy_claim, stand_for, queued_at, QueuesTell}
+use Rattle.bl_place.specs.Places.{no_place, place_in, phase_of, work_in, task_in}
+use Rattle.bl_place.specs.Queueing.{claims_for, policy_claim, stand_for, queued_at, QueuesTell}
 use Rattle.bl_core.specs.View.{state_of}
 use Rattle.bl_core.specs.Keeps.{Keeps, Tells}
-use Rattle.bl_core.specs.declared.place.Place.{Place}
-use Rattle.bl_core.specs.declared.place.Stand.{Stand}
-use Rattle.bl_core.specs.declared.place.Stand.TheVariants.{Waiting, Running, Ended}
+use Rattle.bl_place.specs.declared.place.Place.{Place}
+use Rattle.bl_place.specs.declared.place.Stand.{Stand}
+use Rattle.bl_place.specs.declared.place.Stand.TheVariants.{Waiting, Running, Ended}
 use Rattle.bl_core.specs.declared.machine.Core.TheInside.{Inside}
 use Rattle.bl_core.proofs.Grown.{Grows, grows-set, task_in-grown, equal_or_not}
-use Rattle.bl_core.proofs.Looking.{task-known}
 use Rattle.bl_core.proofs.Reading.{accesses-known}
 use Rattle.bl_core.proofs.Views.{length-order, phase-read}
 use Rattle.bl_core.proofs.Written.{stands_at, same-read}
@@ -47,7 +41,7 @@ waits-for (Ended answers.RuleDone) = refl
 waits-for (Ended (answers.Denied denial)) = refl
 waits-for (Ended answers.Lost) = refl
 
-runs-for : (s : Stand) → is_started (stand_for s) ≡ is_running (phase_of s)
+pub runs-for : (s : Stand) → is_started (stand_for s) ≡ is_running (phase_of s)
 runs-for Waiting = refl
 runs-for Running = refl
 runs-for (Ended (answers.Done outputs)) = refl
@@ -79,15 +73,6 @@ conflict-for earlier later =
     any-along as_claim (λ a. list_any (λ b. excludes a b) (claims_for later)) (λ a. list_any (λ b. numbers_exclude a b) (numbered_claims later)) (numbered_claims earlier)
     (λ a. any-along as_claim (λ b. excludes (as_claim a) b) (λ b. numbers_exclude a b) (numbered_claims later) (λ b. refl))
     ∙ sym (conflict-numbered earlier later)
-
-documents-for : (accesses : List Access) → map as_claim (map numbered (document_claims accesses)) ≡ map document_claim accesses
-documents-for [] = refl
-documents-for (access ∷ accesses) = ap (λ l. document_claim access ∷ l) (documents-for accesses)
-
--- the claims of a behaviour are those of what it declares
-pub claims-runs : (task : Task) (accesses : List Access) → accesses ≡ accesses_of task → is_rule task ≡ false → claims_for task ≡ behaviour_claims accesses
-claims-runs (Runs script index) accesses is behaviour = ap (λ l. record { cown = 0; shared = true } ∷ l) (documents-for (accesses_of (Runs script index))) ∙ ap behaviour_claims (sym is)
-claims-runs (Applies rule) accesses is behaviour = absurd (true≢false behaviour)
 
 -- a rule has the policy alone
 pub claims-rule : (task : Task) → is_rule task ≡ true → claims_for task ≡ policy_claim false ∷ []
@@ -235,22 +220,3 @@ tell-as cowns limit places entered p q same_cowns same_limit after = record {
   as_many = after.as_many;
   each = after.each;
 }
-
--- one place more has entered
-pub tell-more : (cowns limit : ℕ) (places : List Place) (n : ℕ) (q : Queue) (claims : List Claim) → QueuesTell cowns limit places n q
-    → claims ≡ claims_for (task_in places n) → stand_for (place_in places n).stand ≡ stands.Waiting → QueuesTell cowns limit places (n + 1) (with_entry q claims)
-tell-more cowns limit places n q claims tell are waits = record {
-  cowns_are = tell.cowns_are;
-  limit_is = tell.limit_is;
-  as_many = omega (arith, tell.as_many, length-append q.entries (entered claims ∷ []));
-  each = λ m lt. each m lt (equal_or_not m n);
-}
-  where
-    each : (m : ℕ) → m < n + 1 → (m ≡ n) ⊎ (m ≢ n) → entry_at (q.entries ++ entered claims ∷ []) m ≡ queued_at places m
-    each m lt (inl e) =
-        ap (entry_at (q.entries ++ entered claims ∷ [])) (e ∙ sym tell.as_many)
-        ∙ get_or-append_seam q.entries (entered claims) [] no_entry
-        ∙ (λ i. record { claims = are i; stand = sym waits i })
-        ∙ ap (queued_at places) (sym e)
-    each m lt (inr ne) =
-        get_or-append q.entries (entered claims ∷ []) no_entry m (omega (arith, lt, ne, tell.as_many)) ∙ tell.each m (omega (arith, lt, ne))

@@ -1,7 +1,7 @@
 -- What the calls that only look read off the fields.
-use Rattle.std.proofs.Common.{true≢false, ◌≡◌, ℕ, ◌<◌, ◌≤◌, ◌⊎◌, inl, inr, true, [], length, get_or, ap, sym, ◌∙◌, subst, arith}
-use Rattle.std.specs.Prelude.{All, IsTrue}
-use Rattle.std.proofs.lemmas.List.{get_or_past, get_or_read}
+use Rattle.std.proofs.Common.{◌≡◌, ℕ, ◌<◌, true, [], length, get_or, ap, sym, ◌∙◌, subst, arith}
+use Rattle.std.specs.Prelude.{All}
+use Rattle.std.proofs.lemmas.List.{get_or_read}
 use Rattle.std.proofs.lemmas.List.Elements.{All-get_or}
 use Rattle.bl_policy.specs.RuleEffect.{IsRuleOf, HasIdsBelow}
 use Rattle.bl_policy.specs.declared.access.Access.{Access}
@@ -12,21 +12,20 @@ use Rattle.bl_work.specs.declared.work.Work.{Work}
 use Rattle.bl_work.specs.declared.work.Work.TheVariants as works
 use Rattle.bl_setup.specs.Setup.{Setup}
 use Rattle.bl_order.specs.Known.{KnowsWork}
-use Rattle.bl_order.specs.Order.{Task, Applies, accesses_of, conflict}
+use Rattle.bl_order.specs.Order.{Applies, accesses_of}
 use Rattle.bl_order.specs.Past.{first_task, child_task}
-use Rattle.bl_order.specs.Machine.{MayStart, past_at, is_waiting, is_over, phase_at}
+use Rattle.bl_order.specs.Machine.{MayStart, past_at}
 use Rattle.bl_order.specs.Now.{IsFirstToAlter, content_at}
 use Rattle.bl_order.proofs.HeadlineProof.{holds-reached}
-use Rattle.bl_core.specs.Places.{no_place, place_in, phase_of, work_in, task_in, HasBehaviour}
-use Rattle.bl_core.specs.Shelves.{new_shelf}
+use Rattle.bl_place.specs.Places.{no_place, place_in, work_in, task_in, HasBehaviour}
+use Rattle.bl_place.specs.Shelves.{new_shelf}
 use Rattle.bl_core.specs.View.{state_of}
 use Rattle.bl_core.specs.Keeps.{Keeps, IsAway}
-use Rattle.bl_core.specs.declared.place.Place.{Place}
-use Rattle.bl_core.specs.declared.place.Stand.TheVariants.{Ended}
-use Rattle.bl_core.specs.declared.shelf.Shelf.{Shelf}
+use Rattle.bl_place.specs.declared.place.Place.{Place}
+use Rattle.bl_place.specs.declared.place.Stand.TheVariants.{Ended}
+use Rattle.bl_place.specs.declared.shelf.Shelf.{Shelf}
 use Rattle.bl_core.specs.declared.machine.Core.TheInside.{Inside}
-use Rattle.bl_order.proofs.Steps.{waiting_is_not_over}
-use Rattle.bl_core.proofs.Views.{length-order, phase-read}
+use Rattle.bl_core.proofs.Views.{length-order}
 
 -- what a task of a known work declares is in the setup
 pub accesses-known : (setup : Setup) (w : Work) (i : ℕ) → KnowsWork setup w → HasBehaviour w i

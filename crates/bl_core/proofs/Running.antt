@@ -5,25 +5,23 @@ use Rattle.bl_policy.specs.declared.access.Access.{Access}
 use Rattle.bl_work.specs.declared.answer.Answer.{Answer}
 use Rattle.bl_order.specs.Order.{accesses_of, is_rule}
 use Rattle.bl_order.specs.Past.{is_done, changed}
-use Rattle.bl_order.specs.Machine.{Running, Ended, MayStart, Starts, change, past_at, phase_at, is_over, is_running}
+use Rattle.bl_order.specs.Machine.{Running, Ended, MayStart, Starts, change, past_at, phase_at, is_running}
 use Rattle.bl_order.proofs.Reached.{sound-reached}
 use Rattle.bl_order.proofs.StateLaws.{changed-skips}
-use Rattle.bl_order.proofs.Steps.{waiting_is_not_over}
 use Rattle.bl_order.proofs.Trails.{moves-start}
 use Rattle.bl_order.proofs.Present.{content_now-started}
-use Rattle.bl_core.specs.Places.{place_in, phase_of, task_in}
-use Rattle.bl_core.specs.Shelves.{marked}
-use Rattle.bl_core.specs.Queueing.{QueuesTell}
+use Rattle.bl_place.specs.Places.{place_in, phase_of, task_in}
+use Rattle.bl_place.specs.Shelves.{marked}
+use Rattle.bl_place.specs.Queueing.{QueuesTell}
 use Rattle.bl_queue.specs.Queues.{Queue, with_stand}
 use Rattle.bl_queue.specs.declared.entry.Stand.TheVariants as queues
 use Rattle.bl_core.specs.View.{state_of}
 use Rattle.bl_core.specs.Keeps.{Keeps, AreShelved}
-use Rattle.bl_core.specs.declared.place.Place.{Place}
-use Rattle.bl_core.specs.declared.place.Stand.TheVariants as stands
-use Rattle.bl_core.specs.declared.shelf.Shelf.{Shelf}
+use Rattle.bl_place.specs.declared.place.Place.{Place}
+use Rattle.bl_place.specs.declared.place.Stand.TheVariants as stands
+use Rattle.bl_place.specs.declared.shelf.Shelf.{Shelf}
 use Rattle.bl_core.specs.declared.machine.Core.TheInside.{Inside}
 use Rattle.bl_core.proofs.Grown.{Same}
-use Rattle.bl_core.proofs.Views.{phase-read}
 use Rattle.bl_core.proofs.Written.{Written, append_nil, stands_at, same-read}
 use Rattle.bl_core.proofs.Queueing.{tell-set}
 use Rattle.bl_core.proofs.Starting.{there-may, state-started, kept-started, waiting_is_not_running}

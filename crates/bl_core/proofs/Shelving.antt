@@ -10,9 +10,9 @@ use Rattle.bl_order.specs.Now.{content_now}
 use Rattle.bl_order.proofs.Sound.{IsSound}
 use Rattle.bl_order.proofs.Steps.{Moves, equal_self, not_equal}
 use Rattle.bl_order.proofs.Trails.{within}
-use Rattle.bl_core.specs.Shelves.{new_shelf, shelf_in, content_in, mark_one, marked}
+use Rattle.bl_place.specs.Shelves.{new_shelf, shelf_in, content_in, mark_one, marked}
 use Rattle.bl_core.specs.Keeps.{IsAway, AreShelved}
-use Rattle.bl_core.specs.declared.shelf.Shelf.{Shelf}
+use Rattle.bl_place.specs.declared.shelf.Shelf.{Shelf}
 use Rattle.bl_core.proofs.Grown.{equal_or_not}
 
 -- ---- the shelves where some are lent

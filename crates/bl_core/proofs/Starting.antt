@@ -18,12 +18,12 @@ use Rattle.bl_order.proofs.HeadlineProof.{holds-reached}
 use Rattle.bl_order.proofs.Steps.{Moves, equal_self, waiting_is_not_over}
 use Rattle.bl_order.proofs.Trails.{moves-start, moves-lost, past-started}
 use Rattle.bl_order.proofs.Present.{policy_now-started, policy_now-lost, content_now-started, moves_on-reached, lost-answer}
-use Rattle.bl_core.specs.Places.{place_in, phase_of}
+use Rattle.bl_place.specs.Places.{place_in, phase_of}
 use Rattle.bl_core.specs.View.{state_of}
 use Rattle.bl_core.specs.Weights.{ruled}
 use Rattle.bl_core.specs.Keeps.{Keeps, AreShelved}
-use Rattle.bl_core.specs.declared.place.Place.{Place}
-use Rattle.bl_core.specs.declared.place.Stand.TheVariants as stands
+use Rattle.bl_place.specs.declared.place.Place.{Place}
+use Rattle.bl_place.specs.declared.place.Stand.TheVariants as stands
 use Rattle.bl_core.specs.declared.machine.Core.TheInside.{Inside}
 use Rattle.bl_core.proofs.Grown.{Same}
 use Rattle.bl_core.proofs.Views.{length-order}

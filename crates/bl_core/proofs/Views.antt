@@ -4,11 +4,11 @@ use Rattle.std.proofs.lemmas.List.{length-map, get_or-map}
 use Rattle.bl_work.specs.declared.answer.Answer.{Answer}
 use Rattle.bl_work.specs.declared.answer.Answer.TheVariants as answers
 use Rattle.bl_order.specs.Machine.{State, Waiting, phase_at, is_over}
-use Rattle.bl_core.specs.Places.{no_place, place_in, entry_of, phase_of}
+use Rattle.bl_place.specs.Places.{no_place, place_in, entry_of, phase_of}
 use Rattle.bl_core.specs.View.{state_of}
-use Rattle.bl_core.specs.declared.place.Place.{Place}
-use Rattle.bl_core.specs.declared.place.Stand.{Stand}
-use Rattle.bl_core.specs.declared.place.Stand.TheVariants.{Ended}
+use Rattle.bl_place.specs.declared.place.Place.{Place}
+use Rattle.bl_place.specs.declared.place.Stand.{Stand}
+use Rattle.bl_place.specs.declared.place.Stand.TheVariants.{Ended}
 use Rattle.bl_core.specs.declared.machine.Core.TheInside.{Inside}
 
 pub length-order : (c : Inside) → length (state_of c).order ≡ length c.places.items

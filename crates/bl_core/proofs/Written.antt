@@ -1,21 +1,21 @@
 -- One place stands otherwise, and others may follow.
-use Rattle.std.proofs.Common.{◌≡◌, ◌≢◌, ℕ, zero, suc, ◌<◌, ◌≤◌, ◌+◌, ◌⊎◌, inl, inr, true, false, List, [], ◌∷◌, ◌++◌, length, get_or, set, refl, ap, sym, ◌∙◌, subst, arith, length-set, get_or-set_same, get_or-set_other, true≢false}
+use Rattle.std.proofs.Common.{◌≡◌, ◌≢◌, ℕ, ◌<◌, ◌≤◌, ◌+◌, ◌⊎◌, inl, inr, List, [], ◌∷◌, ◌++◌, length, get_or, set, refl, ap, sym, ◌∙◌, subst, arith, length-set, get_or-set_same, get_or-set_other}
 use Rattle.std.specs.Prelude.{sum_by, map, All}
 use Rattle.std.specs.Vec.{vec_capacity}
 use Rattle.std.proofs.Math.ListN.{get_or-append}
 use Rattle.std.proofs.Math.Seq.{map-set_same}
 use Rattle.std.proofs.lemmas.List.{map-set, get_or_read}
 use Rattle.bl_work.specs.declared.answer.Answer.{Answer}
-use Rattle.bl_order.specs.Machine.{Phase, Event, change, past_at, is_over, with_phase, entry_weight}
+use Rattle.bl_order.specs.Machine.{Phase, Event, change, past_at, with_phase, entry_weight}
 use Rattle.bl_order.specs.Now.{policy_now}
-use Rattle.bl_core.specs.Places.{no_place, place_in, entry_by, entry_of, phase_of}
-use Rattle.bl_core.specs.Queueing.{QueuesTell}
+use Rattle.bl_place.specs.Places.{no_place, place_in, entry_by, entry_of, phase_of}
+use Rattle.bl_place.specs.Queueing.{QueuesTell}
 use Rattle.bl_core.specs.View.{state_of}
 use Rattle.bl_core.specs.Keeps.{Keeps, Tells, AreShelved}
-use Rattle.bl_core.specs.declared.place.Descent.{Descent}
-use Rattle.bl_core.specs.declared.place.Place.{Place}
-use Rattle.bl_core.specs.declared.place.Stand.{Stand}
-use Rattle.bl_core.specs.declared.place.Stand.TheVariants.{Ended}
+use Rattle.bl_place.specs.declared.place.Descent.{Descent}
+use Rattle.bl_place.specs.declared.place.Place.{Place}
+use Rattle.bl_place.specs.declared.place.Stand.{Stand}
+use Rattle.bl_place.specs.declared.place.Stand.TheVariants.{Ended}
 use Rattle.bl_core.specs.declared.session.Session.{Session}
 use Rattle.bl_core.specs.declared.machine.Core.TheInside.{Inside}
 use Rattle.bl_core.proofs.Grown.{Same, Grows, grows-set, grows-append, grows-both, equal_or_not}

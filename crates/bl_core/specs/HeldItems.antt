@@ -1,12 +1,13 @@
 -- What is held, as an iterator gives it: a subject, a document and a mode.
-use Rattle.std.specs.Prelude.{◌≡◌, ℕ, zero, suc, ◌-◌, ◌<◌, ◌≤◌, true, false, if◌then◌else◌, List, [], ◌++◌, length, map}
+use Rattle.std.specs.Prelude.{◌≡◌, ℕ, zero, suc, ◌-◌, ◌<◌, ◌≤◌, ◌^◌, true, false, if◌then◌else◌, List, [], ◌++◌, length, map}
 use Rattle.bl_policy.specs.declared.access.Access.{Access}
 use Rattle.bl_policy.specs.declared.access.Mode.{Mode}
 use Rattle.bl_order.specs.Machine.{Hold, is_running}
 use Rattle.bl_order.specs.Order.{accesses_of, is_rule}
-use Rattle.bl_core.specs.Places.{place_in, phase_of, task_in, HasTask}
+use Rattle.bl_place.specs.Queueing.{QueuesTell}
+use Rattle.bl_place.specs.Places.{place_in, phase_of, task_in, HasTask}
 use Rattle.bl_core.specs.declared.held.Held.TheInside.{Inside}
-use Rattle.bl_core.specs.declared.place.Place.{Place}
+use Rattle.bl_place.specs.declared.place.Place.{Place}
 
 -- the subject, the document and the mode of a hold
 abbrev pub item_of : Hold → ℕ × ℕ × Mode
@@ -42,3 +43,5 @@ AreBehaviours places =
 pub record LooksOn (h : Inside) : Type 0 where
   pub within : h.next ≤ length h.places.now
   pub behaviours : AreBehaviours h.places.now
+  pub queued : QueuesTell h.queues.now.cowns h.queues.now.limit h.places.now (length h.places.now) h.queues.now
+  pub few : length h.places.now < 2 ^ 32

@@ -10,14 +10,14 @@ use Rattle.bl_order.specs.Machine.{State, past_at, runs, entry_weight, most_sess
 use Rattle.bl_order.specs.Now.{policy_now, content_now}
 use Rattle.bl_order.specs.Headline.{IsReached}
 use Rattle.bl_order.specs.Known.{KnowsWork}
-use Rattle.bl_core.specs.Places.{place_in, work_in, task_in, HasTask}
-use Rattle.bl_core.specs.Queueing.{QueuesTell}
-use Rattle.bl_core.specs.Shelves.{shelf_in, content_in}
+use Rattle.bl_place.specs.Places.{place_in, work_in, task_in, HasTask}
+use Rattle.bl_place.specs.Queueing.{QueuesTell}
+use Rattle.bl_place.specs.Shelves.{shelf_in, content_in}
 use Rattle.bl_core.specs.View.{state_of}
-use Rattle.bl_core.specs.declared.place.Place.{Place}
-use Rattle.bl_core.specs.declared.place.Stand.TheVariants.{Ended}
+use Rattle.bl_place.specs.declared.place.Place.{Place}
+use Rattle.bl_place.specs.declared.place.Stand.TheVariants.{Ended}
 use Rattle.bl_core.specs.declared.session.Session.{Session}
-use Rattle.bl_core.specs.declared.shelf.Shelf.{Shelf}
+use Rattle.bl_place.specs.declared.shelf.Shelf.{Shelf}
 use Rattle.bl_core.specs.declared.machine.Core.TheInside.{Inside}
 
 -- what is kept of a place tells its record, and names what is in the setup

@@ -1,8 +1,8 @@
 -- The state that a core is.
 use Rattle.std.specs.Prelude.{map}
 use Rattle.bl_order.specs.Machine.{State}
-use Rattle.bl_core.specs.Places.{entry_of, phase_of}
-use Rattle.bl_core.specs.declared.place.Place.{Place}
+use Rattle.bl_place.specs.Places.{entry_of, phase_of}
+use Rattle.bl_place.specs.declared.place.Place.{Place}
 use Rattle.bl_core.specs.declared.session.Session.{Session}
 use Rattle.bl_core.specs.declared.machine.Core.TheInside.{Inside}
 

@@ -5,7 +5,7 @@ use Rattle.bl_work.specs.declared.answer.Answer.{Answer}
 use Rattle.bl_work.specs.declared.answer.Answer.TheVariants as answers
 use Rattle.bl_work.specs.declared.work.Work.{Work}
 use Rattle.bl_order.specs.Machine.{weight_of}
-use Rattle.bl_core.specs.Places.{HasBehaviour}
+use Rattle.bl_place.specs.Places.{HasBehaviour}
 
 -- the weight of a work, which is not 0, since a work that is a script has a first behaviour
 pub record IsWeighed (work : Work) (weight : ℕ) : Type 0 where

@@ -1,13 +1,13 @@
 //! What is held: the declared accesses of the running places.
-ghost use Rattle.std.specs.Prelude.{◌≡◌, ◌-◌, ◌<◌, ◌≤◌, [], true, length, MatchOption};
+ghost use Rattle.std.specs.Prelude.{◌≡◌, ◌<◌, ◌^◌, length};
 ghost use Rattle.std.specs.Iterator.{YieldsFirst, item_count};
-ghost use Rattle.bl_order.specs.Machine.{is_running};
-ghost use Rattle.bl_core.specs.Places.{phase_of, place_in};
 ghost use Rattle.bl_core.specs.HeldItems.{items_from, AreBehaviours};
+ghost use Rattle.bl_place.specs.Queueing.{QueuesTell};
 
-use crate::place::{Place, declared};
+use bl_place::place::{Place, declared};
 use bl_policy::access::{Access, Mode};
 use bl_policy::id::{DocId, SubjectId};
+use bl_queue::queues::Queues;
 use std::marker::Model;
 
 /// The accesses that are held, one after another: for each running entry, in the order of entries, what it declares, in declared
@@ -15,8 +15,10 @@ use std::marker::Model;
 #[derive(Drop)]
 pub struct Held<'a> {
     places: &'a [Place],
-    /// The place that is looked at next.
-    next: usize,
+    /// Where the places stand, so that those that run are found.
+    queues: &'a Queues,
+    /// From this place on the next one that runs is looked for.
+    next: u32,
     /// For whom the place before it speaks, and what is left of what that place declares.
     subject: SubjectId,
     accesses: &'a [Access],
@@ -35,30 +37,17 @@ impl<'a> Model for Held<'a> {
     ghost invariant = { LooksOn };
 }
 
-/// The first place from this one on that runs.
-#[tactic(auto, using(crate::proofs::HeldLaws::items_pass, crate::proofs::HeldLaws::items_none))]
-fn next_running(places: &[Place], from: usize) -> Option<usize>
-    requires { from ≤ length places.now }
-    ensures { MatchOption result (items_from places.now from (length places.now - from) ≡ [])
-        (λ n. (n < length places.now) × (is_running (phase_of (place_in places.now n).stand) ≡ true)
-        × (items_from places.now from (length places.now - from) ≡ items_from places.now n (length places.now - n))) }
-{
-    for n in from..places.len() {
-        if places[n].stand.is_running() {
-            return Some(n);
-        }
-    }
-    None
-}
-
 impl<'a> Held<'a> {
     /// What all running places hold.
-    pub(crate) fn new(places: &'a [Place]) -> Held<'a>
-        requires { AreBehaviours places.now }
+    pub(crate) fn new(places: &'a [Place], queues: &'a Queues) -> Held<'a>
+        requires behaviours { AreBehaviours places.now }
+        requires queued { QueuesTell queues.now.cowns queues.now.limit places.now (length places.now) queues.now }
+        requires few { length places.now < 2 ^ 32 }
         ensures { result ≡ items_from places.now 0 (length places.now) }
     {
         Held {
             places,
+            queues,
             next: 0,
             subject: SubjectId::new(0),
             accesses: &[],
@@ -73,15 +62,15 @@ impl<'a> Iterator for Held<'a> {
 
     ghost remaining = { item_count (λ left. left) };
 
-    #[tactic(auto, using(crate::proofs::HeldLaws::left_first, crate::proofs::HeldLaws::left_none, crate::proofs::HeldLaws::left_next))]
+    #[tactic(auto, using(crate::proofs::HeldLaws::left_first))]
     fn next(&mut self) -> Option<(SubjectId, DocId, Mode)> {
         if let Some((access, others)) = self.accesses.split_first() {
             self.accesses = others;
             return Some((self.subject, access.doc, access.mode));
         }
-        let n = next_running(self.places, self.next)?;
-        let (access, others) = declared(self.places, n)?.split_first()?;
-        let subject = self.places[n].subject;
+        let n = self.queues.next_running(self.next)?;
+        let (access, others) = declared(self.places, n as usize)?.split_first()?;
+        let subject = self.places[n as usize].subject;
         self.next = n + 1;
         self.subject = subject;
         self.accesses = others;

@@ -4,18 +4,18 @@ ghost use Rattle.bl_core.specs.Weights.{IsWeighed, ruled};
 
 use crate::held::Held;
 use crate::origin::Origin;
-use crate::place::{Descent, Place, Stand, declared, enter_children, enter_queues, work_at};
 use crate::refusal::{
     Cause, Foreign, ForeignUnrun, NotReady, OpenRefused, Refused, StartFault, Starved,
 };
 use crate::session::{Session, SessionNo};
-use crate::shelf::{Shelf, contents_of, is_done_of, is_unrun_of, mark, shelve, take_back};
 use bl_eval::lent::{Done, DoneParts, Lent, Unrun, UnrunParts};
 use bl_grant::grants::Grants;
 use bl_order::laws::{
     headline, lines_are_readable, read_lines_are_in_the_setup, tasks_are_of_scripts,
     the_order_has_room,
 };
+use bl_place::place::{Descent, Place, Stand, declared, enter_children, enter_queues, work_at};
+use bl_place::shelf::{Shelf, contents_of, is_done_of, is_unrun_of, mark, shelve, take_back};
 use bl_policy::denial::Denial;
 use bl_policy::id::{DocId, SubjectId};
 use bl_policy::policy::Policy;
@@ -532,14 +532,18 @@ impl Core {
     }
 
     /// The accesses that are held: for each running entry, in the order of entries, what it declares, in declared order, with the
-    /// subject that it speaks for. Under the policy now each has the three properties. It takes no memory, and looks at each entry once.
+    /// subject that it speaks for. Under the policy now each has the three properties. It takes no memory, and looks at running entries
+    /// alone.
     pub fn held(&self) -> Held<'_>
         ensures items { result ≡ map item_of (held self.now) }
         ensures secure { All (λ (h : Hold). IsSecure (policy_now self.now) h.subject h.doc h.mode) (held self.now) }
     {
         headline();
+        the_order_has_room();
         tasks_are_of_scripts();
-        Held::new(self.places.as_slice())
+        // read for the proof alone: the order is within the limit
+        let _limit = self.limit;
+        Held::new(self.places.as_slice(), &self.queues)
     }
 
     /// The policy now: the setup's, changed in order by the ended rules that are not lost.
@@ -608,7 +612,7 @@ impl Core {
         if n as usize >= self.places.len() {
             return None;
         }
-        Some(self.places[n as usize].descent.origin())
+        Some(Origin::of(&self.places[n as usize].descent))
     }
 
     /// The work of an entry that is a line; `None` for a child, and where it is not there.

@@ -1,2 +1,10 @@
 pub mod Setups
 pub mod Starts
+pub mod Totals
+pub mod Trails
+pub mod Parts
+pub mod Steps
+pub mod Hands
+pub mod Turned
+pub mod Results
+pub mod Following

@@ -1,15 +1,17 @@
 -- What callers see of a gate and of the passes that it gives. All of it is our own choice.
-use Rattle.std.specs.Prelude.{◌≡◌, ℕ, List, []}
+use Rattle.std.specs.Prelude.{◌≡◌, ℕ, List, [], ◌∷◌, ◌++◌, length}
+use Rattle.atomic_table.specs.Seated.{TableId}
 use Rattle.bl_policy.specs.Policy.{no_policy}
 use Rattle.bl_work.specs.Names.{KnownNames}
-use Rattle.bl_order.specs.Machine.{Event}
+use Rattle.bl_order.specs.Machine.{State, Event}
 use Rattle.bl_core.specs.declared.machine.Started.{Started}
 use Rattle.bl_core.specs.declared.machine.Started.TheVariants.{Denied, RuleDone, Run}
-use Rattle.bl_hall.specs.Chronicle.{Chronicle}
+use Rattle.bl_hall.specs.Chronicle.{Chronicle, state_now}
+use Rattle.bl_gate.specs.Counts.{StartsWith}
 
--- Which gate one is. While the gate is a lock, a proof cannot tell two apart.
-pub record GateId : Type 0 where
-  pub number : ℕ
+-- which gate one is: its table's own name
+abbrev pub GateId : Type 0
+GateId = TableId
 
 -- a gate: which one it is, and the names of its hall's setup
 pub record GateView : Type 0 where
@@ -37,14 +39,32 @@ no_hall = record {
   trail = [];
 }
 
--- A pass of so many parts of which nothing else is told: while the gate is a lock, no proof knows what was seen behind it.
-abbrev pub untold : ℕ → PassView
-untold parts = record { gate = record { number = 0 }; base = no_hall; seen = []; own = []; parts = parts }
+-- a hall with another trail
+abbrev pub hall_with : Chronicle → List Event → Chronicle
+hall_with base trail = record { setup = base.setup; limit = base.limit; trail = trail }
 
--- the same pass, later: of the same gate, with the same parts
+-- the hall as a pass has seen it, and its state there
+abbrev pub hall_seen : PassView → Chronicle
+hall_seen pass = hall_with pass.base pass.seen
+
+abbrev pub state_seen : PassView → State
+state_seen pass = state_now (hall_seen pass)
+
+-- the same pass, later: of the same gate and hall, with the same parts, and it has seen all that it had seen
 pub record Follows (before after : PassView) : Type 0 where
   pub gate : after.gate ≡ before.gate
+  pub base : after.base ≡ before.base
   pub parts : after.parts ≡ before.parts
+  pub seen : StartsWith after.seen before.seen
+
+-- A call that is an event. The trail begins with all that the pass had seen and ends with the event, where the pass has gained the
+-- position; and what is answered holds in the state that the trail led to before it.
+pub record Calls (before : PassView) (event : Event) (Answered : State → Type 0) (after : PassView) : Type 0 where
+  pub trail : List Event
+  pub from : StartsWith trail before.seen
+  pub seen : after.seen ≡ trail ++ event ∷ []
+  pub own : after.own ≡ before.own ++ length trail ∷ []
+  pub answered : Answered (state_now (hall_with before.base trail))
 
 -- what a start lets run is this entry
 abbrev pub IsOf : ℕ → Started → Type 0

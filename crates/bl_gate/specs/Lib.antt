@@ -1,1 +1,4 @@
+pub mod Counts
 pub mod Gates
+pub mod Views
+pub mod Turns

@@ -1,5 +1,16 @@
 //! The gate, and the calls of the hall through it.
-use crate::pass::{PARTS, Pass};
+ghost use Rattle.std.specs.Prelude.{◌≡◌, ◌+◌, ◌-◌, ◌<◌, ◌≤◌, ◌++◌, ◌∷◌, ◌↔◌, [], ℕ, IsTrue, IsSome, IsNone, IsOk, IfOk, IfErr, IfSome, OnOk, OnErr, None, length, map};
+ghost use Rattle.bl_order.specs.Machine.{Opens, Admits, Starts, Ends, Loses, MayStart};
+ghost use Rattle.bl_core.specs.Answers.{IsCause, IsLentBy, IsNotOpened, IsStarted, IsStarvedBy};
+ghost use Rattle.bl_hall.specs.Chronicle.{Continues, HasTrail};
+ghost use Rattle.bl_hall.specs.Told.{AreAnswers, IsUnanswered, Waits, reply_of};
+ghost use Rattle.bl_gate.specs.Counts.{StartsWith, times, within};
+ghost use Rattle.bl_gate.specs.Gates.{Calls, Follows, IsOf, hall_seen, hall_with, state_seen};
+ghost use Rattle.bl_gate.specs.Views.{IsIdle, HasTurn, drew, entered, went};
+
+use crate::pass::{PARTS, Pass, Place};
+use crate::rule::{Both, Draw, Hear, InTurn, Look, OnePart, PassOn, View};
+use atomic_table::{Refused as NoTable, Table};
 use bl_core::machine::Started;
 use bl_core::refusal::{NotReady, OpenRefused, Refused, StartFault, Starved};
 use bl_core::session::SessionNo;
@@ -10,25 +21,36 @@ use bl_hall::reply::{AnswersFault, Reply};
 use bl_policy::id::SubjectId;
 use bl_work::names::Names;
 use bl_work::work::Work;
+use crossbeam_utils::Backoff;
+use std::alloc::Global;
 use std::marker::Model;
-use std::sync::{Mutex, Wait};
+use std::snapshot::Snapshot;
+use std::sync::Wait;
+use std::time::Duration;
 
-/// A hall that many threads call, each with a pass of its own. One call of the hall is made at a time, and the others wait. What is
-/// behind it is a hall by its type: whenever it is entered, its core's value is a state that a trail leads to.
+/// How long a call sleeps at most before it looks again whether its turn has come.
+const NAP_MICROS: u64 = 50;
+
+/// A hall that many threads call, each with a pass of its own, in the order of their tickets: a call draws a ticket, waits until it is
+/// served, makes one call of the hall, and has the next ticket served. So all calls stand in one trail, and a pass knows what it has
+/// seen of it and which positions are its own.
 ///
 /// The calls that take a runtime may wait for another thread, and what is said of them holds if they return.
 #[derive(Drop)]
 pub struct Gate {
-    hall: Mutex<Hall>,
+    table: Table<Option<Hall>, View, Snapshot<Hall>, InTurn, Global>,
     names: Names,
 }
 
 impl Model for Gate {
+    ghost use Rattle.std.specs.Prelude.{◌≡◌};
     ghost use Rattle.bl_gate.specs.Gates.{GateView};
 
     ghost Value = { GateView };
 
-    ghost view = { λ gate. record { id = record { number = 0 }; names = gate.names } };
+    ghost view = { λ gate. record { id = gate.table.shared.table_id; names = gate.names } };
+
+    ghost invariant = { λ gate. (gate.table.shared.table_id.words ≡ 2) × (gate.table.shared.table_id.slots ≡ 1) };
 }
 
 /// There was no memory for a gate; the hall, as it was given.
@@ -38,24 +60,31 @@ pub struct NoGate {
 }
 
 impl Gate {
-    ghost use Rattle.std.specs.Prelude.{◌≡◌, ◌+◌, ◌-◌, ◌<◌, ◌≤◌, IfOk, IfErr, OnOk};
-    ghost use Rattle.bl_gate.specs.Gates.{Follows, IsOf};
-    ghost use Rattle.bl_core.specs.Answers.{IsStarvedBy};
-
-    /// A gate round a hall, and the pass with all its parts. An error comes only where a growth is refused, and hands the hall back.
+    /// A gate round a hall, and the pass with all its parts, which has seen the hall's trail and owns nothing. An error comes only
+    /// where a growth is refused, and hands the hall back.
     #[tactic(auto, using(crate::proofs::Setups::names_stay))]
     pub fn new(hall: Hall) -> Result<(Gate, Pass), NoGate>
         ensures gate { IfOk result (λ made. made.1.gate ≡ made.0.id) }
         ensures parts { IfOk result (λ made. made.1.parts ≡ 64) }
+        ensures seen { IfOk result (λ made. (made.1.base ≡ hall) × (made.1.seen ≡ hall.trail) × (made.1.own ≡ [])) }
         ensures names { IfOk result (λ made. made.0.names ≡ hall.setup.names) }
         ensures err { IfErr result (λ refused. refused.hall ≡ hall) }
     {
-        match hall.core().setup().names().copy() {
-            Ok(names) => {
-                let hall = Mutex::new(hall);
-                Ok((Gate { hall, names }, Pass { parts: PARTS }))
+        let alloc = hall.alloc();
+        let Ok(names) = hall.core().setup().names().copy() else {
+            return Err(NoGate { hall });
+        };
+        let Ok(mut slots) = Vec::with_capacity(alloc, 1) else {
+            return Err(NoGate { hall });
+        };
+        let about = Snapshot::of(&hall);
+        slots.push_reserved(Some(hall));
+        match Table::new(alloc, &[0, 0], slots, &about) {
+            Ok((table, seat)) => Ok((Gate { table, names }, Pass { seat, parts: PARTS })),
+            Err(NoTable { mut slots }) => {
+                let hall = slots.pop().unwrap().unwrap();
+                Err(NoGate { hall })
             }
-            Err(_) => Err(NoGate { hall }),
         }
     }
 
@@ -66,7 +95,81 @@ impl Gate {
         &self.names
     }
 
-    /// Opens a session for a subject, and answers its number, as the hall does.
+    /// Waits a moment where a word of the table is as it was found: at first it spins, then it yields, and then it sleeps in short
+    /// steps.
+    fn rest<R: Wait>(&self, rt: &R, backoff: &Backoff, word: usize, found: u64)
+        requires { word < self.now.id.words }
+    {
+        if backoff.is_completed() {
+            let low = (found % (1 << 32)) as u32;
+            let nap = Duration::from_micros(NAP_MICROS);
+            self.table.shared.park_timeout(rt, word, low, nap);
+        } else {
+            backoff.snooze();
+        }
+    }
+
+    /// Draws a ticket. After 2^64 - 1 of them it waits for good.
+    fn draw<R: Wait>(&self, rt: &R, seat: &mut Place) -> u64
+        requires gate { seat.old.table_id ≡ self.now.id }
+        requires idle { IsIdle seat.old.me.0 }
+        ensures same { (seat.new.table_id ≡ seat.old.table_id) × (seat.new.me.1 ≡ seat.old.me.1) }
+        ensures drew { seat.new.me.0 ≡ drew seat.old.me.0 result }
+    {
+        let shared = &self.table.shared;
+        let backoff = Backoff::new();
+        for _ in rt.forever() {
+            let drawn = shared.peek(0);
+            if drawn < u64::MAX {
+                let found = shared.compare_exchange::<Draw>(seat, 0, drawn, drawn + 1);
+                if found == drawn {
+                    return drawn;
+                }
+            }
+            self.rest(rt, &backoff, 0, drawn);
+        }
+        unreachable!()
+    }
+
+    /// Draws a ticket, waits until it is served, and takes the hall.
+    fn enter<R: Wait>(&self, rt: &R, seat: &mut Place) -> Hall
+        requires gate { seat.old.table_id ≡ self.now.id }
+        requires idle { IsIdle seat.old.me.0 × (seat.old.me.1 ≡ []) }
+        ensures gate { seat.new.table_id ≡ seat.old.table_id }
+        ensures hall { result ≡ hall_with seat.old.me.0.base result.trail }
+        ensures trail { HasTrail result }
+        ensures seen { StartsWith result.trail seat.old.me.0.seen }
+        ensures turn { (t : ℕ) × (seat.new.me.0 ≡ entered (drew seat.old.me.0 t) result.trail) }
+        ensures hands { seat.new.me.1 ≡ (0, None) ∷ [] }
+    {
+        let ticket = self.draw(rt, seat);
+        let shared = &self.table.shared;
+        let backoff = Backoff::new();
+        for _ in rt.forever() {
+            let served = shared.load::<Look>(seat, 1);
+            if served == ticket {
+                return shared.exchange(seat, 0, None).unwrap();
+            }
+            self.rest(rt, &backoff, 1, served);
+        }
+        unreachable!()
+    }
+
+    /// Puts the hall back, as it was taken or with one event more, and has the next ticket served.
+    fn leave(&self, seat: &mut Place, hall: Hall)
+        requires gate { seat.old.table_id ≡ self.now.id }
+        requires turn { HasTurn seat.old.me.0 × (seat.old.me.1 ≡ (0, None) ∷ []) }
+        requires next { Continues (hall_with seat.old.me.0.base seat.old.me.0.seen) hall }
+        ensures gate { seat.new.table_id ≡ seat.old.table_id }
+        ensures went { seat.new.me ≡ (went seat.old.me.0 hall.trail, []) }
+    {
+        let shared = &self.table.shared;
+        drop(shared.exchange(seat, 0, Some(hall)));
+        shared.fetch_add::<PassOn>(seat, 1, 1);
+    }
+
+    /// Opens a session for a subject, and answers its number, as the hall does at that point of the trail. A refusal is the hall's
+    /// there, and adds nothing.
     pub fn open<R: Wait>(
         &self,
         rt: &R,
@@ -75,12 +178,18 @@ impl Gate {
     ) -> Result<SessionNo, OpenRefused>
         requires gate { pass.old.gate ≡ self.now.id }
         ensures follows { Follows pass.old pass.new }
+        ensures trail { HasTrail (hall_seen pass.new) }
+        ensures ok { IfOk result (λ session. Calls pass.old (Opens subject) (λ x. session ≡ length x.sessions) pass.new) }
+        ensures err { IfErr result (λ refused. (pass.new.own ≡ pass.old.own) × IsNotOpened (state_seen pass.new) subject refused) }
     {
-        let _ = pass;
-        self.hall.lock(rt).open(subject)
+        let mut hall = self.enter(rt, &mut pass.seat);
+        let answer = hall.open(subject);
+        self.leave(&mut pass.seat, hall);
+        answer
     }
 
-    /// Admits a line of a session, and answers its place, as the hall does. A refusal hands the work back.
+    /// Admits a line of a session, and answers its place, as the hall does at that point of the trail. A refusal is the hall's there,
+    /// adds nothing and hands the work back.
     pub fn line<R: Wait>(
         &self,
         rt: &R,
@@ -91,45 +200,69 @@ impl Gate {
     ) -> Result<u32, Refused>
         requires gate { pass.old.gate ≡ self.now.id }
         ensures follows { Follows pass.old pass.new }
+        ensures trail { HasTrail (hall_seen pass.new) }
+        ensures ok { IfOk result (λ n. Calls pass.old (Admits session ordinal work) (λ x. n ≡ length x.order) pass.new) }
+        ensures err { IfErr result (λ refused. (pass.new.own ≡ pass.old.own) × IsCause (state_seen pass.new) session ordinal work refused.cause) }
         ensures back { IfErr result (λ refused. refused.work ≡ work) }
     {
-        let _ = pass;
-        self.hall.lock(rt).line(session, ordinal, work)
+        let mut hall = self.enter(rt, &mut pass.seat);
+        let answer = hall.line(session, ordinal, work);
+        self.leave(&mut pass.seat, hall);
+        answer
     }
 
-    /// Starts an entry, as the hall does.
+    /// Starts an entry, as the hall does at that point of the trail. `NotReady` comes where it may not start there, and `Memory` where
+    /// it may and a growth was refused; neither adds anything.
     #[tactic(auto, using(crate::proofs::Starts::what_runs_is_of))]
     pub fn start<R: Wait>(&self, rt: &R, pass: &mut Pass, n: u32) -> Result<Started, StartFault>
         requires gate { pass.old.gate ≡ self.now.id }
         ensures follows { Follows pass.old pass.new }
+        ensures trail { HasTrail (hall_seen pass.new) }
+        ensures ok { IfOk result (λ begun. Calls pass.old (Starts n) (λ x. IsStarted x n begun) pass.new) }
+        ensures err { IfErr result (λ fault. (pass.new.own ≡ pass.old.own) × ((fault ≡ StartFault.NotReady) ↔ ¬ MayStart (state_seen pass.new) n)) }
         ensures entry { IfOk result (IsOf n) }
         ensures starved { IfErr result (IsStarvedBy n) }
     {
-        let _ = pass;
-        self.hall.lock(rt).start(n)
+        let mut hall = self.enter(rt, &mut pass.seat);
+        let answer = hall.start(n);
+        self.leave(&mut pass.seat, hall);
+        answer
     }
 
-    /// Ends a running entry with what was done of what it was lent, as the hall does. A refusal hands that back.
+    /// Ends a running entry with what was done of what it was lent, as the hall does at that point of the trail. A refusal comes
+    /// exactly where that was not lent to a running entry there; it adds nothing and hands it back.
     pub fn finish<R: Wait>(&self, rt: &R, pass: &mut Pass, done: Done) -> Result<(), Foreign>
         requires gate { pass.old.gate ≡ self.now.id }
         ensures follows { Follows pass.old pass.new }
+        ensures trail { HasTrail (hall_seen pass.new) }
+        ensures ok { OnOk result (Calls pass.old (Ends done.entry) (λ x. IsLentBy x done) pass.new) }
+        ensures err { OnErr result ((pass.new.own ≡ pass.old.own) × (¬ IsLentBy (state_seen pass.new) done)) }
         ensures back { IfErr result (λ foreign. foreign ≡ done) }
     {
-        let _ = pass;
-        self.hall.lock(rt).finish(done)
+        let mut hall = self.enter(rt, &mut pass.seat);
+        let answer = hall.finish(done);
+        self.leave(&mut pass.seat, hall);
+        answer
     }
 
-    /// Ends a running entry as lost, with what it was lent, as the hall does. A refusal hands that back.
+    /// Ends a running entry as lost, with what it was lent, as the hall does at that point of the trail. A refusal comes exactly where
+    /// that was not lent to a running entry there; it adds nothing and hands it back.
     pub fn lose<R: Wait>(&self, rt: &R, pass: &mut Pass, unrun: Unrun) -> Result<(), ForeignUnrun>
         requires gate { pass.old.gate ≡ self.now.id }
         ensures follows { Follows pass.old pass.new }
+        ensures trail { HasTrail (hall_seen pass.new) }
+        ensures ok { OnOk result (Calls pass.old (Loses unrun.entry) (λ x. IsLentBy x unrun) pass.new) }
+        ensures err { OnErr result ((pass.new.own ≡ pass.old.own) × (¬ IsLentBy (state_seen pass.new) unrun)) }
         ensures back { IfErr result (λ foreign. foreign ≡ unrun) }
     {
-        let _ = pass;
-        self.hall.lock(rt).lose(unrun)
+        let mut hall = self.enter(rt, &mut pass.seat);
+        let answer = hall.lose(unrun);
+        self.leave(&mut pass.seat, hall);
+        answer
     }
 
-    /// Ends an entry as lost that was refused memory at its start, as the hall does.
+    /// Ends an entry as lost that was refused memory at its start, as the hall does at that point of the trail. `NotReady` comes where
+    /// it may no longer start there, and adds nothing.
     pub fn lose_ready<R: Wait>(
         &self,
         rt: &R,
@@ -138,21 +271,34 @@ impl Gate {
     ) -> Result<(), NotReady>
         requires gate { pass.old.gate ≡ self.now.id }
         ensures follows { Follows pass.old pass.new }
+        ensures trail { HasTrail (hall_seen pass.new) }
+        ensures ok { OnOk result (Calls pass.old (Loses starved) (λ x. MayStart x starved) pass.new) }
+        ensures err { OnErr result ((pass.new.own ≡ pass.old.own) × (¬ MayStart (state_seen pass.new) starved)) }
     {
-        let _ = pass;
-        self.hall.lock(rt).lose_ready(starved)
+        let mut hall = self.enter(rt, &mut pass.seat);
+        let answer = hall.lose_ready(starved);
+        self.leave(&mut pass.seat, hall);
+        answer
     }
 
-    /// Some entry that may start, as the hall has it; none only where no entry may.
+    /// Some entry that may start at that point of the trail, as the hall has it; none only where no entry may.
     pub fn ready<R: Wait>(&self, rt: &R, pass: &mut Pass) -> Option<u32>
         requires gate { pass.old.gate ≡ self.now.id }
         ensures follows { Follows pass.old pass.new }
+        ensures trail { HasTrail (hall_seen pass.new) }
+        ensures own { pass.new.own ≡ pass.old.own }
+        ensures some { IfSome result (λ n. MayStart (state_seen pass.new) n) }
+        ensures none { IsNone result → (n : ℕ) → ¬ MayStart (state_seen pass.new) n }
     {
-        let _ = pass;
-        self.hall.lock(rt).ready()
+        let hall = self.enter(rt, &mut pass.seat);
+        let answer = hall.ready();
+        self.leave(&mut pass.seat, hall);
+        answer
     }
 
-    /// The replies to a session's lines above an ordinal, as the hall has them; none while an entry of the session has not ended.
+    /// The replies to a session's lines above an ordinal, as the hall has them at that point of the trail; none exactly where an entry
+    /// of the session has not ended there. `Session` comes where the session is not open there, and `Memory` where a growth was
+    /// refused.
     pub fn answers<R: Wait>(
         &self,
         rt: &R,
@@ -162,38 +308,65 @@ impl Gate {
     ) -> Result<Option<Vec<Reply>>, AnswersFault>
         requires gate { pass.old.gate ≡ self.now.id }
         ensures follows { Follows pass.old pass.new }
+        ensures trail { HasTrail (hall_seen pass.new) }
+        ensures own { pass.new.own ≡ pass.old.own }
+        ensures open { IfOk result (λ _. session < length (state_seen pass.new).sessions) }
+        ensures waits { IfOk result (λ found. IsNone found → Waits (state_seen pass.new) session) }
+        ensures replies { IfOk result (λ found. IfSome found (λ replies. AreAnswers (state_seen pass.new) session after (map reply_of replies.items))) }
+        ensures fault { IfErr result (λ fault. IsUnanswered (state_seen pass.new) session fault) }
     {
-        let _ = pass;
-        self.hall.lock(rt).answers(session, after)
+        let hall = self.enter(rt, &mut pass.seat);
+        let answer = hall.answers(session, after);
+        self.leave(&mut pass.seat, hall);
+        answer
     }
 
-    /// Moves one part of a pass to a pass of its own, for another thread.
+    /// Moves one part of a pass to a pass of its own, for another thread. It has seen the same, and owns nothing.
     pub fn split_pass(&self, pass: &mut Pass) -> Pass
         requires gate { pass.old.gate ≡ self.now.id }
         requires some { 1 < pass.old.parts }
         ensures gate { (pass.new.gate ≡ self.now.id) × (result.gate ≡ self.now.id) }
         ensures parts { (pass.new.parts + 1 ≡ pass.old.parts) × (result.parts ≡ 1) }
+        ensures old { (pass.new.base ≡ pass.old.base) × (pass.new.seen ≡ pass.old.seen) × (pass.new.own ≡ pass.old.own) }
+        ensures new { (result.base ≡ pass.old.base) × (result.seen ≡ pass.old.seen) × (result.own ≡ []) }
     {
+        let seat = self.table.shared.split_seat::<OnePart>(&mut pass.seat);
         pass.parts -= 1;
-        Pass { parts: 1 }
+        Pass { seat, parts: 1 }
     }
 
-    /// Moves all parts of another pass to this one.
+    /// Takes in another pass of the same gate, with all its parts. The pass has then seen what each had seen, and owns the positions
+    /// of both; no position is owned twice.
     pub fn meet(&self, pass: &mut Pass, other: Pass)
         requires gate { (pass.old.gate ≡ self.now.id) × (other.gate ≡ self.now.id) }
-        requires room { pass.old.parts + other.parts ≤ 64 }
         ensures gate { pass.new.gate ≡ self.now.id }
+        ensures base { pass.new.base ≡ pass.old.base }
         ensures parts { pass.new.parts ≡ pass.old.parts + other.parts }
+        ensures seen { StartsWith pass.new.seen pass.old.seen × StartsWith pass.new.seen other.seen }
+        ensures own { pass.new.own ≡ pass.old.own ++ other.own }
+        ensures apart { (p : ℕ) → times p pass.new.own ≤ 1 }
     {
-        pass.parts += other.parts;
+        let Pass { seat, parts } = other;
+        self.table.shared.join_seat::<Both>(&mut pass.seat, seat);
+        self.table.shared.load::<Hear>(&mut pass.seat, 1);
+        pass.parts += parts;
     }
 
-    /// The hall, once all parts have met in one pass. The gate is handed over, so nobody is inside a call.
+    /// The hall, once all parts have met in one pass. The gate is handed over, so nobody is inside a call. The hall's trail is what
+    /// the pass has seen: the events that the gate was given, and then just those of the pass's own calls.
     pub fn close(self, pass: Pass) -> Hall
         requires gate { pass.gate ≡ self.id }
         requires all { pass.parts ≡ 64 }
+        ensures hall { result ≡ hall_seen pass }
+        ensures trail { HasTrail result }
+        ensures begins { StartsWith result.trail pass.base.trail }
+        ensures own { (p : ℕ) → times p pass.own ≡ within (length pass.base.trail) (length result.trail) p }
     {
-        let _ = pass;
-        self.hall.into_inner()
+        let Pass { seat, parts: _ } = pass;
+        let Gate { table, names: _ } = self;
+        let mut closed = table.close_with(seat);
+        let hall = closed.take(0).unwrap();
+        closed.free();
+        hall
     }
 }

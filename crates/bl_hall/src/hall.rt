@@ -78,6 +78,11 @@ impl Hall {
         })
     }
 
+    /// The allocator that it was made with.
+    pub fn alloc(&self) -> Global {
+        self.alloc
+    }
+
     /// Opens a session for a subject, and answers its number. `Stranger` comes where the setup has no such subject, and then
     /// `SessionsFull` where there are 1,000 sessions.
     pub fn open(&mut self, subject: SubjectId) -> Result<SessionNo, OpenRefused>

@@ -4,14 +4,14 @@ use Rattle.std.proofs.lemmas.List.{take_more, map-append}
 use Rattle.std.proofs.lemmas.List.Elements.{All-push, Contains-push, Contains-push_cases, Contains-append_left, Contains-get_or}
 use Rattle.std.proofs.lemmas.List.Quantifiers.{all_pairs_push, position-Some}
 use Rattle.bl_level.specs.Level.{SecurityLevel, HasCategory}
-use Rattle.bl_level.specs.Table.{place_of}
+use Rattle.bl_name.specs.Table.{place_of}
 use Rattle.bl_level.specs.Scheme.{SchemeNames}
 use Rattle.bl_level.specs.LevelText.{LevelText, Means, StandsBehind, IsNamed}
 use Rattle.bl_level.specs.LevelFault.{IsLevelFault}
 use Rattle.bl_level.specs.LevelFronts.{with_name}
 use Rattle.bl_level.specs.declared.scheme.LevelFault.{LevelFault}
 use Rattle.bl_level.specs.declared.scheme.LevelFault.TheVariants.{Syntax, UnknownRank, UnknownCategory, RepeatedCategory}
-use Rattle.bl_level.proofs.Tables.{same, same-Decides}
+use Rattle.bl_name.proofs.Tables.{same, same-Decides}
 
 -- what has a place is there
 pub placed : (q : List ℕ) (ks : List (List ℕ)) (i : ℕ) → place_of q ks ≡ Some i → Contains ks q

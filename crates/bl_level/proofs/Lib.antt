@@ -1,15 +1,5 @@
-pub mod Same
-pub mod Runs
-pub mod Words
-pub mod Fronts
-pub mod Lexes
-pub mod Readings
-pub mod Shortest
-pub mod Again
 pub mod Masks
 pub mod Dominance
-pub mod Tables
-pub mod TableFaults
 pub mod LevelTexts
 pub mod ReadingLevels
 pub mod WritingLevels

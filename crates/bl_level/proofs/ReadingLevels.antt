@@ -1,18 +1,18 @@
 -- Reading the categories of a level from the left.
 use Rattle.std.proofs.Common.{◌≡◌, ℕ, List, [], ◌∷◌, ◌++◌, Result, Err, refl, sym, ap, subst, ◌∙◌, append_assoc, arith, length, ◌<◌}
-use Rattle.bl_level.specs.declared.lexer.Class.TheVariants as class
-use Rattle.bl_level.specs.declared.token.Sign.TheVariants.{Comma, Open, Close}
+use Rattle.bl_name.specs.declared.lexer.Class.TheVariants as class
+use Rattle.bl_name.specs.declared.token.Sign.TheVariants.{Comma, Open, Close}
 use Rattle.bl_level.specs.declared.level.Level.{Level}
 use Rattle.bl_level.specs.declared.scheme.LevelFault.{LevelFault}
 use Rattle.bl_level.specs.declared.scheme.LevelFault.TheVariants.{Syntax}
-use Rattle.bl_level.specs.Token.{Tok, name, sign}
-use Rattle.bl_level.specs.Lexing.{token, front, past_blanks, Begins}
+use Rattle.bl_name.specs.Token.{Tok, name, sign}
+use Rattle.bl_name.specs.Lexing.{token, front, past_blanks, Begins}
 use Rattle.bl_level.specs.Scheme.{SchemeNames}
 use Rattle.bl_level.specs.LevelText.{LevelText, spell_more, spell_categories, ReadsAsLevel}
 use Rattle.bl_level.specs.LevelFault.{Reads}
 use Rattle.bl_level.specs.LevelFronts.{StandsFirst, with_name, Lists, ReadsOn}
-use Rattle.bl_level.proofs.Fronts.{front_shorter}
-use Rattle.bl_level.proofs.Runs.{past_le}
+use Rattle.bl_name.proofs.Fronts.{front_shorter}
+use Rattle.bl_name.proofs.Runs.{past_le}
 
 -- further categories, or the closing brace and nothing behind it
 data More (bytes : List ℕ) (names : List (List ℕ)) : Type 0 where

@@ -8,11 +8,11 @@ use Rattle.std.proofs.lemmas.List.{length-append}
 use Rattle.std.proofs.lemmas.List.Elements.{Contains-append_right, Contains-append_cases, Contains-get_or}
 use Rattle.std.proofs.lemmas.List.Quantifiers.{position-Some}
 use Rattle.std.proofs.lemmas.List.Sums.{prefix_len_passes}
-use Rattle.bl_level.specs.Canonical.{canonical, gap}
-use Rattle.bl_level.specs.Token.{name}
-use Rattle.bl_level.specs.Name.{IsName, AreProper}
+use Rattle.bl_name.specs.Canonical.{canonical, gap}
+use Rattle.bl_name.specs.Token.{name}
+use Rattle.bl_name.specs.Name.{IsName, AreProper}
 use Rattle.bl_level.specs.Level.{SecurityLevel, HasCategory}
-use Rattle.bl_level.specs.Table.{AreDistinct, place_of}
+use Rattle.bl_name.specs.Table.{AreDistinct, place_of}
 use Rattle.bl_level.specs.Scheme.{SchemeNames, IsScheme, HoldsLevel}
 use Rattle.bl_level.specs.LevelText.{LevelText, Means, IsNamed, ReadsAsLevel, spell_level, spell_more, spell_categories, held_names, text_of, canonical_level}
 use Rattle.bl_level.specs.LevelFault.{IsLevelFault, Reads, IsReadBack}
@@ -20,10 +20,10 @@ use Rattle.bl_level.specs.LevelFronts.{tail_of}
 use Rattle.bl_level.specs.declared.level.Level.{Level}
 use Rattle.bl_level.specs.declared.scheme.LevelFault.{LevelFault}
 use Rattle.bl_level.specs.declared.scheme.LevelFault.TheVariants.{Syntax, UnknownRank, UnknownCategory, RepeatedCategory}
-use Rattle.bl_level.proofs.Tables.{same, same-Decides}
+use Rattle.bl_name.proofs.Tables.{same, same-Decides}
 use Rattle.bl_level.proofs.LevelTexts.{placed}
 use Rattle.bl_level.proofs.Masks.{same_members}
-use Rattle.bl_level.proofs.Again.{canonical_begins}
+use Rattle.bl_name.proofs.Again.{canonical_begins}
 
 -- ---- the bytes
 

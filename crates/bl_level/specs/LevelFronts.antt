@@ -3,9 +3,9 @@ use Rattle.std.specs.Prelude.{◌≡◌, ℕ, Bool, true, if◌then◌else◌, L
 use Rattle.bl_level.specs.declared.level.Level.{Level}
 use Rattle.bl_level.specs.declared.scheme.LevelFault.{LevelFault}
 use Rattle.bl_level.specs.declared.scheme.LevelFault.TheVariants.{Syntax}
-use Rattle.bl_level.specs.declared.token.Sign.TheVariants.{Close}
-use Rattle.bl_level.specs.Token.{Tok, name, sign}
-use Rattle.bl_level.specs.Lexing.{token, front, past_blanks, Begins}
+use Rattle.bl_name.specs.declared.token.Sign.TheVariants.{Close}
+use Rattle.bl_name.specs.Token.{Tok, name, sign}
+use Rattle.bl_name.specs.Lexing.{token, front, past_blanks, Begins}
 use Rattle.bl_level.specs.Scheme.{SchemeNames}
 use Rattle.bl_level.specs.LevelText.{LevelText, spell_more}
 use Rattle.bl_level.specs.LevelFault.{Reads}

@@ -1,12 +1,12 @@
 -- The text of a level, and which level it means in a scheme.
 use Rattle.std.specs.Prelude.{◌≡◌, ◌↔◌, ◌==◌, ℕ, suc, if◌then◌else◌, slice_index_or, List, [], ◌∷◌, ◌++◌, All, Contains, Some}
-use Rattle.bl_level.specs.declared.token.Sign.TheVariants.{Comma, Open, Close}
-use Rattle.bl_level.specs.Token.{Tok, name, sign}
-use Rattle.bl_level.specs.Lexing.{Begins}
+use Rattle.bl_name.specs.declared.token.Sign.TheVariants.{Comma, Open, Close}
+use Rattle.bl_name.specs.Token.{Tok, name, sign}
+use Rattle.bl_name.specs.Lexing.{Begins}
 use Rattle.bl_level.specs.Level.{SecurityLevel, HasCategory}
-use Rattle.bl_level.specs.Table.{AreDistinct, place_of}
+use Rattle.bl_name.specs.Table.{AreDistinct, place_of}
 use Rattle.bl_level.specs.Scheme.{SchemeNames}
-use Rattle.bl_level.specs.Canonical.{canonical}
+use Rattle.bl_name.specs.Canonical.{canonical}
 use Rattle.std.specs.Int.{bit_at}
 
 -- own choice: a level is written as the name of its rank and those of its categories

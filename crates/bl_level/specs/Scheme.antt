@@ -1,7 +1,7 @@
 -- A scheme: the names of the ranks, lowest first, and of the categories.
 use Rattle.std.specs.Prelude.{ℕ, ◌<◌, ◌≤◌, List, length}
 use Rattle.bl_level.specs.Level.{SecurityLevel, HasCategory}
-use Rattle.bl_level.specs.Table.{IsTable}
+use Rattle.bl_name.specs.Table.{IsTable}
 
 -- own choice: ranks and categories have names, and their places in these lists are the numbers of a level
 pub record SchemeNames : Type 0 where

@@ -1,8 +1,8 @@
 -- Why names make no scheme.
 use Rattle.std.specs.Prelude.{◌≡◌, ℕ, ◌<◌, ◌≤◌, ◌⊎◌, List, length}
-use Rattle.bl_level.specs.Table.{IsTable, IsFirstRepeated}
-use Rattle.bl_level.specs.declared.table.TableFault.{TableFault}
-use Rattle.bl_level.specs.declared.table.TableFault.TheVariants as tables
+use Rattle.bl_name.specs.Table.{IsTable, IsFirstRepeated}
+use Rattle.bl_name.specs.declared.table.TableFault.{TableFault}
+use Rattle.bl_name.specs.declared.table.TableFault.TheVariants as tables
 use Rattle.bl_level.specs.declared.scheme.SchemeFault.{SchemeFault}
 use Rattle.bl_level.specs.declared.scheme.SchemeFault.TheVariants.{Empty, TooMany, Repeated, Memory}
 

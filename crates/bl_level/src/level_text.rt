@@ -1,17 +1,17 @@
 //! The text of a level, both ways: `secret` or `secret{nato,crypto}`.
 ghost use Rattle.std.specs.Prelude.{◌≡◌, ◌↔◌, ℕ, List, [], ◌∷◌, ◌++◌, map, if◌then◌else◌, false, IsTrue, OnOk, IfOk, IfSome, IfNone, Ok, Err, Result};
-ghost use Rattle.bl_level.specs.Lexing.{past_blanks};
-ghost use Rattle.bl_level.specs.Token.{name as name_token, sign as sign_token};
+ghost use Rattle.bl_name.specs.Lexing.{past_blanks};
+ghost use Rattle.bl_name.specs.Token.{name as name_token, sign as sign_token};
 ghost use Rattle.bl_level.specs.Scheme.{HoldsLevel};
 ghost use Rattle.bl_level.specs.LevelText.{LevelText, ReadsAsLevel, canonical_level, held_names};
 ghost use Rattle.bl_level.specs.LevelFault.{Reads, IsReadBack};
 ghost use Rattle.bl_level.specs.LevelFronts.{StandsFirst, Closes, with_name, ReadsOn, tail_of};
 
 use crate::level::Level;
-use crate::lexer::{Class, Front, next_token};
-use crate::name::Name;
 use crate::scheme::{LevelFault, Scheme};
-use crate::token::{Sign, Token};
+use bl_name::lexer::{Front, next_token};
+use bl_name::name::Name;
+use bl_name::token::{Sign, Token};
 use std::alloc::AllocError;
 
 /// The name at the front, and what is behind it.

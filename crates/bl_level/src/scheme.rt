@@ -5,8 +5,8 @@ ghost use Rattle.std.specs.Int.{bit_at};
 ghost use Rattle.bl_level.specs.SchemeFault.{IsSchemeFault};
 
 use crate::level::Level;
-use crate::name::Name;
-use crate::table::{NameTable, TableFault, table_of};
+use bl_name::name::Name;
+use bl_name::table::{NameTable, TableFault, table_of};
 use std::alloc::{AllocError, Global};
 use std::marker::Model;
 

@@ -1,20 +1,17 @@
 -- The stored counts are the numbers of claims that earlier ones block.
-use Rattle.std.proofs.Common.{◌≡◌, ◌≢◌, ℕ, zero, suc, ◌<◌, ◌≤◌, ◌⊎◌, ◌&&◌, ◌||◌, ◌==◌, not, Bool, true, false, Option, Some, None, List, length, get_or, slice_index, AllPairs, inl, inr, refl, sym, subst, ap, ◌∙◌, arith, eqb-true, eq-eqb}
+use Rattle.std.proofs.Common.{◌≡◌, ◌≢◌, ℕ, zero, suc, ◌<◌, ◌≤◌, ◌⊎◌, ◌&&◌, ◌||◌, ◌==◌, not, Bool, true, false, Option, Some, None, List, length, get_or, slice_index, AllPairs, inl, inr, refl, subst, ap, ◌∙◌, arith, eqb-true, eq-eqb}
 use Rattle.std.specs.Prelude.{Contains, ◌+◌}
 use Rattle.std.proofs.lemmas.List.{get_or_default}
 use Rattle.std.proofs.lemmas.Bool.{cases_eq, cases_lt, cases_Bool, both_ways, and_parts, and_from, and_cases, and_left, and_right, not-true, not_from_false, or_cases, or_parts, false_from_ne_true, eqb-false}
 use Rattle.bl_queue.specs.declared.claim.Claim.{Claim}
 use Rattle.bl_queue.specs.declared.cown.Held.{Held}
 use Rattle.bl_queue.specs.declared.cown.Cown.{Cown}
-use Rattle.bl_queue.specs.declared.entry.Stand.{Stand}
-use Rattle.bl_queue.specs.declared.entry.Stand.TheVariants.{Waiting, Started, Ended}
-use Rattle.bl_queue.specs.Claims.{AreClaims}
 use Rattle.bl_queue.specs.Counts.{blocks, is_blocked_below, is_kept_back, CountsTell}
 use Rattle.bl_queue.specs.Entries.{Entry, no_entry, entry_at, is_waiting, is_ended, MayStart}
 use Rattle.bl_queue.specs.Holders.{Holders, count_below, holds, waits_for, held_at, over_at, cown_at, place_of, nowhere, IsCown, AreFree, AreHeld, AreSettled}
 use Rattle.bl_queue.specs.Queued.{claims_at, waits_at, AreQueued, IsKept, Roster}
 use Rattle.bl_queue.proofs.Count.{same_bool, count-same, counted}
-use Rattle.bl_queue.proofs.Ready.{is_clear, is_free, not_ended, over_where_free}
+use Rattle.bl_queue.proofs.Ready.{is_clear, is_free, over_where_free}
 use Rattle.bl_queue.proofs.Tests.{Holds, holds_tells, Waits, waits_tells, waits_from}
 
 record Blocks (claims : List Held) (over : List Bool) (q p : ℕ) : Type 0 where

@@ -13,3 +13,6 @@ pub mod Steps
 pub mod Fresh
 pub mod Kept
 pub mod Counts
+pub mod Words
+pub mod Rows
+pub mod Running

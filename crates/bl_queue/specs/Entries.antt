@@ -1,5 +1,5 @@
 -- The entries in the order in which they entered, and which of them may start.
-use Rattle.std.specs.Prelude.{ℕ, ◌<◌, Bool, true, false, ◌⊎◌, IsTrue, List, [], length, slice_index_or}
+use Rattle.std.specs.Prelude.{ℕ, ◌<◌, ◌≤◌, Bool, true, false, ◌⊎◌, IsTrue, List, [], length, slice_index_or}
 use Rattle.bl_queue.specs.declared.claim.Claim.{Claim}
 use Rattle.bl_queue.specs.declared.entry.Stand.{Stand}
 use Rattle.bl_queue.specs.declared.entry.Stand.TheVariants.{Waiting, Started, Ended}
@@ -54,6 +54,12 @@ pub record MayStart (entries : List Entry) (n : ℕ) : Type 0 where
 pub record Runs (entries : List Entry) (n : ℕ) : Type 0 where
   pub there : n < length entries
   pub started : IsTrue (is_started (entry_at entries n).stand)
+
+-- the first entry from a number on that runs
+pub record IsFirstRunning (entries : List Entry) (from n : ℕ) : Type 0 where
+  pub behind : from ≤ n
+  pub runs : Runs entries n
+  pub least : (m : ℕ) → from ≤ m → m < n → ¬ Runs entries m
 
 -- something is ready or started
 abbrev pub GoesOn : List Entry → Type 0

@@ -7,3 +7,5 @@ pub mod Queued
 pub mod RosterRooms
 pub mod Rooms
 pub mod Counts
+pub mod Numbers
+pub mod NumberRows

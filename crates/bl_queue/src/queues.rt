@@ -1,12 +1,13 @@
 //! The queues: entries in the order in which they entered, each behind the earlier ones that it conflicts with.
-ghost use Rattle.std.specs.Prelude.{◌≡◌, ℕ, ◌<◌, ◌≤◌, ◌↔◌, ◌⊎◌, [], length, IsTrue, IfOk, IfSome, IsNone};
+ghost use Rattle.std.specs.Prelude.{◌≡◌, ℕ, ◌<◌, ◌≤◌, ◌↔◌, ◌⊎◌, [], length, IsTrue, IfOk, IfSome, IsNone, MatchOption};
 ghost use Rattle.bl_queue.specs.declared.entry.Stand.TheVariants.{Started, Ended};
 ghost use Rattle.bl_queue.specs.Claims.{AreClaims};
-ghost use Rattle.bl_queue.specs.Entries.{MayStart, Runs};
+ghost use Rattle.bl_queue.specs.Entries.{MayStart, Runs, IsFirstRunning};
 ghost use Rattle.bl_queue.specs.Queues.{most_cowns, most_entries, with_entry, with_stand};
 
 use crate::claim::Claim;
 use crate::entry::Stand;
+use crate::numbers::Numbers;
 use crate::roster::Roster;
 use std::alloc::{AllocError, Global};
 use std::marker::Model;
@@ -18,6 +19,8 @@ pub struct Queues {
     cowns: u32,
     limit: u32,
     roster: Roster,
+    /// The numbers of the entries that run.
+    running: Numbers,
 }
 
 impl Model for Queues {
@@ -40,10 +43,12 @@ impl Queues {
         ensures { IfOk result (λ q. q ≡ record { cowns = cowns; limit = limit; entries = [] }) }
     {
         let roster = Roster::new(alloc, cowns, limit)?;
+        let running = Numbers::new(alloc, limit)?;
         Ok(Queues {
             cowns,
             limit,
             roster,
+            running,
         })
     }
 
@@ -81,6 +86,16 @@ impl Queues {
         self.roster.first()
     }
 
+    /// The first entry from this number on that runs. It looks at no other entry.
+    pub fn next_running(&self, from: u32) -> Option<u32>
+        ensures { MatchOption result ((n : ℕ) → from ≤ n → ¬ Runs self.now.entries n) (IsFirstRunning self.now.entries from) }
+    {
+        if from >= self.limit {
+            return None;
+        }
+        self.running.next(from)
+    }
+
     /// Entry n starts.
     pub fn started(&mut self, n: u32)
         requires { MayStart self.old.entries n }
@@ -88,6 +103,7 @@ impl Queues {
     {
         self.roster.set_stand(n, Stand::Started);
         self.roster.pass();
+        self.running.insert(n);
     }
 
     /// Entry n ends, which has started or may start.
@@ -98,5 +114,6 @@ impl Queues {
         self.roster.end_claims(n);
         self.roster.set_stand(n, Stand::Ended);
         self.roster.pass();
+        self.running.remove(n);
     }
 }

@@ -1,4 +1,4 @@
-//! A hundred thousand entries, which end from the last to the first.
+//! A hundred thousand entries, which end from the last to the first, and those of them that run.
 ghost use Rattle.std.specs.Prelude.{◌≡◌, ◌+◌, ◌<◌, length};
 
 use bl_queue::claim::Claim;
@@ -65,5 +65,38 @@ fn hundred_thousand_entries(rt: HostRuntime) -> Result<(), Fail> {
     assert!(rt; queues.ready() == Some(99_999));
     lose(&rt, &mut queues, 99_999);
     assert!(rt; queues.ready().is_none());
+    Ok(())
+}
+
+/// Starts an entry that may start.
+fn start(rt: &impl Abort, queues: &mut Queues, n: u32) {
+    assert!(rt; queues.is_ready(n));
+    queues.started(n);
+}
+
+/// Ends the first entry from this number on that runs.
+fn end_running(queues: &mut Queues, from: u32) {
+    if let Some(n) = queues.next_running(from) {
+        queues.end(n);
+    }
+}
+
+#[test]
+fn running_entries_in_order(rt: HostRuntime) -> Result<(), Fail> {
+    let mut queues = entered(rt.alloc())?;
+    for n in [99_997, 70, 4_096, 64, 3] {
+        start(&rt, &mut queues, n);
+    }
+    assert!(rt; queues.next_running(0) == Some(3));
+    assert!(rt; queues.next_running(4) == Some(64));
+    assert!(rt; queues.next_running(65) == Some(70));
+    assert!(rt; queues.next_running(71) == Some(4_096));
+    assert!(rt; queues.next_running(4_097) == Some(99_997));
+    assert!(rt; queues.next_running(99_998).is_none());
+    end_running(&mut queues, 71);
+    assert!(rt; queues.next_running(71) == Some(99_997));
+    end_running(&mut queues, 65);
+    assert!(rt; queues.next_running(64) == Some(64));
+    assert!(rt; queues.next_running(65) == Some(99_997));
     Ok(())
 }

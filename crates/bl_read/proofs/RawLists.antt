@@ -74,16 +74,6 @@ depth_at [] i x lt at = absurd (omega arith)
 depth_at (y ∷ xs) zero x lt at = omega (arith, depth_first y xs, ap (λ s. spelled_depth (raw_body (s ∷ []))) at)
 depth_at (y ∷ xs) (suc i) x lt at = omega (arith, depth_first y xs, depth_at xs i x (omega arith) at)
 
--- the `when` of what is left are those of the statement at hand and those of the rest
-pub whens_at : (raws : List RawStatement) (i : ℕ) (x : RawStatement) → i < length raws → x ≡ get_or raws i x
-    → whens (raw_body (drop i raws)) ≡ whens (raw_body (x ∷ [])) + whens (raw_body (drop (i + 1) raws))
-whens_at raws i x lt at =
-    ap (λ (l : List RawStatement). whens (raw_body l)) (drop_more raws i x lt ∙ ap (λ (y : RawStatement). y ∷ drop (i + 1) raws) (sym at)) ∙ whens_first x (drop (i + 1) raws)
-
--- and none is left at the end
-pub whens_end : (raws : List RawStatement) (i : ℕ) → length raws ≤ i → whens (raw_body (drop i raws)) ≡ 0
-whens_end raws i past = ap (λ (l : List RawStatement). whens (raw_body l)) (drop_all i raws past)
-
 -- the texts of a list are those of its first statement and those of the others
 contents_first : (x : RawStatement) (rest : List RawStatement) → AreContents (raw_body (x ∷ rest)) → AreContents (raw_body (x ∷ [])) × AreContents (raw_body rest)
 contents_first (Show d) rest h = (tt, h)

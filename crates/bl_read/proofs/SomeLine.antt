@@ -4,12 +4,12 @@ use Rattle.std.specs.Prelude.{All, Contains, Some, map, slice_get}
 use Rattle.std.proofs.lemmas.List.{take_at}
 use Rattle.std.proofs.lemmas.List.Elements.{All-cons, All-nil, All-head, All-tail, Contains-get_or}
 use Rattle.std.proofs.lemmas.List.Quantifiers.{all_pairs_push}
-use Rattle.bl_level.specs.declared.token.Keyword.TheVariants as keyword
+use Rattle.bl_name.specs.declared.token.Keyword.TheVariants as keyword
 use Rattle.bl_level.specs.LevelText.{LevelText}
 use Rattle.bl_level.specs.Lexing.{Front, nothing, token, broken, front, past_blanks, Begins}
 use Rattle.bl_level.specs.Table.{AreDistinct, IsFirstRepeated}
 use Rattle.bl_level.specs.Token.{Tok, reserved}
-use Rattle.bl_level.proofs.Fronts.{front_nothing, front_shorter, broken_within}
+use Rattle.bl_name.proofs.Fronts.{front_nothing, front_shorter, broken_within}
 use Rattle.bl_policy.specs.declared.rule.Rule.{Rule}
 use Rattle.bl_policy.specs.declared.rule.Rule.TheVariants as asked
 use Rattle.bl_work.proofs.MeantLevels.{level_meant, place_some}

@@ -9,9 +9,11 @@ ghost use Rattle.bl_work.specs.Body.{statements_of};
 ghost use Rattle.bl_work.specs.Statements.{Nothing, If};
 ghost use Rattle.bl_work.specs.Script.{most_behaviours};
 ghost use Rattle.bl_work.specs.Building.{when_from, IsBuilt};
+ghost use Rattle.bl_check.specs.Checked.{IsChecked};
 ghost use Rattle.bl_read.specs.Spawned.{with_outermost};
 
 use crate::lookup::Lookup;
+use bl_check::check::Checked;
 use bl_policy::access::{Access, Mode};
 use bl_policy::id::DocId;
 use bl_syntax::raw::{RawAccess, RawBody, RawStatement};
@@ -22,60 +24,26 @@ use bl_work::script::{Behaviour, Body, Choice, Script, Stmt};
 use std::alloc::{AllocError, Global};
 
 /// The script of a `when` that has no fault: at most 32 behaviours nested at most 8 deep, each of at most 8 accesses to different
-/// documents and of statements that keep to them, with no name that is no document's. Its texts are contents.
+/// documents and of statements that keep to them, with no name that is no document's. Its texts are contents. What its check found
+/// out is not looked up or counted again.
 pub fn build_script(
     alloc: Global,
     names: &Names,
     first: RawAccess<'_>,
     more: &[RawAccess<'_>],
     body: &RawBody<'_>,
+    checked: Checked,
 ) -> Result<Script, AllocError>
+    requires checked { IsChecked names.now (raw_access first) (map raw_access more.now) body.now checked }
     requires faultless { IsFaultless names.now (raw_access first) (map raw_access more.now) body.now }
     requires texts { AreContents body.now }
     ensures { IfOk result (λ script. script ≡ script_of names.now (raw_access first.entry) (map raw_access more.now) body.now) }
 {
-    let mut spawned = Vec::with_capacity(alloc, whens_in(body))?;
-    let lookup = Lookup::new(names, first, more);
+    let mut spawned = Vec::with_capacity(alloc, checked.spawned)?;
+    let lookup = Lookup::over(names, first, more, checked.accesses);
     let body = body_of(alloc, &lookup, body, &mut spawned)?;
     let outermost = Behaviour::new(lookup.into_accesses(), body);
     Script::new(alloc, outermost, spawned)
-}
-
-/// How many `when` stand in a body.
-#[cycle(count)]
-fn whens_in(body: &RawBody<'_>) -> usize
-    requires { whens body.now ≤ most_behaviours }
-    ensures { result ≡ whens body.now }
-{
-    let statements = body.statements();
-    let mut count = 0;
-    for statement in statements {
-        count += whens_of(statement);
-    }
-    count
-}
-
-/// How many `when` stand in a statement.
-#[cycle(count)]
-fn whens_of(statement: &RawStatement<'_>) -> usize
-    requires { whens (raw_body (statement.now ∷ [])) ≤ most_behaviours }
-    ensures { result ≡ whens (raw_body (statement.now ∷ [])) }
-{
-    match statement {
-        RawStatement::IfThen(choice) => {
-            let choice = choice.as_ref();
-            whens_in(&choice.then_body)
-        }
-        RawStatement::IfElse(choice) => {
-            let choice = choice.as_ref();
-            whens_in(&choice.then_body) + whens_in(&choice.else_body)
-        }
-        RawStatement::Spawn(when) => {
-            let when = when.as_ref();
-            1 + whens_in(&when.body)
-        }
-        _ => 0,
-    }
 }
 
 /// What stands in the list of behaviours for one that is not built yet.

@@ -89,8 +89,8 @@ fn behaviour<'a>(
     ensures fault { IfErr result (IsFaultOrMemory names.now (when (raw_access first.entry) (map raw_access more.now) body.now)) }
 {
     names_are_names();
-    check_when(names, first, more, body)?;
-    let script = build_script(alloc, names, first, more, body)?;
+    let checked = check_when(names, first, more, body)?;
+    let script = build_script(alloc, names, first, more, body, checked)?;
     Ok(Line::Work(Work::Behaviour(script)))
 }
 

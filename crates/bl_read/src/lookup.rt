@@ -59,11 +59,25 @@ impl<'a> Lookup<'a> {
         ensures names { result.names.now ≡ names.now }
         ensures accesses { result.accesses ≡ map (spelled_access names.now) (raw_access first.entry ∷ map raw_access more.now) }
     {
+        Lookup::over(names, first, more, accesses_of(names, first, more))
+    }
+
+    /// These accesses, whose documents were looked up before.
+    pub(crate) fn over(
+        names: &'a Names,
+        first: RawAccess<'a>,
+        more: &'a [RawAccess<'a>],
+        accesses: Accesses,
+    ) -> Lookup<'a>
+        requires { accesses ≡ map (spelled_access names.now) (raw_access first ∷ map raw_access more.now) }
+        ensures names { result.names.now ≡ names.now }
+        ensures accesses { result.accesses ≡ accesses }
+    {
         Lookup {
             names,
             first,
             more,
-            accesses: accesses_of(names, first, more),
+            accesses,
         }
     }
 

@@ -1,9 +1,9 @@
-//! What a rule asks, and what is wrong with one that is spelled as it should be. Each fault is asked of the whole rule before the
-//! next, from the left. Nothing here takes memory.
-ghost use Rattle.std.specs.Prelude.{◌↔◌, ◌∷◌, [], map, All, Contains, IsTrue, IfOk, IfErr, MatchResult};
+//! What a rule asks, and what is wrong with one that is spelled as it should be. Its names are looked up once; only where that fails
+//! each fault is asked of the whole rule before the next, from the left. Nothing here takes memory.
+ghost use Rattle.std.specs.Prelude.{◌≡◌, ◌↔◌, ◌∷◌, [], map, All, Contains, Some, IsTrue, IfSome, IfNone, IfOk, IfErr, MatchResult};
 ghost use Rattle.bl_level.specs.LevelText as of_level;
 ghost use Rattle.bl_level.specs.Name.{AreProper};
-ghost use Rattle.bl_level.specs.Table.{AreDistinct, IsFirstRepeated};
+ghost use Rattle.bl_level.specs.Table.{AreDistinct, IsFirstRepeated, place_of};
 ghost use Rattle.bl_work.specs.First.{IsNameOfFirst};
 ghost use Rattle.bl_syntax.specs.RawRules.{raw_names, raw_level, raw_rule};
 ghost use Rattle.bl_read.specs.RuleFaults.{category_mention, right_mentions, mentioned, mentions_in, mentions_in_level, categories_in, IsKnown, IsRuleFaultless, IsFaultOfRule};
@@ -12,6 +12,7 @@ ghost use Rattle.bl_work.specs.SpelledRules.{spell_rule};
 
 use bl_level::level::Level;
 use bl_level::name::Name;
+use bl_policy::id::{DocId, SubjectId};
 use bl_policy::rule::Rule;
 use bl_syntax::raw::{RawLevel, RawRight, RawRule};
 use bl_work::asked::LineFault;
@@ -34,13 +35,25 @@ pub fn read_rule(names: &Names, rule: &RawRule<'_>) -> Result<Rule, LineFault>
     ensures found { IfOk result (MeansRule names.now (raw_rule rule.now)) }
     ensures fault { IfErr result (IsFaultOfRule names.now (raw_rule rule.now)) }
 {
+    match rule_of(names, rule) {
+        Some(rule) => Ok(rule),
+        None => Err(fault_of(names, rule)),
+    }
+}
+
+/// The fault of a rule that has one.
+fn fault_of(names: &Names, rule: &RawRule<'_>) -> LineFault
+    requires proper { AreProper (spell_rule (raw_rule rule.now)) }
+    requires faulty { IsRuleFaultless names.now (raw_rule rule.now) → ⊥ }
+    ensures { IsFaultOfRule names.now (raw_rule rule.now) result }
+{
     if let Err(name) = check_rule_known(names, rule) {
-        return Err(LineFault::Unknown(Name::new(name).unwrap()));
+        return LineFault::Unknown(Name::new(name).unwrap());
     }
     if let Err(name) = check_rule_once(rule) {
-        return Err(LineFault::Twice(Name::new(name).unwrap()));
+        return LineFault::Twice(Name::new(name).unwrap());
     }
-    Ok(rule_of(names, rule))
+    unreachable!()
 }
 
 /// Err has the first name of the rule, from the left, that is not what its place asks, and Ok says that there is none.
@@ -154,37 +167,53 @@ fn has_name(names: &[&[u8]], name: &[u8]) -> bool
     false
 }
 
-/// The rule, its names looked up.
-fn rule_of(names: &Names, rule: &RawRule<'_>) -> Rule
-    requires { IsRuleFaultless names.now (raw_rule rule.now) }
-    ensures { MeansRule names.now (raw_rule rule.now) result }
+/// The rule, its names looked up. None where it has a fault.
+fn rule_of(names: &Names, rule: &RawRule<'_>) -> Option<Rule>
+    ensures found { IfSome result (MeansRule names.now (raw_rule rule.now)) }
+    ensures fault { IfNone result (IsRuleFaultless names.now (raw_rule rule.now) → ⊥) }
 {
     match rule {
-        RawRule::Give(right) => Rule::Give {
-            subject: names.subject(right.subject).unwrap(),
-            doc: names.document(right.document).unwrap(),
-            mode: right.mode,
-        },
-        RawRule::Rescind(right) => Rule::Rescind {
-            subject: names.subject(right.subject).unwrap(),
-            doc: names.document(right.document).unwrap(),
-            mode: right.mode,
-        },
-        RawRule::Current(level) => Rule::Current {
-            level: level_of(names, level),
-        },
-        RawRule::Classify { document, level } => Rule::Classify {
-            doc: names.document(document).unwrap(),
-            level: level_of(names, level),
-        },
+        RawRule::Give(right) => {
+            let (subject, doc) = right_of(names, right)?;
+            let mode = right.mode;
+            Some(Rule::Give { subject, doc, mode })
+        }
+        RawRule::Rescind(right) => {
+            let (subject, doc) = right_of(names, right)?;
+            let mode = right.mode;
+            Some(Rule::Rescind { subject, doc, mode })
+        }
+        RawRule::Current(level) => {
+            let level = level_of(names, level)?;
+            Some(Rule::Current { level })
+        }
+        RawRule::Classify { document, level } => {
+            let doc = names.document(document)?;
+            let level = level_of(names, level)?;
+            Some(Rule::Classify { doc, level })
+        }
     }
 }
 
-/// The level, its names looked up.
-fn level_of(names: &Names, level: &RawLevel<'_>) -> Level
-    requires known { All (IsKnown names.now) (mentions_in_level (raw_level level.now)) }
-    requires once { AreDistinct (raw_names level.now.categories.items) }
-    ensures { of_level.Means names.now.scheme (raw_level level.now) result }
+/// The subject and the document. None where one is unknown.
+fn right_of(names: &Names, right: &RawRight<'_>) -> Option<(SubjectId, DocId)>
+    ensures found { IfSome result (λ both. (place_of right.now.subject.now names.now.subjects ≡ Some both.0)
+        × (place_of right.now.document.now names.now.documents ≡ Some both.1)) }
+    ensures unknown { IfNone result (All (IsKnown names.now) (right_mentions right.now.subject.now right.now.document.now) → ⊥) }
 {
-    names.scheme().level(level.rank, &level.categories).unwrap()
+    let subject = names.subject(right.subject)?;
+    let document = names.document(right.document)?;
+    Some((subject, document))
+}
+
+/// The level, its names looked up. None where one is unknown, or a category stands twice.
+fn level_of(names: &Names, level: &RawLevel<'_>) -> Option<Level>
+    ensures found { IfSome result (of_level.Means names.now.scheme (raw_level level.now)) }
+    ensures fault { IfNone result (All (IsKnown names.now) (mentions_in_level (raw_level level.now))
+        → AreDistinct (raw_names level.now.categories.items) → ⊥) }
+{
+    match names.scheme().level(level.rank, &level.categories) {
+        Ok(level) => Some(level),
+        Err(_) => None,
+    }
 }

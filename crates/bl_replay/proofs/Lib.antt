@@ -15,6 +15,4 @@ pub mod Ending
 pub mod Taking
 pub mod Naming
 pub mod Spawning
-pub mod Heading
-pub mod Wording
 pub mod Beginning

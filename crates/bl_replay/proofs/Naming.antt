@@ -8,9 +8,10 @@ use Rattle.bl_setup.specs.Agreement.{Agree}
 use Rattle.bl_setup.specs.Setup.{Setup}
 use Rattle.bl_order.specs.Known.{KnowsAnswer, KnowsDenial}
 use Rattle.bl_wire.specs.Named.{NamesAnswer, NamesDenial}
-use Rattle.bl_replay.specs.Words.{KnowsWords, NamesWords}
-use Rattle.bl_replay.specs.declared.start.Words.{Words}
-use Rattle.bl_replay.specs.declared.start.Words.TheVariants as said
+use Rattle.bl_trail.specs.StartWords.{NamesWords}
+use Rattle.bl_replay.specs.Words.{KnowsWords}
+use Rattle.bl_trail.specs.declared.text.Words.{Words}
+use Rattle.bl_trail.specs.declared.text.Words.TheVariants as said
 
 object : (s : Setup) → Agree s → (o : Option ℕ) → IfSome o (λ doc. doc < length s.policy.documents) → IfSome o (λ doc. doc < length s.names.documents)
 object s agree None h = h

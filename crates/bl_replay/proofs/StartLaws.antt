@@ -12,11 +12,12 @@ use Rattle.bl_order.specs.Machine.{State, Phase, Waiting, Running, Ended, Gone, 
 use Rattle.bl_monitor.specs.Heard.{Heard, fault_of}
 use Rattle.bl_replay.specs.Fed.{IsFed}
 use Rattle.bl_replay.specs.Marks.{AreForetold}
-use Rattle.bl_replay.specs.Words.{words_of, AreWords}
+use Rattle.bl_trail.specs.StartWords.{words_of}
+use Rattle.bl_replay.specs.Words.{AreWords}
 use Rattle.bl_order.specs.Order.{unnamed}
 use Rattle.std.specs.Prelude.{map}
-use Rattle.bl_replay.specs.declared.start.Words.{Words}
-use Rattle.bl_replay.specs.declared.start.Words.TheVariants.{Run}
+use Rattle.bl_trail.specs.declared.text.Words.{Words}
+use Rattle.bl_trail.specs.declared.text.Words.TheVariants.{Run}
 use Rattle.bl_replay.proofs.Foresight.{told-now, runs-now}
 
 -- what waits has not ended, and is not lost

@@ -22,10 +22,10 @@ use Rattle.bl_replay.specs.Findings.{AreFindings}
 use Rattle.bl_replay.specs.Keeps.{HasCome, KeepsAt, Replays}
 use Rattle.bl_replay.specs.Kept.{phase_in}
 use Rattle.bl_replay.specs.Marks.{AreForetold, Finding, Foretells, ending_of, lost_later}
-use Rattle.bl_replay.specs.Words.{words_of, words_run, words_text}
+use Rattle.bl_trail.specs.StartWords.{words_of, words_run, words_text}
 use Rattle.bl_replay.specs.declared.replayer.Replayer.{Replayer}
-use Rattle.bl_replay.specs.declared.start.Words.{Words}
-use Rattle.bl_replay.specs.declared.start.Words.TheVariants as said
+use Rattle.bl_trail.specs.declared.text.Words.{Words}
+use Rattle.bl_trail.specs.declared.text.Words.TheVariants as said
 use Rattle.bl_replay.proofs.MarksLaws.{ends-first, foretells-on, foretold, runs-first}
 use Rattle.bl_replay.proofs.Moving.{many-places}
 

@@ -5,4 +5,3 @@ pub mod Fed
 pub mod Words
 pub mod Kept
 pub mod Keeps
-pub mod Heads

@@ -5,19 +5,15 @@
 //!     place       the entries of the order, with where they stand
 //!     claim       what an entry claims
 //!     feed        the monitor is told the entries in order
-//!     text        the texts of events
 //!     start       what the start of a place says
 //!     replayer    takes the lines of a trail, one after another
-//!     head        the version and the limit
 //!     replay      the verdict on a text
 #![tactic(auto)]
 
 pub mod claim;
 pub mod feed;
-pub mod head;
 pub mod mark;
 pub mod place;
 pub mod replay;
 pub mod replayer;
 pub mod start;
-pub mod text;

@@ -5,7 +5,6 @@ ghost use Rattle.bl_trail.specs.Follow.{IsVerdict};
 ghost use Rattle.bl_trail.specs.TrueText.{IsLimit};
 ghost use Rattle.bl_replay.specs.Keeps.{KeepsAt};
 
-use crate::head::{Head, head_of};
 use crate::mark::{Mark, foretell};
 use crate::replayer::Replayer;
 use bl_monitor::monitor::Monitor;
@@ -13,6 +12,7 @@ use bl_order::laws::steps_lead_on;
 use bl_queue::queues::Queues;
 use bl_setup::setup::Setup;
 use bl_trail::follow::follow;
+use bl_trail::head::{Head, head_of};
 use bl_trail::verdict::{Verdict, what_was_followed_tells_the_verdict};
 use std::alloc::{AllocError, Global};
 

@@ -6,8 +6,7 @@ use crate::claim::{enter, enter_children};
 use crate::feed::feed;
 use crate::mark::{Mark, is_lost_later};
 use crate::place::{Origin, Place, Stand};
-use crate::start::{Words, start_words};
-use crate::text::{end_text, line_text, loss_text, open_text, start_text};
+use crate::start::start_words;
 use bl_monitor::monitor::Monitor;
 use bl_order::laws::{
     claims_go_by_number, read_lines_are_in_the_setup, steps_lead_on, the_order_has_room,
@@ -19,6 +18,7 @@ use bl_queue::queues::Queues;
 use bl_setup::setup::Setup;
 use bl_trail::ask::{Ask, ask_of};
 use bl_trail::follow::Follows;
+use bl_trail::text::{Words, end_text, line_text, loss_text, open_text, start_text};
 use bl_trail::work::{same_bytes, work_of};
 use bl_work::answer::Answer;
 use bl_work::work::Work;

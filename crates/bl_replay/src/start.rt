@@ -6,37 +6,12 @@ ghost use Rattle.bl_order.specs.Machine.{State, MayStart, past_at};
 ghost use Rattle.bl_order.specs.Order.{Entry, is_rule, unnamed};
 ghost use Rattle.bl_replay.specs.Fed.{IsFed};
 ghost use Rattle.bl_replay.specs.Marks.{AreForetold};
-ghost use Rattle.bl_replay.specs.Words.{AreWords, KnowsWords, words_of};
+ghost use Rattle.bl_replay.specs.Words.{AreWords, KnowsWords};
+ghost use Rattle.bl_trail.specs.StartWords.{words_of};
 
 use bl_monitor::monitor::Monitor;
-use bl_policy::denial::Denial;
+use bl_trail::text::Words;
 use bl_work::answer::Answer;
-
-/// What a start says of its place.
-#[derive(Clone, Copy)]
-pub enum Words {
-    /// The behaviour runs from now on.
-    Run,
-    /// The rule is applied, and the place has ended.
-    Rule,
-    /// The policy denies it, and the place has ended.
-    Denied(Denial),
-}
-
-impl Words {
-    ghost use Rattle.std.specs.Prelude.{◌≡◌};
-    ghost use Rattle.bl_replay.specs.Words.{words_run};
-
-    /// Whether the place runs after such a start.
-    pub fn runs(&self) -> bool
-        ensures { result ≡ words_run self.now }
-    {
-        match self {
-            Words::Run => true,
-            Words::Rule | Words::Denied(_) => false,
-        }
-    }
-}
 
 /// What an answer says at the start of its place.
 fn answer_words(answer: &Answer) -> Option<Words>

@@ -1,17 +1,16 @@
 -- Laws of an admission order that grows at its end.
-use Rattle.std.proofs.Common.{◌≡◌, ◌≢◌, ℕ, zero, suc, ◌+◌, ◌<◌, ◌≤◌, Bool, true, false, cond, ◌&&◌, ◌==◌, List, [], ◌∷◌, ◌++◌, length, get_or, refl, sym, ap, subst, ◌∙◌, arith, ne_eqb, append-nil, length-append, inl, inr, ◌⊎◌, slice_index_or}
-use mathlib.Core.Path.{fun_ext}
+use Rattle.std.proofs.Common.{◌≡◌, ◌≢◌, ℕ, zero, suc, ◌+◌, ◌-◌, ◌<◌, ◌≤◌, Bool, true, false, cond, ◌&&◌, ◌==◌, List, [], ◌∷◌, ◌++◌, length, get_or, refl, sym, ap, subst, ◌∙◌, arith, ne_eqb, append-nil, length-append, inl, inr, ◌⊎◌, slice_index_or}
 use Rattle.std.proofs.Math.ListN.{get_or-append}
 use Rattle.std.proofs.lemmas.Bool.Decides.{eqb_tells}
 use Rattle.bl_work.specs.declared.work.Work.{Work}
-use Rattle.bl_setup.specs.Setup.{Setup}
 use Rattle.bl_order.specs.Order.{Entry, Line, Child}
 use Rattle.bl_order.specs.Past.{Past, place, no_entry}
 use Rattle.bl_order.specs.Machine.{State, is_lost, past_at, child_entries}
 use Rattle.bl_order.proofs.Places.{place-grown}
-use Rattle.bl_session.specs.Requests.{SameUpTo}
+use Rattle.bl_order.proofs.PlaceLaws.{place-lost}
+use Rattle.bl_engine.specs.Requests.{SameUpTo}
 use Rattle.bl_wire.specs.Replies.{Tag, Reply, tag, tag_of, tag_at, tags_to, is_of, put_in, replies_to, line_or_full, line_text}
-use Rattle.bl_session.specs.Orders.{said, reply_at, at_rest, told_text, ordinal_of, AreLater}
+use Rattle.bl_session.specs.Pages.{ordinal_of, AreLater}
 
 -- ---- lists
 
@@ -69,52 +68,70 @@ pub tag-child : (A : List Entry) (p w : ℕ) → p < length A → tag (A ++ Chil
 tag-child A p w lt =
     tag-last A (Child p w) ∙ ap (λ (t : Tag). record { session = t.session; label = t.label ++ w ∷ [] }) (tag-before A (length A) p lt)
 
--- ---- records and replies
-
-pub said-grown : (setup : Setup) (A more : List Entry) (n : ℕ) → n < length A → said setup (A ++ more) n ≡ said setup A n
-said-grown setup A more n lt = place-grown setup (λ k. false) (λ k. false) A more n (λ k. refl) lt
-
-pub reply-grown : (setup : Setup) (A more : List Entry) (n : ℕ) → n < length A → reply_at setup (A ++ more) n ≡ reply_at setup A n
-reply-grown setup A more n lt = λ i. record { label = (tag-grown A more n lt i).label; answer = (said-grown setup A more n lt i).answer }
-
-abbrev put_at : (o k : ℕ) → Tag → Reply → List Reply → List Reply
-put_at o k t r rest = cond (is_of o k t) (put_in r rest) rest
-
-pub replies-grown : (setup : Setup) (A more : List Entry) (k n : ℕ) → n ≤ length A → replies_to (at_rest setup (A ++ more)) 0 k n ≡ replies_to (at_rest setup A) 0 k n
-replies-grown setup A more k zero le = refl
-replies-grown setup A more k (suc n) le =
-    ap (λ (t : Tag). put_at 0 k t (record { label = t.label; answer = (said setup (A ++ more) n).answer }) (replies_to (at_rest setup (A ++ more)) 0 k n)) (tag-grown A more n le)
-    ∙ ap (λ (p : Past). put_at 0 k (tag A n) (record { label = (tag A n).label; answer = p.answer }) (replies_to (at_rest setup (A ++ more)) 0 k n)) (said-grown setup A more n le)
-    ∙ ap (λ (l : List Reply). put_at 0 k (tag A n) (reply_at setup A n) l) (replies-grown setup A more k n (omega arith))
+-- ---- replies
 
 and_false : (b : Bool) → (b && false) ≡ false
 and_false true = refl
 and_false false = refl
 
-pub not_of : (k : ℕ) (t : Tag) → ordinal_of t ≢ k → is_of 0 k t ≡ false
+not_of : (k : ℕ) (t : Tag) → ordinal_of t ≢ k → is_of 0 k t ≡ false
 not_of k t other = ap (λ b. (t.session == 0) && b) (ne_eqb (ordinal_of t) k other) ∙ and_false (t.session == 0)
 
+abbrev put_at : State → ℕ → ℕ → List Reply → List Reply
+put_at x k n rest = cond (is_of 0 k (tag x.order n)) (put_in (record { label = (tag x.order n).label; answer = (past_at x n).answer }) rest) rest
+
 -- places of other lines add nothing to the replies to a line
-pub replies-other : (setup : Setup) (A : List Entry) (k from n : ℕ) → ((p : ℕ) → from ≤ p → p < from + n → ordinal_of (tag A p) ≢ k)
-    → replies_to (at_rest setup A) 0 k (from + n) ≡ replies_to (at_rest setup A) 0 k from
-replies-other setup A k from zero other = ap (replies_to (at_rest setup A) 0 k) (omega arith)
-replies-other setup A k from (suc n) other =
+replies-other : (x : State) (k from n : ℕ) → ((p : ℕ) → from ≤ p → p < from + n → ordinal_of (tag x.order p) ≢ k) → replies_to x 0 k (from + n) ≡ replies_to x 0 k from
+replies-other x k from zero other = ap (replies_to x 0 k) (omega arith)
+replies-other x k from (suc n) other =
     let e : from + suc n ≡ suc (from + n) = omega arith in
-    ap (replies_to (at_rest setup A) 0 k) e
-    ∙ ap (λ b. cond b (put_in (reply_at setup A (from + n)) (replies_to (at_rest setup A) 0 k (from + n))) (replies_to (at_rest setup A) 0 k (from + n)))
-    (not_of k (tag A (from + n)) (other (from + n) (omega arith) (omega arith)))
-    ∙ replies-other setup A k from n (λ p low high. other p low (omega (arith, high)))
+    let r : Reply = record { label = (tag x.order (from + n)).label; answer = (past_at x (from + n)).answer } in
+    ap (replies_to x 0 k) e
+    ∙ ap (λ b. cond b (put_in r (replies_to x 0 k (from + n))) (replies_to x 0 k (from + n))) (not_of k (tag x.order (from + n)) (other (from + n) (omega arith) (omega arith)))
+    ∙ replies-other x k from n (λ p low high. other p low (omega (arith, high)))
 
-pub text-other : (setup : Setup) (A more : List Entry) (k : ℕ) → ((p : ℕ) → length A ≤ p → p < length (A ++ more) → ordinal_of (tag (A ++ more) p) ≢ k)
-    → told_text setup (A ++ more) k ≡ told_text setup A k
-text-other setup A more k other =
-    ap (λ n. line_or_full setup.names k (replies_to (at_rest setup (A ++ more)) 0 k n)) (length-append A more)
-    ∙ ap (line_or_full setup.names k)
-    (replies-other setup (A ++ more) k (length A) (length more) (λ p low high. other p low (omega (arith, high, length-append A more)))
-    ∙ replies-grown setup A more k (length A) (omega arith))
+-- places with the same tags and records have the same replies
+replies-alike : (x y : State) (k n : ℕ) → ((p : ℕ) → p < n → tag y.order p ≡ tag x.order p) → ((p : ℕ) → p < n → past_at y p ≡ past_at x p) → replies_to y 0 k n ≡ replies_to x 0 k n
+replies-alike x y k zero tags pasts = refl
+replies-alike x y k (suc n) tags pasts =
+    ap (λ (t : Tag). cond (is_of 0 k t) (put_in (record { label = t.label; answer = (past_at y n).answer }) (replies_to y 0 k n)) (replies_to y 0 k n)) (tags n (omega arith))
+    ∙ ap (λ (p : Past). cond (is_of 0 k (tag x.order n)) (put_in (record { label = (tag x.order n).label; answer = p.answer }) (replies_to y 0 k n)) (replies_to y 0 k n)) (pasts n (omega arith))
+    ∙ ap (put_at x k n) (replies-alike x y k n (λ p lt. tags p (omega arith)) (λ p lt. pasts p (omega arith)))
 
-pub text-later : (setup : Setup) (A more : List Entry) (n : ℕ) → AreLater (length A) (A ++ more) n → SameUpTo n (told_text setup A) (told_text setup (A ++ more))
-text-later setup A more n later k le = text-other setup A more k (λ p low high e. let lt : n < ordinal_of (tag (A ++ more) p) = later p low high in omega (arith, lt, le, e))
+-- where an order grows, and the first places stand as they stood, and all others are of later lines, the replies up to that line stand
+pub text-stands : (x y : State) (more : List Entry) (ended n : ℕ) → y.setup ≡ x.setup → y.order ≡ x.order ++ more → ((p : ℕ) → p < ended → is_lost y p ≡ is_lost x p) → ended ≤ length x.order
+    → AreLater ended y.order n → SameUpTo n (line_text x 0) (line_text y 0)
+text-stands x y more ended n setup order lost within later k le =
+    ap (λ s. line_or_full s.names k (replies_to y 0 k (length y.order))) setup
+    ∙ ap (line_or_full x.setup.names k)
+    (ap (replies_to y 0 k) long_y ∙ replies-other y k ended (length y.order - ended) (λ p low high e. let far = later p low (omega (arith, high, long_y)) in omega (arith, far, e, le))
+    ∙ replies-alike x y k ended tags pasts
+    ∙ sym (ap (replies_to x 0 k) long_x ∙ replies-other x k ended (length x.order - ended) (λ p low high e. let far = later_x p low (omega (arith, high, long_x)) in omega (arith, far, e, le))))
+  where
+    grown : length y.order ≡ length x.order + length more
+    grown = ap length order ∙ length-append x.order more
+
+    long_y : length y.order ≡ ended + (length y.order - ended)
+    long_y = omega (arith, grown, within)
+
+    long_x : length x.order ≡ ended + (length x.order - ended)
+    long_x = omega (arith, within)
+
+    same_tag : (p : ℕ) → p < length x.order → tag y.order p ≡ tag x.order p
+    same_tag p lt = ap (λ o. tag o p) order ∙ tag-grown x.order more p lt
+
+    later_x : AreLater ended x.order n
+    later_x p low high = subst (λ (t : Tag). n < ordinal_of t) (same_tag p high) (later p low (omega (arith, high, grown)))
+
+    tags : (p : ℕ) → p < ended → tag y.order p ≡ tag x.order p
+    tags p lt = same_tag p (omega (arith, lt, within))
+
+    pasts : (p : ℕ) → p < ended → past_at y p ≡ past_at x p
+    pasts p lt =
+        ap (λ s. place s (is_lost y) y.order p) setup
+        ∙ ap (λ o. place x.setup (is_lost y) o p) order
+        ∙ place-grown x.setup (is_lost y) (is_lost y) x.order more p (λ k. refl) (omega (arith, lt, within))
+        ∙ place-lost x.setup (is_lost y) (is_lost x) x.order p (λ k low. lost k (omega (arith, low, lt)))
 
 -- one line more
 pub later-line : (A : List Entry) (from ordinal subject n : ℕ) (w : Work) → AreLater from A n → n < ordinal → AreLater from (A ++ Line 0 ordinal subject w ∷ []) n
@@ -154,16 +171,3 @@ later-children (b ∷ behaviours) A from parent w n later le lt =
     subst (λ l. AreLater from l n) (join A (Child parent w ∷ []) (child_entries parent (w + 1) behaviours))
     (later-children behaviours (A ++ Child parent w ∷ []) from parent (w + 1) n (later-child A from parent w n later le lt) le
     (omega (arith, longer A (Child parent w))))
-
--- a state in which nothing is lost answers what its order alone says
-pub past-calm : (x : State) → ((p : ℕ) → is_lost x p ≡ false) → (n : ℕ) → past_at x n ≡ said x.setup x.order n
-past-calm x kept n = ap (λ l. place x.setup l x.order n) (fun_ext kept)
-
-pub replies-calm : (x : State) → ((p : ℕ) → is_lost x p ≡ false) → (k n : ℕ) → replies_to x 0 k n ≡ replies_to (at_rest x.setup x.order) 0 k n
-replies-calm x kept k zero = refl
-replies-calm x kept k (suc n) =
-    ap (λ (p : Past). put_at 0 k (tag x.order n) (record { label = (tag x.order n).label; answer = p.answer }) (replies_to x 0 k n)) (past-calm x kept n)
-    ∙ ap (λ (l : List Reply). put_at 0 k (tag x.order n) (reply_at x.setup x.order n) l) (replies-calm x kept k n)
-
-pub text-calm : (x : State) → ((p : ℕ) → is_lost x p ≡ false) → (k : ℕ) → line_text x 0 k ≡ told_text x.setup x.order k
-text-calm x kept k = ap (line_or_full x.setup.names k) (replies-calm x kept k (length x.order))

@@ -1,5 +1,6 @@
--- What the machine of one worker holds before the first line, and what is asked of it.
-use Rattle.std.proofs.Common.{◌≡◌, ℕ, ◌<◌, Bool, true, false, ◌⊎◌, inl, inr, List, [], length, refl, sym, ap, subst, ◌∙◌, arith, Option, Some, None, IfSome, sum_by}
+-- What is asked of the machine of one worker, and what is written.
+use Rattle.std.proofs.Common.{◌≡◌, ℕ, ◌<◌, Bool, true, false, ◌⊎◌, inl, inr, List, [], length, refl, subst, arith, Option, Some}
+use Rattle.std.specs.Prelude.{⊤, Result, Ok, Err, OnOk, IfErr}
 use mathlib.Core.Path.{fun_ext}
 use Rattle.std.specs.Io.KnownBytes.{Appends}
 use Rattle.std.proofs.KnownBytes.{Appends-nil}
@@ -7,98 +8,29 @@ use Rattle.std.specs.Str.{bytes_eq}
 use Rattle.std.proofs.lemmas.List.Quantifiers.{position-Some}
 use Rattle.bl_level.specs.Table.{place_of}
 use Rattle.bl_work.specs.declared.asked.Line.TheVariants as line
-use Rattle.bl_work.specs.declared.work.Work.{Work}
 use Rattle.bl_work.specs.Names.{KnownNames}
 use Rattle.bl_work.specs.Grammar.{SpelledLine, hello, wait, when, rule}
-use Rattle.bl_work.specs.LineGrammar.{Means, LineOf}
+use Rattle.bl_work.specs.LineGrammar.{Means}
 use Rattle.bl_setup.specs.Agreement.{Agree}
 use Rattle.bl_setup.specs.Setup.{Setup}
-use Rattle.bl_order.specs.Machine.{start, entry_weight}
-use Rattle.bl_monitor.specs.Heard.{Heard}
-use Rattle.bl_order.specs.Known.{KnowsWork}
-use Rattle.bl_session.specs.declared.entries.Pages.{Pages}
+use Rattle.bl_hall.specs.Chronicle.{state_now}
 use Rattle.bl_wire.specs.declared.turn.Turn.TheVariants.{Skip, Wait, Greets, Bad, Ask}
 use Rattle.bl_wire.specs.declared.fault.SessionFault.{SessionFault}
 use Rattle.bl_wire.specs.declared.fault.SessionFault.TheVariants.{Memory}
 use Rattle.bl_wire.specs.Turns.{AreServed}
-use Rattle.bl_session.specs.Requests.{SameUpTo}
-use Rattle.bl_wire.specs.Texts.{session_text}
-use Rattle.bl_session.specs.Stages.{Finished, Stopped}
-use Rattle.bl_session.specs.Outcome.{IsServed, IsCutShort}
 use Rattle.bl_wire.specs.Replies.{line_text}
+use Rattle.bl_wire.specs.Texts.{session_text}
+use Rattle.bl_engine.specs.Requests.{SameUpTo}
+use Rattle.bl_engine.specs.View.{ends}
+use Rattle.bl_engine.specs.Stages.{Finished, Stopped}
+use Rattle.bl_engine.proofs.Steps.{seen}
+use Rattle.bl_engine.proofs.Cuttings.{cutting_start, broken_after}
+use Rattle.bl_session.specs.declared.entries.Pages.{Pages}
+use Rattle.bl_session.specs.One.{Kept, one_state}
+use Rattle.bl_session.specs.Outcome.{IsServed, IsCutShort}
+use Rattle.bl_session.specs.Pages.{AreLater, Came}
 use Rattle.bl_session.specs.Transcript.{transcript}
-use Rattle.bl_session.specs.One.{one_state}
-use Rattle.bl_session.specs.Orders.{told_text, AreLater, Mirrors}
-use Rattle.bl_session.specs.Entries.{order_of, AreLabelled, AreAnswered}
-use Rattle.bl_session.specs.Whole.{AreKnown, IsWhole, Came}
-use Rattle.bl_session.proofs.Cuttings.{cutting_start, broken_after}
-use Rattle.bl_session.proofs.MachineLaws.{one_whole, one_part}
-
--- ---- nothing has been told
-
-none_labelled : AreLabelled []
-none_labelled = record {
-  tags = λ n d lt. absurd (omega arith);
-  below = λ n d lt. absurd (omega arith);
-  lines = λ n d lt. absurd (omega arith);
-  rise = λ m n d lt within. absurd (omega arith);
-}
-
-none_known : (setup : Setup) → AreKnown setup []
-none_known setup n d lt = absurd (omega arith)
-
-none_answered : (setup : Setup) → AreAnswered setup (record { setup = setup; order = []; lost = [] }) [] 0 []
-none_answered setup = record {
-  setup_is = refl;
-  told = refl;
-  kept = λ n. refl;
-  are = λ n d lt. absurd (omega arith);
-  known = λ n d lt. absurd (omega arith);
-  few = omega arith;
-}
-
-none_mirrors : (setup : Setup) (limit : ℕ) → Mirrors setup limit None [] 0 (start setup limit)
-none_mirrors setup limit = record {
-  setup_is = refl;
-  limit_is = refl;
-  sessions = refl;
-  order_is = refl;
-  as_many = refl;
-  within = omega arith;
-  kept = λ p. refl;
-  over = λ p lt. absurd (omega arith);
-  waits = λ p le. refl;
-}
-
-module _ (setup : Setup) (limit : ℕ) (s : Pages) (entries : s.entries.items ≡ []) (subject : s.subject ≡ None) (first : s.first ≡ 0) (ended : s.ended ≡ 0) where
-  pub start_whole : Agree setup → s.answers.items ≡ [] → s.weight ≡ 0 → s.monitor ≡ record { setup = setup; order = []; lost = [] } → IsWhole setup limit s 0
-  start_whole agree answers weight monitor = record {
-    agree = agree;
-    labelled = subst AreLabelled (sym entries) none_labelled;
-    known = subst (AreKnown setup) (sym entries) (none_known setup);
-    answered =
-        subst (λ l. AreAnswered setup s.monitor (order_of l) s.first s.answers.items) (sym entries)
-        (subst (λ k. AreAnswered setup s.monitor [] k s.answers.items) (sym first)
-        (subst (AreAnswered setup s.monitor [] 0) (sym answers)
-        (subst (λ (h : Heard). AreAnswered setup h [] 0 []) (sym monitor) (none_answered setup))));
-    ended = omega (arith, ended, first, ap length answers);
-    room = omega (arith, ap length entries);
-    weight = weight ∙ ap (λ l. sum_by entry_weight (order_of l)) (sym entries);
-    fits = omega (arith, weight);
-    subject = subst (λ (o : Option ℕ). IfSome o (λ k. k < length setup.policy.subjects)) (sym subject) tt;
-    last = λ p d lt. absurd (omega (arith, lt, ap length entries));
-    unrun = λ p d low lt. absurd (omega (arith, lt, ap length entries));
-    before = λ p d lt. absurd (omega (arith, lt, ended));
-  }
-
-  pub start_came : Came setup limit s []
-  start_came =
-      subst (λ o. Mirrors setup limit o (order_of s.entries.items) s.ended (start setup limit)) (sym subject)
-      (subst (λ l. Mirrors setup limit None (order_of l) s.ended (start setup limit)) (sym entries)
-      (subst (λ k. Mirrors setup limit None [] k (start setup limit)) (sym ended) (none_mirrors setup limit)))
-
-  pub start_settled : AreLater s.ended (order_of s.entries.items) 0
-  start_settled p low lt = absurd (omega (arith, lt, ap (λ l. length (order_of l)) entries))
+use Rattle.bl_session.proofs.PageLaws.{one_whole, one_part}
 
 -- ---- what lines ask for is served
 
@@ -111,19 +43,18 @@ subject_of names wait subject means = absurd means
 subject_of names (when first more body) subject means = absurd means
 subject_of names (rule asked) subject means = absurd means
 
-pub are_served : (setup : Setup) → Agree setup → ((bytes : List ℕ) (work : Work) → LineOf setup.names bytes (line.Work work) → KnowsWork setup work)
-    → AreServed setup.names (λ subject. subject < length setup.policy.subjects) (KnowsWork setup)
-are_served setup agree knows l Skip is = tt
-are_served setup agree knows l Wait is = tt
-are_served setup agree knows l (Greets subject) is = subst (λ n. subject < n) agree.subjects (subject_of setup.names is.1.spelled subject is.1.means)
-are_served setup agree knows l (Bad fault) is = tt
-are_served setup agree knows l (Ask work) is = knows _ work is.1
+pub are_served : (setup : Setup) → Agree setup → AreServed setup.names (λ subject. subject < length setup.policy.subjects) (λ work. ⊤)
+are_served setup agree l Skip is = tt
+are_served setup agree l Wait is = tt
+are_served setup agree l (Greets subject) is = subst (λ n. subject < n) agree.subjects (subject_of setup.names is.1.spelled subject is.1.means)
+are_served setup agree l (Bad fault) is = tt
+are_served setup agree l (Ask work) is = tt
 
 -- ---- what is written
 
 module _ (setup : Setup) (limit : ℕ) (s : Pages) (start rest first kept : Option (List ℕ)) where
   -- a session that was read to its end
-  pub served_whole : (Settled : ℕ → Type 0) → Finished setup.names start rest first kept (told_text setup (order_of s.entries.items)) Settled (Came setup limit s)
+  pub served_whole : (Settled : ℕ → Type 0) → Finished setup.names (ends start rest first kept) (seen (line_text (state_now s.hall) 0) Settled (Came setup limit s))
       → (read_failed write_failed : Bool) → read_failed ≡ false → write_failed ≡ false
       → IsServed setup limit (record { before = start; after = rest; failed = read_failed }) (record { before = first; after = kept; failed = write_failed })
   served_whole Settled done read_failed write_failed reader writer = record {
@@ -134,18 +65,18 @@ module _ (setup : Setup) (limit : ℕ) (s : Pages) (start rest first kept : Opti
     whole = done.whole;
     stops = done.stops;
     are = done.are;
-    put = subst (λ (f : ℕ → List ℕ). Appends first kept (session_text f done.turns))
-        (fun_ext (one_whole setup limit s.subject (order_of s.entries.items) s.ended done.turns done.came)) done.put;
+    fate = done.came.fate;
+    put = subst (λ (f : ℕ → List ℕ). Appends first kept (session_text f done.turns)) (fun_ext (one_whole setup limit s done.turns done.came)) done.put;
     fine = (reader, writer);
   }
 
   -- a session that ended early
   pub served_part : (fault : SessionFault) (read_failed write_failed : Bool)
-      → Stopped fault setup.names start rest first kept read_failed write_failed (told_text setup (order_of s.entries.items)) (λ n. AreLater s.ended (order_of s.entries.items) n) (Came setup limit s)
+      → Stopped fault setup.names (ends start rest first kept) read_failed write_failed (seen (line_text (state_now s.hall) 0) (λ n. AreLater s.next (state_now s.hall).order n) (Came setup limit s))
       → IsCutShort setup limit fault (record { before = start; after = rest; failed = read_failed }) (record { before = first; after = kept; failed = write_failed })
   served_part fault read_failed write_failed off =
-      let same : SameUpTo off.upto (told_text setup (order_of s.entries.items)) (line_text (one_state setup limit off.heard) 0) =
-      one_part setup limit s.subject (order_of s.entries.items) s.ended off.upto off.settles off.told off.heard off.came off.settled off.told_is in
+      let same : SameUpTo off.upto (line_text (state_now s.hall) 0) (line_text (one_state setup limit off.came.fate off.heard) 0) =
+      one_part setup limit s off.upto off.settles off.told off.heard off.came off.settled off.told_is in
       record {
         turns = off.turns;
         read = off.read;
@@ -155,8 +86,9 @@ module _ (setup : Setup) (limit : ℕ) (s : Pages) (start rest first kept : Opti
         put = off.put;
         heard = off.heard;
         heard_is = off.heard_is;
-        begins = off.begins (line_text (one_state setup limit off.heard) 0) same;
-        closed = off.closed (line_text (one_state setup limit off.heard) 0) same;
+        fate = off.came.fate;
+        begins = off.begins (line_text (one_state setup limit off.came.fate off.heard) 0) same;
+        closed = off.closed (line_text (one_state setup limit off.came.fate off.heard) 0) same;
       }
 
 -- a session for which memory was refused before it began
@@ -171,7 +103,8 @@ unserved setup limit start kept read_failed write_failed reader writer = record 
   put = Appends-nil kept;
   heard = [];
   heard_is = ([], omega arith, refl);
-  begins = (transcript setup limit [], refl);
+  fate = λ n. Kept;
+  begins = (transcript setup limit (λ n. Kept) [], refl);
   closed = ([], [], omega arith, refl, inl (tt, refl));
 }
 
@@ -179,3 +112,12 @@ unserved setup limit start kept read_failed write_failed reader writer = record 
 pub not_full : (A B : Type 0) → A ⊎ (⊥ × B) → A
 not_full A B (inl a) = a
 not_full A B (inr b) = absurd b.0
+
+-- what holds of both kinds of result
+pub ok_both : {T E : Type 0} (r : Result T E) (A B C : Type 0) → (A → B → C) → OnOk r A → OnOk r B → OnOk r C
+ok_both (Ok x) A B C f a b = f a b
+ok_both (Err e) A B C f a b = tt
+
+pub err_as : {T E : Type 0} (r : Result T E) (P Q : E → Type 0) → ((e : E) → P e → Q e) → IfErr r P → IfErr r Q
+err_as (Ok x) P Q f p = tt
+err_as (Err e) P Q f p = f e p

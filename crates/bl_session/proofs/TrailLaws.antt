@@ -1,28 +1,26 @@
 -- What one worker does is a trail, at whose end every place has ended.
-use Rattle.std.proofs.Common.{◌≡◌, ℕ, zero, suc, ◌+◌, ◌<◌, ◌≤◌, ◌^◌, Bool, true, false, cond, List, [], ◌∷◌, ◌++◌, length, refl, sym, ap, subst, arith, inl, inr, ◌⊎◌, slice_index_or, slice_set, nat_lt, ltb-true, Some, length-append, sum_by}
+use Rattle.std.proofs.Common.{◌≡◌, ℕ, zero, suc, ◌+◌, ◌<◌, ◌≤◌, ◌^◌, Bool, true, false, cond, List, [], ◌∷◌, ◌++◌, length, refl, sym, ap, subst, ◌∙◌, arith, inl, inr, ◌⊎◌, slice_index_or, slice_set, nat_lt, ltb-true, length-append, sum_by}
 use Rattle.std.specs.Prelude.{All, IsTrue, ◌==◌}
 use Rattle.std.proofs.lemmas.Bool.Decides.{nat_tests}
 use Rattle.std.proofs.lemmas.List.Elements.{All-head, All-tail, All-cons, All-nil}
-use Rattle.bl_work.specs.Effects.{children}
 use Rattle.bl_work.specs.Names.{KnownNames}
 use Rattle.bl_work.specs.Readable.{IsReadable}
 use Rattle.bl_work.specs.declared.work.Work.{Work}
 use Rattle.bl_setup.specs.Agreement.{Agree}
 use Rattle.bl_setup.specs.Setup.{Setup}
 use Rattle.bl_order.specs.Headline.{IsReached, Holds}
-use Rattle.bl_order.specs.Order.{Entry, Line}
-use Rattle.bl_order.specs.Machine.{State, Event, Session, MayStart, Needs, IsTrail, is_waiting, has_ended, runs, change, start, state_after, session_at, no_session, child_entries, entry_weight, weight_of}
+use Rattle.bl_order.specs.Machine.{State, Event, Session, MayStart, Needs, IsTrail, is_waiting, has_ended, runs, change, start, state_after, session_at, no_session, entry_weight, weight_of}
 use Rattle.bl_order.specs.Machine as machine
 use Rattle.bl_wire.specs.declared.turn.Turn.{Turn}
 use Rattle.bl_wire.specs.declared.turn.Turn.TheVariants.{Skip, Wait, Greets, Bad, Ask}
 use Rattle.bl_wire.specs.Lines.{onto, lines_of, without_cr}
 use Rattle.bl_wire.specs.Turns.{StandsIn, AreTurns}
-use Rattle.bl_session.specs.Requests.{Settles, told_of}
-use Rattle.bl_session.specs.One.{place_events, run_from, settling, fits, events_of, one, one_state}
+use Rattle.bl_engine.specs.Requests.{Settles, told_of}
+use Rattle.bl_session.specs.One.{Fate, Kept, Starved, Unrun, events_by, place_events, run_from, settling, fits, events_of, one, one_state}
 use Rattle.bl_session.specs.OneTrail.{IsOneTrail}
-use Rattle.bl_session.specs.Orders.{said, Mirrors}
-use Rattle.bl_session.specs.Spoken.{Begins}
-use Rattle.bl_session.proofs.RunLaws.{state_after-append, mirror_place, mirror_line}
+use Rattle.bl_session.specs.Pages.{RanUpTo}
+use Rattle.bl_engine.specs.Spoken.{Begins}
+use Rattle.bl_session.proofs.RunLaws.{state_after-append, setup_after, limit_after, ran_place, ran_line}
 use Rattle.bl_session.proofs.ServeLaws.{subject_of}
 
 -- what the laws of the order say: a step leads on, and the order stays within the limit
@@ -37,11 +35,28 @@ trail-append : (x : State) (a b : List Event) → IsTrail x a → IsTrail (state
 trail-append x [] b first then = then
 trail-append x (e ∷ a) b first then = (first.0, trail-append (change x e) a b first.1 then)
 
-module _ (lead : StepsLeadOn) (room : OrderHasRoom) (setup : Setup) (limit u : ℕ) where
+-- the next place that waits may start
+pub may_next : (x : State) (n : ℕ) → RanUpTo n x → n < length x.order → MayStart x n
+may_next x n ran lt = record {
+  there = lt;
+  waits = ap is_waiting (ran.waits n (omega arith));
+  clear = λ m below c. ran.over m below;
+}
+
+-- a session's last ordinal is that of its last line
+pub last_set : (sessions : List Session) (k : ℕ) → 0 < length sessions
+    → (0 < length (slice_set sessions 0 (record (slice_index_or sessions 0 no_session) { last = k })))
+    × ((slice_index_or (slice_set sessions 0 (record (slice_index_or sessions 0 no_session) { last = k })) 0 no_session).last ≡ k)
+last_set [] k some = absurd (omega arith)
+last_set (s ∷ sessions) k some = (omega arith, refl)
+
+module _ (lead : StepsLeadOn) (room : OrderHasRoom) (setup : Setup) (limit u : ℕ) (fate : ℕ → Fate) where
   -- between two turns: the first places have ended and the others wait, the session's ordinals are at most k, and a trail led here
   record Stands (k ended : ℕ) (x : State) : Type 0 where
-    order : List Entry
-    mirrors : Mirrors setup limit (Some u) order ended x
+    ran : RanUpTo ended x
+    setup_is : x.setup ≡ setup
+    limit_is : x.limit ≡ limit
+    opened : 0 < length x.sessions
     last : (session_at x 0).last ≤ k
     reached : IsReached x
 
@@ -58,28 +73,29 @@ module _ (lead : StepsLeadOn) (room : OrderHasRoom) (setup : Setup) (limit u : �
     reached : IsReached (state_after x events)
     sessions : (state_after x events).sessions ≡ x.sessions
 
-  steps_on : (x : State) (n : ℕ) → IsReached x → MayStart x n → StepsOn x (place_events x n)
-  steps_on x n reached may = go (has_ended x n) (runs (change x (machine.Starts n)) n) refl
+  steps_on : (x : State) (n : ℕ) → IsReached x → MayStart x n → (f : Fate) → StepsOn x (place_events f x n)
+  steps_on x n reached may f = go (has_ended x n)
     where
       first : IsReached (change x (machine.Starts n))
       first = lead x (machine.Starts n) reached may
 
-      go : (b c : Bool) → runs (change x (machine.Starts n)) n ≡ c → StepsOn x (cond b [] (cond c (machine.Starts n ∷ machine.Ends n ∷ []) (machine.Starts n ∷ [])))
-      go true c running = record { trail = tt; reached = reached; sessions = refl }
-      go false true running = record {
-        trail = (may, (running, tt));
-        reached = lead (change x (machine.Starts n)) (machine.Ends n) first running;
-        sessions = refl;
+      started : (c : Bool) → runs (change x (machine.Starts n)) n ≡ c → (e : Event) → (IsTrue (runs (change x (machine.Starts n)) n) → Needs (change x (machine.Starts n)) e)
+          → (change (change x (machine.Starts n)) e).sessions ≡ x.sessions → StepsOn x (cond c (machine.Starts n ∷ e ∷ []) (machine.Starts n ∷ []))
+      started true running e needs same = record {
+        trail = (may, (needs running, tt));
+        reached = lead (change x (machine.Starts n)) e first (needs running);
+        sessions = same;
       }
-      go false false running = record { trail = (may, tt); reached = first; sessions = refl }
+      started false running e needs same = record { trail = (may, tt); reached = first; sessions = refl }
 
-  -- the next place that waits may start
-  may_next : (x : State) (order : List Entry) (n : ℕ) → Mirrors setup limit (Some u) order n x → n < length order → MayStart x n
-  may_next x order n g lt = record {
-    there = omega (arith, lt, ap length g.order_is);
-    waits = ap is_waiting (g.waits n (omega arith));
-    clear = λ m below c. g.over m below;
-  }
+      by : (f : Fate) → StepsOn x (events_by f x n)
+      by Kept = started (runs (change x (machine.Starts n)) n) refl (machine.Ends n) (λ running. running) refl
+      by Starved = record { trail = (inr may, tt); reached = lead x (machine.Loses n) reached (inr may); sessions = refl }
+      by Unrun = started (runs (change x (machine.Starts n)) n) refl (machine.Loses n) (λ running. inl running) refl
+
+      go : (b : Bool) → StepsOn x (cond b [] (events_by f x n))
+      go true = record { trail = tt; reached = reached; sessions = refl }
+      go false = by f
 
   -- one place, of those up to the first that waits
   record Passed (k p : ℕ) (x : State) (events : List Event) : Type 0 where
@@ -88,53 +104,54 @@ module _ (lead : StepsLeadOn) (room : OrderHasRoom) (setup : Setup) (limit u : �
     stands : Stands k ended (state_after x events)
     past : suc p ≤ ended
 
-  passed : (k p ended : ℕ) (x : State) → Stands k ended x → p ≤ ended → p < length x.order → Passed k p x (place_events x p)
-  passed k p ended x s le lt = go (below_or_same p ended le)
+  passed : (f : Fate) (k p ended : ℕ) (x : State) → Stands k ended x → p ≤ ended → p < length x.order → Passed k p x (place_events f x p)
+  passed f k p ended x s le lt = go (below_or_same p ended le)
     where
       below_or_same : (a b : ℕ) → a ≤ b → (a < b) ⊎ (a ≡ b)
       below_or_same a b le = grind arith
 
-      next : (n : ℕ) → n ≡ ended → n < length x.order → Passed k n x (place_events x n)
+      next : (n : ℕ) → n ≡ ended → n < length x.order → Passed k n x (place_events f x n)
       next n is there =
-          let g : Mirrors setup limit (Some u) s.order n x = subst (λ j. Mirrors setup limit (Some u) s.order j x) (sym is) s.mirrors in
-          let inside : n < length s.order = omega (arith, there, ap length g.order_is) in
-          let on : StepsOn x (place_events x n) = steps_on x n s.reached (may_next x s.order n g inside) in
+          let ran : RanUpTo n x = subst (λ j. RanUpTo j x) (sym is) s.ran in
+          let on : StepsOn x (place_events f x n) = steps_on x n s.reached (may_next x n ran there) f in
           record {
             trail = on.trail;
             ended = suc n;
             stands = record {
-              order = s.order ++ child_entries n 1 (children (said setup s.order n).effects);
-              mirrors = mirror_place setup limit (Some u) s.order n x g inside;
+              ran = ran_place x n ran there f;
+              setup_is = setup_after x (place_events f x n) ∙ s.setup_is;
+              limit_is = limit_after x (place_events f x n) ∙ s.limit_is;
+              opened = subst (λ (l : List Session). 0 < length l) (sym on.sessions) s.opened;
               last = subst (λ (l : List Session). (slice_index_or l 0 no_session).last ≤ k) (sym on.sessions) s.last;
               reached = on.reached;
             };
             past = omega arith;
           }
 
-      go : (p < ended) ⊎ (p ≡ ended) → Passed k p x (place_events x p)
+      go : (p < ended) ⊎ (p ≡ ended) → Passed k p x (place_events f x p)
       go (inl below) =
           subst (Passed k p x)
-          (sym (ap (λ b. cond b [] (cond (runs (change x (machine.Starts p)) p) (machine.Starts p ∷ machine.Ends p ∷ []) (machine.Starts p ∷ []))) (s.mirrors.over p below)))
+          (sym (ap (λ b. cond b [] (events_by f x p)) (s.ran.over p below)))
           (record { trail = tt; ended = ended; stands = s; past = below })
       go (inr same) = next p same lt
 
   -- all places, from one that has ended or is the first that waits
-  settled-run : (k most p ended : ℕ) (x : State) → Stands k ended x → p ≤ ended → limit ≤ p + most → Settled k x (run_from most x p)
+  settled-run : (k most p ended : ℕ) (x : State) → Stands k ended x → p ≤ ended → limit ≤ p + most → Settled k x (run_from fate most x p)
   settled-run k zero p ended x s le enough =
       let few : length x.order ≤ x.limit = room x s.reached in
-      record { trail = tt; ended = ended; stands = s; all = omega (arith, few, s.mirrors.limit_is, enough, le) }
+      record { trail = tt; ended = ended; stands = s; all = omega (arith, few, s.limit_is, enough, le) }
   settled-run k (suc most) p ended x s le enough = go (nat_lt p (length x.order)) refl (λ e y. settled-run k most (suc p) e y)
     where
       go : (b : Bool) → nat_lt p (length x.order) ≡ b
-          → ((e : ℕ) (y : State) → Stands k e y → suc p ≤ e → limit ≤ suc p + most → Settled k y (run_from most y (suc p)))
-          → Settled k x (cond b (place_events x p ++ run_from most (state_after x (place_events x p)) (suc p)) [])
+          → ((e : ℕ) (y : State) → Stands k e y → suc p ≤ e → limit ≤ suc p + most → Settled k y (run_from fate most y (suc p)))
+          → Settled k x (cond b (place_events (fate p) x p ++ run_from fate most (state_after x (place_events (fate p) x p)) (suc p)) [])
       go true is further =
-          let one : Passed k p x (place_events x p) = passed k p ended x s le (ltb-true p (length x.order) is) in
-          let y : State = state_after x (place_events x p) in
-          let rest : Settled k y (run_from most y (suc p)) = further one.ended y one.stands one.past (omega (arith, enough)) in
-          let join : state_after x (place_events x p ++ run_from most y (suc p)) ≡ state_after y (run_from most y (suc p)) = state_after-append x (place_events x p) (run_from most y (suc p)) in
+          let one : Passed k p x (place_events (fate p) x p) = passed (fate p) k p ended x s le (ltb-true p (length x.order) is) in
+          let y : State = state_after x (place_events (fate p) x p) in
+          let rest : Settled k y (run_from fate most y (suc p)) = further one.ended y one.stands one.past (omega (arith, enough)) in
+          let join : state_after x (place_events (fate p) x p ++ run_from fate most y (suc p)) ≡ state_after y (run_from fate most y (suc p)) = state_after-append x (place_events (fate p) x p) (run_from fate most y (suc p)) in
           record {
-            trail = trail-append x (place_events x p) (run_from most y (suc p)) one.trail rest.trail;
+            trail = trail-append x (place_events (fate p) x p) (run_from fate most y (suc p)) one.trail rest.trail;
             ended = rest.ended;
             stands = subst (Stands k rest.ended) (sym join) rest.stands;
             all = subst (λ (z : State). length z.order ≤ rest.ended) (sym join) rest.all;
@@ -143,8 +160,8 @@ module _ (lead : StepsLeadOn) (room : OrderHasRoom) (setup : Setup) (limit u : �
           let least : length x.order ≤ p = grind (arith, nat_tests) in
           record { trail = tt; ended = ended; stands = s; all = omega (arith, least, le) }
 
-  settled-whole : (k ended : ℕ) (x : State) → Stands k ended x → Settled k x (settling x)
-  settled-whole k ended x s = settled-run k x.limit 0 ended x s (omega arith) (omega (arith, s.mirrors.limit_is))
+  settled-whole : (k ended : ℕ) (x : State) → Stands k ended x → Settled k x (settling fate x)
+  settled-whole k ended x s = settled-run k x.limit 0 ended x s (omega arith) (omega (arith, s.limit_is))
 
   -- two lists of events, one after the other
   settled-append : (k : ℕ) (x : State) (a b : List Event) → IsTrail x a → Settled k (state_after x a) b → Settled k x (a ++ b)
@@ -156,40 +173,38 @@ module _ (lead : StepsLeadOn) (room : OrderHasRoom) (setup : Setup) (limit u : �
   }
 
   later : (k j ended : ℕ) (x : State) → k ≤ j → Stands k ended x → Stands j ended x
-  later k j ended x le s = record { order = s.order; mirrors = s.mirrors; last = omega (arith, s.last, le); reached = s.reached }
+  later k j ended x le s = record { ran = s.ran; setup_is = s.setup_is; limit_is = s.limit_is; opened = s.opened; last = omega (arith, s.last, le); reached = s.reached }
 
   -- a line that fits may be admitted
   may_admit : (k ended : ℕ) (x : State) (w : Work) → Stands k ended x → IsReadable setup.names w → k + 1 < 2 ^ 32 → fits x w ≡ true → Needs x (machine.Admits 0 (k + 1) w)
   may_admit k ended x w s readable small fit =
-      let one : (last : ℕ) × (x.sessions ≡ record { subject = u; last = last } ∷ []) = s.mirrors.sessions in
-      let there : 0 < length x.sessions = omega (arith, ap length one.1) in
       let weighs : sum_by entry_weight x.order + weight_of w ≤ x.limit = grind (arith, nat_tests) in
-      (there, subst (λ (t : Setup). IsReadable t.names w) (sym s.mirrors.setup_is) readable, omega (arith, s.last), small, weighs)
+      (s.opened, subst (λ (t : Setup). IsReadable t.names w) (sym s.setup_is) readable, omega (arith, s.last), small, weighs)
 
   admitted : (k ended : ℕ) (x : State) (w : Work) → Stands k ended x → Needs x (machine.Admits 0 (k + 1) w) → Stands (k + 1) ended (change x (machine.Admits 0 (k + 1) w))
   admitted k ended x w s needs =
-      let one : (last : ℕ) × (x.sessions ≡ record { subject = u; last = last } ∷ []) = s.mirrors.sessions in
-      let is : (session_at (change x (machine.Admits 0 (k + 1) w)) 0).last ≡ k + 1 =
-      ap (λ (l : List Session). (slice_index_or (slice_set l 0 (record (slice_index_or l 0 no_session) { last = k + 1 })) 0 no_session).last) one.1 in
+      let set = last_set x.sessions (k + 1) s.opened in
       record {
-        order = s.order ++ Line 0 (k + 1) u w ∷ [];
-        mirrors = mirror_line setup limit (Some u) s.order ended u (k + 1) w x refl s.mirrors s.mirrors.within;
-        last = omega (arith, is);
+        ran = ran_line x ended 0 (k + 1) w s.ran;
+        setup_is = s.setup_is;
+        limit_is = s.limit_is;
+        opened = set.0;
+        last = omega (arith, set.1);
         reached = lead x (machine.Admits 0 (k + 1) w) s.reached needs;
       }
 
   -- what the turns after an ordinal tell, and then the end of the input
   told_settled : (turns : List Turn) (k ended : ℕ) (x : State) → All (StandsIn setup.names) turns → k + length turns < 2 ^ 32 → Stands k ended x
-      → (j : ℕ) × Settled j x (events_of x (told_of k turns ++ Settles ∷ []))
+      → (j : ℕ) × Settled j x (events_of fate x (told_of k turns ++ Settles ∷ []))
   told_settled [] k ended x are small s =
-      let all : Settled k x (settling x) = settled-whole k ended x s in
-      (k, settled-append k x (settling x) [] all.trail (record { trail = tt; ended = all.ended; stands = all.stands; all = all.all }))
+      let all : Settled k x (settling fate x) = settled-whole k ended x s in
+      (k, settled-append k x (settling fate x) [] all.trail (record { trail = tt; ended = all.ended; stands = all.stands; all = all.all }))
   told_settled (Skip ∷ turns) k ended x are small s =
       told_settled turns k ended x (All-tail (StandsIn setup.names) Skip turns are) (omega (arith, small)) s
   told_settled (Wait ∷ turns) k ended x are small s =
-      let all : Settled k x (settling x) = settled-whole k ended x s in
-      let rest = told_settled turns k all.ended (state_after x (settling x)) (All-tail (StandsIn setup.names) Wait turns are) (omega (arith, small)) all.stands in
-      (rest.0, settled-append rest.0 x (settling x) (events_of (state_after x (settling x)) (told_of k turns ++ Settles ∷ [])) all.trail rest.1)
+      let all : Settled k x (settling fate x) = settled-whole k ended x s in
+      let rest = told_settled turns k all.ended (state_after x (settling fate x)) (All-tail (StandsIn setup.names) Wait turns are) (omega (arith, small)) all.stands in
+      (rest.0, settled-append rest.0 x (settling fate x) (events_of fate (state_after x (settling fate x)) (told_of k turns ++ Settles ∷ [])) all.trail rest.1)
   told_settled (Greets subject ∷ turns) k ended x are small s =
       told_settled turns (k + 1) ended x (All-tail (StandsIn setup.names) (Greets subject) turns are) (omega (arith, small)) (later k (k + 1) ended x (omega arith) s)
   told_settled (Bad fault ∷ turns) k ended x are small s =
@@ -203,8 +218,8 @@ module _ (lead : StepsLeadOn) (room : OrderHasRoom) (setup : Setup) (limit u : �
       line = All-head (StandsIn setup.names) (Ask work) turns are
 
       go : (b : Bool) → fits x work ≡ b
-          → ((y : State) → All (StandsIn setup.names) turns → k + 1 + length turns < 2 ^ 32 → Stands (k + 1) ended y → (j : ℕ) × Settled j y (events_of y (told_of (k + 1) turns ++ Settles ∷ [])))
-          → (j : ℕ) × Settled j x (cond b (machine.Admits 0 (k + 1) work ∷ events_of (change x (machine.Admits 0 (k + 1) work)) (told_of (k + 1) turns ++ Settles ∷ [])) (events_of x (told_of (k + 1) turns ++ Settles ∷ [])))
+          → ((y : State) → All (StandsIn setup.names) turns → k + 1 + length turns < 2 ^ 32 → Stands (k + 1) ended y → (j : ℕ) × Settled j y (events_of fate y (told_of (k + 1) turns ++ Settles ∷ [])))
+          → (j : ℕ) × Settled j x (cond b (machine.Admits 0 (k + 1) work ∷ events_of fate (change x (machine.Admits 0 (k + 1) work)) (told_of (k + 1) turns ++ Settles ∷ [])) (events_of fate x (told_of (k + 1) turns ++ Settles ∷ [])))
       go true fit further =
           let needs : Needs x (machine.Admits 0 (k + 1) work) = may_admit k ended x work s (without_cr line.0, line.1.1) (omega (arith, small)) fit in
           let rest = further (change x (machine.Admits 0 (k + 1) work)) tail (omega (arith, small)) (admitted k ended x work s needs) in
@@ -217,18 +232,15 @@ module _ (lead : StepsLeadOn) (room : OrderHasRoom) (setup : Setup) (limit u : �
 
   open_stands : u < length setup.policy.subjects → Stands 0 0 (change (start setup limit) (machine.Opens u))
   open_stands there = record {
-    order = [];
-    mirrors = record {
-      setup_is = refl;
-      limit_is = refl;
-      sessions = (0, refl);
-      order_is = refl;
+    ran = record {
       as_many = refl;
       within = omega arith;
-      kept = λ p. refl;
       over = λ p lt. absurd (omega (arith, lt));
       waits = λ p le. refl;
     };
+    setup_is = refl;
+    limit_is = refl;
+    opened = omega arith;
     last = omega arith;
     reached = lead (start setup limit) (machine.Opens u) (record { setup = setup; limit = limit; events = []; trail = tt; leads = refl }) (opened there);
   }
@@ -242,32 +254,32 @@ record RunsWhole (setup : Setup) (limit : ℕ) (events : List Event) : Type 0 wh
 runs_none : (setup : Setup) (limit : ℕ) → RunsWhole setup limit []
 runs_none setup limit = record { trail = tt; ended = λ n lt. absurd (omega (arith, lt)) }
 
-runs_whole : StepsLeadOn → OrderHasRoom → (setup : Setup) (limit : ℕ) → Agree setup → (turns : List Turn) → All (StandsIn setup.names) turns → length turns < 2 ^ 32
-    → RunsWhole setup limit (one setup limit turns)
-runs_whole lead room setup limit agree [] are small = runs_none setup limit
-runs_whole lead room setup limit agree (Skip ∷ turns) are small =
-    runs_whole lead room setup limit agree turns (All-tail (StandsIn setup.names) Skip turns are) (omega (arith, small))
-runs_whole lead room setup limit agree (Wait ∷ turns) are small = runs_none setup limit
-runs_whole lead room setup limit agree (Bad fault ∷ turns) are small = runs_none setup limit
-runs_whole lead room setup limit agree (Ask work ∷ turns) are small = runs_none setup limit
-runs_whole lead room setup limit agree (Greets subject ∷ turns) are small =
+runs_whole : StepsLeadOn → OrderHasRoom → (setup : Setup) (limit : ℕ) (fate : ℕ → Fate) → Agree setup → (turns : List Turn) → All (StandsIn setup.names) turns → length turns < 2 ^ 32
+    → RunsWhole setup limit (one setup limit fate turns)
+runs_whole lead room setup limit fate agree [] are small = runs_none setup limit
+runs_whole lead room setup limit fate agree (Skip ∷ turns) are small =
+    runs_whole lead room setup limit fate agree turns (All-tail (StandsIn setup.names) Skip turns are) (omega (arith, small))
+runs_whole lead room setup limit fate agree (Wait ∷ turns) are small = runs_none setup limit
+runs_whole lead room setup limit fate agree (Bad fault ∷ turns) are small = runs_none setup limit
+runs_whole lead room setup limit fate agree (Ask work ∷ turns) are small = runs_none setup limit
+runs_whole lead room setup limit fate agree (Greets subject ∷ turns) are small =
     let line : StandsIn setup.names (Greets subject) = All-head (StandsIn setup.names) (Greets subject) turns are in
     let there : subject < length setup.policy.subjects = subst (λ n. subject < n) agree.subjects (subject_of setup.names line.1.1.spelled subject line.1.1.means) in
-    let all = told_settled lead room setup limit subject turns 0 0 (change (start setup limit) (machine.Opens subject)) (All-tail (StandsIn setup.names) (Greets subject) turns are) (omega (arith, small))
-    (open_stands lead room setup limit subject there) in
+    let all = told_settled lead room setup limit subject fate turns 0 0 (change (start setup limit) (machine.Opens subject)) (All-tail (StandsIn setup.names) (Greets subject) turns are) (omega (arith, small))
+    (open_stands lead room setup limit subject fate there) in
     record {
-      trail = (opened lead room setup limit subject there, all.1.trail);
-      ended = λ n lt. all.1.stands.mirrors.over n (omega (arith, lt, all.1.all));
+      trail = (opened lead room setup limit subject fate there, all.1.trail);
+      ended = λ n lt. all.1.stands.ran.over n (omega (arith, lt, all.1.all));
     }
 
-pub is_run : StepsLeadOn → OrderHasRoom → ((x : State) → IsReached x → Holds x) → (setup : Setup) (limit : ℕ) (turns : List Turn) → Agree setup → All (StandsIn setup.names) turns
-    → length turns < 2 ^ 32 → IsOneTrail setup limit turns
-is_run lead room holds setup limit turns agree are small =
-    let run : RunsWhole setup limit (one setup limit turns) = runs_whole lead room setup limit agree turns are small in
+pub is_run : StepsLeadOn → OrderHasRoom → ((x : State) → IsReached x → Holds x) → (setup : Setup) (limit : ℕ) (fate : ℕ → Fate) (turns : List Turn) → Agree setup → All (StandsIn setup.names) turns
+    → length turns < 2 ^ 32 → IsOneTrail setup limit fate turns
+is_run lead room holds setup limit fate turns agree are small =
+    let run : RunsWhole setup limit (one setup limit fate turns) = runs_whole lead room setup limit fate agree turns are small in
     record {
       trail = run.trail;
       ended = run.ended;
-      holds = holds (one_state setup limit turns) (record { setup = setup; limit = limit; events = one setup limit turns; trail = run.trail; leads = refl });
+      holds = holds (one_state setup limit fate turns) (record { setup = setup; limit = limit; events = one setup limit fate turns; trail = run.trail; leads = refl });
     }
 
 -- ---- the turns of an input

@@ -15,8 +15,8 @@ use Rattle.bl_wire.specs.declared.turn.Turn.{Turn}
 use Rattle.bl_wire.specs.declared.turn.Turn.TheVariants.{Skip, Wait, Greets, Bad, Ask}
 use Rattle.bl_wire.specs.Replies.{line_text}
 use Rattle.bl_wire.specs.Texts.{session_text}
-use Rattle.bl_session.specs.Requests.{Settles, told_of}
-use Rattle.bl_session.specs.One.{place_events, run_from, settling, fits, events_of, one, one_state}
+use Rattle.bl_engine.specs.Requests.{Settles, told_of}
+use Rattle.bl_session.specs.One.{Fate, Kept, Starved, Unrun, events_by, place_events, run_from, settling, fits, events_of, one, one_state}
 use Rattle.bl_session.specs.Transcript.{transcript}
 use Rattle.bl_session.specs.Transcripts.{asked_after, admitted, has_ordinal, Talks, Answers, IsTranscript}
 use Rattle.bl_session.proofs.RunLaws.{state_after-append}
@@ -100,23 +100,31 @@ admitted-append i (machine.Starts n ∷ a) b = admitted-append i a b
 admitted-append i (machine.Ends n ∷ a) b = admitted-append i a b
 admitted-append i (machine.Loses n ∷ a) b = admitted-append i a b
 
-place_admits_none : (x : State) (n i : ℕ) → admitted i (place_events x n) ≡ []
-place_admits_none x n i = go (has_ended x n) (runs (change x (machine.Starts n)) n)
+place_admits_none : (f : Fate) (x : State) (n i : ℕ) → admitted i (place_events f x n) ≡ []
+place_admits_none f x n i = go (has_ended x n)
   where
-    go : (b c : Bool) → admitted i (cond b [] (cond c (machine.Starts n ∷ machine.Ends n ∷ []) (machine.Starts n ∷ []))) ≡ []
-    go true c = refl
-    go false true = refl
-    go false false = refl
+    started : (c : Bool) (e : Event) → admitted i (e ∷ []) ≡ [] → admitted i (cond c (machine.Starts n ∷ e ∷ []) (machine.Starts n ∷ [])) ≡ []
+    started true e none = none
+    started false e none = refl
 
-run_admits_none : (most : ℕ) (x : State) (n i : ℕ) → admitted i (run_from most x n) ≡ []
-run_admits_none zero x n i = refl
-run_admits_none (suc most) x n i = go (nat_lt n (length x.order)) (run_admits_none most (state_after x (place_events x n)) (suc n) i)
+    by : (f : Fate) → admitted i (events_by f x n) ≡ []
+    by Kept = started (runs (change x (machine.Starts n)) n) (machine.Ends n) refl
+    by Starved = refl
+    by Unrun = started (runs (change x (machine.Starts n)) n) (machine.Loses n) refl
+
+    go : (b : Bool) → admitted i (cond b [] (events_by f x n)) ≡ []
+    go true = refl
+    go false = by f
+
+run_admits_none : (fate : ℕ → Fate) (most : ℕ) (x : State) (n i : ℕ) → admitted i (run_from fate most x n) ≡ []
+run_admits_none fate zero x n i = refl
+run_admits_none fate (suc most) x n i = go (nat_lt n (length x.order)) (run_admits_none fate most (state_after x (place_events (fate n) x n)) (suc n) i)
   where
-    go : (b : Bool) → admitted i (run_from most (state_after x (place_events x n)) (suc n)) ≡ []
-        → admitted i (cond b (place_events x n ++ run_from most (state_after x (place_events x n)) (suc n)) []) ≡ []
+    go : (b : Bool) → admitted i (run_from fate most (state_after x (place_events (fate n) x n)) (suc n)) ≡ []
+        → admitted i (cond b (place_events (fate n) x n ++ run_from fate most (state_after x (place_events (fate n) x n)) (suc n)) []) ≡ []
     go true rest =
-        admitted-append i (place_events x n) (run_from most (state_after x (place_events x n)) (suc n))
-        ∙ ap (λ l. l ++ admitted i (run_from most (state_after x (place_events x n)) (suc n))) (place_admits_none x n i)
+        admitted-append i (place_events (fate n) x n) (run_from fate most (state_after x (place_events (fate n) x n)) (suc n))
+        ∙ ap (λ l. l ++ admitted i (run_from fate most (state_after x (place_events (fate n) x n)) (suc n))) (place_admits_none (fate n) x n i)
         ∙ rest
     go false rest = refl
 
@@ -222,52 +230,52 @@ tells_after k turns x a b none t =
     (subst (λ y. Tells k turns (state_after x a).limit y (admitted 0 (a ++ b))) (sym (state_after-append x a b))
     (subst (Tells k turns (state_after x a).limit (state_after (state_after x a) b)) same t))
 
-told_tells : (turns : List Turn) (k : ℕ) (x : State)
-    → Tells k turns x.limit (state_after x (events_of x (told_of k turns ++ Settles ∷ []))) (admitted 0 (events_of x (told_of k turns ++ Settles ∷ [])))
-told_tells [] k x =
-    tells_after k [] x (settling x) [] (run_admits_none x.limit x 0 0)
+told_tells : (fate : ℕ → Fate) (turns : List Turn) (k : ℕ) (x : State)
+    → Tells k turns x.limit (state_after x (events_of fate x (told_of k turns ++ Settles ∷ []))) (admitted 0 (events_of fate x (told_of k turns ++ Settles ∷ [])))
+told_tells fate [] k x =
+    tells_after k [] x (settling fate x) [] (run_admits_none fate x.limit x 0 0)
     (record {
       above = All-nil (IsAbove k);
       lines = refl;
-      full = All-nil (λ (a : ℕ × Work). has_ordinal [] a.0 ≡ false → (state_after x (settling x)).limit < admitted_weight (state_after x (settling x)) + weight_of a.1);
+      full = All-nil (λ (a : ℕ × Work). has_ordinal [] a.0 ≡ false → (state_after x (settling fate x)).limit < admitted_weight (state_after x (settling fate x)) + weight_of a.1);
     })
-told_tells (Skip ∷ turns) k x =
-    let t = told_tells turns k x in record { above = t.above; lines = t.lines; full = t.full }
-told_tells (Wait ∷ turns) k x =
-    let t = told_tells turns k (state_after x (settling x)) in
-    tells_after k (Wait ∷ turns) x (settling x) (events_of (state_after x (settling x)) (told_of k turns ++ Settles ∷ [])) (run_admits_none x.limit x 0 0)
+told_tells fate (Skip ∷ turns) k x =
+    let t = told_tells fate turns k x in record { above = t.above; lines = t.lines; full = t.full }
+told_tells fate (Wait ∷ turns) k x =
+    let t = told_tells fate turns k (state_after x (settling fate x)) in
+    tells_after k (Wait ∷ turns) x (settling fate x) (events_of fate (state_after x (settling fate x)) (told_of k turns ++ Settles ∷ [])) (run_admits_none fate x.limit x 0 0)
     (record { above = t.above; lines = t.lines; full = t.full })
-told_tells (Greets subject ∷ turns) k x = tells_on k turns _ _ _ (Greets subject) refl (told_tells turns (k + 1) x)
-told_tells (Bad fault ∷ turns) k x = tells_on k turns _ _ _ (Bad fault) refl (told_tells turns (k + 1) x)
-told_tells (Ask work ∷ turns) k x = go (fits x work) refl (told_tells turns (k + 1))
+told_tells fate (Greets subject ∷ turns) k x = tells_on k turns _ _ _ (Greets subject) refl (told_tells fate turns (k + 1) x)
+told_tells fate (Bad fault ∷ turns) k x = tells_on k turns _ _ _ (Bad fault) refl (told_tells fate turns (k + 1) x)
+told_tells fate (Ask work ∷ turns) k x = go (fits x work) refl (told_tells fate turns (k + 1))
   where
     over : (b : Bool) → fits x work ≡ b → b ≡ false → x.limit < sum_by entry_weight x.order + weight_of work
     over b is none = let full : nat_le (sum_by entry_weight x.order + weight_of work) x.limit ≡ false = is ∙ none in grind (arith, nat_tests)
 
     go : (b : Bool) → fits x work ≡ b
-        → ((y : State) → Tells (k + 1) turns y.limit (state_after y (events_of y (told_of (k + 1) turns ++ Settles ∷ []))) (admitted 0 (events_of y (told_of (k + 1) turns ++ Settles ∷ []))))
+        → ((y : State) → Tells (k + 1) turns y.limit (state_after y (events_of fate y (told_of (k + 1) turns ++ Settles ∷ []))) (admitted 0 (events_of fate y (told_of (k + 1) turns ++ Settles ∷ []))))
         → Tells k (Ask work ∷ turns) x.limit
-        (state_after x (cond b (machine.Admits 0 (k + 1) work ∷ events_of (change x (machine.Admits 0 (k + 1) work)) (told_of (k + 1) turns ++ Settles ∷ [])) (events_of x (told_of (k + 1) turns ++ Settles ∷ []))))
-        (admitted 0 (cond b (machine.Admits 0 (k + 1) work ∷ events_of (change x (machine.Admits 0 (k + 1) work)) (told_of (k + 1) turns ++ Settles ∷ [])) (events_of x (told_of (k + 1) turns ++ Settles ∷ []))))
+        (state_after x (cond b (machine.Admits 0 (k + 1) work ∷ events_of fate (change x (machine.Admits 0 (k + 1) work)) (told_of (k + 1) turns ++ Settles ∷ [])) (events_of fate x (told_of (k + 1) turns ++ Settles ∷ []))))
+        (admitted 0 (cond b (machine.Admits 0 (k + 1) work ∷ events_of fate (change x (machine.Admits 0 (k + 1) work)) (told_of (k + 1) turns ++ Settles ∷ [])) (events_of fate x (told_of (k + 1) turns ++ Settles ∷ []))))
     go true is t = tells_admitted k work turns x.limit _ _ (t (change x (machine.Admits 0 (k + 1) work)))
     go false is t =
-        let kept = weights_kept x (events_of x (told_of (k + 1) turns ++ Settles ∷ [])) in
+        let kept = weights_kept x (events_of fate x (told_of (k + 1) turns ++ Settles ∷ [])) in
         tells_full k work turns x.limit _ _ (t x) (omega (arith, over false is refl, kept.weight))
 
 -- ---- the whole
 
 -- the first line that is not skipped opens the session, or is refused
-answers : (setup : Setup) (limit : ℕ) (turns : List Turn) (x : State) (trail : List Event) → x ≡ one_state setup limit turns → trail ≡ one setup limit turns
+answers : (setup : Setup) (limit : ℕ) (fate : ℕ → Fate) (turns : List Turn) (x : State) (trail : List Event) → x ≡ one_state setup limit fate turns → trail ≡ one setup limit fate turns
     → Answers x trail 0 turns (session_text (line_text x 0) turns)
-answers setup limit [] x trail at is = refl
-answers setup limit (Skip ∷ turns) x trail at is = answers setup limit turns x trail at is
-answers setup limit (Wait ∷ turns) x trail at is = refl
-answers setup limit (Bad fault ∷ turns) x trail at is = refl
-answers setup limit (Ask work ∷ turns) x trail at is = refl
-answers setup limit (Greets subject ∷ turns) x trail at is =
+answers setup limit fate [] x trail at is = refl
+answers setup limit fate (Skip ∷ turns) x trail at is = answers setup limit fate turns x trail at is
+answers setup limit fate (Wait ∷ turns) x trail at is = refl
+answers setup limit fate (Bad fault ∷ turns) x trail at is = refl
+answers setup limit fate (Ask work ∷ turns) x trail at is = refl
+answers setup limit fate (Greets subject ∷ turns) x trail at is =
     let opened : State = change (start setup limit) (machine.Opens subject) in
-    let told : List Event = events_of opened (told_of 0 turns ++ Settles ∷ []) in
-    let t : Tells 0 turns limit (state_after opened told) (admitted 0 told) = told_tells turns 0 opened in
+    let told : List Event = events_of fate opened (told_of 0 turns ++ Settles ∷ []) in
+    let t : Tells 0 turns limit (state_after opened told) (admitted 0 told) = told_tells fate turns 0 opened in
     let kept : KeepsSession opened (state_after opened told) 0 = sessions_kept opened told 0 (omega arith) in
     inr
     (subst (λ y. Talks y trail 0 subject turns (session_text (line_text y 0) (Greets subject ∷ turns))) (sym at)
@@ -280,5 +288,5 @@ answers setup limit (Greets subject ∷ turns) x trail at is =
       text_is = refl;
     })))
 
-pub is_transcript : (setup : Setup) (limit : ℕ) (turns : List Turn) → IsTranscript setup limit (one setup limit turns) 0 turns (transcript setup limit turns)
-is_transcript setup limit turns = answers setup limit turns (one_state setup limit turns) (one setup limit turns) refl refl
+pub is_transcript : (setup : Setup) (limit : ℕ) (fate : ℕ → Fate) (turns : List Turn) → IsTranscript setup limit (one setup limit fate turns) 0 turns (transcript setup limit fate turns)
+is_transcript setup limit fate turns = answers setup limit fate turns (one_state setup limit fate turns) (one setup limit fate turns) refl refl

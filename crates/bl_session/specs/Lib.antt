@@ -1,12 +1,7 @@
-pub mod Stages
 pub mod One
 pub mod OneTrail
-pub mod Whole
-pub mod Blocks
 pub mod Transcript
 pub mod Transcripts
 pub mod Outcome
-pub mod Entries
-pub mod Orders
-pub mod Spoken
-pub mod Requests
+pub mod Pages
+pub mod Blocks

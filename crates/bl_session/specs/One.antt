@@ -1,44 +1,63 @@
--- One: the trail of one session and one worker, where nothing is lost.
+-- One: the trail of one session and one worker, by what becomes of each place.
 use Rattle.std.specs.Prelude.{ℕ, zero, suc, ◌+◌, Bool, if◌then◌else◌, nat_lt, nat_le, List, [], ◌∷◌, ◌++◌, length, sum_by}
 use Rattle.bl_work.specs.declared.work.Work.{Work}
 use Rattle.bl_setup.specs.Setup.{Setup}
 use Rattle.bl_order.specs.Machine.{State, Event, runs, has_ended, change, start, state_after, weight_of, entry_weight}
 use Rattle.bl_order.specs.Machine as machine
 use Rattle.bl_wire.specs.declared.turn.Turn.{Turn}
-use Rattle.bl_session.specs.Requests.{Request, Opens, Admits, Settles, told_by}
+use Rattle.bl_engine.specs.Requests.{Request, Opens, Admits, Settles, told_by}
 
--- a place that hasn't ended starts, and ends if it runs
-abbrev pub place_events : State → ℕ → List Event
-place_events x n =
-    if has_ended x n then [] else (if runs (change x (machine.Starts n)) n then machine.Starts n ∷ machine.Ends n ∷ [] else machine.Starts n ∷ [])
+-- what becomes of a place: it is not lost; it is lost for want of memory to start it; or for want of memory to run it
+pub data Fate : Type 0 where
+  Kept : Fate
+  Starved : Fate
+  Unrun : Fate
+
+-- a place starts, and ends if it runs
+abbrev pub started_then : State → ℕ → Event → List Event
+started_then x n ending = if runs (change x (machine.Starts n)) n then machine.Starts n ∷ ending ∷ [] else machine.Starts n ∷ []
+
+-- the events of a place that is to start: what does not run ends at its start, and so is never lost while it runs
+abbrev pub events_by : Fate → State → ℕ → List Event
+events_by Kept x n = started_then x n (machine.Ends n)
+events_by Starved x n = machine.Loses n ∷ []
+events_by Unrun x n = started_then x n (machine.Loses n)
+
+-- the events of a place, of which there are none where it has ended
+abbrev pub place_events : Fate → State → ℕ → List Event
+place_events fate x n = if has_ended x n then [] else events_by fate x n
 
 -- the places from n on, by rising place, and so many at most
-abbrev pub run_from : ℕ → State → ℕ → List Event
-run_from zero x n = []
-run_from (suc most) x n =
-    if nat_lt n (length x.order) then place_events x n ++ run_from most (state_after x (place_events x n)) (suc n) else []
+abbrev pub run_from : (ℕ → Fate) → ℕ → State → ℕ → List Event
+run_from fate zero x n = []
+run_from fate (suc most) x n =
+    if nat_lt n (length x.order)
+    then place_events (fate n) x n ++ run_from fate most (state_after x (place_events (fate n) x n)) (suc n)
+    else []
 
--- the unended places start and end; there are no more of them than the limit
-abbrev pub settling : State → List Event
-settling x = run_from x.limit x 0
+-- each unended place has its events; there are no more of them than the limit
+abbrev pub settling : (ℕ → Fate) → State → List Event
+settling fate x = run_from fate x.limit x 0
 
 -- there is room for the work
 abbrev pub fits : State → Work → Bool
 fits x work = nat_le (sum_by entry_weight x.order + weight_of work) x.limit
 
 -- the events that what is told leads to
-abbrev pub events_of : State → List Request → List Event
-events_of x [] = []
-events_of x (Opens subject ∷ told) = machine.Opens subject ∷ events_of (change x (machine.Opens subject)) told
-events_of x (Admits ordinal work ∷ told) =
-    if fits x work then machine.Admits 0 ordinal work ∷ events_of (change x (machine.Admits 0 ordinal work)) told else events_of x told
-events_of x (Settles ∷ told) = settling x ++ events_of (state_after x (settling x)) told
+abbrev pub events_of : (ℕ → Fate) → State → List Request → List Event
+events_of fate x [] = []
+events_of fate x (Opens subject ∷ told) = machine.Opens subject ∷ events_of fate (change x (machine.Opens subject)) told
+events_of fate x (Admits ordinal work ∷ told) =
+    if fits x work
+    then machine.Admits 0 ordinal work ∷ events_of fate (change x (machine.Admits 0 ordinal work)) told
+    else events_of fate x told
+events_of fate x (Settles ∷ told) = settling fate x ++ events_of fate (state_after x (settling fate x)) told
 
 -- where nothing opens a session the trail is empty; otherwise it opens the session, admits each line that fits, in order, and
--- at the end of each block starts and ends the unended entries by rising place
-abbrev pub one : Setup → ℕ → List Turn → List Event
-one setup limit turns = events_of (start setup limit) (told_by turns)
+-- at the end of each block starts and ends the unended entries by rising place, or loses those that are lost
+abbrev pub one : Setup → ℕ → (ℕ → Fate) → List Turn → List Event
+one setup limit fate turns = events_of fate (start setup limit) (told_by turns)
 
 -- where this trail leads
-abbrev pub one_state : Setup → ℕ → List Turn → State
-one_state setup limit turns = state_after (start setup limit) (one setup limit turns)
+abbrev pub one_state : Setup → ℕ → (ℕ → Fate) → List Turn → State
+one_state setup limit fate turns = state_after (start setup limit) (one setup limit fate turns)

@@ -4,10 +4,10 @@ use Rattle.bl_setup.specs.Setup.{Setup}
 use Rattle.bl_order.specs.Headline.{Holds}
 use Rattle.bl_order.specs.Machine.{IsTrail, has_ended, start}
 use Rattle.bl_wire.specs.declared.turn.Turn.{Turn}
-use Rattle.bl_session.specs.One.{one, one_state}
+use Rattle.bl_session.specs.One.{Fate, one, one_state}
 
 -- The events of one session and one worker are a trail, at whose end every place has ended; so the headline holds there.
-pub record IsOneTrail (setup : Setup) (limit : ℕ) (turns : List Turn) : Type 0 where
-  pub trail : IsTrail (start setup limit) (one setup limit turns)
-  pub ended : (n : ℕ) → n < length (one_state setup limit turns).order → IsTrue (has_ended (one_state setup limit turns) n)
-  pub holds : Holds (one_state setup limit turns)
+pub record IsOneTrail (setup : Setup) (limit : ℕ) (fate : ℕ → Fate) (turns : List Turn) : Type 0 where
+  pub trail : IsTrail (start setup limit) (one setup limit fate turns)
+  pub ended : (n : ℕ) → n < length (one_state setup limit fate turns).order → IsTrue (has_ended (one_state setup limit fate turns) n)
+  pub holds : Holds (one_state setup limit fate turns)

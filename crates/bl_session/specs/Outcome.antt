@@ -7,14 +7,14 @@ use Rattle.bl_wire.specs.declared.fault.SessionFault.{SessionFault}
 use Rattle.bl_wire.specs.declared.turn.Turn.{Turn}
 use Rattle.bl_wire.specs.Lines.{lines_of, AreLines}
 use Rattle.bl_wire.specs.Turns.{AreTurns, IsRefusal, StopsAtRefusal}
-use Rattle.bl_session.specs.Spoken.{Begins, LacksTheLast}
-use Rattle.bl_session.specs.Stages.{Broken, IsPutAt}
+use Rattle.bl_engine.specs.Spoken.{Begins, LacksTheLast}
+use Rattle.bl_engine.specs.Stages.{Broken, IsPutAt}
 use Rattle.bl_wire.specs.Replies.{line_text}
-use Rattle.bl_session.specs.One.{one_state}
+use Rattle.bl_session.specs.One.{Fate, one_state}
 use Rattle.bl_session.specs.Transcript.{transcript}
 
--- The input was read to its end, or to the end of a first line that was refused and no further, and its transcript is written.
--- Neither end failed.
+-- The input was read to its end, or to the end of a first line that was refused and no further, and its transcript is written,
+-- by what became of each place. Neither end failed.
 pub record IsServed (setup : Setup) (limit : ℕ) (reader writer : Use) : Type 0 where
   pub bytes : List ℕ
   pub turns : List Turn
@@ -23,7 +23,8 @@ pub record IsServed (setup : Setup) (limit : ℕ) (reader writer : Use) : Type 0
   pub whole : OnSome reader.before (IsAtEnd reader.after) ⊎ (AreLines bytes (lines_of bytes) × IsRefusal turns)
   pub stops : StopsAtRefusal turns
   pub are : AreTurns setup.names (lines_of bytes) turns
-  pub put : Appends writer.before writer.after (transcript setup limit turns)
+  pub fate : ℕ → Fate
+  pub put : Appends writer.before writer.after (transcript setup limit fate turns)
   pub fine : (reader.failed ≡ false) × (writer.failed ≡ false)
 
 -- The session ended early. What is written begins the transcript of the lines that were read, but perhaps the last. Where
@@ -39,5 +40,6 @@ pub record IsCutShort (setup : Setup) (limit : ℕ) (fault : SessionFault) (read
   pub put : Appends writer.before writer.after written
   pub heard : List Turn
   pub heard_is : LacksTheLast heard turns
-  pub begins : Begins written (transcript setup limit heard)
-  pub closed : IsPutAt fault (line_text (one_state setup limit heard) 0) reader.before reader.after turns heard written
+  pub fate : ℕ → Fate
+  pub begins : Begins written (transcript setup limit fate heard)
+  pub closed : IsPutAt fault (line_text (one_state setup limit fate heard) 0) reader.before reader.after turns heard written

@@ -1,21 +1,19 @@
 //! A session with one worker, in one thread: lines are admitted without being run, and at each
-//! `wait` and at the end of the input they are answered in admission order.
+//! `wait` and at the end of the input they are run in admission order, over a hall of their own.
 ghost use Rattle.std.specs.Prelude.{◌≡◌, ◌≢◌, false, OnOk, IfErr};
 ghost use Rattle.bl_wire.specs.Watch.{used};
 ghost use Rattle.bl_session.specs.Outcome.{IsServed, IsCutShort};
 ghost use Rattle.bl_wire.specs.declared.fault.SessionFault.TheVariants.{Clash};
 
-use crate::entries::{Alone, Pages};
-use crate::session::converse;
-use bl_monitor::monitor::Monitor;
-use bl_order::laws::read_lines_are_in_the_setup;
+use crate::entries::{Alone, Pages, begin};
+use bl_engine::session::converse;
 use bl_setup::setup::Setup;
 use bl_wire::fault::SessionFault;
 use bl_wire::watched::Watched;
 use std::alloc::Global;
 use std::io::{BufRead, Write};
 
-/// What a session kept to its end: its setup, its entries and what its monitor keeps of them. To drop it takes a step for each
+/// What a session kept to its end: its setup and its hall, with all entries. To drop it takes a step for each
 /// entry; a process that ends behind its session may forget it, and leave the memory to the system.
 #[derive(Drop)]
 pub struct Kept {
@@ -23,7 +21,8 @@ pub struct Kept {
     pages: Pages,
 }
 
-/// Serves one session over a reader and a writer. The admitted lines weigh at most `limit` together, one for each `when`.
+/// Serves one session over a reader and a writer. The admitted lines weigh at most `limit` together, one for each `when`. A limit is 1 to
+/// 100,000; with another one there is no memory for a session.
 ///
 /// At `Ok` the input was read to its end, or to the end of a first line that was refused, and its
 /// transcript is written and handed on. `Read` and `Write` come only where that end failed, and that
@@ -63,30 +62,16 @@ pub fn serve_and_keep<R: BufRead, W: Write>(
     ensures err { IfErr result.0 (λ fault. IsCutShort setup limit fault (used R.remaining reader.old reader.new) (used W.contents writer.old writer.new)) }
     ensures never { IfErr result.0 (λ fault. fault ≢ Clash) }
 {
-    let monitor = match Monitor::new(alloc, setup) {
-        Ok(monitor) => monitor,
-        Err(_) => return (Err(SessionFault::Memory), None),
+    let Ok((behind, mut pages)) = begin(alloc, setup, limit) else {
+        return (Err(SessionFault::Memory), None);
     };
-    let setup = match monitor.share_setup() {
-        Ok(setup) => setup,
-        Err(_) => return (Err(SessionFault::Memory), None),
-    };
-    read_lines_are_in_the_setup();
-    let behind = Alone {
-        alloc,
-        setup,
-        limit,
-    };
-    let mut pages = Pages::new(alloc, monitor);
-    match converse(
+    let served = converse(
         alloc,
         behind.setup.names(),
         &behind,
         &mut pages,
         reader,
         writer,
-    ) {
-        Ok(()) => (Ok(()), Some(Kept { behind, pages })),
-        Err(fault) => (Err(fault), Some(Kept { behind, pages })),
-    }
+    );
+    (served, Some(Kept { behind, pages }))
 }

@@ -1,191 +1,160 @@
-//! The machine of one worker. Lines enter an admission order without being run. When a block ends, a monitor answers the
-//! entries by rising place, and the children of an entry enter at its end, behind all that entered before. The answers of a
-//! block are kept until the next one is settled.
-ghost use Rattle.std.specs.Prelude.{◌≡◌, ◌+◌, ◌<◌, ◌≤◌, ◌++◌, ℕ, [], List, All, false, OnOk, IfOk, None, length};
-ghost use Rattle.std.specs.Arc.{arc_value};
-ghost use Rattle.bl_work.specs.Effects.{children};
-ghost use Rattle.bl_order.specs.Machine.{weight_of};
-ghost use Rattle.bl_order.specs.Known.{KnowsWork};
-ghost use Rattle.bl_session.specs.Orders.{said, told_text, AreLater};
-ghost use Rattle.bl_session.specs.Entries.{order_of, told_of, is_line, AreLabelled, AreAnswered};
-ghost use Rattle.bl_session.specs.Whole.{AreKnown, HasEntered, HasRun, IsWhole, Came};
-ghost use Rattle.bl_session.specs.Blocks.{IsLastBlock};
+//! The machine of one worker, over a hall. Lines enter the admission order without being run. When a block ends, the entries start
+//! and end by rising place, and the children of an entry enter at its end, behind all that entered before. An entry that finds no
+//! memory to start or to run is lost, and the others go on.
+ghost use Rattle.std.specs.Prelude.{◌≡◌, ◌<◌, [], length, IfOk, IsTrue, ⊤};
+ghost use Rattle.bl_order.specs.Headline.{IsReached};
+ghost use Rattle.bl_order.specs.Labels.{tag};
+ghost use Rattle.bl_order.specs.Machine.{MayStart, has_ended, session_at, runs};
+ghost use Rattle.bl_core.specs.Answers.{loan_at};
+ghost use Rattle.bl_hall.specs.Chronicle.{state_now};
+ghost use Rattle.bl_hall.specs.Told.{reply_in};
+ghost use Rattle.bl_wire.specs.Replies.{label_text, line_text, reply_text};
+ghost use Rattle.bl_wire.specs.Watch.{end_state, Puts};
+ghost use Rattle.bl_session.specs.Blocks.{Gives};
+ghost use Rattle.bl_session.specs.Pages.{AreLater, Came, HasEnded, HasHad, HaveRun, RanUpTo, Stands};
 
-use crate::behind::{Asking, Behind, Opening};
 use crate::block::Block;
-use bl_monitor::monitor::{Entry, Monitor};
+use bl_core::machine::{Core, Started};
+use bl_core::origin::Origin;
+use bl_core::refusal::{Cause, OpenRefused, StartFault, Starved};
+use bl_core::session::SessionNo;
+use bl_engine::behind::{Asking, Behind, Opening};
+use bl_eval::evaluate::eval;
+use bl_eval::lent::Lent;
+use bl_hall::hall::Hall;
+use bl_hall::laws::replies_go_by_lines;
+use bl_order::laws::the_order_has_room;
 use bl_policy::id::SubjectId;
 use bl_setup::setup::Setup;
-use bl_wire::label::{Entered, Origin};
+use bl_wire::put::{put, put_number};
 use bl_wire::reply::put_refused;
 use bl_wire::watched::Watched;
-use bl_wire::words::put_reply;
-use bl_work::answer::Answer;
+use bl_wire::words::put_answer;
 use bl_work::work::Work;
 use std::alloc::{AllocError, Global};
 use std::io::Write;
-use std::sync::Arc;
+
+/// The session of a hall that has one.
+const SESSION: u32 = 0;
+
+/// The greatest limit of a hall.
+const MOST_LIMIT: u32 = 100_000;
 
 /// What stays while a session is served: the setup, and the greatest sum of the weights of admitted lines.
 #[derive(Drop)]
 pub struct Alone {
     pub alloc: Global,
-    pub setup: Arc<Setup, Global>,
+    pub setup: Setup,
     pub limit: u32,
 }
 
-/// The session's subject once it is open, the admission order, the answers of its entries from the place `first` on, the
-/// weight of its lines, and how many entries had ended before the open block. At `first` the block begins that was settled
-/// last: the answers of earlier blocks have been let go.
+/// The hall, and the first place that has not been run.
 #[derive(Drop)]
 pub struct Pages {
-    pub subject: Option<SubjectId>,
-    pub monitor: Monitor,
-    pub entries: Vec<Entered>,
-    pub answers: Vec<Answer>,
-    pub first: usize,
-    pub weight: u32,
-    pub last: u32,
-    pub ended: usize,
+    pub hall: Hall,
+    pub next: u32,
 }
 
-/// The number of behaviours of a work.
-fn weight_of(work: &Work) -> u32
-    ensures value { result ≡ weight_of work.now }
-    ensures few { result ≤ 32 }
+/// What a session begins with: a hall of its own over the setup. A limit that is not 1 to 100,000 has no hall, as if there were no
+/// memory for it.
+pub fn begin(alloc: Global, setup: Setup, limit: u32) -> Result<(Alone, Pages), AllocError>
+    ensures alone { IfOk result (λ begun. (begun.0.setup ≡ setup) × (begun.0.limit ≡ limit)) }
+    ensures pages { IfOk result (λ begun. (begun.1.hall ≡ record { setup = setup; limit = limit; trail = [] }) × (begun.1.next ≡ 0)) }
 {
-    match work {
-        Work::Behaviour(script) => script.weight() as u32,
-        Work::Rule(_) => 1,
+    if limit == 0 || limit > MOST_LIMIT {
+        return Err(AllocError);
     }
-}
-
-/// What the monitor is told of an entry.
-fn told(origin: &Origin) -> Result<Entry, AllocError>
-    ensures { IfOk result (λ entry. entry ≡ told_of origin.now) }
-{
-    match origin {
-        Origin::Line { subject, work } => Ok(Entry::Line {
-            subject: *subject,
-            work: work.share()?,
-            lost: false,
-        }),
-        Origin::Child { parent, which } => Ok(Entry::Child {
-            parent: *parent,
-            which: *which,
-            lost: false,
-        }),
-    }
-}
-
-/// Lets so many children of an entry enter. There is room for as many entries as the limit says, and no line's weight
-/// lets there be more.
-fn enter(
-    alloc: Global,
-    entries: &mut Vec<Entered>,
-    room: usize,
-    parent: u32,
-    children: u32,
-) -> Result<(), AllocError>
-    requires there { parent < length entries.old.items }
-    requires room { length entries.old.items ≤ room }
-    ensures some { (n : ℕ) × HasEntered parent n entries.old.items entries.new.items }
-    ensures all { OnOk result (HasEntered parent children entries.old.items entries.new.items) }
-    ensures room { length entries.new.items ≤ room }
-{
-    let mut which = 0;
-    while which < children {
-        if entries.len() >= room {
-            return Err(AllocError);
-        }
-        which += 1;
-        let child = entries[parent as usize].child(alloc, parent, which)?;
-        entries.push(child)?;
-    }
-    Ok(())
-}
-
-/// Has the next entry answered, and lets its children enter. The answers are those from the place `first` on.
-fn run_next(
-    alloc: Global,
-    room: u32,
-    monitor: &mut Monitor,
-    entries: &mut Vec<Entered>,
-    first: usize,
-    answers: &mut Vec<Answer>,
-) -> Result<(), AllocError>
-    requires more { first + length answers.old.items < length entries.old.items }
-    requires room { length entries.old.items ≤ room }
-    requires known { AreKnown monitor.old.setup entries.old.items }
-    requires answered { AreAnswered monitor.old.setup monitor.old (order_of entries.old.items) first answers.old.items }
-    ensures setup { monitor.new.setup ≡ monitor.old.setup }
-    ensures some { (n : ℕ) × HasEntered (first + length answers.old.items) n entries.old.items entries.new.items }
-    ensures entered { OnOk result (HasEntered (first + length answers.old.items) (length (children (said monitor.old.setup (order_of entries.old.items) (first + length answers.old.items)).effects)) entries.old.items entries.new.items) }
-    ensures answered { OnOk result (AreAnswered monitor.new.setup monitor.new (order_of entries.new.items) first answers.new.items) }
-    ensures count { OnOk result (length answers.new.items ≡ length answers.old.items + 1) }
-    ensures room { length entries.new.items ≤ room }
-{
-    let place = first + answers.len();
-    let entry = told(&entries[place].origin)?;
-    answers.reserve(1)?;
-    let answer = match monitor.next(entry) {
-        Ok(answer) => answer,
-        Err(_) => return Err(AllocError),
+    let hall = Hall::new(alloc, setup.copy()?, limit)?;
+    let behind = Alone {
+        alloc,
+        setup,
+        limit,
     };
-    answers.push_reserved(answer);
-    match monitor.children(place as u32) {
-        Some(children) => enter(alloc, entries, room as usize, place as u32, children),
-        None => Ok(()),
-    }
+    Ok((behind, Pages { hall, next: 0 }))
 }
 
-/// Has all entries answered. The answers are those from the place `first` on.
-fn run(
-    alloc: Global,
-    room: u32,
-    monitor: &mut Monitor,
-    entries: &mut Vec<Entered>,
-    first: usize,
-    answers: &mut Vec<Answer>,
-) -> Result<(), AllocError>
-    requires room { length entries.old.items ≤ room }
-    requires known { AreKnown monitor.old.setup entries.old.items }
-    requires answered { AreAnswered monitor.old.setup monitor.old (order_of entries.old.items) first answers.old.items }
-    ensures setup { monitor.new.setup ≡ monitor.old.setup }
-    ensures more { (more : List Entered) × (entries.new.items ≡ entries.old.items ++ more) × All (λ e. is_line e.origin ≡ false) more }
-    ensures all { OnOk result (first + length answers.new.items ≡ length entries.new.items) }
-    ensures answered { OnOk result (AreAnswered monitor.new.setup monitor.new (order_of entries.new.items) first answers.new.items) }
-    ensures labelled { AreLabelled entries.old.items → AreLabelled entries.new.items }
-    ensures known { AreKnown monitor.old.setup entries.new.items }
-    ensures ran { OnOk result (HasRun monitor.old.setup room (order_of entries.old.items) (first + length answers.old.items) (order_of entries.new.items) (first + length answers.new.items)) }
-    ensures room { length entries.new.items ≤ room }
+/// Runs an entry that has started, and ends it; where there is no memory to run it, it is lost.
+fn end(alloc: Global, hall: &mut Hall, lent: Lent)
+    requires running { IsTrue (runs (state_now hall.old) lent.entry) }
+    requires lent { lent ≡ loan_at (state_now hall.old) lent.entry }
+    ensures { HasEnded lent.entry hall.old hall.new }
 {
-    'places: while first + answers.len() < entries.len() {
-        run_next(alloc, room, monitor, entries, first, answers)?;
+    match eval(alloc, lent) {
+        Ok(done) => hall.finish_lent(done),
+        Err(unrun) => hall.lose_lent(unrun),
     }
-    Ok(())
 }
 
-impl Pages {
-    /// An order without entries, under this monitor, which has answered none.
-    pub fn new(alloc: Global, monitor: Monitor) -> Pages
-        ensures monitor { result.monitor ≡ monitor }
-        ensures empty { (result.entries.items ≡ []) × (result.answers.items ≡ []) }
-        ensures subject { result.subject ≡ None }
-        ensures first { result.first ≡ 0 }
-        ensures counts { (result.weight ≡ 0) × (result.last ≡ 0) × (result.ended ≡ 0) }
-    {
-        Pages {
-            subject: None,
-            monitor,
-            entries: Vec::new(alloc),
-            answers: Vec::new(alloc),
-            first: 0,
-            weight: 0,
-            last: 0,
-            ended: 0,
-        }
+/// Ends an entry as lost that found no memory to start.
+fn lose(hall: &mut Hall, starved: Starved)
+    requires { MayStart (state_now hall.old) starved }
+    ensures { HasHad starved hall.old hall.new }
+{
+    match hall.lose_ready(starved) {
+        Ok(()) => {}
+        Err(_) => unreachable!(),
     }
+}
+
+/// Starts the entry at a place, and ends it where it runs. Where memory is refused the entry is lost.
+fn run_place(alloc: Global, hall: &mut Hall, n: u32)
+    requires ready { MayStart (state_now hall.old) n }
+    requires ran { RanUpTo n (state_now hall.old) }
+    ensures { HasHad n hall.old hall.new }
+{
+    match hall.start(n) {
+        Ok(Started::Run(lent)) => end(alloc, hall, lent),
+        Ok(Started::Denied(_)) => {}
+        Ok(Started::RuleDone) => {}
+        Err(StartFault::Memory(starved)) => lose(hall, starved),
+        Err(StartFault::NotReady) => unreachable!(),
+    }
+}
+
+/// Runs all entries that have not been run, by rising place.
+fn run(alloc: Global, pages: &mut Pages)
+    requires { HaveRun pages.old.hall pages.old.next pages.old.hall pages.old.next }
+    ensures ran { HaveRun pages.old.hall pages.old.next pages.new.hall pages.new.next }
+    ensures all { pages.new.next ≡ length (state_now pages.new.hall).order }
+{
+    'places: while pages.next < pages.hall.core().entries() {
+        run_place(alloc, &mut pages.hall, pages.next);
+        pages.next += 1;
+    }
+}
+
+/// Writes the label of an entry, unless the writer has failed.
+fn put_label<W: Write>(core: &Core, n: u32, writer: &mut Watched<W>)
+    requires reached { IsReached core.now }
+    requires there { n < length core.now.order }
+    ensures { Puts (label_text (tag core.now.order n).label) (end_state W.contents writer.old) (end_state W.contents writer.new) }
+{
+    match core.origin(n) {
+        Some(Origin::Child { parent, which }) => {
+            put_label(core, parent, writer);
+            put(writer, b".");
+            put_number(writer, which);
+        }
+        Some(Origin::Line { ordinal, .. }) => {
+            put_number(writer, ordinal);
+        }
+        None => unreachable!(),
+    }
+}
+
+/// Writes the reply of an entry that has ended, unless the writer has failed.
+fn put_reply<W: Write>(hall: &Hall, setup: &Setup, n: u32, writer: &mut Watched<W>)
+    requires ended { IsTrue (has_ended (state_now hall.now) n) }
+    requires setup { setup.now ≡ (state_now hall.now).setup }
+    ensures { Puts (reply_text setup.now.names (reply_in (state_now hall.now) n)) (end_state W.contents writer.old) (end_state W.contents writer.new) }
+{
+    let core = hall.core();
+    let Some(answer) = core.answer(n) else {
+        unreachable!()
+    };
+    put_label(core, n, writer);
+    put_answer(writer, setup.names(), answer);
+    put(writer, b"\n");
 }
 
 impl Behind for Alone {
@@ -193,73 +162,54 @@ impl Behind for Alone {
 
     type Block = Block;
 
-    ghost serves = { λ a subject. subject < length (arc_value a.setup).policy.subjects };
+    ghost serves = { λ a subject. subject < length a.setup.policy.subjects };
 
-    ghost takes = { λ a work. KnowsWork (arc_value a.setup) work };
+    ghost takes = { λ _ _. ⊤ };
 
     ghost fills = { λ _. ⊥ };
 
     ghost clashes = { λ _. ⊥ };
 
-    ghost replies = { λ a s k. told_text (arc_value a.setup) (order_of s.entries.items) k };
+    ghost replies = { λ _ s k. line_text (state_now s.hall) 0 k };
 
-    ghost settled = { λ a s n. AreLater s.ended (order_of s.entries.items) n };
+    ghost settled = { λ _ s n. AreLater s.next (state_now s.hall).order n };
 
-    ghost whole = { λ a s n. IsWhole (arc_value a.setup) a.limit s n };
+    ghost whole = { λ a s _. Stands a.setup a.limit s };
 
-    ghost came = { λ a s told. Came (arc_value a.setup) a.limit s told };
+    ghost came = { λ a s told. Came a.setup a.limit s told };
 
-    ghost last = { λ a s. s.last };
+    ghost last = { λ _ s. (session_at (state_now s.hall) 0).last };
 
-    ghost gives = { λ a s block n. IsLastBlock (arc_value a.setup) s block n };
+    ghost gives = { λ _ s block n. Gives (state_now s.hall) block n };
 
     fn open(&self, state: &mut Pages, subject: SubjectId) -> Result<Opening, AllocError> {
-        state.subject = Some(subject);
-        state.last = 0;
-        Ok(Opening::Open)
+        match state.hall.open(subject) {
+            Ok(_) => Ok(Opening::Open),
+            Err(OpenRefused::Stranger) => unreachable!(),
+            Err(OpenRefused::SessionsFull) => unreachable!(),
+        }
     }
 
     fn ask(&self, state: &mut Pages, ordinal: u32, work: Work) -> Result<Asking, AllocError> {
-        let Some(subject) = state.subject else {
-            return Err(AllocError);
-        };
-        let weight = weight_of(&work);
-        if self.limit - state.weight < weight {
-            return Ok(Asking::Taken);
+        match state.hall.line(SessionNo::new(SESSION), ordinal, work) {
+            Ok(_) => Ok(Asking::Taken),
+            Err(refused) => match refused.cause {
+                Cause::Full => Ok(Asking::Taken),
+                Cause::Stranger | Cause::Session | Cause::Ordinal => Err(AllocError),
+            },
         }
-        if state.entries.len() >= self.limit as usize {
-            return Err(AllocError);
-        }
-        let place = state.entries.len();
-        state
-            .entries
-            .push(Entered::line(self.alloc, place, ordinal, subject, work))?;
-        state.weight += weight;
-        state.last = ordinal;
-        Ok(Asking::Taken)
     }
 
     fn settle(&self, state: &mut Pages, after: u32, ordinal: u32) -> Result<Block, AllocError> {
-        // the contract alone speaks of the ordinals: where the block begins and ends is kept in the pages
-        let _ = (after, ordinal);
-        // the answers of the block before are let go, and those of this one begin where it begins
-        state.answers.clear();
-        state.first = state.ended;
-        let entered = state.entries.len();
-        let ran = run(
-            self.alloc,
-            self.limit,
-            &mut state.monitor,
-            &mut state.entries,
-            state.first,
-            &mut state.answers,
-        );
-        if let Err(fault) = ran {
-            state.entries.truncate(entered);
-            return Err(fault);
+        // the contract alone speaks of the last ordinal
+        let _ = ordinal;
+        the_order_has_room();
+        run(self.alloc, state);
+        match state.hall.places(SessionNo::new(SESSION), after) {
+            Ok(Some(places)) => Ok(Block { places, next: 0 }),
+            Ok(None) => unreachable!(),
+            Err(_) => Err(AllocError),
         }
-        state.ended = state.entries.len();
-        Block::new(self.alloc, &state.entries, state.first, entered)
     }
 
     fn answer<W: Write>(
@@ -269,16 +219,15 @@ impl Behind for Alone {
         ordinal: u32,
         writer: &mut Watched<W>,
     ) {
-        let Some(place) = block.line(&state.entries, ordinal) else {
+        replies_go_by_lines();
+        let hall = &state.hall;
+        block.pass(hall, ordinal - 1);
+        if block.front(hall, ordinal).is_none() {
             return put_refused(writer, ordinal, b"full");
-        };
-        let names = self.setup.names();
-        let answer = &state.answers[place - state.first];
-        put_reply(writer, names, &state.entries[place], answer);
-        let kin = block.kin(place);
-        for below in kin {
-            let answer = &state.answers[*below - state.first];
-            put_reply(writer, names, &state.entries[*below], answer);
+        }
+        'replies: while let Some(n) = block.front(hall, ordinal) {
+            put_reply(hall, &self.setup, n, writer);
+            block.next += 1;
         }
     }
 }

@@ -6,7 +6,7 @@ use Rattle.bl_level.specs.Scheme.{SchemeNames}
 use Rattle.bl_policy.specs.Policy.{Clearance}
 use Rattle.bl_setup.specs.Setup.{Setup}
 use Rattle.bl_setup.specs.Agreement.{of_scheme}
-use Rattle.bl_setup.specs.Declaration.{Declaration, SubjectText, DocumentText, AllowText, ranks, categories, subject, document, allow}
+use Rattle.bl_declare.specs.Declaration.{Declaration, SubjectText, DocumentText, AllowText, ranks, categories, subject, document, allow}
 use Rattle.bl_setup.specs.Grammar.{AddsSubject, AddsDocument, AddsModes, Leads, IsSetup}
 use Rattle.bl_setup.proofs.RightsLemmas.{rights_are_named}
 use Rattle.bl_setup.specs.WholeLists.{subjects_of, documents_of, HaveClearances, HaveLevels, IsDeclared}

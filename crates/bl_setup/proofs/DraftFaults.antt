@@ -5,11 +5,11 @@ use Rattle.bl_level.specs.LevelText.{LevelText, Means}
 use Rattle.bl_level.specs.Scheme.{SchemeNames}
 use Rattle.bl_policy.specs.declared.policy.AddFault.{AddFault}
 use Rattle.bl_policy.specs.declared.policy.AddFault.TheVariants as add
-use Rattle.bl_setup.specs.Declaration.{SubjectText, subject}
-use Rattle.bl_setup.specs.Faults.{UnlessMemory, kind_of_add}
+use Rattle.bl_declare.specs.Declaration.{SubjectText, subject}
+use Rattle.bl_declare.specs.Faults.{UnlessMemory, kind_of_add}
 use Rattle.bl_setup.specs.FirstSetupFault.{declared, DeclarationFault, IsTooMuch, FirstFails, asked_of_level}
 use Rattle.bl_setup.specs.Setup.{Setup}
-use Rattle.bl_setup.specs.declared.fault.SetupFaultKind.{SetupFaultKind}
+use Rattle.bl_declare.specs.declared.fault.SetupFaultKind.{SetupFaultKind}
 use Rattle.bl_setup.proofs.FaultLemmas.{fails_left, fails_right, hold_both, level_holds}
 
 subject_fits : (b : Setup) (s : SubjectText) → length b.names.subjects < 256 → IsTooMuch (declared b) (subject s) → ⊥

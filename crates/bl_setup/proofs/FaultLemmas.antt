@@ -12,9 +12,9 @@ use Rattle.bl_level.specs.Table.{AreDistinct, IsFirstRepeated}
 use Rattle.bl_level.specs.declared.scheme.LevelFault.{LevelFault}
 use Rattle.bl_level.specs.declared.scheme.LevelFault.TheVariants as levels
 use Rattle.bl_setup.specs.FirstSetupFault.{Question, is_new, is_known, AllHold, FirstFails, asked_of_names, asked_of_categories, asked_of_level}
-use Rattle.bl_setup.specs.Faults.{kind_of_level}
-use Rattle.bl_setup.specs.declared.fault.SetupFaultKind.{SetupFaultKind}
-use Rattle.bl_setup.specs.declared.fault.SetupFaultKind.TheVariants.{Unknown, Repeated}
+use Rattle.bl_declare.specs.Faults.{kind_of_level}
+use Rattle.bl_declare.specs.declared.fault.SetupFaultKind.{SetupFaultKind}
+use Rattle.bl_declare.specs.declared.fault.SetupFaultKind.TheVariants.{Unknown, Repeated}
 use Rattle.bl_setup.proofs.MeaningLemmas.{contains_from_place, stands_twice}
 
 -- where all hold, none is the first to fail

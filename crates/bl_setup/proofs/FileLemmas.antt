@@ -4,7 +4,7 @@ use Rattle.bl_level.specs.Lexing.{Begins}
 use Rattle.bl_level.specs.Scheme.{SchemeNames, IsScheme}
 use Rattle.bl_setup.specs.Setup.{Setup}
 use Rattle.bl_setup.specs.Agreement.{of_scheme}
-use Rattle.bl_setup.specs.Declaration.{Declaration, ranks, categories, spell_declaration}
+use Rattle.bl_declare.specs.Declaration.{Declaration, ranks, categories, spell_declaration}
 use Rattle.bl_setup.specs.Grammar.{IsSetup, Spells, Leads}
 use Rattle.bl_setup.specs.Heads.{DeclaresRanks, DeclaresCategories, BeginsWith, Remain}
 use Rattle.bl_setup.specs.Lines.{lines_read}

@@ -3,16 +3,16 @@ use Rattle.std.proofs.Common.{◌≡◌, ◌⊎◌, ℕ, ◌<◌, ◌≤◌, Lis
 use Rattle.bl_level.specs.Lexing.{Begins}
 use Rattle.bl_level.specs.Table.{IsTable, IsFirstRepeated}
 use Rattle.bl_level.specs.TableFault.{IsTableFault}
-use Rattle.bl_level.specs.declared.table.TableFault.{TableFault}
-use Rattle.bl_level.specs.declared.table.TableFault.TheVariants as tables
+use Rattle.bl_name.specs.declared.table.TableFault.{TableFault}
+use Rattle.bl_name.specs.declared.table.TableFault.TheVariants as tables
 use Rattle.bl_level.specs.SchemeFault.{IsSchemeFault}
 use Rattle.bl_level.specs.declared.scheme.SchemeFault.{SchemeFault}
 use Rattle.bl_level.specs.declared.scheme.SchemeFault.TheVariants as schemes
-use Rattle.bl_setup.specs.Declaration.{ranks, categories, spell_declaration}
-use Rattle.bl_setup.specs.Faults.{UnlessMemory, kind_of_table, kind_of_scheme}
+use Rattle.bl_declare.specs.Declaration.{ranks, categories, spell_declaration}
+use Rattle.bl_declare.specs.Faults.{UnlessMemory, kind_of_table, kind_of_scheme}
 use Rattle.bl_setup.specs.FirstSetupFault.{nothing, ranked, LineFault}
 use Rattle.bl_setup.specs.Heads.{AreRanks}
-use Rattle.bl_setup.specs.declared.fault.SetupFaultKind.TheVariants.{Repeated, TooMany}
+use Rattle.bl_declare.specs.declared.fault.SetupFaultKind.TheVariants.{Repeated, TooMany}
 use Rattle.bl_setup.proofs.FaultLemmas.{first_repeated_fails}
 use Rattle.bl_setup.proofs.HeadLemmas.{repeated_not}
 

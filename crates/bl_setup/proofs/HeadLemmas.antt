@@ -8,9 +8,9 @@ use Rattle.bl_level.specs.Lexing.{Begins}
 use Rattle.bl_level.specs.Name.{IsName, AreProper}
 use Rattle.bl_level.specs.Table.{IsTable, IsFirstRepeated}
 use Rattle.bl_level.specs.Scheme.{SchemeNames}
-use Rattle.bl_setup.specs.Declaration.{ranks, categories, spell_names, spell_declaration}
+use Rattle.bl_declare.specs.Declaration.{ranks, categories, spell_names, spell_declaration}
 use Rattle.bl_setup.specs.Heads.{DeclaresRanks, DeclaresCategories}
-use Rattle.bl_setup.specs.Words.{names_of}
+use Rattle.bl_declare.specs.Words.{names_of}
 use Rattle.bl_setup.proofs.WholeLemmas.{one_spelled}
 
 -- names that are spelled are names

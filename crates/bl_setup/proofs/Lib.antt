@@ -1,7 +1,4 @@
-pub mod Parts
-pub mod Spelling
 pub mod CutLemmas
-pub mod LineLemmas
 pub mod MeaningLemmas
 pub mod ModeLemmas
 pub mod AddLemmas

@@ -10,21 +10,21 @@ use Rattle.bl_level.specs.LevelText.{LevelText, Means}
 use Rattle.bl_level.specs.Name.{AreProper}
 use Rattle.bl_level.specs.Scheme.{SchemeNames, IsScheme}
 use Rattle.bl_level.specs.Table.{AreDistinct}
-use Rattle.bl_level.proofs.Readings.{read_proper}
+use Rattle.bl_name.proofs.Readings.{read_proper}
 use Rattle.bl_policy.specs.declared.access.Mode.{Mode}
 use Rattle.bl_policy.specs.declared.access.ModeSet.{ModeSet}
 use Rattle.bl_policy.specs.Mode.{flag_of}
 use Rattle.bl_work.proofs.MeantLevels.{level_meant, place_some}
 use Rattle.bl_setup.specs.Agreement.{of_scheme}
-use Rattle.bl_setup.specs.Declaration.{Declaration, SubjectText, DocumentText, AllowText, ranks, categories, subject, document, allow, spell_declaration}
+use Rattle.bl_declare.specs.Declaration.{Declaration, SubjectText, DocumentText, AllowText, ranks, categories, subject, document, allow, spell_declaration}
 use Rattle.bl_setup.specs.FirstSetupFault.{SoFar, nothing, ranked, declared, IsDue, Declares, Passes, LeadTo, Question, IsSo, kind_of, AllHold, FirstFails, asked, asked_of_names, asked_of_categories, asked_of_level, IsTooMuch, IsAbove, LineFault, FaultNext, FirstSetupFault}
 use Rattle.bl_setup.specs.Grammar.{IsSetup, AddsSubject, AddsDocument, AddsModes}
 use Rattle.bl_setup.specs.Heads.{AreRanks}
 use Rattle.bl_setup.specs.Lines.{is_skipped, file_lines}
 use Rattle.bl_setup.specs.Setup.{Setup}
-use Rattle.bl_setup.specs.declared.fault.SetupFault.{SetupFault}
-use Rattle.bl_setup.specs.declared.fault.SetupFaultKind.{SetupFaultKind}
-use Rattle.bl_setup.specs.declared.fault.SetupFaultKind.TheVariants.{Syntax, CurrentAboveGreatest, TooMany}
+use Rattle.bl_declare.specs.declared.fault.SetupFault.{SetupFault}
+use Rattle.bl_declare.specs.declared.fault.SetupFaultKind.{SetupFaultKind}
+use Rattle.bl_declare.specs.declared.fault.SetupFaultKind.TheVariants.{Syntax, CurrentAboveGreatest, TooMany}
 use Rattle.bl_policy.specs.Policy.{with_subject, with_document, with_modes}
 use Rattle.bl_setup.proofs.FirstLemmas.{IsRight}
 use Rattle.bl_setup.proofs.HeadLemmas.{names_proper}

@@ -2,16 +2,16 @@
 use Rattle.std.proofs.Common.{◌≡◌, ◌⊎◌, ℕ, ◌+◌, ◌≤◌, true, false, List, [], ◌∷◌, ◌++◌, length, map, refl, sym, ap, subst, ◌∙◌, inl, inr, arith}
 use Rattle.std.proofs.lemmas.List.{append_assoc, length-append}
 use Rattle.bl_level.specs.Lexing.{Begins}
-use Rattle.bl_setup.specs.Declaration.{Declaration, spell_declaration}
-use Rattle.bl_setup.specs.Faults.{UnlessMemory, OfSyntax}
+use Rattle.bl_declare.specs.Declaration.{Declaration, spell_declaration}
+use Rattle.bl_declare.specs.Faults.{UnlessMemory, OfSyntax}
 use Rattle.bl_setup.specs.FirstSetupFault.{SoFar, nothing, IsDue, IsBegun, Declares, LeadTo, LineFault, FaultNext, ReadsNext, LeadOn, StopsAt, FirstSetupFault, IsReadAt, asked}
 use Rattle.bl_setup.specs.Grammar.{IsSetup}
 use Rattle.bl_setup.specs.Lines.{is_skipped, file_lines, lines_of, lines_read, kept, without_cr}
 use Rattle.bl_setup.specs.Setup.{Setup}
 use Rattle.bl_setup.specs.Taking.{AreSkipped, Skips, Takes, EndsEarly, Stops, Refuses}
-use Rattle.bl_setup.specs.declared.fault.SetupFault.{SetupFault}
-use Rattle.bl_setup.specs.declared.fault.SetupFaultKind.{SetupFaultKind}
-use Rattle.bl_setup.specs.declared.fault.SetupFaultKind.TheVariants.{Syntax, Unknown, Repeated, Memory}
+use Rattle.bl_declare.specs.declared.fault.SetupFault.{SetupFault}
+use Rattle.bl_declare.specs.declared.fault.SetupFaultKind.{SetupFaultKind}
+use Rattle.bl_declare.specs.declared.fault.SetupFaultKind.TheVariants.{Syntax, Unknown, Repeated, Memory}
 use Rattle.bl_setup.proofs.FaultLemmas.{fails_in_time}
 use Rattle.bl_setup.proofs.FirstLemmas.{fault_is_no_setup}
 use Rattle.bl_setup.proofs.WholeLemmas.{one_spelled}

@@ -6,15 +6,15 @@ use Rattle.bl_level.specs.Name.{AreProper, IsProper}
 use Rattle.bl_level.specs.LevelText.{spell_level}
 use Rattle.bl_policy.specs.Policy.{with_modes}
 use Rattle.bl_setup.specs.Setup.{Setup}
-use Rattle.bl_setup.specs.Declaration.{Declaration, SubjectText, DocumentText, AllowText, ranks, categories, subject, document, allow, spell_declaration, spell_document}
+use Rattle.bl_declare.specs.Declaration.{Declaration, SubjectText, DocumentText, AllowText, ranks, categories, subject, document, allow, spell_declaration, spell_document}
 use Rattle.bl_setup.specs.Grammar.{Adds, AddsSubject, AddsDocument, AddsModes, LineAdds, Leads, Spells}
 use Rattle.bl_setup.specs.Heads.{Remain}
-use Rattle.bl_setup.specs.declared.fault.SetupFaultKind.{SetupFaultKind}
-use Rattle.bl_setup.specs.Faults.{UnlessMemory}
+use Rattle.bl_declare.specs.declared.fault.SetupFaultKind.{SetupFaultKind}
+use Rattle.bl_declare.specs.Faults.{UnlessMemory}
 use Rattle.bl_setup.proofs.MeaningLemmas.{one_level}
 use Rattle.bl_setup.proofs.ModeLemmas.{same_modes, same_put}
-use Rattle.bl_setup.proofs.LineLemmas.{begins_one}
-use Rattle.bl_setup.proofs.Spelling.{spelled_alike}
+use Rattle.bl_declare.proofs.LineLemmas.{begins_one}
+use Rattle.bl_declare.proofs.Spelling.{spelled_alike}
 
 one_subject : (b : Setup) (s : SubjectText) (x y : Setup) → AddsSubject b s x → AddsSubject b s y → x ≡ y
 one_subject b s x y p q =

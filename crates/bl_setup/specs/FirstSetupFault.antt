@@ -7,14 +7,14 @@ use Rattle.bl_level.specs.Scheme.{SchemeNames}
 use Rattle.bl_policy.specs.Limits.{most_subjects, most_documents}
 use Rattle.bl_work.specs.Content.{most_bytes}
 use Rattle.bl_setup.specs.Agreement.{of_scheme}
-use Rattle.bl_setup.specs.Declaration.{Declaration, ranks, categories, subject, document, allow, spell_declaration}
+use Rattle.bl_declare.specs.Declaration.{Declaration, ranks, categories, subject, document, allow, spell_declaration}
 use Rattle.bl_setup.specs.Grammar.{LineAdds, IsSetup, most_setup_bytes}
 use Rattle.bl_setup.specs.Heads.{DeclaresRanks, DeclaresCategories}
 use Rattle.bl_setup.specs.Lines.{is_skipped, file_lines}
 use Rattle.bl_setup.specs.Setup.{Setup}
-use Rattle.bl_setup.specs.declared.fault.SetupFault.{SetupFault}
-use Rattle.bl_setup.specs.declared.fault.SetupFaultKind.{SetupFaultKind}
-use Rattle.bl_setup.specs.declared.fault.SetupFaultKind.TheVariants.{Syntax, Unknown, Repeated, CurrentAboveGreatest, TooMany}
+use Rattle.bl_declare.specs.declared.fault.SetupFault.{SetupFault}
+use Rattle.bl_declare.specs.declared.fault.SetupFaultKind.{SetupFaultKind}
+use Rattle.bl_declare.specs.declared.fault.SetupFaultKind.TheVariants.{Syntax, Unknown, Repeated, CurrentAboveGreatest, TooMany}
 
 -- what the lines so far have declared: nothing, the ranks alone, or a setup
 pub data SoFar : Type 0 where

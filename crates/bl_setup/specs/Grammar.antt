@@ -10,7 +10,7 @@ use Rattle.bl_policy.specs.declared.access.ModeSet.{ModeSet}
 use Rattle.bl_policy.specs.Mode.{has_mode}
 use Rattle.bl_policy.specs.Policy.{with_subject, with_document, with_modes}
 use Rattle.bl_setup.specs.Lines.{lines_read}
-use Rattle.bl_setup.specs.Declaration.{Declaration, SubjectText, DocumentText, AllowText, ranks, categories, subject, document, allow, spell_declaration}
+use Rattle.bl_declare.specs.Declaration.{Declaration, SubjectText, DocumentText, AllowText, ranks, categories, subject, document, allow, spell_declaration}
 use Rattle.bl_setup.specs.Setup.{Setup}
 use Rattle.bl_setup.specs.Agreement.{of_scheme}
 use Rattle.bl_policy.specs.Limits.{most_subjects, most_documents}

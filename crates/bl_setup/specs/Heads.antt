@@ -5,7 +5,7 @@ use Rattle.bl_level.specs.Table.{IsTable}
 use Rattle.bl_level.specs.Scheme.{SchemeNames, IsScheme}
 use Rattle.bl_setup.specs.Setup.{Setup}
 use Rattle.bl_setup.specs.Grammar.{Spells, Leads}
-use Rattle.bl_setup.specs.Declaration.{Declaration, ranks, categories, spell_declaration}
+use Rattle.bl_declare.specs.Declaration.{Declaration, ranks, categories, spell_declaration}
 
 -- 1 to 16 names, none of them twice
 pub record AreRanks (names : List (List ℕ)) : Type 0 where

@@ -1,12 +1,9 @@
+pub use Rattle.bl_declare.specs.Declaration
+pub use Rattle.bl_declare.specs.Faults
 pub mod Setup
 pub mod Lines
-pub mod Declaration
 pub mod Agreement
 pub mod Grammar
-pub mod Reading
-pub mod Faults
-pub mod Words
-pub mod Parsing
 pub mod Draft
 pub mod Heads
 pub mod FirstSetupFault

@@ -1,11 +1,11 @@
 -- How the reader takes lines, and where it stops.
 use Rattle.std.specs.Prelude.{◌≡◌, ◌⊎◌, ℕ, suc, ◌+◌, true, false, List, [], ◌∷◌, ◌++◌, length}
-use Rattle.bl_setup.specs.Declaration.{Declaration}
+use Rattle.bl_declare.specs.Declaration.{Declaration}
 use Rattle.bl_setup.specs.FirstSetupFault.{SoFar, IsDue, DeclarationFault, FaultNext, ReadsNext}
 use Rattle.bl_setup.specs.Lines.{is_skipped}
-use Rattle.bl_setup.specs.declared.fault.SetupFault.{SetupFault}
-use Rattle.bl_setup.specs.declared.fault.SetupFaultKind.{SetupFaultKind}
-use Rattle.bl_setup.specs.declared.fault.SetupFaultKind.TheVariants.{Syntax, Memory}
+use Rattle.bl_declare.specs.declared.fault.SetupFault.{SetupFault}
+use Rattle.bl_declare.specs.declared.fault.SetupFaultKind.{SetupFaultKind}
+use Rattle.bl_declare.specs.declared.fault.SetupFaultKind.TheVariants.{Syntax, Memory}
 
 -- each of these lines is skipped
 abbrev pub AreSkipped : List (List ℕ) → Type 0

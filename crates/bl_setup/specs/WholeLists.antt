@@ -8,7 +8,7 @@ use Rattle.bl_policy.specs.declared.access.Mode.{Mode}
 use Rattle.bl_policy.specs.Policy.{Clearance, allows}
 use Rattle.bl_work.specs.Names.{KnownNames}
 use Rattle.bl_setup.specs.Setup.{Setup}
-use Rattle.bl_setup.specs.Declaration.{Declaration, SubjectText, DocumentText, AllowText, ranks, categories, subject, document, allow}
+use Rattle.bl_declare.specs.Declaration.{Declaration, SubjectText, DocumentText, AllowText, ranks, categories, subject, document, allow}
 use Rattle.bl_setup.specs.Grammar.{Spells}
 use Rattle.bl_setup.specs.Lines.{lines_read}
 

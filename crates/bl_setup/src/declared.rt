@@ -5,7 +5,7 @@ ghost use Rattle.bl_setup.specs.Setup as setups;
 ghost use Rattle.bl_setup.specs.Grammar.{IsSetup, most_setup_bytes};
 ghost use Rattle.bl_setup.specs.Lines.{file_lines};
 ghost use Rattle.bl_setup.specs.WholeLists.{IsDeclared};
-ghost use Rattle.bl_setup.specs.declared.fault.SetupFault as faults;
+ghost use Rattle.bl_declare.specs.declared.fault.SetupFault as faults;
 
 /// A setup's subjects and documents are those that its text declares, in order, with the levels and the contents of their
 /// lines.

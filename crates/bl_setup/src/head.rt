@@ -1,15 +1,15 @@
 //! The first two lines of a file: the ranks, and then the categories.
 ghost use Rattle.std.specs.Prelude.{◌≡◌, ◌++◌, All, MatchResult, OnOk, IfOk, IfErr};
 ghost use Rattle.bl_level.specs.Name.{IsName};
-ghost use Rattle.bl_setup.specs.Faults.{UnlessMemory};
+ghost use Rattle.bl_declare.specs.Faults.{UnlessMemory};
 ghost use Rattle.bl_setup.specs.FirstSetupFault as first;
 ghost use Rattle.bl_setup.specs.FirstSetupFault.{LineFault};
 ghost use Rattle.bl_setup.specs.Heads.{AreRanks, DeclaresRanks, DeclaresCategories};
-ghost use Rattle.bl_setup.specs.Words.{names_of};
+ghost use Rattle.bl_declare.specs.Words.{names_of};
 
-use crate::declaration::Words;
-use crate::fault::SetupFaultKind;
-use crate::line::words_of;
+use bl_declare::declaration::Words;
+use bl_declare::fault::SetupFaultKind;
+use bl_declare::line::words_of;
 use bl_level::name::Name;
 use bl_level::scheme::{MOST_RANKS, Scheme};
 use bl_level::table::table_of;

@@ -3,20 +3,20 @@ ghost use Rattle.std.specs.Prelude.{◌≡◌, ◌<◌, ◌∷◌, [], MatchResu
 ghost use Rattle.bl_setup.specs.Setup as setups;
 ghost use Rattle.bl_setup.specs.Agreement.{Agree, of_scheme};
 ghost use Rattle.bl_setup.specs.Draft.{setup_of};
-ghost use Rattle.bl_setup.specs.Faults.{UnlessMemory};
+ghost use Rattle.bl_declare.specs.Faults.{UnlessMemory};
 ghost use Rattle.bl_setup.specs.Grammar.{IsSetup};
 ghost use Rattle.bl_setup.specs.Heads.{BeginsWith, Remain};
 ghost use Rattle.bl_setup.specs.FirstSetupFault as first;
 ghost use Rattle.bl_setup.specs.FirstSetupFault.{LeadOn, StopsAt, FirstSetupFault, IsReadAt};
 ghost use Rattle.bl_setup.specs.Lines.{lines_read, file_lines};
 ghost use Rattle.bl_setup.specs.Taking.{Takes, EndsEarly, Stops};
-ghost use Rattle.bl_setup.specs.declared.fault.SetupFaultKind.TheVariants.{Memory};
+ghost use Rattle.bl_declare.specs.declared.fault.SetupFaultKind.TheVariants.{Memory};
 
 use crate::draft::Draft;
-use crate::fault::{SetupFault, SetupFaultKind};
 use crate::head::{ranks_of, scheme_of};
 use crate::lines::{Lines, MOST_BYTES};
 use crate::setup::Setup;
+use bl_declare::fault::{SetupFault, SetupFaultKind};
 use bl_level::scheme::Scheme;
 use std::alloc::Global;
 

@@ -1,7 +1,7 @@
 -- Categories of a level that were taken so far, up to the next comma or the closing brace.
 use Rattle.std.proofs.Common.{◌≡◌, ℕ, Bor, List, [], ◌∷◌, ◌++◌, Some, refl, sym, ap, subst, ◌∙◌}
 use Rattle.std.proofs.lemmas.List.{map-append}
-use Rattle.bl_level.specs.declared.token.Sign.TheVariants.{Comma, Open, Close}
+use Rattle.bl_name.specs.declared.token.Sign.TheVariants.{Comma, Open, Close}
 use Rattle.bl_level.specs.LevelText.{spell_categories}
 use Rattle.bl_level.specs.LevelText as of_level
 use Rattle.bl_level.specs.Token.{Tok, name, sign}

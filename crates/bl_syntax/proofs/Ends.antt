@@ -2,7 +2,7 @@
 use Rattle.std.proofs.Common.{◌≡◌, ◌≢◌, ℕ, ◌≤◌, ◌-◌, None, List, [], ◌∷◌, ◌++◌, length, Result, MatchResult, refl, sym, ap, ◌∙◌, arith}
 use Rattle.std.specs.Result.{IsErrAnd}
 use Rattle.std.proofs.lemmas.Result.{err_from_is_err_and}
-use Rattle.bl_level.specs.declared.token.Sign.TheVariants.{Open}
+use Rattle.bl_name.specs.declared.token.Sign.TheVariants.{Open}
 use Rattle.bl_level.specs.Token.{Tok, sign}
 use Rattle.bl_level.specs.Lexing.{Front, nothing, token, broken}
 use Rattle.bl_work.specs.SpelledRules.{SpelledRule, give, rescind, current, classify}

@@ -3,10 +3,10 @@ use Rattle.std.proofs.Common.{◌≡◌, ◌≢◌, ℕ, cond, List, [], ◌∷�
 use Rattle.std.specs.Result.{IsErrAnd}
 use Rattle.std.proofs.lemmas.Result.{err_from_is_err_and}
 use denote.Enum.Bare.{true_same}
-use Rattle.bl_level.specs.contracts.token.Keyword as keyword
-use Rattle.bl_level.specs.declared.token.Keyword.{Keyword}
-use Rattle.bl_level.specs.declared.token.Keyword.TheVariants.{Hello, Give, Rescind, Current, Classify, When, End, Else, Then}
-use Rattle.bl_level.specs.declared.token.Sign.TheVariants.{Comma, Semicolon, Close}
+use Rattle.bl_name.specs.contracts.token.Keyword as keyword
+use Rattle.bl_name.specs.declared.token.Keyword.{Keyword}
+use Rattle.bl_name.specs.declared.token.Keyword.TheVariants.{Hello, Give, Rescind, Current, Classify, When, End, Else, Then}
+use Rattle.bl_name.specs.declared.token.Sign.TheVariants.{Comma, Semicolon, Close}
 use Rattle.bl_level.specs.Token.{Tok, reserved, name, text, sign}
 use Rattle.bl_policy.specs.declared.access.Mode.{Mode}
 use Rattle.bl_work.specs.declared.script.Condition.{Condition}

@@ -1,8 +1,8 @@
 -- How a statement as it was read is taken, and how a longer body and a longer list of accesses are spelled.
 use Rattle.std.proofs.Common.{◌≡◌, suc, ◌+◌, ◌*◌, ◌<◌, ◌≤◌, List, [], ◌∷◌, ◌++◌, length, Some, refl, sym, ap, ◌∙◌, append_assoc, map, arith}
-use Rattle.bl_level.specs.declared.token.Keyword.{Keyword}
-use Rattle.bl_level.specs.declared.token.Keyword.TheVariants.{When, Do, End, If, Then, Else, Spawn}
-use Rattle.bl_level.specs.declared.token.Sign.TheVariants.{Comma, Semicolon}
+use Rattle.bl_name.specs.declared.token.Keyword.{Keyword}
+use Rattle.bl_name.specs.declared.token.Keyword.TheVariants.{When, Do, End, If, Then, Else, Spawn}
+use Rattle.bl_name.specs.declared.token.Sign.TheVariants.{Comma, Semicolon}
 use Rattle.bl_level.specs.Token.{Tok, reserved, name, text, sign}
 use Rattle.bl_syntax.specs.declared.raw.RawAccess.{RawAccess}
 use Rattle.bl_syntax.specs.declared.raw.RawStatement.{RawStatement}

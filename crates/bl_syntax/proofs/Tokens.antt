@@ -1,14 +1,14 @@
 -- What the tokens of bytes are, by what stands at their front.
 use Rattle.std.proofs.Common.{◌≡◌, ℕ, zero, suc, ◌<◌, ◌≤◌, List, [], ◌∷◌, length, refl, sym, ap, ◌∙◌, arith}
 use Rattle.bl_level.specs.Token.{Tok}
-use Rattle.bl_level.specs.declared.lexer.Front.{Front as Standing}
-use Rattle.bl_level.specs.declared.lexer.Front.TheVariants as source
+use Rattle.bl_name.specs.declared.lexer.Front.{Front as Standing}
+use Rattle.bl_name.specs.declared.lexer.Front.TheVariants as source
 use Rattle.bl_level.specs.FrontView.{front_view}
 use Rattle.bl_level.specs.Lexing.{Front, nothing, token, broken, front, past_blanks, Begins}
 use Rattle.bl_level.specs.Name.{AreProper}
-use Rattle.bl_level.proofs.Runs.{past_le}
-use Rattle.bl_level.proofs.Fronts.{front_shorter, front_nothing, broken_within}
-use Rattle.bl_level.proofs.Readings.{read_proper}
+use Rattle.bl_name.proofs.Runs.{past_le}
+use Rattle.bl_name.proofs.Fronts.{front_shorter, front_nothing, broken_within}
+use Rattle.bl_name.proofs.Readings.{read_proper}
 use Rattle.bl_syntax.specs.Tokens.{tokens_within, end_within, tokens_of, end_of, tokens_from, end_from}
 
 -- behind the token at a front stand fewer bytes than so many

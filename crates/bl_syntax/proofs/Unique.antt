@@ -1,11 +1,11 @@
 -- Tokens spell one line, and those of a line have no fault.
 use Rattle.std.proofs.Common.{◌≡◌, ℕ, List, [], ◌∷◌, ◌++◌, Some, refl, sym, ap, subst, ◌∙◌, append_assoc}
 use Rattle.std.proofs.lemmas.List.{append-nil}
-use Rattle.bl_level.specs.declared.token.Keyword.{Keyword}
-use Rattle.bl_level.specs.declared.token.Keyword.TheVariants.{Hello, Wait, Give, Rescind, Current, Classify, When, Do, End, Else}
+use Rattle.bl_name.specs.declared.token.Keyword.{Keyword}
+use Rattle.bl_name.specs.declared.token.Keyword.TheVariants.{Hello, Wait, Give, Rescind, Current, Classify, When, Do, End, Else}
 use Rattle.bl_level.specs.LevelText.{LevelText, spell_categories, spell_level}
 use Rattle.bl_level.specs.LevelText as of_level
-use Rattle.bl_level.specs.declared.token.Sign.TheVariants.{Comma, Semicolon}
+use Rattle.bl_name.specs.declared.token.Sign.TheVariants.{Comma, Semicolon}
 use Rattle.bl_level.specs.Token.{Tok, reserved, name, sign}
 use Rattle.bl_level.specs.Name.{AreProper}
 use Rattle.bl_policy.specs.declared.access.Mode.{Mode}

@@ -7,7 +7,7 @@ use Rattle.bl_level.specs.Name.{AreProper}
 use Rattle.bl_level.specs.Cutting.{Cut, EndsAs}
 use Rattle.bl_work.specs.Grammar.{SpelledLine, spell}
 use Rattle.bl_work.specs.Fault.{ReadsAs, FirstTokenAtFault, SyntaxFault}
-use Rattle.bl_level.proofs.Readings.{one_reading, read_proper}
+use Rattle.bl_name.proofs.Readings.{one_reading, read_proper}
 use Rattle.bl_syntax.specs.Tokens.{tokens_of, end_of}
 use Rattle.bl_syntax.proofs.Tokens.{IsOver, reaches, reads_whole, tokens_proper}
 use Rattle.bl_syntax.proofs.Places.{cut_begins}

@@ -1,8 +1,8 @@
 -- What each part of the parser answers.
 use Rattle.std.specs.Prelude.{◌≡◌, ◌≢◌, ℕ, List, [], ◌∷◌, ◌++◌, map, Result, Ok, Err, None}
-use Rattle.bl_level.specs.declared.token.Keyword.{Keyword}
-use Rattle.bl_level.specs.declared.token.Keyword.TheVariants.{Hello, Wait, Give, Rescind, Current, Classify, When, Do, End, Show, Say, Add, Set, Copy, Pour, To, If, Then, Else, Spawn}
-use Rattle.bl_level.specs.declared.token.Sign.TheVariants.{Open}
+use Rattle.bl_name.specs.declared.token.Keyword.{Keyword}
+use Rattle.bl_name.specs.declared.token.Keyword.TheVariants.{Hello, Wait, Give, Rescind, Current, Classify, When, Do, End, Show, Say, Add, Set, Copy, Pour, To, If, Then, Else, Spawn}
+use Rattle.bl_name.specs.declared.token.Sign.TheVariants.{Open}
 use Rattle.bl_level.specs.Token.{Tok, reserved, name, text, sign}
 use Rattle.bl_level.specs.Lexing.{Front}
 use Rattle.bl_level.specs.FrontView.{front_view}

@@ -1,9 +1,9 @@
 //! From bytes to a line, by recursive descent: a function for each part of the grammar. A token is cut from the bytes when
 //! the one before it is taken, so that none is kept. It is looked at once, and once more where a part may be over.
-ghost use Rattle.std.specs.Prelude.{◌≡◌, ◌<◌, ◌^◌, ◌∷◌, ◌++◌, [], map, MatchResult, MatchOption, MatchBool, IfSome, length};
+ghost use Rattle.std.specs.Prelude.{◌≡◌, ◌<◌, ◌^◌, ◌∷◌, ◌++◌, [], map, MatchResult, MatchOption, MatchBool, length};
 ghost use Rattle.bl_level.specs.Token.{reserved, name, text, sign};
-ghost use Rattle.bl_level.specs.declared.token.Keyword.TheVariants.{When, To, If, Then};
-ghost use Rattle.bl_level.specs.declared.token.Sign.TheVariants.{Comma};
+ghost use Rattle.bl_name.specs.declared.token.Keyword.TheVariants.{When, To, If, Then};
+ghost use Rattle.bl_name.specs.declared.token.Sign.TheVariants.{Comma};
 ghost use Rattle.bl_level.specs.LevelText.{spell_level, spell_categories};
 ghost use Rattle.bl_work.specs.Grammar.{spell};
 ghost use Rattle.bl_work.specs.Fault.{ReadsAs};
@@ -14,7 +14,6 @@ ghost use Rattle.bl_syntax.specs.RawRules.{raw_level, raw_names};
 ghost use Rattle.bl_work.specs.SpelledRules.{letter_of};
 ghost use Rattle.bl_syntax.specs.RawView.{raw_view};
 ghost use Rattle.bl_work.specs.Machine.{word, a_name, a_text, a_sign, a_mode, is_or_has, more_accesses, a_body, rest_of_if, a_letter, rest_of_level, a_line, access_due, if_due, when_due, cell_due, level_due};
-ghost use Rattle.bl_work.specs.Machine as machine;
 ghost use Rattle.bl_syntax.specs.Parsing.{Gives, IsFirstFault, IsNotAt, BeginsNone, first_word, start_word, start_due, spell_statement, left, ending, LevelEnds, LineEnds};
 ghost use Rattle.bl_syntax.specs.declared.stop.Stop.TheVariants.{At};
 
@@ -27,6 +26,7 @@ use bl_level::lexer::{Front, next_token};
 use bl_level::token::{Keyword, Sign, Token};
 use bl_policy::access::Mode;
 use bl_work::few::Few;
+use bl_work::modes::mode_of;
 use bl_work::script::Condition;
 use std::alloc::Global;
 
@@ -61,19 +61,6 @@ struct Test<'a> {
     document: &'a [u8],
     test: Condition,
     text: &'a [u8],
-}
-
-/// The mode of a letter: `r` for read, `a` for append, `w` for write.
-fn mode_of(letter: &[u8]) -> Option<Mode>
-    ensures value { result ≡ machine.mode_of letter.now }
-    ensures letter { IfSome result (λ m. letter_of m ≡ letter.now) }
-{
-    match letter {
-        b"r" => Some(Mode::Read),
-        b"a" => Some(Mode::Append),
-        b"w" => Some(Mode::Write),
-        _ => None,
-    }
 }
 
 /// How many tokens stand in bytes, up to the first lexical fault or the end.

@@ -7,3 +7,6 @@ pub mod AskingLaws
 pub mod Verdicts
 pub mod OneVerdict
 pub mod SmallTrails
+pub mod Heading
+pub mod Memory
+pub mod TrueTexts

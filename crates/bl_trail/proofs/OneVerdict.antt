@@ -32,7 +32,7 @@ append-nil : {A : Type 0} (a : List A) → a ++ [] ≡ a
 append-nil [] = refl
 append-nil (b ∷ a) = ap (λ l. b ∷ l) (append-nil a)
 
-splits : (ls ks : List (List ℕ)) (r : List ℕ) → AllByRecursion (HasNo 10) ls → AllByRecursion (HasNo 10) ks → joined ls ≡ joined ks ++ r → Splits ls ks r
+pub splits : (ls ks : List (List ℕ)) (r : List ℕ) → AllByRecursion (HasNo 10) ls → AllByRecursion (HasNo 10) ks → joined ls ≡ joined ks ++ r → Splits ls ks r
 splits ls [] r p q h = record { more = ls; plain = p; lines = refl; rest = sym h }
 splits [] (k ∷ ks) r p q h = absurd (omega (arith, ap length h, ap length (regroup k ks r), length-append k (10 ∷ (joined ks ++ r))))
 splits (l ∷ ls) (k ∷ ks) r p q h =

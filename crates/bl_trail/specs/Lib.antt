@@ -5,3 +5,5 @@ pub mod Asking
 pub mod OneEvent
 pub mod Follow
 pub mod WorkText
+pub mod Heads
+pub mod StartWords

@@ -4,11 +4,15 @@
 //!     follow     the lines of a trail one after another, as whatever follows them takes them
 //!     ask        which event a line would be
 //!     work       the work whose canonical text a line has
+//!     head       the version and the limit
+//!     text       the texts of events, and what a start says
 //!
 //! The definitions stand in specs/: EventText and TrueText say what a true text is.
 #![tactic(auto)]
 
 pub mod ask;
 pub mod follow;
+pub mod head;
+pub mod text;
 pub mod verdict;
 pub mod work;

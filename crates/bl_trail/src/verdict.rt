@@ -7,6 +7,7 @@ ghost use Rattle.bl_work.specs.Names.{AreNames};
 ghost use Rattle.bl_trail.specs.Follow.{IsFollowed, IsVerdict};
 ghost use Rattle.bl_trail.specs.TrueText.{FirstWrong, IsLimit, IsTrueText, head_lines, joined};
 ghost use Rattle.bl_trail.specs.declared.verdict.Verdict.{Verdict as AnyVerdict};
+ghost use Rattle.bl_trail.specs.declared.verdict.Verdict.TheVariants.{Accepted};
 
 use bl_order::laws::{each_place_has_a_phase, steps_lead_on, the_order_has_room};
 use bl_read::line::one_answer;
@@ -25,6 +26,14 @@ pub enum Verdict {
 pub fn one_verdict()
     ensures { (setup : Setup) (text : List ℕ) (count number : ℕ) → IsTrueText setup text count → FirstWrong setup text number → ⊥ }
 {}
+
+/// The verdict on a true text is that it is accepted, with the number of its events.
+pub fn true_texts_are_accepted()
+    ensures { (setup : Setup) (text : List ℕ) (count : ℕ) (verdict : AnyVerdict) → IsTrueText setup text count → IsVerdict setup text verdict
+        → verdict ≡ Accepted count }
+{
+    one_verdict();
+}
 
 /// Where the lines behind the head were followed to their end, the verdict on them is the verdict on the whole text: a line that
 /// is the text of no event that may come next stands in no true text behind the lines before it.

@@ -14,8 +14,8 @@ use bl_work::answer::{Answer, Outputs};
 use bl_work::names::Names;
 use std::io::Write;
 
-/// Writes an entry's label.
-fn put_label<W: Write>(writer: &mut Watched<W>, ordinal: u32, path: &[u32])
+/// Writes an entry's label, unless the writer has failed: its line's ordinal, and the child numbers down to it.
+pub fn put_label<W: Write>(writer: &mut Watched<W>, ordinal: u32, path: &[u32])
     ensures { Puts (label_text (ordinal ∷ path.now)) (end_state W.contents writer.old) (end_state W.contents writer.new) }
 {
     put_number(writer, ordinal);

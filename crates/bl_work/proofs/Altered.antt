@@ -7,7 +7,7 @@ use Rattle.bl_policy.specs.declared.access.Mode.{Mode}
 use Rattle.bl_policy.specs.declared.access.Mode.TheVariants.{Read, Append, Write}
 use Rattle.bl_work.specs.Statements as statement
 use Rattle.bl_work.specs.Statements.{Statements}
-use Rattle.bl_work.specs.Content.{added}
+use Rattle.bl_document.specs.Content.{added}
 use Rattle.bl_work.specs.Effects.{Effect, Out, Put, Add, Child, after, holds_of, effects_from, effects_of, seen}
 use Rattle.bl_work.specs.Modes.{alters, declares, is_write, KeepsModes}
 

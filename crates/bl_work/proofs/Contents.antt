@@ -5,7 +5,7 @@ use Rattle.std.specs.List.{list_all, AllByRecursion}
 use Rattle.std.proofs.lemmas.List.{length-take}
 use Rattle.std.proofs.lemmas.List.Elements.{All-from_recursion}
 use Rattle.std.proofs.lemmas.List.Folds.{list_all-append}
-use Rattle.bl_work.specs.Content.{is_content_byte, most_bytes, IsContent, added}
+use Rattle.bl_document.specs.Content.{is_content_byte, most_bytes, IsContent, added}
 use Rattle.bl_work.specs.Statements as statement
 use Rattle.bl_work.specs.Statements.{Statements}
 use Rattle.bl_work.specs.Effects.{Effect, Out, Put, Add, Child, after, holds_of, effects_from, effects_of, seen, outputs}

@@ -7,8 +7,6 @@ pub mod FirstOnes
 pub mod Contents
 pub mod Altered
 mod Rows
-pub mod Additions
-pub mod Fronts
 pub mod Same
 pub mod Numbering
 pub mod Behaviours

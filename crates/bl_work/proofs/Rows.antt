@@ -4,7 +4,7 @@ use Rattle.std.specs.Prelude.{◌≡◌, ℕ, zero, suc, ◌+◌, ◌<◌, if◌
 use Rattle.bl_policy.specs.declared.access.Mode.TheVariants.{Read}
 use Rattle.bl_work.specs.declared.script.Condition.TheVariants.{Is, Has}
 use Rattle.bl_work.specs.Statements.{Statements, Nothing, Show, Say, Set, Pour, If, Spawn, Part, no_part}
-use Rattle.bl_work.specs.Content.{added}
+use Rattle.bl_document.specs.Content.{added}
 use Rattle.bl_work.specs.Effects.{effects_of, after, outputs}
 use Rattle.bl_work.specs.Nesting.{size_at, depth_at, spawned, AreNumbered, IsPreorder}
 

@@ -1,11 +1,11 @@
 -- The texts in a line are contents where its bytes are not too many.
 use Rattle.std.proofs.Common.{◌≡◌, ℕ, ◌+◌, ◌≤◌, List, [], ◌∷◌, ◌++◌, length, refl, ap, subst, ◌∙◌, arith, length-append}
-use Rattle.bl_level.specs.declared.token.Keyword.TheVariants.{Do, End, Else}
-use Rattle.bl_level.specs.declared.token.Sign.TheVariants.{Semicolon}
+use Rattle.bl_name.specs.declared.token.Keyword.TheVariants.{Do, End, Else}
+use Rattle.bl_name.specs.declared.token.Sign.TheVariants.{Semicolon}
 use Rattle.bl_level.specs.Token.{Tok, reserved, name, text, sign}
 use Rattle.bl_level.specs.Name.{IsProper, AreProper}
 use Rattle.bl_level.specs.Canonical.{canonical, spelled, gap}
-use Rattle.bl_work.specs.Content.{IsContent, most_bytes}
+use Rattle.bl_document.specs.Content.{IsContent, most_bytes}
 use Rattle.bl_work.specs.Spelled.{SpelledAccess, SpelledBody, empty, show, say, add, set, copy, pour, if_then, if_else, spawn, spell_more, spell_body}
 use Rattle.bl_work.specs.WhenFaults.{AreContents}
 use Rattle.bl_work.specs.Grammar.{SpelledLine, hello, wait, when, rule, spell}

@@ -3,12 +3,12 @@ use Rattle.std.proofs.Common.{◌≡◌, ◌≢◌, ℕ, Bool, true, false, cond
 use Rattle.std.proofs.lemmas.List.{append-nil}
 use Rattle.std.proofs.lemmas.Slice.Eq.{bytes_eq-Decides}
 use denote.Enum.Bare.{sameb, same_true}
-use Rattle.bl_level.specs.contracts.token.Keyword as keyword
-use Rattle.bl_level.specs.contracts.token.Sign as a_mark
-use Rattle.bl_level.specs.declared.token.Keyword.{Keyword}
-use Rattle.bl_level.specs.declared.token.Keyword.TheVariants.{Hello, Wait, Give, Rescind, Current, Classify, When, Read, Append, Write, Do, End, Show, Say, Add, Set, Copy, Pour, To, If, Is, Has, Then, Else, Spawn, Ranks, Categories, Subject, Greatest, Document, Allow, Trusted, Admin, Create, Delete, Reserve}
-use Rattle.bl_level.specs.declared.token.Sign.{Sign}
-use Rattle.bl_level.specs.declared.token.Sign.TheVariants.{Comma, Semicolon, Open, Close}
+use Rattle.bl_name.specs.contracts.token.Keyword as keyword
+use Rattle.bl_name.specs.contracts.token.Sign as a_mark
+use Rattle.bl_name.specs.declared.token.Keyword.{Keyword}
+use Rattle.bl_name.specs.declared.token.Keyword.TheVariants.{Hello, Wait, Give, Rescind, Current, Classify, When, Read, Append, Write, Do, End, Show, Say, Add, Set, Copy, Pour, To, If, Is, Has, Then, Else, Spawn, Ranks, Categories, Subject, Greatest, Document, Allow, Trusted, Admin, Create, Delete, Reserve}
+use Rattle.bl_name.specs.declared.token.Sign.{Sign}
+use Rattle.bl_name.specs.declared.token.Sign.TheVariants.{Comma, Semicolon, Open, Close}
 use Rattle.bl_level.specs.Token.{Tok, reserved, name, text, sign}
 use Rattle.bl_level.specs.Lexing.{word_text}
 use Rattle.bl_level.specs.LevelText.{LevelText, spell_categories, spell_level}

@@ -5,8 +5,8 @@ use Rattle.std.proofs.lemmas.Bool.{false≢true}
 use Rattle.std.proofs.lemmas.List.Elements.{All-cons, All-nil, All-head, All-tail, All-append}
 use Rattle.bl_level.specs.Token.{Tok, reserved, sign}
 use Rattle.bl_level.specs.Name.{IsName, AreProper}
-use Rattle.bl_level.specs.declared.token.Keyword.TheVariants as word
-use Rattle.bl_level.specs.declared.token.Sign.TheVariants.{Semicolon}
+use Rattle.bl_name.specs.declared.token.Keyword.TheVariants as word
+use Rattle.bl_name.specs.declared.token.Sign.TheVariants.{Semicolon}
 use Rattle.bl_work.specs.declared.asked.LineFault.{LineFault}
 use Rattle.bl_work.specs.declared.asked.LineFault.TheVariants.{Long, Syntax, Deep, Many, Unknown, Twice, Mode, Memory}
 use Rattle.bl_work.specs.Modes.{alters, is_write}

@@ -3,7 +3,7 @@ use Rattle.std.specs.Prelude.{ℕ, Bool, if◌then◌else◌, ◌==◌, List, []
 use Rattle.std.specs.Str.{bytes_eq}
 use Rattle.bl_work.specs.declared.script.Condition.{Condition}
 use Rattle.bl_work.specs.declared.script.Condition.TheVariants.{Is, Has}
-use Rattle.bl_work.specs.Content.{added}
+use Rattle.bl_document.specs.Content.{added}
 use Rattle.bl_work.specs.Piece.{has_piece}
 use Rattle.bl_work.specs.Statements as statement
 use Rattle.bl_work.specs.Statements.{Statements}

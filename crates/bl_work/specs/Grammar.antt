@@ -1,6 +1,6 @@
 -- The grammar of session lines: the lines as they are spelled, and the tokens that spell each.
 use Rattle.std.specs.Prelude.{◌≡◌, ℕ, List, [], ◌∷◌, ◌++◌}
-use Rattle.bl_level.specs.declared.token.Keyword.TheVariants.{Hello, Wait}
+use Rattle.bl_name.specs.declared.token.Keyword.TheVariants.{Hello, Wait}
 use Rattle.bl_level.specs.Token.{Tok, reserved, name}
 use Rattle.bl_level.specs.Name.{AreProper}
 use Rattle.bl_work.specs.Spelled.{SpelledAccess, SpelledBody, spell_when}

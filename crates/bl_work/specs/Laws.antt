@@ -1,7 +1,7 @@
 -- What is said of effects, whoever runs the body.
 use Rattle.std.specs.Prelude.{◌≡◌, ℕ, ◌<◌, ◌≤◌, false, IsTrue, All, List, ◌++◌, length}
 use Rattle.bl_policy.specs.declared.access.Access.{Access}
-use Rattle.bl_work.specs.Content.{IsContent, most_bytes, added}
+use Rattle.bl_document.specs.Content.{IsContent, most_bytes, added}
 use Rattle.bl_work.specs.Statements.{Statements}
 use Rattle.bl_work.specs.Effects.{after, effects_of, outputs}
 use Rattle.bl_work.specs.Modes.{alters, declares, observes}

@@ -1,4 +1,4 @@
-pub mod Content
+pub use Rattle.bl_document.specs.Content
 pub mod Few
 pub mod Statements
 pub mod Piece
@@ -18,6 +18,7 @@ pub mod Body
 pub mod BodyFalls
 pub mod Names
 pub mod NameFaults
+pub mod Letters
 pub mod SpelledRules
 pub mod RuleMeaning
 pub mod Grammar

@@ -1,17 +1,15 @@
 -- What may still come, token by token: a stack of what is due. The grammar read as a machine, of which no public promise speaks.
 use Rattle.std.specs.Prelude.{◌≡◌, ℕ, Bool, true, false, if◌then◌else◌, List, [], ◌∷◌, ◌++◌, length, Option, Some, None}
 use denote.Enum.Bare.{sameb}
-use Rattle.bl_level.specs.contracts.token.Keyword as keyword
-use Rattle.bl_level.specs.contracts.token.Sign as a_mark
-use Rattle.bl_level.specs.declared.token.Keyword.{Keyword}
-use Rattle.bl_level.specs.declared.token.Keyword.TheVariants.{Hello, Wait, Give, Rescind, Current, Classify, When, Read, Append, Write, Do, End, Show, Say, Add, Set, Copy, Pour, To, If, Is, Has, Then, Else, Spawn}
-use Rattle.bl_level.specs.declared.token.Sign.{Sign}
-use Rattle.bl_level.specs.declared.token.Sign.TheVariants.{Comma, Semicolon, Open, Close}
+use Rattle.bl_name.specs.contracts.token.Keyword as keyword
+use Rattle.bl_name.specs.contracts.token.Sign as a_mark
+use Rattle.bl_name.specs.declared.token.Keyword.{Keyword}
+use Rattle.bl_name.specs.declared.token.Keyword.TheVariants.{Hello, Wait, Give, Rescind, Current, Classify, When, Read, Append, Write, Do, End, Show, Say, Add, Set, Copy, Pour, To, If, Is, Has, Then, Else, Spawn}
+use Rattle.bl_name.specs.declared.token.Sign.{Sign}
+use Rattle.bl_name.specs.declared.token.Sign.TheVariants.{Comma, Semicolon, Open, Close}
 use Rattle.bl_level.specs.Token.{Tok, reserved, name, text, sign}
 use Rattle.bl_policy.specs.declared.access.Mode.{Mode}
-use Rattle.bl_policy.specs.declared.access.Mode.TheVariants as mode
-use Rattle.std.specs.Str.{bytes_eq}
-use Rattle.bl_work.specs.SpelledRules.{letter_of}
+pub use Rattle.bl_work.specs.Letters.{mode_of}
 
 -- A part of a line that has to come. Of more accesses, of a body and of the rest of a level nothing has to come.
 pub data Due : Type 0 where
@@ -86,14 +84,6 @@ abbrev pub category_due : Tok → List Due → Option (List Due)
 category_due (sign Comma) due = Some (a_name ∷ rest_of_categories ∷ due)
 category_due (sign Close) due = Some due
 category_due _ due = None
-
--- the mode of a letter
-abbrev pub mode_of : List ℕ → Option Mode
-mode_of n =
-    if bytes_eq n (letter_of mode.Read) then Some mode.Read
-    else (if bytes_eq n (letter_of mode.Append) then Some mode.Append
-    else (if bytes_eq n (letter_of mode.Write) then Some mode.Write
-    else None))
 
 -- behind a letter
 abbrev pub letter_taken : Option Mode → List Due → Option (List Due)

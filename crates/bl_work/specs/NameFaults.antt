@@ -1,7 +1,7 @@
 -- A fault of a table as a fault of the names.
 use Rattle.std.specs.Prelude.{◌≡◌}
-use Rattle.bl_level.specs.declared.table.TableFault.{TableFault}
-use Rattle.bl_level.specs.declared.table.TableFault.TheVariants as tables
+use Rattle.bl_name.specs.declared.table.TableFault.{TableFault}
+use Rattle.bl_name.specs.declared.table.TableFault.TheVariants as tables
 use Rattle.bl_work.specs.declared.names.NameFault.{NameFault}
 use Rattle.bl_work.specs.declared.names.NameFault.TheVariants.{Repeated, Memory}
 

@@ -1,7 +1,7 @@
 -- Which lists of behaviours are scripts.
 use Rattle.std.specs.Prelude.{◌≢◌, ℕ, ◌<◌, ◌≤◌, length, All, AllPairs, List}
 use Rattle.bl_policy.specs.declared.access.Access.{Access}
-use Rattle.bl_work.specs.Content.{IsContent}
+use Rattle.bl_document.specs.Content.{IsContent}
 use Rattle.bl_work.specs.Statements.{Statements, Nothing, Show, Say, Add, Set, Copy, Pour, If, Spawn, Part}
 use Rattle.bl_work.specs.Modes.{KeepsModes}
 use Rattle.bl_work.specs.Nesting.{IsPreorder, depth_at}

@@ -1,8 +1,8 @@
 -- The grammar of a `when`: its parts as they are spelled, names and texts by their bytes, and the tokens that spell each.
 use Rattle.std.specs.Prelude.{ℕ, List, [], ◌∷◌, ◌++◌}
-use Rattle.bl_level.specs.declared.token.Keyword.{Keyword}
-use Rattle.bl_level.specs.declared.token.Keyword.TheVariants as word
-use Rattle.bl_level.specs.declared.token.Sign.TheVariants.{Comma, Semicolon}
+use Rattle.bl_name.specs.declared.token.Keyword.{Keyword}
+use Rattle.bl_name.specs.declared.token.Keyword.TheVariants as word
+use Rattle.bl_name.specs.declared.token.Sign.TheVariants.{Comma, Semicolon}
 use Rattle.bl_level.specs.Token.{Tok, reserved, name, text, sign}
 use Rattle.bl_policy.specs.declared.access.Mode.{Mode}
 use Rattle.bl_policy.specs.declared.access.Mode.TheVariants.{Read, Append, Write}

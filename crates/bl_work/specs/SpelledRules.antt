@@ -1,16 +1,10 @@
 -- The grammar of a rule: its parts as they are spelled, names by their bytes, and the tokens that spell each.
 use Rattle.std.specs.Prelude.{ℕ, List, [], ◌∷◌}
-use Rattle.bl_level.specs.declared.token.Keyword.TheVariants.{Give, Rescind, Current, Classify}
+use Rattle.bl_name.specs.declared.token.Keyword.TheVariants.{Give, Rescind, Current, Classify}
 use Rattle.bl_level.specs.LevelText.{LevelText, spell_level}
 use Rattle.bl_level.specs.Token.{Tok, reserved, name}
 use Rattle.bl_policy.specs.declared.access.Mode.{Mode}
-use Rattle.bl_policy.specs.declared.access.Mode.TheVariants.{Read, Append, Write}
-
--- own choice: the letter of a mode, `r`, `a` or `w`. A letter is not reserved: in another place it is a name like any other.
-abbrev pub letter_of : Mode → List ℕ
-letter_of Read = 114 ∷ []
-letter_of Append = 97 ∷ []
-letter_of Write = 119 ∷ []
+pub use Rattle.bl_work.specs.Letters.{letter_of}
 
 -- own choice: a rule gives or rescinds a mode, to a subject for a document, or sets the speaker's current level or a document's
 pub data SpelledRule : Type 0 where

@@ -7,7 +7,7 @@ use Rattle.bl_work.specs.Modes.{observes, alters, is_write}
 use Rattle.bl_work.specs.Names.{KnownNames}
 use Rattle.bl_work.specs.Script.{most_behaviours, most_accesses, most_depth}
 use Rattle.bl_work.specs.Spelled.{SpelledAccess, SpelledBody, empty, show, say, add, set, copy, pour, if_then, if_else, spawn}
-use Rattle.bl_work.specs.Content.{IsContent}
+use Rattle.bl_document.specs.Content.{IsContent}
 use Rattle.bl_work.specs.Meaning.{whens}
 
 -- own choice: a `when` or an `if` in a body is one step deeper than the `when` or `if` that has the body

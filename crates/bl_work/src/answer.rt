@@ -1,8 +1,8 @@
 //! What an entry is answered.
 ghost use Rattle.std.specs.Prelude.{◌≡◌, IfOk};
 
-use crate::document::Document;
 use crate::few::Few;
+use bl_document::document::Document;
 use bl_policy::denial::Denial;
 use std::alloc::AllocError;
 use std::marker::Model;

@@ -1,7 +1,7 @@
 //! What holds of scripts and their effects, whoever runs them.
 ghost use Rattle.std.specs.Prelude.{◌≡◌, ◌↔◌, ℕ, List, [], IsTrue};
 ghost use Rattle.bl_policy.specs.declared.access.Access.{Access};
-ghost use Rattle.bl_work.specs.Content.{IsContent};
+ghost use Rattle.bl_document.specs.Content.{IsContent};
 ghost use Rattle.bl_work.specs.Effects.{effects_of, holds_of};
 ghost use Rattle.bl_work.specs.KnownLine.{IsKnownLine};
 ghost use Rattle.bl_work.specs.LineGrammar.{LineOf};

@@ -3,21 +3,25 @@
 //!
 //!     few         lists that mostly have one item
 //!     names       the names of subjects and documents
-//!     document    the bytes of a content, shared
+//!     modes       the letters of modes
 //!     accesses    what a behaviour declares
 //!     script      the behaviours of a line
 //!     work        what an entry does: a behaviour or a rule
 //!     answer      what an entry is answered
 //!     asked       what a line asks, and why one is refused
 //!     laws        what holds of scripts, their effects, and lines
+//!
+//! The bytes of a content, `document`, are passed on from below.
 #![tactic(auto)]
 
 pub mod accesses;
 pub mod answer;
 pub mod asked;
-pub mod document;
 pub mod few;
 pub mod laws;
+pub mod modes;
 pub mod names;
 pub mod script;
 pub mod work;
+
+pub use bl_document::document;

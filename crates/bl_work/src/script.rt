@@ -3,8 +3,8 @@ ghost use Rattle.std.specs.Prelude.{◌≡◌, ◌↔◌, IsTrue};
 ghost use Rattle.bl_policy.specs.declared.access.Access.{Access};
 
 use crate::accesses::Accesses;
-use crate::document::Document;
 use crate::few::Few;
+use bl_document::document::Document;
 use bl_policy::access::Access;
 use bl_policy::id::DocId;
 use std::alloc::{AllocError, Global};

@@ -1,5 +1,10 @@
--- Whose turn it was.
-use Rattle.std.specs.Prelude.{◌≡◌, ℕ}
+-- Whose turn it was, and what it did.
+use Rattle.std.specs.Prelude.{◌≡◌, ℕ, ◌<◌, ◌≤◌, Bool, false, IsTrue, ◌||◌, List, ◌++◌, length, Some, slice_get}
+use Rattle.bl_work.specs.declared.answer.Answer.{Answer}
+use Rattle.bl_work.specs.declared.answer.Answer.TheVariants as answers
+use Rattle.bl_order.specs.Machine.{State, Event, Starts, MayStart, past_at, has_ended, runs}
+use Rattle.bl_gate.specs.Counts.{times}
+use Rattle.bl_gate.specs.Gates.{PassView, Calls, state_seen}
 use Rattle.bl_worker.specs.declared.turn.Turn.{Turn}
 use Rattle.bl_worker.specs.declared.turn.Turn.TheVariants.{Idle, Missed, Denied, Done, Lost}
 use Rattle.bl_worker.specs.declared.turn.WorkFault.{WorkFault}
@@ -16,3 +21,71 @@ IsTurnOf n (Lost m) = m ≡ n
 -- it is a fault of this entry
 abbrev pub IsFaultOf : ℕ → WorkFault → Type 0
 IsFaultOf n (Foreign m) = m ≡ n
+
+-- the kinds of answers that turns name
+abbrev pub IsDenied : Answer → Type 0
+IsDenied (answers.Done shown) = ⊥
+IsDenied answers.RuleDone = ⊥
+IsDenied (answers.Denied denial) = Unit {0}
+IsDenied answers.Lost = ⊥
+
+abbrev pub IsDoneOrRuleDone : Answer → Type 0
+IsDoneOrRuleDone (answers.Done shown) = Unit {0}
+IsDoneOrRuleDone answers.RuleDone = Unit {0}
+IsDoneOrRuleDone (answers.Denied denial) = ⊥
+IsDoneOrRuleDone answers.Lost = ⊥
+
+abbrev pub IsLost : Answer → Type 0
+IsLost (answers.Done shown) = ⊥
+IsLost answers.RuleDone = ⊥
+IsLost (answers.Denied denial) = ⊥
+IsLost answers.Lost = Unit {0}
+
+-- an entry has ended, and its answer is of this kind
+pub record HasEndedAs (x : State) (n : ℕ) (Kind : Answer → Type 0) : Type 0 where
+  pub ended : IsTrue (has_ended x n)
+  pub kind : Kind (past_at x n).answer
+
+-- What a turn did, by what its pass was before and after. It was idle, and nothing may start there; or it missed an entry, which may
+-- not start there; and then it was no event. Or it ended an entry, as it says.
+abbrev pub HasWorked : PassView → PassView → Turn → Type 0
+HasWorked before after Idle = (after.own ≡ before.own) × ((n : ℕ) → ¬ MayStart (state_seen after) n)
+HasWorked before after (Missed n) = (after.own ≡ before.own) × (¬ MayStart (state_seen after) n)
+HasWorked before after (Denied n) = HasEndedAs (state_seen after) n IsDenied
+HasWorked before after (Done n) = HasEndedAs (state_seen after) n IsDoneOrRuleDone
+HasWorked before after (Lost n) = HasEndedAs (state_seen after) n IsLost
+
+-- what a turn with an entry that ran did
+abbrev pub HasRun : PassView → Turn → Type 0
+HasRun after Idle = ⊥
+HasRun after (Missed n) = ⊥
+HasRun after (Denied n) = ⊥
+HasRun after (Done n) = HasEndedAs (state_seen after) n IsDoneOrRuleDone
+HasRun after (Lost n) = HasEndedAs (state_seen after) n IsLost
+
+-- one event of the pass's own, which is no start, has ended the entry
+pub record Closes (n : ℕ) (before after : PassView) : Type 0 where
+  pub event : Event
+  pub is_no_start : (k : ℕ) → event ≡ Starts k → ⊥
+  pub call : Calls before event (λ _. Unit {0}) after
+  pub ended : IsTrue (has_ended (state_seen after) n)
+
+-- an entry runs or has ended
+abbrev pub has_begun : State → ℕ → Bool
+has_begun x n = runs x n || has_ended x n
+
+-- an entry that a turn missed had not begun where the turn began, and has begun where it ended
+abbrev pub WasTaken : PassView → PassView → Turn → Type 0
+WasTaken before after Idle = Unit {0}
+WasTaken before after (Missed n) = (has_begun (state_seen before) n ≡ false) × IsTrue (has_begun (state_seen after) n)
+WasTaken before after (Denied n) = Unit {0}
+WasTaken before after (Done n) = Unit {0}
+WasTaken before after (Lost n) = Unit {0}
+
+-- Every entry that the pass has started since then has ended: each of its new positions is one that it has seen, and where a start
+-- stands there, that entry has ended.
+pub record Settles (before after : PassView) : Type 0 where
+  pub gained : List ℕ
+  pub own : after.own ≡ before.own ++ gained
+  pub within : (p : ℕ) → 1 ≤ times p gained → p < length after.seen
+  pub settled : (p n : ℕ) → 1 ≤ times p gained → slice_get after.seen p ≡ Some (Starts n) → IsTrue (has_ended (state_seen after) n)

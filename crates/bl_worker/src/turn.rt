@@ -1,7 +1,8 @@
 //! One turn: an entry starts and ends.
-ghost use Rattle.std.specs.Prelude.{◌≡◌, IfOk, IfErr};
-ghost use Rattle.bl_gate.specs.Gates.{Follows};
-ghost use Rattle.bl_worker.specs.Turns.{IsTurnOf, IsFaultOf};
+ghost use Rattle.std.specs.Prelude.{◌≡◌, IfOk, IfErr, OnOk};
+ghost use Rattle.bl_hall.specs.Chronicle.{HasTrail};
+ghost use Rattle.bl_gate.specs.Gates.{Follows, hall_seen};
+ghost use Rattle.bl_worker.specs.Turns.{Closes, HasRun, HasWorked, IsTurnOf, IsFaultOf, Settles, WasTaken};
 
 use crate::pause::Pause;
 use bl_core::machine::Started;
@@ -39,7 +40,10 @@ pub enum WorkFault {
 fn finish<R: Wait>(rt: &R, gate: &Gate, pass: &mut Pass, done: Done) -> Result<Turn, WorkFault>
     requires { pass.old.gate ≡ gate.now.id }
     ensures follows { Follows pass.old pass.new }
+    ensures trail { HasTrail (hall_seen pass.new) }
     ensures turn { IfOk result (IsTurnOf done.entry) }
+    ensures ran { IfOk result (HasRun pass.new) }
+    ensures closes { OnOk result (Closes done.entry pass.old pass.new) }
     ensures fault { IfErr result (IsFaultOf done.entry) }
 {
     let n = done.entry();
@@ -56,7 +60,10 @@ fn finish<R: Wait>(rt: &R, gate: &Gate, pass: &mut Pass, done: Done) -> Result<T
 fn lose<R: Wait>(rt: &R, gate: &Gate, pass: &mut Pass, unrun: Unrun) -> Result<Turn, WorkFault>
     requires { pass.old.gate ≡ gate.now.id }
     ensures follows { Follows pass.old pass.new }
+    ensures trail { HasTrail (hall_seen pass.new) }
     ensures turn { IfOk result (IsTurnOf unrun.entry) }
+    ensures ran { IfOk result (HasRun pass.new) }
+    ensures closes { OnOk result (Closes unrun.entry pass.old pass.new) }
     ensures fault { IfErr result (IsFaultOf unrun.entry) }
 {
     let n = unrun.entry();
@@ -73,7 +80,10 @@ fn lose<R: Wait>(rt: &R, gate: &Gate, pass: &mut Pass, unrun: Unrun) -> Result<T
 fn lose_ready<R: Wait>(rt: &R, gate: &Gate, pass: &mut Pass, starved: Starved) -> Turn
     requires { pass.old.gate ≡ gate.now.id }
     ensures follows { Follows pass.old pass.new }
+    ensures trail { HasTrail (hall_seen pass.new) }
     ensures turn { IsTurnOf starved result }
+    ensures worked { HasWorked pass.old pass.new result }
+    ensures settles { Settles pass.old pass.new }
 {
     let n = starved.entry();
     match gate.lose_ready(rt, pass, starved) {
@@ -93,7 +103,10 @@ fn run<P: Pause, R: Wait>(
 ) -> Result<Turn, WorkFault>
     requires { pass.old.gate ≡ gate.now.id }
     ensures follows { Follows pass.old pass.new }
+    ensures trail { HasTrail (hall_seen pass.new) }
     ensures turn { IfOk result (IsTurnOf lent.entry) }
+    ensures ran { IfOk result (HasRun pass.new) }
+    ensures closes { OnOk result (Closes lent.entry pass.old pass.new) }
     ensures fault { IfErr result (IsFaultOf lent.entry) }
 {
     pause.between(lent.entry());
@@ -104,7 +117,8 @@ fn run<P: Pause, R: Wait>(
 }
 
 /// One turn with the entry `n`: it starts, and where it runs it is evaluated with the gate free, and ends. `Missed` comes where it
-/// may not start, and `Lost` only after want of memory. A fault comes only where the gate refused what was done of the entry.
+/// may not start, and `Lost` only after want of memory. Where it returns a turn, the entry was missed or has ended, with an answer of
+/// the kind that the turn names. A fault comes only where the gate refused what was done of the entry.
 pub fn work_on<P: Pause, R: Wait>(
     rt: &R,
     alloc: Global,
@@ -115,7 +129,10 @@ pub fn work_on<P: Pause, R: Wait>(
 ) -> Result<Turn, WorkFault>
     requires gate { pass.old.gate ≡ gate.now.id }
     ensures follows { Follows pass.old pass.new }
+    ensures trail { HasTrail (hall_seen pass.new) }
     ensures turn { IfOk result (IsTurnOf n) }
+    ensures worked { IfOk result (HasWorked pass.old pass.new) }
+    ensures settles { OnOk result (Settles pass.old pass.new) }
     ensures fault { IfErr result (IsFaultOf n) }
 {
     match gate.start(rt, pass, n) {
@@ -127,7 +144,8 @@ pub fn work_on<P: Pause, R: Wait>(
     }
 }
 
-/// One turn with an entry that is ready, as `work_on` takes it; `Idle` where none is.
+/// One turn with an entry that is ready, as `work_on` takes it; `Idle` where none is. An entry that was missed had not begun where
+/// the turn began, and another has begun it. Where it returns a turn, every entry that it started has ended.
 pub fn work_once<P: Pause, R: Wait>(
     rt: &R,
     alloc: Global,
@@ -137,6 +155,10 @@ pub fn work_once<P: Pause, R: Wait>(
 ) -> Result<Turn, WorkFault>
     requires gate { pass.old.gate ≡ gate.now.id }
     ensures follows { Follows pass.old pass.new }
+    ensures trail { HasTrail (hall_seen pass.new) }
+    ensures worked { IfOk result (HasWorked pass.old pass.new) }
+    ensures taken { IfOk result (WasTaken pass.old pass.new) }
+    ensures settles { OnOk result (Settles pass.old pass.new) }
 {
     match gate.ready(rt, pass) {
         Some(n) => work_on(rt, alloc, gate, pass, pause, n),

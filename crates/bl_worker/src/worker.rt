@@ -1,6 +1,7 @@
 //! A worker, turn by turn.
-ghost use Rattle.std.specs.Prelude.{◌≡◌};
+ghost use Rattle.std.specs.Prelude.{◌≡◌, OnOk};
 ghost use Rattle.bl_gate.specs.Gates.{Follows};
+ghost use Rattle.bl_worker.specs.Turns.{Settles};
 
 use crate::bell::Bell;
 use crate::pause::Pause;
@@ -27,7 +28,8 @@ fn rest<R: Wait>(rt: &R, bell: &Bell, backoff: &Backoff, seen: u64) -> bool {
 }
 
 /// Takes turns until the bell is closed and nothing is ready, and rings after each turn that was not idle. While there is nothing
-/// to do it sleeps at the bell.
+/// to do it sleeps at the bell. Where it returns without a fault, every entry that it started has ended.
+#[tactic(auto, using(crate::proofs::Settling::settles_itself, crate::proofs::Settling::settles_then))]
 pub fn run_worker<P: Pause, R: Wait>(
     rt: &R,
     alloc: Global,
@@ -38,6 +40,7 @@ pub fn run_worker<P: Pause, R: Wait>(
 ) -> Result<(), WorkFault>
     requires gate { pass.old.gate ≡ gate.now.id }
     ensures follows { Follows pass.old pass.new }
+    ensures settles { OnOk result (Settles pass.old pass.new) }
 {
     let backoff = Backoff::new();
     let mut closed = false;

@@ -7,8 +7,8 @@ use Rattle.std.proofs.lemmas.Bool.{and_parts, and_from, eqb-true}
 use Rattle.std.proofs.lemmas.List.{length-map}
 use Rattle.std.proofs.lemmas.List.Elements.{All-cons, All-nil, All-head, All-tail, All-append, All-from_get_or, All-contains}
 use Rattle.std.proofs.lemmas.Slice.Eq.{bytes_eq-Decides}
-use Rattle.bl_level.specs.declared.token.Keyword.TheVariants.{Do, End, Else}
-use Rattle.bl_level.specs.declared.token.Sign.TheVariants.{Semicolon}
+use Rattle.bl_name.specs.declared.token.Keyword.TheVariants.{Do, End, Else}
+use Rattle.bl_name.specs.declared.token.Sign.TheVariants.{Semicolon}
 use Rattle.bl_level.specs.Name.{IsName, AreProper}
 use Rattle.bl_level.specs.Token.{Tok, reserved, sign}
 use Rattle.bl_policy.specs.declared.access.Access.{Access}

@@ -4,15 +4,15 @@ use Rattle.std.specs.Prelude.{All, ◌||◌, ◌==◌}
 use Rattle.std.specs.List.{list_all}
 use Rattle.std.proofs.lemmas.Bool.{false≢true, and_parts}
 use Rattle.std.proofs.lemmas.List.Elements.{All-cons, All-nil, All-append}
-use Rattle.bl_level.specs.declared.token.Sign.{Sign}
-use Rattle.bl_level.specs.declared.token.Sign.TheVariants.{Comma, Semicolon, Open, Close}
+use Rattle.bl_name.specs.declared.token.Sign.{Sign}
+use Rattle.bl_name.specs.declared.token.Sign.TheVariants.{Comma, Semicolon, Open, Close}
 use Rattle.bl_level.specs.Canonical.{spelled, sign_byte}
 use Rattle.bl_level.specs.Lexing.{is_text_byte, is_word_byte, past_blanks, Begins}
 use Rattle.bl_level.specs.Name.{IsProper, IsWord}
 use Rattle.bl_level.specs.Token.{Tok, reserved, name, text, sign}
-use Rattle.bl_level.proofs.Fronts.{front_splits}
-use Rattle.bl_level.proofs.Runs.{drop_more}
-use Rattle.bl_level.proofs.Words.{word_proper}
+use Rattle.bl_name.proofs.Fronts.{front_splits}
+use Rattle.bl_name.proofs.Runs.{drop_more}
+use Rattle.bl_name.proofs.Words.{word_proper}
 
 -- the byte is no LF
 abbrev NoLf : ℕ → Type 0

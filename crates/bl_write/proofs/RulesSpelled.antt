@@ -3,7 +3,7 @@ use Rattle.std.proofs.Common.{◌≡◌, ℕ, suc, ◌+◌, ◌<◌, Bool, true,
 use Rattle.std.specs.List.{fold}
 use Rattle.std.specs.Int.{bit_at}
 use Rattle.std.proofs.lemmas.Bool.{eq-eqb, ne_eqb}
-use Rattle.bl_level.specs.declared.token.Sign.TheVariants.{Comma, Open}
+use Rattle.bl_name.specs.declared.token.Sign.TheVariants.{Comma, Open}
 use Rattle.bl_level.specs.Level.{SecurityLevel, HasCategory}
 use Rattle.bl_level.specs.LevelText.{held_names, spell_categories, spell_more}
 use Rattle.bl_level.specs.Token.{Tok, name, sign}

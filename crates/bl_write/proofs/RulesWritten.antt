@@ -2,7 +2,7 @@
 use Rattle.std.proofs.Common.{◌≡◌, ◌<◌, ◌≤◌, ℕ, Bool, false, List, [], ◌∷◌, ◌++◌, length, get_or, refl, sym, ap, subst, ◌∙◌, arith, length-append}
 use Rattle.std.specs.Prelude.{◌↔◌, IsTrue}
 use Rattle.std.proofs.lemmas.Bool.{false≢true}
-use Rattle.bl_level.specs.declared.token.Keyword.TheVariants.{Current, Classify}
+use Rattle.bl_name.specs.declared.token.Keyword.TheVariants.{Current, Classify}
 use Rattle.bl_level.specs.Canonical.{canonical}
 use Rattle.bl_level.specs.Level.{SecurityLevel}
 use Rattle.bl_level.specs.Lexing.{Begins, word_text}

@@ -1,8 +1,8 @@
 -- A body without an `else` before an empty body, which is no longer than with it.
 use Rattle.std.proofs.Common.{ℕ, ◌≤◌, List, [], ◌∷◌, ◌++◌, length, sym, subst, append_assoc, arith, length-append}
-use Rattle.bl_level.specs.declared.token.Keyword.TheVariants.{When, Do, End, Then, Else, Spawn}
-use Rattle.bl_level.specs.declared.token.Keyword.TheVariants as word
-use Rattle.bl_level.specs.declared.token.Sign.TheVariants.{Comma, Semicolon}
+use Rattle.bl_name.specs.declared.token.Keyword.TheVariants.{When, Do, End, Then, Else, Spawn}
+use Rattle.bl_name.specs.declared.token.Keyword.TheVariants as word
+use Rattle.bl_name.specs.declared.token.Sign.TheVariants.{Comma, Semicolon}
 use Rattle.bl_level.specs.Token.{Tok, reserved, name, text, sign}
 use Rattle.bl_level.specs.Canonical.{spelled, gap, canonical}
 use Rattle.bl_work.specs.declared.script.Condition.{Condition}

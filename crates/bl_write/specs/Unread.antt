@@ -1,6 +1,6 @@
 -- The way back from a line to how it is spelled, and from a script to its `when`.
 use Rattle.std.specs.Prelude.{ℕ, ◌+◌, ◌-◌, List, [], ◌∷◌, map, slice_index_or}
-use Rattle.bl_level.specs.declared.token.Keyword.TheVariants.{Else}
+use Rattle.bl_name.specs.declared.token.Keyword.TheVariants.{Else}
 use Rattle.bl_level.specs.LevelText.{text_of}
 use Rattle.bl_level.specs.Token.{Tok, reserved}
 use Rattle.bl_policy.specs.declared.access.Access.{Access}

@@ -2,8 +2,8 @@
 //! behaviour, the tokens of its `when`.
 ghost use Rattle.std.specs.Prelude.{◌≡◌, ◌<◌, [], ◌∷◌, map, fold, length, OnOk};
 ghost use Rattle.bl_level.specs.Token.{reserved, name, text, sign};
-ghost use Rattle.bl_level.specs.declared.token.Keyword.TheVariants.{To, If, Then};
-ghost use Rattle.bl_level.specs.declared.token.Sign.TheVariants.{Semicolon};
+ghost use Rattle.bl_name.specs.declared.token.Keyword.TheVariants.{To, If, Then};
+ghost use Rattle.bl_name.specs.declared.token.Sign.TheVariants.{Semicolon};
 ghost use Rattle.bl_work.specs.Body.{statements_of};
 ghost use Rattle.bl_work.specs.Script.{IsScript};
 ghost use Rattle.bl_work.specs.Spelled.{spell_access, spell_more, spell_body};

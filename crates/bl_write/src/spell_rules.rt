@@ -1,6 +1,6 @@
 //! The tokens of a rule, put one behind the other: its names, its letter, and its level with the categories in the scheme's order.
 ghost use Rattle.std.specs.Prelude.{◌≡◌, ◌<◌, if◌then◌else◌, [], ◌∷◌, fold, length, OnOk};
-ghost use Rattle.bl_level.specs.declared.token.Sign.TheVariants.{Comma, Open};
+ghost use Rattle.bl_name.specs.declared.token.Sign.TheVariants.{Comma, Open};
 ghost use Rattle.bl_level.specs.LevelText.{held_names, spell_level, spell_categories, text_of};
 ghost use Rattle.bl_level.specs.Scheme.{HoldsLevel};
 ghost use Rattle.bl_level.specs.Token.{reserved, name};
@@ -16,18 +16,8 @@ use bl_level::token::{Keyword, Sign, Token};
 use bl_policy::access::Mode;
 use bl_policy::id::{DocId, SubjectId};
 use bl_policy::rule::Rule;
+use bl_work::modes::letter_of;
 use bl_work::names::Names;
-
-/// The letter of a mode.
-fn letter_of(mode: Mode) -> &'static [u8]
-    ensures { result.now ≡ spelled.letter_of mode }
-{
-    match mode {
-        Mode::Read => b"r",
-        Mode::Append => b"a",
-        Mode::Write => b"w",
-    }
-}
 
 /// Puts a rule that gives or rescinds a mode, by its word.
 fn put_right<S: Sink>(

@@ -1,4 +1,4 @@
-use Rattle.std.proofs.Common.{List, [], ◌∷◌, ◌++◌, map, ap, sym, ◌∙◌, subst, arith}
+use Rattle.std.proofs.Common.{List, [], ◌∷◌, ◌++◌, map, ap, sym, ◌∙◌, subst, arith, append-nil}
 use Rattle.std.specs.Prelude.{All, Contains}
 use Rattle.bl_syntax.specs.declared.raw.RawAccess.{RawAccess}
 use Rattle.bl_syntax.specs.declared.raw.RawStatement.{RawStatement}
@@ -6,9 +6,9 @@ use Rattle.bl_syntax.specs.RawBodies.{raw_access, raw_body}
 use Rattle.bl_work.specs.SpelledDepth.{spelled_depth}
 use Rattle.bl_work.specs.First.{IsNameOfFirst}
 use Rattle.bl_check.proofs.Joined.{depth-at}
-use Rattle.bl_check.proofs.Firsts.{first_behind, first_before, finds_behind, finds_end, exits, in_statement, in_body}
+use Rattle.bl_check.proofs.Firsts.{Finds, first_behind, first_before, finds_behind, finds_end, exits, in_statement, in_body}
 use Rattle.bl_check.proofs.Passes.{pass_goes_on, pass_stops, pass_ends, names_of, names_additive}
-use Rattle.bl_work.specs.WhenFaults.{documents_in, names_in}
+use Rattle.bl_work.specs.WhenFaults.{documents_in, names_in, names_of_when}
 use Rattle.bl_work.specs.FirstWhenFault.{same_name}
 use Rattle.bl_check.specs.OfDocuments.{AreOfDocuments}
 use Rattle.bl_syntax.proofs.Boxed.{raw_if_then, raw_if_else, raw_spawn}
@@ -63,13 +63,6 @@ check_statement_known-returns-in_err-check_known-in-IfElse t c =
     (first_behind (Contains c.args.names.now.documents) same_name (c.as_ref-choice-in-IfElse.result.now.document.now ∷ []) (names_in c.as_ref-choice-in-IfElse.result.now.then_body ++ (names_in c.as_ref-choice-in-IfElse.result.now.else_body ++ [])) _ c.in_ok-check_used_known-in-IfElse.ensures
     (first_before (Contains c.args.names.now.documents) same_name (names_in c.as_ref-choice-in-IfElse.result.now.then_body) (names_in c.as_ref-choice-in-IfElse.result.now.else_body ++ []) _ c.in_err-check_known-in-IfElse.ensures)))
 
-pub check_statement_known-returns-in_err-check_accesses_known-in-Spawn : goal.check_statement_known-returns-in_err-check_accesses_known-in-Spawn
-check_statement_known-returns-in_err-check_accesses_known-in-Spawn t c =
-    let found = subst (λ l. IsNameOfFirst (Contains c.args.names.now.documents) same_name (documents_in (raw_access c.as_ref-when.result.now.first ∷ map raw_access l)) c.in_err-check_accesses_known-in-Spawn.field-0.0.now) c.deref.ensures.value c.in_err-check_accesses_known-in-Spawn.ensures in
-    in_body names_in (Contains c.args.names.now.documents) same_name _ _ _ (raw_spawn _ _ _ c.in-Spawn.is c.as_ref-when.ensures)
-    (exits (Contains c.args.names.now.documents) same_name _ _ _ c.from_residual-in_err-check_accesses_known-in-Spawn.ensures.1
-    (first_before (Contains c.args.names.now.documents) same_name (documents_in (raw_access c.as_ref-when.result.now.first ∷ map raw_access c.as_ref-when.result.now.more.items)) (names_in c.as_ref-when.result.now.body ++ []) _ found))
-
 pub check_statement_known-returns-in_ok-check_used_known-in-Copy : goal.check_statement_known-returns-in_ok-check_used_known-in-Copy
 check_statement_known-returns-in_ok-check_used_known-in-Copy t c =
     in_statement names_of (Contains c.args.names.now.documents) same_name _ _ _ c.in-Copy.is
@@ -93,17 +86,28 @@ check_statement_known-returns-in_ok-check_known-in-IfElse t c =
     (finds_behind (Contains c.args.names.now.documents) same_name (names_in c.as_ref-choice-in-IfElse.result.now.then_body) (names_in c.as_ref-choice-in-IfElse.result.now.else_body ++ []) _ c.in_ok-check_known-in-IfElse.ensures
     (finds_end (Contains c.args.names.now.documents) same_name (names_in c.as_ref-choice-in-IfElse.result.now.else_body) _ c.check_known-in-IfElse-2.ensures)))
 
-pub check_statement_known-returns-in_ok-check_accesses_known-in-Spawn : goal.check_statement_known-returns-in_ok-check_accesses_known-in-Spawn
-check_statement_known-returns-in_ok-check_accesses_known-in-Spawn t c =
-    let here : All (Contains c.args.names.now.documents) (documents_in (raw_access c.as_ref-when.result.now.first ∷ map raw_access c.deref.result.now)) = c.in_ok-check_accesses_known-in-Spawn.ensures in
-    in_body names_in (Contains c.args.names.now.documents) same_name _ _ _ (raw_spawn _ _ _ c.in-Spawn.is c.as_ref-when.ensures)
-    (finds_behind (Contains c.args.names.now.documents) same_name (documents_in (raw_access c.as_ref-when.result.now.first ∷ map raw_access c.as_ref-when.result.now.more.items)) (names_in c.as_ref-when.result.now.body ++ []) _ (subst (λ l. All (Contains c.args.names.now.documents) (documents_in (raw_access c.as_ref-when.result.now.first ∷ map raw_access l))) c.deref.ensures.value here)
-    (finds_end (Contains c.args.names.now.documents) same_name (names_in c.as_ref-when.result.now.body) _ c.check_known-in-Spawn.ensures))
+pub check_statement_known-check_when_known-requires : goal.check_statement_known-check_when_known-requires
+check_statement_known-check_when_known-requires t c =
+    omega (arith, c.decreases, ap spelled_depth (raw_spawn _ _ _ c.in-Spawn.is c.as_ref-when.ensures))
 
-pub check_statement_known-check_known-requires-in-Spawn : goal.check_statement_known-check_known-requires-in-Spawn
-check_statement_known-check_known-requires-in-Spawn t c =
-    let deep = ap spelled_depth (raw_spawn _ _ _ c.in-Spawn.is c.as_ref-when.ensures) in (
-      omega (arith, c.decreases, deep),
-      subst (λ (l : List RawAccess). AreOfDocuments c.args.names.now (raw_access c.as_ref-when.result.now.first ∷ map raw_access l))
-          (c.deref.ensures.value ∙ sym c.deref-in-Spawn.ensures.value) c.in_ok-check_accesses_known-in-Spawn.ensures,
-    )
+pub check_statement_known-returns-in-Spawn : goal.check_statement_known-returns-in-Spawn
+check_statement_known-returns-in-Spawn t c =
+    let w = c.as_ref-when.result.now in
+    let known = Contains c.args.names.now.documents in
+    let found = subst (λ l. Finds known same_name (names_of_when (raw_access w.first) (map raw_access l) w.body) c.check_when_known.result) c.deref.ensures.value c.check_when_known.ensures in
+    in_body names_in known same_name _ _ _ (raw_spawn _ _ _ c.in-Spawn.is c.as_ref-when.ensures)
+    (subst (λ ys. Finds known same_name (documents_in (raw_access w.first ∷ map raw_access w.more.items) ++ ys) c.check_when_known.result) (sym (append-nil (names_in w.body))) found)
+
+pub check_when_known-check_known-requires : goal.check_when_known-check_known-requires
+check_when_known-check_known-requires t c = (omega (arith, c.decreases), c.in_ok-check_accesses_known.ensures)
+
+pub check_when_known-returns-in_err-check_accesses_known : goal.check_when_known-returns-in_err-check_accesses_known
+check_when_known-returns-in_err-check_accesses_known t c =
+    let known = Contains c.args.names.now.documents in
+    exits known same_name _ _ _ c.from_residual.ensures.1
+    (first_before known same_name (documents_in (raw_access c.args.first ∷ map raw_access c.args.more.now)) (names_in c.args.body.now) _ c.in_err-check_accesses_known.ensures)
+
+pub check_when_known-returns : goal.check_when_known-returns
+check_when_known-returns t c =
+    finds_behind (Contains c.args.names.now.documents) same_name (documents_in (raw_access c.args.first ∷ map raw_access c.args.more.now)) (names_in c.args.body.now) _
+    c.in_ok-check_accesses_known.ensures c.check_known.ensures

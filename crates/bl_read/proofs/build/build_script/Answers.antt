@@ -14,12 +14,6 @@ use Rattle.bl_read.specs.Spawned.{with_outermost}
 use Rattle.bl_read.proofs.Built.{built_script}
 use Rattle.bl_read.proofs.build.build_script.Goals as goal
 
-pub new-lookup-requires : goal.new-lookup-requires
-new-lookup-requires c =
-    let first = raw_access c.args.first in
-    let more = map raw_access c.args.more.now in
-    omega (arith, All-head HasFewAccesses (first ∷ more) (lists_in c.args.body.now) c.requires.faultless.few.accesses, length-map c.args.more.now raw_access)
-
 pub body_of-requires : goal.body_of-requires
 body_of-requires c =
     let first = raw_access c.args.first in
@@ -36,9 +30,9 @@ new-requires c =
     let first = raw_access c.args.first in
     let more = map raw_access c.args.more.now in
     let built = subst (λ (n : KnownNames). IsBuilt n c.args.body.now (with_outermost c.in_ok-spawned.spawned.items) (with_outermost c.body_of.new.spawned.items) c.in_ok-body.body)
-    c.new-lookup.ensures.names c.in_ok-body.ensures in
+    c.over-lookup.ensures.names c.in_ok-body.ensures in
     let is = built_script names first more c.args.body.now c.in_ok-spawned.spawned.items c.body_of.new.spawned.items c.into_accesses.result c.in_ok-body.body c.new-outermost.result
-    c.new-outermost.ensures (c.into_accesses.ensures ∙ c.new-lookup.ensures.accesses) c.in_ok-spawned.ensures.items built in
+    c.new-outermost.ensures (c.into_accesses.ensures ∙ c.over-lookup.ensures.accesses ∙ c.requires.checked.accesses) c.in_ok-spawned.ensures.items built in
     subst (λ (l : List Part). IsScript l) (sym is) (when_is_script names first more c.args.body.now c.requires.faultless c.requires.texts)
 
 pub returns : goal.returns
@@ -47,7 +41,7 @@ returns c =
     let first = raw_access c.args.first in
     let more = map raw_access c.args.more.now in
     let built = subst (λ (n : KnownNames). IsBuilt n c.args.body.now (with_outermost c.in_ok-spawned.spawned.items) (with_outermost c.body_of.new.spawned.items) c.in_ok-body.body)
-    c.new-lookup.ensures.names c.in_ok-body.ensures in
+    c.over-lookup.ensures.names c.in_ok-body.ensures in
     let is = built_script names first more c.args.body.now c.in_ok-spawned.spawned.items c.body_of.new.spawned.items c.into_accesses.result c.in_ok-body.body c.new-outermost.result
-    c.new-outermost.ensures (c.into_accesses.ensures ∙ c.new-lookup.ensures.accesses) c.in_ok-spawned.ensures.items built in
+    c.new-outermost.ensures (c.into_accesses.ensures ∙ c.over-lookup.ensures.accesses ∙ c.requires.checked.accesses) c.in_ok-spawned.ensures.items built in
     subst (λ (l : List Part). IfOk c.new.result (λ script. script ≡ l)) is c.new.ensures

@@ -3,7 +3,7 @@ use Rattle.bl_work.specs.Names.{AreNames}
 use Rattle.bl_order.specs.Machine.{start}
 use Rattle.bl_trail.specs.Follow.{IsVerdict}
 use Rattle.bl_trail.specs.TrueText.{IsLimit, head_lines, joined}
-use Rattle.bl_replay.specs.Heads.{IsHead}
+use Rattle.bl_trail.specs.Heads.{IsHead}
 use Rattle.bl_replay.specs.Marks.{lost_later}
 use Rattle.bl_replay.proofs.Taking.{if-ok}
 use Rattle.bl_replay.proofs.replay.replay.Goals as goal

@@ -1,5 +1,5 @@
 use Rattle.std.proofs.Common.{◌≡◌, false, ◌∙◌, sym, ap}
-use Rattle.bl_replay.specs.Words.{words_of}
+use Rattle.bl_trail.specs.StartWords.{words_of}
 use Rattle.std.specs.Prelude.{is_some}
 use Rattle.bl_order.specs.Machine.{past_at}
 use Rattle.bl_replay.proofs.StartLaws.{runs, answered, some-words, are-words, done_words, none_by_rule, none_by_fault, none_neither}

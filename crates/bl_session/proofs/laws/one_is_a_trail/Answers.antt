@@ -8,9 +8,9 @@ returns c =
     record {
       turns = run;
       served = λ setup limit reader writer agree served.
-          run setup limit served.turns agree (turns_stand setup.names (lines_of served.bytes) served.turns served.are)
+          run setup limit served.fate served.turns agree (turns_stand setup.names (lines_of served.bytes) served.turns served.are)
           (small_turns setup.names served.bytes served.turns served.are served.within);
       cut = λ setup limit fault reader writer agree cut.
           let heard = first_turns setup.names cut.read.bytes cut.read.part cut.heard cut.turns cut.read.are cut.read.within (cut.heard_is.0, cut.heard_is.2) in
-          run setup limit cut.heard agree heard.0 heard.1;
+          run setup limit cut.fate cut.heard agree heard.0 heard.1;
     }

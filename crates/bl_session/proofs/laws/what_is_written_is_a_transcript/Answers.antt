@@ -6,5 +6,5 @@ pub returns : goal.returns
 returns c = record {
   turns = is_transcript;
   served = λ setup limit reader writer served.
-      (transcript setup limit served.turns, served.put, is_transcript setup limit served.turns);
+      (transcript setup limit served.fate served.turns, served.put, is_transcript setup limit served.fate served.turns);
 }

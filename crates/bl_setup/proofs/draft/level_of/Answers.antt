@@ -1,4 +1,4 @@
-use Rattle.bl_setup.proofs.Parts.{exits}
+use Rattle.bl_declare.proofs.Parts.{exits}
 use Rattle.bl_setup.proofs.FaultLemmas.{level_fails}
 use Rattle.bl_setup.proofs.draft.level_of.Goals as goal
 

@@ -1,5 +1,5 @@
 use Rattle.std.proofs.Common.{◌≡◌, ◌++◌, take}
-use Rattle.bl_setup.specs.Words.{names_of}
+use Rattle.bl_declare.specs.Words.{names_of}
 use Rattle.bl_setup.proofs.head.add_names.Given as goal
 
 abbrev pub invariant-loop-word : goal.invariant-loop-word

@@ -1,8 +1,8 @@
 use Rattle.std.proofs.Common.{◌≡◌, ◌∷◌, suc, length, ap, refl, ◌∙◌, arith}
 use Rattle.std.proofs.lemmas.List.{length-map}
 use Rattle.bl_setup.specs.FirstSetupFault.{nothing}
-use Rattle.bl_setup.specs.Words.{names_of}
-use Rattle.bl_setup.proofs.Parts.{exits}
+use Rattle.bl_declare.specs.Words.{names_of}
+use Rattle.bl_declare.proofs.Parts.{exits}
 use Rattle.bl_setup.proofs.HeadFaults.{too_many_ranks, ranks_refused}
 use Rattle.bl_setup.proofs.HeadLemmas.{names_proper}
 use Rattle.bl_setup.proofs.TakingLemmas.{spells_nothing}

@@ -1,7 +1,7 @@
 use Rattle.std.proofs.Common.{refl, ◌∙◌}
 use Rattle.bl_setup.specs.FirstSetupFault.{ranked}
-use Rattle.bl_setup.specs.Words.{names_of}
-use Rattle.bl_setup.proofs.Parts.{exits}
+use Rattle.bl_declare.specs.Words.{names_of}
+use Rattle.bl_declare.proofs.Parts.{exits}
 use Rattle.bl_setup.proofs.HeadFaults.{categories_refused}
 use Rattle.bl_setup.proofs.HeadLemmas.{names_proper}
 use Rattle.bl_setup.proofs.TakingLemmas.{spells_nothing}

@@ -1,6 +1,6 @@
 use Rattle.std.proofs.Common.{sym, ◌∙◌, arith}
 use Rattle.bl_setup.specs.Taking.{Stops}
-use Rattle.bl_setup.proofs.Parts.{exits}
+use Rattle.bl_declare.proofs.Parts.{exits}
 use Rattle.bl_setup.proofs.FileLemmas.{remain_of}
 use Rattle.bl_setup.proofs.TakingLemmas.{stopped_first, stopped_memory, stopped_refuses, stops_behind}
 use Rattle.bl_setup.proofs.reader.read_setup.Goals as goal

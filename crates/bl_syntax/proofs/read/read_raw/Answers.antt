@@ -1,6 +1,6 @@
 use Rattle.std.proofs.Common.{◌≡◌, ◌≤◌, ◌∷◌, [], length, List, refl, ap, subst, ◌∙◌, suc, arith}
 use Rattle.bl_level.specs.Token.{toks}
-use Rattle.bl_level.specs.declared.token.Token.{Token}
+use Rattle.bl_name.specs.declared.token.Token.{Token}
 use Rattle.bl_work.specs.Fault.{FirstTokenAtFault, SyntaxFault}
 use Rattle.bl_syntax.specs.Tokens.{tokens_of}
 use Rattle.bl_syntax.specs.Parsing.{IsFirstFault}

@@ -1,7 +1,7 @@
 use Rattle.std.proofs.Common.{[], ◌∷◌, length, ap, sym, ◌∙◌, arith}
 use Rattle.std.specs.List.{fold}
 use Rattle.std.proofs.lemmas.Result.{on_ok_weaker}
-use Rattle.bl_level.specs.declared.token.Sign.TheVariants.{Semicolon}
+use Rattle.bl_name.specs.declared.token.Sign.TheVariants.{Semicolon}
 use Rattle.bl_level.specs.Token.{sign}
 use Rattle.bl_work.specs.declared.script.Stmt.{Stmt}
 use Rattle.bl_work.specs.Body.{statements_of}

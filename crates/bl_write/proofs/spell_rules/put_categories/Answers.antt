@@ -1,7 +1,7 @@
 use Rattle.std.proofs.Common.{◌≡◌, ◌+◌, ◌<◌, ◌∷◌, [], ℕ, List, Bool, cond, drop, length, get_or, sym, ap, ◌∙◌, subst, Some, slice_get, true≢false, IfSome}
 use Rattle.std.specs.List.{fold}
 use Rattle.std.proofs.lemmas.Option.{get_or_from_slice_get}
-use Rattle.bl_level.specs.declared.token.Sign.TheVariants.{Comma, Open}
+use Rattle.bl_name.specs.declared.token.Sign.TheVariants.{Comma, Open}
 use Rattle.bl_level.specs.Level.{HasCategory}
 use Rattle.bl_level.specs.LevelText.{held_names, spell_categories}
 use Rattle.bl_level.specs.Token.{name, sign}

@@ -3,9 +3,9 @@ use Rattle.std.specs.Vec.{with_item}
 use Rattle.bl_order.specs.Machine.{State, Admits, Needs, change, session_at}
 use Rattle.bl_order.specs.Order.{Entry, Line}
 use Rattle.bl_order.proofs.Reached.{reached-next}
-use Rattle.bl_core.specs.Queueing.{MayEnter, QueuesTell}
+use Rattle.bl_place.specs.Queueing.{MayEnter, QueuesTell}
 use Rattle.bl_core.specs.View.{state_of}
-use Rattle.bl_core.specs.declared.place.Place.{Place}
+use Rattle.bl_place.specs.declared.place.Place.{Place}
 use Rattle.bl_core.specs.declared.session.Session.{Session}
 use Rattle.bl_core.specs.declared.machine.Core.TheInside.{Inside}
 use Rattle.bl_core.proofs.Admitting.{Admitted, kept-admitted, state-admitted, session-read, length-sessions, new_place, tells_before, enters_last}

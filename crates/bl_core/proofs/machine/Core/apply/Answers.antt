@@ -4,11 +4,11 @@ use Rattle.bl_work.specs.declared.answer.Answer.{Answer}
 use Rattle.bl_order.specs.Order.{Task, Applies}
 use Rattle.bl_order.specs.Past.{changed, is_done}
 use Rattle.bl_order.specs.Machine.{State, MayStart, past_at, change, Starts, Ended}
-use Rattle.bl_core.specs.Places.{phase_of}
+use Rattle.bl_place.specs.Places.{phase_of}
 use Rattle.bl_core.specs.View.{state_of}
 use Rattle.bl_core.specs.Answers.{IsStarted}
 use Rattle.bl_core.specs.Weights.{ruled}
-use Rattle.bl_core.specs.declared.place.Stand.TheVariants as stands
+use Rattle.bl_place.specs.declared.place.Stand.TheVariants as stands
 use Rattle.bl_core.proofs.Closing.{closed-state, closed-kept}
 use Rattle.bl_core.proofs.Queueing.{queue-may}
 use Rattle.bl_core.proofs.Starting.{ruled-by, ruled-not_done, ruled-ends, changed-ruled}

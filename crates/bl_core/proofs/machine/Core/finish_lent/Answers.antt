@@ -8,15 +8,15 @@ use Rattle.bl_order.specs.Machine.{State, change, Ends}
 use Rattle.bl_grant.specs.Loaned.{Back}
 use Rattle.bl_eval.specs.Loan.{Loan, backs, part_of, effects_on}
 use Rattle.bl_core.specs.Answers.{loan_at}
-use Rattle.bl_core.specs.Places.{child_places, no_place, place_in}
-use Rattle.bl_core.specs.Shelves.{put_back}
+use Rattle.bl_place.specs.Places.{child_places, no_place, place_in}
+use Rattle.bl_place.specs.Shelves.{put_back}
 use Rattle.bl_queue.specs.Queues.{Queue}
-use Rattle.bl_core.specs.Queueing.{MayEnter, QueuesTell}
+use Rattle.bl_place.specs.Queueing.{MayEnter, QueuesTell}
 use Rattle.bl_core.specs.View.{state_of}
-use Rattle.bl_core.specs.declared.place.Place.{Place}
-use Rattle.bl_core.specs.declared.place.Stand.{Stand}
-use Rattle.bl_core.specs.declared.place.Stand.TheVariants as stands
-use Rattle.bl_core.specs.declared.shelf.Shelf.{Shelf}
+use Rattle.bl_place.specs.declared.place.Place.{Place}
+use Rattle.bl_place.specs.declared.place.Stand.{Stand}
+use Rattle.bl_place.specs.declared.place.Stand.TheVariants as stands
+use Rattle.bl_place.specs.declared.shelf.Shelf.{Shelf}
 use Rattle.bl_core.specs.declared.machine.Core.TheInside.{Inside}
 use Rattle.bl_core.proofs.Written.{Written, stands_at}
 use Rattle.bl_core.proofs.Backs.{length-put_back}

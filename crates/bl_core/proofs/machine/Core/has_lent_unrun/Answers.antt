@@ -2,10 +2,10 @@ use Rattle.std.proofs.Common.{◌≡◌, true, true≢false, List, sym, subst, a
 use Rattle.bl_work.specs.declared.work.Work.TheVariants as works
 use Rattle.bl_order.specs.Machine.{State, runs}
 use Rattle.bl_core.specs.Answers.{IsLentBy}
-use Rattle.bl_core.specs.Places.{work_in}
+use Rattle.bl_place.specs.Places.{work_in}
 use Rattle.bl_core.specs.View.{state_of}
-use Rattle.bl_core.specs.declared.place.Place.{Place}
-use Rattle.bl_core.specs.declared.shelf.Shelf.{Shelf}
+use Rattle.bl_place.specs.declared.place.Place.{Place}
+use Rattle.bl_place.specs.declared.shelf.Shelf.{Shelf}
 use Rattle.bl_core.proofs.Owning.{IsOf, own-lent, own-no_rule, own-parts}
 use Rattle.bl_core.proofs.machine.Core.has_lent_unrun.Goals as goal
 

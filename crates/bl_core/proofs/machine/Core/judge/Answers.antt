@@ -6,8 +6,8 @@ use Rattle.bl_work.specs.declared.answer.Answer.TheVariants as answers
 use Rattle.bl_order.specs.Order.{accesses_of, is_rule}
 use Rattle.bl_order.specs.Past.{is_done}
 use Rattle.bl_order.specs.Machine.{State, MayStart, past_at}
-use Rattle.bl_core.specs.Places.{task_in}
-use Rattle.bl_core.specs.declared.place.Place.{Place}
+use Rattle.bl_place.specs.Places.{task_in}
+use Rattle.bl_place.specs.declared.place.Place.{Place}
 use Rattle.bl_core.proofs.Reading.{policy-declared}
 use Rattle.bl_core.proofs.Starting.{there-may}
 use Rattle.bl_core.proofs.Judging.{judged}

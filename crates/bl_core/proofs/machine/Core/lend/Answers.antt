@@ -6,10 +6,10 @@ use Rattle.bl_work.specs.Statements.{Part, no_part}
 use Rattle.bl_work.specs.declared.work.Work.TheVariants as works
 use Rattle.bl_order.specs.Machine.{State, MayStart}
 use Rattle.bl_core.specs.Answers.{loan_at}
-use Rattle.bl_core.specs.Places.{work_in}
-use Rattle.bl_core.specs.Shelves.{content_in}
-use Rattle.bl_core.specs.declared.place.Place.{Place}
-use Rattle.bl_core.specs.declared.shelf.Shelf.{Shelf}
+use Rattle.bl_place.specs.Places.{work_in}
+use Rattle.bl_place.specs.Shelves.{content_in}
+use Rattle.bl_place.specs.declared.place.Place.{Place}
+use Rattle.bl_place.specs.declared.shelf.Shelf.{Shelf}
 use Rattle.bl_core.proofs.Starting.{there-may}
 use Rattle.bl_core.proofs.Lending.{task-runs, lent-new}
 use Rattle.bl_core.proofs.machine.Core.lend.Goals as goal

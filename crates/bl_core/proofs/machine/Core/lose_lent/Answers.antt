@@ -4,9 +4,9 @@ use Rattle.bl_order.specs.Machine.{State, change, Loses}
 use Rattle.bl_grant.specs.Loaned.{Back}
 use Rattle.bl_eval.specs.Loan.{Loan, backs, part_of}
 use Rattle.bl_core.specs.Answers.{loan_at}
-use Rattle.bl_core.specs.Shelves.{put_back}
+use Rattle.bl_place.specs.Shelves.{put_back}
 use Rattle.bl_core.specs.View.{state_of}
-use Rattle.bl_core.specs.declared.shelf.Shelf.{Shelf}
+use Rattle.bl_place.specs.declared.shelf.Shelf.{Shelf}
 use Rattle.bl_core.proofs.Lent.{runs-here, unrun-here}
 use Rattle.bl_core.proofs.Queueing.{queue-runs}
 use Rattle.bl_core.proofs.Finishing.{end_there, end_shelves, lose-state, lose-kept}

@@ -1,7 +1,7 @@
 use Rattle.std.proofs.Common.{ℕ, ◌+◌, [], length, refl, ap, ◌∙◌}
 use Rattle.std.specs.Prelude.{map}
 use Rattle.bl_policy.specs.Policy.{SecurityPolicy}
-use Rattle.bl_core.specs.Shelves.{new_shelf}
+use Rattle.bl_place.specs.Shelves.{new_shelf}
 use Rattle.bl_core.proofs.Beginning.{kept-begun}
 use Rattle.bl_core.proofs.machine.Core.new.Goals as goal
 

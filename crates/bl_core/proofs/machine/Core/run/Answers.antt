@@ -4,10 +4,10 @@ use Rattle.bl_policy.specs.declared.access.Access.{Access}
 use Rattle.bl_order.specs.Order.{accesses_of, is_rule}
 use Rattle.bl_order.specs.Past.{is_done}
 use Rattle.bl_order.specs.Machine.{State, MayStart, past_at, change, Starts}
-use Rattle.bl_core.specs.Places.{task_in}
-use Rattle.bl_core.specs.Shelves.{marked}
-use Rattle.bl_core.specs.declared.place.Place.{Place}
-use Rattle.bl_core.specs.declared.shelf.Shelf.{Shelf}
+use Rattle.bl_place.specs.Places.{task_in}
+use Rattle.bl_place.specs.Shelves.{marked}
+use Rattle.bl_place.specs.declared.place.Place.{Place}
+use Rattle.bl_place.specs.declared.shelf.Shelf.{Shelf}
 use Rattle.bl_core.proofs.Queueing.{queue-may}
 use Rattle.bl_core.proofs.Reading.{shelves-declared}
 use Rattle.bl_core.proofs.Starting.{there-may}

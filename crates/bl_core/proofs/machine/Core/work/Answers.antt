@@ -6,7 +6,7 @@ use Rattle.bl_order.specs.Machine.{State}
 use Rattle.bl_order.specs.Order.{Entry}
 use Rattle.bl_core.specs.Origins.{work_asked}
 use Rattle.bl_core.specs.View.{state_of}
-use Rattle.bl_core.specs.declared.place.Descent.TheVariants.{Child}
+use Rattle.bl_place.specs.declared.place.Descent.TheVariants.{Child}
 use Rattle.bl_core.proofs.Looking.{entry-by, work-readable}
 use Rattle.bl_core.proofs.machine.Core.work.Goals as goal
 

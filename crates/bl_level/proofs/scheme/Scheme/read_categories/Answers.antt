@@ -1,6 +1,6 @@
 use Rattle.std.proofs.Common.{sym, arith, true≢false, ◌∙◌}
-use Rattle.bl_level.specs.declared.token.Sign.TheVariants.{Comma}
-use Rattle.bl_level.specs.Token.{name, sign}
+use Rattle.bl_name.specs.declared.token.Sign.TheVariants.{Comma}
+use Rattle.bl_name.specs.Token.{name, sign}
 use Rattle.bl_level.proofs.ReadingLevels.{step_comma, step_close, no_list, no_more, shorter}
 use Rattle.bl_level.proofs.scheme.Scheme.read_categories.Goals as goal
 

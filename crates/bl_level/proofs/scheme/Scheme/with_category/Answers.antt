@@ -1,7 +1,7 @@
 use Rattle.std.proofs.Common.{◌≡◌, Contains, Some, sym, ap, subst, ◌∙◌, true≢false}
 use Rattle.std.proofs.lemmas.Bool.{false≢true}
 use Rattle.bl_level.specs.Level.{HasCategory}
-use Rattle.bl_level.specs.Table.{place_of}
+use Rattle.bl_name.specs.Table.{place_of}
 use Rattle.bl_level.specs.LevelFault.{Reads}
 use Rattle.bl_level.proofs.LevelTexts.{fault_stays, unknown, repeated, taken}
 use Rattle.bl_level.proofs.scheme.Scheme.with_category.Goals as goal

@@ -11,10 +11,10 @@ returns-clause-some c =
     if_some (λ (n : ℕ). (r.front < length r.holders.free) × (slice_index r.holders.free r.front ≡ n)) (λ (n : ℕ). MayStart c.args.self.now.entries n) c.first.result
     c.first.ensures.some
     (λ n p. subst (λ (q : Queue). MayStart q.entries n) c.self.view_is
-    (front_may_start (queue_of c.self.inside) r.places r.holders r.front n c.self.invariant.queued p.0 p.1))
+    (front_may_start (queue_of c.self.inside) r.places r.holders r.front n c.self.invariant.kept.queued p.0 p.1))
 
 pub returns-clause-none : goal.returns-clause-none
 returns-clause-none c =
     let r = c.self.inside.roster in
-    λ none n may. none_may_start (queue_of c.self.inside) r.places r.holders r.front n c.self.invariant.right c.self.invariant.queued (c.first.ensures.none none)
+    λ none n may. none_may_start (queue_of c.self.inside) r.places r.holders r.front n c.self.invariant.kept.right c.self.invariant.kept.queued (c.first.ensures.none none)
     (subst (λ (q : Queue). MayStart q.entries n) (sym c.self.view_is) may)

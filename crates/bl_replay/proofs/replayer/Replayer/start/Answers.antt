@@ -6,7 +6,7 @@ use Rattle.bl_order.specs.Machine.{MayStart, Starts, past_at}
 use Rattle.bl_trail.specs.EventText.{event_text}
 use Rattle.bl_replay.specs.Keeps.{KeepsAt}
 use Rattle.bl_replay.specs.Marks.{AreForetold, lost_later}
-use Rattle.bl_replay.specs.Words.{NamesWords, words_of, words_text}
+use Rattle.bl_trail.specs.StartWords.{NamesWords, words_of, words_text}
 use Rattle.bl_replay.proofs.Naming.{names-words}
 use Rattle.bl_replay.proofs.Taking.{runs-later, runs-words, says-words, told-before}
 use Rattle.bl_replay.proofs.replayer.Replayer.start.Goals as goal

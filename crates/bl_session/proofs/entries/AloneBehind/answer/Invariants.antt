@@ -1,13 +1,21 @@
-use Rattle.std.proofs.Common.{◌∷◌, map, take}
-use Rattle.std.specs.Arc.{arc_value}
+use Rattle.std.proofs.Common.{◌≡◌, ◌≤◌, ◌-◌, List, ◌++◌, length}
 use Rattle.std.specs.List.{flat_map}
-use Rattle.bl_wire.specs.Watch.{end_state, Puts}
+use Rattle.bl_order.specs.Labels.{Reply, replies_to}
+use Rattle.bl_hall.specs.Chronicle.{state_now}
+use Rattle.bl_hall.specs.Told.{replies_above}
 use Rattle.bl_wire.specs.Replies.{reply_text}
-use Rattle.bl_session.specs.Orders.{reply_at}
-use Rattle.bl_session.specs.Entries.{order_of}
+use Rattle.bl_wire.specs.Watch.{end_state, Puts}
+use Rattle.bl_session.specs.Blocks.{behind, left_in, up_to}
 use Rattle.bl_session.proofs.entries.AloneBehind.answer.Given as goal
 
-abbrev pub invariant-loop-below : goal.invariant-loop-below
-invariant-loop-below g l =
-    Puts (flat_map (reply_text (arc_value l.self.setup).names) (map (reply_at (arc_value l.self.setup) (order_of l.state.entries.items)) (l.place ∷ take l.below-index l.kin)))
-    (end_state g.W.Write.contents l.fn.writer) (end_state g.W.Write.contents l.writer)
+abbrev pub invariant-replies : goal.invariant-replies
+invariant-replies g l =
+    let x = state_now l.state.hall in
+    (said : List Reply) × Puts (flat_map (reply_text l.self.setup.names) said) (end_state g.W.Write.contents l.fn.writer) (end_state g.W.Write.contents l.writer)
+    × (replies_to x 0 l.ordinal (length x.order) ≡ said ++ up_to l.ordinal (left_in x l.block))
+    × (behind l.ordinal (left_in x l.block) ≡ replies_above x 0 l.ordinal (length x.order))
+    × (l.block.places.items ≡ l.fn.block.places.items)
+    × (l.block.next ≤ length l.block.places.items)
+
+abbrev pub decreases-replies : goal.decreases-replies
+decreases-replies g l = length l.block.places.items - l.block.next

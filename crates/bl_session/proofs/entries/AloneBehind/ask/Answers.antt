@@ -1,45 +1,50 @@
-use Rattle.std.proofs.Common.{rules, ◌≡◌, ◌∙◌, ◌<◌, ◌≤◌, ◌+◌, ◌++◌, ◌∷◌, [], ap, length, arith, Some}
-use Rattle.std.specs.Arc.{arc_value}
-use Rattle.bl_order.specs.Machine.{weight_of}
-use Rattle.bl_session.proofs.AskLaws.{asked_whole, asked_came, asked_settled, refused_came}
+use Rattle.std.proofs.Common.{sym, ap, subst, ◌∙◌, arith, refl}
+use Rattle.bl_order.specs.Machine.{State, Admits, Needs, session_at}
+use Rattle.bl_core.specs.Answers.{IsCause}
+use Rattle.bl_hall.specs.Chronicle.{state_now, with_event}
+use Rattle.bl_engine.specs.Requests.{SameUpTo}
+use Rattle.bl_wire.specs.Replies.{line_text}
+use Rattle.bl_session.specs.declared.entries.Pages.{Pages}
+use Rattle.bl_session.specs.Pages.{AreLater}
+use Rattle.bl_session.proofs.PageLaws.{state_next, asked_stands, asked_settled, came_asked, came_full}
+use Rattle.bl_session.proofs.TrailLaws.{last_set}
 use Rattle.bl_session.proofs.entries.AloneBehind.ask.Goals as goal
 
-pub returns-then-self-state-clause-came : goal.returns-then-self-state-clause-came
-returns-then-self-state-clause-came c taken told came =
+pub returns-in-Ok-clause-whole : goal.returns-in-Ok-clause-whole
+returns-in-Ok-clause-whole c is n lt stands =
     let s = c.args.state.now in
-    let w = c.requires.whole in
-    let over : c.args.self.now.limit < s.weight + weight_of c.args.work = omega (arith, c.if-self-state.true, c.weight_of-weight.ensures.value, w.2.fits) in
-    refused_came (arc_value c.args.self.now.setup) c.args.self.now.limit s w.0 w.2 c.args.ordinal c.args.work over told came
+    let t : Pages = record { hall = c.line.new.self; next = s.next } in
+    let hall = c.in-Ok.ensures.ok.1 ∙ ap (λ j. with_event s.hall (Admits j c.args.ordinal c.args.work)) c.new.ensures in
+    asked_stands c.args.self.now.setup c.args.self.now.limit s t c.args.ordinal c.args.work stands hall refl c.in-Ok.ensures.continues.trail
 
-pub returns-clause-whole : goal.returns-clause-whole
-returns-clause-whole c taken n lt w =
+pub returns-in-Ok-clause-came : goal.returns-in-Ok-clause-came
+returns-in-Ok-clause-came c is told came =
     let s = c.args.state.now in
-    let old = s.entries.items in
-    let line = c.line.result in
-    let place : c.len-place.result ≡ length old = search rules in
-    let pushed : c.push.new.self.items ≡ old ++ line ∷ [] = search rules in
-    let speaks : s.subject ≡ Some c.in-Some.subject = search rules in
-    let room : length old < c.args.self.now.limit = omega (arith, c.if-len-self.false, c.len.ensures) in
-    let heavier : s.weight + c.weight_of-weight.result ≡ s.weight + weight_of c.args.work = ap (λ k. s.weight + k) c.weight_of-weight.ensures.value in
-    let fits : s.weight + c.weight_of-weight.result ≤ c.args.self.now.limit = omega (arith, c.if-self-state.false, w.fits) in
-    asked_whole (arc_value c.args.self.now.setup) c.args.self.now.limit s n w c.in-Some.subject c.args.ordinal c.args.work line c.push.new.self pushed c.line.ensures.origin c.line.ensures.ordinal
-    (s.weight + c.weight_of-weight.result) speaks c.requires.takes c.requires.last (c.line.ensures.line ∙ place) c.line.ensures.path room heavier fits
+    let t : Pages = record { hall = c.line.new.self; next = s.next } in
+    let hall = c.in-Ok.ensures.ok.1 ∙ ap (λ j. with_event s.hall (Admits j c.args.ordinal c.args.work)) c.new.ensures in
+    let needs = subst (λ j. Needs (state_now s.hall) (Admits j c.args.ordinal c.args.work)) c.new.ensures c.in-Ok.ensures.cause in
+    came_asked c.args.self.now.setup c.args.self.now.limit s t c.args.ordinal c.args.work told came hall refl c.in-Ok.ensures.continues.trail needs
 
-pub returns-clause-came : goal.returns-clause-came
-returns-clause-came c taken told came =
+pub returns-in-Ok-clause-last : goal.returns-in-Ok-clause-last
+returns-in-Ok-clause-last c =
     let s = c.args.state.now in
-    let w = c.requires.whole.2 in
-    let line = c.line.result in
-    let pushed : c.push.new.self.items ≡ s.entries.items ++ line ∷ [] = search rules in
-    let speaks : s.subject ≡ Some c.in-Some.subject = search rules in
-    let fits : s.weight + weight_of c.args.work ≤ c.args.self.now.limit = omega (arith, c.if-self-state.false, c.weight_of-weight.ensures.value, w.fits) in
-    asked_came (arc_value c.args.self.now.setup) c.args.self.now.limit s c.requires.whole.0 w c.in-Some.subject c.args.ordinal c.args.work line c.push.new.self pushed c.line.ensures.origin c.line.ensures.ordinal
-    (s.weight + c.weight_of-weight.result) speaks fits told came
+    let x = state_now s.hall in
+    let hall = c.in-Ok.ensures.ok.1 ∙ ap (λ j. with_event s.hall (Admits j c.args.ordinal c.args.work)) c.new.ensures in
+    let needs = subst (λ j. Needs x (Admits j c.args.ordinal c.args.work)) c.new.ensures c.in-Ok.ensures.cause in
+    let last = ap (λ (y : State). (session_at y 0).last) (ap state_now hall ∙ state_next s.hall (Admits 0 c.args.ordinal c.args.work)) ∙ (last_set x.sessions c.args.ordinal needs.0).1 in
+    omega (arith, last)
 
-pub returns-clause-settled : goal.returns-clause-settled
-returns-clause-settled c n lt later =
+pub returns-in-Ok-clause-settled : goal.returns-in-Ok-clause-settled
+returns-in-Ok-clause-settled c n lt later =
     let s = c.args.state.now in
-    let line = c.line.result in
-    let pushed : c.push.new.self.items ≡ s.entries.items ++ line ∷ [] = search rules in
-    asked_settled (arc_value c.args.self.now.setup) c.args.self.now.limit s c.requires.whole.0 c.requires.whole.2 c.in-Some.subject c.args.ordinal c.args.work line c.push.new.self pushed c.line.ensures.origin c.line.ensures.ordinal
-    n lt later
+    let x = state_now s.hall in
+    let hall = c.in-Ok.ensures.ok.1 ∙ ap (λ j. with_event s.hall (Admits j c.args.ordinal c.args.work)) c.new.ensures in
+    subst (λ (y : State). AreLater s.next y.order n × SameUpTo n (line_text x 0) (line_text y 0)) (sym (ap state_now hall ∙ state_next s.hall (Admits 0 c.args.ordinal c.args.work)))
+    (asked_settled x s.next c.args.ordinal n c.args.work c.requires.whole.2.ran lt later)
+
+pub returns-in-Full-clause-came : goal.returns-in-Full-clause-came
+returns-in-Full-clause-came c is told came =
+    let s = c.args.state.now in
+    let t : Pages = record { hall = c.line.new.self; next = s.next } in
+    let full = subst (IsCause (state_now s.hall) c.new.result c.args.ordinal c.args.work) c.in-Full.is c.in-Err.ensures.cause.0 in
+    came_full c.args.self.now.setup c.args.self.now.limit s t c.args.ordinal c.args.work told came c.in-Err.ensures.err refl full.3

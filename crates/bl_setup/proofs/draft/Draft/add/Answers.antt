@@ -1,4 +1,4 @@
-use Rattle.bl_setup.specs.Words.{document_text}
+use Rattle.bl_declare.specs.Words.{document_text}
 use Rattle.bl_setup.proofs.WholeLemmas.{content_proper}
 use Rattle.bl_setup.proofs.draft.Draft.add.Goals as goal
 

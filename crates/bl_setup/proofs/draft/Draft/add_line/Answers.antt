@@ -1,8 +1,8 @@
 use Rattle.std.proofs.lemmas.Result.{IfErr-weaker}
 use Rattle.bl_setup.specs.Draft.{setup_of}
 use Rattle.bl_setup.specs.FirstSetupFault.{declared}
-use Rattle.bl_setup.specs.Words.{declaration_of}
-use Rattle.bl_setup.proofs.Parts.{exits}
+use Rattle.bl_declare.specs.Words.{declaration_of}
+use Rattle.bl_declare.proofs.Parts.{exits}
 use Rattle.bl_setup.proofs.TakingLemmas.{spells_nothing, line_refused}
 use Rattle.bl_setup.proofs.draft.Draft.add_line.Goals as goal
 

@@ -1,7 +1,7 @@
 use Rattle.std.proofs.Common.{refl, arith}
-use Rattle.bl_setup.specs.Words.{subject_text}
+use Rattle.bl_declare.specs.Words.{subject_text}
 use Rattle.bl_setup.specs.Draft.{setup_of}
-use Rattle.bl_setup.proofs.Parts.{exits}
+use Rattle.bl_declare.proofs.Parts.{exits}
 use Rattle.bl_setup.proofs.AddLemmas.{same_setup, not_there, above_from_not, ok_not_err}
 use Rattle.bl_setup.proofs.DraftFaults.{same_scheme, subject_greatest, subject_current, subject_above}
 use Rattle.bl_setup.proofs.draft.Draft.add_subject.Goals as goal

@@ -2,7 +2,7 @@ use Rattle.std.proofs.Common.{refl}
 use Rattle.bl_setup.specs.Agreement.{of_scheme}
 use Rattle.bl_setup.specs.FirstSetupFault.{nothing, ranked, declared, ReadsNext}
 use Rattle.bl_setup.specs.Taking.{Stops}
-use Rattle.bl_setup.proofs.Parts.{exits}
+use Rattle.bl_declare.proofs.Parts.{exits}
 use Rattle.bl_setup.proofs.TakingLemmas.{takes_on, leads_both, line_stops, line_reads, end_stops, stops_behind}
 use Rattle.bl_setup.proofs.lines.Lines.scheme.Goals as goal
 

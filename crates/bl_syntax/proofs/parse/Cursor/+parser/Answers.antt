@@ -1,5 +1,5 @@
 use Rattle.std.proofs.Common.{◌∷◌, [], ◌∙◌, arith}
-use Rattle.bl_level.specs.declared.token.Keyword.TheVariants.{When, Do}
+use Rattle.bl_name.specs.declared.token.Keyword.TheVariants.{When, Do}
 use Rattle.bl_work.specs.Few.{items_of}
 use Rattle.bl_syntax.specs.RawBodies.{raw_access}
 use Rattle.bl_work.specs.Machine.{word, more_accesses, a_body}

@@ -1,5 +1,5 @@
 use Rattle.std.proofs.Common.{◌∷◌, []}
-use Rattle.bl_level.specs.declared.token.Keyword.TheVariants.{To}
+use Rattle.bl_name.specs.declared.token.Keyword.TheVariants.{To}
 use Rattle.bl_work.specs.Machine.{word}
 use Rattle.bl_syntax.proofs.Faults.{exits, behind_name, behind_word, first_due}
 use Rattle.bl_syntax.proofs.parse.Cursor.from_and_to.Goals as goal

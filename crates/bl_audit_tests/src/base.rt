@@ -1,0 +1,105 @@
+//! Halls over the base setup.
+ghost use Rattle.std.specs.Prelude.{◌≡◌, ◌≤◌, Ok};
+
+use bl_core::machine::Started;
+use bl_core::session::SessionNo;
+use bl_eval::evaluate::eval;
+use bl_eval::lent::Lent;
+use bl_hall::hall::Hall;
+use bl_policy::id::SubjectId;
+use bl_read::line::read_line;
+use bl_setup::reader::read_setup;
+use bl_work::asked::Line;
+use std::alloc::AllocGlobal;
+use std::process::Abort;
+
+/// The base setup.
+const BASE: &[u8] = b"ranks u c s t\n\
+categories nato crypto\n\
+subject ann greatest s{nato} current s{nato}\n\
+subject bob greatest s{nato} current u\n\
+subject cat greatest s{crypto} current s{crypto}\n\
+subject root greatest t{nato,crypto} current u trusted admin\n\
+document memo s{nato} \"m1\"\n\
+document note u \"n1\"\n\
+document log t{nato,crypto} \"\"\n\
+allow ann memo r w\n\
+allow ann note r w\n\
+allow ann log r a\n\
+allow bob memo r w a\n\
+allow bob note r w\n\
+allow cat memo r\n\
+allow root note r w\n";
+
+/// The text of the base setup.
+pub(super) fn base_text<'a>() -> &'a [u8] {
+    BASE
+}
+
+/// What came where no fault may come.
+pub(super) fn right<T, E>(rt: &impl Abort, outcome: Result<T, E>) -> T
+    ensures { outcome ≡ Ok result }
+{
+    match outcome {
+        Ok(value) => value,
+        Err(_fault) => panic!(rt; "a fault"),
+    }
+}
+
+/// A hall over the base setup, under this limit, in which a session is open for each of these subjects.
+pub(super) fn hall_for<R: AllocGlobal + Abort>(rt: &R, limit: u32, subjects: &[u16]) -> Hall
+    requires some { 1 ≤ limit }
+    requires most { limit ≤ 100000 }
+{
+    let setup = right(rt, read_setup(rt.alloc(), BASE));
+    let mut hall = right(rt, Hall::new(rt.alloc(), setup, limit));
+    for subject in subjects {
+        right(rt, hall.open(SubjectId::new(*subject)));
+    }
+    hall
+}
+
+/// Admits a line of a session.
+pub(super) fn admit<R: AllocGlobal + Abort>(
+    rt: &R,
+    hall: &mut Hall,
+    session: u32,
+    ordinal: u32,
+    text: &[u8],
+) {
+    match right(rt, read_line(rt.alloc(), hall.core().names(), text)) {
+        Line::Work(work) => right(rt, hall.line(SessionNo::new(session), ordinal, work)),
+        Line::Hello(_) | Line::Wait => panic!(rt; "no work"),
+    };
+}
+
+/// Starts an entry, and gives what it was lent where it runs.
+pub(super) fn start<R: AllocGlobal + Abort>(rt: &R, hall: &mut Hall, n: u32) -> Option<Lent> {
+    match right(rt, hall.start(n)) {
+        Started::Run(lent) => Some(lent),
+        Started::Denied(_) | Started::RuleDone => None,
+    }
+}
+
+/// Ends an entry with what is done of what it was lent.
+pub(super) fn finish<R: AllocGlobal + Abort>(rt: &R, hall: &mut Hall, lent: Lent) {
+    match eval(rt.alloc(), lent) {
+        Ok(done) => match hall.finish(done) {
+            Ok(()) => {}
+            Err(_foreign) => panic!(rt; "foreign"),
+        },
+        Err(_unrun) => panic!(rt; "no memory"),
+    }
+}
+
+/// Starts an entry, and ends it where it runs.
+pub(super) fn run<R: AllocGlobal + Abort>(rt: &R, hall: &mut Hall, n: u32) {
+    if let Some(lent) = start(rt, hall, n) {
+        finish(rt, hall, lent);
+    }
+}
+
+/// Lets a hall go. A test that ends so has one way out alone.
+pub(super) fn end(hall: Hall) {
+    let _hall = hall;
+}

@@ -1,7 +1,0 @@
-use Rattle.std.proofs.Common.{◌≡◌, ◌++◌, drop}
-use Rattle.std.specs.Prelude.{map}
-use Rattle.bl_core.specs.Shelves.{new_shelf}
-use Rattle.bl_core.proofs.shelf.shelve.Given as goal
-
-abbrev pub invariant-loop-content : goal.invariant-loop-content
-invariant-loop-content l = l.shelves.items ++ map new_shelf (drop l.content-index l.contents) ≡ map new_shelf l.contents

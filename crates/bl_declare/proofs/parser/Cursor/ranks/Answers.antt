@@ -1,0 +1,16 @@
+use Rattle.std.proofs.Common.{◌∙◌}
+use Rattle.bl_declare.proofs.Parts.{name_passes, name_fails, ended_at, ended_not, of_syntax, exits}
+use Rattle.bl_declare.proofs.parser.Cursor.ranks.Goals as goal
+
+pub returns-in_err-lowest : goal.returns-in_err-lowest
+returns-in_err-lowest c =
+    exits _ _ _ _ c.from_residual.ensures.1
+    (of_syntax (λ f. name_fails _ _ f) c.in_err-lowest.ensures)
+
+pub returns-in_err-end : goal.returns-in_err-end
+returns-in_err-end c =
+    exits _ _ _ _ c.from_residual-in_err-end.ensures.1
+    (of_syntax (λ f. name_passes _ _ _ _ c.in_ok-lowest.ensures ∙ c.in_ok-higher.ensures _ ∙ ended_not _ _ f) c.in_err-end.ensures)
+
+pub returns : goal.returns
+returns c = name_passes _ _ _ _ c.in_ok-lowest.ensures ∙ c.in_ok-higher.ensures _ ∙ ended_at _ _ c.in_ok-end.ensures

@@ -1,0 +1,5 @@
+pub mod Declaration
+pub mod Reading
+pub mod Faults
+pub mod Words
+pub mod Parsing

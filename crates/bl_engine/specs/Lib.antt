@@ -1,0 +1,4 @@
+pub mod Stages
+pub mod Spoken
+pub mod View
+pub mod Requests

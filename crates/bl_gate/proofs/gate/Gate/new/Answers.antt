@@ -1,0 +1,14 @@
+use Rattle.std.proofs.Common.{◌≡◌, ℕ, List, [], ◌∷◌, ◌++◌, Option, Some, sym, ap, ◌∙◌, subst}
+use Rattle.atomic_table.specs.Table.{opening}
+use Rattle.bl_hall.specs.Chronicle.{Chronicle}
+use Rattle.bl_gate.specs.Views.{opener}
+use Rattle.bl_gate.specs.Turns.{Kept}
+use Rattle.bl_gate.proofs.Steps.{opens}
+use Rattle.bl_gate.proofs.gate.Gate.new.Goals as goal
+
+pub new-requires : goal.new-requires
+new-requires c =
+    let h : Chronicle = c.args.hall in
+    let one : c.push_reserved.new.self.items ≡ Some h ∷ [] = c.push_reserved.ensures.items ∙ ap (λ (l : List (Option Chronicle)). l ++ Some h ∷ []) c.in-Ok-with_capacity.ensures.items in
+    subst (λ (l : List (Option Chronicle)). Kept c.of-about.result.value (opening (0 ∷ 0 ∷ []) l (opener c.of-about.result.value))) (sym one)
+    (subst (λ (b : Chronicle). Kept b (opening (0 ∷ 0 ∷ []) (Some h ∷ []) (opener b))) (sym c.of-about.ensures) (opens h c.core.ensures.trail))

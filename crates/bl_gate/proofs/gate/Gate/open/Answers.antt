@@ -1,0 +1,29 @@
+use Rattle.std.proofs.Common.{◌≡◌, ap, subst}
+use Rattle.bl_core.specs.Answers.{IsNotOpened}
+use Rattle.bl_hall.specs.Chronicle.{Chronicle, state_now}
+use Rattle.bl_gate.specs.Turns.{Sat}
+use Rattle.bl_gate.proofs.Results.{both}
+use Rattle.bl_gate.proofs.Turned.{Turned, pass_of, turned, turned_follows, turned_legal, turned_calls, turned_stays, turned_seen}
+use Rattle.bl_gate.proofs.gate.Gate.open.Given as given
+use Rattle.bl_gate.proofs.gate.Gate.open.Goals as goal
+
+turn : (g : given.Over) (c : goal.After-leave g) → Turned c.args.pass.now c.enter-hall.result c.open-answer.new.self (pass_of c.leave.new.seat.table_id c.leave.new.seat.me.0 c.pass.inside.parts)
+turn g c =
+    turned c.args.pass.now c.pass.inside.seat.table_id c.enter-hall.new.seat.table_id c.leave.new.seat.table_id c.pass.inside.seat.me.0 c.enter-hall.new.seat.me.0 c.leave.new.seat.me.0
+    c.pass.inside.parts c.enter-hall.ensures.turn.0 _ _
+    c.pass.view_is c.enter-hall.ensures.gate c.leave.ensures.gate c.enter-hall.ensures.hall c.enter-hall.ensures.seen c.enter-hall.ensures.turn.1 c.open-answer.ensures.continues (ap (λ (m : Sat). m.0) c.leave.ensures.went)
+
+pub returns-clause-follows : goal.returns-clause-follows
+returns-clause-follows g c = turned_follows _ _ _ _ (turn g c)
+
+pub returns-clause-trail : goal.returns-clause-trail
+returns-clause-trail g c = turned_legal _ _ _ _ (turn g c)
+
+pub returns-clause-ok : goal.returns-clause-ok
+returns-clause-ok g c = both c.open-answer.result (λ _ _ h _. turned_calls _ _ _ _ (turn g c) _ _ h.1 h.0) (λ _ _ _ _. tt) c.open-answer.ensures.ok c.open-answer.ensures.ok
+
+pub returns-clause-err : goal.returns-clause-err
+returns-clause-err g c = both c.open-answer.result (λ _ _ _ _. tt)
+    (λ refused _ same cause.
+    (turned_stays _ _ _ _ (turn g c) same, subst (λ (h : Chronicle). IsNotOpened (state_now h) c.args.subject refused) (turned_seen _ _ _ _ (turn g c) same) cause))
+    c.open-answer.ensures.err c.open-answer.ensures.cause

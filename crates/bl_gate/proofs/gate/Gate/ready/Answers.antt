@@ -1,0 +1,32 @@
+use Rattle.std.proofs.Common.{◌≡◌, ℕ, refl, ap, subst}
+use Rattle.std.specs.Prelude.{IfSome, IsNone}
+use Rattle.bl_order.specs.Machine.{MayStart}
+use Rattle.bl_hall.specs.Chronicle.{Chronicle, state_now}
+use Rattle.bl_gate.specs.Turns.{Sat}
+use Rattle.bl_gate.proofs.Turned.{Turned, pass_of, turned, turned_follows, turned_legal, turned_stays, turned_seen, continues_same, put_back}
+use Rattle.bl_gate.proofs.gate.Gate.ready.Given as given
+use Rattle.bl_gate.proofs.gate.Gate.ready.Goals as goal
+
+turn : (g : given.Over) (c : goal.After-leave g) → Turned c.args.pass.now c.enter-hall.result c.enter-hall.result (pass_of c.leave.new.seat.table_id c.leave.new.seat.me.0 c.pass.inside.parts)
+turn g c =
+    turned c.args.pass.now c.pass.inside.seat.table_id c.enter-hall.new.seat.table_id c.leave.new.seat.table_id c.pass.inside.seat.me.0 c.enter-hall.new.seat.me.0 c.leave.new.seat.me.0
+    c.pass.inside.parts c.enter-hall.ensures.turn.0 _ _
+    c.pass.view_is c.enter-hall.ensures.gate c.leave.ensures.gate c.enter-hall.ensures.hall c.enter-hall.ensures.seen c.enter-hall.ensures.turn.1 (continues_same _ c.enter-hall.ensures.trail) (ap (λ (m : Sat). m.0) c.leave.ensures.went)
+
+pub returns-clause-follows : goal.returns-clause-follows
+returns-clause-follows g c = turned_follows _ _ _ _ (turn g c)
+
+pub returns-clause-trail : goal.returns-clause-trail
+returns-clause-trail g c = turned_legal _ _ _ _ (turn g c)
+
+pub leave-requires-clause-next : goal.leave-requires-clause-next
+leave-requires-clause-next g c = put_back c.pass.inside.seat.me.0 c.enter-hall.new.seat.me.0 c.enter-hall.ensures.turn.0 _ c.enter-hall.ensures.hall c.enter-hall.ensures.turn.1 c.enter-hall.ensures.trail
+
+pub returns-clause-own : goal.returns-clause-own
+returns-clause-own g c = turned_stays _ _ _ _ (turn g c) refl
+
+pub returns-clause-some : goal.returns-clause-some
+returns-clause-some g c = subst (λ (h : Chronicle). IfSome c.ready-answer.result (λ n. MayStart (state_now h) n)) (turned_seen _ _ _ _ (turn g c) refl) c.ready-answer.ensures.some
+
+pub returns-clause-none : goal.returns-clause-none
+returns-clause-none g c = subst (λ (h : Chronicle). IsNone c.ready-answer.result → (n : ℕ) → ¬ MayStart (state_now h) n) (turned_seen _ _ _ _ (turn g c) refl) c.ready-answer.ensures.none

@@ -1,0 +1,104 @@
+-- The rule of the gate's table, and what each step on it tells.
+-- Word 0 counts the tickets drawn, word 1 those served. The slot has the hall.
+use Rattle.std.specs.Prelude.{◌≡◌, ◌≢◌, ℕ, ◌<◌, ◌≤◌, ◌==◌, true, false, ◌⊎◌, List, [], ◌∷◌, length, Option, Some, None}
+use mathlib.Core.Option.{some, none}
+use mathlib.Core.Option as Found
+use lib.ListN.{get_elem?}
+use Rattle.atomic_table.specs.Table as table
+use Rattle.atomic_table.specs.Table.{Me, Step, rest}
+use Rattle.bl_order.specs.Machine.{Event}
+use Rattle.bl_hall.specs.Chronicle.{Chronicle, HasTrail}
+use Rattle.bl_gate.specs.Counts.{one_if, within, times, total, StartsWith}
+use Rattle.bl_gate.specs.Gates.{hall_with}
+use Rattle.bl_gate.specs.Views.{View, nobody, drew, entered, went, heard}
+
+abbrev pub has_ticket : ℕ → Option ℕ → ℕ
+has_ticket t (Some k) = one_if (k == t)
+has_ticket t None = 0
+
+-- Tickets and parts. Each ticket that is drawn and not served is with just one view, and no other is. Parts add up to 64, and who has
+-- none is nobody.
+pub record Queue (drawn served : ℕ) (views : List View) : Type 0 where
+  pub small : drawn < 18446744073709551616
+  pub order : served ≤ drawn
+  pub tickets : (t : ℕ) → total (λ v. has_ticket t v.ticket) views ≡ within served drawn t
+  pub parts : total (λ v. v.parts) views ≡ 64
+  pub spent : (i : ℕ) (v : View) → get_elem? views i ≡ some v → v.parts ≡ 0 → v ≡ nobody
+
+-- nobody but i is inside
+abbrev pub NoneInsideBut : ℕ → List View → Type 0
+NoneInsideBut i views = (j : ℕ) (w : View) → j ≢ i → get_elem? views j ≡ some w → w.inside ≡ false
+
+-- one view is inside: it has the ticket that is served, and has seen the whole trail
+pub record Inside (served : ℕ) (trail : List Event) (views : List View) : Type 0 where
+  pub seat : ℕ
+  pub view : View
+  pub there : get_elem? views seat ≡ some view
+  pub is_in : view.inside ≡ true
+  pub turn : view.ticket ≡ Some served
+  pub knows : view.seen ≡ trail
+  pub others : NoneInsideBut seat views
+
+-- The slot. The hall is there, and nobody is inside, or it is out with who is inside.
+abbrev pub Slot : ℕ → Chronicle → List (Found.Option (Option Chronicle)) → List View → Type 0
+Slot served hall homes views =
+    ((homes ≡ some (Some hall) ∷ []) × ((j : ℕ) (w : View) → get_elem? views j ≡ some w → w.inside ≡ false))
+    ⊎ ((homes ≡ none ∷ []) × Inside served hall.trail views)
+
+-- Seen trails and own positions. There is one trail, and it is legal; it begins with the hall's at first and with what each view has
+-- seen, and one view has seen it whole. Own positions lie inside what was seen. Of the trail's positions after the first ones each is
+-- just one view's own, and no other position is.
+pub record Trails (base : Chronicle) (trail : List Event) (views : List View) : Type 0 where
+  pub begins : StartsWith trail base.trail
+  pub legal : HasTrail (hall_with base trail)
+  pub seen : (i : ℕ) (v : View) → get_elem? views i ≡ some v → StartsWith trail v.seen
+  pub told : (i : ℕ) (v : View) → get_elem? views i ≡ some v → StartsWith v.seen v.told
+  pub based : (i : ℕ) (v : View) → get_elem? views i ≡ some v → 0 < v.parts → v.base ≡ base
+  pub whole : (i : ℕ) × (v : View) × (get_elem? views i ≡ some v) × (v.seen ≡ trail)
+  pub mine : (i : ℕ) (v : View) → get_elem? views i ≡ some v → (p : ℕ) → 1 ≤ times p v.own → p < length v.seen
+  pub owned : (p : ℕ) → total (λ v. times p v.own) views ≡ within (length base.trail) (length trail) p
+
+-- The rule.
+pub record Kept (base : Chronicle) (s : table.State (Option Chronicle) View) : Type 0 where
+  pub drawn : ℕ
+  pub served : ℕ
+  pub trail : List Event
+  pub words : s.words ≡ drawn ∷ served ∷ []
+  pub queue : Queue drawn served s.views
+  pub slot : Slot served (hall_with base trail) s.homes s.views
+  pub trails : Trails base trail s.views
+
+-- a seat: its view, and what it has in its hands
+abbrev pub Sat : Type 0
+Sat = Me (Option Chronicle) View
+
+abbrev pub Told : Type 0
+Told = Step (Option Chronicle)
+
+-- a draw: where the count was the one expected, the seat has that ticket
+abbrev pub Draws : Told → Sat → ℕ → Sat → Type 0
+Draws st m found n = (n.1 ≡ m.1) × (found ≡ st.first → n.0 ≡ drew m.0 found) × (found ≢ st.first → n.0 ≡ m.0)
+
+-- the hall came into the seat's hands, with a legal trail that begins with all that it had seen
+abbrev pub Comes : Sat → Sat → Type 0
+Comes m n =
+    (trail : List Event) × StartsWith trail m.0.seen × HasTrail (hall_with m.0.base trail) × (n.0 ≡ entered m.0 trail)
+    × (n.1 ≡ (0, Some (hall_with m.0.base trail)) ∷ [])
+
+-- a look at served: the hall comes where the seat's ticket is served, and otherwise nothing changes
+abbrev pub Looks : Told → Sat → ℕ → Sat → Type 0
+Looks st m found n = (m.0.ticket ≡ Some found → Comes m n) × (m.0.ticket ≢ Some found → n ≡ m)
+
+-- the trail of the hall in a seat's hands
+abbrev pub in_hand : Sat → List Event
+in_hand (v, (k, Some hall) ∷ xs) = hall.trail
+in_hand (v, (k, None) ∷ xs) = []
+in_hand (v, []) = []
+
+-- passing on: the hall is back, with the trail that it had in the seat's hands
+abbrev pub Passes : Told → Sat → ℕ → Sat → Type 0
+Passes st m found n = (n.0 ≡ went m.0 (in_hand m)) × (n.1 ≡ rest m.1)
+
+-- a look after a seat took in another: what each had seen is seen, no position is owned twice, and parts are at most all parts
+abbrev pub Hears : Told → Sat → ℕ → Sat → Type 0
+Hears st m found n = (n ≡ (heard m.0, m.1)) × StartsWith m.0.seen m.0.told × ((p : ℕ) → times p m.0.own ≤ 1) × (m.0.parts ≤ 64)

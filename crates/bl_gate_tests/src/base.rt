@@ -1,0 +1,110 @@
+//! A gate over the base setup, and what the tests ask of it.
+ghost use Rattle.std.specs.Prelude.{◌≡◌, Ok};
+ghost use Rattle.bl_gate.specs.Gates.{Follows};
+
+use bl_core::session::SessionNo;
+use bl_gate::gate::Gate;
+use bl_gate::pass::Pass;
+use bl_hall::hall::Hall;
+use bl_hall::reply::Reply;
+use bl_policy::id::SubjectId;
+use bl_read::line::read_line;
+use bl_setup::reader::read_setup;
+use bl_work::answer::Answer;
+use bl_work::asked::Line;
+use bl_work::work::Work;
+use std::alloc::AllocGlobal;
+use std::process::Abort;
+use std::sync::Wait;
+
+/// The base setup, as far as the tests speak of it.
+const BASE: &[u8] = b"ranks u c s t\n\
+categories nato crypto\n\
+subject ann greatest s{nato} current s{nato}\n\
+document memo s{nato} \"m1\"\n\
+allow ann memo r w\n";
+
+/// The subject `ann`.
+pub(super) const ANN: u16 = 0;
+
+/// A line that shows memo.
+const SHOW_MEMO: &[u8] = b"when read memo do show memo; end";
+
+/// What came where no fault may come.
+pub(super) fn right<T, E>(rt: &impl Abort, outcome: Result<T, E>) -> T
+    ensures { outcome ≡ Ok result }
+{
+    match outcome {
+        Ok(value) => value,
+        Err(_fault) => panic!(rt; "a fault"),
+    }
+}
+
+/// A gate over the base setup for lines up to a weight of 10,000, and the pass with all its parts.
+pub(super) fn base_gate<R: AllocGlobal + Abort>(rt: &R) -> (Gate, Pass)
+    ensures gate { result.1.gate ≡ result.0.id }
+    ensures parts { result.1.parts ≡ 64 }
+{
+    let setup = right(rt, read_setup(rt.alloc(), BASE));
+    let hall = right(rt, Hall::new(rt.alloc(), setup, 10_000));
+    match Gate::new(hall) {
+        Ok(made) => made,
+        Err(_no_gate) => panic!(rt; "no gate"),
+    }
+}
+
+/// The work of a line that shows memo.
+fn show_memo<R: AllocGlobal + Abort>(rt: &R, gate: &Gate) -> Work {
+    match right(rt, read_line(rt.alloc(), gate.names(), SHOW_MEMO)) {
+        Line::Work(work) => work,
+        Line::Hello(_) | Line::Wait => panic!(rt; "no work"),
+    }
+}
+
+/// Opens a session of `ann` and admits a line that shows memo, by one pass; gives the session and the line's place.
+pub(super) fn ask<R: AllocGlobal + Abort + Wait>(
+    rt: &R,
+    gate: &Gate,
+    pass: &mut Pass,
+) -> (SessionNo, u32)
+    requires { pass.old.gate ≡ gate.now.id }
+    ensures { Follows pass.old pass.new }
+{
+    let session = right(rt, gate.open(rt, pass, SubjectId::new(ANN)));
+    let work = show_memo(rt, gate);
+    match gate.line(rt, pass, session, 1, work) {
+        Ok(place) => (session, place),
+        Err(_refused) => panic!(rt; "refused"),
+    }
+}
+
+/// Whether these replies are one, to the first line, and it shows `m1`.
+pub(super) fn is_memo(replies: &[Reply]) -> bool {
+    if replies.len() != 1 || replies[0].label.as_slice() != [1].as_slice() {
+        return false;
+    }
+    match &replies[0].answer {
+        Answer::Done(outputs) => {
+            let texts = outputs.texts();
+            texts.len() == 1 && texts[0].bytes() == b"m1".as_slice()
+        }
+        Answer::RuleDone | Answer::Denied(_) | Answer::Lost => false,
+    }
+}
+
+/// Whether a session is answered with one reply to its first line, which shows `m1`.
+pub(super) fn is_answered<R: Abort + Wait>(
+    rt: &R,
+    gate: &Gate,
+    pass: &mut Pass,
+    session: SessionNo,
+) -> bool
+    requires { pass.old.gate ≡ gate.now.id }
+    ensures { Follows pass.old pass.new }
+{
+    match gate.answers(rt, pass, session, 0) {
+        Ok(Some(replies)) => is_memo(replies.as_slice()),
+        Ok(None) => false,
+        Err(_fault) => panic!(rt; "not answered"),
+    }
+}

@@ -1,5 +1,0 @@
-use Rattle.bl_level.proofs.Again.{canonical_begins}
-use Rattle.bl_level.proofs.laws.canonical_reads_again.Goals as goal
-
-pub returns : goal.returns
-returns c = canonical_begins

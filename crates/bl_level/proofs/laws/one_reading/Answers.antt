@@ -1,5 +1,0 @@
-use Rattle.bl_level.proofs.Readings.{one_reading}
-use Rattle.bl_level.proofs.laws.one_reading.Goals as goal
-
-pub returns : goal.returns
-returns c = one_reading

@@ -1,5 +1,0 @@
-use Rattle.bl_level.proofs.Readings.{read_proper}
-use Rattle.bl_level.proofs.laws.read_tokens_are_proper.Goals as goal
-
-pub returns : goal.returns
-returns c = read_proper

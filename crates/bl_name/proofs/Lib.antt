@@ -1,0 +1,10 @@
+pub mod Same
+pub mod Runs
+pub mod Words
+pub mod Fronts
+pub mod Lexes
+pub mod Readings
+pub mod Shortest
+pub mod Again
+pub mod Tables
+pub mod TableFaults

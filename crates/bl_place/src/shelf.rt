@@ -1,0 +1,129 @@
+//! Where the contents are kept: one shelf for each document.
+//!
+//! A content stays on its shelf while it is lent. Nobody else alters it then, so it is what was lent, and what comes back takes its
+//! place.
+ghost use Rattle.std.specs.Prelude.{◌≡◌, ◌<◌, ◌↔◌, length, map, slice_index_or, All, IfOk, IsTrue};
+ghost use Rattle.bl_policy.specs.declared.access.Access.{Access};
+ghost use Rattle.bl_work.specs.Statements.{no_part};
+ghost use Rattle.bl_grant.specs.Loaned.{Back};
+ghost use Rattle.bl_place.specs.Shelves.{content_in, contents_in, marked, new_shelf, put_back};
+
+use crate::place::is_exclusive;
+use bl_eval::lent::{Done, Unrun};
+use bl_grant::grant::Returned;
+use bl_policy::access::Access;
+use bl_work::document::Document;
+use bl_work::script::Script;
+use std::alloc::{AllocError, Global};
+
+/// A document's content, and whether it is lent exclusively.
+#[derive(Drop)]
+pub struct Shelf {
+    /// The content, also while it is lent.
+    pub content: Document,
+    /// Whether it is lent to one who may alter it.
+    pub lent: bool,
+}
+
+/// A shelf for each content, nothing lent.
+pub fn shelve(alloc: Global, contents: &[Document]) -> Result<Vec<Shelf>, AllocError>
+    ensures { IfOk result (λ shelves. shelves.items ≡ map new_shelf contents.now) }
+{
+    let mut shelves = Vec::with_capacity(alloc, contents.len())?;
+    for content in contents {
+        shelves.push(Shelf {
+            content: content.share()?,
+            lent: false,
+        })?;
+    }
+    Ok(shelves)
+}
+
+/// The contents of the documents that the accesses name, in order, each with one more owner.
+pub fn contents_of(
+    alloc: Global,
+    shelves: &[Shelf],
+    accesses: &[Access],
+) -> Result<Vec<Document>, AllocError>
+    requires { All (λ (a : Access). a.doc < length shelves.now) accesses.now }
+    ensures { IfOk result (λ documents. documents.items ≡ map (λ (a : Access). content_in shelves.now a.doc) accesses.now) }
+{
+    let mut documents = Vec::with_capacity(alloc, accesses.len())?;
+    for access in accesses {
+        documents.push(shelves[access.doc.position() as usize].content.share()?)?;
+    }
+    Ok(documents)
+}
+
+/// Whether this behaviour had just the contents of these shelves, by its accesses, and was done.
+pub fn is_done_of(done: &Done, script: &Script, index: u8, shelves: &[Shelf]) -> bool
+    requires there { index < length script.now }
+    requires shelves { All (λ (a : Access). a.doc < length shelves.now) (slice_index_or script.now index no_part).accesses }
+    ensures { IsTrue result ↔ ((done.now.script ≡ script.now) × (done.now.index ≡ index) × (done.now.inputs ≡ contents_in shelves.now (slice_index_or script.now index no_part).accesses)) }
+{
+    let accesses = script.accesses(index as usize);
+    if !done.is_by(script, index) {
+        return false;
+    }
+    if done.inputs() != accesses.len() {
+        return false;
+    }
+    for (i, access) in accesses.iter().enumerate() {
+        if !done.had(i, &shelves[access.doc.position() as usize].content) {
+            return false;
+        }
+    }
+    true
+}
+
+/// Whether this behaviour had just the contents of these shelves, by its accesses, and was left undone.
+pub fn is_unrun_of(unrun: &Unrun, script: &Script, index: u8, shelves: &[Shelf]) -> bool
+    requires there { index < length script.now }
+    requires shelves { All (λ (a : Access). a.doc < length shelves.now) (slice_index_or script.now index no_part).accesses }
+    ensures { IsTrue result ↔ ((unrun.now.script ≡ script.now) × (unrun.now.index ≡ index) × (unrun.now.inputs ≡ contents_in shelves.now (slice_index_or script.now index no_part).accesses)) }
+{
+    let accesses = script.accesses(index as usize);
+    if !unrun.is_by(script, index) {
+        return false;
+    }
+    if unrun.inputs() != accesses.len() {
+        return false;
+    }
+    for (i, access) in accesses.iter().enumerate() {
+        if !unrun.had(i, &shelves[access.doc.position() as usize].content) {
+            return false;
+        }
+    }
+    true
+}
+
+/// What the accesses alter is lent.
+pub fn mark(shelves: &mut [Shelf], accesses: &[Access])
+    requires { All (λ (a : Access). a.doc < length shelves.old) accesses.now }
+    ensures { shelves.new ≡ marked shelves.old accesses.now }
+{
+    for access in accesses {
+        if is_exclusive(access.mode) {
+            let shelf = &mut shelves[access.doc.position() as usize];
+            shelf.lent = true;
+        }
+    }
+}
+
+/// What comes back of what was lent exclusively is put on its shelf.
+pub fn take_back(shelves: &mut [Shelf], returned: Vec<Returned>)
+    requires { All (λ (b : Back). b.access.doc < length shelves.old) returned.items }
+    ensures { shelves.new ≡ put_back shelves.old returned.items }
+{
+    let mut returned = returned;
+    while let Some(back) = returned.pop() {
+        let access = back.access();
+        let content = back.into_content();
+        if is_exclusive(access.mode) {
+            let shelf = &mut shelves[access.doc.position() as usize];
+            shelf.content = content;
+            shelf.lent = false;
+        }
+    }
+    returned.destroy_empty();
+}

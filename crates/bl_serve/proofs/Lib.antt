@@ -1,0 +1,3 @@
+mod ToldLaws
+mod VisitLaws
+mod OutcomeLaws

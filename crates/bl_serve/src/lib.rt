@@ -1,0 +1,10 @@
+//! Sessions over a gate: the machine behind a session whose lines others run too, and the session itself, over any reader and writer.
+//!
+//!     session    serves a session
+//!     visit      the machine behind it: lines through the gate, turns while it waits
+//!     told       the replies that a session was told
+#![tactic(auto)]
+
+pub mod session;
+mod told;
+pub mod visit;

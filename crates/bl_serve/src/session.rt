@@ -1,0 +1,80 @@
+//! A session over a gate.
+ghost use Rattle.std.specs.Prelude.{◌≡◌, false, OnOk, IfErr};
+ghost use Rattle.bl_gate.specs.Gates.{Follows};
+ghost use Rattle.bl_wire.specs.Watch.{used};
+ghost use Rattle.bl_serve.specs.Outcome.{IsServed, IsCutShort};
+
+use crate::visit::{Visit, Visitor};
+use bl_engine::session::converse;
+use bl_gate::gate::Gate;
+use bl_gate::pass::Pass;
+use bl_wire::fault::SessionFault;
+use bl_wire::watched::Watched;
+use bl_worker::bell::Bell;
+use bl_worker::pause::{NoPause, Pause};
+use std::alloc::Global;
+use std::io::{BufRead, Write};
+use std::snapshot::Snapshot;
+use std::sync::Wait;
+
+/// Serves one session through a gate, with a pass of its own, which it hands back. Lines are admitted as they come, and the bell is rung
+/// after each. At a `wait` and at the end of the input it takes turns itself until its entries have ended, and where nothing is ready
+/// waits at the bell.
+///
+/// At `Ok` the input was read to its end, or to the end of a first line that was refused, and what was told is written and handed on.
+/// `Read` and `Write` come only where that end failed, and that end alone, `TooLong` only where 16,777,216 bytes were read and another
+/// one is there. `Clash` comes where the gate found that somebody else spoke for the session. After a fault nothing more is written, and
+/// what was not consumed stays unread. What was admitted stays admitted. What the hall answered no clause says yet.
+pub fn serve<R: BufRead, W: Write, T: Wait>(
+    rt: &T,
+    alloc: Global,
+    gate: &Gate,
+    pass: Pass,
+    reader: &mut Watched<R>,
+    writer: &mut Watched<W>,
+    bell: &Bell,
+) -> (Pass, Result<(), SessionFault>)
+    requires gate { pass.gate ≡ gate.now.id }
+    requires reader { reader.old.failed ≡ false }
+    requires writer { writer.old.failed ≡ false }
+    ensures follows { Follows pass result.0 }
+    ensures ok { OnOk result.1 (IsServed gate.now.names (used R.remaining reader.old reader.new) (used W.contents writer.old writer.new)) }
+    ensures fine { OnOk result.1 ((reader.new.failed ≡ false) × (writer.new.failed ≡ false) × (writer.new.unflushed ≡ false)) }
+    ensures err { IfErr result.1 (λ fault. IsCutShort gate.now.names fault (used R.remaining reader.old reader.new) (used W.contents writer.old writer.new)) }
+{
+    serve_with(rt, alloc, gate, pass, reader, writer, bell, &NoPause)
+}
+
+/// Serves one session as `serve` does; between the start and the end of an entry that it runs it pauses.
+pub fn serve_with<R: BufRead, W: Write, P: Pause, T: Wait>(
+    rt: &T,
+    alloc: Global,
+    gate: &Gate,
+    pass: Pass,
+    reader: &mut Watched<R>,
+    writer: &mut Watched<W>,
+    bell: &Bell,
+    pause: &P,
+) -> (Pass, Result<(), SessionFault>)
+    requires gate { pass.gate ≡ gate.now.id }
+    requires reader { reader.old.failed ≡ false }
+    requires writer { writer.old.failed ≡ false }
+    ensures follows { Follows pass result.0 }
+    ensures ok { OnOk result.1 (IsServed gate.now.names (used R.remaining reader.old reader.new) (used W.contents writer.old writer.new)) }
+    ensures fine { OnOk result.1 ((reader.new.failed ≡ false) × (writer.new.failed ≡ false) × (writer.new.unflushed ≡ false)) }
+    ensures err { IfErr result.1 (λ fault. IsCutShort gate.now.names fault (used R.remaining reader.old reader.new) (used W.contents writer.old writer.new)) }
+{
+    let visitor = Visitor {
+        rt,
+        alloc,
+        gate,
+        bell,
+        pause,
+        first: Snapshot::of(&pass),
+    };
+    let mut visit = Visit::new(alloc, pass);
+    match converse(alloc, gate.names(), &visitor, &mut visit, reader, writer) {
+        Ok(()) => (visit.pass, Ok(())),
+        Err(fault) => (visit.pass, Err(fault)),
+    }
+}

@@ -1,0 +1,149 @@
+//! The replies that a session was told, in the order in which they came.
+ghost use Rattle.std.specs.Prelude.{◌≡◌, ◌+◌, ◌<◌, ◌≤◌, All, ℕ, drop, length, map, true};
+ghost use Rattle.std.specs.List.{flat_map};
+ghost use Rattle.bl_hall.specs.Told.{reply_of};
+ghost use Rattle.bl_wire.specs.Named.{NamesAnswer, NamesDenial};
+ghost use Rattle.bl_wire.specs.Replies.{reply_text};
+ghost use Rattle.bl_wire.specs.Watch.{end_state, Puts};
+ghost use Rattle.bl_serve.specs.Told.{ordinal_of, behind, front, told_text, IsTold};
+
+use bl_hall::reply::Reply;
+use bl_policy::denial::Denial;
+use bl_wire::put::put;
+use bl_wire::reply::put_refused;
+use bl_wire::watched::Watched;
+use bl_wire::words::{put_answer, put_label};
+use bl_work::answer::Answer;
+use bl_work::names::Names;
+use std::io::Write;
+
+/// The ordinal of a reply's line; 0 where it has no label.
+fn ordinal_of(reply: &Reply) -> u32
+    ensures { result ≡ ordinal_of reply.now }
+{
+    if reply.label.is_empty() {
+        0
+    } else {
+        reply.label[0]
+    }
+}
+
+/// Whether the subject and the document of a denial have names.
+fn names_denial(names: &Names, denial: &Denial) -> bool
+    ensures { result ≡ true → NamesDenial names.now denial.now }
+{
+    let object = match denial.object {
+        Some(doc) => (doc.position() as usize) < names.documents(),
+        None => true,
+    };
+    object && (denial.subject.position() as usize) < names.subjects()
+}
+
+/// Whether each subject and document of an answer has a name.
+fn names_answer(names: &Names, answer: &Answer) -> bool
+    ensures { result ≡ true → NamesAnswer names.now answer.now }
+{
+    match answer {
+        Answer::Denied(denial) => names_denial(names, denial),
+        Answer::Done(_) | Answer::RuleDone | Answer::Lost => true,
+    }
+}
+
+/// Whether a reply is one to a line behind `after` and up to `upto`, in which all have names.
+fn is_told(names: &Names, after: u32, upto: u32, reply: &Reply) -> bool
+    ensures { result ≡ true → IsTold names.now after upto reply.now }
+{
+    let ordinal = ordinal_of(reply);
+    after < ordinal && ordinal <= upto && names_answer(names, &reply.answer)
+}
+
+/// Whether all replies are ones to lines behind `after` and up to `upto`, in which all have names. A gate gives no others;
+/// what is promised here does not rest on that yet.
+pub(crate) fn are_told(names: &Names, after: u32, upto: u32, replies: &[Reply]) -> bool
+    ensures { result ≡ true → All (IsTold names.now after upto) replies.now }
+{
+    for reply in replies {
+        if !is_told(names, after, upto, reply) {
+            return false;
+        }
+    }
+    true
+}
+
+/// Writes a reply, unless the writer has failed.
+fn put_told<W: Write>(writer: &mut Watched<W>, names: &Names, reply: &Reply)
+    requires label { 0 < ordinal_of reply.now }
+    requires named { NamesAnswer names.now reply.now.answer }
+    ensures { Puts (reply_text names.now (reply_of reply.now)) (end_state W.contents writer.old) (end_state W.contents writer.new) }
+{
+    let Some((ordinal, path)) = reply.label.split_first() else {
+        unreachable!()
+    };
+    put_label(writer, *ordinal, path);
+    put_answer(writer, names, &reply.answer);
+    put(writer, b"\n");
+}
+
+/// Passes over the replies to lines below an ordinal, from a place on, and answers the place behind them.
+fn pass_over(told: &[Reply], next: usize, ordinal: u32) -> usize
+    requires { next ≤ length told.now }
+    ensures within { result ≤ length told.now }
+    ensures behind { behind ordinal (drop next told.now) ≡ drop result told.now }
+    ensures later { (k : ℕ) → ordinal < k → behind k (drop next told.now) ≡ behind k (drop result told.now) }
+{
+    let mut at = next;
+    'places: while at < told.len() && ordinal_of(&told[at]) < ordinal {
+        at += 1;
+    }
+    at
+}
+
+/// Writes the replies to a line with which a list begins, unless the writer has failed, and answers how many there are.
+fn put_front<W: Write>(
+    writer: &mut Watched<W>,
+    names: &Names,
+    ordinal: u32,
+    told: &[Reply],
+) -> usize
+    requires ordinal { 0 < ordinal }
+    requires named { All (λ reply. NamesAnswer names.now reply.answer) told.now }
+    ensures text { Puts (flat_map (reply_text names.now) (map reply_of (front ordinal told.now))) (end_state W.contents writer.old) (end_state W.contents writer.new) }
+    ensures count { result ≡ length (front ordinal told.now) }
+    ensures within { result ≤ length told.now }
+    ensures later { (k : ℕ) → ordinal < k → behind k told.now ≡ behind k (drop result told.now) }
+{
+    let mut count = 0;
+    for reply in told {
+        if ordinal_of(reply) != ordinal {
+            return count;
+        }
+        put_told(writer, names, reply);
+        count += 1;
+    }
+    count
+}
+
+/// Writes the replies to a line whose work was asked for, unless the writer has failed. They are sought from a place on, and the place
+/// behind them is answered.
+pub(crate) fn put_line<W: Write>(
+    writer: &mut Watched<W>,
+    names: &Names,
+    ordinal: u32,
+    told: &[Reply],
+    next: usize,
+) -> usize
+    requires ordinal { 0 < ordinal }
+    requires within { next ≤ length told.now }
+    requires passed { behind ordinal told.now ≡ behind ordinal (drop next told.now) }
+    requires named { All (λ reply. NamesAnswer names.now reply.answer) told.now }
+    ensures text { Puts (told_text names.now told.now ordinal) (end_state W.contents writer.old) (end_state W.contents writer.new) }
+    ensures within { result ≤ length told.now }
+    ensures later { (k : ℕ) → ordinal < k → behind k (drop next told.now) ≡ behind k (drop result told.now) }
+{
+    let from = pass_over(told, next, ordinal);
+    let count = put_front(writer, names, ordinal, &told[from..]);
+    if count == 0 {
+        put_refused(writer, ordinal, b"full");
+    }
+    from + count
+}

@@ -1,0 +1,205 @@
+//! The machine behind a session over a gate. Lines enter through the gate, and who waits for their answers takes turns meanwhile.
+//! Other threads call the gate too, so of what the hall answers only this is known: what was told stays told.
+ghost use Rattle.std.specs.Prelude.{◌≡◌, ◌≤◌, ℕ, [], ⊤, Some, None};
+ghost use Rattle.bl_gate.specs.Gates.{Follows};
+ghost use Rattle.bl_serve.specs.Told.{told_text};
+ghost use Rattle.bl_serve.specs.Visits.{IsOf, IsWhole, IsPage};
+
+use crate::told::{are_told, put_line};
+use bl_core::refusal::{Cause, OpenRefused};
+use bl_core::session::SessionNo;
+use bl_engine::behind::{Asking, Behind, Opening};
+use bl_gate::gate::Gate;
+use bl_gate::pass::Pass;
+use bl_hall::reply::Reply;
+use bl_policy::id::SubjectId;
+use bl_wire::watched::Watched;
+use bl_work::work::Work;
+use bl_worker::bell::Bell;
+use bl_worker::pause::Pause;
+use bl_worker::turn::{Turn, work_once};
+use std::alloc::{AllocError, Global};
+use std::io::Write;
+use std::snapshot::Snapshot;
+use std::sync::Wait;
+
+/// What stays while a session is served: the gate, the bell that is rung where there may be work, what its turns do between a start and
+/// an end, and what its pass was at first.
+#[derive(Drop)]
+pub struct Visitor<'a, P, T> {
+    pub rt: &'a T,
+    pub alloc: Global,
+    pub gate: &'a Gate,
+    pub bell: &'a Bell,
+    pub pause: &'a P,
+    pub first: Snapshot<Pass>,
+}
+
+/// The pass, the session once it is open, whether a line of the block was admitted, what was told of the session, and the ordinal up
+/// to which.
+#[derive(Drop)]
+pub struct Visit {
+    pub pass: Pass,
+    pub session: Option<SessionNo>,
+    pub open: bool,
+    pub told: Vec<Reply>,
+    pub upto: u32,
+}
+
+/// The place in what was told behind the replies that were written.
+#[derive(Drop)]
+pub struct Page {
+    pub next: usize,
+}
+
+impl Visit {
+    /// A session that is not open yet.
+    pub fn new(alloc: Global, pass: Pass) -> Visit
+        ensures { (result.pass ≡ pass) × (result.session ≡ None) × (result.told.items ≡ []) × (result.upto ≡ 0) }
+    {
+        Visit {
+            pass,
+            session: None,
+            open: false,
+            told: Vec::new(alloc),
+            upto: 0,
+        }
+    }
+}
+
+impl<'a, P: Pause, T: Wait> Visitor<'a, P, T> {
+    /// Tells the others of what is new. Workers are woken only where more may be ready than this session's thread runs itself.
+    fn tell(&self, more: bool) {
+        if more {
+            self.bell.ring(self.rt);
+        } else {
+            self.bell.ring_end(self.rt);
+        }
+    }
+
+    /// Takes one turn, or where nothing is ready waits at the bell, unless it was rung since it was looked at. Says whether more may be
+    /// ready: whether this turn was done, or one before it.
+    fn help(&self, pass: &mut Pass, seen: u64, more: bool) -> Result<bool, AllocError>
+        requires { pass.old.gate ≡ self.now.gate.now.id }
+        ensures { Follows pass.old pass.new }
+    {
+        match work_once(self.rt, self.alloc, self.gate, pass, self.pause) {
+            Ok(Turn::Idle) => {
+                self.bell.wait_end(self.rt, seen);
+                Ok(false)
+            }
+            Ok(Turn::Missed(_)) => Ok(more),
+            Ok(Turn::Denied(_) | Turn::Done(_) | Turn::Lost(_)) => {
+                self.tell(more);
+                Ok(true)
+            }
+            // a gate refuses nothing that it lent; what is promised here does not rest on that yet
+            Err(_) => Err(AllocError),
+        }
+    }
+
+    /// The replies to the session's lines above an ordinal. It takes turns until they are there.
+    fn hear(
+        &self,
+        pass: &mut Pass,
+        session: SessionNo,
+        after: u32,
+    ) -> Result<Vec<Reply>, AllocError>
+        requires { pass.old.gate ≡ self.now.gate.now.id }
+        ensures { Follows pass.old pass.new }
+    {
+        let mut more = false;
+        for _ in self.rt.forever() {
+            let seen = self.bell.rings();
+            match self.gate.answers(self.rt, pass, session, after) {
+                Ok(Some(replies)) => return Ok(replies),
+                Ok(None) => more = self.help(pass, seen, more)?,
+                Err(_) => return Err(AllocError),
+            }
+        }
+        unreachable!()
+    }
+}
+
+impl<'a, P: Pause, T: Wait> Behind for Visitor<'a, P, T> {
+    type State = Visit;
+
+    type Block = Page;
+
+    ghost serves = { λ _ _. ⊤ };
+
+    ghost takes = { λ _ _. ⊤ };
+
+    ghost fills = { λ _. ⊤ };
+
+    ghost clashes = { λ _. ⊤ };
+
+    ghost replies = { λ visitor visit k. told_text visitor.gate.now.names visit.told.items k };
+
+    ghost settled = { λ _ visit n. n ≤ visit.upto };
+
+    ghost whole = { λ visitor visit n. IsWhole visitor.gate.now visitor.first.value visit n };
+
+    ghost came = { λ visitor visit _. IsOf visitor.gate.now visitor.first.value visit };
+
+    ghost last = { λ _ visit. visit.upto };
+
+    ghost gives = { λ _ visit page n. IsPage visit page n };
+
+    fn open(&self, state: &mut Visit, subject: SubjectId) -> Result<Opening, AllocError> {
+        match self.gate.open(self.rt, &mut state.pass, subject) {
+            Ok(session) => {
+                state.session = Some(session);
+                Ok(Opening::Open)
+            }
+            Err(OpenRefused::SessionsFull) => Ok(Opening::Full),
+            // the subject was read in the names of the gate, which are the hall's; what is promised here does not rest on that yet
+            Err(OpenRefused::Stranger) => Err(AllocError),
+        }
+    }
+
+    fn ask(&self, state: &mut Visit, ordinal: u32, work: Work) -> Result<Asking, AllocError> {
+        let Some(session) = state.session else {
+            return Ok(Asking::Clash);
+        };
+        match self
+            .gate
+            .line(self.rt, &mut state.pass, session, ordinal, work)
+        {
+            Ok(_) => {
+                self.tell(state.open);
+                state.open = true;
+                Ok(Asking::Taken)
+            }
+            Err(refused) => match refused.cause {
+                Cause::Full => Ok(Asking::Taken),
+                Cause::Stranger | Cause::Session | Cause::Ordinal => Ok(Asking::Clash),
+            },
+        }
+    }
+
+    fn settle(&self, state: &mut Visit, after: u32, ordinal: u32) -> Result<Page, AllocError> {
+        let Some(session) = state.session else {
+            return Err(AllocError);
+        };
+        let mut replies = self.hear(&mut state.pass, session, after)?;
+        if !are_told(self.gate.names(), after, ordinal, &replies) {
+            return Err(AllocError);
+        }
+        let next = state.told.len();
+        state.told.append(&mut replies)?;
+        state.upto = ordinal;
+        state.open = false;
+        Ok(Page { next })
+    }
+
+    fn answer<W: Write>(
+        &self,
+        state: &Visit,
+        block: &mut Page,
+        ordinal: u32,
+        writer: &mut Watched<W>,
+    ) {
+        block.next = put_line(writer, self.gate.names(), ordinal, &state.told, block.next);
+    }
+}

@@ -1,0 +1,65 @@
+-- How the machine of one worker stands between two calls.
+use Rattle.std.specs.Prelude.{◌≡◌, ℕ, ◌+◌, ◌-◌, ◌<◌, ◌≤◌, ◌⊎◌, true, List, ◌++◌, length, slice_index_or}
+use Rattle.bl_setup.specs.Setup.{Setup}
+use Rattle.bl_order.specs.Labels.{Tag, tag}
+use Rattle.bl_order.specs.Order.{Entry}
+use Rattle.bl_order.specs.Machine.{State, Event, Ends, Loses, Waiting, phase_at, has_ended, start}
+use Rattle.bl_hall.specs.Chronicle.{Chronicle, HasTrail, state_now, with_event}
+use Rattle.bl_engine.specs.Requests.{Request}
+use Rattle.bl_session.specs.declared.entries.Pages.{Pages}
+use Rattle.bl_session.specs.One.{Fate, events_of, place_events, run_from}
+
+-- the ordinal of the line that a place stands below
+abbrev pub ordinal_of : Tag → ℕ
+ordinal_of t = slice_index_or t.label 0 0
+
+-- each place from this one on stands below a later line
+abbrev pub AreLater : ℕ → List Entry → ℕ → Type 0
+AreLater from order n = (p : ℕ) → from ≤ p → p < length order → n < ordinal_of (tag order p)
+
+-- the places up to one have ended, and the others wait
+pub record RanUpTo (n : ℕ) (x : State) : Type 0 where
+  pub as_many : length x.phases ≡ length x.order
+  pub within : n ≤ length x.order
+  pub over : (p : ℕ) → p < n → has_ended x p ≡ true
+  pub waits : (p : ℕ) → n ≤ p → phase_at x p ≡ Waiting
+
+-- the hall is one over this setup and limit, whose places have run up to the next one
+pub record Stands (setup : Setup) (limit : ℕ) (s : Pages) : Type 0 where
+  pub setup_is : s.hall.setup ≡ setup
+  pub limit_is : s.hall.limit ≡ limit
+  pub trail : HasTrail s.hall
+  pub ran : RanUpTo s.next (state_now s.hall)
+
+-- with more events
+abbrev pub with_events : Chronicle → List Event → Chronicle
+with_events h events = record { setup = h.setup; limit = h.limit; trail = h.trail ++ events }
+
+-- What was told brought the pages here: the trail is One's for what became of the places that have run, whatever becomes of the
+-- others.
+pub record Came (setup : Setup) (limit : ℕ) (s : Pages) (told : List Request) : Type 0 where
+  pub stands : Stands setup limit s
+  pub fate : ℕ → Fate
+  pub led : (other : ℕ → Fate) → ((n : ℕ) → n < s.next → other n ≡ fate n) → s.hall.trail ≡ events_of other (start setup limit) told
+
+-- the running place has ended, or is lost
+pub record HasEnded (n : ℕ) (before after : Chronicle) : Type 0 where
+  pub is : (after ≡ with_event before (Ends n)) ⊎ (after ≡ with_event before (Loses n))
+  pub trail : HasTrail after
+
+-- this became of the place: it has had its events
+pub record HasHad (n : ℕ) (before after : Chronicle) : Type 0 where
+  pub fate : Fate
+  pub is : after ≡ with_events before (place_events fate (state_now before) n)
+  pub trail : HasTrail after
+
+-- this became of the places from one on up to another: they have had their events
+pub record HaveRun (before : Chronicle) (from : ℕ) (after : Chronicle) (to : ℕ) : Type 0 where
+  pub some : from ≤ to
+  pub setup_is : after.setup ≡ before.setup
+  pub limit_is : after.limit ≡ before.limit
+  pub trail : HasTrail after
+  pub ran : RanUpTo to (state_now after)
+  pub fate : ℕ → Fate
+  pub led : (other : ℕ → Fate) → ((n : ℕ) → from ≤ n → n < to → other n ≡ fate n) → (most : ℕ)
+      → after.trail ++ run_from other most (state_now after) to ≡ before.trail ++ run_from other ((to - from) + most) (state_now before) from

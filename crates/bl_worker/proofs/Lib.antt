@@ -1,0 +1,3 @@
+pub mod Passing
+pub mod Settling
+pub mod Working

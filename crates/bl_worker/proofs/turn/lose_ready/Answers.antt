@@ -1,0 +1,13 @@
+use Rattle.std.proofs.Common.{ℕ, sym, subst}
+use Rattle.bl_gate.specs.Gates.{state_seen}
+use Rattle.bl_worker.specs.Turns.{HasEndedAs, IsLost}
+use Rattle.bl_worker.proofs.Working.{gone, settles_loss}
+use Rattle.bl_worker.proofs.turn.lose_ready.Goals as goal
+
+pub returns-in-Ok-clause-worked : goal.returns-in-Ok-clause-worked
+returns-in-Ok-clause-worked g c =
+    subst (λ (n : ℕ). HasEndedAs (state_seen c.lose_ready.new.pass) n IsLost) (sym c.entry-n.ensures)
+    (gone c.args.pass.now c.lose_ready.new.pass c.args.starved _ c.in-Ok.ensures.ok c.lose_ready.ensures.follows c.lose_ready.ensures.trail)
+
+pub returns-in-Ok-clause-settles : goal.returns-in-Ok-clause-settles
+returns-in-Ok-clause-settles g c = settles_loss c.args.pass.now c.lose_ready.new.pass c.args.starved _ c.in-Ok.ensures.ok
