@@ -8,3 +8,4 @@ pub mod Hands
 pub mod Turned
 pub mod Results
 pub mod Following
+pub mod Crossing
