@@ -1,0 +1,29 @@
+use Rattle.std.proofs.Common.{◌≡◌, ◌∷◌, length, refl, sym, ap, subst, ◌∙◌, arith}
+use Rattle.std.specs.Prelude.{All}
+use Rattle.std.proofs.lemmas.List.Elements.{All-head, All-tail}
+use Rattle.std.specs.Vec.Iter.{into_iter_items}
+use Rattle.bl_host.specs.Crews.{IsPart}
+use Rattle.bl_host.proofs.Passes.{remains_then}
+use Rattle.bl_host.proofs.crew.join_crew.Goals as goal
+
+pub loop-member-preserved : goal.loop-member-preserved
+loop-member-preserved g c =
+    let at = c.loop-member in
+    let steps : into_iter_items at.member-iterator ≡ c.in-Some.member ∷ into_iter_items c.next.new.self = c.in-Some.ensures.steps.0 in
+    let all : All (λ member. IsPart c.args.pass.now.gate member.promise.0.value) (c.in-Some.member ∷ into_iter_items c.next.new.self) = subst (All (λ member. IsPart c.args.pass.now.gate member.promise.0.value)) steps at.invariant.3 in
+    let part = All-head (λ member. IsPart c.args.pass.now.gate member.promise.0.value) c.in-Some.member (into_iter_items c.next.new.self) all in
+    let gone = c.in-Some.ensures.steps.1 in
+    let short = ap length steps in
+    let was = at.invariant.2 in
+    let sum = at.invariant.1 in
+    let met = c.meet.ensures.parts in
+    let one = c.join-share.ensures.parts ∙ part.one in (
+      remains_then _ _ _ at.invariant.0 (record {
+        gate = c.meet.ensures.gate ∙ sym c.requires.gate ∙ sym at.invariant.0.gate;
+        base = c.meet.ensures.base;
+        seen = c.meet.ensures.seen.0;
+      }),
+      omega arith,
+      omega arith,
+      All-tail (λ member. IsPart c.args.pass.now.gate member.promise.0.value) c.in-Some.member (into_iter_items c.next.new.self) all,
+    )

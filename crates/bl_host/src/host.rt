@@ -1,0 +1,167 @@
+//! Sessions over TCP in threads, round one gate.
+ghost use Rattle.std.specs.Prelude.{◌≡◌, true};
+ghost use Rattle.bl_gate.specs.Gates.{Follows};
+
+use crate::crew::{join_crew, start_sessions, start_workers};
+use crate::desk::Desk;
+use crate::ended::Ended;
+use crate::options::Options;
+use crate::post::Post;
+use bl_gate::gate::Gate;
+use bl_gate::pass::Pass;
+use bl_worker::bell::Bell;
+use bl_worker::pause::Pause;
+use crossbeam_channel::Receiver;
+use std::alloc::Global;
+use std::net::TcpListener;
+use std::sync::Wait;
+use std::thread::{self, Scope, Threads};
+
+/// What sessions are hosted with: the runtime, where memory comes from, the gate, and what each turn does between a start
+/// and an end.
+#[derive(Drop)]
+pub struct Site<'a, P, T> {
+    pub rt: &'a T,
+    pub alloc: Global,
+    pub gate: &'a Gate,
+    pub pause: &'a P,
+}
+
+/// What is left after all sessions: the pass; those that ended early, in the order in which that was told; whether each thread was
+/// started, so that all parts of the pass are back; whether something could not be told for want of memory; and whether a worker
+/// failed.
+#[derive(Drop)]
+pub struct Hosted {
+    pub pass: Pass,
+    pub ended: Vec<Ended>,
+    pub whole: bool,
+    pub memory: bool,
+    pub worker: bool,
+}
+
+/// What is left after the threads: the pass, whether each was started, whether each session that ended early was told, and whether no
+/// worker failed.
+#[derive(Drop)]
+struct Crews {
+    pass: Pass,
+    whole: bool,
+    told: bool,
+    worked: bool,
+}
+
+/// Starts the workers and then the session threads, and waits for them: for the sessions first, then closes the bell.
+fn run_crews<'s, E, P: Pause + Sync, T: Threads + Wait + Sync>(
+    scope: &Scope<'s, E>,
+    post: &Post<'s, P, T>,
+    mut pass: Pass,
+    desk: &'s Desk,
+    options: Options,
+) -> Crews
+    requires gate { pass.gate ≡ post.now.gate.now.id }
+    requires parts { pass.parts ≡ 64 }
+    ensures gate { result.pass.gate ≡ pass.gate }
+    ensures whole { result.whole ≡ true → Follows pass result.pass }
+{
+    let mut workers = Vec::new(post.alloc);
+    let mut sessions = Vec::new(post.alloc);
+    let whole = start_workers(scope, post, &mut pass, options.workers, &mut workers)
+        && start_sessions(
+            scope,
+            post,
+            &mut pass,
+            options.session_threads,
+            desk,
+            &mut sessions,
+        );
+    let told = join_crew(post.rt, post.gate, &mut pass, sessions);
+    post.bell.close(post.rt);
+    let worked = join_crew(post.rt, post.gate, &mut pass, workers);
+    Crews {
+        pass,
+        whole,
+        told,
+        worked,
+    }
+}
+
+/// Starts the threads in a scope of their own, and waits for them.
+fn run_scope<P: Pause + Sync, T: Threads + Wait + Sync>(
+    site: &Site<'_, P, T>,
+    bell: &Bell,
+    desk: &Desk,
+    pass: Pass,
+    options: Options,
+) -> Crews
+    requires gate { pass.gate ≡ site.now.gate.now.id }
+    requires parts { pass.parts ≡ 64 }
+    ensures gate { result.pass.gate ≡ pass.gate }
+    ensures whole { result.whole ≡ true → Follows pass result.pass }
+{
+    let (rt, alloc, gate, pause) = (site.rt, site.alloc, site.gate, site.pause);
+    thread::scope(
+        thread::scope_env(),
+        rt,
+        |scope| -> Crews
+            requires { (pass.gate ≡ gate.now.id) × (pass.parts ≡ 64) }
+            ensures { (result.pass.gate ≡ pass.gate) × (result.whole ≡ true → Follows pass result.pass) }
+        {
+            let post = Post {
+                rt,
+                alloc,
+                gate,
+                bell,
+                pause,
+            };
+            run_crews(scope, &post, pass, desk, options)
+        },
+    )
+}
+
+/// The sessions that were told of, as long as there is memory, and whether there was memory for all.
+fn gather<T: Wait>(rt: &T, alloc: Global, told: &Receiver<Ended, Global>) -> (Vec<Ended>, bool) {
+    let mut ended = Vec::new(alloc);
+    for one in told.try_iter(rt) {
+        if ended.push(one).is_err() {
+            return (ended, false);
+        }
+    }
+    (ended, true)
+}
+
+/// Takes so many connections at the listener, serves the session of each on a thread of its own, and lets the workers run what is ready meanwhile. It
+/// returns once all sessions are over, all threads have ended, and what was admitted has run.
+///
+/// The pass has all parts of the right to close the gate, and has them again where each thread could be started. Where one could not, no
+/// further one is, and those that were started run to their end.
+pub fn host<P: Pause + Sync, T: Threads + Wait + Sync>(
+    site: &Site<'_, P, T>,
+    listener: TcpListener,
+    pass: Pass,
+    options: Options,
+) -> Hosted
+    requires gate { pass.gate ≡ site.now.gate.now.id }
+    requires parts { pass.parts ≡ 64 }
+    ensures gate { result.pass.gate ≡ pass.gate }
+    ensures whole { result.whole ≡ true → Follows pass result.pass }
+{
+    let Ok((desk, told)) = Desk::new(site.alloc, listener, options.sessions) else {
+        let ended = Vec::new(site.alloc);
+        return Hosted {
+            pass,
+            ended,
+            whole: false,
+            memory: false,
+            worker: false,
+        };
+    };
+    let bell = Bell::new();
+    let crews = run_scope(site, &bell, &desk, pass, options);
+    let (ended, heard) = gather(site.rt, site.alloc, &told);
+    Hosted {
+        pass: crews.pass,
+        ended,
+        whole: crews.whole,
+        memory: !crews.told || !heard,
+        worker: !crews.worked,
+    }
+}
