@@ -3,10 +3,13 @@
 //!     base        a gate over the base setup, and what the tests ask of it
 //!     writes      what one pass finds of its own calls
 //!     turns       one turn through the gate
+//!     overlaps    two behaviours that run side by side
 #![tactic(auto)]
 
 #[cfg(test)]
 mod base;
+#[cfg(test)]
+mod overlaps;
 #[cfg(test)]
 mod turns;
 #[cfg(test)]

@@ -1,0 +1,11 @@
+use denote.Param.Send.{sendable}
+use Rattle.std.proofs.Crossing.{crosses}
+use Rattle.bl_gate.proofs.Crossing.{pass_send, gate_sync}
+use Rattle.bl_gate_tests.proofs.overlaps.HoldFirst.TheSendSync as holds
+use Rattle.bl_gate_tests.proofs.overlaps.work_until_two.Goals as goal
+
+pub join-passes-requires-send-F : goal.join-passes-requires-send-F
+join-passes-requires-send-F g c κs within = search (pass_send, gate_sync, holds.the_sync, crosses, sendable) depth 60 fits 20000
+
+pub join-passes-requires-send-A : goal.join-passes-requires-send-A
+join-passes-requires-send-A g c κs within = search (pass_send, crosses, sendable) depth 60 fits 20000
