@@ -3,6 +3,7 @@ use bl_replay::replay::replay;
 use bl_setup::reader::read_setup;
 use bl_setup::setup::Setup;
 use bl_trail::verdict::Verdict;
+use std::alloc::Global;
 use std::process::Abort;
 use std::test::Fail;
 
@@ -23,6 +24,11 @@ allow bob memo r w a\n\
 allow bob note r w\n\
 allow cat memo r\n\
 allow root note r w\n";
+
+/// The base setup; none where a growth is refused.
+pub fn base_or_none(alloc: Global) -> Option<Setup> {
+    read_setup(alloc, BASE.as_bytes()).ok()
+}
 
 /// Asserts the verdict on a text over a setup.
 fn assert_verdict<R: AllocGlobal + Abort>(

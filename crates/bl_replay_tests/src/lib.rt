@@ -2,9 +2,12 @@
 //!
 //!     base     the setup of the worked examples, and verdicts over it
 //!     trails   the worked examples of replays
+//!     memory   what is answered where a growth is refused
 #![tactic(auto)]
 
 #[cfg(test)]
 mod base;
+#[cfg(test)]
+mod memory;
 #[cfg(test)]
 mod trails;

@@ -3,7 +3,7 @@ use bl_session::alone::serve_alone;
 use bl_setup::reader::read_setup;
 use bl_setup::setup::Setup;
 use bl_wire::watched::Watched;
-use std::alloc::Global;
+use std::alloc::{AllocError, Global};
 use std::process::Abort;
 use std::test::Fail;
 
@@ -32,7 +32,7 @@ allow cat memo r\n\
 allow root note r w\n";
 
 /// The bytes of some texts, one behind the other.
-pub fn joined(alloc: Global, texts: &[&str]) -> Result<Vec<u8>, Fail> {
+pub fn joined(alloc: Global, texts: &[&str]) -> Result<Vec<u8>, AllocError> {
     let mut bytes = Vec::new(alloc);
     for text in texts {
         bytes.extend_from_slice(text.as_bytes())?;
@@ -49,6 +49,12 @@ pub fn setup_with(alloc: Global, note: &str) -> Result<Setup, Fail> {
 /// The base setup.
 pub fn base(alloc: Global) -> Result<Setup, Fail> {
     setup_with(alloc, "n1")
+}
+
+/// The base setup; none where a growth is refused.
+pub fn base_or_none(alloc: Global) -> Option<Setup> {
+    let text = joined(alloc, [BEFORE_NOTE, "n1", BEHIND_NOTE].as_slice()).ok()?;
+    read_setup(alloc, &text).ok()
 }
 
 /// Serves the input over a setup. The bytes that were written, and how many were left unread.

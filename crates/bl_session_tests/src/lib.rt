@@ -12,6 +12,7 @@
 //!     limits       long input
 //!     ends         readers and writers that fail
 //!     flushes      that replies are flushed before a read that may wait, and together
+//!     memory       what is answered where a growth is refused
 #![tactic(auto)]
 
 #[cfg(test)]
@@ -32,6 +33,8 @@ mod flushes;
 mod greetings;
 #[cfg(test)]
 mod limits;
+#[cfg(test)]
+mod memory;
 #[cfg(test)]
 mod refusals;
 #[cfg(test)]
