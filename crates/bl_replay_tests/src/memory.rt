@@ -5,6 +5,7 @@ use bl_setup::setup::Setup;
 use bl_trail::verdict::Verdict;
 use bl_trail::verdict::Verdict::{Accepted, Rejected};
 use std::alloc::{AllocGlobal, Global};
+use std::io::Print;
 use std::process::Abort;
 use std::test::Fail;
 
@@ -38,11 +39,18 @@ line 0 2 when read memo do show memo;end\nstart 1 run\nstop\n",
     ),
 ];
 
-/// Asserts that the answer to a text is this verdict or want of memory.
-fn assert_no_other<R: AllocGlobal + Abort>(rt: &R, setup: &Setup, text: &str, verdict: Verdict) {
+/// Asserts that the answer to a text is this verdict or want of memory, and says the latter.
+fn assert_no_other<R: AllocGlobal + Abort + Print>(
+    rt: &R,
+    setup: &Setup,
+    text: &str,
+    verdict: Verdict,
+) {
     match replay(rt.alloc(), setup, text.as_bytes()) {
         Ok(said) => assert_eq!(rt; said, verdict),
-        Err(_) => {}
+        Err(_) => {
+            let _ = println!(rt; "want of memory");
+        }
     }
 }
 
@@ -51,7 +59,8 @@ fn verdicts_with_ample_memory(rt: HostRuntime) -> Result<(), Fail> {
     assert_verdicts(&rt, CASES.as_slice())
 }
 
-/// It passes with ample memory, and with any one of its growths refused, one in each run (`rt try --test --fail-alloc N`).
+/// It passes with ample memory, and with any one of its growths refused, one in each run (`bench/growths`, or `rt try --test
+/// --fail-alloc N`): of a growth of a replay it says want of memory.
 #[test]
 fn a_refused_growth_gives_no_other_verdict(rt: HostRuntime) {
     if let Some(setup) = base_or_none(rt.alloc()) {

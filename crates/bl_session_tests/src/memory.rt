@@ -4,6 +4,7 @@ use bl_session::alone::serve_alone;
 use bl_wire::fault::SessionFault;
 use bl_wire::watched::Watched;
 use std::alloc::Global;
+use std::io::Print;
 use std::test::Fail;
 
 /// A session of two blocks and five entries: two readers, a child of the second, a line that adds to the memo, and one that shows what
@@ -22,12 +23,27 @@ const WHOLE: &str = "ok\n\
 
 /// What is written to it where just one entry is lost, for each entry. A lost parent has no child, and what is lost has added nothing;
 /// each other reply is as where nothing is lost.
-const ONE_LOST: [&str; 5] = [
-    "ok\n1 lost\n2 done \"n1\"\n2.1 done \"m1\"\nok\n3 done\n4 done \"m1a\"\nbye\n",
-    "ok\n1 done \"m1\"\n2 lost\nok\n3 done\n4 done \"m1a\"\nbye\n",
-    "ok\n1 done \"m1\"\n2 done \"n1\"\n2.1 lost\nok\n3 done\n4 done \"m1a\"\nbye\n",
-    "ok\n1 done \"m1\"\n2 done \"n1\"\n2.1 done \"m1\"\nok\n3 lost\n4 done \"m1\"\nbye\n",
-    "ok\n1 done \"m1\"\n2 done \"n1\"\n2.1 done \"m1\"\nok\n3 done\n4 lost\nbye\n",
+const ONE_LOST: [(&str, &str); 5] = [
+    (
+        "1 lost",
+        "ok\n1 lost\n2 done \"n1\"\n2.1 done \"m1\"\nok\n3 done\n4 done \"m1a\"\nbye\n",
+    ),
+    (
+        "2 lost",
+        "ok\n1 done \"m1\"\n2 lost\nok\n3 done\n4 done \"m1a\"\nbye\n",
+    ),
+    (
+        "2.1 lost",
+        "ok\n1 done \"m1\"\n2 done \"n1\"\n2.1 lost\nok\n3 done\n4 done \"m1a\"\nbye\n",
+    ),
+    (
+        "3 lost",
+        "ok\n1 done \"m1\"\n2 done \"n1\"\n2.1 done \"m1\"\nok\n3 lost\n4 done \"m1\"\nbye\n",
+    ),
+    (
+        "4 lost",
+        "ok\n1 done \"m1\"\n2 done \"n1\"\n2.1 done \"m1\"\nok\n3 done\n4 lost\nbye\n",
+    ),
 ];
 
 /// How a session ended, and what it wrote.
@@ -50,16 +66,35 @@ fn serve(alloc: Global) -> Option<Ended> {
     })
 }
 
-/// Whether the session ended in want of memory, after a first part of what it writes where nothing is lost.
-fn is_starved(ended: &Ended) -> bool {
-    ended.result == Err(SessionFault::Memory) && WHOLE.as_bytes().starts_with(&ended.written)
+/// Which one entry is lost, where the session wrote what it has to then.
+fn lost_in(written: &[u8]) -> Option<&'static str> {
+    for (lost, text) in ONE_LOST {
+        if written == text.as_bytes() {
+            return Some(lost);
+        }
+    }
+    None
 }
 
-/// Whether the session ended well, and at most one entry is lost.
-fn is_served(ended: &Ended) -> bool {
+/// What became of the session: it is whole, it ended in want of memory behind a first part of what it has to write, or just one entry is
+/// lost. Nothing where it is none of these.
+fn came_of(ended: &Ended) -> Option<&'static str> {
     let written = ended.written.as_slice();
-    ended.result == Ok(())
-        && (written == WHOLE.as_bytes() || ONE_LOST.iter().any(|text| written == text.as_bytes()))
+    match ended.result {
+        Ok(()) if written == WHOLE.as_bytes() => Some(""),
+        Ok(()) => lost_in(written),
+        Err(SessionFault::Memory) if WHOLE.as_bytes().starts_with(written) => {
+            Some("want of memory")
+        }
+        Err(_) => None,
+    }
+}
+
+/// Says what became of a session that is not whole.
+fn say(rt: &impl Print, came: &str) {
+    if !came.is_empty() {
+        let _ = println!(rt; "{came}");
+    }
 }
 
 #[test]
@@ -67,10 +102,14 @@ fn nothing_is_lost_with_ample_memory(rt: HostRuntime) -> Result<(), Fail> {
     assert_said(&rt, INPUT, WHOLE)
 }
 
-/// It passes with ample memory, and with any one of its growths refused, one in each run (`rt try --test --fail-alloc N`).
+/// It passes with ample memory, and with any one of its growths refused, one in each run (`bench/growths`, or `rt try --test
+/// --fail-alloc N`), and says which entry that one lost.
 #[test]
 fn a_refused_growth_ends_the_session_or_loses_one_entry(rt: HostRuntime) {
     if let Some(ended) = serve(rt.alloc()) {
-        assert!(rt; is_starved(&ended) || is_served(&ended));
+        match came_of(&ended) {
+            Some(came) => say(&rt, came),
+            None => panic!(rt; "another end"),
+        }
     }
 }
