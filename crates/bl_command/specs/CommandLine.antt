@@ -26,10 +26,52 @@ alone_app = with_rule (with_rule (new_app (codes "alone")) setup_rule) limit_rul
 abbrev pub trail_rule : Rule
 trail_rule = record (new_rule (codes "trail")) { long = Some (codes "trail"); required = true; action = Some Set }
 
+-- `--port` has to be given, a number from 1 to 65,535
+abbrev pub port_rule : Rule
+port_rule = record (new_rule (codes "port")) {
+  long = Some (codes "port");
+  required = true;
+  action = Some Set;
+  parser = Some (Signed (pos 1) (pos 65535));
+}
+
+-- `--workers` takes a number from 1 to 16, and without it the number is 2
+abbrev pub workers_rule : Rule
+workers_rule = record (new_rule (codes "workers")) {
+  long = Some (codes "workers");
+  action = Some Set;
+  parser = Some (Signed (pos 1) (pos 16));
+  defaults = codes "2" ∷ [];
+}
+
+-- `--session-threads` takes a number from 1 to 16, and without it the number is 2
+abbrev pub threads_rule : Rule
+threads_rule = record (new_rule (codes "session-threads")) {
+  long = Some (codes "session-threads");
+  action = Some Set;
+  parser = Some (Signed (pos 1) (pos 16));
+  defaults = codes "2" ∷ [];
+}
+
+-- `--sessions` takes a number from 1 to 1,000, and without it the number is 1
+abbrev pub sessions_rule : Rule
+sessions_rule = record (new_rule (codes "sessions")) {
+  long = Some (codes "sessions");
+  action = Some Set;
+  parser = Some (Signed (pos 1) (pos 1000));
+  defaults = codes "1" ∷ [];
+}
+
+-- the command `serve` has a setup, a port and a trail, and may have the numbers of workers, threads and sessions, and a limit
+abbrev pub serve_app : App
+serve_app =
+    with_rule (with_rule (with_rule (with_rule (with_rule (with_rule (with_rule (new_app (codes "serve")) setup_rule) port_rule) trail_rule) workers_rule) threads_rule) sessions_rule) limit_rule
+
 -- the command `replay` has a setup and a trail
 abbrev pub replay_app : App
 replay_app = with_rule (with_rule (new_app (codes "replay")) setup_rule) trail_rule
 
--- own choice: a command has to be given, `alone` or `replay`; the program has a version
+-- own choice: a command has to be given, `alone`, `serve` or `replay`; the program has a version
 abbrev pub server_app : App
-server_app = with_subcommand (with_subcommand (on_top (λ s. record s { has_version = true; subcommand_required = true }) (new_app (codes "bl_server"))) alone_app.top) replay_app.top
+server_app =
+    with_subcommand (with_subcommand (with_subcommand (on_top (λ s. record s { has_version = true; subcommand_required = true }) (new_app (codes "bl_server"))) alone_app.top) serve_app.top) replay_app.top

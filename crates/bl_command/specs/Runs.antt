@@ -1,62 +1,23 @@
 -- How a run of a command ends.
-use Rattle.std.specs.Prelude.{◌≡◌, ◌⊎◌, ℕ, false, List, [], ◌∷◌, ◌++◌, Result, Ok, Err}
-use Rattle.std.specs.Io.KnownBytes.{Keeps, Appends}
-use Rattle.bl_setup.specs.Setup as setups
-use Rattle.bl_setup.specs.Grammar.{IsSetup}
-use Rattle.bl_wire.specs.Watch.{Use}
-use Rattle.bl_session.specs.Outcome.{IsServed}
+use Rattle.std.specs.Prelude.{ℕ, List, Result, Ok, Err}
+use Rattle.std.specs.Io.KnownBytes.{Keeps}
+use Rattle.bl_run.specs.declared.fault.ProgramFault.{ProgramFault}
+use Rattle.bl_run.specs.declared.fault.ProgramFault.TheVariants.{CannotListen}
+use Rattle.bl_run.specs.Runs.{HasTold, IsReplayOn, IsRun, Run}
 use Rattle.bl_command.specs.declared.command.Command.{Command}
-use Rattle.bl_command.specs.declared.command.Command.TheVariants.{Alone, Replay}
-use Rattle.bl_command.specs.declared.fault.ProgramFault.{ProgramFault}
-use Rattle.bl_command.specs.Failure.{HasFailed, IsNotRead}
-use Rattle.bl_command.specs.Message.{message_of}
-use Rattle.bl_command.specs.Replays.{HasReplayed, IsCut}
-use Rattle.bl_command.specs.Status.{status_of}
+use Rattle.bl_command.specs.declared.command.Command.TheVariants.{Alone, Serve, Replay}
 use Rattle.bl_command.specs.declared.run.Files.{Files}
-
--- the status of a run, and what it did to its input, its output and standard error
-pub record Run : Type 0 where
-  pub status : ℕ
-  pub input : Use
-  pub output : Use
-  pub errors : Use
-
--- the session was served under the setup of these bytes and this limit, and nothing was said
-pub record HasServed (setup : List ℕ) (limit : ℕ) (run : Run) : Type 0 where
-  pub status_is : run.status ≡ 0
-  pub begun : setups.Setup
-  pub is : IsSetup setup begun
-  pub served : IsServed begun limit run.input run.output
-  pub quiet : Keeps run.errors.before run.errors.after
-
--- the status is that of this fault, which alone was said, unless standard error failed
-pub record HasTold (fault : ProgramFault) (status : ℕ) (errors : Use) : Type 0 where
-  pub status_is : status ≡ status_of fault
-  pub said : errors.failed ≡ false → Appends errors.before errors.after (message_of fault ++ 10 ∷ [])
-
--- the session was served, or the run ended with a fault and told it
-abbrev pub IsRun : List ℕ → ℕ → Run → Type 0
-IsRun setup limit run =
-    HasServed setup limit run ⊎ ((fault : ProgramFault) × HasTold fault run.status run.errors × HasFailed setup limit fault run.input run.output)
-
--- no verdict was told: the setup is none, or the verdict was cut
-abbrev pub HasNoVerdict : List ℕ → List ℕ → ProgramFault → Use → Type 0
-HasNoVerdict setup trail fault output = IsNotRead setup fault output ⊎ IsCut setup trail fault output
-
--- the verdict was told, and nothing was said; or the run ended with a fault of the setup, of memory or of the output, and told it
-abbrev pub IsReplayOn : List ℕ → List ℕ → ℕ → Use → Use → Type 0
-IsReplayOn setup trail status output errors =
-    (HasReplayed setup trail status output × Keeps errors.before errors.after)
-    ⊎ ((fault : ProgramFault) × HasTold fault status errors × HasNoVerdict setup trail fault output)
 
 -- a replay reads nothing of its input
 pub record IsReplay (setup trail : List ℕ) (run : Run) : Type 0 where
   pub ends : IsReplayOn setup trail run.status run.output run.errors
   pub unread : Keeps run.input.before run.input.after
 
--- a run of this command, after its files had these bytes
+-- a run of this command, after its files had these bytes; without a listener nothing can be served over TCP
 abbrev pub IsRunOf : Command → Files → Run → Type 0
 IsRunOf (Alone path limit) files run = IsRun files.setup.items limit run
+IsRunOf (Serve path limit hosting) files run =
+    HasTold CannotListen run.status run.errors × Keeps run.input.before run.input.after × Keeps run.output.before run.output.after
 IsRunOf (Replay path name) files run = IsReplay files.setup.items files.trail.items run
 
 -- a run of this command, where its files have these bytes, or could not be read for this fault

@@ -2,13 +2,29 @@
 ghost use Rattle.std.specs.Prelude.{◌≡◌, ◌≤◌, [], ◌∷◌, false, map, option_copied, string_bytes, IfOk, IfErr, OnOk, IfSome};
 ghost use Rattle.clap.specs.Words.{kind_of, rule_of, app_of, HasKind};
 ghost use Rattle.clap.specs.declared.builder.command.Command.TheViews.{out-Command as fields_of};
-ghost use Rattle.bl_command.specs.CommandLine.{setup_rule, limit_rule, trail_rule, alone_app, replay_app, server_app};
-ghost use Rattle.bl_command.specs.Status.{status_for, IsStatus};
-ghost use Rattle.bl_command.specs.Words.{IsInRange, HasNumber, IsOf, Name, faults_of, setup_of, read_trail_of};
+ghost use Rattle.bl_command.specs.CommandLine.{setup_rule, limit_rule, trail_rule, port_rule, workers_rule, threads_rule, sessions_rule, alone_app, serve_app, replay_app, server_app};
+ghost use Rattle.bl_run.specs.Status.{IsStatus};
+ghost use Rattle.bl_command.specs.Status.{status_for};
+ghost use Rattle.bl_command.specs.Words.{HasHosting, HasNumber, IsHostingInRange, IsInRange, IsOf, Name, faults_of, setup_of, read_trail_of};
 
 use clap::error::ErrorKind;
 use clap::{Arg, ArgAction, ArgMatches, Command as Parser, Error, value_parser};
 use std::alloc::{AllocError, Global};
+
+/// What a run of `serve` hosts, and where it keeps the trail.
+#[derive(Clone, Copy, Debug)]
+pub struct Hosting<'a> {
+    /// The port that is listened on, 1 to 65,535.
+    pub port: u32,
+    /// The name of the trail file.
+    pub trail: &'a str,
+    /// How many workers there are, 1 to 16.
+    pub workers: u32,
+    /// How many session threads there are, 1 to 16.
+    pub session_threads: u32,
+    /// How many sessions are taken, 1 to 1,000.
+    pub sessions: u32,
+}
 
 /// A command of the program, with its options.
 #[derive(Debug, Drop)]
@@ -19,6 +35,15 @@ pub enum Command<'a> {
         setup: &'a str,
         /// The weight of the lines that are admitted at most, 1 to 100,000.
         limit: u32,
+    },
+    /// Sessions over TCP on 127.0.0.1.
+    Serve {
+        /// The name of the setup file.
+        setup: &'a str,
+        /// The weight of the lines that are admitted at most, 1 to 100,000.
+        limit: u32,
+        /// What is hosted.
+        hosting: Hosting<'a>,
     },
     /// A replay of the trail of a run, over the setup that the run began with.
     Replay {
@@ -31,6 +56,15 @@ pub enum Command<'a> {
 
 /// The weight of the lines that may be admitted in one run, at most.
 const MOST_LIMIT: u32 = 100_000;
+
+/// The greatest port.
+const MOST_PORT: u32 = 65_535;
+
+/// How many threads of one kind there are at most.
+const MOST_THREADS: u32 = 16;
+
+/// How many sessions are taken in one run at most.
+const MOST_SESSIONS: u32 = 1000;
 
 fn setup_option<'a>(alloc: Global) -> Arg<'a>
     ensures rule { rule_of result ≡ setup_rule }
@@ -66,6 +100,54 @@ fn trail_option<'a>(alloc: Global) -> Arg<'a>
         .help("The trail file")
 }
 
+fn port_option<'a>(alloc: Global) -> Arg<'a>
+    ensures rule { rule_of result ≡ port_rule }
+    ensures own { result.global ≡ false }
+{
+    Arg::new(alloc, "port")
+        .long("port")
+        .required(true)
+        .action(ArgAction::Set)
+        .value_parser(value_parser!(u32).range(1..=65_535))
+        .help("The port that is listened on, 1 to 65535")
+}
+
+fn workers_option<'a>(alloc: Global) -> Arg<'a>
+    ensures rule { rule_of result ≡ workers_rule }
+    ensures own { result.global ≡ false }
+{
+    Arg::new(alloc, "workers")
+        .long("workers")
+        .action(ArgAction::Set)
+        .value_parser(value_parser!(u32).range(1..=16))
+        .default_value("2")
+        .help("How many workers there are, 1 to 16")
+}
+
+fn threads_option<'a>(alloc: Global) -> Arg<'a>
+    ensures rule { rule_of result ≡ threads_rule }
+    ensures own { result.global ≡ false }
+{
+    Arg::new(alloc, "session-threads")
+        .long("session-threads")
+        .action(ArgAction::Set)
+        .value_parser(value_parser!(u32).range(1..=16))
+        .default_value("2")
+        .help("How many threads serve sessions, 1 to 16")
+}
+
+fn sessions_option<'a>(alloc: Global) -> Arg<'a>
+    ensures rule { rule_of result ≡ sessions_rule }
+    ensures own { result.global ≡ false }
+{
+    Arg::new(alloc, "sessions")
+        .long("sessions")
+        .action(ArgAction::Set)
+        .value_parser(value_parser!(u32).range(1..=1000))
+        .default_value("1")
+        .help("How many sessions are taken, 1 to 1000")
+}
+
 fn alone_parser<'a>(alloc: Global) -> Result<Parser<'a>, AllocError>
     ensures app { IfOk result (λ parser. app_of parser ≡ alone_app) }
     ensures own { IfOk result (λ parser. (fields_of parser).has_globals ≡ false) }
@@ -73,6 +155,21 @@ fn alone_parser<'a>(alloc: Global) -> Result<Parser<'a>, AllocError>
     Parser::new(alloc, "alone")
         .about("One session on standard input and output")
         .arg(setup_option(alloc))?
+        .arg(limit_option(alloc))
+}
+
+fn serve_parser<'a>(alloc: Global) -> Result<Parser<'a>, AllocError>
+    ensures app { IfOk result (λ parser. app_of parser ≡ serve_app) }
+    ensures own { IfOk result (λ parser. (fields_of parser).has_globals ≡ false) }
+{
+    Parser::new(alloc, "serve")
+        .about("Sessions over TCP on 127.0.0.1")
+        .arg(setup_option(alloc))?
+        .arg(port_option(alloc))?
+        .arg(trail_option(alloc))?
+        .arg(workers_option(alloc))?
+        .arg(threads_option(alloc))?
+        .arg(sessions_option(alloc))?
         .arg(limit_option(alloc))
 }
 
@@ -94,6 +191,7 @@ fn parser<'a>(alloc: Global) -> Result<Parser<'a>, AllocError>
         .about("A document server that enforces Bell and La Padula")
         .subcommand_required(true)
         .subcommand(alone_parser(alloc)?)?
+        .subcommand(serve_parser(alloc)?)?
         .subcommand(replay_parser(alloc)?)
 }
 
@@ -109,6 +207,25 @@ fn number(found: &ArgMatches<'_>, name: &str, most: u32) -> Option<u32>
     Some(number)
 }
 
+/// What the options of `serve` say of its sessions and its trail.
+fn hosting_of<'a>(options: &ArgMatches<'a>) -> Option<Hosting<'a>>
+    ensures range { IfSome result IsHostingInRange }
+    ensures written { IfSome result (HasHosting options.now) }
+{
+    let port = number(options, "port", MOST_PORT)?;
+    let trail = options.get_str("trail")?;
+    let workers = number(options, "workers", MOST_THREADS)?;
+    let session_threads = number(options, "session-threads", MOST_THREADS)?;
+    let sessions = number(options, "sessions", MOST_SESSIONS)?;
+    Some(Hosting {
+        port,
+        trail,
+        workers,
+        session_threads,
+        sessions,
+    })
+}
+
 /// The command that the matches name, where they are matches of `parser`.
 fn command_of<'a>(found: &ArgMatches<'a>) -> Option<Command<'a>>
     ensures range { IfSome result IsInRange }
@@ -120,6 +237,16 @@ fn command_of<'a>(found: &ArgMatches<'a>) -> Option<Command<'a>>
             let setup = options.get_str("setup")?;
             let limit = number(options, "limit", MOST_LIMIT)?;
             Some(Command::Alone { setup, limit })
+        }
+        "serve" => {
+            let setup = options.get_str("setup")?;
+            let limit = number(options, "limit", MOST_LIMIT)?;
+            let hosting = hosting_of(options)?;
+            Some(Command::Serve {
+                setup,
+                limit,
+                hosting,
+            })
         }
         "replay" => {
             let setup = options.get_str("setup")?;
@@ -136,7 +263,9 @@ impl<'a> Command<'a> {
         ensures { result.now ≡ setup_of self.now }
     {
         match self {
-            Command::Alone { setup, .. } | Command::Replay { setup, .. } => setup,
+            Command::Alone { setup, .. }
+            | Command::Serve { setup, .. }
+            | Command::Replay { setup, .. } => setup,
         }
     }
 
@@ -145,7 +274,7 @@ impl<'a> Command<'a> {
         ensures { option_copied result ≡ read_trail_of self.now }
     {
         match self {
-            Command::Alone { .. } => None,
+            Command::Alone { .. } | Command::Serve { .. } => None,
             Command::Replay { trail, .. } => Some(trail),
         }
     }

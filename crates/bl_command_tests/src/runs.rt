@@ -1,8 +1,10 @@
 //! What the program says, and the status that it ends with.
 use bl_command::command::read_words;
-use bl_command::fault::{ProgramFault, of_file, of_setup};
-use bl_command::run::{Files, alone_on, replay_on, run_asked, run_unread};
+use bl_command::run::{Files, run_asked, run_unread};
 use bl_command::shell::{read_most, read_within};
+use bl_run::alone::alone_on;
+use bl_run::fault::{ProgramFault, of_file, of_setup};
+use bl_run::replay::replay_on;
 use bl_setup::fault::{SetupFault, SetupFaultKind};
 use bl_wire::watched::Watched;
 use std::alloc::Global;

@@ -17,7 +17,7 @@ fn name_alone(alloc: Global, text: &str, most: u32) -> Result<bool, Fail> {
     let given = words(alloc, text)?;
     Ok(match read_words(alloc, given.as_slice()) {
         Ok(Command::Alone { setup, limit }) => setup == "base.txt" && limit == most,
-        Ok(Command::Replay { .. }) | Err(_) => false,
+        Ok(Command::Serve { .. }) | Ok(Command::Replay { .. }) | Err(_) => false,
     })
 }
 

@@ -1,7 +1,7 @@
 use Rattle.std.proofs.Common.{rules, ◌≡◌, ℕ, List, subst}
 use Rattle.std.proofs.KnownBytes.{Keeps-refl}
 use Rattle.bl_wire.specs.Watch.{Use, used}
-use Rattle.bl_command.specs.Runs.{IsReplayOn}
+use Rattle.bl_run.specs.Runs.{IsReplayOn}
 use Rattle.bl_command.proofs.run.run_over.Goals as goal
 
 -- a replay over the same bytes

@@ -1,0 +1,6 @@
+pub mod Status
+pub mod Failure
+pub mod Message
+pub mod Replays
+pub mod Runs
+pub mod Serving

@@ -1,0 +1,42 @@
+-- What a replay tells.
+use Rattle.std.specs.Prelude.{◌≡◌, ◌⊎◌, ℕ, true, List, [], ◌∷◌, ◌++◌, codes, decimal, take}
+use Rattle.std.specs.Io.KnownBytes.{Appends, Keeps}
+use Rattle.bl_setup.specs.Setup as setups
+use Rattle.bl_setup.specs.Grammar.{IsSetup}
+use Rattle.bl_trail.specs.Follow.{IsVerdict}
+use Rattle.bl_trail.specs.declared.verdict.Verdict.{Verdict}
+use Rattle.bl_trail.specs.declared.verdict.Verdict.TheVariants.{Accepted, Rejected}
+use Rattle.bl_wire.specs.Watch.{Use}
+use Rattle.bl_run.specs.Status.{status_by}
+use Rattle.bl_run.specs.declared.fault.ProgramFault.{ProgramFault}
+use Rattle.bl_run.specs.declared.fault.ProgramFault.TheVariants.{Write, NoMemory}
+
+-- own choice: the words for a verdict
+abbrev pub verdict_text : Verdict → List ℕ
+verdict_text (Accepted count) = codes "accepted " ++ decimal count
+verdict_text (Rejected number) = codes "rejected " ++ decimal number
+
+-- own choice: a verdict is told on a line of its own
+abbrev pub verdict_line : Verdict → List ℕ
+verdict_line verdict = verdict_text verdict ++ 10 ∷ []
+
+-- the setup is one, and this is the verdict on the trail over it
+pub record IsJudged (setup trail : List ℕ) (verdict : Verdict) : Type 0 where
+  pub begun : setups.Setup
+  pub is : IsSetup setup begun
+  pub judged : IsVerdict begun trail verdict
+
+-- the verdict was told
+pub record HasReplayed (setup trail : List ℕ) (status : ℕ) (output : Use) : Type 0 where
+  pub verdict : Verdict
+  pub judged : IsJudged setup trail verdict
+  pub status_is : status ≡ status_by verdict
+  pub told : Appends output.before output.after (verdict_line verdict)
+
+-- the verdict was not told whole: the setup is one, and a growth was refused before anything was told, or the output failed
+pub record IsCut (setup trail : List ℕ) (fault : ProgramFault) (output : Use) : Type 0 where
+  pub begun : setups.Setup
+  pub is : IsSetup setup begun
+  pub why : ((fault ≡ NoMemory) × Keeps output.before output.after)
+      ⊎ ((fault ≡ Write) × (output.failed ≡ true)
+      × ((verdict : Verdict) × IsVerdict begun trail verdict × ((n : ℕ) × Appends output.before output.after (take n (verdict_line verdict)))))

@@ -1,0 +1,152 @@
+//! What the program says on standard error, and the status that it then ends with.
+ghost use Rattle.std.specs.Prelude.{◌≡◌, ◌≢◌, ◌⊎◌};
+ghost use Rattle.std.specs.IoError.{error_kind};
+ghost use Rattle.bl_run.specs.Message.{words_of};
+ghost use Rattle.bl_run.specs.Failure.{IsOfSetup, IsOfSession};
+ghost use Rattle.bl_run.specs.Status.{status_of};
+ghost use Rattle.bl_wire.specs.declared.fault.SessionFault.TheVariants as failing;
+
+use bl_setup::fault::{SetupFault, SetupFaultKind};
+use bl_wire::fault::SessionFault;
+use std::io::ErrorKind;
+use std::{fmt, io};
+use thiserror::Error;
+
+/// A fault that ends a run. Its display is what the run says of it on standard error.
+#[derive(Debug, PartialEq, Eq, Drop, Error)]
+pub enum ProgramFault {
+    /// The setup file cannot be opened or read.
+    CannotReadSetup,
+    /// The text of the setup file is no setup.
+    Setup {
+        /// The line at fault, from 1; line 0 stands for the file as a whole.
+        line: u32,
+        /// The words for what is wrong with it.
+        kind: &'static str,
+    },
+    /// The trail file cannot be opened or read, or has more bytes than one may have.
+    CannotReadTrail,
+    /// The trail file cannot be written, or cannot be moved to its name.
+    CannotWriteTrail,
+    /// The port cannot be listened on.
+    CannotListen,
+    /// The session's input failed.
+    Read,
+    /// The output failed.
+    Write,
+    /// The session's input has more bytes than a session may read.
+    TooLong,
+    /// A worker failed.
+    Worker,
+    /// A growth was refused.
+    NoMemory,
+}
+
+impl fmt::Display for ProgramFault {
+    ghost use Rattle.std.specs.Prelude.{Some};
+    ghost use Rattle.bl_run.specs.Message.{message_of};
+
+    ghost output = { λ fault. Some (message_of fault) };
+
+    fn fmt<W: fmt::Write>(&self, f: &mut fmt::Formatter<W>) -> fmt::Result {
+        match self {
+            ProgramFault::Setup { line, kind } => write!(f, "setup {line}: {kind}"),
+            ProgramFault::CannotReadSetup
+            | ProgramFault::CannotReadTrail
+            | ProgramFault::CannotWriteTrail
+            | ProgramFault::CannotListen
+            | ProgramFault::Read
+            | ProgramFault::Write
+            | ProgramFault::TooLong
+            | ProgramFault::Worker
+            | ProgramFault::NoMemory => {
+                let words = self.words();
+                write!(f, "{words}")
+            }
+        }
+    }
+}
+
+impl ProgramFault {
+    /// The words for the fault; of a setup's those for what is wrong with its line.
+    pub fn words(&self) -> &'static str
+        ensures { result.now ≡ words_of self.now }
+    {
+        match self {
+            ProgramFault::CannotReadSetup => "cannot read setup",
+            ProgramFault::Setup { kind, .. } => kind,
+            ProgramFault::CannotReadTrail => "cannot read trail",
+            ProgramFault::CannotWriteTrail => "cannot write trail",
+            ProgramFault::CannotListen => "cannot listen",
+            ProgramFault::Read => "read fault",
+            ProgramFault::Write => "write fault",
+            ProgramFault::TooLong => "too long",
+            ProgramFault::Worker => "worker fault",
+            ProgramFault::NoMemory => "no memory",
+        }
+    }
+
+    /// The status that a run ends with: 4 for want of memory, and 3 for anything else.
+    pub fn status(&self) -> u8
+        ensures status { result ≡ status_of self.now }
+        ensures range { (result ≡ 3) ⊎ (result ≡ 4) }
+    {
+        match self {
+            ProgramFault::NoMemory => 4,
+            ProgramFault::CannotReadSetup
+            | ProgramFault::Setup { .. }
+            | ProgramFault::CannotReadTrail
+            | ProgramFault::CannotWriteTrail
+            | ProgramFault::CannotListen
+            | ProgramFault::Read
+            | ProgramFault::Write
+            | ProgramFault::TooLong
+            | ProgramFault::Worker => 3,
+        }
+    }
+}
+
+/// What a fault of the setup file is to the program: want of memory is `NoMemory`, and any other
+/// fault is told with its line and the words for its kind.
+pub fn of_setup(fault: SetupFault) -> ProgramFault
+    ensures { IsOfSetup fault result }
+{
+    let kind = match fault.kind {
+        SetupFaultKind::Syntax => "syntax",
+        SetupFaultKind::Unknown => "unknown",
+        SetupFaultKind::Repeated => "repeated",
+        SetupFaultKind::CurrentAboveGreatest => "current above greatest",
+        SetupFaultKind::TooMany => "too many",
+        SetupFaultKind::Memory => return ProgramFault::NoMemory,
+    };
+    ProgramFault::Setup {
+        line: fault.line,
+        kind,
+    }
+}
+
+/// What a fault of a session with one worker is to the program, which never answers `Clash`.
+pub fn of_session(fault: SessionFault) -> ProgramFault
+    requires { fault ≢ failing.Clash }
+    ensures { IsOfSession fault result }
+{
+    match fault {
+        SessionFault::Read => ProgramFault::Read,
+        SessionFault::Write => ProgramFault::Write,
+        SessionFault::TooLong => ProgramFault::TooLong,
+        SessionFault::Memory => ProgramFault::NoMemory,
+        SessionFault::Clash => unreachable!(),
+    }
+}
+
+/// What a failure to read or to write a file is to the program: want of memory, or `other`.
+pub fn of_file(error: &io::Error, other: ProgramFault) -> ProgramFault
+    ensures memory { error_kind error.now ≡ ErrorKind.OutOfMemory → result ≡ ProgramFault.NoMemory }
+    ensures other { error_kind error.now ≢ ErrorKind.OutOfMemory → result ≡ other }
+{
+    if error.kind() == ErrorKind::OutOfMemory {
+        ProgramFault::NoMemory
+    } else {
+        other
+    }
+}

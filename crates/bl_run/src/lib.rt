@@ -1,0 +1,16 @@
+//! The runs of the program's commands over the ends that they are given, with what they say and the status that each ends with.
+//!
+//!     fault      what ends a run, with its words and its status
+//!     told       what a run says on standard error
+//!     alone      one session on an input and an output
+//!     replay     the verdict on a trail
+//!     keep       keeps a trail in a file
+//!     serve      sessions over TCP
+#![tactic(auto)]
+
+pub mod alone;
+pub mod fault;
+pub mod keep;
+pub mod replay;
+pub mod serve;
+pub mod told;

@@ -1,0 +1,88 @@
+//! A run of `serve` with clients beside it.
+use bl_host::options::Options;
+use bl_run::serve::{Ground, ServeRun, serve_on};
+use bl_wire::watched::Watched;
+use bl_worker::pause::Pause;
+use std::alloc::Global;
+use std::io;
+use std::io::{Read, Write};
+use std::net::{Ipv4Addr, Net, Shutdown, SocketAddr, TcpListener, TcpStream};
+use std::rt::Files;
+use std::sync::Wait;
+use std::thread::Threads;
+
+/// The setup of the worked examples.
+pub(crate) const BASE: &[u8] = b"ranks u c s t\ncategories nato crypto\n\
+    subject ann greatest s{nato} current s{nato}\n\
+    subject bob greatest s{nato} current u\n\
+    subject cat greatest s{crypto} current s{crypto}\n\
+    subject root greatest t{nato,crypto} current u trusted admin\n\
+    document memo s{nato} \"m1\"\n\
+    document note u \"n1\"\n\
+    document log t{nato,crypto} \"\"\n\
+    allow ann memo r w\nallow ann note r w\nallow ann log r a\n\
+    allow bob memo r w a\nallow bob note r w\nallow cat memo r\nallow root note r w\n";
+
+/// A listener at some free port of this machine, and where it is.
+pub(crate) fn listen<R: Net<Listener = TcpListener, Stream = TcpStream>>(
+    rt: &R,
+) -> io::Result<(TcpListener, SocketAddr)> {
+    let listener = TcpListener::bind(rt, (Ipv4Addr::LOCALHOST, 0))?;
+    let at = listener.local_addr()?;
+    Ok((listener, at))
+}
+
+/// What a client hears who sends these lines and ends its input.
+pub(crate) fn converse<R: Net<Listener = TcpListener, Stream = TcpStream>>(
+    rt: &R,
+    alloc: Global,
+    at: SocketAddr,
+    lines: &[u8],
+) -> io::Result<Vec<u8>> {
+    let mut stream = TcpStream::connect(rt, at)?;
+    stream.write_all(lines)?;
+    stream.shutdown(Shutdown::Write)?;
+    let mut heard = Vec::new(alloc);
+    stream.read_to_end(&mut heard)?;
+    Ok(heard)
+}
+
+/// How a run of `serve` ended: its status, what it told and what it said of faults.
+#[derive(Drop)]
+pub(crate) struct Served {
+    pub(crate) status: u8,
+    pub(crate) told: Vec<u8>,
+    pub(crate) said: Vec<u8>,
+}
+
+/// A run of `serve` over the base setup.
+pub(crate) fn serve<P: Pause + Sync, R: Threads + Wait + Files + Sync>(
+    rt: &R,
+    alloc: Global,
+    listener: TcpListener,
+    run: &ServeRun<'_>,
+    pause: &P,
+) -> Served {
+    let ground = Ground { rt, alloc, pause };
+    let mut writer = Watched::new(Vec::new(alloc));
+    let mut errors = Watched::new(Vec::new(alloc));
+    let status = serve_on(&ground, listener, BASE, run, &mut writer, &mut errors);
+    Served {
+        status,
+        told: writer.into_inner(),
+        said: errors.into_inner(),
+    }
+}
+
+/// A run of two workers and two session threads.
+pub(crate) fn two_of_each(sessions: u32, trail: &str) -> ServeRun<'_> {
+    ServeRun {
+        limit: 10_000,
+        options: Options {
+            workers: 2,
+            session_threads: 2,
+            sessions,
+        },
+        trail,
+    }
+}

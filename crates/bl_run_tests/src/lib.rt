@@ -1,0 +1,13 @@
+//! The tests of `bl_run` and `bl_host`: sessions over TCP.
+//!
+//!     base        a run of `serve` with clients beside it
+//!     overlaps    two sessions that run side by side
+//!     ends        sessions that end early, and trails that cannot be kept
+#![tactic(auto)]
+
+#[cfg(test)]
+mod base;
+#[cfg(test)]
+mod ends;
+#[cfg(test)]
+mod overlaps;

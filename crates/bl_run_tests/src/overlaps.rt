@@ -1,0 +1,111 @@
+//! Two sessions that run side by side.
+use super::base::{BASE, converse, listen, serve, two_of_each};
+use bl_run::replay::replay_on;
+use bl_wire::watched::Watched;
+use bl_worker::pause::Pause;
+use std::alloc::Global;
+use std::net::{Net, SocketAddr, TcpListener, TcpStream};
+use std::sync::Wait;
+use std::sync::atomic::{AtomicU64, Ordering};
+use std::thread::Threads;
+use std::{fs, thread};
+
+/// The most turns for which something is held.
+const MOST_TURNS: u32 = 20_000_000;
+
+/// The lines of each client; the last has no line end.
+const LINES: &[u8] = b"hello ann\nwhen read note do show note; end";
+
+/// What each client hears.
+const REPLIES: &[u8] = b"ok\n1 done \"n1\"\nbye\n";
+
+/// Holds the first behaviour that runs until a client has read `bye`, and notes whether that came.
+#[derive(Drop)]
+struct HoldFirst {
+    begun: AtomicU64,
+    heard: AtomicU64,
+    held: AtomicU64,
+}
+
+impl HoldFirst {
+    fn new() -> HoldFirst {
+        HoldFirst {
+            begun: AtomicU64::new(0),
+            heard: AtomicU64::new(0),
+            held: AtomicU64::new(0),
+        }
+    }
+}
+
+impl Pause for HoldFirst {
+    fn between(&self, n: u32) {
+        let _ = n;
+        if self.begun.fetch_add(1, Ordering::SeqCst) > 0 {
+            return;
+        }
+        for _ in 0..MOST_TURNS {
+            if self.heard.load(Ordering::SeqCst) > 0 {
+                self.held.store(1, Ordering::SeqCst);
+                return;
+            }
+            thread::yield_now();
+        }
+    }
+}
+
+/// A client, who tells once it has read all; whether it heard what it should.
+fn visit<R: Net<Listener = TcpListener, Stream = TcpStream>>(
+    rt: &R,
+    alloc: Global,
+    at: SocketAddr,
+    hold: &HoldFirst,
+) -> bool {
+    let Ok(heard) = converse(rt, alloc, at, LINES) else {
+        return false;
+    };
+    hold.heard.fetch_add(1, Ordering::SeqCst);
+    heard.as_slice() == REPLIES
+}
+
+/// Two clients side by side; whether both heard what they should.
+fn visit_both<R: Threads + Net<Listener = TcpListener, Stream = TcpStream> + Sync>(
+    rt: &R,
+    alloc: Global,
+    at: SocketAddr,
+    hold: &HoldFirst,
+) -> bool {
+    let (one, two) = thread::join(
+        rt,
+        move || visit(rt, alloc, at, hold),
+        move || visit(rt, alloc, at, hold),
+    );
+    one && two
+}
+
+/// Two workers, two session threads and two sessions: the first behaviour that runs is held until the other session's client has read `bye`.
+#[test]
+fn tcp_overlap(rt: HostRuntime) {
+    let alloc = rt.alloc();
+    let Ok((listener, at)) = listen(&rt) else {
+        panic!(rt; "no port");
+    };
+    let hold = HoldFirst::new();
+    let run = two_of_each(2, "overlap.trail");
+    let (handle, held) = (&rt, &hold);
+    let (both, served) = thread::join(
+        handle,
+        move || visit_both(handle, alloc, at, held),
+        || serve(handle, alloc, listener, &run, held),
+    );
+    assert!(rt; both);
+    assert!(rt; hold.held.load(Ordering::SeqCst) == 1);
+    assert_eq!(rt; served.status, 0);
+    assert!(rt; served.told.as_slice() == b"listening\n".as_slice());
+    assert!(rt; served.said.is_empty());
+    let trail = fs::read(&rt, alloc, "overlap.trail").expect(&rt, "the trail is kept");
+    let mut verdict = Watched::new(Vec::new(alloc));
+    let mut errors = Watched::new(Vec::new(alloc));
+    let status = replay_on(alloc, BASE, trail.as_slice(), &mut verdict, &mut errors);
+    assert_eq!(rt; status, 0);
+    assert!(rt; verdict.into_inner().as_slice() == b"accepted 8\n".as_slice());
+}
