@@ -62,16 +62,26 @@ sessions_rule = record (new_rule (codes "sessions")) {
   defaults = codes "1" ∷ [];
 }
 
--- the command `serve` has a setup, a port and a trail, and may have the numbers of workers, threads and sessions, and a limit
+-- the command `serve` has a setup, a port and a trail
+abbrev pub places_app : App
+places_app = with_rule (with_rule (with_rule (new_app (codes "serve")) setup_rule) port_rule) trail_rule
+
+-- and it may have the numbers of workers and of session threads
+abbrev pub crews_app : App
+crews_app = with_rule (with_rule places_app workers_rule) threads_rule
+
+-- and the number of sessions, and a limit
 abbrev pub serve_app : App
-serve_app =
-    with_rule (with_rule (with_rule (with_rule (with_rule (with_rule (with_rule (new_app (codes "serve")) setup_rule) port_rule) trail_rule) workers_rule) threads_rule) sessions_rule) limit_rule
+serve_app = with_rule (with_rule crews_app sessions_rule) limit_rule
 
 -- the command `replay` has a setup and a trail
 abbrev pub replay_app : App
 replay_app = with_rule (with_rule (new_app (codes "replay")) setup_rule) trail_rule
 
--- own choice: a command has to be given, `alone`, `serve` or `replay`; the program has a version
+-- own choice: a command has to be given, and the program has a version
+abbrev pub root_app : App
+root_app = with_subcommand (on_top (λ s. record s { has_version = true; subcommand_required = true }) (new_app (codes "bl_server"))) alone_app.top
+
+-- own choice: the commands are `alone`, `serve` and `replay`
 abbrev pub server_app : App
-server_app =
-    with_subcommand (with_subcommand (with_subcommand (on_top (λ s. record s { has_version = true; subcommand_required = true }) (new_app (codes "bl_server"))) alone_app.top) serve_app.top) replay_app.top
+server_app = with_subcommand (with_subcommand root_app serve_app.top) replay_app.top

@@ -2,7 +2,7 @@
 ghost use Rattle.std.specs.Prelude.{◌≡◌, ◌≤◌, [], ◌∷◌, false, map, option_copied, string_bytes, IfOk, IfErr, OnOk, IfSome};
 ghost use Rattle.clap.specs.Words.{kind_of, rule_of, app_of, HasKind};
 ghost use Rattle.clap.specs.declared.builder.command.Command.TheViews.{out-Command as fields_of};
-ghost use Rattle.bl_command.specs.CommandLine.{setup_rule, limit_rule, trail_rule, port_rule, workers_rule, threads_rule, sessions_rule, alone_app, serve_app, replay_app, server_app};
+ghost use Rattle.bl_command.specs.CommandLine.{setup_rule, limit_rule, trail_rule, port_rule, workers_rule, threads_rule, sessions_rule, alone_app, places_app, crews_app, serve_app, replay_app, root_app, server_app};
 ghost use Rattle.bl_run.specs.Status.{IsStatus};
 ghost use Rattle.bl_command.specs.Status.{status_for};
 ghost use Rattle.bl_command.specs.Words.{HasHosting, HasNumber, IsHostingInRange, IsInRange, IsOf, Name, faults_of, setup_of, read_trail_of};
@@ -158,17 +158,33 @@ fn alone_parser<'a>(alloc: Global) -> Result<Parser<'a>, AllocError>
         .arg(limit_option(alloc))
 }
 
-fn serve_parser<'a>(alloc: Global) -> Result<Parser<'a>, AllocError>
-    ensures app { IfOk result (λ parser. app_of parser ≡ serve_app) }
+/// The command `serve`, with what it has to be given.
+fn places_parser<'a>(alloc: Global) -> Result<Parser<'a>, AllocError>
+    ensures app { IfOk result (λ parser. app_of parser ≡ places_app) }
     ensures own { IfOk result (λ parser. (fields_of parser).has_globals ≡ false) }
 {
     Parser::new(alloc, "serve")
         .about("Sessions over TCP on 127.0.0.1")
         .arg(setup_option(alloc))?
         .arg(port_option(alloc))?
-        .arg(trail_option(alloc))?
+        .arg(trail_option(alloc))
+}
+
+/// The same, with the numbers of its threads.
+fn crews_parser<'a>(alloc: Global) -> Result<Parser<'a>, AllocError>
+    ensures app { IfOk result (λ parser. app_of parser ≡ crews_app) }
+    ensures own { IfOk result (λ parser. (fields_of parser).has_globals ≡ false) }
+{
+    places_parser(alloc)?
         .arg(workers_option(alloc))?
-        .arg(threads_option(alloc))?
+        .arg(threads_option(alloc))
+}
+
+fn serve_parser<'a>(alloc: Global) -> Result<Parser<'a>, AllocError>
+    ensures app { IfOk result (λ parser. app_of parser ≡ serve_app) }
+    ensures own { IfOk result (λ parser. (fields_of parser).has_globals ≡ false) }
+{
+    crews_parser(alloc)?
         .arg(sessions_option(alloc))?
         .arg(limit_option(alloc))
 }
@@ -183,14 +199,21 @@ fn replay_parser<'a>(alloc: Global) -> Result<Parser<'a>, AllocError>
         .arg(trail_option(alloc))
 }
 
-fn parser<'a>(alloc: Global) -> Result<Parser<'a>, AllocError>
-    ensures { IfOk result (λ parser. app_of parser ≡ server_app) }
+/// The program, with its first command.
+fn root_parser<'a>(alloc: Global) -> Result<Parser<'a>, AllocError>
+    ensures { IfOk result (λ parser. app_of parser ≡ root_app) }
 {
     Parser::new(alloc, "bl_server")
         .version("0.1.0")
         .about("A document server that enforces Bell and La Padula")
         .subcommand_required(true)
-        .subcommand(alone_parser(alloc)?)?
+        .subcommand(alone_parser(alloc)?)
+}
+
+fn parser<'a>(alloc: Global) -> Result<Parser<'a>, AllocError>
+    ensures { IfOk result (λ parser. app_of parser ≡ server_app) }
+{
+    root_parser(alloc)?
         .subcommand(serve_parser(alloc)?)?
         .subcommand(replay_parser(alloc)?)
 }

@@ -14,7 +14,7 @@ use bl_wire::watched::Watched;
 use bl_worker::pause::NoPause;
 use std::alloc::Global;
 use std::io::{BufReader, BufWriter, ErrorKind, Read, Write};
-use std::net::{Ipv4Addr, Net, TcpListener};
+use std::net::{Ipv4Addr, Net, TcpListener, TcpStream};
 use std::rt::{Env, Files as OpensFiles};
 use std::sync::Wait;
 use std::thread::Threads;
@@ -110,7 +110,10 @@ fn read_files<R: AllocGlobal + OpensFiles>(
 }
 
 /// A listener on a port of 127.0.0.1.
-fn listen<R: Net<Listener = TcpListener>>(rt: &R, port: u32) -> Result<TcpListener, ProgramFault>
+fn listen<R: Net<Listener = TcpListener, Stream = TcpStream>>(
+    rt: &R,
+    port: u32,
+) -> Result<TcpListener, ProgramFault>
     requires { port ≤ 65535 }
 {
     match TcpListener::bind(rt, (Ipv4Addr::LOCALHOST, port as u16)) {
@@ -120,7 +123,7 @@ fn listen<R: Net<Listener = TcpListener>>(rt: &R, port: u32) -> Result<TcpListen
 }
 
 /// What the command `serve` takes from the system before its setup is parsed: the bytes of the setup file, and the listener.
-fn read_and_listen<R: AllocGlobal + OpensFiles + Net<Listener = TcpListener>>(
+fn read_and_listen<R: AllocGlobal + OpensFiles + Net<Listener = TcpListener, Stream = TcpStream>>(
     rt: &R,
     path: &str,
     port: u32,
@@ -134,7 +137,13 @@ fn read_and_listen<R: AllocGlobal + OpensFiles + Net<Listener = TcpListener>>(
 
 /// A run of the command `serve`. The result is the status of the run.
 fn run_serve<
-    R: AllocGlobal + OpensFiles + Print + Threads + Wait + Net<Listener = TcpListener> + Sync,
+    R: AllocGlobal
+        + OpensFiles
+        + Print
+        + Threads
+        + Wait
+        + Net<Listener = TcpListener, Stream = TcpStream>
+        + Sync,
     E: Write,
 >(rt: &R, path: &str, limit: u32, hosting: Hosting<'_>, errors: &mut Watched<E>) -> u8
     requires limit { (1 ≤ limit) × (limit ≤ 100000) }
@@ -184,7 +193,7 @@ pub fn run<
         + Input
         + Threads
         + Wait
-        + Net<Listener = TcpListener>
+        + Net<Listener = TcpListener, Stream = TcpStream>
         + Sync,
 >(rt: &R) -> u8
     ensures { IsStatus result }
