@@ -1,0 +1,14 @@
+//! A session with one thread.
+use super::base::{READ_ONE, TOLD_ONE, admitted, opened, serve_over};
+use bl_hall::event::Event;
+
+/// The session opens, its line is admitted, starts and ends in the session's own thread, and it is told what the line shows.
+#[test]
+fn serves_a_session_through_a_gate(rt: HostRuntime) {
+    let ended = serve_over(&rt, READ_ONE, Vec::new(rt.alloc()));
+    assert!(rt; ended.result == Ok(()));
+    assert!(rt; !ended.read_failed && !ended.write_failed);
+    assert!(rt; ended.writer.as_slice() == TOLD_ONE);
+    let events = [opened(), admitted(), Event::Start(0), Event::End(0)];
+    assert!(rt; ended.hall.trail() == events.as_slice());
+}
