@@ -102,7 +102,7 @@ fn tcp_overlap(rt: HostRuntime) {
     assert_eq!(rt; served.status, 0);
     assert!(rt; served.told.as_slice() == b"listening\n".as_slice());
     assert!(rt; served.said.is_empty());
-    let trail = fs::read(&rt, alloc, "overlap.trail").expect(&rt, "the trail is kept");
+    let trail = fs::read(&rt, "overlap.trail").expect(&rt, "the trail is kept");
     let mut verdict = Watched::new(Vec::new(alloc));
     let mut errors = Watched::new(Vec::new(alloc));
     let status = replay_on(alloc, BASE, trail.as_slice(), &mut verdict, &mut errors);
