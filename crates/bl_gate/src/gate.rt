@@ -26,10 +26,30 @@ use std::alloc::Global;
 use std::marker::Model;
 use std::snapshot::Snapshot;
 use std::sync::Wait;
+use std::thread;
 use std::time::Duration;
 
 /// How long a call sleeps at most before it looks again whether its turn has come.
 const NAP_MICROS: u64 = 50;
+
+/// How often a call yields before it sleeps: about a millisecond where nobody else runs.
+const MOST_YIELDS: u32 = 2_000;
+
+/// How long a call has waited: how far it has spun, and how often it has yielded since.
+#[derive(Drop)]
+struct Patience {
+    backoff: Backoff,
+    yields: u32,
+}
+
+impl Patience {
+    fn new() -> Patience {
+        Patience {
+            backoff: Backoff::new(),
+            yields: 0,
+        }
+    }
+}
 
 /// A hall that many threads call, each with a pass of its own, in the order of their tickets: a call draws a ticket, waits until it is
 /// served, makes one call of the hall, and has the next ticket served. So all calls stand in one trail, and a pass knows what it has
@@ -97,15 +117,18 @@ impl Gate {
 
     /// Waits a moment where a word of the table is as it was found: at first it spins, then it yields, and then it sleeps in short
     /// steps.
-    fn rest<R: Wait>(&self, rt: &R, backoff: &Backoff, word: usize, found: u64)
+    fn rest<R: Wait>(&self, rt: &R, patience: &mut Patience, word: usize, found: u64)
         requires { word < self.now.id.words }
     {
-        if backoff.is_completed() {
+        if !patience.backoff.is_completed() {
+            patience.backoff.snooze();
+        } else if patience.yields < MOST_YIELDS {
+            patience.yields += 1;
+            thread::yield_now();
+        } else {
             let low = (found % (1 << 32)) as u32;
             let nap = Duration::from_micros(NAP_MICROS);
             self.table.shared.park_timeout(rt, word, low, nap);
-        } else {
-            backoff.snooze();
         }
     }
 
@@ -117,7 +140,7 @@ impl Gate {
         ensures drew { seat.new.me.0 ≡ drew seat.old.me.0 result }
     {
         let shared = &self.table.shared;
-        let backoff = Backoff::new();
+        let mut patience = Patience::new();
         for _ in rt.forever() {
             let drawn = shared.peek(0);
             if drawn < u64::MAX {
@@ -126,7 +149,7 @@ impl Gate {
                     return drawn;
                 }
             }
-            self.rest(rt, &backoff, 0, drawn);
+            self.rest(rt, &mut patience, 0, drawn);
         }
         unreachable!()
     }
@@ -144,13 +167,13 @@ impl Gate {
     {
         let ticket = self.draw(rt, seat);
         let shared = &self.table.shared;
-        let backoff = Backoff::new();
+        let mut patience = Patience::new();
         for _ in rt.forever() {
             let served = shared.load::<Look>(seat, 1);
             if served == ticket {
                 return shared.exchange(seat, 0, None).unwrap();
             }
-            self.rest(rt, &backoff, 1, served);
+            self.rest(rt, &mut patience, 1, served);
         }
         unreachable!()
     }
