@@ -143,6 +143,7 @@ pub fn of_session(fault: SessionFault) -> ProgramFault
 pub fn of_file(error: &io::Error, other: ProgramFault) -> ProgramFault
     ensures memory { error_kind error.now ≡ ErrorKind.OutOfMemory → result ≡ ProgramFault.NoMemory }
     ensures other { error_kind error.now ≢ ErrorKind.OutOfMemory → result ≡ other }
+    ensures either { (result ≡ other) ⊎ (result ≡ ProgramFault.NoMemory) }
 {
     if error.kind() == ErrorKind::OutOfMemory {
         ProgramFault::NoMemory

@@ -4,7 +4,7 @@ ghost use Rattle.std.specs.Io.KnownBytes.{Appends};
 ghost use Rattle.bl_audit.specs.Written.{trail_text};
 ghost use Rattle.bl_run.specs.Serving.{IsUnkept};
 
-use crate::fault::ProgramFault;
+use crate::fault::{ProgramFault, of_file};
 use bl_audit::trail::{TrailFault, write_trail};
 use bl_hall::hall::Hall;
 use bl_wire::watched::Watched;
@@ -22,7 +22,9 @@ fn part_name(alloc: Global, name: &str) -> Result<String, AllocError>
 
 /// What a fault of the trail's writer is to the program.
 fn of_trail(fault: TrailFault) -> ProgramFault
-    ensures { IsUnkept result }
+    ensures write { fault ≡ TrailFault.Write → result ≡ ProgramFault.CannotWriteTrail }
+    ensures memory { fault ≡ TrailFault.Memory → result ≡ ProgramFault.NoMemory }
+    ensures unkept { IsUnkept result }
 {
     match fault {
         TrailFault::Write => ProgramFault::CannotWriteTrail,
@@ -63,7 +65,7 @@ fn fill<R: Files>(
     drop(file);
     match fs::rename(rt, part, name) {
         Ok(()) => Ok(()),
-        Err(_) => Err(ProgramFault::CannotWriteTrail),
+        Err(error) => Err(of_file(&error, ProgramFault::CannotWriteTrail)),
     }
 }
 
@@ -82,8 +84,9 @@ pub fn write_kept<R: Files>(
         return Err(ProgramFault::NoMemory);
     };
     let part = part.as_str();
-    let Ok(file) = fs::create(rt, part) else {
-        return Err(ProgramFault::CannotWriteTrail);
+    let file = match fs::create(rt, part) {
+        Ok(file) => file,
+        Err(error) => return Err(of_file(&error, ProgramFault::CannotWriteTrail)),
     };
     let kept = fill(rt, alloc, hall, file, part, name);
     if kept.is_err() {
