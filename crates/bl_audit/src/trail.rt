@@ -4,7 +4,7 @@ ghost use Rattle.std.specs.List.{AllByRecursion};
 ghost use Rattle.std.specs.Io.KnownBytes.{Appends};
 ghost use Rattle.bl_order.specs.Machine.{start};
 ghost use Rattle.bl_trail.specs.Follow.{IsVerdict};
-ghost use Rattle.bl_trail.specs.TrueText.{HasNoLf, IsLimit, IsTrueText, event_texts, joined};
+ghost use Rattle.bl_trail.specs.TrueText.{HasNoLf, IsTrueText, event_texts, joined};
 ghost use Rattle.bl_trail.specs.declared.verdict.Verdict.{Verdict as AnyVerdict};
 ghost use Rattle.bl_trail.specs.declared.verdict.Verdict.TheVariants.{Accepted};
 ghost use Rattle.bl_audit.specs.Written.{AppendsPart, is_write, trail_text};
@@ -54,10 +54,9 @@ pub fn write_trail<W: Write>(
 ) -> Result<(), TrailFault>
     requires { writer.old.failed ≡ false }
     ensures text { OnOk result (Appends (W.contents writer.old.inner) (W.contents writer.new.inner) (trail_text hall.now.setup hall.now.limit hall.now.trail)) }
-    ensures true_text { OnOk result (IsLimit hall.now.limit
-        → IsTrueText hall.now.setup (trail_text hall.now.setup hall.now.limit hall.now.trail) (length hall.now.trail)) }
+    ensures true_text { OnOk result (IsTrueText hall.now.setup (trail_text hall.now.setup hall.now.limit hall.now.trail) (length hall.now.trail)) }
     // Whoever replays the text accepts it, with the number of the events.
-    ensures accepted { OnOk result (IsLimit hall.now.limit → (verdict : AnyVerdict)
+    ensures accepted { OnOk result ((verdict : AnyVerdict)
         → IsVerdict hall.now.setup (trail_text hall.now.setup hall.now.limit hall.now.trail) verdict → verdict ≡ Accepted (length hall.now.trail)) }
     ensures handed_on { OnOk result (writer.new.unflushed ≡ false) }
     ensures part { OnErr result (AppendsPart (W.contents writer.old.inner) (W.contents writer.new.inner) (trail_text hall.now.setup hall.now.limit hall.now.trail)) }

@@ -25,41 +25,24 @@ use crossbeam_utils::Backoff;
 use std::alloc::Global;
 use std::marker::Model;
 use std::snapshot::Snapshot;
-use std::sync::Wait;
-use std::thread;
+use std::sync::{Mutex, MutexGuard, Wait};
 use std::time::Duration;
 
 /// How long a call sleeps at most before it looks again whether its turn has come.
 const NAP_MICROS: u64 = 50;
 
-/// How often a call yields before it sleeps: about a millisecond where nobody else runs.
-const MOST_YIELDS: u32 = 2_000;
-
-/// How long a call has waited: how far it has spun, and how often it has yielded since.
-#[derive(Drop)]
-struct Patience {
-    backoff: Backoff,
-    yields: u32,
-}
-
-impl Patience {
-    fn new() -> Patience {
-        Patience {
-            backoff: Backoff::new(),
-            yields: 0,
-        }
-    }
-}
-
 /// A hall that many threads call, each with a pass of its own, in the order of their tickets: a call draws a ticket, waits until it is
 /// served, makes one call of the hall, and has the next ticket served. So all calls stand in one trail, and a pass knows what it has
 /// seen of it and which positions are its own.
 ///
-/// The calls that take a runtime may wait for another thread, and what is said of them holds if they return.
+/// The calls that take a runtime may wait for another thread, and what is said of them holds if they return. They wait in the lobby, one
+/// after another, so that who draws a ticket is served at once; nothing that is proved rests on the lobby.
 #[derive(Drop)]
 pub struct Gate {
     table: Table<Option<Hall>, View, Snapshot<Hall>, InTurn, Global>,
     names: Names,
+    /// Taken by who makes a call. Those who wait for it sleep.
+    lobby: Mutex<()>,
 }
 
 impl Model for Gate {
@@ -100,7 +83,15 @@ impl Gate {
         let about = Snapshot::of(&hall);
         slots.push_reserved(Some(hall));
         match Table::new(alloc, &[0, 0], slots, &about) {
-            Ok((table, seat)) => Ok((Gate { table, names }, Pass { seat, parts: PARTS })),
+            Ok((table, seat)) => {
+                let lobby = Mutex::new(());
+                let gate = Gate {
+                    table,
+                    names,
+                    lobby,
+                };
+                Ok((gate, Pass { seat, parts: PARTS }))
+            }
             Err(NoTable { mut slots }) => {
                 let hall = slots.pop().unwrap().unwrap();
                 Err(NoGate { hall })
@@ -115,16 +106,28 @@ impl Gate {
         &self.names
     }
 
+    /// Waits until nobody else makes a call: at first it spins, then it yields, and then it sleeps.
+    fn come_in<R: Wait>(&self, rt: &R) -> MutexGuard<'_, ()> {
+        let backoff = Backoff::new();
+        for _ in rt.forever() {
+            if let Some(alone) = self.lobby.try_lock() {
+                return alone;
+            }
+            if backoff.is_completed() {
+                break;
+            }
+            backoff.snooze();
+        }
+        self.lobby.lock(rt)
+    }
+
     /// Waits a moment where a word of the table is as it was found: at first it spins, then it yields, and then it sleeps in short
     /// steps.
-    fn rest<R: Wait>(&self, rt: &R, patience: &mut Patience, word: usize, found: u64)
+    fn rest<R: Wait>(&self, rt: &R, backoff: &Backoff, word: usize, found: u64)
         requires { word < self.now.id.words }
     {
-        if !patience.backoff.is_completed() {
-            patience.backoff.snooze();
-        } else if patience.yields < MOST_YIELDS {
-            patience.yields += 1;
-            thread::yield_now();
+        if !backoff.is_completed() {
+            backoff.snooze();
         } else {
             let low = (found % (1 << 32)) as u32;
             let nap = Duration::from_micros(NAP_MICROS);
@@ -140,7 +143,7 @@ impl Gate {
         ensures drew { seat.new.me.0 ≡ drew seat.old.me.0 result }
     {
         let shared = &self.table.shared;
-        let mut patience = Patience::new();
+        let backoff = Backoff::new();
         for _ in rt.forever() {
             let drawn = shared.peek(0);
             if drawn < u64::MAX {
@@ -149,7 +152,7 @@ impl Gate {
                     return drawn;
                 }
             }
-            self.rest(rt, &mut patience, 0, drawn);
+            self.rest(rt, &backoff, 0, drawn);
         }
         unreachable!()
     }
@@ -167,13 +170,13 @@ impl Gate {
     {
         let ticket = self.draw(rt, seat);
         let shared = &self.table.shared;
-        let mut patience = Patience::new();
+        let backoff = Backoff::new();
         for _ in rt.forever() {
             let served = shared.load::<Look>(seat, 1);
             if served == ticket {
                 return shared.exchange(seat, 0, None).unwrap();
             }
-            self.rest(rt, &mut patience, 1, served);
+            self.rest(rt, &backoff, 1, served);
         }
         unreachable!()
     }
@@ -205,6 +208,7 @@ impl Gate {
         ensures ok { IfOk result (λ session. Calls pass.old (Opens subject) (λ x. session ≡ length x.sessions) pass.new) }
         ensures err { IfErr result (λ refused. (pass.new.own ≡ pass.old.own) × IsNotOpened (state_seen pass.new) subject refused) }
     {
+        let _alone = self.come_in(rt);
         let mut hall = self.enter(rt, &mut pass.seat);
         let answer = hall.open(subject);
         self.leave(&mut pass.seat, hall);
@@ -228,6 +232,7 @@ impl Gate {
         ensures err { IfErr result (λ refused. (pass.new.own ≡ pass.old.own) × IsCause (state_seen pass.new) session ordinal work refused.cause) }
         ensures back { IfErr result (λ refused. refused.work ≡ work) }
     {
+        let _alone = self.come_in(rt);
         let mut hall = self.enter(rt, &mut pass.seat);
         let answer = hall.line(session, ordinal, work);
         self.leave(&mut pass.seat, hall);
@@ -246,6 +251,7 @@ impl Gate {
         ensures entry { IfOk result (IsOf n) }
         ensures starved { IfErr result (IsStarvedBy n) }
     {
+        let _alone = self.come_in(rt);
         let mut hall = self.enter(rt, &mut pass.seat);
         let answer = hall.start(n);
         self.leave(&mut pass.seat, hall);
@@ -262,6 +268,7 @@ impl Gate {
         ensures err { OnErr result ((pass.new.own ≡ pass.old.own) × (¬ IsLentBy (state_seen pass.new) done)) }
         ensures back { IfErr result (λ foreign. foreign ≡ done) }
     {
+        let _alone = self.come_in(rt);
         let mut hall = self.enter(rt, &mut pass.seat);
         let answer = hall.finish(done);
         self.leave(&mut pass.seat, hall);
@@ -278,6 +285,7 @@ impl Gate {
         ensures err { OnErr result ((pass.new.own ≡ pass.old.own) × (¬ IsLentBy (state_seen pass.new) unrun)) }
         ensures back { IfErr result (λ foreign. foreign ≡ unrun) }
     {
+        let _alone = self.come_in(rt);
         let mut hall = self.enter(rt, &mut pass.seat);
         let answer = hall.lose(unrun);
         self.leave(&mut pass.seat, hall);
@@ -298,6 +306,7 @@ impl Gate {
         ensures ok { OnOk result (Calls pass.old (Loses starved) (λ x. MayStart x starved) pass.new) }
         ensures err { OnErr result ((pass.new.own ≡ pass.old.own) × (¬ MayStart (state_seen pass.new) starved)) }
     {
+        let _alone = self.come_in(rt);
         let mut hall = self.enter(rt, &mut pass.seat);
         let answer = hall.lose_ready(starved);
         self.leave(&mut pass.seat, hall);
@@ -313,6 +322,7 @@ impl Gate {
         ensures some { IfSome result (λ n. MayStart (state_seen pass.new) n) }
         ensures none { IsNone result → (n : ℕ) → ¬ MayStart (state_seen pass.new) n }
     {
+        let _alone = self.come_in(rt);
         let hall = self.enter(rt, &mut pass.seat);
         let answer = hall.ready();
         self.leave(&mut pass.seat, hall);
@@ -338,6 +348,7 @@ impl Gate {
         ensures replies { IfOk result (λ found. IfSome found (λ replies. AreAnswers (state_seen pass.new) session after (map reply_of replies.items))) }
         ensures fault { IfErr result (λ fault. IsUnanswered (state_seen pass.new) session fault) }
     {
+        let _alone = self.come_in(rt);
         let hall = self.enter(rt, &mut pass.seat);
         let answer = hall.answers(session, after);
         self.leave(&mut pass.seat, hall);
@@ -386,7 +397,11 @@ impl Gate {
         ensures own { (p : ℕ) → times p pass.own ≡ within (length pass.base.trail) (length result.trail) p }
     {
         let Pass { seat, parts: _ } = pass;
-        let Gate { table, names: _ } = self;
+        let Gate {
+            table,
+            names: _,
+            lobby: _,
+        } = self;
         let mut closed = table.close_with(seat);
         let hall = closed.take(0).unwrap();
         closed.free();

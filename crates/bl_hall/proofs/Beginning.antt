@@ -20,6 +20,7 @@ pub record Begun (d : Inside) (setup : Setup) (limit : ℕ) : Type 0 where
   pub events : d.events.items ≡ []
   pub links : d.links.items ≡ []
   pub tallies : d.tallies.items ≡ []
+  pub some : 1 ≤ limit
   pub small : limit ≤ 100000
   pub events_room : most_sessions + 3 * limit ≤ vec_capacity d.events
   pub links_room : limit ≤ vec_capacity d.links
@@ -53,6 +54,7 @@ begun-kept d setup limit b = record {
   tallies =
       subst (λ (y : State). AreTallies y d.links.items d.tallies.items) (sym b.core)
       (subst (λ l. AreTallies (start setup limit) l d.tallies.items) (sym b.links) (subst (AreTallies (start setup limit) []) (sym b.tallies) (no-tallies setup limit)));
+  some = let same : d.core.limit ≡ limit = ap (λ (y : State). y.limit) b.core in omega (arith, same, b.some);
   limited = let same : d.core.limit ≡ limit = ap (λ (y : State). y.limit) b.core in omega (arith, same, b.small);
   opened = let none : length d.core.sessions ≡ 0 = ap (λ (y : State). length y.sessions) b.core in omega (arith, none);
   happened = let none : length d.events.items ≡ 0 = ap length b.events in omega (arith, none);

@@ -60,6 +60,7 @@ kept-next h d e k needs next links tallies = record {
       ∙ sym (length-append (works_of h.core.order) (new_works e)) ∙ ap length (sym (works-change h.core e)) ∙ ap (λ (x : State). length (works_of x.order)) (sym next.core);
   links = subst (λ (x : State). AreLinks x.order d.links.items) (sym next.core) links;
   tallies = subst (λ (x : State). AreTallies x d.links.items d.tallies.items) (sym next.core) tallies;
+  some = let same : d.core.limit ≡ h.core.limit = ap (λ (x : State). x.limit) next.core ∙ same-limit h.core e in omega (arith, same, k.some);
   limited = let same : d.core.limit ≡ h.core.limit = ap (λ (x : State). x.limit) next.core ∙ same-limit h.core e in omega (arith, same, k.limited);
   opened = subst (λ (x : State). length x.sessions ≤ most_sessions) (sym next.core) (sessions-next h.core e needs k.opened);
   happened =

@@ -34,6 +34,7 @@ pub record Keeps (h : Inside) : Type 0 where
   pub lines : lines_in h.events.items ≡ length (works_of h.core.order)
   pub links : AreLinks h.core.order h.links.items
   pub tallies : AreTallies h.core h.links.items h.tallies.items
+  pub some : 1 ≤ h.core.limit
   pub limited : h.core.limit ≤ 100000
   pub opened : length h.core.sessions ≤ most_sessions
   pub happened : length h.events.items ≤ most_events h.core

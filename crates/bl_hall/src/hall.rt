@@ -337,6 +337,7 @@ impl Hall {
     pub fn core(&self) -> &Core
         ensures value { result.now ≡ state_now self.now }
         ensures trail { HasTrail self.now }
+        ensures limit { (1 ≤ self.now.limit) × (self.now.limit ≤ 100000) }
     {
         &self.core
     }

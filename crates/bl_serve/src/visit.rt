@@ -17,11 +17,15 @@ use bl_wire::watched::Watched;
 use bl_work::work::Work;
 use bl_worker::bell::Bell;
 use bl_worker::pause::Pause;
-use bl_worker::turn::{Turn, work_once};
+use bl_worker::turn::{Turn, WorkFault, work_on, work_once};
 use std::alloc::{AllocError, Global};
 use std::io::Write;
 use std::snapshot::Snapshot;
 use std::sync::Wait;
+
+/// After so many lines of a block, and so many turns in a block, a session's thread calls for workers: to wake one takes as long as some
+/// tens of short lines.
+const MANY: usize = 100;
 
 /// What stays while a session is served: the gate, the bell that is rung where there may be work, what its turns do between a start and
 /// an end, and what its pass was at first.
@@ -35,13 +39,13 @@ pub struct Visitor<'a, P, T> {
     pub first: Snapshot<Pass>,
 }
 
-/// The pass, the session once it is open, whether a line of the block was admitted, what was told of the session, and the ordinal up
+/// The pass, the session once it is open, the entries of the block's lines, what was told of the session, and the ordinal up
 /// to which.
 #[derive(Drop)]
 pub struct Visit {
     pub pass: Pass,
     pub session: Option<SessionNo>,
-    pub open: bool,
+    pub asked: Vec<u32>,
     pub told: Vec<Reply>,
     pub upto: u32,
 }
@@ -60,7 +64,7 @@ impl Visit {
         Visit {
             pass,
             session: None,
-            open: false,
+            asked: Vec::new(alloc),
             told: Vec::new(alloc),
             upto: 0,
         }
@@ -68,29 +72,20 @@ impl Visit {
 }
 
 impl<'a, P: Pause, T: Wait> Visitor<'a, P, T> {
-    /// Tells the others of what is new. Workers are woken only where more may be ready than this session's thread runs itself.
-    fn tell(&self, more: bool) {
-        if more {
-            self.bell.ring(self.rt);
-        } else {
-            self.bell.ring_end(self.rt);
+    /// Calls for workers where a session's thread has so much to do that it is worth waking them.
+    fn call_workers(&self, count: usize) {
+        if count % MANY == 0 {
+            self.bell.ring_work(self.rt);
         }
     }
 
-    /// Takes one turn, or where nothing is ready waits at the bell, unless it was rung since it was looked at. Says whether more may be
-    /// ready: whether this turn was done, or one before it.
-    fn help(&self, pass: &mut Pass, seen: u64, more: bool) -> Result<bool, AllocError>
-        requires { pass.old.gate ≡ self.now.gate.now.id }
-        ensures { Follows pass.old pass.new }
-    {
-        match work_once(self.rt, self.alloc, self.gate, pass, self.pause) {
-            Ok(Turn::Idle) => {
-                self.bell.wait_end(self.rt, seen);
-                Ok(false)
-            }
-            Ok(Turn::Missed(_)) => Ok(more),
+    /// Tells those who wait for an entry to end of a turn that ended one, and says whether something was ready.
+    fn tell(&self, turn: Result<Turn, WorkFault>) -> Result<bool, AllocError> {
+        match turn {
+            Ok(Turn::Idle) => Ok(false),
+            Ok(Turn::Missed(_)) => Ok(true),
             Ok(Turn::Denied(_) | Turn::Done(_) | Turn::Lost(_)) => {
-                self.tell(more);
+                self.bell.ring_end(self.rt);
                 Ok(true)
             }
             // a gate refuses nothing that it lent; what is promised here does not rest on that yet
@@ -98,7 +93,23 @@ impl<'a, P: Pause, T: Wait> Visitor<'a, P, T> {
         }
     }
 
-    /// The replies to the session's lines above an ordinal. It takes turns until they are there.
+    /// Takes a turn with each of these entries that may start.
+    fn run(&self, pass: &mut Pass, entries: &[u32]) -> Result<(), AllocError>
+        requires { pass.old.gate ≡ self.now.gate.now.id }
+        ensures { Follows pass.old pass.new }
+    {
+        let mut count = 0usize;
+        for n in entries {
+            let turn = work_on(self.rt, self.alloc, self.gate, pass, self.pause, *n);
+            self.tell(turn)?;
+            count = count.saturating_add(1);
+            self.call_workers(count);
+        }
+        Ok(())
+    }
+
+    /// The replies to the session's lines above an ordinal. It takes turns until they are there, and waits at the bell for an entry to
+    /// end where nothing is ready.
     fn hear(
         &self,
         pass: &mut Pass,
@@ -108,12 +119,16 @@ impl<'a, P: Pause, T: Wait> Visitor<'a, P, T> {
         requires { pass.old.gate ≡ self.now.gate.now.id }
         ensures { Follows pass.old pass.new }
     {
-        let mut more = false;
         for _ in self.rt.forever() {
-            let seen = self.bell.rings();
+            let seen = self.bell.ends();
             match self.gate.answers(self.rt, pass, session, after) {
                 Ok(Some(replies)) => return Ok(replies),
-                Ok(None) => more = self.help(pass, seen, more)?,
+                Ok(None) => {
+                    let turn = work_once(self.rt, self.alloc, self.gate, pass, self.pause);
+                    if !self.tell(turn)? {
+                        self.bell.wait_end(self.rt, seen);
+                    }
+                }
                 Err(_) => return Err(AllocError),
             }
         }
@@ -162,13 +177,14 @@ impl<'a, P: Pause, T: Wait> Behind for Visitor<'a, P, T> {
         let Some(session) = state.session else {
             return Ok(Asking::Clash);
         };
+        state.asked.reserve(1)?;
         match self
             .gate
             .line(self.rt, &mut state.pass, session, ordinal, work)
         {
-            Ok(_) => {
-                self.tell(state.open);
-                state.open = true;
+            Ok(n) => {
+                state.asked.push_reserved(n);
+                self.call_workers(state.asked.len());
                 Ok(Asking::Taken)
             }
             Err(refused) => match refused.cause {
@@ -182,6 +198,7 @@ impl<'a, P: Pause, T: Wait> Behind for Visitor<'a, P, T> {
         let Some(session) = state.session else {
             return Err(AllocError);
         };
+        self.run(&mut state.pass, &state.asked)?;
         let mut replies = self.hear(&mut state.pass, session, after)?;
         if !are_told(self.gate.names(), after, ordinal, &replies) {
             return Err(AllocError);
@@ -189,7 +206,7 @@ impl<'a, P: Pause, T: Wait> Behind for Visitor<'a, P, T> {
         let next = state.told.len();
         state.told.append(&mut replies)?;
         state.upto = ordinal;
-        state.open = false;
+        state.asked.clear();
         Ok(Page { next })
     }
 

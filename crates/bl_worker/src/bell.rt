@@ -2,9 +2,10 @@
 use std::sync::atomic::{AtomicBool, AtomicU64, Ordering};
 use std::sync::{Condvar, Mutex, Wait};
 
-/// Threads that wait for the same: whether some may, and how they are woken.
+/// Threads that wait for the same: how often it came, whether some may wait, and how they are woken.
 #[derive(Drop)]
 struct Bench {
+    rings: AtomicU64,
     /// It is set before a thread sleeps, and taken back by the ring that wakes it.
     taken: AtomicBool,
     rung: Condvar,
@@ -13,26 +14,45 @@ struct Bench {
 impl Bench {
     fn new() -> Bench {
         Bench {
+            rings: AtomicU64::new(0),
             taken: AtomicBool::new(false),
             rung: Condvar::new(),
         }
     }
 
-    /// Wakes all that wait here. Where nobody does it makes no call of the system.
-    fn wake<R: Wait>(&self, rt: &R, closed: &Mutex<bool>) {
+    fn rings(&self) -> u64 {
+        self.rings.load(Ordering::SeqCst)
+    }
+
+    /// Rings, and wakes all that wait here. Where nobody does it makes no call of the system.
+    fn ring<R: Wait>(&self, rt: &R, closed: &Mutex<bool>) {
+        self.rings.fetch_add(1, Ordering::SeqCst);
         if self.taken.load(Ordering::SeqCst) {
             let _closed = closed.lock(rt);
             self.taken.store(false, Ordering::SeqCst);
             self.rung.notify_all();
         }
     }
+
+    /// Waits until the count of rings is not `seen` or the bell is closed, and says whether it is closed.
+    fn wait<R: Wait>(&self, rt: &R, closed: &Mutex<bool>, seen: u64) -> bool {
+        let mut closed = closed.lock(rt);
+        for _ in rt.forever() {
+            self.taken.store(true, Ordering::SeqCst);
+            if *closed || self.rings() != seen {
+                return *closed;
+            }
+            closed = self.rung.wait(rt, closed);
+        }
+        unreachable!()
+    }
 }
 
-/// A bell that is rung where there may be something to do. Who waits reads `rings` before it looks for work, so that it misses no
-/// ring. Threads wait for work, or for an entry to end; whom a ring wakes, and when, is not proved.
+/// A bell that is rung where there is something new: for workers, that they are called to work, and for who waits for replies, that an
+/// entry has ended. Who waits reads the count of rings before it looks, so that it misses no ring. Whom a ring wakes, and when, is not
+/// proved.
 #[derive(Drop)]
 pub struct Bell {
-    rings: AtomicU64,
     closed: Mutex<bool>,
     work: Bench,
     ends: Bench,
@@ -42,56 +62,46 @@ impl Bell {
     /// A bell that was not rung.
     pub fn new() -> Bell {
         Bell {
-            rings: AtomicU64::new(0),
             closed: Mutex::new(false),
             work: Bench::new(),
             ends: Bench::new(),
         }
     }
 
-    /// How often it was rung; the count wraps.
-    pub fn rings(&self) -> u64 {
-        self.rings.load(Ordering::SeqCst)
+    /// How often workers were called; the count wraps.
+    pub fn calls(&self) -> u64 {
+        self.work.rings()
     }
 
-    /// Rings, and wakes all that wait. Where nobody waits it makes no call of the system.
-    pub fn ring<R: Wait>(&self, rt: &R) {
-        self.rings.fetch_add(1, Ordering::SeqCst);
-        self.work.wake(rt, &self.closed);
-        self.ends.wake(rt, &self.closed);
+    /// How often an entry has ended; the count wraps.
+    pub fn ends(&self) -> u64 {
+        self.ends.rings()
     }
 
-    /// Rings since an entry has ended, and wakes those that wait for that. Who waits for work is not woken.
+    /// Calls workers to work. Where none waits it makes no call of the system.
+    pub fn ring_work<R: Wait>(&self, rt: &R) {
+        self.work.ring(rt, &self.closed);
+    }
+
+    /// Rings since an entry has ended. Where nobody waits for that it makes no call of the system.
     pub fn ring_end<R: Wait>(&self, rt: &R) {
-        self.rings.fetch_add(1, Ordering::SeqCst);
-        self.ends.wake(rt, &self.closed);
+        self.ends.ring(rt, &self.closed);
     }
 
     /// Closes the bell: from now on nobody waits.
     pub fn close<R: Wait>(&self, rt: &R) {
         *self.closed.lock(rt) = true;
-        self.ring(rt);
+        self.ring_work(rt);
+        self.ring_end(rt);
     }
 
-    /// Waits for work, until the count of rings is not `seen` or the bell is closed, and says whether it is closed.
-    pub fn wait_ring<R: Wait>(&self, rt: &R, seen: u64) -> bool {
-        self.wait_at(rt, &self.work, seen)
+    /// Waits for a call to work, until the count of calls is not `seen` or the bell is closed, and says whether it is closed.
+    pub fn wait_work<R: Wait>(&self, rt: &R, seen: u64) -> bool {
+        self.work.wait(rt, &self.closed, seen)
     }
 
-    /// Waits for an entry to end, until the count of rings is not `seen` or the bell is closed, and says whether it is closed.
+    /// Waits for an entry to end, until the count of ends is not `seen` or the bell is closed, and says whether it is closed.
     pub fn wait_end<R: Wait>(&self, rt: &R, seen: u64) -> bool {
-        self.wait_at(rt, &self.ends, seen)
-    }
-
-    fn wait_at<R: Wait>(&self, rt: &R, bench: &Bench, seen: u64) -> bool {
-        let mut closed = self.closed.lock(rt);
-        for _ in rt.forever() {
-            bench.taken.store(true, Ordering::SeqCst);
-            if *closed || self.rings() != seen {
-                return *closed;
-            }
-            closed = bench.rung.wait(rt, closed);
-        }
-        unreachable!()
+        self.ends.wait(rt, &self.closed, seen)
     }
 }

@@ -20,15 +20,15 @@ fn rest<R: Wait>(rt: &R, bell: &Bell, backoff: &Backoff, seen: u64) -> bool {
             break;
         }
         backoff.snooze();
-        if bell.rings() != seen {
+        if bell.calls() != seen {
             return false;
         }
     }
-    bell.wait_ring(rt, seen)
+    bell.wait_work(rt, seen)
 }
 
-/// Takes turns until the bell is closed and nothing is ready, and rings after each turn that was not idle. While there is nothing
-/// to do it sleeps at the bell. Where it returns without a fault, every entry that it started has ended.
+/// Takes turns until the bell is closed and nothing is ready, and rings after each turn that ended an entry. While there is nothing to
+/// do it sleeps at the bell, until workers are called. Where it returns without a fault, every entry that it started has ended.
 #[tactic(auto, using(crate::proofs::Settling::settles_itself, crate::proofs::Settling::settles_then))]
 pub fn run_worker<P: Pause, R: Wait>(
     rt: &R,
@@ -45,14 +45,14 @@ pub fn run_worker<P: Pause, R: Wait>(
     let backoff = Backoff::new();
     let mut closed = false;
     for _ in rt.forever() {
-        let seen = bell.rings();
+        let seen = bell.calls();
         match work_once(rt, alloc, gate, pass, pause)? {
             Turn::Idle if closed => break,
             Turn::Idle => closed = rest(rt, bell, &backoff, seen),
             Turn::Missed(_) => backoff.snooze(),
             Turn::Denied(_) | Turn::Done(_) | Turn::Lost(_) => {
                 backoff.reset();
-                bell.ring(rt);
+                bell.ring_end(rt);
             }
         }
     }

@@ -36,11 +36,11 @@ returns-then-put_out-clause-text g c =
     c.in_ok-put_events.ensures.text (c.put_out.ensures.all c.if-put_out.true)
 
 pub returns-then-put_out-clause-true_text : goal.returns-then-put_out-clause-true_text
-returns-then-put_out-clause-true_text g c limit = true-text c.args.hall.now c.core.ensures.trail c.in_ok-put_events.ensures.plain limit
+returns-then-put_out-clause-true_text g c = true-text c.args.hall.now c.core.ensures.trail c.in_ok-put_events.ensures.plain c.core.ensures.limit
 
 pub returns-then-put_out-clause-accepted : goal.returns-then-put_out-clause-accepted
-returns-then-put_out-clause-accepted g c limit verdict is =
-    c.true_texts_are_accepted.ensures c.args.hall.now.setup _ _ verdict (true-text c.args.hall.now c.core.ensures.trail c.in_ok-put_events.ensures.plain limit) is
+returns-then-put_out-clause-accepted g c verdict is =
+    c.true_texts_are_accepted.ensures c.args.hall.now.setup _ _ verdict (true-text c.args.hall.now c.core.ensures.trail c.in_ok-put_events.ensures.plain c.core.ensures.limit) is
 
 pub returns-else-put_out-clause-part : goal.returns-else-put_out-clause-part
 returns-else-put_out-clause-part g c =

@@ -7,7 +7,7 @@ use Rattle.bl_gate.proofs.Turned.{Turned, pass_of, turned, turned_follows, turne
 use Rattle.bl_gate.proofs.gate.Gate.ready.Given as given
 use Rattle.bl_gate.proofs.gate.Gate.ready.Goals as goal
 
-turn : (g : given.Over) (c : goal.After-leave g) → Turned c.args.pass.now c.enter-hall.result c.enter-hall.result (pass_of c.leave.new.seat.table_id c.leave.new.seat.me.0 c.pass.inside.parts)
+turn : (g : given.Over) (c : goal.After-drop-alone g) → Turned c.args.pass.now c.enter-hall.result c.enter-hall.result (pass_of c.leave.new.seat.table_id c.leave.new.seat.me.0 c.pass.inside.parts)
 turn g c =
     turned c.args.pass.now c.pass.inside.seat.table_id c.enter-hall.new.seat.table_id c.leave.new.seat.table_id c.pass.inside.seat.me.0 c.enter-hall.new.seat.me.0 c.leave.new.seat.me.0
     c.pass.inside.parts c.enter-hall.ensures.turn.0 _ _

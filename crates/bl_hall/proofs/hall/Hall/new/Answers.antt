@@ -18,6 +18,7 @@ invariant_of-result c =
       events = c.in_ok-events.ensures.items;
       links = c.in_ok-links.ensures.items;
       tallies = c.in_ok-tallies.ensures.items;
+      some = c.requires.some;
       small = c.requires.most;
       events_room = omega (arith, c.in_ok-events.ensures.exact);
       links_room = omega (arith, c.in_ok-links.ensures.exact);
