@@ -14,6 +14,7 @@ use Rattle.bl_work.specs.contracts.names.Names as Names
 use Rattle.bl_place.specs.contracts.place.Place as Place
 use Rattle.bl_core.specs.contracts.machine.Core as Core
 use Rattle.bl_hall.specs.contracts.hall.Hall as Hall
+use Rattle.bl_gate.specs.contracts.boxed.BoxedHall as BoxedHall
 use Rattle.bl_gate.specs.contracts.gate.Gate as Gate
 use Rattle.bl_gate.specs.contracts.pass.Pass as Pass
 
@@ -26,11 +27,14 @@ core_send = search (place_send, crosses, bodies.crosses, sendable) depth 60 fits
 pub hall_send : IsSend Hall.the_row
 hall_send = search (core_send, crosses, bodies.crosses, sendable) depth 60 fits 20000
 
-pub pass_send : IsSend Pass.the_row
-pass_send = search (hall_send, seats.the_send, options.the_send, crosses, sendable) depth 60 fits 20000
+boxed_send : IsSend BoxedHall.the_row
+boxed_send = search (hall_send, globals.the_send, crosses, sendable) depth 60 fits 20000
 
-slot_send : IsSend (Option.the_row Hall.the_row)
-slot_send = search (hall_send, options.the_send, crosses, sendable) depth 60 fits 20000
+pub pass_send : IsSend Pass.the_row
+pass_send = search (boxed_send, seats.the_send, options.the_send, crosses, sendable) depth 60 fits 20000
+
+slot_send : IsSend (Option.the_row BoxedHall.the_row)
+slot_send = search (boxed_send, options.the_send, crosses, sendable) depth 60 fits 20000
 
 names_sync : IsSync Names.the_row
 names_sync = search (names.the_sync, crosses, sendable) depth 60 fits 20000

@@ -91,3 +91,15 @@ module _ (p : PassView) (taken put : Chronicle) (q : PassView) (turn : Turned p 
 
       gains_one : (t : List Event) (event : Event) → gained (length t) (length (t ++ event ∷ [])) ≡ length t ∷ []
       gains_one t event = by (length t) (length (t ++ event ∷ [])) (eqb (length t) (length (t ++ event ∷ []))) refl (length-append t (event ∷ []))
+
+-- the same, where a call was made on what the box lent
+pub turned_lent : (p : PassView) (z z' z'' : TableId) (v v' v'' : View) (parts t : ℕ) (taken lent put : Chronicle) → pass_of z v parts ≡ p → z' ≡ z → z'' ≡ z'
+    → taken ≡ hall_with v.base taken.trail → StartsWith taken.trail v.seen → v' ≡ entered (drew v t) taken.trail → lent ≡ taken → Continues lent put → v'' ≡ went v' put.trail
+    → Turned p lent put (pass_of z'' v'' parts)
+turned_lent p z z' z'' v v' v'' parts t taken lent put is gate gate' taken_is from came same continues gone =
+    subst (λ (h : Chronicle). Turned p h put (pass_of z'' v'' parts)) (sym same)
+    (turned p z z' z'' v v' v'' parts t taken put is gate gate' taken_is from came (subst (λ (h : Chronicle). Continues h put) same continues) gone)
+
+-- and where what the box lent was only read
+pub turned_read : (p q : PassView) (taken lent : Chronicle) → lent ≡ taken → Turned p taken taken q → Turned p lent lent q
+turned_read p q taken lent same turn = subst (λ (h : Chronicle). Turned p h h q) (sym same) turn

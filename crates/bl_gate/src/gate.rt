@@ -8,6 +8,7 @@ ghost use Rattle.bl_gate.specs.Counts.{StartsWith, times, within};
 ghost use Rattle.bl_gate.specs.Gates.{Calls, Follows, IsOf, hall_seen, hall_with, state_seen};
 ghost use Rattle.bl_gate.specs.Views.{IsIdle, HasTurn, drew, entered, went};
 
+use crate::boxed::BoxedHall;
 use crate::pass::{PARTS, Pass, Place};
 use crate::rule::{Both, Draw, Hear, InTurn, Look, OnePart, PassOn, View};
 use atomic_table::{Refused as NoTable, Table};
@@ -39,7 +40,7 @@ const NAP_MICROS: u64 = 50;
 /// after another, so that who draws a ticket is served at once; nothing that is proved rests on the lobby.
 #[derive(Drop)]
 pub struct Gate {
-    table: Table<Option<Hall>, View, Snapshot<Hall>, InTurn, Global>,
+    table: Table<Option<BoxedHall>, View, Snapshot<Hall>, InTurn, Global>,
     names: Names,
     /// Taken by who makes a call. Those who wait for it sleep.
     lobby: Mutex<()>,
@@ -81,7 +82,11 @@ impl Gate {
             return Err(NoGate { hall });
         };
         let about = Snapshot::of(&hall);
-        slots.push_reserved(Some(hall));
+        let boxed = match BoxedHall::new(alloc, hall) {
+            Ok(boxed) => boxed,
+            Err(hall) => return Err(NoGate { hall }),
+        };
+        slots.push_reserved(Some(boxed));
         match Table::new(alloc, &[0, 0], slots, &about) {
             Ok((table, seat)) => {
                 let lobby = Mutex::new(());
@@ -93,7 +98,7 @@ impl Gate {
                 Ok((gate, Pass { seat, parts: PARTS }))
             }
             Err(NoTable { mut slots }) => {
-                let hall = slots.pop().unwrap().unwrap();
+                let hall = slots.pop().unwrap().unwrap().into_hall();
                 Err(NoGate { hall })
             }
         }
@@ -158,7 +163,7 @@ impl Gate {
     }
 
     /// Draws a ticket, waits until it is served, and takes the hall.
-    fn enter<R: Wait>(&self, rt: &R, seat: &mut Place) -> Hall
+    fn enter<R: Wait>(&self, rt: &R, seat: &mut Place) -> BoxedHall
         requires gate { seat.old.table_id ≡ self.now.id }
         requires idle { IsIdle seat.old.me.0 × (seat.old.me.1 ≡ []) }
         ensures gate { seat.new.table_id ≡ seat.old.table_id }
@@ -182,7 +187,7 @@ impl Gate {
     }
 
     /// Puts the hall back, as it was taken or with one event more, and has the next ticket served.
-    fn leave(&self, seat: &mut Place, hall: Hall)
+    fn leave(&self, seat: &mut Place, hall: BoxedHall)
         requires gate { seat.old.table_id ≡ self.now.id }
         requires turn { HasTurn seat.old.me.0 × (seat.old.me.1 ≡ (0, None) ∷ []) }
         requires next { Continues (hall_with seat.old.me.0.base seat.old.me.0.seen) hall }
@@ -210,7 +215,7 @@ impl Gate {
     {
         let _alone = self.come_in(rt);
         let mut hall = self.enter(rt, &mut pass.seat);
-        let answer = hall.open(subject);
+        let answer = hall.inner.open(subject);
         self.leave(&mut pass.seat, hall);
         answer
     }
@@ -234,7 +239,7 @@ impl Gate {
     {
         let _alone = self.come_in(rt);
         let mut hall = self.enter(rt, &mut pass.seat);
-        let answer = hall.line(session, ordinal, work);
+        let answer = hall.inner.line(session, ordinal, work);
         self.leave(&mut pass.seat, hall);
         answer
     }
@@ -253,7 +258,7 @@ impl Gate {
     {
         let _alone = self.come_in(rt);
         let mut hall = self.enter(rt, &mut pass.seat);
-        let answer = hall.start(n);
+        let answer = hall.inner.start(n);
         self.leave(&mut pass.seat, hall);
         answer
     }
@@ -270,7 +275,7 @@ impl Gate {
     {
         let _alone = self.come_in(rt);
         let mut hall = self.enter(rt, &mut pass.seat);
-        let answer = hall.finish(done);
+        let answer = hall.inner.finish(done);
         self.leave(&mut pass.seat, hall);
         answer
     }
@@ -287,7 +292,7 @@ impl Gate {
     {
         let _alone = self.come_in(rt);
         let mut hall = self.enter(rt, &mut pass.seat);
-        let answer = hall.lose(unrun);
+        let answer = hall.inner.lose(unrun);
         self.leave(&mut pass.seat, hall);
         answer
     }
@@ -308,7 +313,7 @@ impl Gate {
     {
         let _alone = self.come_in(rt);
         let mut hall = self.enter(rt, &mut pass.seat);
-        let answer = hall.lose_ready(starved);
+        let answer = hall.inner.lose_ready(starved);
         self.leave(&mut pass.seat, hall);
         answer
     }
@@ -324,7 +329,7 @@ impl Gate {
     {
         let _alone = self.come_in(rt);
         let hall = self.enter(rt, &mut pass.seat);
-        let answer = hall.ready();
+        let answer = hall.inner.ready();
         self.leave(&mut pass.seat, hall);
         answer
     }
@@ -350,7 +355,7 @@ impl Gate {
     {
         let _alone = self.come_in(rt);
         let hall = self.enter(rt, &mut pass.seat);
-        let answer = hall.answers(session, after);
+        let answer = hall.inner.answers(session, after);
         self.leave(&mut pass.seat, hall);
         answer
     }
@@ -403,7 +408,7 @@ impl Gate {
             lobby: _,
         } = self;
         let mut closed = table.close_with(seat);
-        let hall = closed.take(0).unwrap();
+        let hall = closed.take(0).unwrap().into_hall();
         closed.free();
         hall
     }

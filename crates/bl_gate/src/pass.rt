@@ -1,14 +1,14 @@
 //! What a thread calls a gate with.
+use crate::boxed::BoxedHall;
 use crate::rule::View;
 use atomic_table::Seat;
-use bl_hall::hall::Hall;
 use std::marker::Model;
 
 /// How many parts the right to close a gate has.
 pub(crate) const PARTS: u32 = 64;
 
 /// A seat at the gate's table, whose slot has the hall.
-pub(crate) type Place = Seat<Option<Hall>, View>;
+pub(crate) type Place = Seat<Option<BoxedHall>, View>;
 
 /// What a thread calls a gate with, and its parts of the right to close it: 1 to 64 of the 64 that there are. A gate makes it. It has
 /// no memory but of its parts: what it has seen, and which positions of the trail are its own, only contracts know.

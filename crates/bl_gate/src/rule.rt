@@ -1,5 +1,6 @@
 //! The rule of the gate's table: what its two words and its slot have to do with what each pass knows. It stands in three passes:
 //! tickets and parts, then the slot, then the trails that were seen and the positions that are owned.
+use crate::boxed::BoxedHall;
 use atomic_table::{Join, Play, Split, TableRule};
 use bl_hall::hall::Hall;
 use std::marker::Model;
@@ -24,7 +25,7 @@ impl Model for View {
 /// The rule that the table keeps between any two steps.
 pub struct InTurn;
 
-impl TableRule<Option<Hall>, View, Snapshot<Hall>> for InTurn {
+impl TableRule<Option<BoxedHall>, View, Snapshot<Hall>> for InTurn {
     ghost use Rattle.bl_gate.specs.Turns.{Kept};
     ghost use Rattle.bl_gate.specs.Views.{opener};
 
@@ -36,7 +37,7 @@ impl TableRule<Option<Hall>, View, Snapshot<Hall>> for InTurn {
 /// A ticket is drawn, where the count of those drawn was the one expected.
 pub struct Draw;
 
-impl Play<Option<Hall>, View> for Draw {
+impl Play<Option<BoxedHall>, View> for Draw {
     ghost use Rattle.bl_gate.specs.Turns.{Draws};
 
     ghost then = { Draws };
@@ -45,7 +46,7 @@ impl Play<Option<Hall>, View> for Draw {
 /// A look at how many tickets were served, which takes the hall where it is one's own turn.
 pub struct Look;
 
-impl Play<Option<Hall>, View> for Look {
+impl Play<Option<BoxedHall>, View> for Look {
     ghost use Rattle.bl_gate.specs.Turns.{Looks};
 
     ghost then = { Looks };
@@ -54,7 +55,7 @@ impl Play<Option<Hall>, View> for Look {
 /// The next ticket is served, and the hall is back.
 pub struct PassOn;
 
-impl Play<Option<Hall>, View> for PassOn {
+impl Play<Option<BoxedHall>, View> for PassOn {
     ghost use Rattle.bl_gate.specs.Turns.{Passes};
 
     ghost then = { Passes };
@@ -63,7 +64,7 @@ impl Play<Option<Hall>, View> for PassOn {
 /// A look that tells a seat what it knows since it took in another.
 pub struct Hear;
 
-impl Play<Option<Hall>, View> for Hear {
+impl Play<Option<BoxedHall>, View> for Hear {
     ghost use Rattle.bl_gate.specs.Turns.{Hears};
 
     ghost then = { Hears };

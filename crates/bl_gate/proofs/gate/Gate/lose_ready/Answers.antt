@@ -5,15 +5,15 @@ use Rattle.bl_order.specs.Machine.{MayStart}
 use Rattle.bl_hall.specs.Chronicle.{Chronicle, state_now}
 use Rattle.bl_gate.specs.Turns.{Sat}
 use Rattle.bl_gate.proofs.Results.{both}
-use Rattle.bl_gate.proofs.Turned.{Turned, pass_of, turned, turned_follows, turned_legal, turned_calls, turned_stays, turned_seen}
+use Rattle.bl_gate.proofs.Turned.{Turned, pass_of, turned_lent, turned_follows, turned_legal, turned_calls, turned_stays, turned_seen}
 use Rattle.bl_gate.proofs.gate.Gate.lose_ready.Given as given
 use Rattle.bl_gate.proofs.gate.Gate.lose_ready.Goals as goal
 
-turn : (g : given.Over) (c : goal.After-drop-alone g) → Turned c.args.pass.now c.enter-hall.result c.lose_ready-answer.new.self (pass_of c.leave.new.seat.table_id c.leave.new.seat.me.0 c.pass.inside.parts)
+turn : (g : given.Over) (c : goal.After-drop-alone g) → Turned c.args.pass.now c.deref_mut.result.now c.lose_ready-answer.new.self (pass_of c.leave.new.seat.table_id c.leave.new.seat.me.0 c.pass.inside.parts)
 turn g c =
-    turned c.args.pass.now c.pass.inside.seat.table_id c.enter-hall.new.seat.table_id c.leave.new.seat.table_id c.pass.inside.seat.me.0 c.enter-hall.new.seat.me.0 c.leave.new.seat.me.0
-    c.pass.inside.parts c.enter-hall.ensures.turn.0 _ _
-    c.pass.view_is c.enter-hall.ensures.gate c.leave.ensures.gate c.enter-hall.ensures.hall c.enter-hall.ensures.seen c.enter-hall.ensures.turn.1 c.lose_ready-answer.ensures.continues (ap (λ (m : Sat). m.0) c.leave.ensures.went)
+    turned_lent c.args.pass.now c.pass.inside.seat.table_id c.enter-hall.new.seat.table_id c.leave.new.seat.table_id c.pass.inside.seat.me.0 c.enter-hall.new.seat.me.0 c.leave.new.seat.me.0
+    c.pass.inside.parts c.enter-hall.ensures.turn.0 _ _ _
+    c.pass.view_is c.enter-hall.ensures.gate c.leave.ensures.gate c.enter-hall.ensures.hall c.enter-hall.ensures.seen c.enter-hall.ensures.turn.1 (c.deref_mut.ensures.value ∙ c.hall.view_is) c.lose_ready-answer.ensures.continues (ap (λ (m : Sat). m.0) c.leave.ensures.went)
 
 pub returns-clause-follows : goal.returns-clause-follows
 returns-clause-follows g c = turned_follows _ _ _ _ (turn g c)
