@@ -17,9 +17,9 @@ use std::io::{BufRead, Write};
 use std::snapshot::Snapshot;
 use std::sync::Wait;
 
-/// Serves one session through a gate, with a pass of its own, which it hands back. Lines are admitted as they come, and the bell is rung
-/// after each. At a `wait` and at the end of the input it takes turns itself until its entries have ended, and where nothing is ready
-/// waits at the bell.
+/// Serves one session through a gate, with a pass of its own, which it hands back. Lines are admitted as they come, and workers are
+/// called to the bell after each hundred of a block. At a `wait` and at the end of the input it takes turns itself until its entries have
+/// ended, and where nothing is ready waits at the bell.
 ///
 /// At `Ok` the input was read to its end, or to the end of a first line that was refused, and what was told is written and handed on.
 /// `Read` and `Write` come only where that end failed, and that end alone, `TooLong` only where 16,777,216 bytes were read and another
