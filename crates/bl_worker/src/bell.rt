@@ -24,9 +24,14 @@ impl Bench {
         self.rings.load(Ordering::SeqCst)
     }
 
-    /// Rings, and wakes all that wait here. Where nobody does it makes no call of the system.
+    /// Rings, and wakes all that wait here.
     fn ring<R: Wait>(&self, rt: &R, closed: &Mutex<bool>) {
         self.rings.fetch_add(1, Ordering::SeqCst);
+        self.wake(rt, closed);
+    }
+
+    /// Wakes all that wait here. Where nobody does it makes no call of the system.
+    fn wake<R: Wait>(&self, rt: &R, closed: &Mutex<bool>) {
         if self.taken.load(Ordering::SeqCst) {
             let _closed = closed.lock(rt);
             self.taken.store(false, Ordering::SeqCst);
@@ -88,11 +93,11 @@ impl Bell {
         self.ends.ring(rt, &self.closed);
     }
 
-    /// Closes the bell: from now on nobody waits.
+    /// Closes the bell: from now on nobody waits. It counts as no ring.
     pub fn close<R: Wait>(&self, rt: &R) {
         *self.closed.lock(rt) = true;
-        self.ring_work(rt);
-        self.ring_end(rt);
+        self.work.wake(rt, &self.closed);
+        self.ends.wake(rt, &self.closed);
     }
 
     /// Waits for a call to work, until the count of calls is not `seen` or the bell is closed, and says whether it is closed.
