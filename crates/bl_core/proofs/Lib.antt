@@ -13,7 +13,7 @@ pub mod Lending
 pub mod Running
 pub mod Finishing
 pub mod Lent
-pub mod Beginning
+pub mod Begun
 pub mod Judging
 pub mod Owning
 pub mod Looking

@@ -1,3 +1,4 @@
+pub mod Beginning
 pub mod Origins
 pub mod Weights
 pub mod View

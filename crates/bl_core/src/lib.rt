@@ -1,6 +1,7 @@
 //! The core: the machine of the admission order, over real documents, grants and answers. Its value is a state of the machine, and
 //! each call that changes it changes it by one event.
 //!
+//!     beginning  what a core begins with
 //!     machine    the core and its calls
 //!     origin     where an entry comes from
 //!     held       what is held, access by access
@@ -8,6 +9,7 @@
 //!     refusal    why a call changed nothing
 #![tactic(auto)]
 
+mod beginning;
 pub mod held;
 pub mod machine;
 pub mod origin;

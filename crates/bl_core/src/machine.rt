@@ -2,6 +2,7 @@
 ghost use Rattle.std.specs.Prelude.{◌≡◌};
 ghost use Rattle.bl_core.specs.Weights.{IsWeighed, ruled};
 
+use crate::beginning::{Beginning, MOST_SESSIONS};
 use crate::held::Held;
 use crate::origin::Origin;
 use crate::refusal::{
@@ -15,7 +16,7 @@ use bl_order::laws::{
     the_order_has_room,
 };
 use bl_place::place::{Descent, Place, Stand, declared, enter_children, enter_queues, work_at};
-use bl_place::shelf::{Shelf, contents_of, is_done_of, is_unrun_of, mark, shelve, take_back};
+use bl_place::shelf::{Shelf, contents_of, is_done_of, is_unrun_of, mark, take_back};
 use bl_policy::denial::Denial;
 use bl_policy::id::{DocId, SubjectId};
 use bl_policy::policy::Policy;
@@ -29,9 +30,6 @@ use bl_work::work::Work;
 use bl_write::knows::KnowsWorks;
 use std::alloc::{AllocError, Global};
 use std::marker::Model;
-
-/// How many sessions a core opens at most.
-const MOST_SESSIONS: usize = 1000;
 
 /// The machine of the admission order. Its value is a state that a trail leads to.
 ///
@@ -121,23 +119,23 @@ impl Core {
         requires most { limit ≤ 100000 }
         ensures { IfOk result (λ core. core ≡ start setup limit) }
     {
-        let policy = setup.policy().copy()?;
-        let shelves = shelve(alloc, setup.contents())?;
-        let sessions = Vec::with_capacity(alloc, MOST_SESSIONS)?;
-        let places = Vec::with_capacity(alloc, limit as usize)?;
-        let cowns = policy.documents() as u32 + 1;
-        let queues = Queues::new(alloc, cowns, limit)?;
-        Ok(Core {
-            alloc,
-            setup,
-            limit,
-            weight: 0,
-            sessions,
-            places,
-            queues,
-            policy,
-            shelves,
-        })
+        match Beginning::new(alloc, &setup, limit) {
+            Ok(beginning) => Ok(Core {
+                alloc,
+                setup,
+                limit,
+                weight: 0,
+                sessions: beginning.sessions,
+                places: beginning.places,
+                queues: beginning.queues,
+                policy: beginning.policy,
+                shelves: beginning.shelves,
+            }),
+            Err(refused) => {
+                drop(setup);
+                Err(refused)
+            }
+        }
     }
 
     /// Opens a session for a subject, and answers its number. `Stranger` comes where the setup has no such subject, and then

@@ -2,6 +2,7 @@
 use crate::event::Event;
 use crate::link::{Link, Tally, count_children, count_end, count_start, link_children, link_line};
 use crate::reply::{AnswersFault, Reply};
+use crate::rooms::Rooms;
 use crate::walk::{places_above, write_label};
 use bl_core::machine::{Core, Started};
 use bl_core::refusal::{NotReady, OpenRefused, Refused, StartFault, Starved};
@@ -14,9 +15,6 @@ use bl_setup::setup::Setup;
 use bl_work::work::Work;
 use std::alloc::{AllocError, Global};
 use std::marker::Model;
-
-/// How many sessions a core opens at most.
-const MOST_SESSIONS: usize = 1000;
 
 /// The core with its trail. Its value is the setup, the limit and the events, and the core's state is where these lead.
 ///
@@ -65,17 +63,19 @@ impl Hall {
         ensures { IfOk result (λ hall. hall ≡ record { setup = setup; limit = limit; trail = [] }) }
     {
         let core = Core::new(alloc, setup, limit)?;
-        let places = limit as usize;
-        let events = Vec::with_capacity(alloc, MOST_SESSIONS + 3 * places)?;
-        let links = Vec::with_capacity(alloc, places)?;
-        let tallies = Vec::with_capacity(alloc, MOST_SESSIONS)?;
-        Ok(Hall {
-            alloc,
-            core,
-            events,
-            links,
-            tallies,
-        })
+        match Rooms::new(alloc, limit) {
+            Ok(rooms) => Ok(Hall {
+                alloc,
+                core,
+                events: rooms.events,
+                links: rooms.links,
+                tallies: rooms.tallies,
+            }),
+            Err(refused) => {
+                drop(core);
+                Err(refused)
+            }
+        }
     }
 
     /// The allocator that it was made with.

@@ -5,6 +5,7 @@
 //!     event    the events as they are kept
 //!     reply    what is told to a session
 //!     link     how the places of a session hang together
+//!     rooms    room for all that can happen in a hall
 //!     walk     the ways over the links
 //!     laws     what holds of a hall's trail
 #![tactic(auto)]
@@ -14,4 +15,5 @@ pub mod hall;
 pub mod laws;
 mod link;
 pub mod reply;
+mod rooms;
 mod walk;

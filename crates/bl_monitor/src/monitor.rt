@@ -91,7 +91,10 @@ fn owned(alloc: Global, setup: Setup) -> Result<Arc<Setup, Global>, AllocError>
 {
     match Arc::new(alloc, setup) {
         Ok(setup) => Ok(setup),
-        Err(_) => Err(AllocError),
+        Err(setup) => {
+            drop(setup);
+            Err(AllocError)
+        }
     }
 }
 

@@ -63,10 +63,13 @@ impl Draft {
         ensures value { IfOk result (λ draft. setup_of draft ≡ of_scheme scheme) }
         ensures agree { IfOk result (λ draft. Agree (setup_of draft)) }
     {
+        let contents = Vec::with_capacity(alloc, MOST_DOCUMENTS)?;
+        let policy = Policy::new(alloc)?;
+        let names = Names::new(alloc, scheme)?;
         Ok(Draft {
-            names: Names::new(alloc, scheme)?,
-            policy: Policy::new(alloc)?,
-            contents: Vec::with_capacity(alloc, MOST_DOCUMENTS)?,
+            names,
+            policy,
+            contents,
         })
     }
 

@@ -66,10 +66,13 @@ impl Setup {
     pub fn copy(&self) -> Result<Setup, AllocError>
         ensures { IfOk result (λ setup. setup ≡ self.now) }
     {
+        let contents = shared(&self.contents)?;
+        let policy = self.policy.copy()?;
+        let names = self.names.copy()?;
         Ok(Setup {
-            names: self.names.copy()?,
-            policy: self.policy.copy()?,
-            contents: shared(&self.contents)?,
+            names,
+            policy,
+            contents,
         })
     }
 

@@ -63,10 +63,12 @@ impl Names {
     {
         // read for the proof alone: the scheme is one, as the names want it
         let _ = scheme.ranks();
+        let subjects = NameTable::with_room(alloc, MOST_SUBJECTS)?;
+        let documents = NameTable::with_room(alloc, MOST_DOCUMENTS)?;
         Ok(Names {
             scheme,
-            subjects: NameTable::with_room(alloc, MOST_SUBJECTS)?,
-            documents: NameTable::with_room(alloc, MOST_DOCUMENTS)?,
+            subjects,
+            documents,
         })
     }
 
@@ -74,10 +76,13 @@ impl Names {
     pub fn copy(&self) -> Result<Names, AllocError>
         ensures { IfOk result (λ names. names ≡ self.now) }
     {
+        let subjects = self.subjects.copy()?;
+        let documents = self.documents.copy()?;
+        let scheme = self.scheme.copy()?;
         Ok(Names {
-            scheme: self.scheme.copy()?,
-            subjects: self.subjects.copy()?,
-            documents: self.documents.copy()?,
+            scheme,
+            subjects,
+            documents,
         })
     }
 

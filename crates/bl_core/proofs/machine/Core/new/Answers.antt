@@ -1,8 +1,5 @@
-use Rattle.std.proofs.Common.{ℕ, ◌+◌, [], length, refl, ap, ◌∙◌}
-use Rattle.std.specs.Prelude.{map}
-use Rattle.bl_policy.specs.Policy.{SecurityPolicy}
-use Rattle.bl_place.specs.Shelves.{new_shelf}
-use Rattle.bl_core.proofs.Beginning.{kept-begun}
+use Rattle.std.proofs.Common.{refl}
+use Rattle.bl_core.proofs.Begun.{kept-begun}
 use Rattle.bl_core.proofs.machine.Core.new.Goals as goal
 
 pub invariant_of-result : goal.invariant_of-result
@@ -13,20 +10,10 @@ invariant_of-result c =
       setup = c.args.setup;
       limit = c.args.limit;
       weight = 0;
-      sessions = c.in_ok-sessions.sessions;
-      places = c.in_ok-places.places;
-      queues = c.in_ok-queues.queues;
-      policy = c.in_ok-policy.policy;
-      shelves = c.in_ok-shelves.shelves;
+      sessions = c.in-Ok.beginning.sessions;
+      places = c.in-Ok.beginning.places;
+      queues = c.in-Ok.beginning.queues;
+      policy = c.in-Ok.beginning.policy;
+      shelves = c.in-Ok.beginning.shelves;
     })
-    (record {
-      agree = c.policy.ensures.agree;
-      policy = c.in_ok-policy.ensures ∙ c.policy.ensures.value;
-      sessions = c.in_ok-sessions.ensures.items;
-      places = c.in_ok-places.ensures.items;
-      shelves = c.in_ok-shelves.ensures ∙ ap (map new_shelf) c.contents.ensures.value;
-      weight = refl;
-      queues = c.in_ok-queues.ensures ∙ ap (λ (m : ℕ). record { cowns = m + 1; limit = c.args.limit; entries = [] }) (c.documents.ensures.value ∙ ap (λ (p : SecurityPolicy). length p.documents) (c.in_ok-policy.ensures ∙ c.policy.ensures.value));
-      reserved = c.in_ok-places.ensures.capacity;
-      rooms = c.in_ok-sessions.ensures.capacity;
-    })
+    (record { begins = c.in-Ok.ensures; weight = refl })

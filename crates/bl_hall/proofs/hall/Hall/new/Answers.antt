@@ -1,4 +1,3 @@
-use Rattle.std.proofs.Common.{arith}
 use Rattle.bl_hall.proofs.Beginning.{begun-kept}
 use Rattle.bl_hall.proofs.hall.Hall.new.Goals as goal
 
@@ -8,19 +7,19 @@ invariant_of-result c =
     (record {
       alloc = c.args.alloc;
       core = c.in_ok-core.core;
-      events = c.in_ok-events.events;
-      links = c.in_ok-links.links;
-      tallies = c.in_ok-tallies.tallies;
+      events = c.in-Ok.rooms.events;
+      links = c.in-Ok.rooms.links;
+      tallies = c.in-Ok.rooms.tallies;
     })
     c.args.setup c.args.limit
     (record {
       core = c.in_ok-core.ensures;
-      events = c.in_ok-events.ensures.items;
-      links = c.in_ok-links.ensures.items;
-      tallies = c.in_ok-tallies.ensures.items;
+      events = c.in-Ok.ensures.events.0;
+      links = c.in-Ok.ensures.links.0;
+      tallies = c.in-Ok.ensures.tallies.0;
       some = c.requires.some;
       small = c.requires.most;
-      events_room = omega (arith, c.in_ok-events.ensures.exact);
-      links_room = omega (arith, c.in_ok-links.ensures.exact);
-      tallies_room = omega (arith, c.in_ok-tallies.ensures.exact);
+      events_room = c.in-Ok.ensures.events.1;
+      links_room = c.in-Ok.ensures.links.1;
+      tallies_room = c.in-Ok.ensures.tallies.1;
     })
