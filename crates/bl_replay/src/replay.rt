@@ -61,7 +61,9 @@ pub fn replay(alloc: Global, setup: &Setup, text: &[u8]) -> Result<Verdict, Allo
         Head::Right(limit, lines) => {
             let marks = foretell(alloc, lines)?;
             let mut replayer = begin(alloc, setup, limit, marks)?;
-            follow(&mut replayer, lines)
+            let verdict = follow(&mut replayer, lines);
+            drop(replayer);
+            verdict
         }
     }
 }

@@ -58,7 +58,10 @@ fn gate_over(alloc: Global, setup: Setup, limit: u32) -> Result<(Gate, Pass), Pr
     };
     match Gate::new(hall) {
         Ok(made) => Ok(made),
-        Err(_) => Err(ProgramFault::NoMemory),
+        Err(refused) => {
+            drop(refused);
+            Err(ProgramFault::NoMemory)
+        }
     }
 }
 
@@ -85,6 +88,7 @@ fn prepare<W: Write>(
     if put_out(writer, b"listening\n") {
         Ok(made)
     } else {
+        drop(made);
         Err(ProgramFault::Write)
     }
 }
@@ -148,7 +152,9 @@ fn keep_closed<T: Files>(
     ensures err { IfErr result IsUnkept }
 {
     let hall = gate.close(pass);
-    write_kept(rt, alloc, &hall, name)
+    let kept = write_kept(rt, alloc, &hall, name);
+    drop(hall);
+    kept
 }
 
 /// All after `listening`: the sessions are served, what was found is told, and the trail is kept where each thread was started. The

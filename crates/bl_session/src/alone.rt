@@ -43,7 +43,8 @@ pub fn serve_alone<R: BufRead, W: Write>(
     ensures err { IfErr result (λ fault. IsCutShort setup limit fault (used R.remaining reader.old reader.new) (used W.contents writer.old writer.new)) }
     ensures never { IfErr result (λ fault. fault ≢ Clash) }
 {
-    let (served, _kept) = serve_and_keep(alloc, setup, limit, reader, writer);
+    let (served, kept) = serve_and_keep(alloc, setup, limit, reader, writer);
+    drop(kept);
     served
 }
 

@@ -55,22 +55,37 @@ pub struct Pages {
     pub next: u32,
 }
 
+/// A hall in which nothing has happened, over an equal setup. A limit that is not 1 to 100,000 has none, as if there were no memory
+/// for it.
+fn hall_over(alloc: Global, setup: &Setup, limit: u32) -> Result<Hall, AllocError>
+    ensures { IfOk result (λ hall. hall ≡ record { setup = setup.now; limit = limit; trail = [] }) }
+{
+    if limit == 0 || limit > MOST_LIMIT {
+        return Err(AllocError);
+    }
+    Hall::new(alloc, setup.copy()?, limit)
+}
+
 /// What a session begins with: a hall of its own over the setup. A limit that is not 1 to 100,000 has no hall, as if there were no
 /// memory for it.
 pub fn begin(alloc: Global, setup: Setup, limit: u32) -> Result<(Alone, Pages), AllocError>
     ensures alone { IfOk result (λ begun. (begun.0.setup ≡ setup) × (begun.0.limit ≡ limit)) }
     ensures pages { IfOk result (λ begun. (begun.1.hall ≡ record { setup = setup; limit = limit; trail = [] }) × (begun.1.next ≡ 0)) }
 {
-    if limit == 0 || limit > MOST_LIMIT {
-        return Err(AllocError);
+    match hall_over(alloc, &setup, limit) {
+        Ok(hall) => {
+            let behind = Alone {
+                alloc,
+                setup,
+                limit,
+            };
+            Ok((behind, Pages { hall, next: 0 }))
+        }
+        Err(refused) => {
+            drop(setup);
+            Err(refused)
+        }
     }
-    let hall = Hall::new(alloc, setup.copy()?, limit)?;
-    let behind = Alone {
-        alloc,
-        setup,
-        limit,
-    };
-    Ok((behind, Pages { hall, next: 0 }))
 }
 
 /// Runs an entry that has started, and ends it; where there is no memory to run it, it is lost.

@@ -8,8 +8,8 @@ use Rattle.bl_replay.specs.Marks.{lost_later}
 use Rattle.bl_replay.proofs.Taking.{if-ok}
 use Rattle.bl_replay.proofs.replay.replay.Goals as goal
 
-pub follow-requires : goal.follow-requires
-follow-requires c = (
+pub follow-verdict-requires : goal.follow-verdict-requires
+follow-verdict-requires c = (
   start c.args.setup.now c.in-Right.limit,
   record {
     keeps = c.in_ok-replayer-in-Right.ensures.keeps;
@@ -25,7 +25,7 @@ returns-in-Wrong c = subst (IsHead c.args.text.now) c.in-Wrong.is c.in_ok-line.e
 pub returns-in_ok-replayer-in-Right : goal.returns-in_ok-replayer-in-Right
 returns-in_ok-replayer-in-Right c =
     let head : IsLimit c.in-Right.limit × (c.args.text.now ≡ joined (head_lines c.in-Right.limit) ++ c.in-Right.lines.now) = subst (IsHead c.args.text.now) c.in-Right.is c.in_ok-line.ensures in
-    if-ok c.follow.result _ _ c.follow.ensures
+    if-ok c.follow-verdict.result _ _ c.follow-verdict.ensures
     (λ verdict followed. subst (λ (t : List ℕ). IsVerdict c.args.setup.now t verdict) (sym head.1)
     (c.what_was_followed_tells_the_verdict.ensures c.args.setup.now c.in-Right.limit head.0 c.names-names.ensures.agree
     (subst AreNames c.names.ensures.value c.subjects-subjects.ensures.names) c.in-Right.lines.now verdict
