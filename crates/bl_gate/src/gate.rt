@@ -75,16 +75,19 @@ impl Gate {
         ensures err { IfErr result (λ refused. refused.hall ≡ hall) }
     {
         let alloc = hall.alloc();
-        let Ok(names) = hall.core().setup().names().copy() else {
+        let Ok(mut slots) = Vec::with_capacity(alloc, 1) else {
             return Err(NoGate { hall });
         };
-        let Ok(mut slots) = Vec::with_capacity(alloc, 1) else {
+        let Ok(names) = hall.core().setup().names().copy() else {
             return Err(NoGate { hall });
         };
         let about = Snapshot::of(&hall);
         let boxed = match BoxedHall::new(alloc, hall) {
             Ok(boxed) => boxed,
-            Err(hall) => return Err(NoGate { hall }),
+            Err(hall) => {
+                drop(names);
+                return Err(NoGate { hall });
+            }
         };
         slots.push_reserved(Some(boxed));
         match Table::new(alloc, &[0, 0], slots, &about) {
@@ -98,6 +101,7 @@ impl Gate {
                 Ok((gate, Pass { seat, parts: PARTS }))
             }
             Err(NoTable { mut slots }) => {
+                drop(names);
                 let hall = slots.pop().unwrap().unwrap().into_hall();
                 Err(NoGate { hall })
             }
@@ -404,9 +408,11 @@ impl Gate {
         let Pass { seat, parts: _ } = pass;
         let Gate {
             table,
-            names: _,
-            lobby: _,
+            names,
+            lobby,
         } = self;
+        drop(names);
+        drop(lobby);
         let mut closed = table.close_with(seat);
         let hall = closed.take(0).unwrap().into_hall();
         closed.free();

@@ -81,7 +81,11 @@ fn judge<W: Write>(
     ensures handed_on { OnOk result (writer.new.unflushed ≡ false) }
 {
     match read_setup(alloc, setup) {
-        Ok(setup) => tell_judged(alloc, &setup, trail, writer),
+        Ok(setup) => {
+            let told = tell_judged(alloc, &setup, trail, writer);
+            drop(setup);
+            told
+        }
         Err(fault) => Err(of_setup(fault)),
     }
 }

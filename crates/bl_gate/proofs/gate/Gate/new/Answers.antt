@@ -9,6 +9,6 @@ use Rattle.bl_gate.proofs.gate.Gate.new.Goals as goal
 pub new-requires-2 : goal.new-requires-2
 new-requires-2 c =
     let h : Chronicle = c.args.hall in
-    let one : c.push_reserved.new.self.items ≡ Some h ∷ [] = c.push_reserved.ensures.items ∙ (ap (λ (l : List (Option Chronicle)). l ++ Some c.in-Ok-new.boxed ∷ []) c.in-Ok-with_capacity.ensures.items ∙ ap (λ (k : Chronicle). Some k ∷ []) c.in-Ok-new.ensures.ok) in
+    let one : c.push_reserved.new.self.items ≡ Some h ∷ [] = c.push_reserved.ensures.items ∙ (ap (λ (l : List (Option Chronicle)). l ++ Some c.in-Ok-new.boxed ∷ []) c.in-Ok.ensures.items ∙ ap (λ (k : Chronicle). Some k ∷ []) c.in-Ok-new.ensures.ok) in
     subst (λ (l : List (Option Chronicle)). Kept c.of-about.result.value (opening (0 ∷ 0 ∷ []) l (opener c.of-about.result.value))) (sym one)
     (subst (λ (b : Chronicle). Kept b (opening (0 ∷ 0 ∷ []) (Some h ∷ []) (opener b))) (sym c.of-about.ensures) (opens h c.core.ensures.trail))
