@@ -65,6 +65,7 @@ fn hundred_thousand_entries(rt: HostRuntime) -> Result<(), Fail> {
     assert!(rt; queues.ready() == Some(99_999));
     lose(&rt, &mut queues, 99_999);
     assert!(rt; queues.ready().is_none());
+    drop(queues);
     Ok(())
 }
 
@@ -98,5 +99,6 @@ fn running_entries_in_order(rt: HostRuntime) -> Result<(), Fail> {
     end_running(&mut queues, 65);
     assert!(rt; queues.next_running(64) == Some(64));
     assert!(rt; queues.next_running(65) == Some(99_997));
+    drop(queues);
     Ok(())
 }

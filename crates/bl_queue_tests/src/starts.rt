@@ -89,6 +89,7 @@ fn who_may_start(rt: HostRuntime) -> Result<(), Fail> {
     assert!(rt; may_start(&queues, &[4]));
     run(&rt, &mut queues, 4, &[]);
     assert!(rt; may_start(&queues, &[]));
+    drop(queues);
     Ok(())
 }
 
@@ -97,6 +98,7 @@ fn who_may_start(rt: HostRuntime) -> Result<(), Fail> {
 fn a_refused_room_makes_no_queues(rt: HostRuntime) -> Result<(), Fail> {
     if let Ok(queues) = admitted(rt.alloc()) {
         assert!(rt; may_start(&queues, &[0, 3]));
+        drop(queues);
     }
     Ok(())
 }

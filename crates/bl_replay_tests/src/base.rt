@@ -42,28 +42,49 @@ fn assert_verdict<R: AllocGlobal + Abort>(
     Ok(())
 }
 
+/// Asserts the verdicts on several texts over a setup.
+fn assert_each<R: AllocGlobal + Abort>(
+    rt: &R,
+    setup: &Setup,
+    cases: &[(&str, Verdict)],
+) -> Result<(), Fail> {
+    for (text, verdict) in cases {
+        assert_verdict(rt, setup, text.as_bytes(), *verdict)?;
+    }
+    Ok(())
+}
+
 /// Asserts the verdicts on several texts over the base setup.
 pub fn assert_verdicts<R: AllocGlobal + Abort>(
     rt: &R,
     cases: &[(&str, Verdict)],
 ) -> Result<(), Fail> {
     let setup = read_setup(rt.alloc(), BASE.as_bytes())?;
-    for (text, verdict) in cases {
-        assert_verdict(rt, &setup, text.as_bytes(), *verdict)?;
-    }
-    Ok(())
+    let passed = assert_each(rt, &setup, cases);
+    drop(setup);
+    passed
 }
 
-/// Asserts that each proper prefix of a text is rejected at the line at which it ends.
-pub fn assert_prefixes_rejected<R: AllocGlobal + Abort>(rt: &R, text: &str) -> Result<(), Fail> {
-    let setup = read_setup(rt.alloc(), BASE.as_bytes())?;
-    let bytes = text.as_bytes();
+/// Asserts that each proper prefix of these bytes is rejected over a setup, at the line at which it ends.
+fn assert_each_prefix_rejected<R: AllocGlobal + Abort>(
+    rt: &R,
+    setup: &Setup,
+    bytes: &[u8],
+) -> Result<(), Fail> {
     let mut line: u64 = 1;
     for (end, byte) in bytes.iter().enumerate() {
-        assert_verdict(rt, &setup, &bytes[..end], Verdict::Rejected(line))?;
+        assert_verdict(rt, setup, &bytes[..end], Verdict::Rejected(line))?;
         if *byte == b'\n' && line < 100_000 {
             line += 1;
         }
     }
     Ok(())
+}
+
+/// Asserts that each proper prefix of a text is rejected over the base setup, at the line at which it ends.
+pub fn assert_prefixes_rejected<R: AllocGlobal + Abort>(rt: &R, text: &str) -> Result<(), Fail> {
+    let setup = read_setup(rt.alloc(), BASE.as_bytes())?;
+    let passed = assert_each_prefix_rejected(rt, &setup, text.as_bytes());
+    drop(setup);
+    passed
 }

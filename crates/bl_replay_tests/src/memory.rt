@@ -67,5 +67,6 @@ fn a_refused_growth_gives_no_other_verdict(rt: HostRuntime) {
         for (text, verdict) in CASES.as_slice() {
             assert_no_other(&rt, &setup, text, *verdict);
         }
+        drop(setup);
     }
 }

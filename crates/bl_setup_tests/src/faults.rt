@@ -10,10 +10,7 @@ type Row<'a> = (&'a [&'a [u8]], u32, SetupFaultKind);
 
 /// The first fault of a file.
 fn first_fault(alloc: Global, text: &[u8]) -> Option<SetupFault> {
-    match read_setup(alloc, text) {
-        Ok(_) => None,
-        Err(fault) => Some(fault),
-    }
+    read_setup(alloc, text).err()
 }
 
 /// The first fault of the file that these parts are.

@@ -114,6 +114,7 @@ fn check_base_setup(rt: &impl Abort, setup: &Setup) {
 fn base_setup(rt: HostRuntime) -> Result<(), Fail> {
     let setup = base_setup_of(rt.alloc())?;
     check_base_setup(&rt, &setup);
+    drop(setup);
     Ok(())
 }
 
@@ -127,13 +128,16 @@ fn check_copy(rt: &impl Abort, copy: &Setup) {
 fn check_a_copy_is_the_same(rt: &impl Abort, setup: &Setup) -> Result<(), Fail> {
     let copy = setup.copy()?;
     check_copy(rt, &copy);
+    drop(copy);
     Ok(())
 }
 
 #[test]
 fn a_copy_is_the_same(rt: HostRuntime) -> Result<(), Fail> {
     let setup = base_setup_of(rt.alloc())?;
-    check_a_copy_is_the_same(&rt, &setup)
+    let passed = check_a_copy_is_the_same(&rt, &setup);
+    drop(setup);
+    passed
 }
 
 fn check_line_ends_and_skipped_lines(rt: &impl Abort, setup: &Setup) {
@@ -154,5 +158,6 @@ fn line_ends_and_skipped_lines(rt: HostRuntime) -> Result<(), Fail> {
         b"# who\r\n\r\nranks u\r\n \t\ncategories\r\n#\ndocument note u \"n1\"\r\nsubject ann greatest u current u admin\r";
     let setup = read_setup(rt.alloc(), text.as_slice())?;
     check_line_ends_and_skipped_lines(&rt, &setup);
+    drop(setup);
     Ok(())
 }
