@@ -1,5 +1,5 @@
 //! What is written where the writer fails, or where a growth is refused.
-use super::base::{admit, base_text, end, hall_for, run};
+use super::base::{admit, base_text, hall_for, run};
 use bl_audit::trail::{TrailFault, write_trail};
 use bl_core::machine::Started;
 use bl_core::refusal::StartFault;
@@ -62,7 +62,7 @@ fn writer_fails_at_each_byte(rt: HostRuntime) {
         let taken = writer.into_inner().taken;
         assert!(rt; taken.as_slice() == &READ_ONE[..room], "at {room}");
     }
-    end(hall);
+    drop(hall);
 }
 
 /// Ends what a running entry was lent as lost.
@@ -110,7 +110,7 @@ fn hall_of_one(alloc: Global) -> Option<Hall> {
     if admits(&mut hall, alloc, b"when read memo do show memo; end") {
         Some(hall)
     } else {
-        end(hall);
+        drop(hall);
         None
     }
 }
@@ -136,6 +136,6 @@ fn starved_at_its_trail(rt: HostRuntime) {
             Err(TrailFault::Memory) => assert!(rt; !text.failed()),
             Err(TrailFault::Write) => assert!(rt; text.failed()),
         }
-        end(hall);
+        drop(hall);
     }
 }

@@ -1,5 +1,5 @@
 //! The texts of trails.
-use super::base::{admit, end, finish, hall_for, right, run, start};
+use super::base::{admit, finish, hall_for, right, run, start};
 use bl_audit::trail::write_trail;
 use bl_hall::hall::Hall;
 use bl_replay::replay::replay;
@@ -34,7 +34,7 @@ fn one_turn_through_the_gate(rt: HostRuntime) {
         4,
         "trail 1\nlimit 10000\nopen ann\nline 0 1 when read memo do show memo;end\nstart 0 run\nend 0 done \"m1\"\nstop\n",
     );
-    end(hall);
+    drop(hall);
 }
 
 #[test]
@@ -66,7 +66,7 @@ line 0 1 when write memo do add memo\"a\";spawn when read memo do show memo;end;
 line 0 2 when write memo do add memo\"b\";end\n\
 start 0 run\nend 0 done\nstart 1 run\nend 1 done\nstart 2 run\nend 2 done \"m1ab\"\nstop\n",
     );
-    end(hall);
+    drop(hall);
 }
 
 /// What was said at each start is told from what the core knows at the end: a denial, a rule, what has ended, and what runs still.
@@ -104,12 +104,12 @@ start 0 run\nend 0 done\nstart 1 denied star bob memo\nstart 2 rule\nstart 4 run
     if let Some(lent) = held {
         finish(&rt, &mut hall, lent);
     }
-    end(hall);
+    drop(hall);
 }
 
 #[test]
 fn trail_of_nothing(rt: HostRuntime) {
     let hall = hall_for(&rt, 100_000, &[]);
     assert_trail(&rt, &hall, 0, "trail 1\nlimit 100000\nstop\n");
-    end(hall);
+    drop(hall);
 }

@@ -139,4 +139,5 @@ fn two_readers_overlap(rt: HostRuntime) {
     assert!(rt; is_answered(&rt, &gate, &mut pass, second));
     let hall = gate.close(pass);
     assert!(rt; overlap(hall.trail()));
+    drop(hall);
 }

@@ -33,6 +33,7 @@ fn one_turn_through_the_gate(rt: HostRuntime) {
     assert!(rt; pass.parts() == 64);
     let hall = gate.close(pass);
     assert!(rt; hall.trail() == events_of_a_turn().as_slice());
+    drop(hall);
 }
 
 /// A turn where nothing is ready is idle, and nothing happens.
@@ -41,5 +42,7 @@ fn an_idle_turn(rt: HostRuntime) {
     let (gate, mut pass) = base_gate(&rt);
     let turn = work_once(&rt, rt.alloc(), &gate, &mut pass, &NoPause);
     assert!(rt; turn == Ok(Turn::Idle));
-    assert!(rt; gate.close(pass).trail().is_empty());
+    let hall = gate.close(pass);
+    assert!(rt; hall.trail().is_empty());
+    drop(hall);
 }

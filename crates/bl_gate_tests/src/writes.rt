@@ -37,5 +37,5 @@ fn own_writes(rt: HostRuntime) {
     }
     assert!(rt; is_answered(&rt, &gate, &mut pass, session));
     assert!(rt; gate.ready(&rt, &mut pass).is_none());
-    let _hall = gate.close(pass);
+    drop(gate.close(pass));
 }

@@ -1,7 +1,5 @@
 //! What a hall answers its sessions.
-use super::base::{
-    ADD, ADD_AND_SPAWN, SHOW_MEMO, admit, base_hall, end, right, run, run_all, shows,
-};
+use super::base::{ADD, ADD_AND_SPAWN, SHOW_MEMO, admit, base_hall, right, run, run_all, shows};
 use bl_core::session::SessionNo;
 use bl_hall::hall::Hall;
 use bl_hall::reply::{AnswersFault, Reply};
@@ -50,7 +48,7 @@ fn answers_of_a_hall(rt: HostRuntime) {
     };
     assert!(rt; second.len() == 1 && shows(&second[0], &[2], &[]));
     assert!(rt; is_not_open(&hall, 2));
-    end(hall);
+    drop(hall);
 }
 
 /// A session waits for its own entries alone, and is told of no other's.
@@ -71,5 +69,5 @@ fn sessions_are_apart(rt: HostRuntime) {
         panic!(rt; "it waits")
     };
     assert!(rt; of_ann.len() == 1 && shows(&of_ann[0], &[1], &[b"m1"]));
-    end(hall);
+    drop(hall);
 }

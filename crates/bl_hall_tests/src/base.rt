@@ -74,11 +74,6 @@ pub(super) fn base_hall<R: AllocGlobal + Abort>(rt: &R) -> Hall {
     hall
 }
 
-/// Lets a hall go. A test that ends so has one way out alone.
-pub(super) fn end(hall: Hall) {
-    let _hall = hall;
-}
-
 /// What a line asks under a hall's names.
 pub(super) fn work_of<R: AllocGlobal + Abort>(rt: &R, hall: &Hall, text: &[u8]) -> Work {
     match right(rt, read_line(rt.alloc(), hall.core().names(), text)) {

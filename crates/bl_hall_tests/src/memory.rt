@@ -1,5 +1,5 @@
 //! What is left where a growth is refused.
-use super::base::{SHOW_MEMO, base_text, end};
+use super::base::{SHOW_MEMO, base_text};
 use bl_core::machine::Started;
 use bl_core::refusal::{StartFault, Starved};
 use bl_core::session::SessionNo;
@@ -32,7 +32,7 @@ fn admitted(alloc: Global) -> Option<Hall> {
     if admits(&mut hall, alloc, SHOW_MEMO) {
         Some(hall)
     } else {
-        end(hall);
+        drop(hall);
         None
     }
 }
@@ -91,6 +91,6 @@ fn starved_in_a_hall(rt: HostRuntime) {
             Ok(None) => panic!(rt; "it waits"),
             Err(fault) => assert!(rt; fault == AnswersFault::Memory),
         }
-        end(hall);
+        drop(hall);
     }
 }

@@ -1,5 +1,5 @@
 //! Which events a hall keeps.
-use super::base::{ADD_AND_SPAWN, ANN, BOB, SHOW_MEMO, admit, base_hall, end, run_all, work_of};
+use super::base::{ADD_AND_SPAWN, ANN, BOB, SHOW_MEMO, admit, base_hall, run_all, work_of};
 use bl_core::refusal::StartFault;
 use bl_core::session::SessionNo;
 use bl_hall::event::Event;
@@ -29,7 +29,7 @@ fn trail_of_a_child(rt: HostRuntime) {
     admit(&rt, &mut hall, 0, 1, ADD_AND_SPAWN);
     run_all(&rt, &mut hall, 2);
     assert!(rt; hall.trail() == events_of_a_child().as_slice());
-    end(hall);
+    drop(hall);
 }
 
 /// Whether an entry may not start, as its start says.
@@ -50,5 +50,5 @@ fn refusals_leave_the_trail(rt: HostRuntime) {
     assert!(rt; hall.line(SessionNo::new(2), 1, work).is_err());
     assert!(rt; is_not_ready(&rt, &mut hall, 0));
     assert!(rt; hall.trail().len() == 2 && hall.ready().is_none());
-    end(hall);
+    drop(hall);
 }

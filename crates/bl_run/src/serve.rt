@@ -186,7 +186,10 @@ fn host_on<P: Pause + Sync, T: Threads + Wait + Files + Sync, E: Write>(
         worker,
     } = host(&site, listener, pass, run.options);
     let status = tell_hosted(errors, whole, ended.as_slice(), memory, worker);
+    drop(ended);
     if !whole {
+        drop(pass);
+        drop(gate);
         return status;
     }
     match keep_closed(ground.rt, ground.alloc, gate, pass, run.trail) {

@@ -17,7 +17,6 @@ use std::io;
 use std::io::{BufReader, Read};
 use std::process::Abort;
 use std::sync::Wait;
-use std::test::Fail;
 
 /// A reader that gives some bytes, and before it gives more speaks for the first session, with a pass of its own: it has a line
 /// admitted there under the ordinal 5.
@@ -68,7 +67,7 @@ fn show_memo<R: AllocGlobal + Abort>(rt: &R, gate: &Gate) -> Work {
 /// The session is opened by its first line. Then another has a line of the session admitted under the ordinal 5, so that its own first
 /// line, under the ordinal 1, finds that somebody else spoke for it. Nothing more is written, and neither end has failed.
 #[test]
-fn clash(rt: HostRuntime) -> Result<(), Fail> {
+fn clash(rt: HostRuntime) {
     let (gate, mut pass) = base_gate(&rt);
     let work = Some(show_memo(&rt, &gate));
     let (first, rest) = READ_ONE.split_at(10);
@@ -80,7 +79,10 @@ fn clash(rt: HostRuntime) -> Result<(), Fail> {
         first,
         rest,
     };
-    let mut reader = Watched::new(BufReader::new(rt.alloc(), intruder)?);
+    let Ok(reader) = BufReader::new(rt.alloc(), intruder) else {
+        panic!(rt; "no reader");
+    };
+    let mut reader = Watched::new(reader);
     let mut writer = Watched::new(Vec::new(rt.alloc()));
     let bell = Bell::new();
     let (mut pass, result) = serve(
@@ -96,5 +98,7 @@ fn clash(rt: HostRuntime) -> Result<(), Fail> {
     assert!(rt; !reader.failed() && !writer.failed());
     assert!(rt; writer.into_inner().as_slice() == b"ok\n".as_slice());
     assert!(rt; gate.ready(&rt, &mut pass) == Some(0));
-    Ok(())
+    drop(reader);
+    drop(pass);
+    drop(gate);
 }

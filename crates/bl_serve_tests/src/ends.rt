@@ -31,6 +31,7 @@ fn read_fails_in_a_line(rt: HostRuntime) -> Result<(), Fail> {
     assert!(rt; ended.read_failed && !ended.write_failed);
     assert!(rt; ended.writer.as_slice() == b"ok\n".as_slice());
     assert!(rt; ended.hall.trail() == [opened(), admitted()].as_slice());
+    drop(ended);
     Ok(())
 }
 
@@ -70,4 +71,5 @@ fn write_fails_after_five_bytes(rt: HostRuntime) {
     assert!(rt; ended.writer.taken.as_slice() == b"ok\n1 ".as_slice());
     let events = [opened(), admitted(), Event::Start(0), Event::End(0)];
     assert!(rt; ended.hall.trail() == events.as_slice());
+    drop(ended);
 }

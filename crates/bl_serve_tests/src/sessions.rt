@@ -11,4 +11,5 @@ fn serves_a_session_through_a_gate(rt: HostRuntime) {
     assert!(rt; ended.writer.as_slice() == TOLD_ONE);
     let events = [opened(), admitted(), Event::Start(0), Event::End(0)];
     assert!(rt; ended.hall.trail() == events.as_slice());
+    drop(ended);
 }

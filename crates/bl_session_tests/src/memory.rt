@@ -55,8 +55,8 @@ struct Ended {
 
 /// Serves the session to a writer that needs no growth; nothing where a growth is refused before it begins.
 fn serve(alloc: Global) -> Option<Ended> {
-    let setup = base_or_none(alloc)?;
     let room = Vec::with_capacity(alloc, WHOLE.len()).ok()?;
+    let setup = base_or_none(alloc)?;
     let mut reader = Watched::new(INPUT.as_bytes());
     let mut writer = Watched::new(room);
     let result = serve_alone(alloc, setup, 10, &mut reader, &mut writer);

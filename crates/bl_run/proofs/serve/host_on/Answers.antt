@@ -12,8 +12,8 @@ returns-in-Ok-clause-run g c =
     let h = c.host-pass.result in
     hosted-alone h.whole c.as_slice.result.now h.memory h.worker _ _ _ c.tell_hosted-status.ensures.status c.tell_hosted-status.ensures.puts
 
-pub returns-clause-run : goal.returns-clause-run
-returns-clause-run g c =
+pub returns-in-Err-clause-run : goal.returns-in-Err-clause-run
+returns-in-Err-clause-run g c =
     let h = c.host-pass.result in
     let whole : h.whole ≡ true = search rules in
     hosted-unkept h.whole c.as_slice.result.now h.memory h.worker _ _ c.in-Err.fault _ _ _ whole c.in-Err.ensures.err
