@@ -1,4 +1,4 @@
-use Rattle.std.proofs.Common.{◌≡◌, ℕ, List, [], ◌∷◌, ◌++◌, Option, Some, sym, ap, ◌∙◌, subst}
+use Rattle.std.proofs.Common.{rules, ◌≡◌, ℕ, List, [], ◌∷◌, ◌++◌, Option, Some, sym, ap, ◌∙◌, subst}
 use Rattle.atomic_table.specs.Table.{opening}
 use Rattle.bl_hall.specs.Chronicle.{Chronicle}
 use Rattle.bl_gate.specs.Views.{opener}
@@ -12,3 +12,9 @@ new-requires-2 c =
     let one : c.push_reserved.new.self.items ≡ Some h ∷ [] = c.push_reserved.ensures.items ∙ (ap (λ (l : List (Option Chronicle)). l ++ Some c.in-Ok-new.boxed ∷ []) c.in-Ok.ensures.items ∙ ap (λ (k : Chronicle). Some k ∷ []) c.in-Ok-new.ensures.ok) in
     subst (λ (l : List (Option Chronicle)). Kept c.of-about.result.value (opening (0 ∷ 0 ∷ []) l (opener c.of-about.result.value))) (sym one)
     (subst (λ (b : Chronicle). Kept b (opening (0 ∷ 0 ∷ []) (Some h ∷ []) (opener b))) (sym c.of-about.ensures) (opens h c.core.ensures.trail))
+
+pub invariant_of-result : goal.invariant_of-result
+invariant_of-result c = search rules
+
+pub returns-in-Ok-new-2-clause-parts : goal.returns-in-Ok-new-2-clause-parts
+returns-in-Ok-new-2-clause-parts c = search rules
