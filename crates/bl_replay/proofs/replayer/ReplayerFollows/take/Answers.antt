@@ -1,4 +1,4 @@
-use Rattle.std.proofs.Common.{◌≡◌, ◌∙◌, ap, subst}
+use Rattle.std.proofs.Common.{rules, ◌≡◌, ◌∙◌, ap, subst}
 use Rattle.bl_order.specs.Machine.{Needs, Starts, Ends, Loses}
 use Rattle.bl_trail.specs.EventText.{event_text}
 use Rattle.bl_replay.proofs.Taking.{asked-admits, asked-ends, asked-loses, asked-nothing, asked-opens, asked-starts, comes, if-ok, if-ok-both, small}
@@ -71,3 +71,6 @@ returns-in-Admits-clause-wrong c =
 pub returns-in-Nothing-clause-wrong : goal.returns-in-Nothing-clause-wrong
 returns-in-Nothing-clause-wrong c is x rest replays event needs text =
     asked-nothing x event (c.in-Nothing.ensures x event (small c.the_order_has_room.ensures.order x c.args.self.now replays.keeps) needs text)
+
+pub returns-in-Nothing-clause-right : goal.returns-in-Nothing-clause-right
+returns-in-Nothing-clause-right c = search rules
