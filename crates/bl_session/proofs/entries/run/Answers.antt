@@ -1,4 +1,4 @@
-use Rattle.std.proofs.Common.{◌<◌, sym, ap, subst, ◌∙◌, arith, add-one, length}
+use Rattle.std.proofs.Common.{rules, ◌<◌, sym, ap, subst, ◌∙◌, arith, add-one, length}
 use Rattle.bl_hall.specs.Chronicle.{Chronicle, state_now}
 use Rattle.bl_session.specs.Pages.{HaveRun}
 use Rattle.bl_session.proofs.PageLaws.{run_step}
@@ -18,3 +18,9 @@ places-preserved c =
     let lt : c.places.pages.next < length (state_now c.places.pages.hall).order = omega (arith, c.places-test.true, c.entries.ensures.count, ap (λ (x : State). length x.order) c.core.ensures.value) in
     subst (HaveRun c.args.pages.now.hall c.args.pages.now.next c.run_place.new.hall) (sym (add-one c.places.pages.next))
     (run_step c.args.pages.now.hall c.places.pages.hall c.run_place.new.hall c.args.pages.now.next c.places.pages.next c.places.invariant lt c.run_place.ensures)
+
+pub overflow_add-pages : goal.overflow_add-pages
+overflow_add-pages c = search rules
+
+pub returns-clause-all : goal.returns-clause-all
+returns-clause-all c = search rules

@@ -1,4 +1,4 @@
-use Rattle.std.proofs.Common.{sym, ap, subst, ◌∙◌, arith, refl}
+use Rattle.std.proofs.Common.{rules, sym, ap, subst, ◌∙◌, arith, refl}
 use Rattle.bl_order.specs.Machine.{State, Admits, Needs, session_at}
 use Rattle.bl_core.specs.Answers.{IsCause}
 use Rattle.bl_hall.specs.Chronicle.{state_now, with_event}
@@ -48,3 +48,6 @@ returns-in-Full-clause-came c is told came =
     let t : Pages = record { hall = c.line.new.self; next = s.next } in
     let full = subst (IsCause (state_now s.hall) c.new.result c.args.ordinal c.args.work) c.in-Full.is c.in-Err.ensures.cause.0 in
     came_full c.args.self.now.setup c.args.self.now.limit s t c.args.ordinal c.args.work told came c.in-Err.ensures.err refl full.3
+
+pub returns : goal.returns
+returns c = search rules
