@@ -1,4 +1,4 @@
-use Rattle.std.proofs.Common.{sym, ◌∙◌, arith}
+use Rattle.std.proofs.Common.{rules, sym, ◌∙◌, arith}
 use Rattle.bl_setup.specs.Taking.{Stops}
 use Rattle.bl_declare.proofs.Parts.{exits}
 use Rattle.bl_setup.proofs.FileLemmas.{remain_of}
@@ -38,3 +38,6 @@ returns-in_err-read_into-clause-fault c =
 pub returns-clause-only : goal.returns-clause-only
 returns-clause-only c = λ other s.
     c.in_ok-read_into.ensures.only other (rw c.in-Ok.ensures.value (remain_of c.args.bytes.now _ _ other c.in_ok-scheme.ensures.ok s)) ∙ sym c.new-2.ensures
+
+pub returns-in-Err-clause-memory : goal.returns-in-Err-clause-memory
+returns-in-Err-clause-memory c = search rules
