@@ -44,11 +44,11 @@ pub trait Behind {
 
     ghost takes: { Self → Work → Type 0 };
 
-    // there may be as many sessions as there may be
-    ghost fills: { Self → Type 0 };
+    // there are as many sessions as there may be
+    ghost fills: { Self → Self.State → Type 0 };
 
-    // somebody else may speak for the session
-    ghost clashes: { Self → Type 0 };
+    // somebody else has spoken for the session
+    ghost clashes: { Self → Self.State → Type 0 };
 
     // the text of the replies to the work of an ordinal, as things stand
     ghost replies: { Self → Self.State → ℕ → List ℕ };
@@ -76,7 +76,7 @@ pub trait Behind {
         requires settled { settled self.now state.old 0 }
         ensures whole { IfOk result (λ opening. opening ≡ Open → whole self.now state.new 0) }
         ensures came { IfOk result (λ opening. opening ≡ Open → came self.now state.new (Opens subject ∷ [])) }
-        ensures full { IfOk result (λ opening. opening ≡ Full → fills self.now × came self.now state.new []) }
+        ensures full { IfOk result (λ opening. opening ≡ Full → fills self.now state.new × came self.now state.new []) }
         ensures err { OnErr result (came self.now state.new []) }
         ensures last { IfOk result (λ opening. opening ≡ Open → last self.now state.new ≡ 0) }
         ensures settled { settled self.now state.new 0 };
@@ -89,7 +89,7 @@ pub trait Behind {
         requires settled { (n : ℕ) × (n < ordinal) × settled self.now state.old n }
         ensures whole { IfOk result (λ asking. asking ≡ Taken → (n : ℕ) → n < ordinal → whole self.now state.old n → whole self.now state.new n) }
         ensures came { IfOk result (λ asking. asking ≡ Taken → (told : List Request) → came self.now state.old told → came self.now state.new (told ++ Admits ordinal work ∷ [])) }
-        ensures clash { IfOk result (λ asking. asking ≡ Clash → clashes self.now × ((told : List Request) → came self.now state.old told → came self.now state.new told)) }
+        ensures clash { IfOk result (λ asking. asking ≡ Clash → clashes self.now state.new × ((told : List Request) → came self.now state.old told → came self.now state.new told)) }
         ensures err { OnErr result ((told : List Request) → came self.now state.old told → came self.now state.new told) }
         ensures last { last self.now state.new ≤ ordinal }
         ensures settled { (n : ℕ) → n < ordinal → settled self.now state.old n →

@@ -157,7 +157,7 @@ fn take_turn<B: Behind, W: Write>(
     ensures fault { IfErr result (IsOwnFault writer.new.failed) }
     ensures err { IfErr result (λ fault. FailsTurn fault (view B.replies B.settled B.came behind.now state.old) (view B.replies B.settled B.came behind.now state.new)
         talk.old.after talk.old.pending.items (W.contents writer.old.inner) (W.contents writer.new.inner) turn) }
-    ensures clash { IfErr result (λ fault. fault ≡ Clash → B.clashes behind.now) }
+    ensures clash { IfErr result (λ fault. fault ≡ Clash → B.clashes behind.now state.new) }
 {
     match turn {
         Turn::Skip => Ok(()),
@@ -258,7 +258,7 @@ fn one_line<R: BufRead, B: Behind, W: Write>(
     ensures err { IfErr result (λ fault. (start first : Option (List ℕ)) →
         Stage true names.now (ends start (R.remaining reader.old.inner) first (W.contents writer.old.inner)) left.old (view B.replies B.settled B.came behind.now state.old) talk.old.after talk.old.pending.items →
         Stopped fault names.now (ends start (R.remaining reader.new.inner) first (W.contents writer.new.inner)) reader.new.failed writer.new.failed (view B.replies B.settled B.came behind.now state.new)) }
-    ensures clash { IfErr result (λ fault. fault ≡ Clash → B.clashes behind.now) }
+    ensures clash { IfErr result (λ fault. fault ≡ Clash → B.clashes behind.now state.new) }
 {
     let (turn, more) = match next_turn(alloc, names, reader, writer, held, left) {
         Ok(Some(found)) => found,
@@ -335,7 +335,7 @@ fn listen<R: BufRead, B: Behind, W: Write>(
     ensures err { IfErr result (λ fault. (start first : Option (List ℕ)) →
         Stage more names.now (ends start (R.remaining reader.old.inner) first (W.contents writer.old.inner)) left.old (view B.replies B.settled B.came behind.now state.old) 0 [] →
         Stopped fault names.now (ends start (R.remaining reader.new.inner) first (W.contents writer.new.inner)) reader.new.failed writer.new.failed (view B.replies B.settled B.came behind.now state.new)) }
-    ensures clash { IfErr result (λ fault. fault ≡ Clash → B.clashes behind.now) }
+    ensures clash { IfErr result (λ fault. fault ≡ Clash → B.clashes behind.now state.new) }
 {
     let mut talk = Talk {
         ordinal: 0,
@@ -391,7 +391,7 @@ fn greet<B: Behind, W: Write>(
     ensures whole { IfOk result (λ opening. opening ≡ Open → B.whole behind.now state.new 0) }
     ensures came { IfOk result (λ opening. opening ≡ Open → B.came behind.now state.new (Opens subject ∷ [])) }
     ensures last { IfOk result (λ opening. opening ≡ Open → B.last behind.now state.new ≡ 0) }
-    ensures full { IfOk result (λ opening. opening ≡ Full → B.fills behind.now × B.came behind.now state.new [] × (W.contents writer.new.inner ≡ W.contents writer.old.inner) × (writer.new.failed ≡ false)) }
+    ensures full { IfOk result (λ opening. opening ≡ Full → B.fills behind.now state.new × B.came behind.now state.new [] × (W.contents writer.new.inner ≡ W.contents writer.old.inner) × (writer.new.failed ≡ false)) }
     ensures fault { IfErr result (IsOwnFault writer.new.failed) }
     ensures told { IfErr result (λ fault. (B.came behind.now state.new [] × Appends (W.contents writer.old.inner) (W.contents writer.new.inner) [])
         ⊎ ((fault ≡ Write) × B.came behind.now state.new (Opens subject ∷ []) × ((much : ℕ) × Appends (W.contents writer.old.inner) (W.contents writer.new.inner) (take much ok_line)))) }
@@ -431,12 +431,12 @@ fn answer_first<R: BufRead, B: Behind, W: Write>(
     requires first { IsServed (B.serves behind.now) (B.takes behind.now) turn }
     requires served { AreServed names.now (B.serves behind.now) (B.takes behind.now) }
     ensures ok { OnOk result ((start : Option (List ℕ)) → HeardFirst turn more names.now start (R.remaining reader.old.inner) left.old →
-        HasEnded names.now (ends start (R.remaining reader.new.inner) (W.contents writer.old.inner) (W.contents writer.new.inner)) (view B.replies B.settled B.came behind.now state.new) (B.fills behind.now)) }
+        HasEnded names.now (ends start (R.remaining reader.new.inner) (W.contents writer.old.inner) (W.contents writer.new.inner)) (view B.replies B.settled B.came behind.now state.new) (B.fills behind.now state.new)) }
     ensures fine { OnOk result ((reader.new.failed ≡ false) × (writer.new.failed ≡ false) × (writer.new.unflushed ≡ false)) }
     ensures err { IfErr result (λ fault. (start : Option (List ℕ)) → HeardFirst turn more names.now start (R.remaining reader.old.inner) left.old →
         HasBroken fault names.now (ends start (R.remaining reader.new.inner) (W.contents writer.old.inner) (W.contents writer.new.inner))
-        reader.new.failed writer.new.failed (view B.replies B.settled B.came behind.now state.new) (B.fills behind.now)) }
-    ensures clash { IfErr result (λ fault. fault ≡ Clash → B.clashes behind.now) }
+        reader.new.failed writer.new.failed (view B.replies B.settled B.came behind.now state.new) (B.fills behind.now state.new)) }
+    ensures clash { IfErr result (λ fault. fault ≡ Clash → B.clashes behind.now state.new) }
 {
     match turn.greeted() {
         Some(subject) => match greet(behind, state, writer, subject) {
@@ -465,11 +465,11 @@ pub fn converse<R: BufRead, B: Behind, W: Write>(
     requires settled { B.settled behind.now state.old 0 }
     requires whole { B.whole behind.now state.old 0 }
     requires served { AreServed names.now (B.serves behind.now) (B.takes behind.now) }
-    ensures ok { OnOk result (HasEnded names.now (ends (R.remaining reader.old.inner) (R.remaining reader.new.inner) (W.contents writer.old.inner) (W.contents writer.new.inner)) (view B.replies B.settled B.came behind.now state.new) (B.fills behind.now)) }
+    ensures ok { OnOk result (HasEnded names.now (ends (R.remaining reader.old.inner) (R.remaining reader.new.inner) (W.contents writer.old.inner) (W.contents writer.new.inner)) (view B.replies B.settled B.came behind.now state.new) (B.fills behind.now state.new)) }
     ensures fine { OnOk result ((reader.new.failed ≡ false) × (writer.new.failed ≡ false) × (writer.new.unflushed ≡ false)) }
     ensures err { IfErr result (λ fault. HasBroken fault names.now (ends (R.remaining reader.old.inner) (R.remaining reader.new.inner) (W.contents writer.old.inner) (W.contents writer.new.inner))
-        reader.new.failed writer.new.failed (view B.replies B.settled B.came behind.now state.new) (B.fills behind.now)) }
-    ensures clash { IfErr result (λ fault. fault ≡ Clash → B.clashes behind.now) }
+        reader.new.failed writer.new.failed (view B.replies B.settled B.came behind.now state.new) (B.fills behind.now state.new)) }
+    ensures clash { IfErr result (λ fault. fault ≡ Clash → B.clashes behind.now state.new) }
 {
     let mut held = match Held::new(alloc) {
         Ok(held) => held,

@@ -1,3 +1,12 @@
 mod ToldLaws
+mod Staying
+mod Telling
+mod Alone
+mod Admitted
+mod Opened
+mod Talking
+mod Transcribing
+mod Listening
 mod VisitLaws
+mod Coming
 mod OutcomeLaws

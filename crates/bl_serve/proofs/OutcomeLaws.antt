@@ -1,22 +1,32 @@
 -- Laws of what a session over a gate ends with.
-use Rattle.std.proofs.Common.{◌≡◌, ℕ, ◌≤◌, ◌++◌, Bool, List, Option, All, ◌⊎◌, inl, inr, subst}
-use Rattle.std.specs.Prelude.{⊤}
-use Rattle.bl_gate.specs.Gates.{GateView, PassView}
+use Rattle.std.proofs.Common.{◌≡◌, ℕ, zero, suc, ◌≤◌, ◌++◌, ◌∷◌, [], Bool, true, false, true≢false, List, Option, Some, None, All, ◌⊎◌, inl, inr, refl, sym, ap, subst, ◌∙◌, arith, append-nil, append_assoc, length, replicate, take, drop}
+use Rattle.std.proofs.lemmas.List.{take-append-drop}
+use Rattle.bl_gate.specs.Gates.{GateView, PassView, state_seen}
 use Rattle.bl_hall.specs.declared.reply.Reply.{Reply}
 use Rattle.bl_work.specs.Names.{KnownNames}
 use Rattle.bl_wire.specs.Named.{NamesAnswer}
-use Rattle.bl_wire.specs.Texts.{bye_line}
+use Rattle.bl_wire.specs.Replies.{line_text}
+use Rattle.bl_wire.specs.Turns.{IsOpening}
+use Rattle.bl_wire.specs.Texts.{bye_line, session_text}
+use Rattle.bl_wire.specs.declared.turn.Turn.{Turn}
+use Rattle.bl_wire.specs.declared.turn.Turn.TheVariants.{Skip, Wait, Greets, Bad, Ask}
+use Rattle.bl_engine.specs.Requests as request
+use Rattle.bl_engine.specs.Requests.{Request, SameUpTo, told_by}
+use Rattle.bl_engine.specs.Spoken.{Begins}
+use Rattle.bl_session.specs.Transcripts.{IsTranscript}
 use Rattle.bl_wire.specs.declared.fault.SessionFault.{SessionFault}
 use Rattle.bl_engine.specs.View.{View, Ends, ends}
 use Rattle.bl_engine.specs.Stages.{Finished, Stopped, TurnedAway, TurnedAwayInPart, refused_sessions}
 use Rattle.bl_serve.specs.Told.{told_text}
-use Rattle.bl_serve.specs.Visits.{IsOf}
-use Rattle.bl_serve.specs.Outcome.{replies_alone, IsServed, IsCutShort}
+use Rattle.bl_serve.specs.Talks.{IsTalk, SpeaksAlone}
+use Rattle.bl_serve.specs.Visits.{HasCome, HasTold, IsCrowded, talk_of}
+use Rattle.bl_serve.specs.Outcome.{replies_alone, IsServed, IsCutShort, IsTranscribed, IsTranscribedInPart}
 use Rattle.bl_serve.specs.declared.visit.Visit.{Visit}
+use Rattle.bl_serve.proofs.Transcribing.{nothing_told, replies_are, transcribed, turned_away, written_is}
 use Rattle.bl_serve.proofs.VisitLaws.{all_named}
 
 module _ (names : KnownNames) (e : Ends) (view : View) where
-  finished_plain : Finished names e view → Finished names e (replies_alone view.replies)
+  abbrev pub finished_plain : Finished names e view → Finished names e (replies_alone view.replies)
   finished_plain f = record {
     bytes = f.bytes;
     turns = f.turns;
@@ -31,7 +41,7 @@ module _ (names : KnownNames) (e : Ends) (view : View) where
     settled = tt;
   }
 
-  away_plain : (text : List ℕ) → TurnedAway names e view text → TurnedAway names e (replies_alone view.replies) text
+  abbrev pub away_plain : (text : List ℕ) → TurnedAway names e view text → TurnedAway names e (replies_alone view.replies) text
   away_plain text a = record {
     subject = a.subject;
     turns = a.turns;
@@ -43,7 +53,7 @@ module _ (names : KnownNames) (e : Ends) (view : View) where
     came = tt;
   }
 
-  stopped_plain : (fault : SessionFault) (read_failed write_failed : Bool)
+  abbrev pub stopped_plain : (fault : SessionFault) (read_failed write_failed : Bool)
       → Stopped fault names e read_failed write_failed view → Stopped fault names e read_failed write_failed (replies_alone view.replies)
   stopped_plain fault read_failed write_failed s = record {
     turns = s.turns;
@@ -64,7 +74,7 @@ module _ (names : KnownNames) (e : Ends) (view : View) where
     closed = s.closed;
   }
 
-  away_part_plain : (fault : SessionFault) (read_failed write_failed : Bool) (text : List ℕ)
+  abbrev pub away_part_plain : (fault : SessionFault) (read_failed write_failed : Bool) (text : List ℕ)
       → TurnedAwayInPart fault names e read_failed write_failed view text → TurnedAwayInPart fault names e read_failed write_failed (replies_alone view.replies) text
   away_part_plain fault read_failed write_failed text a = record {
     much = a.much;
@@ -74,39 +84,143 @@ module _ (names : KnownNames) (e : Ends) (view : View) where
     write_marked = a.write_marked;
   }
 
-module _ (names : KnownNames) (gate : GateView) (at_first : PassView) (visit : Visit) (start rest first kept : Option (List ℕ)) (read_failed write_failed : Bool) (is : names ≡ gate.names) where
-  abbrev seen : View
-  seen = record { replies = told_text gate.names visit.told.items; settled = λ n. n ≤ visit.upto; came = λ _. IsOf gate at_first visit }
+-- ---- transcripts
 
-  named : IsOf gate at_first visit → All (λ (r : Reply). NamesAnswer gate.names r.answer) visit.told.items
-  named own = all_named gate.names visit.upto visit.told.items own.told
+abbrev is_settles : List Request → Bool
+is_settles [] = false
+is_settles (request.Opens u ∷ told) = false
+is_settles (request.Admits k w ∷ told) = false
+is_settles (request.Settles ∷ told) = true
 
-  pub served : Finished names (ends start rest first kept) seen ⊎ (⊤ × TurnedAway names (ends start rest first kept) seen (refused_sessions ++ bye_line))
-      → IsServed gate.names (record { before = start; after = rest; failed = read_failed }) (record { before = first; after = kept; failed = write_failed })
-  served (inl f) = (
+not_settles : (turns : List Turn) → is_settles (told_by turns) ≡ false
+not_settles [] = refl
+not_settles (Skip ∷ turns) = not_settles turns
+not_settles (Wait ∷ turns) = refl
+not_settles (Greets u ∷ turns) = refl
+not_settles (Bad fault ∷ turns) = refl
+not_settles (Ask work ∷ turns) = refl
+
+-- lines do not begin by settling
+only_settles : (turns : List Turn) (n : ℕ) → told_by turns ≡ replicate n request.Settles → told_by turns ≡ []
+only_settles turns zero is = is
+only_settles turns (suc n) is = absurd (true≢false (sym (ap is_settles is) ∙ not_settles turns))
+
+begins_part : (n : ℕ) (text : List ℕ) → Begins (take n text) text
+begins_part n text = (drop n text, sym (take-append-drop n text))
+
+module _ (gate : GateView) (at_first : PassView) (visit : Visit) where
+  abbrev replies : ℕ → List ℕ
+  replies = told_text gate.names visit.told.items
+
+  -- all lines were told, and settled
+  whole : (turns : List Turn) → HasCome gate at_first visit (told_by turns) → IsTranscribed gate.names at_first visit.pass turns (session_text (told_text gate.names visit.told.items) turns)
+  whole turns c = go visit.session c.talk
+    where
+      go : (o : Option ℕ) → HasTold gate at_first visit o (told_by turns) → IsTranscribed gate.names at_first visit.pass turns (session_text (told_text gate.names visit.told.items) turns)
+      go None talk = (0, λ is alone. nothing_told visit.pass (told_text gate.names visit.told.items) turns talk.none)
+      go (Some s) talk = (
+        s,
+        λ is alone.
+            subst (IsTranscript visit.pass.base.setup visit.pass.base.limit visit.pass.seen s turns)
+            (sym (written_is gate.names at_first visit.pass (talk_of gate.names visit s) (told_by turns) talk is alone turns refl))
+            (transcribed gate.names at_first visit.pass (talk_of gate.names visit s) (told_by turns) talk is alone turns 0 (sym (append-nil (told_by turns)))),
+      )
+
+  -- a first part was written
+  in_part : (heard : List Turn) (told : List Request) (settles upto : ℕ) (written : List ℕ) → HasCome gate at_first visit told → told_by heard ≡ told ++ replicate settles request.Settles → upto ≤ visit.upto
+      → ((later : ℕ → List ℕ) → SameUpTo upto (told_text gate.names visit.told.items) later → Begins written (session_text later heard)) → IsTranscribedInPart gate.names at_first visit.pass heard written
+  in_part heard told settles upto written c by le begins = go visit.session c.talk
+    where
+      go : (o : Option ℕ) → HasTold gate at_first visit o told → IsTranscribedInPart gate.names at_first visit.pass heard written
+      go None talk = (
+        0,
+        λ is alone. (
+          session_text (told_text gate.names visit.told.items) heard,
+          nothing_told visit.pass (told_text gate.names visit.told.items) heard (only_settles heard settles (by ∙ ap (λ l. l ++ replicate settles request.Settles) talk.none)),
+          begins (told_text gate.names visit.told.items) (λ k low. refl),
+        ),
+      )
+      go (Some s) talk = (
+        s,
+        λ is alone. (
+          session_text (line_text (state_seen visit.pass) s) heard,
+          transcribed gate.names at_first visit.pass (talk_of gate.names visit s) told talk is alone heard settles by,
+          begins (line_text (state_seen visit.pass) s) (λ k low. replies_are gate.names at_first visit.pass (talk_of gate.names visit s) told talk is alone k (omega (arith, low, le))),
+        ),
+      )
+
+  crowded : (subject : ℕ) (turns : List Turn) → IsCrowded visit.pass → IsOpening subject turns → IsTranscribed gate.names at_first visit.pass turns (refused_sessions ++ bye_line)
+  crowded subject turns full opening = (0, λ is alone. turned_away visit.pass subject turns full.trail full.full opening)
+
+-- ---- outcomes
+
+module _ (gate : GateView) (at_first before : PassView) (visit : Visit) (e : Ends) (same : at_first ≡ before) where
+  abbrev pub seen : View
+  seen = record { replies = told_text gate.names visit.told.items; settled = λ n. n ≤ visit.upto; came = HasCome gate at_first visit }
+
+  named : (told : List Request) → HasCome gate at_first visit told → All (λ (r : Reply). NamesAnswer gate.names r.answer) visit.told.items
+  named told c = all_named gate.names visit.upto visit.told.items c.own.told
+
+  served_here : Finished gate.names e seen ⊎ (IsCrowded visit.pass × TurnedAway gate.names e seen (refused_sessions ++ bye_line))
+      → (told : List Reply) × All (λ (r : Reply). NamesAnswer gate.names r.answer) told
+      × (((f : Finished gate.names e (replies_alone (told_text gate.names told))) × IsTranscribed gate.names before visit.pass f.turns (session_text (told_text gate.names told) f.turns))
+      ⊎ ((a : TurnedAway gate.names e (replies_alone (told_text gate.names told)) (refused_sessions ++ bye_line)) × IsTranscribed gate.names before visit.pass a.turns (refused_sessions ++ bye_line)))
+  served_here (inl f) = (
     visit.told.items,
-    named f.came,
-    inl (subst (λ (n : KnownNames). Finished n (ends start rest first kept) (replies_alone seen.replies)) is (finished_plain names (ends start rest first kept) seen f)),
+    named (told_by f.turns) f.came,
+    inl (
+      finished_plain gate.names e seen f,
+      subst (λ (p : PassView). IsTranscribed gate.names p visit.pass f.turns (session_text (told_text gate.names visit.told.items) f.turns)) same (whole gate at_first visit f.turns f.came),
+    ),
   )
-  served (inr a) = (
+  served_here (inr a) = (
     visit.told.items,
-    named a.1.came,
-    inr (subst (λ (n : KnownNames). TurnedAway n (ends start rest first kept) (replies_alone seen.replies) (refused_sessions ++ bye_line)) is (away_plain names (ends start rest first kept) seen _ a.1)),
+    named [] a.1.came,
+    inr (
+      away_plain gate.names e seen (refused_sessions ++ bye_line) a.1,
+      subst (λ (p : PassView). IsTranscribed gate.names p visit.pass a.1.turns (refused_sessions ++ bye_line)) same (crowded gate at_first visit a.1.subject a.1.turns a.0 a.1.opened),
+    ),
   )
+
+  cut_here : (fault : SessionFault) (read_failed write_failed : Bool)
+      → Stopped fault gate.names e read_failed write_failed seen ⊎ (IsCrowded visit.pass × TurnedAwayInPart fault gate.names e read_failed write_failed seen (refused_sessions ++ bye_line))
+      → (told : List Reply) × All (λ (r : Reply). NamesAnswer gate.names r.answer) told
+      × (((s : Stopped fault gate.names e read_failed write_failed (replies_alone (told_text gate.names told))) × IsTranscribedInPart gate.names before visit.pass s.heard s.written)
+      ⊎ ((a : TurnedAwayInPart fault gate.names e read_failed write_failed (replies_alone (told_text gate.names told)) (refused_sessions ++ bye_line))
+      × IsTranscribedInPart gate.names before visit.pass a.part.turns (take a.much (refused_sessions ++ bye_line))))
+  cut_here fault read_failed write_failed (inl s) = (
+    visit.told.items,
+    named s.told s.came,
+    inl (
+      stopped_plain gate.names e seen fault read_failed write_failed s,
+      subst (λ (p : PassView). IsTranscribedInPart gate.names p visit.pass s.heard s.written) same (in_part gate at_first visit s.heard s.told s.settles s.upto s.written s.came s.told_is s.settled s.begins),
+    ),
+  )
+  cut_here fault read_failed write_failed (inr a) = (
+    visit.told.items,
+    named [] a.1.part.came,
+    inr (
+      away_part_plain gate.names e seen fault read_failed write_failed (refused_sessions ++ bye_line) a.1,
+      subst (λ (p : PassView). IsTranscribedInPart gate.names p visit.pass a.1.part.turns (take a.1.much (refused_sessions ++ bye_line))) same
+      (let t = crowded gate at_first visit a.1.part.subject a.1.part.turns a.0 a.1.part.opened in
+      (t.0, λ is alone. (refused_sessions ++ bye_line, t.1 is alone, begins_part a.1.much (refused_sessions ++ bye_line)))),
+    ),
+  )
+
+module _ (names : KnownNames) (gate : GateView) (at_first before : PassView) (visit : Visit) (start rest first kept : Option (List ℕ)) (read_failed write_failed : Bool) (is : names ≡ gate.names) (same : at_first ≡ before) where
+  abbrev there : Ends
+  there = ends start rest first kept
+
+  pub served : Finished names (ends start rest first kept) (seen gate at_first before visit (ends start rest first kept) same)
+      ⊎ (IsCrowded visit.pass × TurnedAway names (ends start rest first kept) (seen gate at_first before visit (ends start rest first kept) same) (refused_sessions ++ bye_line))
+      → IsServed gate.names before visit.pass (record { before = start; after = rest; failed = read_failed }) (record { before = first; after = kept; failed = write_failed })
+  served ended = served_here gate at_first before visit there same
+      (subst (λ (n : KnownNames). Finished n there (seen gate at_first before visit there same) ⊎ (IsCrowded visit.pass × TurnedAway n there (seen gate at_first before visit there same) (refused_sessions ++ bye_line))) is ended)
 
   pub cut_short : (fault : SessionFault)
-      → Stopped fault names (ends start rest first kept) read_failed write_failed seen
-      ⊎ (⊤ × TurnedAwayInPart fault names (ends start rest first kept) read_failed write_failed seen (refused_sessions ++ bye_line))
-      → IsCutShort gate.names fault (record { before = start; after = rest; failed = read_failed }) (record { before = first; after = kept; failed = write_failed })
-  cut_short fault (inl s) = (
-    visit.told.items,
-    named s.came,
-    inl (subst (λ (n : KnownNames). Stopped fault n (ends start rest first kept) read_failed write_failed (replies_alone seen.replies)) is
-        (stopped_plain names (ends start rest first kept) seen fault read_failed write_failed s)),
-  )
-  cut_short fault (inr a) = (
-    visit.told.items,
-    named a.1.part.came,
-    inr (subst (λ (n : KnownNames). TurnedAwayInPart fault n (ends start rest first kept) read_failed write_failed (replies_alone seen.replies) (refused_sessions ++ bye_line)) is
-        (away_part_plain names (ends start rest first kept) seen fault read_failed write_failed _ a.1)),
-  )
+      → Stopped fault names (ends start rest first kept) read_failed write_failed (seen gate at_first before visit (ends start rest first kept) same)
+      ⊎ (IsCrowded visit.pass × TurnedAwayInPart fault names (ends start rest first kept) read_failed write_failed (seen gate at_first before visit (ends start rest first kept) same) (refused_sessions ++ bye_line))
+      → IsCutShort gate.names before visit.pass fault (record { before = start; after = rest; failed = read_failed }) (record { before = first; after = kept; failed = write_failed })
+  cut_short fault ended = cut_here gate at_first before visit there same fault read_failed write_failed
+      (subst (λ (n : KnownNames). Stopped fault n there read_failed write_failed (seen gate at_first before visit there same)
+      ⊎ (IsCrowded visit.pass × TurnedAwayInPart fault n there read_failed write_failed (seen gate at_first before visit there same) (refused_sessions ++ bye_line))) is ended)

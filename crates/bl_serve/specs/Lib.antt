@@ -1,3 +1,4 @@
 pub mod Told
+pub mod Talks
 pub mod Visits
 pub mod Outcome

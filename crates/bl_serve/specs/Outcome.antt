@@ -1,13 +1,18 @@
--- What a session over a gate ends with. What the hall behind the gate answered no clause says yet.
-use Rattle.std.specs.Prelude.{ℕ, List, All, ⊤, ◌⊎◌, ◌++◌}
+-- What a session over a gate ends with.
+use Rattle.std.specs.Prelude.{◌≡◌, ℕ, List, All, ⊤, ◌⊎◌, ◌++◌, take}
 use Rattle.bl_hall.specs.declared.reply.Reply as owned
 use Rattle.bl_work.specs.Names.{KnownNames}
 use Rattle.bl_wire.specs.Watch.{Use}
 use Rattle.bl_wire.specs.Named.{NamesAnswer}
-use Rattle.bl_wire.specs.Texts.{bye_line}
+use Rattle.bl_wire.specs.Texts.{bye_line, session_text}
+use Rattle.bl_wire.specs.declared.turn.Turn.{Turn}
+use Rattle.bl_gate.specs.Gates.{PassView}
 use Rattle.bl_wire.specs.declared.fault.SessionFault.{SessionFault}
 use Rattle.bl_engine.specs.View.{View, ends}
 use Rattle.bl_engine.specs.Stages.{Finished, Stopped, TurnedAway, TurnedAwayInPart, refused_sessions}
+use Rattle.bl_engine.specs.Spoken.{Begins}
+use Rattle.bl_session.specs.Transcripts.{IsTranscript}
+use Rattle.bl_serve.specs.Talks.{SpeaksAlone}
 use Rattle.bl_serve.specs.Told.{told_text}
 
 -- nothing is said of what was settled, or of what was asked
@@ -18,18 +23,34 @@ Unsaid _ = ⊤
 abbrev pub replies_alone : (ℕ → List ℕ) → View
 replies_alone replies = record { replies = replies; settled = Unsaid; came = Unsaid }
 
+-- What was written for these lines is a transcript of them by all that the pass has seen, where no other pass spoke for the session
+-- and the names are the hall's.
+abbrev pub IsTranscribed : KnownNames → (before after : PassView) → List Turn → List ℕ → Type 0
+IsTranscribed names before after turns text =
+    (session : ℕ) × (names ≡ after.base.setup.names → SpeaksAlone before after session → IsTranscript after.base.setup after.base.limit after.seen session turns text)
+
+-- the same, where it begins one
+abbrev pub IsTranscribedInPart : KnownNames → (before after : PassView) → List Turn → List ℕ → Type 0
+IsTranscribedInPart names before after turns part =
+    (session : ℕ) × (names ≡ after.base.setup.names → SpeaksAlone before after session →
+    (text : List ℕ) × IsTranscript after.base.setup after.base.limit after.seen session turns text × Begins part text)
+
 -- The input was read to its end, or to the end of a first line that was refused and no further. What is written is the text of a
--- session that was told these replies, or there were as many sessions as there may be.
-abbrev pub IsServed : KnownNames → Use → Use → Type 0
-IsServed names reader writer =
+-- session that was told these replies, or there were as many sessions as there may be; and it is a transcript.
+abbrev pub IsServed : KnownNames → (before after : PassView) → Use → Use → Type 0
+IsServed names before after reader writer =
     (told : List owned.Reply) × All (λ reply. NamesAnswer names reply.answer) told
-    × (Finished names (ends reader.before reader.after writer.before writer.after) (replies_alone (told_text names told))
-    ⊎ TurnedAway names (ends reader.before reader.after writer.before writer.after) (replies_alone (told_text names told)) (refused_sessions ++ bye_line))
+    × (((f : Finished names (ends reader.before reader.after writer.before writer.after) (replies_alone (told_text names told)))
+    × IsTranscribed names before after f.turns (session_text (told_text names told) f.turns))
+    ⊎ ((a : TurnedAway names (ends reader.before reader.after writer.before writer.after) (replies_alone (told_text names told)) (refused_sessions ++ bye_line))
+    × IsTranscribed names before after a.turns (refused_sessions ++ bye_line)))
 
 -- The session ended early. Only the end that is told has failed, and what is written begins the text of a session that was told
--- these replies.
-abbrev pub IsCutShort : KnownNames → SessionFault → Use → Use → Type 0
-IsCutShort names fault reader writer =
+-- these replies, and a transcript of the lines that were heard.
+abbrev pub IsCutShort : KnownNames → (before after : PassView) → SessionFault → Use → Use → Type 0
+IsCutShort names before after fault reader writer =
     (told : List owned.Reply) × All (λ reply. NamesAnswer names reply.answer) told
-    × (Stopped fault names (ends reader.before reader.after writer.before writer.after) reader.failed writer.failed (replies_alone (told_text names told))
-    ⊎ TurnedAwayInPart fault names (ends reader.before reader.after writer.before writer.after) reader.failed writer.failed (replies_alone (told_text names told)) (refused_sessions ++ bye_line))
+    × (((s : Stopped fault names (ends reader.before reader.after writer.before writer.after) reader.failed writer.failed (replies_alone (told_text names told)))
+    × IsTranscribedInPart names before after s.heard s.written)
+    ⊎ ((a : TurnedAwayInPart fault names (ends reader.before reader.after writer.before writer.after) reader.failed writer.failed (replies_alone (told_text names told)) (refused_sessions ++ bye_line))
+    × IsTranscribedInPart names before after a.part.turns (take a.much (refused_sessions ++ bye_line))))

@@ -1,7 +1,12 @@
 -- How far a session over a gate has come.
-use Rattle.std.specs.Prelude.{◌≡◌, ℕ, ◌<◌, ◌≤◌, All, length, drop}
-use Rattle.bl_gate.specs.Gates.{GateView, PassView, Follows}
-use Rattle.bl_serve.specs.Told.{behind, IsTold}
+use Rattle.std.specs.Prelude.{◌≡◌, ℕ, ◌<◌, ◌≤◌, List, [], Option, Some, None, All, length, drop}
+use Rattle.bl_work.specs.Names.{KnownNames}
+use Rattle.bl_order.specs.Machine.{most_sessions}
+use Rattle.bl_hall.specs.Chronicle.{HasTrail}
+use Rattle.bl_gate.specs.Gates.{GateView, PassView, Follows, hall_seen, state_seen}
+use Rattle.bl_engine.specs.Requests.{Request}
+use Rattle.bl_serve.specs.Talks.{IsTalk, SpeaksAlone, Talk}
+use Rattle.bl_serve.specs.Told.{behind, told_text, IsTold}
 use Rattle.bl_serve.specs.declared.visit.Visit.{Visit}
 use Rattle.bl_serve.specs.declared.visit.Page.{Page}
 
@@ -10,11 +15,43 @@ pub record IsOf (gate : GateView) (first : PassView) (visit : Visit) : Type 0 wh
   pub gate_is : visit.pass.gate ≡ gate.id
   pub follows : Follows first visit.pass
   pub told : All (IsTold gate.names 0 visit.upto) visit.told.items
+  pub within : visit.upto ≤ visit.last
+
+-- nothing was told to the gate yet, and nothing by it
+pub record IsSilent (first : PassView) (visit : Visit) (told : List Request) : Type 0 where
+  pub none : told ≡ []
+  pub own : visit.pass.own ≡ first.own
+  pub heard : visit.told.items ≡ []
+  pub last : visit.last ≡ 0
+
+-- the talk of a visit's session
+abbrev pub talk_of : KnownNames → Visit → ℕ → Talk
+talk_of names visit session = record { session = session; last = visit.last; upto = visit.upto; replies = told_text names visit.told.items }
+
+-- without a session nothing was told, and with one this was told of it
+abbrev pub HasTold : GateView → PassView → Visit → Option ℕ → List Request → Type 0
+HasTold gate first visit None told = IsSilent first visit told
+HasTold gate first visit (Some session) told = IsTalk gate.names first visit.pass (talk_of gate.names visit session) told
+
+-- what was told brought the visit here
+pub record HasCome (gate : GateView) (first : PassView) (visit : Visit) (told : List Request) : Type 0 where
+  pub own : IsOf gate first visit
+  pub talk : HasTold gate first visit visit.session told
 
 -- no call has failed, and the last block ended with this ordinal
 pub record IsWhole (gate : GateView) (first : PassView) (visit : Visit) (n : ℕ) : Type 0 where
-  pub own : IsOf gate first visit
+  pub told : List Request
+  pub come : HasCome gate first visit told
   pub upto : visit.upto ≡ n
+
+-- there are as many sessions as there may be, as the pass has seen
+pub record IsCrowded (pass : PassView) : Type 0 where
+  pub trail : HasTrail (hall_seen pass)
+  pub full : most_sessions ≤ length (state_seen pass).sessions
+
+-- another pass spoke for the session, where the names are the hall's
+abbrev pub IsSpokenFor : KnownNames → (before after : PassView) → Type 0
+IsSpokenFor names before after = (session : ℕ) × (names ≡ after.base.setup.names → SpeaksAlone before after session → ⊥)
 
 -- the replies to lines above an ordinal stand from the page's place on
 pub record IsPage (visit : Visit) (page : Page) (n : ℕ) : Type 0 where

@@ -2,7 +2,9 @@
 ghost use Rattle.std.specs.Prelude.{◌≡◌, false, OnOk, IfErr};
 ghost use Rattle.bl_gate.specs.Gates.{Follows};
 ghost use Rattle.bl_wire.specs.Watch.{used};
+ghost use Rattle.bl_wire.specs.declared.fault.SessionFault.TheVariants.{Clash};
 ghost use Rattle.bl_serve.specs.Outcome.{IsServed, IsCutShort};
+ghost use Rattle.bl_serve.specs.Visits.{IsSpokenFor};
 
 use crate::visit::{Visit, Visitor};
 use bl_engine::session::converse;
@@ -38,9 +40,10 @@ pub fn serve<R: BufRead, W: Write, T: Wait>(
     requires reader { reader.old.failed ≡ false }
     requires writer { writer.old.failed ≡ false }
     ensures follows { Follows pass result.0 }
-    ensures ok { OnOk result.1 (IsServed gate.now.names (used R.remaining reader.old reader.new) (used W.contents writer.old writer.new)) }
+    ensures ok { OnOk result.1 (IsServed gate.now.names pass result.0 (used R.remaining reader.old reader.new) (used W.contents writer.old writer.new)) }
     ensures fine { OnOk result.1 ((reader.new.failed ≡ false) × (writer.new.failed ≡ false) × (writer.new.unflushed ≡ false)) }
-    ensures err { IfErr result.1 (λ fault. IsCutShort gate.now.names fault (used R.remaining reader.old reader.new) (used W.contents writer.old writer.new)) }
+    ensures clash { IfErr result.1 (λ fault. fault ≡ Clash → IsSpokenFor gate.now.names pass result.0) }
+    ensures err { IfErr result.1 (λ fault. IsCutShort gate.now.names pass result.0 fault (used R.remaining reader.old reader.new) (used W.contents writer.old writer.new)) }
 {
     serve_with(rt, alloc, gate, pass, reader, writer, bell, &NoPause)
 }
@@ -60,9 +63,10 @@ pub fn serve_with<R: BufRead, W: Write, P: Pause, T: Wait>(
     requires reader { reader.old.failed ≡ false }
     requires writer { writer.old.failed ≡ false }
     ensures follows { Follows pass result.0 }
-    ensures ok { OnOk result.1 (IsServed gate.now.names (used R.remaining reader.old reader.new) (used W.contents writer.old writer.new)) }
+    ensures ok { OnOk result.1 (IsServed gate.now.names pass result.0 (used R.remaining reader.old reader.new) (used W.contents writer.old writer.new)) }
     ensures fine { OnOk result.1 ((reader.new.failed ≡ false) × (writer.new.failed ≡ false) × (writer.new.unflushed ≡ false)) }
-    ensures err { IfErr result.1 (λ fault. IsCutShort gate.now.names fault (used R.remaining reader.old reader.new) (used W.contents writer.old writer.new)) }
+    ensures clash { IfErr result.1 (λ fault. fault ≡ Clash → IsSpokenFor gate.now.names pass result.0) }
+    ensures err { IfErr result.1 (λ fault. IsCutShort gate.now.names pass result.0 fault (used R.remaining reader.old reader.new) (used W.contents writer.old writer.new)) }
 {
     let visitor = Visitor {
         rt,

@@ -1,9 +1,13 @@
 //! The machine behind a session over a gate. Lines enter through the gate, and who waits for their answers takes turns meanwhile.
-//! Other threads call the gate too, so of what the hall answers only this is known: what was told stays told.
-ghost use Rattle.std.specs.Prelude.{◌≡◌, ◌≤◌, ℕ, [], ⊤, Some, None};
-ghost use Rattle.bl_gate.specs.Gates.{Follows};
+//! Other threads call the gate too, so what the hall answers is that of a trail which goes on; what was told stays told.
+ghost use Rattle.std.specs.Prelude.{◌≡◌, ◌≤◌, ℕ, [], ⊤, Some, None, IfOk, map};
+ghost use Rattle.bl_gate.specs.Gates.{hall_seen, state_seen};
+ghost use Rattle.bl_hall.specs.Chronicle.{HasTrail};
+ghost use Rattle.bl_hall.specs.Told.{AreAnswers, reply_of};
+ghost use Rattle.bl_work.specs.Readable.{IsReadable};
+ghost use Rattle.bl_serve.specs.Talks.{Listens};
 ghost use Rattle.bl_serve.specs.Told.{told_text};
-ghost use Rattle.bl_serve.specs.Visits.{IsOf, IsWhole, IsPage};
+ghost use Rattle.bl_serve.specs.Visits.{HasCome, IsCrowded, IsPage, IsSpokenFor, IsWhole};
 
 use crate::told::{are_told, put_line};
 use bl_core::refusal::{Cause, OpenRefused};
@@ -11,6 +15,7 @@ use bl_core::session::SessionNo;
 use bl_engine::behind::{Asking, Behind, Opening};
 use bl_gate::gate::Gate;
 use bl_gate::pass::Pass;
+use bl_hall::laws::replies_go_by_lines;
 use bl_hall::reply::Reply;
 use bl_policy::id::SubjectId;
 use bl_wire::watched::Watched;
@@ -39,13 +44,14 @@ pub struct Visitor<'a, P, T> {
     pub first: Snapshot<Pass>,
 }
 
-/// The pass, the session once it is open, the entries of the block's lines, what was told of the session, and the ordinal up
-/// to which.
+/// The pass, the session once it is open, the entries of the block's lines, the last ordinal that was asked, what was told of the
+/// session, and the ordinal up to which.
 #[derive(Drop)]
 pub struct Visit {
     pub pass: Pass,
     pub session: Option<SessionNo>,
     pub asked: Vec<u32>,
+    pub last: u32,
     pub told: Vec<Reply>,
     pub upto: u32,
 }
@@ -59,12 +65,13 @@ pub struct Page {
 impl Visit {
     /// A session that is not open yet.
     pub fn new(alloc: Global, pass: Pass) -> Visit
-        ensures { (result.pass ≡ pass) × (result.session ≡ None) × (result.told.items ≡ []) × (result.upto ≡ 0) }
+        ensures { (result.pass ≡ pass) × (result.session ≡ None) × (result.last ≡ 0) × (result.told.items ≡ []) × (result.upto ≡ 0) }
     {
         Visit {
             pass,
             session: None,
             asked: Vec::new(alloc),
+            last: 0,
             told: Vec::new(alloc),
             upto: 0,
         }
@@ -96,7 +103,7 @@ impl<'a, P: Pause, T: Wait> Visitor<'a, P, T> {
     /// Takes a turn with each of these entries that may start.
     fn run(&self, pass: &mut Pass, entries: &[u32]) -> Result<(), AllocError>
         requires { pass.old.gate ≡ self.now.gate.now.id }
-        ensures { Follows pass.old pass.new }
+        ensures { Listens pass.old pass.new }
     {
         let mut count = 0usize;
         for n in entries {
@@ -117,7 +124,9 @@ impl<'a, P: Pause, T: Wait> Visitor<'a, P, T> {
         after: u32,
     ) -> Result<Vec<Reply>, AllocError>
         requires { pass.old.gate ≡ self.now.gate.now.id }
-        ensures { Follows pass.old pass.new }
+        ensures listens { Listens pass.old pass.new }
+        ensures trail { HasTrail (hall_seen pass.new) }
+        ensures told { IfOk result (λ replies. AreAnswers (state_seen pass.new) session after (map reply_of replies.items)) }
     {
         for _ in self.rt.forever() {
             let seen = self.bell.ends();
@@ -143,11 +152,11 @@ impl<'a, P: Pause, T: Wait> Behind for Visitor<'a, P, T> {
 
     ghost serves = { λ _ _. ⊤ };
 
-    ghost takes = { λ _ _. ⊤ };
+    ghost takes = { λ visitor work. IsReadable visitor.gate.now.names work };
 
-    ghost fills = { λ _. ⊤ };
+    ghost fills = { λ _ visit. IsCrowded visit.pass };
 
-    ghost clashes = { λ _. ⊤ };
+    ghost clashes = { λ visitor visit. IsSpokenFor visitor.gate.now.names visitor.first.value visit.pass };
 
     ghost replies = { λ visitor visit k. told_text visitor.gate.now.names visit.told.items k };
 
@@ -155,9 +164,9 @@ impl<'a, P: Pause, T: Wait> Behind for Visitor<'a, P, T> {
 
     ghost whole = { λ visitor visit n. IsWhole visitor.gate.now visitor.first.value visit n };
 
-    ghost came = { λ visitor visit _. IsOf visitor.gate.now visitor.first.value visit };
+    ghost came = { λ visitor visit told. HasCome visitor.gate.now visitor.first.value visit told };
 
-    ghost last = { λ _ visit. visit.upto };
+    ghost last = { λ _ visit. visit.last };
 
     ghost gives = { λ _ visit page n. IsPage visit page n };
 
@@ -175,7 +184,7 @@ impl<'a, P: Pause, T: Wait> Behind for Visitor<'a, P, T> {
 
     fn ask(&self, state: &mut Visit, ordinal: u32, work: Work) -> Result<Asking, AllocError> {
         let Some(session) = state.session else {
-            return Ok(Asking::Clash);
+            return Err(AllocError);
         };
         state.asked.reserve(1)?;
         match self
@@ -184,11 +193,15 @@ impl<'a, P: Pause, T: Wait> Behind for Visitor<'a, P, T> {
         {
             Ok(n) => {
                 state.asked.push_reserved(n);
+                state.last = ordinal;
                 self.call_workers(state.asked.len());
                 Ok(Asking::Taken)
             }
             Err(refused) => match refused.cause {
-                Cause::Full => Ok(Asking::Taken),
+                Cause::Full => {
+                    state.last = ordinal;
+                    Ok(Asking::Taken)
+                }
                 Cause::Stranger | Cause::Session | Cause::Ordinal => Ok(Asking::Clash),
             },
         }
@@ -198,6 +211,7 @@ impl<'a, P: Pause, T: Wait> Behind for Visitor<'a, P, T> {
         let Some(session) = state.session else {
             return Err(AllocError);
         };
+        replies_go_by_lines();
         self.run(&mut state.pass, &state.asked)?;
         let mut replies = self.hear(&mut state.pass, session, after)?;
         if !are_told(self.gate.names(), after, ordinal, &replies) {
@@ -206,6 +220,7 @@ impl<'a, P: Pause, T: Wait> Behind for Visitor<'a, P, T> {
         let next = state.told.len();
         state.told.append(&mut replies)?;
         state.upto = ordinal;
+        state.last = ordinal;
         state.asked.clear();
         Ok(Page { next })
     }

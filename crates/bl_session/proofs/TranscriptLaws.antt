@@ -24,9 +24,9 @@ use Rattle.bl_session.proofs.RunLaws.{state_after-append}
 -- ---- what events keep
 
 -- a session stays, and speaks for its subject
-record KeepsSession (x y : State) (i : ℕ) : Type 0 where
-  there : i < length y.sessions
-  subject : (session_at y i).subject ≡ (session_at x i).subject
+pub record KeepsSession (x y : State) (i : ℕ) : Type 0 where
+  pub there : i < length y.sessions
+  pub subject : (session_at y i).subject ≡ (session_at x i).subject
 
 set_subject : (l : List Session) (j i k : ℕ)
     → (slice_index_or (slice_set l j (record (slice_index_or l j no_session) { last = k })) i no_session).subject ≡ (slice_index_or l i no_session).subject
@@ -36,7 +36,7 @@ set_subject (s ∷ l) zero (suc i) k = refl
 set_subject (s ∷ l) (suc j) zero k = refl
 set_subject (s ∷ l) (suc j) (suc i) k = set_subject l j i k
 
-length-set_session : (l : List Session) (j : ℕ) (s : Session) → length (slice_set l j s) ≡ length l
+pub length-set_session : (l : List Session) (j : ℕ) (s : Session) → length (slice_set l j s) ≡ length l
 length-set_session [] j s = refl
 length-set_session (t ∷ l) zero s = refl
 length-set_session (t ∷ l) (suc j) s = ap suc (length-set_session l j s)
@@ -55,7 +55,7 @@ session_kept x (machine.Starts n) i lt = record { there = lt; subject = refl }
 session_kept x (machine.Ends n) i lt = record { there = lt; subject = refl }
 session_kept x (machine.Loses n) i lt = record { there = lt; subject = refl }
 
-sessions_kept : (x : State) (events : List Event) (i : ℕ) → i < length x.sessions → KeepsSession x (state_after x events) i
+pub sessions_kept : (x : State) (events : List Event) (i : ℕ) → i < length x.sessions → KeepsSession x (state_after x events) i
 sessions_kept x [] i lt = record { there = lt; subject = refl }
 sessions_kept x (e ∷ events) i lt =
     let one = session_kept x e i lt in
@@ -63,9 +63,9 @@ sessions_kept x (e ∷ events) i lt =
     record { there = rest.there; subject = rest.subject ∙ one.subject }
 
 -- the limit stays, and what was admitted weighs no less
-record KeepsWeight (x y : State) : Type 0 where
-  limit : y.limit ≡ x.limit
-  weight : admitted_weight x ≤ admitted_weight y
+pub record KeepsWeight (x y : State) : Type 0 where
+  pub limit : y.limit ≡ x.limit
+  pub weight : admitted_weight x ≤ admitted_weight y
 
 more_weight : (order more : List Entry) → sum_by entry_weight order ≤ sum_by entry_weight (order ++ more)
 more_weight order more = omega (arith, sum_by-append entry_weight order more)
@@ -78,7 +78,7 @@ weight_kept x (machine.Starts n) = record { limit = refl; weight = omega arith }
 weight_kept x (machine.Ends n) = record { limit = refl; weight = more_weight x.order (children_at x n) }
 weight_kept x (machine.Loses n) = record { limit = refl; weight = omega arith }
 
-weights_kept : (x : State) (events : List Event) → KeepsWeight x (state_after x events)
+pub weights_kept : (x : State) (events : List Event) → KeepsWeight x (state_after x events)
 weights_kept x [] = record { limit = refl; weight = omega arith }
 weights_kept x (e ∷ events) =
     let one = weight_kept x e in
@@ -87,7 +87,7 @@ weights_kept x (e ∷ events) =
 
 -- ---- what a run admits
 
-admitted-append : (i : ℕ) (a b : List Event) → admitted i (a ++ b) ≡ admitted i a ++ admitted i b
+pub admitted-append : (i : ℕ) (a b : List Event) → admitted i (a ++ b) ≡ admitted i a ++ admitted i b
 admitted-append i [] b = refl
 admitted-append i (machine.Opens subject ∷ a) b = admitted-append i a b
 admitted-append i (machine.Admits session ordinal work ∷ a) b = go (session == i) (admitted-append i a b)

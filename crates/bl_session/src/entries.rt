@@ -181,9 +181,9 @@ impl Behind for Alone {
 
     ghost takes = { λ _ _. ⊤ };
 
-    ghost fills = { λ _. ⊥ };
+    ghost fills = { λ _ _. ⊥ };
 
-    ghost clashes = { λ _. ⊥ };
+    ghost clashes = { λ _ _. ⊥ };
 
     ghost replies = { λ _ s k. line_text (state_now s.hall) 0 k };
 

@@ -1,3 +1,4 @@
 pub mod Passing
 pub mod Settling
 pub mod Working
+pub mod Admitting

@@ -67,7 +67,7 @@ get_later t s p e (rest, is) there = ap (λ (l : List Event). slice_get l p) is 
     longer (x ∷ xs) ys zero e h = h
     longer (x ∷ xs) ys (suc p) e h = longer xs ys p e h
 
-get_sooner : (t s : List Event) (p : ℕ) → StartsWith t s → p < length s → slice_get t p ≡ slice_get s p
+pub get_sooner : (t s : List Event) (p : ℕ) → StartsWith t s → p < length s → slice_get t p ≡ slice_get s p
 get_sooner t s p (rest, is) lt = ap (λ (l : List Event). slice_get l p) is ∙ front s rest p lt
   where
     front : (xs ys : List Event) (p : ℕ) → p < length xs → slice_get (xs ++ ys) p ≡ slice_get xs p
@@ -79,14 +79,14 @@ get_last : (xs : List Event) (e : Event) → slice_get (xs ++ e ∷ []) (length 
 get_last [] e = refl
 get_last (x ∷ xs) e = get_last xs e
 
-one_place : (p k : ℕ) → 1 ≤ times p (k ∷ []) → p ≡ k
+pub one_place : (p k : ℕ) → 1 ≤ times p (k ∷ []) → p ≡ k
 one_place p k h = grind (arith, nat_tests)
 
 -- where a call stands
-call_there : (p q : PassView) (event : Event) (Answered : State → Type 0) (call : Calls p event Answered q) → slice_get q.seen (length call.trail) ≡ Some event
+pub call_there : (p q : PassView) (event : Event) (Answered : State → Type 0) (call : Calls p event Answered q) → slice_get q.seen (length call.trail) ≡ Some event
 call_there p q event Answered call = ap (λ (l : List Event). slice_get l (length call.trail)) call.seen ∙ get_last call.trail event
 
-call_inside : (p q : PassView) (event : Event) (Answered : State → Type 0) (call : Calls p event Answered q) → length call.trail < length q.seen
+pub call_inside : (p q : PassView) (event : Event) (Answered : State → Type 0) (call : Calls p event Answered q) → length call.trail < length q.seen
 call_inside p q event Answered call =
     let e : length q.seen ≡ length (call.trail ++ event ∷ []) = ap length call.seen in omega (arith, length-append call.trail (event ∷ []))
 

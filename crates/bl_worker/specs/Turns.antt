@@ -2,7 +2,8 @@
 use Rattle.std.specs.Prelude.{◌≡◌, ℕ, ◌<◌, ◌≤◌, Bool, false, IsTrue, ◌||◌, List, ◌++◌, length, Some, slice_get}
 use Rattle.bl_work.specs.declared.answer.Answer.{Answer}
 use Rattle.bl_work.specs.declared.answer.Answer.TheVariants as answers
-use Rattle.bl_order.specs.Machine.{State, Event, Starts, MayStart, past_at, has_ended, runs}
+use Rattle.bl_work.specs.declared.work.Work.{Work}
+use Rattle.bl_order.specs.Machine.{State, Event, Admits, Starts, MayStart, past_at, has_ended, runs}
 use Rattle.bl_gate.specs.Counts.{times}
 use Rattle.bl_gate.specs.Gates.{PassView, Calls, state_seen}
 use Rattle.bl_worker.specs.declared.turn.Turn.{Turn}
@@ -89,3 +90,10 @@ pub record Settles (before after : PassView) : Type 0 where
   pub own : after.own ≡ before.own ++ gained
   pub within : (p : ℕ) → 1 ≤ times p gained → p < length after.seen
   pub settled : (p n : ℕ) → 1 ≤ times p gained → slice_get after.seen p ≡ Some (Starts n) → IsTrue (has_ended (state_seen after) n)
+
+-- The pass has admitted no line since then: each of its new positions is one that it has seen, and no line stands there.
+pub record AdmitsNoLine (before after : PassView) : Type 0 where
+  pub gained : List ℕ
+  pub own : after.own ≡ before.own ++ gained
+  pub within : (p : ℕ) → 1 ≤ times p gained → p < length after.seen
+  pub no_line : (p session ordinal : ℕ) (work : Work) → 1 ≤ times p gained → slice_get after.seen p ≡ Some (Admits session ordinal work) → ⊥

@@ -2,7 +2,7 @@
 ghost use Rattle.std.specs.Prelude.{◌≡◌, IfOk, IfErr, OnOk};
 ghost use Rattle.bl_hall.specs.Chronicle.{HasTrail};
 ghost use Rattle.bl_gate.specs.Gates.{Follows, hall_seen};
-ghost use Rattle.bl_worker.specs.Turns.{Closes, HasRun, HasWorked, IsTurnOf, IsFaultOf, Settles, WasTaken};
+ghost use Rattle.bl_worker.specs.Turns.{AdmitsNoLine, Closes, HasRun, HasWorked, IsTurnOf, IsFaultOf, Settles, WasTaken};
 
 use crate::pause::Pause;
 use bl_core::machine::Started;
@@ -41,6 +41,7 @@ fn finish<R: Wait>(rt: &R, gate: &Gate, pass: &mut Pass, done: Done) -> Result<T
     requires { pass.old.gate ≡ gate.now.id }
     ensures follows { Follows pass.old pass.new }
     ensures trail { HasTrail (hall_seen pass.new) }
+    ensures lines { AdmitsNoLine pass.old pass.new }
     ensures turn { IfOk result (IsTurnOf done.entry) }
     ensures ran { IfOk result (HasRun pass.new) }
     ensures closes { OnOk result (Closes done.entry pass.old pass.new) }
@@ -61,6 +62,7 @@ fn lose<R: Wait>(rt: &R, gate: &Gate, pass: &mut Pass, unrun: Unrun) -> Result<T
     requires { pass.old.gate ≡ gate.now.id }
     ensures follows { Follows pass.old pass.new }
     ensures trail { HasTrail (hall_seen pass.new) }
+    ensures lines { AdmitsNoLine pass.old pass.new }
     ensures turn { IfOk result (IsTurnOf unrun.entry) }
     ensures ran { IfOk result (HasRun pass.new) }
     ensures closes { OnOk result (Closes unrun.entry pass.old pass.new) }
@@ -81,6 +83,7 @@ fn lose_ready<R: Wait>(rt: &R, gate: &Gate, pass: &mut Pass, starved: Starved) -
     requires { pass.old.gate ≡ gate.now.id }
     ensures follows { Follows pass.old pass.new }
     ensures trail { HasTrail (hall_seen pass.new) }
+    ensures lines { AdmitsNoLine pass.old pass.new }
     ensures turn { IsTurnOf starved result }
     ensures worked { HasWorked pass.old pass.new result }
     ensures settles { Settles pass.old pass.new }
@@ -104,6 +107,7 @@ fn run<P: Pause, R: Wait>(
     requires { pass.old.gate ≡ gate.now.id }
     ensures follows { Follows pass.old pass.new }
     ensures trail { HasTrail (hall_seen pass.new) }
+    ensures lines { AdmitsNoLine pass.old pass.new }
     ensures turn { IfOk result (IsTurnOf lent.entry) }
     ensures ran { IfOk result (HasRun pass.new) }
     ensures closes { OnOk result (Closes lent.entry pass.old pass.new) }
@@ -130,6 +134,7 @@ pub fn work_on<P: Pause, R: Wait>(
     requires gate { pass.old.gate ≡ gate.now.id }
     ensures follows { Follows pass.old pass.new }
     ensures trail { HasTrail (hall_seen pass.new) }
+    ensures lines { AdmitsNoLine pass.old pass.new }
     ensures turn { IfOk result (IsTurnOf n) }
     ensures worked { IfOk result (HasWorked pass.old pass.new) }
     ensures settles { OnOk result (Settles pass.old pass.new) }
@@ -156,6 +161,7 @@ pub fn work_once<P: Pause, R: Wait>(
     requires gate { pass.old.gate ≡ gate.now.id }
     ensures follows { Follows pass.old pass.new }
     ensures trail { HasTrail (hall_seen pass.new) }
+    ensures lines { AdmitsNoLine pass.old pass.new }
     ensures worked { IfOk result (HasWorked pass.old pass.new) }
     ensures taken { IfOk result (WasTaken pass.old pass.new) }
     ensures settles { OnOk result (Settles pass.old pass.new) }

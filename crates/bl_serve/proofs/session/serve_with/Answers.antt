@@ -1,16 +1,33 @@
+use Rattle.std.proofs.Common.{[], refl, sym, ap, subst, ◌∙◌}
+use Rattle.bl_gate.specs.Gates.{PassView}
+use Rattle.bl_serve.specs.Talks.{SpeaksAlone}
+use Rattle.bl_serve.proofs.Coming.{come_first}
 use Rattle.bl_serve.proofs.OutcomeLaws.{served, cut_short}
 use Rattle.bl_serve.proofs.session.serve_with.Goals as goal
+
+pub converse-requires-clause-whole : goal.converse-requires-clause-whole
+converse-requires-clause-whole g c =
+    let new = c.new-visit.ensures in record {
+      told = [];
+      come = come_first c.args.gate.now c.of.result.value c.new-visit.result (ap (λ (p : PassView). p.gate) new.0 ∙ c.requires.gate) (c.of.ensures ∙ sym new.0) new.1 new.2 new.3 new.4;
+      upto = new.4;
+    }
 
 pub returns-in-Ok-clause-ok : goal.returns-in-Ok-clause-ok
 returns-in-Ok-clause-ok g c =
     let R = g.R.Read.remaining in
     let W = g.W.Write.contents in
-    served c.names.result.now c.args.gate.now c.of.result.value c.converse.new.state (R c.args.reader.now.inner) (R c.converse.new.reader.inner)
-    (W c.args.writer.now.inner) (W c.converse.new.writer.inner) c.converse.new.reader.failed c.converse.new.writer.failed c.names.ensures c.in-Ok.ensures.ok
+    served c.names.result.now c.args.gate.now c.of.result.value c.args.pass c.converse.new.state (R c.args.reader.now.inner) (R c.converse.new.reader.inner)
+    (W c.args.writer.now.inner) (W c.converse.new.writer.inner) c.converse.new.reader.failed c.converse.new.writer.failed c.names.ensures c.of.ensures c.in-Ok.ensures.ok
 
 pub returns-clause-err : goal.returns-clause-err
 returns-clause-err g c =
     let R = g.R.Read.remaining in
     let W = g.W.Write.contents in
-    cut_short c.names.result.now c.args.gate.now c.of.result.value c.converse.new.state (R c.args.reader.now.inner) (R c.converse.new.reader.inner)
-    (W c.args.writer.now.inner) (W c.converse.new.writer.inner) c.converse.new.reader.failed c.converse.new.writer.failed c.names.ensures c.in-Err.fault c.in-Err.ensures.err
+    cut_short c.names.result.now c.args.gate.now c.of.result.value c.args.pass c.converse.new.state (R c.args.reader.now.inner) (R c.converse.new.reader.inner)
+    (W c.args.writer.now.inner) (W c.converse.new.writer.inner) c.converse.new.reader.failed c.converse.new.writer.failed c.names.ensures c.of.ensures c.in-Err.fault c.in-Err.ensures.err
+
+pub returns-clause-clash : goal.returns-clause-clash
+returns-clause-clash g c = λ e.
+    let h = c.in-Err.ensures.clash e in
+    (h.0, λ names alone. h.1 names (subst (λ (p : PassView). SpeaksAlone p c.converse.new.state.pass h.0) (sym c.of.ensures) alone))

@@ -1,6 +1,7 @@
 use Rattle.std.proofs.Common.{rules, ◌≡◌, ℕ, subst}
 use Rattle.bl_gate.proofs.Results.{both}
 use Rattle.bl_worker.specs.Turns.{Closes, IsDenied, IsDoneOrRuleDone}
+use Rattle.bl_worker.proofs.Admitting.{admits_itself, admits_start, admits_then}
 use Rattle.bl_worker.proofs.Settling.{settles_itself}
 use Rattle.bl_worker.proofs.Working.{is_denied, is_rule_done, settles_run, settles_start, started_ends}
 use Rattle.bl_worker.proofs.turn.work_on.Goals as goal
@@ -38,3 +39,10 @@ returns-in-Ok-Run-clause-settles g c =
 
 pub returns-in-Err-NotReady-clause-settles : goal.returns-in-Err-NotReady-clause-settles
 returns-in-Err-NotReady-clause-settles g c = settles_itself c.args.pass.now c.start.new.pass c.in-Err-NotReady.ensures.err.0
+
+pub returns-in-Ok-Run-clause-lines : goal.returns-in-Ok-Run-clause-lines
+returns-in-Ok-Run-clause-lines g c =
+    admits_then c.args.pass.now c.start.new.pass c.run.new.pass (admits_start c.args.pass.now c.start.new.pass c.args.n _ c.in-Ok-Run.ensures.ok) c.run.ensures.lines c.run.ensures.follows
+
+pub returns-in-Err-NotReady-clause-lines : goal.returns-in-Err-NotReady-clause-lines
+returns-in-Err-NotReady-clause-lines g c = admits_itself c.args.pass.now c.start.new.pass c.in-Err-NotReady.ensures.err.0

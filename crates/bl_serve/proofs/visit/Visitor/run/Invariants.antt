@@ -1,6 +1,6 @@
-use Rattle.bl_gate.specs.Gates.{Follows}
+use Rattle.bl_serve.specs.Talks.{Listens}
 use Rattle.bl_serve.proofs.visit.Visitor.run.Given as goal
 
--- the pass follows what it was at first
+-- the pass has listened since it was what it was at first
 abbrev pub invariant-loop-n : goal.invariant-loop-n
-invariant-loop-n g l = Follows l.initial.pass l.pass
+invariant-loop-n g l = Listens l.initial.pass l.pass

@@ -1,0 +1,214 @@
+-- How a visit goes on: what was told brings it from one call to the next.
+use Rattle.std.proofs.Common.{◌≡◌, ℕ, ◌+◌, ◌<◌, ◌≤◌, ◌⊎◌, inl, inr, Bool, true, false, true≢false, List, [], ◌∷◌, ◌++◌, length, map, refl, sym, ap, subst, ◌∙◌, arith, append-nil, Option, Some, None, All, Result, Ok, Err}
+use Rattle.std.specs.Prelude.{OnErr}
+use Rattle.std.proofs.lemmas.List.Elements.{All-nil, All-weaker}
+use Rattle.bl_work.specs.Names.{KnownNames}
+use Rattle.bl_work.specs.Readable.{IsReadable}
+use Rattle.bl_work.specs.declared.work.Work.{Work}
+use Rattle.bl_order.specs.Machine.{State, Opens, Admits, start, session_at, weight_of, entry_weight}
+use Rattle.bl_core.specs.Answers.{IsCause}
+use Rattle.bl_core.specs.declared.refusal.Cause.{Cause}
+use Rattle.bl_core.specs.declared.refusal.Cause.TheVariants as cause
+use Rattle.bl_hall.specs.Chronicle.{Chronicle, HasTrail}
+use Rattle.bl_hall.specs.Told.{AreAnswers, Waits, reply_of}
+use Rattle.bl_hall.specs.declared.reply.Reply as owned
+use Rattle.bl_gate.specs.Gates.{GateView, PassView, Calls, Follows, hall_seen, state_seen}
+use Rattle.bl_gate.proofs.Following.{follows_itself, follows_then}
+use Rattle.bl_worker.proofs.Admitting.{admits_itself}
+use Rattle.bl_wire.specs.Replies.{line_or_full, line_text}
+use Rattle.bl_engine.specs.Requests as request
+use Rattle.bl_engine.specs.Requests.{Request, SameUpTo}
+use Rattle.bl_session.proofs.RunLaws.{setup_after}
+use Rattle.bl_serve.specs.Talks.{IsHeard, IsTalk, Listens, SpeaksAlone, Talk}
+use Rattle.bl_serve.specs.Told.{ordinal_of, behind, front, line_of, told_text, IsTold}
+use Rattle.bl_serve.specs.Visits.{HasCome, HasTold, IsOf, IsSilent, talk_of}
+use Rattle.bl_serve.specs.declared.visit.Visit.{Visit}
+use Rattle.bl_serve.proofs.Opened.{last_low}
+use Rattle.bl_serve.proofs.Talking.{block_text, talk_asked, talk_full, talk_on, talk_opened, talk_settled}
+use Rattle.bl_serve.proofs.Telling.{GoByLines}
+use Rattle.bl_serve.proofs.ToldLaws.{behind_old}
+use Rattle.bl_serve.proofs.Transcribing.{heard}
+use Rattle.bl_serve.proofs.VisitLaws.{text_stays, told_on}
+
+-- what holds whatever a call gave holds where it gave an error
+pub on_err : {A E P : Type 0} (r : Result A E) → P → OnErr r P
+on_err (Ok x) p = tt
+on_err (Err e) p = p
+
+-- a talk since a pass that owned as much
+from_first : (names : KnownNames) (first p q : PassView) (talk : Talk) (told : List Request) → p.own ≡ first.own → IsTalk names p q talk told → IsTalk names first q talk told
+from_first names first p q talk told same t = record {
+  gained = t.gained;
+  own = t.own ∙ ap (λ l. l ++ t.gained) same;
+  within = t.within;
+  trail = t.trail;
+  there = t.there;
+  subject = t.subject;
+  more = t.more;
+  opened = t.opened;
+  subject_is = t.subject_is;
+  works = t.works;
+  admits = t.admits;
+  covers = t.covers;
+  heard = t.heard;
+}
+
+-- a visit that has just begun
+pub come_first : (gate : GateView) (first : PassView) (visit : Visit) → visit.pass.gate ≡ gate.id → first ≡ visit.pass → visit.session ≡ None → visit.last ≡ 0 → visit.told.items ≡ [] → visit.upto ≡ 0 → HasCome gate first visit []
+come_first gate first visit is same session last none upto = record {
+  own = record {
+    gate_is = is;
+    follows = subst (λ p. Follows p visit.pass) (sym same) (follows_itself visit.pass);
+    told = subst (All (IsTold gate.names 0 visit.upto)) (sym none) (All-nil (IsTold gate.names 0 visit.upto));
+    within = omega (arith, last, upto);
+  };
+  talk = subst (λ o. HasTold gate first visit o []) (sym session) (record { none = refl; own = ap (λ p. p.own) (sym same); heard = none; last = last });
+}
+
+abbrev is_full : Cause → Bool
+is_full cause.Stranger = false
+is_full cause.Session = false
+is_full cause.Ordinal = false
+is_full cause.Full = true
+
+-- a cause other than want of room
+pub not_full : (why : Cause) → (why ≡ cause.Stranger) ⊎ ((why ≡ cause.Session) ⊎ (why ≡ cause.Ordinal)) → why ≡ cause.Full → ⊥
+not_full why (inl is) full = true≢false (sym (ap is_full full) ∙ ap is_full is)
+not_full why (inr (inl is)) full = true≢false (sym (ap is_full full) ∙ ap is_full is)
+not_full why (inr (inr is)) full = true≢false (sym (ap is_full full) ∙ ap is_full is)
+
+module _ (gate : GateView) (first : PassView) (old : Visit) where
+  -- a visit that has told nothing has no session
+  pub silent : HasCome gate first old [] → (old.session ≡ None) × IsSilent first old []
+  silent c = go old.session refl c.talk
+    where
+      go : (s : Option ℕ) → old.session ≡ s → HasTold gate first old s [] → (old.session ≡ None) × IsSilent first old []
+      go None is talk = (is, talk)
+      go (Some s) is talk = absurd (omega (arith, ap length talk.opened))
+
+  of_later : (new : Visit) → IsOf gate first old → Follows old.pass new.pass → new.told.items ≡ old.told.items → new.upto ≡ old.upto → old.upto ≤ new.last → IsOf gate first new
+  of_later new own follows told upto within = record {
+    gate_is = follows.gate ∙ own.gate_is;
+    follows = follows_then first old.pass new.pass own.follows follows;
+    told = subst (All (IsTold gate.names 0 new.upto)) (sym told) (subst (λ n. All (IsTold gate.names 0 n) old.told.items) (sym upto) own.told);
+    within = subst (λ n. n ≤ new.last) (sym upto) within;
+  }
+
+  -- the session was opened
+  pub come_opened : (new : Visit) (s u : ℕ) → HasCome gate first old [] → old.upto ≡ 0 → Follows old.pass new.pass → HasTrail (hall_seen new.pass)
+      → Calls old.pass (Opens u) (λ x. s ≡ length x.sessions) new.pass → new.session ≡ Some s → new.told.items ≡ old.told.items → new.upto ≡ old.upto → new.last ≡ old.last
+      → HasCome gate first new (request.Opens u ∷ [])
+  come_opened new s u c zero_upto follows legal call session told upto last =
+      let quiet = (silent c).1 in
+      let items : new.told.items ≡ [] = told ∙ quiet.heard in
+      record {
+        own = of_later new c.own follows told upto (subst (λ n. old.upto ≤ n) (sym last) c.own.within);
+        talk = subst (λ o. HasTold gate first new o (request.Opens u ∷ [])) (sym session)
+            (from_first gate.names first old.pass new.pass (talk_of gate.names new s) (request.Opens u ∷ []) quiet.own
+            (subst (λ t. IsTalk gate.names old.pass new.pass t (request.Opens u ∷ []))
+            (λ i. record { session = s; last = sym (last ∙ quiet.last) i; upto = sym (upto ∙ zero_upto) i; replies = told_text gate.names new.told.items })
+            (talk_opened gate.names old.pass new.pass s u (told_text gate.names new.told.items) legal follows.base call (ap (λ l. told_text gate.names l 0) items))));
+      }
+
+  -- it was not opened
+  pub come_unopened : (new : Visit) → HasCome gate first old [] → Follows old.pass new.pass → new.pass.own ≡ old.pass.own → new.session ≡ old.session → new.told.items ≡ old.told.items → new.upto ≡ old.upto → new.last ≡ old.last
+      → HasCome gate first new []
+  come_unopened new c follows same session told upto last =
+      let quiet = silent c in
+      record {
+        own = of_later new c.own follows told upto (subst (λ n. old.upto ≤ n) (sym last) c.own.within);
+        talk = subst (λ o. HasTold gate first new o []) (sym (session ∙ quiet.0))
+            (record { none = refl; own = same ∙ quiet.1.own; heard = told ∙ quiet.1.heard; last = last ∙ quiet.1.last });
+      }
+
+  module _ (s : ℕ) (session : old.session ≡ Some s) (told : List Request) (c : HasCome gate first old told) where
+    pub talk_is : IsTalk gate.names first old.pass (talk_of gate.names old s) told
+    talk_is = subst (λ o. HasTold gate first old o told) session c.talk
+
+    -- it listened
+    pub come_listened : (new : Visit) → Listens old.pass new.pass → new.session ≡ old.session → new.told.items ≡ old.told.items → new.upto ≡ old.upto → new.last ≡ old.last → HasCome gate first new told
+    come_listened new listens same v upto last = record {
+      own = of_later new c.own listens.follows v upto (subst (λ n. old.upto ≤ n) (sym last) c.own.within);
+      talk = subst (λ o. HasTold gate first new o told) (sym (same ∙ session))
+          (subst (λ t. IsTalk gate.names first new.pass t told)
+          (λ i. record { session = s; last = sym last i; upto = sym upto i; replies = told_text gate.names (sym v i) })
+          (talk_on old.pass new.pass listens.follows (listens.trail talk_is.trail) gate.names first (talk_of gate.names old s) told talk_is listens.lines));
+    }
+
+    module _ (new : Visit) (k : ℕ) (w : Work) (lt : old.last < k) (follows : Follows old.pass new.pass) (legal : HasTrail (hall_seen new.pass))
+        (same : new.session ≡ old.session) (v : new.told.items ≡ old.told.items) (upto : new.upto ≡ old.upto) where
+      later : Talk
+      later = record { session = s; last = k; upto = old.upto; replies = told_text gate.names old.told.items }
+
+      -- a line was admitted
+      pub come_asked : (A : State → Type 0) → Calls old.pass (Admits s k w) A new.pass → new.last ≡ k → HasCome gate first new (told ++ request.Admits k w ∷ [])
+      come_asked A call last = record {
+        own = of_later new c.own follows v upto (omega (arith, c.own.within, lt, last));
+        talk = subst (λ o. HasTold gate first new o (told ++ request.Admits k w ∷ [])) (sym (same ∙ session))
+            (subst (λ t. IsTalk gate.names first new.pass t (told ++ request.Admits k w ∷ []))
+            (λ i. record { session = s; last = sym last i; upto = sym upto i; replies = told_text gate.names (sym v i) })
+            (talk_asked old.pass new.pass follows legal gate.names first (talk_of gate.names old s) told talk_is k w A lt c.own.within call));
+      }
+
+      -- a line was refused
+      module _ (own : new.pass.own ≡ old.pass.own) where
+        listened : IsTalk gate.names first new.pass (talk_of gate.names old s) told
+        listened = talk_on old.pass new.pass follows legal gate.names first (talk_of gate.names old s) told talk_is (admits_itself old.pass new.pass own)
+
+        -- for want of room
+        pub come_full : IsCause (state_seen new.pass) s k w cause.Full → new.last ≡ k → HasCome gate first new (told ++ request.Admits k w ∷ [])
+        come_full is last = record {
+          own = of_later new c.own follows v upto (omega (arith, c.own.within, lt, last));
+          talk = subst (λ o. HasTold gate first new o (told ++ request.Admits k w ∷ [])) (sym (same ∙ session))
+              (subst (λ t. IsTalk gate.names first new.pass t (told ++ request.Admits k w ∷ []))
+              (λ i. record { session = s; last = sym last i; upto = sym upto i; replies = told_text gate.names (sym v i) })
+              (talk_full gate.names first new.pass (talk_of gate.names old s) told listened k w lt is.3));
+        }
+
+        -- for another cause: then another pass spoke for the session
+        pub spoken_for : (why : Cause) → IsCause (state_seen new.pass) s k w why → (why ≡ cause.Full → ⊥) → IsReadable gate.names w
+            → gate.names ≡ new.pass.base.setup.names → SpeaksAlone first new.pass s → ⊥
+        spoken_for cause.Stranger is other readable names alone = is (subst (λ n. IsReadable n w) (names ∙ sym (ap (λ m. m.names) (setup_after (start new.pass.base.setup new.pass.base.limit) new.pass.seen))) readable)
+        spoken_for cause.Session is other readable names alone = let there = listened.there in omega (arith, is.1, there)
+        spoken_for cause.Ordinal is other readable names alone =
+            let h = heard gate.names first new.pass (talk_of gate.names old s) told listened names alone in
+            let low = last_low (start new.pass.base.setup new.pass.base.limit) new.pass.seen s old.last (omega arith)
+                (subst (All (λ (a : ℕ × Work). a.0 ≤ old.last)) (sym h.lines) listened.admits.works_low)
+            in
+            omega (arith, is.2, low, lt)
+        spoken_for cause.Full is other readable names alone = other refl
+
+    -- its lines were answered
+    pub come_settled : GoByLines → (new : Visit) (more : List owned.Reply) (ordinal : ℕ) → Listens old.pass new.pass → HasTrail (hall_seen new.pass) → AreAnswers (state_seen new.pass) s old.upto (map reply_of more)
+        → All (IsTold gate.names old.upto ordinal) more → old.last ≤ ordinal → new.session ≡ old.session → new.told.items ≡ old.told.items ++ more → new.upto ≡ ordinal → new.last ≡ ordinal
+        → HasCome gate first new (told ++ request.Settles ∷ [])
+    come_settled by_lines new more ordinal listens legal answers are le same items upto last = record {
+      own = record {
+        gate_is = listens.follows.gate ∙ c.own.gate_is;
+        follows = follows_then first old.pass new.pass c.own.follows listens.follows;
+        told = subst (λ n. All (IsTold gate.names 0 n) new.told.items) (sym upto) (subst (All (IsTold gate.names 0 ordinal)) (sym items)
+            (told_on gate.names old.upto ordinal old.told.items more (omega (arith, c.own.within, le)) c.own.told are));
+        within = omega (arith, upto, last);
+      };
+      talk = subst (λ o. HasTold gate first new o (told ++ request.Settles ∷ [])) (sym (same ∙ session))
+          (subst (λ t. IsTalk gate.names first new.pass t (told ++ request.Settles ∷ []))
+          (λ i. record { session = s; last = sym last i; upto = sym upto i; replies = told_text gate.names new.told.items })
+          (talk_settled gate.names first new.pass (talk_of gate.names old s) told listened ordinal (told_text gate.names new.told.items) le answers.waits
+          (λ names was k low. either_side names was k low (below_or_not k old.upto))));
+    }
+      where
+        listened : IsTalk gate.names first new.pass (talk_of gate.names old s) told
+        listened = talk_on old.pass new.pass listens.follows legal gate.names first (talk_of gate.names old s) told talk_is listens.lines
+
+        below_or_not : (a b : ℕ) → (a ≤ b) ⊎ (b < a)
+        below_or_not a b = grind arith
+
+        either_side : gate.names ≡ new.pass.base.setup.names → SameUpTo old.upto (told_text gate.names old.told.items) (line_text (state_seen new.pass) s)
+            → (k : ℕ) → k ≤ ordinal → (k ≤ old.upto) ⊎ (old.upto < k) → line_text (state_seen new.pass) s k ≡ told_text gate.names new.told.items k
+        either_side names was k low (inl before) =
+            was k before ∙ sym (ap (λ l. told_text gate.names l k) items ∙ text_stays gate.names old.upto ordinal old.upto old.told.items more (omega arith) are k before)
+        either_side names was k low (inr after) =
+            sym (ap (λ l. told_text gate.names l k) items
+            ∙ (ap (λ l. line_or_full gate.names k (map reply_of (front k l))) (behind_old old.told.items more k (All-weaker (IsTold gate.names 0 old.upto) (λ r. ordinal_of r < k) (λ r is. omega (arith, is.high, after)) old.told.items c.own.told))
+            ∙ (ap (λ n. line_or_full n k (map reply_of (line_of k more))) (names ∙ sym (ap (λ m. m.names) (setup_after (start new.pass.base.setup new.pass.base.limit) new.pass.seen)))
+            ∙ block_text by_lines (state_seen new.pass) s more old.upto k after answers)))

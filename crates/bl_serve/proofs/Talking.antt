@@ -1,0 +1,327 @@
+-- How a talk goes on with what its pass sees: while it only listens, where a line of it is admitted or refused, and where it is answered.
+use Rattle.std.proofs.Common.{◌≡◌, ℕ, ◌+◌, ◌<◌, ◌≤◌, ◌⊎◌, inl, inr, Bool, true, false, cond, List, [], ◌∷◌, ◌++◌, length, map, refl, sym, ap, subst, ◌∙◌, arith, append-nil, append_assoc, length-append, Some, slice_index_or, drop, true≢false}
+use Rattle.std.specs.Prelude.{All, ◌==◌, slice_get, ⊤}
+use Rattle.std.proofs.Math.Seq.{get_or-append_seam}
+use Rattle.std.proofs.lemmas.List.Elements.{All-nil, All-cons, All-append, All-weaker}
+use Rattle.std.proofs.lemmas.Bool.Decides.{eqb_tells}
+use Rattle.bl_work.specs.Names.{KnownNames}
+use Rattle.bl_work.specs.declared.work.Work.{Work}
+use Rattle.bl_setup.specs.Setup.{Setup}
+use Rattle.bl_order.specs.Labels.{Tag, tag, Reply, replies_to}
+use Rattle.bl_order.specs.Machine.{State, Event, Opens, Admits, IsTrail, change, start, state_after, session_at, no_session, has_ended, weight_of, entry_weight}
+use Rattle.bl_order.specs.Room.{admitted_weight}
+use Rattle.bl_order.proofs.Sound.{IsSound}
+use Rattle.bl_order.proofs.Trails.{sound-start}
+use Rattle.bl_hall.specs.Chronicle.{Chronicle, HasTrail, state_now}
+use Rattle.bl_hall.specs.Told.{AreAnswers, Waits, reply_of, replies_above}
+use Rattle.bl_hall.specs.declared.reply.Reply as owned
+use Rattle.bl_gate.specs.Counts.{times, StartsWith}
+use Rattle.bl_gate.specs.Gates.{PassView, Calls, Follows, hall_seen, hall_with, state_seen}
+use Rattle.bl_gate.proofs.Trails.{begins_length}
+use Rattle.bl_gate.proofs.Totals.{times-append}
+use Rattle.bl_worker.specs.Turns.{AdmitsNoLine}
+use Rattle.bl_worker.proofs.Passing.{after_parts, trail_front, trail_back}
+use Rattle.bl_worker.proofs.Settling.{call_inside, legal_front, one_place, sound_at}
+use Rattle.bl_wire.specs.Replies.{line_or_full, line_text}
+use Rattle.bl_engine.specs.Requests as request
+use Rattle.bl_engine.specs.Requests.{Request, SameUpTo}
+use Rattle.bl_session.specs.Pages.{ordinal_of}
+use Rattle.bl_session.specs.Transcripts.{admitted}
+use Rattle.bl_session.proofs.RunLaws.{setup_after}
+use Rattle.bl_session.proofs.TranscriptLaws.{KeepsSession, KeepsWeight, admitted-append, sessions_kept, weights_kept}
+use Rattle.bl_serve.specs.Told.{told_text, line_of}
+use Rattle.bl_serve.specs.Talks.{AreAdmitted, HasNoSettles, IsCovered, IsHeard, IsOverUpTo, IsTalk, StandAt, Talk, asked_in}
+use Rattle.bl_serve.proofs.Admitted.{admitted_none, admitted_later, admitted_upto, admitted_one, admitted_full, asked_more}
+use Rattle.bl_serve.proofs.Alone.{get_front, get_inside, stood, none_came}
+use Rattle.bl_serve.proofs.Opened.{AreBelow, all_below, none_unopened}
+use Rattle.bl_serve.proofs.Staying.{IsBehind, Stays, answers_stay, over_stays, replies_other, stays}
+use Rattle.bl_serve.proofs.Telling.{GoByLines, line_is}
+
+either : (i : ℕ) (g h : List ℕ) → 1 ≤ times i (g ++ h) → (1 ≤ times i g) ⊎ (1 ≤ times i h)
+either i g h some = let e = times-append i g h in grind arith
+
+-- ---- what was asked before the last settling
+
+no_settles_more : (rest : List Request) (k : ℕ) (w : Work) → HasNoSettles rest → HasNoSettles (rest ++ request.Admits k w ∷ [])
+no_settles_more [] k w none = tt
+no_settles_more (request.Opens u ∷ rest) k w none = no_settles_more rest k w none
+no_settles_more (request.Admits i v ∷ rest) k w none = no_settles_more rest k w none
+no_settles_more (request.Settles ∷ rest) k w none = absurd none
+
+covers_asked : (upto : ℕ) (told : List Request) (k : ℕ) (w : Work) → IsCovered upto told → IsCovered upto (told ++ request.Admits k w ∷ [])
+covers_asked upto told k w c = record {
+  done = c.done;
+  rest = c.rest ++ request.Admits k w ∷ [];
+  split = ap (λ l. l ++ request.Admits k w ∷ []) c.split ∙ append_assoc c.done c.rest (request.Admits k w ∷ []);
+  unsettled = no_settles_more c.rest k w c.unsettled;
+  low = c.low;
+}
+
+covers_settled : (upto last : ℕ) (told : List Request) → last ≤ upto → All (λ (a : ℕ × Work). a.0 ≤ last) (asked_in told) → IsCovered upto (told ++ request.Settles ∷ [])
+covers_settled upto last told le low = record {
+  done = told ++ request.Settles ∷ [];
+  rest = [];
+  split = sym (append-nil (told ++ request.Settles ∷ []));
+  unsettled = tt;
+  low = subst (All (λ (a : ℕ × Work). a.0 ≤ upto)) (sym (asked_more told (request.Settles ∷ []) ∙ append-nil (asked_in told)))
+      (All-weaker (λ (a : ℕ × Work). a.0 ≤ last) (λ (a : ℕ × Work). a.0 ≤ upto) (λ a lo. omega (arith, lo, le)) (asked_in told) low);
+}
+
+-- ---- from one moment of a pass to a later one
+
+module _ (p q : PassView) (follows : Follows p q) (legal : HasTrail (hall_seen q)) where
+  abbrev x : State
+  x = state_seen p
+
+  abbrev rest : List Event
+  rest = follows.seen.0
+
+  hall_is : hall_seen q ≡ hall_with p.base (p.seen ++ rest)
+  hall_is = λ i. hall_with (follows.base i) (follows.seen.1 i)
+
+  pub state_is : state_seen q ≡ state_after (state_seen p) follows.seen.0
+  state_is = ap state_now hall_is ∙ after_parts (start p.base.setup p.base.limit) p.seen rest
+
+  whole : IsTrail (start p.base.setup p.base.limit) (p.seen ++ rest)
+  whole = subst HasTrail hall_is legal
+
+  trail_rest : IsTrail (state_seen p) follows.seen.0
+  trail_rest = trail_back (start p.base.setup p.base.limit) p.seen rest whole
+
+  sound : IsSound (state_seen p)
+  sound = sound_at (hall_with p.base p.seen) (trail_front (start p.base.setup p.base.limit) p.seen rest whole)
+
+  kept_weight : KeepsWeight (state_seen p) (state_seen q)
+  kept_weight = subst (KeepsWeight (state_seen p)) (sym state_is) (weights_kept (state_seen p) rest)
+
+  kept_session : (session : ℕ) → session < length (state_seen p).sessions → KeepsSession (state_seen p) (state_seen q) session
+  kept_session session lt = subst (λ y. KeepsSession (state_seen p) y session) (sym state_is) (sessions_kept (state_seen p) rest session lt)
+
+  -- what was heard is heard still, with the lines that came
+  heard_on : (session upto : ℕ) (works came : List (ℕ × Work)) (replies : ℕ → List ℕ) → IsHeard p session upto works replies
+      → admitted session follows.seen.0 ≡ came → All (IsBehind upto) came → IsHeard q session upto (works ++ came) replies
+  heard_on session upto works came replies h are above = record {
+    lines = ap (admitted session) follows.seen.1 ∙ (admitted-append session p.seen rest ∙ (ap (λ l. l ++ admitted session rest) h.lines ∙ ap (λ l. works ++ l) are));
+    over = over_stays (state_seen p) session upto (state_seen q) s;
+    answers = λ k le. answers_stay (state_seen p) session upto (state_seen q) s k le ∙ h.answers k le;
+  }
+    where
+      s : Stays (state_seen p) session upto (state_seen q)
+      s = subst (Stays (state_seen p) session upto) (sym state_is)
+          (stays (state_seen p) rest session upto sound trail_rest h.over (subst (All (IsBehind upto)) (sym are) above))
+
+  module _ (names : KnownNames) (first : PassView) (talk : Talk) (told : List Request) (t : IsTalk names first p talk told) where
+    names_then : names ≡ q.base.setup.names → names ≡ p.base.setup.names
+    names_then e = e ∙ ap (λ (h : Chronicle). h.setup.names) follows.base
+
+    length_on : length p.seen ≤ length q.seen
+    length_on = begins_length q.seen p.seen follows.seen
+
+    -- no line of it was admitted
+    pub talk_on : AdmitsNoLine p q → IsTalk names first q talk told
+    talk_on none = record {
+      gained = t.gained ++ none.gained;
+      own = none.own ∙ (ap (λ l. l ++ none.gained) t.own ∙ append_assoc first.own t.gained none.gained);
+      within = λ i some. within i (either i t.gained none.gained some);
+      trail = legal;
+      there = (kept_session talk.session t.there).there;
+      subject = t.subject;
+      more = t.more;
+      opened = t.opened;
+      subject_is = (kept_session talk.session t.there).subject ∙ t.subject_is;
+      works = t.works;
+      admits = admitted_later (state_seen p) (state_seen q) talk.last (asked_in told) t.works kept_weight.limit kept_weight.weight t.admits;
+      covers = t.covers;
+      heard = λ is alone.
+          let a : StandAt (t.gained ++ none.gained) talk.session (p.seen ++ rest) = subst (StandAt (t.gained ++ none.gained) talk.session) follows.seen.1 alone in
+          let n : (i k : ℕ) (w : Work) → slice_get (p.seen ++ rest) i ≡ Some (Admits talk.session k w) → 1 ≤ times i none.gained → ⊥ =
+          λ i k w at new. none.no_line i talk.session k w new (ap (λ (l : List Event). slice_get l i) follows.seen.1 ∙ at) in
+          subst (λ l. IsHeard q talk.session talk.upto l talk.replies) (append-nil t.works)
+          (heard_on talk.session talk.upto t.works [] talk.replies (t.heard (names_then is) (stood talk.session t.gained none.gained p.seen rest a n t.within))
+          (none_came talk.session t.gained none.gained p.seen rest a n t.within) (All-nil (IsBehind talk.upto)));
+    }
+      where
+        within : (i : ℕ) → (1 ≤ times i t.gained) ⊎ (1 ≤ times i none.gained) → i < length q.seen
+        within i (inl old) = omega (arith, t.within i old, length_on)
+        within i (inr new) = none.within i new
+
+    -- a line of it was admitted
+    module _ (k : ℕ) (w : Work) (A : State → Type 0) (lt : talk.last < k) (le : talk.upto ≤ talk.last) (call : Calls p (Admits talk.session k w) A q) where
+      abbrev others : List Event
+      others = call.from.0
+
+      abbrev event : Event
+      event = Admits talk.session k w
+
+      seen_is : q.seen ≡ p.seen ++ (others ++ event ∷ [])
+      seen_is = call.seen ∙ (ap (λ l. l ++ event ∷ []) call.from.1 ∙ append_assoc p.seen others (event ∷ []))
+
+      abbrev one : List (ℕ × Work)
+      one = (k, w) ∷ []
+
+      alone_before : StandAt (t.gained ++ length call.trail ∷ []) talk.session q.seen → StandAt (t.gained ++ length call.trail ∷ []) talk.session (p.seen ++ others)
+      alone_before alone i j v at =
+          alone i j v (ap (λ (l : List Event). slice_get l i) call.seen ∙ get_front call.trail (event ∷ []) i (Admits talk.session j v) (ap (λ (l : List Event). slice_get l i) call.from.1 ∙ at))
+
+      not_new : (i j : ℕ) (v : Work) → slice_get (p.seen ++ others) i ≡ Some (Admits talk.session j v) → 1 ≤ times i (length call.trail ∷ []) → ⊥
+      not_new i j v at new =
+          let here = get_inside (p.seen ++ others) i (Admits talk.session j v) at in
+          let same = one_place i (length call.trail) new in
+          absurd (omega (arith, here, same, ap length call.from.1))
+
+      came_is : admitted talk.session (others ++ event ∷ []) ≡ admitted talk.session others ++ one
+      came_is = admitted-append talk.session others (event ∷ []) ∙ ap (λ l. admitted talk.session others ++ l) (own_line (eqb_tells talk.session talk.session))
+        where
+          own_line : (((talk.session == talk.session) ≡ true) × (talk.session ≡ talk.session)) ⊎ (((talk.session == talk.session) ≡ false) × (talk.session ≡ talk.session → ⊥)) → admitted talk.session (event ∷ []) ≡ one
+          own_line (inl e) = ap (λ (b : Bool). cond b one []) e.0
+          own_line (inr e) = absurd (e.1 refl)
+
+      pub talk_asked : IsTalk names first q (record { session = talk.session; last = k; upto = talk.upto; replies = talk.replies }) (told ++ request.Admits k w ∷ [])
+      talk_asked = record {
+        gained = t.gained ++ length call.trail ∷ [];
+        own = call.own ∙ (ap (λ l. l ++ length call.trail ∷ []) t.own ∙ append_assoc first.own t.gained (length call.trail ∷ []));
+        within = λ i some. within i (either i t.gained (length call.trail ∷ []) some);
+        trail = legal;
+        there = (kept_session talk.session t.there).there;
+        subject = t.subject;
+        more = t.more ++ request.Admits k w ∷ [];
+        opened = ap (λ l. l ++ request.Admits k w ∷ []) t.opened;
+        subject_is = (kept_session talk.session t.there).subject ∙ t.subject_is;
+        works = t.works ++ one;
+        admits = subst (λ l. AreAdmitted (state_seen q) k l (t.works ++ one)) (sym (asked_more told (request.Admits k w ∷ [])))
+            (admitted_one (state_seen p) (state_seen q) talk.last (asked_in told) t.works kept_weight.limit kept_weight.weight t.admits k w lt);
+        covers = covers_asked talk.upto told k w t.covers;
+        heard = λ is alone.
+            let a = alone_before alone in
+            let none : admitted talk.session others ≡ [] = none_came talk.session t.gained (length call.trail ∷ []) p.seen others a not_new t.within in
+            let rests : rest ≡ others ++ event ∷ [] = same_rest p.seen rest (others ++ event ∷ []) (sym follows.seen.1 ∙ seen_is) in
+            heard_on talk.session talk.upto t.works one talk.replies (t.heard (names_then is) (stood talk.session t.gained (length call.trail ∷ []) p.seen others a not_new t.within))
+            (ap (admitted talk.session) rests ∙ (came_is ∙ ap (λ l. l ++ one) none)) (All-cons (IsBehind talk.upto) (k, w) [] (omega (arith, lt, le)) (All-nil (IsBehind talk.upto)));
+      }
+        where
+          within : (i : ℕ) → (1 ≤ times i t.gained) ⊎ (1 ≤ times i (length call.trail ∷ [])) → i < length q.seen
+          within i (inl old) = omega (arith, t.within i old, length_on)
+          within i (inr new) = let l = call_inside p q event A call in let e = one_place i (length call.trail) new in omega (arith, l, e)
+
+          same_rest : (xs a b : List Event) → xs ++ a ≡ xs ++ b → a ≡ b
+          same_rest [] a b e = e
+          same_rest (y ∷ xs) a b e = same_rest xs a b (ap (drop 1) e)
+
+-- ---- at one moment of a pass
+
+module _ (names : KnownNames) (first q : PassView) (talk : Talk) (told : List Request) (t : IsTalk names first q talk told) where
+  -- a line of it was refused, for want of room
+  pub talk_full : (k : ℕ) (w : Work) → talk.last < k → (state_seen q).limit < admitted_weight (state_seen q) + weight_of w
+      → IsTalk names first q (record { session = talk.session; last = k; upto = talk.upto; replies = talk.replies }) (told ++ request.Admits k w ∷ [])
+  talk_full k w lt over = record {
+    gained = t.gained;
+    own = t.own;
+    within = t.within;
+    trail = t.trail;
+    there = t.there;
+    subject = t.subject;
+    more = t.more ++ request.Admits k w ∷ [];
+    opened = ap (λ l. l ++ request.Admits k w ∷ []) t.opened;
+    subject_is = t.subject_is;
+    works = t.works;
+    admits = subst (λ l. AreAdmitted (state_seen q) k l t.works) (sym (asked_more told (request.Admits k w ∷ [])))
+        (admitted_full (state_seen q) (state_seen q) talk.last (asked_in told) t.works refl (omega arith) t.admits k w lt over);
+    covers = covers_asked talk.upto told k w t.covers;
+    heard = t.heard;
+  }
+
+  -- its lines up to an ordinal were answered
+  pub talk_settled : (ordinal : ℕ) (replies : ℕ → List ℕ) → talk.last ≤ ordinal → ¬ Waits (state_seen q) talk.session
+      → (names ≡ q.base.setup.names → (SameUpTo talk.upto talk.replies (line_text (state_seen q) talk.session)) → SameUpTo ordinal replies (line_text (state_seen q) talk.session))
+      → IsTalk names first q (record { session = talk.session; last = ordinal; upto = ordinal; replies = replies }) (told ++ request.Settles ∷ [])
+  talk_settled ordinal replies le none same = record {
+    gained = t.gained;
+    own = t.own;
+    within = t.within;
+    trail = t.trail;
+    there = t.there;
+    subject = t.subject;
+    more = t.more ++ request.Settles ∷ [];
+    opened = ap (λ l. l ++ request.Settles ∷ []) t.opened;
+    subject_is = t.subject_is;
+    works = t.works;
+    admits = subst (λ l. AreAdmitted (state_seen q) ordinal l t.works) (sym (asked_more told (request.Settles ∷ []) ∙ append-nil (asked_in told)))
+        (admitted_upto (state_seen q) (state_seen q) talk.last (asked_in told) t.works refl (omega arith) t.admits ordinal le);
+    covers = covers_settled ordinal talk.last told le t.admits.asked_low;
+    heard = λ is alone.
+        let h = t.heard is alone in record {
+          lines = h.lines;
+          over = λ p lt own low. over p lt own (has_ended (state_seen q) p) refl;
+          answers = same is h.answers;
+        };
+  }
+    where
+      over : (p : ℕ) → p < length (state_seen q).order → (tag (state_seen q).order p).session ≡ talk.session → (b : Bool) → has_ended (state_seen q) p ≡ b → has_ended (state_seen q) p ≡ true
+      over p lt own true is = is
+      over p lt own false is = absurd (none (p, lt, own, is))
+
+-- ---- the opening
+
+module _ (names : KnownNames) (first q : PassView) (session u : ℕ) (replies : ℕ → List ℕ) (legal : HasTrail (hall_seen q)) (base : q.base ≡ first.base)
+    (call : Calls first (Opens u) (λ x. session ≡ length x.sessions) q) (quiet : replies 0 ≡ line_or_full names 0 []) where
+  abbrev before : State
+  before = state_now (hall_with first.base call.trail)
+
+  hall_then : hall_seen q ≡ hall_with first.base (call.trail ++ Opens u ∷ [])
+  hall_then = λ i. hall_with (base i) (call.seen i)
+
+  state_then : state_seen q ≡ change before (Opens u)
+  state_then = ap state_now hall_then ∙ after_parts (start first.base.setup first.base.limit) call.trail (Opens u ∷ [])
+
+  trail_before : IsTrail (start first.base.setup first.base.limit) call.trail
+  trail_before = trail_front (start first.base.setup first.base.limit) call.trail (Opens u ∷ []) (subst HasTrail hall_then legal)
+
+  below : AreBelow (length before.sessions) before.order
+  below = all_below (start first.base.setup first.base.limit) call.trail (sound-start first.base.setup first.base.limit) trail_before (λ p lt. absurd (omega (arith, lt)))
+
+  not_mine : (p : ℕ) → p < length before.order → (tag before.order p).session ≡ session → ⊥
+  not_mine p lt own = let b = below p lt in omega (arith, b, own, call.answered)
+
+  no_replies : (k : ℕ) → replies_to (change before (Opens u)) session k (length before.order) ≡ []
+  no_replies k =
+      let e : 0 + length before.order ≡ length before.order = omega arith in
+      ap (replies_to (change before (Opens u)) session k) (sym e)
+      ∙ replies_other (change before (Opens u)) session k 0 (length before.order) (λ p low high own at. not_mine p (omega (arith, high)) own)
+
+  pub talk_opened : IsTalk names first q (record { session = session; last = 0; upto = 0; replies = replies }) (request.Opens u ∷ [])
+  talk_opened = record {
+    gained = length call.trail ∷ [];
+    own = call.own;
+    within = λ i some. (let l = call_inside first q (Opens u) (λ y. session ≡ length y.sessions) call in let e = one_place i (length call.trail) some in omega (arith, l, e));
+    trail = legal;
+    there = omega (arith, call.answered, ap (λ (y : State). length y.sessions) state_then, length-append before.sessions (record { subject = u; last = 0 } ∷ []));
+    subject = u;
+    more = [];
+    opened = refl;
+    subject_is =
+        ap (λ (y : State). (session_at y session).subject) state_then
+        ∙ (ap (λ n. (slice_index_or (before.sessions ++ record { subject = u; last = 0 } ∷ []) n no_session).subject) call.answered
+        ∙ ap (λ s. s.subject) (get_or-append_seam before.sessions (record { subject = u; last = 0 }) [] no_session));
+    works = [];
+    admits = admitted_none (state_seen q) 0;
+    covers = record { done = []; rest = request.Opens u ∷ []; split = refl; unsettled = tt; low = All-nil (λ (a : ℕ × Work). a.0 ≤ 0) };
+    heard = λ is alone. record {
+      lines = ap (admitted session) call.seen ∙ (admitted-append session call.trail (Opens u ∷ []) ∙ (append-nil (admitted session call.trail)
+          ∙ none_unopened (start first.base.setup first.base.limit) call.trail session trail_before (omega (arith, call.answered))));
+      over = subst (λ y. IsOverUpTo y session 0) (sym state_then) (λ p lt own low. absurd (not_mine p lt own));
+      answers = λ k le. zero_only k le;
+    };
+  }
+    where
+      zero_only : (k : ℕ) → k ≤ 0 → line_text (state_seen q) session k ≡ replies k
+      zero_only k le =
+          let e : k ≡ 0 = omega (arith, le) in
+          ap (line_text (state_seen q) session) e
+          ∙ (ap (λ y. line_text y session 0) state_then ∙ (ap (λ l. line_or_full before.setup.names 0 l) (no_replies 0) ∙ (sym quiet ∙ ap replies (sym e))))
+
+-- ---- the replies of a block
+
+module _ (by_lines : GoByLines) (x : State) (session : ℕ) where
+  -- of a block that was answered above an ordinal, each line has its replies
+  pub block_text : (told : List owned.Reply) (after k : ℕ) → after < k → AreAnswers x session after (map reply_of told) → line_or_full x.setup.names k (map reply_of (line_of k told)) ≡ line_text x session k
+  block_text told after k lt are = ap (line_or_full x.setup.names k) (line_is by_lines x session told after k lt are.are)

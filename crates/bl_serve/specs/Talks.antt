@@ -1,0 +1,97 @@
+-- How a session over a gate stands: what was admitted for it, what it was answered, and whether another pass spoke for it.
+use Rattle.std.specs.Prelude.{◌≡◌, ℕ, ◌+◌, ◌<◌, ◌≤◌, ⊤, true, false, List, [], ◌∷◌, ◌++◌, length, filter, All, Some, slice_get, drop}
+use Rattle.bl_work.specs.Names.{KnownNames}
+use Rattle.bl_work.specs.declared.work.Work.{Work}
+use Rattle.bl_order.specs.Labels.{tag}
+use Rattle.bl_order.specs.Machine.{State, Event, Admits, session_at, has_ended, weight_of}
+use Rattle.bl_order.specs.Room.{admitted_weight}
+use Rattle.bl_hall.specs.Chronicle.{HasTrail}
+use Rattle.bl_gate.specs.Counts.{times}
+use Rattle.bl_gate.specs.Gates.{PassView, Follows, hall_seen, state_seen}
+use Rattle.bl_worker.specs.Turns.{AdmitsNoLine}
+use Rattle.bl_wire.specs.Replies.{line_text}
+use Rattle.bl_engine.specs.Requests as request
+use Rattle.bl_engine.specs.Requests.{Request, SameUpTo}
+use Rattle.bl_session.specs.Pages.{ordinal_of}
+use Rattle.bl_session.specs.Transcripts.{admitted, has_ordinal}
+
+-- each line of the session in the trail stands at one of these positions
+abbrev pub StandAt : List ℕ → ℕ → List Event → Type 0
+StandAt positions session trail =
+    (p ordinal : ℕ) (work : Work) → slice_get trail p ≡ Some (Admits session ordinal work) → 1 ≤ times p positions
+
+-- No other pass spoke for the session: each line of it that the pass has seen stands at a position that the pass has gained since
+-- it was what it was before.
+abbrev pub SpeaksAlone : (before after : PassView) → ℕ → Type 0
+SpeaksAlone before after session = StandAt (drop (length before.own) after.own) session after.seen
+
+-- the works that are asked in what was told, each with its ordinal
+abbrev pub asked_in : List Request → List (ℕ × Work)
+asked_in [] = []
+asked_in (request.Opens subject ∷ told) = asked_in told
+asked_in (request.Admits ordinal work ∷ told) = (ordinal, work) ∷ asked_in told
+asked_in (request.Settles ∷ told) = asked_in told
+
+-- Of the works that were asked these were admitted, and another one was refused only where its weight and those that were admitted by
+-- then exceed the limit. All have ordinals up to the last one.
+pub record AreAdmitted (x : State) (last : ℕ) (asked works : List (ℕ × Work)) : Type 0 where
+  pub are : works ≡ filter (λ (a : ℕ × Work). has_ordinal works a.0) asked
+  pub full : All (λ (a : ℕ × Work). has_ordinal works a.0 ≡ false → x.limit < admitted_weight x + weight_of a.1) asked
+  pub asked_low : All (λ (a : ℕ × Work). a.0 ≤ last) asked
+  pub works_low : All (λ (a : ℕ × Work). a.0 ≤ last) works
+
+-- nothing is asked to be settled
+abbrev pub HasNoSettles : List Request → Type 0
+HasNoSettles [] = ⊤
+HasNoSettles (request.Opens subject ∷ told) = HasNoSettles told
+HasNoSettles (request.Admits ordinal work ∷ told) = HasNoSettles told
+HasNoSettles (request.Settles ∷ told) = ⊥
+
+-- what was asked before the last settling has ordinals up to this one
+pub record IsCovered (upto : ℕ) (told : List Request) : Type 0 where
+  pub done : List Request
+  pub rest : List Request
+  pub split : told ≡ done ++ rest
+  pub unsettled : HasNoSettles rest
+  pub low : All (λ (a : ℕ × Work). a.0 ≤ upto) (asked_in done)
+
+-- the session's entries below its lines up to an ordinal have ended
+abbrev pub IsOverUpTo : State → ℕ → ℕ → Type 0
+IsOverUpTo x session n = (p : ℕ) → p < length x.order → (tag x.order p).session ≡ session → ordinal_of (tag x.order p) ≤ n → has_ended x p ≡ true
+
+-- What the trail admits for the session are these works. Its lines up to an ordinal are over, and what is answered to them is what the
+-- trail leads to.
+pub record IsHeard (pass : PassView) (session upto : ℕ) (works : List (ℕ × Work)) (replies : ℕ → List ℕ) : Type 0 where
+  pub lines : admitted session pass.seen ≡ works
+  pub over : IsOverUpTo (state_seen pass) session upto
+  pub answers : SameUpTo upto replies (line_text (state_seen pass) session)
+
+-- a session over a gate: its number, the last ordinal that was asked, the one up to which it was answered, and the text of its replies
+pub record Talk : Type 0 where
+  pub session : ℕ
+  pub last : ℕ
+  pub upto : ℕ
+  pub replies : ℕ → List ℕ
+
+-- The session is open since the pass was first, and this was told of it. Where no other pass spoke for it, and the names are the hall's,
+-- it was answered what the trail leads to.
+pub record IsTalk (names : KnownNames) (first pass : PassView) (talk : Talk) (told : List Request) : Type 0 where
+  pub gained : List ℕ
+  pub own : pass.own ≡ first.own ++ gained
+  pub within : (p : ℕ) → 1 ≤ times p gained → p < length pass.seen
+  pub trail : HasTrail (hall_seen pass)
+  pub there : talk.session < length (state_seen pass).sessions
+  pub subject : ℕ
+  pub more : List Request
+  pub opened : told ≡ request.Opens subject ∷ more
+  pub subject_is : (session_at (state_seen pass) talk.session).subject ≡ subject
+  pub works : List (ℕ × Work)
+  pub admits : AreAdmitted (state_seen pass) talk.last (asked_in told) works
+  pub covers : IsCovered talk.upto told
+  pub heard : names ≡ pass.base.setup.names → StandAt gained talk.session pass.seen → IsHeard pass talk.session talk.upto works talk.replies
+
+-- What a session does to a pass while it listens: it admits no line, and where a hall was seen its trail is one still.
+pub record Listens (before after : PassView) : Type 0 where
+  pub follows : Follows before after
+  pub lines : AdmitsNoLine before after
+  pub trail : HasTrail (hall_seen before) → HasTrail (hall_seen after)
