@@ -1,13 +1,13 @@
 -- Positions at which the lines of a session stand.
-use Rattle.std.proofs.Common.{◌≡◌, ℕ, zero, suc, ◌+◌, ◌<◌, ◌≤◌, ◌⊎◌, inl, inr, Bool, true, false, cond, List, [], ◌∷◌, ◌++◌, length, Some, None, refl, sym, ap, subst, ◌∙◌, arith}
+use Rattle.std.proofs.Common.{◌≡◌, ℕ, zero, suc, ◌+◌, ◌<◌, ◌≤◌, ◌⊎◌, inl, inr, true, false, cond, List, [], ◌∷◌, ◌++◌, length, Some, refl, ap, ◌∙◌, arith}
 use Rattle.std.specs.Prelude.{slice_get, ◌==◌}
-use Rattle.std.proofs.lemmas.Bool.Decides.{nat_tests, eqb_tells}
+use Rattle.std.proofs.lemmas.Bool.Decides.{eqb_tells}
 use Rattle.bl_work.specs.declared.work.Work.{Work}
 use Rattle.bl_order.specs.Machine.{Event, Opens, Admits, Starts, Ends, Loses}
 use Rattle.bl_gate.specs.Counts.{times}
 use Rattle.bl_gate.proofs.Totals.{times-append}
 use Rattle.bl_session.specs.Transcripts.{admitted}
-use Rattle.bl_serve.specs.Talks.{StandAt}
+use Rattle.bl_serve.specs.Courses.{StandAt}
 
 -- events without a line of the session
 none_admitted : (session : ℕ) (events : List Event) → ((j k : ℕ) (w : Work) → slice_get events j ≡ Some (Admits session k w) → ⊥) → admitted session events ≡ []

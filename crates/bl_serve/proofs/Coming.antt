@@ -1,16 +1,16 @@
 -- How a visit goes on: what was told brings it from one call to the next.
-use Rattle.std.proofs.Common.{◌≡◌, ℕ, ◌+◌, ◌<◌, ◌≤◌, ◌⊎◌, inl, inr, Bool, true, false, true≢false, List, [], ◌∷◌, ◌++◌, length, map, refl, sym, ap, subst, ◌∙◌, arith, append-nil, Option, Some, None, All, Result, Ok, Err}
+use Rattle.std.proofs.Common.{◌≡◌, ℕ, ◌<◌, ◌≤◌, ◌⊎◌, inl, inr, Bool, true, false, true≢false, List, [], ◌∷◌, ◌++◌, length, map, refl, sym, ap, subst, ◌∙◌, arith, Option, Some, None, All, Result, Ok, Err}
 use Rattle.std.specs.Prelude.{OnErr}
 use Rattle.std.proofs.lemmas.List.Elements.{All-nil, All-weaker}
 use Rattle.bl_work.specs.Names.{KnownNames}
 use Rattle.bl_work.specs.Readable.{IsReadable}
 use Rattle.bl_work.specs.declared.work.Work.{Work}
-use Rattle.bl_order.specs.Machine.{State, Opens, Admits, start, session_at, weight_of, entry_weight}
+use Rattle.bl_order.specs.Machine.{State, Opens, Admits, start}
 use Rattle.bl_core.specs.Answers.{IsCause}
 use Rattle.bl_core.specs.declared.refusal.Cause.{Cause}
 use Rattle.bl_core.specs.declared.refusal.Cause.TheVariants as cause
-use Rattle.bl_hall.specs.Chronicle.{Chronicle, HasTrail}
-use Rattle.bl_hall.specs.Told.{AreAnswers, Waits, reply_of}
+use Rattle.bl_hall.specs.Chronicle.{HasTrail}
+use Rattle.bl_hall.specs.Told.{AreAnswers, reply_of}
 use Rattle.bl_hall.specs.declared.reply.Reply as owned
 use Rattle.bl_gate.specs.Gates.{GateView, PassView, Calls, Follows, hall_seen, state_seen}
 use Rattle.bl_gate.proofs.Following.{follows_itself, follows_then}
@@ -19,12 +19,12 @@ use Rattle.bl_wire.specs.Replies.{line_or_full, line_text}
 use Rattle.bl_engine.specs.Requests as request
 use Rattle.bl_engine.specs.Requests.{Request, SameUpTo}
 use Rattle.bl_session.proofs.RunLaws.{setup_after}
-use Rattle.bl_serve.specs.Talks.{IsHeard, IsTalk, Listens, SpeaksAlone, Talk}
-use Rattle.bl_serve.specs.Told.{ordinal_of, behind, front, line_of, told_text, IsTold}
-use Rattle.bl_serve.specs.Visits.{HasCome, HasTold, IsOf, IsSilent, talk_of}
+use Rattle.bl_serve.specs.Courses.{IsCourse, Listens, SpeaksAlone, Course}
+use Rattle.bl_serve.specs.Told.{ordinal_of, front, line_of, told_text, IsTold}
+use Rattle.bl_serve.specs.Visits.{HasCome, HasTold, IsOf, IsSilent, course_of}
 use Rattle.bl_serve.specs.declared.visit.Visit.{Visit}
 use Rattle.bl_serve.proofs.Opened.{last_low}
-use Rattle.bl_serve.proofs.Talking.{block_text, talk_asked, talk_full, talk_on, talk_opened, talk_settled}
+use Rattle.bl_serve.proofs.Going.{block_text, course_asked, course_full, course_on, course_opened, course_settled}
 use Rattle.bl_serve.proofs.Telling.{GoByLines}
 use Rattle.bl_serve.proofs.ToldLaws.{behind_old}
 use Rattle.bl_serve.proofs.Transcribing.{heard}
@@ -35,9 +35,9 @@ pub on_err : {A E P : Type 0} (r : Result A E) → P → OnErr r P
 on_err (Ok x) p = tt
 on_err (Err e) p = p
 
--- a talk since a pass that owned as much
-from_first : (names : KnownNames) (first p q : PassView) (talk : Talk) (told : List Request) → p.own ≡ first.own → IsTalk names p q talk told → IsTalk names first q talk told
-from_first names first p q talk told same t = record {
+-- a course since a pass that owned as much
+from_first : (names : KnownNames) (first p q : PassView) (course : Course) (told : List Request) → p.own ≡ first.own → IsCourse names p q course told → IsCourse names first q course told
+from_first names first p q course told same t = record {
   gained = t.gained;
   own = t.own ∙ ap (λ l. l ++ t.gained) same;
   within = t.within;
@@ -62,7 +62,7 @@ come_first gate first visit is same session last none upto = record {
     told = subst (All (IsTold gate.names 0 visit.upto)) (sym none) (All-nil (IsTold gate.names 0 visit.upto));
     within = omega (arith, last, upto);
   };
-  talk = subst (λ o. HasTold gate first visit o []) (sym session) (record { none = refl; own = ap (λ p. p.own) (sym same); heard = none; last = last });
+  course = subst (λ o. HasTold gate first visit o []) (sym session) (record { none = refl; own = ap (λ p. p.own) (sym same); heard = none; last = last });
 }
 
 abbrev is_full : Cause → Bool
@@ -80,11 +80,11 @@ not_full why (inr (inr is)) full = true≢false (sym (ap is_full full) ∙ ap is
 module _ (gate : GateView) (first : PassView) (old : Visit) where
   -- a visit that has told nothing has no session
   pub silent : HasCome gate first old [] → (old.session ≡ None) × IsSilent first old []
-  silent c = go old.session refl c.talk
+  silent c = go old.session refl c.course
     where
       go : (s : Option ℕ) → old.session ≡ s → HasTold gate first old s [] → (old.session ≡ None) × IsSilent first old []
-      go None is talk = (is, talk)
-      go (Some s) is talk = absurd (omega (arith, ap length talk.opened))
+      go None is course = (is, course)
+      go (Some s) is course = absurd (omega (arith, ap length course.opened))
 
   of_later : (new : Visit) → IsOf gate first old → Follows old.pass new.pass → new.told.items ≡ old.told.items → new.upto ≡ old.upto → old.upto ≤ new.last → IsOf gate first new
   of_later new own follows told upto within = record {
@@ -103,11 +103,11 @@ module _ (gate : GateView) (first : PassView) (old : Visit) where
       let items : new.told.items ≡ [] = told ∙ quiet.heard in
       record {
         own = of_later new c.own follows told upto (subst (λ n. old.upto ≤ n) (sym last) c.own.within);
-        talk = subst (λ o. HasTold gate first new o (request.Opens u ∷ [])) (sym session)
-            (from_first gate.names first old.pass new.pass (talk_of gate.names new s) (request.Opens u ∷ []) quiet.own
-            (subst (λ t. IsTalk gate.names old.pass new.pass t (request.Opens u ∷ []))
+        course = subst (λ o. HasTold gate first new o (request.Opens u ∷ [])) (sym session)
+            (from_first gate.names first old.pass new.pass (course_of gate.names new s) (request.Opens u ∷ []) quiet.own
+            (subst (λ t. IsCourse gate.names old.pass new.pass t (request.Opens u ∷ []))
             (λ i. record { session = s; last = sym (last ∙ quiet.last) i; upto = sym (upto ∙ zero_upto) i; replies = told_text gate.names new.told.items })
-            (talk_opened gate.names old.pass new.pass s u (told_text gate.names new.told.items) legal follows.base call (ap (λ l. told_text gate.names l 0) items))));
+            (course_opened gate.names old.pass new.pass s u (told_text gate.names new.told.items) legal follows.base call (ap (λ l. told_text gate.names l 0) items))));
       }
 
   -- it was not opened
@@ -117,52 +117,52 @@ module _ (gate : GateView) (first : PassView) (old : Visit) where
       let quiet = silent c in
       record {
         own = of_later new c.own follows told upto (subst (λ n. old.upto ≤ n) (sym last) c.own.within);
-        talk = subst (λ o. HasTold gate first new o []) (sym (session ∙ quiet.0))
+        course = subst (λ o. HasTold gate first new o []) (sym (session ∙ quiet.0))
             (record { none = refl; own = same ∙ quiet.1.own; heard = told ∙ quiet.1.heard; last = last ∙ quiet.1.last });
       }
 
   module _ (s : ℕ) (session : old.session ≡ Some s) (told : List Request) (c : HasCome gate first old told) where
-    pub talk_is : IsTalk gate.names first old.pass (talk_of gate.names old s) told
-    talk_is = subst (λ o. HasTold gate first old o told) session c.talk
+    pub course_is : IsCourse gate.names first old.pass (course_of gate.names old s) told
+    course_is = subst (λ o. HasTold gate first old o told) session c.course
 
     -- it listened
     pub come_listened : (new : Visit) → Listens old.pass new.pass → new.session ≡ old.session → new.told.items ≡ old.told.items → new.upto ≡ old.upto → new.last ≡ old.last → HasCome gate first new told
     come_listened new listens same v upto last = record {
       own = of_later new c.own listens.follows v upto (subst (λ n. old.upto ≤ n) (sym last) c.own.within);
-      talk = subst (λ o. HasTold gate first new o told) (sym (same ∙ session))
-          (subst (λ t. IsTalk gate.names first new.pass t told)
+      course = subst (λ o. HasTold gate first new o told) (sym (same ∙ session))
+          (subst (λ t. IsCourse gate.names first new.pass t told)
           (λ i. record { session = s; last = sym last i; upto = sym upto i; replies = told_text gate.names (sym v i) })
-          (talk_on old.pass new.pass listens.follows (listens.trail talk_is.trail) gate.names first (talk_of gate.names old s) told talk_is listens.lines));
+          (course_on old.pass new.pass listens.follows (listens.trail course_is.trail) gate.names first (course_of gate.names old s) told course_is listens.lines));
     }
 
     module _ (new : Visit) (k : ℕ) (w : Work) (lt : old.last < k) (follows : Follows old.pass new.pass) (legal : HasTrail (hall_seen new.pass))
         (same : new.session ≡ old.session) (v : new.told.items ≡ old.told.items) (upto : new.upto ≡ old.upto) where
-      later : Talk
+      later : Course
       later = record { session = s; last = k; upto = old.upto; replies = told_text gate.names old.told.items }
 
       -- a line was admitted
       pub come_asked : (A : State → Type 0) → Calls old.pass (Admits s k w) A new.pass → new.last ≡ k → HasCome gate first new (told ++ request.Admits k w ∷ [])
       come_asked A call last = record {
         own = of_later new c.own follows v upto (omega (arith, c.own.within, lt, last));
-        talk = subst (λ o. HasTold gate first new o (told ++ request.Admits k w ∷ [])) (sym (same ∙ session))
-            (subst (λ t. IsTalk gate.names first new.pass t (told ++ request.Admits k w ∷ []))
+        course = subst (λ o. HasTold gate first new o (told ++ request.Admits k w ∷ [])) (sym (same ∙ session))
+            (subst (λ t. IsCourse gate.names first new.pass t (told ++ request.Admits k w ∷ []))
             (λ i. record { session = s; last = sym last i; upto = sym upto i; replies = told_text gate.names (sym v i) })
-            (talk_asked old.pass new.pass follows legal gate.names first (talk_of gate.names old s) told talk_is k w A lt c.own.within call));
+            (course_asked old.pass new.pass follows legal gate.names first (course_of gate.names old s) told course_is k w A lt c.own.within call));
       }
 
       -- a line was refused
       module _ (own : new.pass.own ≡ old.pass.own) where
-        listened : IsTalk gate.names first new.pass (talk_of gate.names old s) told
-        listened = talk_on old.pass new.pass follows legal gate.names first (talk_of gate.names old s) told talk_is (admits_itself old.pass new.pass own)
+        listened : IsCourse gate.names first new.pass (course_of gate.names old s) told
+        listened = course_on old.pass new.pass follows legal gate.names first (course_of gate.names old s) told course_is (admits_itself old.pass new.pass own)
 
         -- for want of room
         pub come_full : IsCause (state_seen new.pass) s k w cause.Full → new.last ≡ k → HasCome gate first new (told ++ request.Admits k w ∷ [])
         come_full is last = record {
           own = of_later new c.own follows v upto (omega (arith, c.own.within, lt, last));
-          talk = subst (λ o. HasTold gate first new o (told ++ request.Admits k w ∷ [])) (sym (same ∙ session))
-              (subst (λ t. IsTalk gate.names first new.pass t (told ++ request.Admits k w ∷ []))
+          course = subst (λ o. HasTold gate first new o (told ++ request.Admits k w ∷ [])) (sym (same ∙ session))
+              (subst (λ t. IsCourse gate.names first new.pass t (told ++ request.Admits k w ∷ []))
               (λ i. record { session = s; last = sym last i; upto = sym upto i; replies = told_text gate.names (sym v i) })
-              (talk_full gate.names first new.pass (talk_of gate.names old s) told listened k w lt is.3));
+              (course_full gate.names first new.pass (course_of gate.names old s) told listened k w lt is.3));
         }
 
         -- for another cause: then another pass spoke for the session
@@ -171,9 +171,9 @@ module _ (gate : GateView) (first : PassView) (old : Visit) where
         spoken_for cause.Stranger is other readable names alone = is (subst (λ n. IsReadable n w) (names ∙ sym (ap (λ m. m.names) (setup_after (start new.pass.base.setup new.pass.base.limit) new.pass.seen))) readable)
         spoken_for cause.Session is other readable names alone = let there = listened.there in omega (arith, is.1, there)
         spoken_for cause.Ordinal is other readable names alone =
-            let h = heard gate.names first new.pass (talk_of gate.names old s) told listened names alone in
+            let h = heard gate.names first new.pass (course_of gate.names old s) told listened names alone in
             let low = last_low (start new.pass.base.setup new.pass.base.limit) new.pass.seen s old.last (omega arith)
-                (subst (All (λ (a : ℕ × Work). a.0 ≤ old.last)) (sym h.lines) listened.admits.works_low)
+            (subst (All (λ (a : ℕ × Work). a.0 ≤ old.last)) (sym h.lines) listened.admits.works_low)
             in
             omega (arith, is.2, low, lt)
         spoken_for cause.Full is other readable names alone = other refl
@@ -190,15 +190,15 @@ module _ (gate : GateView) (first : PassView) (old : Visit) where
             (told_on gate.names old.upto ordinal old.told.items more (omega (arith, c.own.within, le)) c.own.told are));
         within = omega (arith, upto, last);
       };
-      talk = subst (λ o. HasTold gate first new o (told ++ request.Settles ∷ [])) (sym (same ∙ session))
-          (subst (λ t. IsTalk gate.names first new.pass t (told ++ request.Settles ∷ []))
+      course = subst (λ o. HasTold gate first new o (told ++ request.Settles ∷ [])) (sym (same ∙ session))
+          (subst (λ t. IsCourse gate.names first new.pass t (told ++ request.Settles ∷ []))
           (λ i. record { session = s; last = sym last i; upto = sym upto i; replies = told_text gate.names new.told.items })
-          (talk_settled gate.names first new.pass (talk_of gate.names old s) told listened ordinal (told_text gate.names new.told.items) le answers.waits
+          (course_settled gate.names first new.pass (course_of gate.names old s) told listened ordinal (told_text gate.names new.told.items) le answers.waits
           (λ names was k low. either_side names was k low (below_or_not k old.upto))));
     }
       where
-        listened : IsTalk gate.names first new.pass (talk_of gate.names old s) told
-        listened = talk_on old.pass new.pass listens.follows legal gate.names first (talk_of gate.names old s) told talk_is listens.lines
+        listened : IsCourse gate.names first new.pass (course_of gate.names old s) told
+        listened = course_on old.pass new.pass listens.follows legal gate.names first (course_of gate.names old s) told course_is listens.lines
 
         below_or_not : (a b : ℕ) → (a ≤ b) ⊎ (b < a)
         below_or_not a b = grind arith

@@ -4,7 +4,7 @@ mod Telling
 mod Alone
 mod Admitted
 mod Opened
-mod Talking
+mod Going
 mod Transcribing
 mod Listening
 mod VisitLaws

@@ -5,7 +5,7 @@ use Rattle.bl_gate.specs.Gates.{PassView, Follows, hall_seen}
 use Rattle.bl_gate.proofs.Following.{follows_itself, follows_then}
 use Rattle.bl_worker.specs.Turns.{AdmitsNoLine}
 use Rattle.bl_worker.proofs.Admitting.{admits_itself, admits_then}
-use Rattle.bl_serve.specs.Talks.{Listens}
+use Rattle.bl_serve.specs.Courses.{Listens}
 
 pub listens_itself : (p : PassView) → Listens p p
 listens_itself p = record { follows = follows_itself p; lines = admits_itself p p refl; trail = λ legal. legal }

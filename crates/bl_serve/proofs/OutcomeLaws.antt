@@ -1,5 +1,5 @@
 -- Laws of what a session over a gate ends with.
-use Rattle.std.proofs.Common.{◌≡◌, ℕ, zero, suc, ◌≤◌, ◌++◌, ◌∷◌, [], Bool, true, false, true≢false, List, Option, Some, None, All, ◌⊎◌, inl, inr, refl, sym, ap, subst, ◌∙◌, arith, append-nil, append_assoc, length, replicate, take, drop}
+use Rattle.std.proofs.Common.{◌≡◌, ℕ, zero, suc, ◌≤◌, ◌++◌, ◌∷◌, [], Bool, true, false, true≢false, List, Option, Some, None, All, ◌⊎◌, inl, inr, refl, sym, ap, subst, ◌∙◌, arith, append-nil, replicate, take, drop}
 use Rattle.std.proofs.lemmas.List.{take-append-drop}
 use Rattle.bl_gate.specs.Gates.{GateView, PassView, state_seen}
 use Rattle.bl_hall.specs.declared.reply.Reply.{Reply}
@@ -18,8 +18,7 @@ use Rattle.bl_wire.specs.declared.fault.SessionFault.{SessionFault}
 use Rattle.bl_engine.specs.View.{View, Ends, ends}
 use Rattle.bl_engine.specs.Stages.{Finished, Stopped, TurnedAway, TurnedAwayInPart, refused_sessions}
 use Rattle.bl_serve.specs.Told.{told_text}
-use Rattle.bl_serve.specs.Talks.{IsTalk, SpeaksAlone}
-use Rattle.bl_serve.specs.Visits.{HasCome, HasTold, IsCrowded, talk_of}
+use Rattle.bl_serve.specs.Visits.{HasCome, HasTold, IsCrowded, course_of}
 use Rattle.bl_serve.specs.Outcome.{replies_alone, IsServed, IsCutShort, IsTranscribed, IsTranscribedInPart}
 use Rattle.bl_serve.specs.declared.visit.Visit.{Visit}
 use Rattle.bl_serve.proofs.Transcribing.{nothing_told, replies_are, transcribed, turned_away, written_is}
@@ -114,38 +113,38 @@ module _ (gate : GateView) (at_first : PassView) (visit : Visit) where
 
   -- all lines were told, and settled
   whole : (turns : List Turn) → HasCome gate at_first visit (told_by turns) → IsTranscribed gate.names at_first visit.pass turns (session_text (told_text gate.names visit.told.items) turns)
-  whole turns c = go visit.session c.talk
+  whole turns c = go visit.session c.course
     where
       go : (o : Option ℕ) → HasTold gate at_first visit o (told_by turns) → IsTranscribed gate.names at_first visit.pass turns (session_text (told_text gate.names visit.told.items) turns)
-      go None talk = (0, λ is alone. nothing_told visit.pass (told_text gate.names visit.told.items) turns talk.none)
-      go (Some s) talk = (
+      go None course = (0, λ is alone. nothing_told visit.pass (told_text gate.names visit.told.items) turns course.none)
+      go (Some s) course = (
         s,
         λ is alone.
             subst (IsTranscript visit.pass.base.setup visit.pass.base.limit visit.pass.seen s turns)
-            (sym (written_is gate.names at_first visit.pass (talk_of gate.names visit s) (told_by turns) talk is alone turns refl))
-            (transcribed gate.names at_first visit.pass (talk_of gate.names visit s) (told_by turns) talk is alone turns 0 (sym (append-nil (told_by turns)))),
+            (sym (written_is gate.names at_first visit.pass (course_of gate.names visit s) (told_by turns) course is alone turns refl))
+            (transcribed gate.names at_first visit.pass (course_of gate.names visit s) (told_by turns) course is alone turns 0 (sym (append-nil (told_by turns)))),
       )
 
   -- a first part was written
   in_part : (heard : List Turn) (told : List Request) (settles upto : ℕ) (written : List ℕ) → HasCome gate at_first visit told → told_by heard ≡ told ++ replicate settles request.Settles → upto ≤ visit.upto
       → ((later : ℕ → List ℕ) → SameUpTo upto (told_text gate.names visit.told.items) later → Begins written (session_text later heard)) → IsTranscribedInPart gate.names at_first visit.pass heard written
-  in_part heard told settles upto written c by le begins = go visit.session c.talk
+  in_part heard told settles upto written c by le begins = go visit.session c.course
     where
       go : (o : Option ℕ) → HasTold gate at_first visit o told → IsTranscribedInPart gate.names at_first visit.pass heard written
-      go None talk = (
+      go None course = (
         0,
         λ is alone. (
           session_text (told_text gate.names visit.told.items) heard,
-          nothing_told visit.pass (told_text gate.names visit.told.items) heard (only_settles heard settles (by ∙ ap (λ l. l ++ replicate settles request.Settles) talk.none)),
+          nothing_told visit.pass (told_text gate.names visit.told.items) heard (only_settles heard settles (by ∙ ap (λ l. l ++ replicate settles request.Settles) course.none)),
           begins (told_text gate.names visit.told.items) (λ k low. refl),
         ),
       )
-      go (Some s) talk = (
+      go (Some s) course = (
         s,
         λ is alone. (
           session_text (line_text (state_seen visit.pass) s) heard,
-          transcribed gate.names at_first visit.pass (talk_of gate.names visit s) told talk is alone heard settles by,
-          begins (line_text (state_seen visit.pass) s) (λ k low. replies_are gate.names at_first visit.pass (talk_of gate.names visit s) told talk is alone k (omega (arith, low, le))),
+          transcribed gate.names at_first visit.pass (course_of gate.names visit s) told course is alone heard settles by,
+          begins (line_text (state_seen visit.pass) s) (λ k low. replies_are gate.names at_first visit.pass (course_of gate.names visit s) told course is alone k (omega (arith, low, le))),
         ),
       )
 
@@ -202,8 +201,8 @@ module _ (gate : GateView) (at_first before : PassView) (visit : Visit) (e : End
     inr (
       away_part_plain gate.names e seen fault read_failed write_failed (refused_sessions ++ bye_line) a.1,
       subst (λ (p : PassView). IsTranscribedInPart gate.names p visit.pass a.1.part.turns (take a.1.much (refused_sessions ++ bye_line))) same
-      (let t = crowded gate at_first visit a.1.part.subject a.1.part.turns a.0 a.1.part.opened in
-      (t.0, λ is alone. (refused_sessions ++ bye_line, t.1 is alone, begins_part a.1.much (refused_sessions ++ bye_line)))),
+          (let t = crowded gate at_first visit a.1.part.subject a.1.part.turns a.0 a.1.part.opened in
+          (t.0, λ is alone. (refused_sessions ++ bye_line, t.1 is alone, begins_part a.1.much (refused_sessions ++ bye_line)))),
     ),
   )
 

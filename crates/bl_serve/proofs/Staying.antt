@@ -1,15 +1,14 @@
 -- What a session was answered stays: where its entries below the lines up to an ordinal have ended, later events change no reply to
 -- these lines, as long as they admit no line of it up to that ordinal.
-use Rattle.std.proofs.Common.{◌≡◌, ◌≢◌, ℕ, zero, suc, ◌+◌, ◌-◌, ◌<◌, ◌≤◌, Bool, true, false, cond, ◌&&◌, List, [], ◌∷◌, ◌++◌, length, refl, sym, ap, subst, ◌∙◌, arith, append-nil, append_assoc, length-append, inl, inr, ◌⊎◌, slice_index_or, true≢false}
+use Rattle.std.proofs.Common.{◌≡◌, ℕ, zero, suc, ◌+◌, ◌<◌, ◌≤◌, Bool, true, false, cond, ◌&&◌, List, [], ◌∷◌, ◌++◌, length, refl, sym, ap, subst, ◌∙◌, arith, append-nil, append_assoc, length-append, inl, inr, ◌⊎◌, true≢false}
 use Rattle.std.specs.Prelude.{All, ◌==◌}
-use Rattle.std.proofs.Math.ListN.{get_or-append}
 use Rattle.std.proofs.lemmas.Bool.Decides.{eqb_tells}
 use Rattle.std.proofs.lemmas.List.Elements.{All-head, All-tail, All-cons, All-nil}
 use Rattle.bl_work.specs.declared.work.Work.{Work}
 use Rattle.bl_order.specs.Order.{Entry, Line, Child}
-use Rattle.bl_order.specs.Past.{Past, no_entry}
-use Rattle.bl_order.specs.Labels.{Tag, Reply, tag, tag_of, tags_to, is_of, put_in, replies_to}
-use Rattle.bl_order.specs.Machine.{State, Event, Opens, Admits, Starts, Ends, Loses, Needs, IsTrail, change, state_after, session_at, past_at, has_ended, runs, child_entries, children_at}
+use Rattle.bl_order.specs.Past.{Past}
+use Rattle.bl_order.specs.Labels.{Tag, Reply, tag, is_of, put_in, replies_to}
+use Rattle.bl_order.specs.Machine.{State, Event, Opens, Admits, Starts, Ends, Loses, Needs, IsTrail, change, state_after, session_at, past_at, has_ended, child_entries, children_at}
 use Rattle.bl_order.proofs.Sound.{IsSound}
 use Rattle.bl_order.proofs.Steps.{running_is_not_over}
 use Rattle.bl_order.proofs.Trails.{past-step, sound-step, within}
@@ -19,7 +18,7 @@ use Rattle.bl_session.specs.Pages.{ordinal_of}
 use Rattle.bl_session.specs.Transcripts.{admitted}
 use Rattle.bl_session.proofs.OrderLaws.{tag-grown, tag-last, tag-child, longer, join, first_kept}
 use Rattle.bl_worker.proofs.Passing.{passes_step}
-use Rattle.bl_serve.specs.Talks.{IsOverUpTo}
+use Rattle.bl_serve.specs.Courses.{IsOverUpTo}
 
 -- a work that is admitted behind an ordinal
 abbrev pub IsBehind : ℕ → ℕ × Work → Type 0

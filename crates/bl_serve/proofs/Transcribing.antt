@@ -1,24 +1,24 @@
 -- What is written for the lines that a session told is a transcript of them, by all that its pass has seen.
-use Rattle.std.proofs.Common.{◌≡◌, ℕ, ◌+◌, ◌<◌, ◌≤◌, Bool, true, false, List, [], ◌∷◌, ◌++◌, length, refl, sym, ap, subst, ◌∙◌, arith, append-nil, drop, replicate, filter, zero, suc, inl, inr, ◌⊎◌, true≢false}
+use Rattle.std.proofs.Common.{◌≡◌, ℕ, ◌+◌, ◌<◌, ◌≤◌, Bool, true, false, List, [], ◌∷◌, ◌++◌, length, refl, sym, ap, subst, ◌∙◌, arith, append-nil, drop, replicate, filter, zero, suc, inl, inr, true≢false}
 use Rattle.std.specs.Prelude.{All, codes}
 use Rattle.std.proofs.Math.Seq.{drop-append_seam}
-use Rattle.std.proofs.lemmas.List.Elements.{All-head, All-tail, All-weaker}
+use Rattle.std.proofs.lemmas.List.Elements.{All-head, All-tail}
 use Rattle.bl_work.specs.Names.{KnownNames}
 use Rattle.bl_work.specs.declared.work.Work.{Work}
-use Rattle.bl_order.specs.Machine.{State, most_sessions, weight_of, start}
+use Rattle.bl_order.specs.Machine.{most_sessions, weight_of, start}
 use Rattle.bl_order.specs.Room.{admitted_weight}
 use Rattle.bl_hall.specs.Chronicle.{HasTrail}
 use Rattle.bl_gate.specs.Gates.{PassView, hall_seen, state_seen}
 use Rattle.bl_wire.specs.declared.turn.Turn.{Turn}
 use Rattle.bl_wire.specs.declared.turn.Turn.TheVariants.{Skip, Wait, Greets, Bad, Ask}
 use Rattle.bl_wire.specs.Replies.{line_text}
-use Rattle.bl_wire.specs.Texts.{text_of, session_text, refusal, fault_words, ok_line, bye_line, refused_hello}
+use Rattle.bl_wire.specs.Texts.{text_of, session_text, refusal, fault_words, ok_line, bye_line}
 use Rattle.bl_wire.specs.Turns.{IsOpening}
 use Rattle.bl_engine.specs.Requests as request
 use Rattle.bl_engine.specs.Requests.{Request, SameUpTo, told_of, told_by}
 use Rattle.bl_engine.specs.Stages.{refused_sessions}
-use Rattle.bl_session.specs.Transcripts.{Answers, IsTranscript, Talks, admitted, asked_after, has_ordinal}
-use Rattle.bl_serve.specs.Talks.{HasNoSettles, IsCovered, IsHeard, IsTalk, SpeaksAlone, StandAt, Talk, asked_in}
+use Rattle.bl_session.specs.Transcripts.{IsTranscript, Talks, asked_after, has_ordinal}
+use Rattle.bl_serve.specs.Courses.{HasNoSettles, IsCovered, IsHeard, IsCourse, SpeaksAlone, StandAt, Course, asked_in}
 use Rattle.bl_serve.proofs.Admitted.{asked_more}
 use Rattle.bl_serve.proofs.Opened.{sessions_within}
 
@@ -90,20 +90,20 @@ first_subject (r ∷ told) = opened_by r
 
 -- ---- the transcript
 
-module _ (names : KnownNames) (first q : PassView) (talk : Talk) (told : List Request) (t : IsTalk names first q talk told) (is : names ≡ q.base.setup.names) (alone : SpeaksAlone first q talk.session) where
-  pub heard : IsHeard q talk.session talk.upto t.works talk.replies
-  heard = t.heard is (subst (λ (l : List ℕ). StandAt l talk.session q.seen) (ap (drop (length first.own)) t.own ∙ drop-append_seam first.own t.gained) alone)
+module _ (names : KnownNames) (first q : PassView) (course : Course) (told : List Request) (t : IsCourse names first q course told) (is : names ≡ q.base.setup.names) (alone : SpeaksAlone first q course.session) where
+  pub heard : IsHeard q course.session course.upto t.works course.replies
+  heard = t.heard is (subst (λ (l : List ℕ). StandAt l course.session q.seen) (ap (drop (length first.own)) t.own ∙ drop-append_seam first.own t.gained) alone)
 
   -- what is answered by the trail
   abbrev pub by_trail : ℕ → List ℕ
-  by_trail = line_text (state_seen q) talk.session
+  by_trail = line_text (state_seen q) course.session
 
-  pub replies_are : SameUpTo talk.upto talk.replies (line_text (state_seen q) talk.session)
+  pub replies_are : SameUpTo course.upto course.replies (line_text (state_seen q) course.session)
   replies_are = heard.answers
 
   -- the lines after the first one
   talks : (subject : ℕ) (turns : List Turn) → t.subject ≡ subject → asked_in told ≡ asked_after 0 turns
-      → Talks (state_seen q) q.seen talk.session subject turns (ok_line ++ (text_of (line_text (state_seen q) talk.session) 0 turns ++ bye_line))
+      → Talks (state_seen q) q.seen course.session subject turns (ok_line ++ (text_of (line_text (state_seen q) course.session) 0 turns ++ bye_line))
   talks subject turns who asks = record {
     there = t.there;
     subject_is = t.subject_is ∙ who;
@@ -115,7 +115,7 @@ module _ (names : KnownNames) (first q : PassView) (talk : Talk) (told : List Re
 
   -- the lines that were told, but for settling
   pub transcribed : (turns : List Turn) (settles : ℕ) → told_by turns ≡ told ++ replicate settles request.Settles
-      → IsTranscript q.base.setup q.base.limit q.seen talk.session turns (session_text (line_text (state_seen q) talk.session) turns)
+      → IsTranscript q.base.setup q.base.limit q.seen course.session turns (session_text (line_text (state_seen q) course.session) turns)
   transcribed [] settles by = absurd (omega (arith, ap length (by ∙ ap (λ l. l ++ replicate settles request.Settles) t.opened)))
   transcribed (Skip ∷ turns) settles by = transcribed turns settles by
   transcribed (Wait ∷ turns) settles by = absurd (omega (arith, ap length (by ∙ ap (λ l. l ++ replicate settles request.Settles) t.opened)))
@@ -135,16 +135,16 @@ module _ (names : KnownNames) (first q : PassView) (talk : Talk) (told : List Re
           ∙ (ap asked_in (sym by) ∙ (asked_more (told_of 0 turns) (request.Settles ∷ []) ∙ (append-nil (asked_in (told_of 0 turns)) ∙ told_asks 0 turns)))))
 
   -- all lines, and settled
-  pub written_is : (turns : List Turn) → told_by turns ≡ told → session_text talk.replies turns ≡ session_text (line_text (state_seen q) talk.session) turns
+  pub written_is : (turns : List Turn) → told_by turns ≡ told → session_text course.replies turns ≡ session_text (line_text (state_seen q) course.session) turns
   written_is [] by = refl
   written_is (Skip ∷ turns) by = written_is turns by
   written_is (Wait ∷ turns) by = refl
   written_is (Bad fault ∷ turns) by = refl
   written_is (Ask work ∷ turns) by = refl
   written_is (Greets u ∷ turns) by =
-      ap (λ l. ok_line ++ (l ++ bye_line)) (same_text talk.replies (line_text (state_seen q) talk.session) talk.upto turns 0 heard.answers
-      (subst (All (λ (a : ℕ × Work). a.0 ≤ talk.upto)) (ap asked_in (sym by) ∙ (asked_more (told_of 0 turns) (request.Settles ∷ []) ∙ (append-nil (asked_in (told_of 0 turns)) ∙ told_asks 0 turns)))
-      (all_covered talk.upto told (request.Opens u ∷ told_of 0 turns) (sym by) t.covers)))
+      ap (λ l. ok_line ++ (l ++ bye_line)) (same_text course.replies (line_text (state_seen q) course.session) course.upto turns 0 heard.answers
+      (subst (All (λ (a : ℕ × Work). a.0 ≤ course.upto)) (ap asked_in (sym by) ∙ (asked_more (told_of 0 turns) (request.Settles ∷ []) ∙ (append-nil (asked_in (told_of 0 turns)) ∙ told_asks 0 turns)))
+      (all_covered course.upto told (request.Opens u ∷ told_of 0 turns) (sym by) t.covers)))
 
 -- ---- without a session
 

@@ -1,4 +1,4 @@
 pub mod Told
-pub mod Talks
+pub mod Courses
 pub mod Visits
 pub mod Outcome

@@ -12,7 +12,7 @@ use Rattle.bl_engine.specs.View.{View, ends}
 use Rattle.bl_engine.specs.Stages.{Finished, Stopped, TurnedAway, TurnedAwayInPart, refused_sessions}
 use Rattle.bl_engine.specs.Spoken.{Begins}
 use Rattle.bl_session.specs.Transcripts.{IsTranscript}
-use Rattle.bl_serve.specs.Talks.{SpeaksAlone}
+use Rattle.bl_serve.specs.Courses.{SpeaksAlone}
 use Rattle.bl_serve.specs.Told.{told_text}
 
 -- nothing is said of what was settled, or of what was asked

@@ -5,7 +5,7 @@ use Rattle.bl_order.specs.Machine.{most_sessions}
 use Rattle.bl_hall.specs.Chronicle.{HasTrail}
 use Rattle.bl_gate.specs.Gates.{GateView, PassView, Follows, hall_seen, state_seen}
 use Rattle.bl_engine.specs.Requests.{Request}
-use Rattle.bl_serve.specs.Talks.{IsTalk, SpeaksAlone, Talk}
+use Rattle.bl_serve.specs.Courses.{IsCourse, SpeaksAlone, Course}
 use Rattle.bl_serve.specs.Told.{behind, told_text, IsTold}
 use Rattle.bl_serve.specs.declared.visit.Visit.{Visit}
 use Rattle.bl_serve.specs.declared.visit.Page.{Page}
@@ -24,19 +24,19 @@ pub record IsSilent (first : PassView) (visit : Visit) (told : List Request) : T
   pub heard : visit.told.items ≡ []
   pub last : visit.last ≡ 0
 
--- the talk of a visit's session
-abbrev pub talk_of : KnownNames → Visit → ℕ → Talk
-talk_of names visit session = record { session = session; last = visit.last; upto = visit.upto; replies = told_text names visit.told.items }
+-- the course of a visit's session
+abbrev pub course_of : KnownNames → Visit → ℕ → Course
+course_of names visit session = record { session = session; last = visit.last; upto = visit.upto; replies = told_text names visit.told.items }
 
 -- without a session nothing was told, and with one this was told of it
 abbrev pub HasTold : GateView → PassView → Visit → Option ℕ → List Request → Type 0
 HasTold gate first visit None told = IsSilent first visit told
-HasTold gate first visit (Some session) told = IsTalk gate.names first visit.pass (talk_of gate.names visit session) told
+HasTold gate first visit (Some session) told = IsCourse gate.names first visit.pass (course_of gate.names visit session) told
 
 -- what was told brought the visit here
 pub record HasCome (gate : GateView) (first : PassView) (visit : Visit) (told : List Request) : Type 0 where
   pub own : IsOf gate first visit
-  pub talk : HasTold gate first visit visit.session told
+  pub course : HasTold gate first visit visit.session told
 
 -- no call has failed, and the last block ended with this ordinal
 pub record IsWhole (gate : GateView) (first : PassView) (visit : Visit) (n : ℕ) : Type 0 where

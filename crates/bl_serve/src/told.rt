@@ -57,8 +57,8 @@ fn is_told(names: &Names, after: u32, upto: u32, reply: &Reply) -> bool
     after < ordinal && ordinal <= upto && names_answer(names, &reply.answer)
 }
 
-/// Whether all replies are ones to lines behind `after` and up to `upto`, in which all have names. A gate gives no others;
-/// what is promised here does not rest on that yet.
+/// Whether all replies are ones to lines behind `after` and up to `upto`, in which all have names. A gate gives others only where
+/// somebody else spoke for the session.
 pub(crate) fn are_told(names: &Names, after: u32, upto: u32, replies: &[Reply]) -> bool
     ensures { result ≡ true → All (IsTold names.now after upto) replies.now }
 {

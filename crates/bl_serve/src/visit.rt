@@ -5,7 +5,7 @@ ghost use Rattle.bl_gate.specs.Gates.{hall_seen, state_seen};
 ghost use Rattle.bl_hall.specs.Chronicle.{HasTrail};
 ghost use Rattle.bl_hall.specs.Told.{AreAnswers, reply_of};
 ghost use Rattle.bl_work.specs.Readable.{IsReadable};
-ghost use Rattle.bl_serve.specs.Talks.{Listens};
+ghost use Rattle.bl_serve.specs.Courses.{Listens};
 ghost use Rattle.bl_serve.specs.Told.{told_text};
 ghost use Rattle.bl_serve.specs.Visits.{HasCome, IsCrowded, IsPage, IsSpokenFor, IsWhole};
 
@@ -95,7 +95,7 @@ impl<'a, P: Pause, T: Wait> Visitor<'a, P, T> {
                 self.bell.ring_end(self.rt);
                 Ok(true)
             }
-            // a gate refuses nothing that it lent; what is promised here does not rest on that yet
+            // a gate refuses nothing that it lent
             Err(_) => Err(AllocError),
         }
     }
@@ -177,7 +177,7 @@ impl<'a, P: Pause, T: Wait> Behind for Visitor<'a, P, T> {
                 Ok(Opening::Open)
             }
             Err(OpenRefused::SessionsFull) => Ok(Opening::Full),
-            // the subject was read in the names of the gate, which are the hall's; what is promised here does not rest on that yet
+            // the subject was read in the names of the gate, which are the hall's
             Err(OpenRefused::Stranger) => Err(AllocError),
         }
     }

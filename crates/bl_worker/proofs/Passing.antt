@@ -1,15 +1,11 @@
 -- What a state comes to as a trail goes on: what has begun or ended stays so, and what may start may start until it has begun.
-use Rattle.std.proofs.Common.{◌≡◌, ◌≢◌, ℕ, ◌+◌, ◌<◌, ◌≤◌, Bool, true, false, cond, ◌||◌, List, [], ◌∷◌, ◌++◌, length, refl, sym, ◌∙◌, ap, subst, inl, inr, ⊎_elim, arith, ◌⊎◌, true≢false, length-append, append-nil}
-use Rattle.std.specs.Prelude.{◌==◌, IsTrue}
-use Rattle.std.proofs.lemmas.Bool.Decides.{nat_tests}
-use Rattle.bl_work.specs.declared.work.Work.{Work}
-use Rattle.bl_order.specs.Order.{Entry, Line, Task, conflict}
+use Rattle.std.proofs.Common.{◌≡◌, ◌≢◌, ℕ, ◌<◌, ◌≤◌, Bool, true, false, cond, ◌||◌, List, [], ◌∷◌, ◌++◌, length, refl, sym, ◌∙◌, ap, inl, inr, arith, ◌⊎◌, true≢false, length-append}
+use Rattle.bl_order.specs.Order.{Line, Task, conflict}
 use Rattle.bl_order.specs.Past.{is_done}
-use Rattle.bl_order.specs.Machine.{State, Event, Opens, Admits, Starts, Ends, Loses, Phase, Waiting, Running, Ended, Gone, is_waiting, is_running, is_over, phase_at, past_at, has_ended, runs, MayStart, Needs, IsTrail, change, with_phase, children_at, session_at, start, state_after}
+use Rattle.bl_order.specs.Machine.{State, Event, Opens, Admits, Starts, Ends, Loses, Phase, Running, Ended, Gone, is_waiting, is_running, is_over, phase_at, past_at, has_ended, runs, MayStart, Needs, IsTrail, change, with_phase, session_at, state_after}
 use Rattle.bl_order.proofs.Sound.{IsSound, has_begun}
 use Rattle.bl_order.proofs.Steps.{Moves, same_or_other, other, equal_self, stays, running_is_not_over, waiting_is_not_over}
 use Rattle.bl_order.proofs.Trails.{moves-start, moves-end, moves-lost, within, past-admitted, phases-admitted, sound-step}
-use Rattle.bl_hall.specs.Chronicle.{Chronicle, HasTrail, state_now}
 
 -- the loss of a place is a move
 pub lost_moves : (x : State) (k : ℕ) → IsSound x → Needs x (Loses k) → Moves x (with_phase x k Gone) k Gone

@@ -1,9 +1,9 @@
 -- Passes that have settled what they started.
-use Rattle.std.proofs.Common.{◌≡◌, ℕ, zero, suc, ◌+◌, ◌<◌, ◌≤◌, ◌⊎◌, inl, inr, ⊎_elim, List, [], ◌∷◌, ◌++◌, length, Some, true, refl, sym, ap, ◌∙◌, subst, arith, append_assoc, append-nil, length-append}
+use Rattle.std.proofs.Common.{◌≡◌, ℕ, zero, suc, ◌<◌, ◌≤◌, ◌⊎◌, inl, inr, List, [], ◌∷◌, ◌++◌, length, Some, true, refl, sym, ap, ◌∙◌, subst, arith, append_assoc, append-nil, length-append}
 use Rattle.std.specs.Prelude.{IsTrue, slice_get}
 use Rattle.std.proofs.lemmas.Bool.Decides.{nat_tests}
-use Rattle.bl_order.specs.Machine.{State, Event, Opens, Admits, Starts, Ends, Loses, MayStart, Needs, IsTrail, change, has_ended, start, state_after}
-use Rattle.bl_order.proofs.Sound.{IsSound, has_begun}
+use Rattle.bl_order.specs.Machine.{State, Event, Opens, Admits, Starts, Ends, Loses, Needs, IsTrail, change, has_ended, start, state_after}
+use Rattle.bl_order.proofs.Sound.{IsSound}
 use Rattle.bl_order.proofs.Reached.{sound-reached}
 use Rattle.bl_hall.specs.Chronicle.{Chronicle, HasTrail, state_now}
 use Rattle.bl_hall.proofs.Trails.{reached-now, state-next}
@@ -12,7 +12,7 @@ use Rattle.bl_gate.specs.Gates.{PassView, Calls, Follows, hall_seen, hall_with, 
 use Rattle.bl_gate.proofs.Trails.{begins_length}
 use Rattle.bl_gate.proofs.Totals.{times-append}
 use Rattle.bl_worker.specs.Turns.{Settles}
-use Rattle.bl_worker.proofs.Passing.{Passes, passes_trail, passes_step, after_parts, trail_front, trail_back}
+use Rattle.bl_worker.proofs.Passing.{Passes, passes_trail, after_parts, trail_front, trail_back}
 
 -- a hall's trail up to some point is a trail
 pub legal_front : (h : Chronicle) (t s : List Event) → StartsWith t s → HasTrail (hall_with h t) → HasTrail (hall_with h s)

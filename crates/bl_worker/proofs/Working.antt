@@ -1,10 +1,9 @@
 -- What a turn's calls of the gate come to.
-use Rattle.std.proofs.Common.{◌≡◌, ℕ, ◌+◌, ◌<◌, ◌⊎◌, inl, inr, Bool, true, false, cond, ◌||◌, true≢false, List, ◌++◌, Some, Result, Ok, Err, refl, sym, ap, ◌∙◌, subst}
-use Rattle.std.specs.Prelude.{IsTrue}
+use Rattle.std.proofs.Common.{◌≡◌, ℕ, ◌<◌, ◌⊎◌, inl, inr, Bool, true, false, cond, ◌||◌, true≢false, List, ◌++◌, Some, refl, sym, ap, ◌∙◌, subst}
 use Rattle.bl_work.specs.declared.answer.Answer.{Answer}
 use Rattle.bl_work.specs.declared.answer.Answer.TheVariants as answers
 use Rattle.bl_order.specs.Past.{is_done}
-use Rattle.bl_order.specs.Machine.{State, Event, Starts, Ends, Loses, Phase, Waiting, Running, Ended, Gone, is_waiting, is_running, is_over, is_gone, is_lost, phase_at, past_at, has_ended, runs, MayStart, Needs, change, with_phase}
+use Rattle.bl_order.specs.Machine.{State, Event, Starts, Ends, Loses, Phase, Waiting, Running, Ended, Gone, is_waiting, is_running, is_over, is_gone, is_lost, phase_at, past_at, has_ended, MayStart, Needs, change, with_phase}
 use Rattle.bl_order.proofs.Sound.{IsSound}
 use Rattle.bl_order.proofs.Steps.{equal_self, Moves}
 use Rattle.bl_order.proofs.Trails.{moves-start, moves-end, past-started, past-ended, within}
@@ -18,8 +17,8 @@ use Rattle.bl_gate.specs.Gates.{PassView, Calls, Follows, hall_seen, state_seen}
 use Rattle.bl_worker.specs.declared.turn.Turn.{Turn}
 use Rattle.bl_worker.specs.declared.turn.Turn.TheVariants.{Idle, Missed, Denied, Done, Lost}
 use Rattle.bl_worker.specs.Turns.{Closes, HasEndedAs, HasRun, HasWorked, IsDenied, IsDoneOrRuleDone, IsLost, IsTurnOf, Settles, WasTaken, has_begun}
-use Rattle.bl_worker.proofs.Passing.{Passes, lost_moves}
-use Rattle.bl_worker.proofs.Settling.{Happened, happened, of_start, passes_later, settles_call, settles_calls}
+use Rattle.bl_worker.proofs.Passing.{lost_moves}
+use Rattle.bl_worker.proofs.Settling.{happened, of_start, passes_later, settles_call, settles_calls}
 
 -- where a place is after a move
 moved : (x y : State) (k : ℕ) (p : Phase) → Moves x y k p → phase_at y k ≡ p

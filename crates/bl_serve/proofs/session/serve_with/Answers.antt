@@ -1,6 +1,6 @@
-use Rattle.std.proofs.Common.{[], refl, sym, ap, subst, ◌∙◌}
+use Rattle.std.proofs.Common.{[], sym, ap, subst, ◌∙◌}
 use Rattle.bl_gate.specs.Gates.{PassView}
-use Rattle.bl_serve.specs.Talks.{SpeaksAlone}
+use Rattle.bl_serve.specs.Courses.{SpeaksAlone}
 use Rattle.bl_serve.proofs.Coming.{come_first}
 use Rattle.bl_serve.proofs.OutcomeLaws.{served, cut_short}
 use Rattle.bl_serve.proofs.session.serve_with.Goals as goal

@@ -1,4 +1,4 @@
-use Rattle.bl_serve.specs.Talks.{Listens}
+use Rattle.bl_serve.specs.Courses.{Listens}
 use Rattle.bl_serve.proofs.visit.Visitor.hear.Given as goal
 
 -- the pass has listened since it was what it was at first

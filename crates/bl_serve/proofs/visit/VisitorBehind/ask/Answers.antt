@@ -1,6 +1,5 @@
 use Rattle.std.proofs.Common.{[], ◌∷◌, ◌++◌, ◌≡◌, Bool, true, false, true≢false, refl, sym, ap, subst, arith}
 use Rattle.bl_core.specs.Answers.{IsCause}
-use Rattle.bl_core.specs.declared.refusal.Cause.TheVariants as cause
 use Rattle.bl_gate.specs.Gates.{state_seen}
 use Rattle.bl_engine.specs.Requests as request
 use Rattle.bl_serve.proofs.Coming.{come_asked, come_full, come_listened, not_full, spoken_for}

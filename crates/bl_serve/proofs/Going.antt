@@ -1,36 +1,33 @@
--- How a talk goes on with what its pass sees: while it only listens, where a line of it is admitted or refused, and where it is answered.
-use Rattle.std.proofs.Common.{◌≡◌, ℕ, ◌+◌, ◌<◌, ◌≤◌, ◌⊎◌, inl, inr, Bool, true, false, cond, List, [], ◌∷◌, ◌++◌, length, map, refl, sym, ap, subst, ◌∙◌, arith, append-nil, append_assoc, length-append, Some, slice_index_or, drop, true≢false}
-use Rattle.std.specs.Prelude.{All, ◌==◌, slice_get, ⊤}
+-- How a course goes on with what its pass sees: while it only listens, where a line of it is admitted or refused, and where it is answered.
+use Rattle.std.proofs.Common.{◌≡◌, ℕ, ◌+◌, ◌<◌, ◌≤◌, ◌⊎◌, inl, inr, Bool, true, false, cond, List, [], ◌∷◌, ◌++◌, length, map, refl, sym, ap, subst, ◌∙◌, arith, append-nil, append_assoc, length-append, Some, slice_index_or, drop}
+use Rattle.std.specs.Prelude.{All, ◌==◌, slice_get}
 use Rattle.std.proofs.Math.Seq.{get_or-append_seam}
-use Rattle.std.proofs.lemmas.List.Elements.{All-nil, All-cons, All-append, All-weaker}
+use Rattle.std.proofs.lemmas.List.Elements.{All-nil, All-cons, All-weaker}
 use Rattle.std.proofs.lemmas.Bool.Decides.{eqb_tells}
 use Rattle.bl_work.specs.Names.{KnownNames}
 use Rattle.bl_work.specs.declared.work.Work.{Work}
-use Rattle.bl_setup.specs.Setup.{Setup}
-use Rattle.bl_order.specs.Labels.{Tag, tag, Reply, replies_to}
-use Rattle.bl_order.specs.Machine.{State, Event, Opens, Admits, IsTrail, change, start, state_after, session_at, no_session, has_ended, weight_of, entry_weight}
+use Rattle.bl_order.specs.Labels.{tag, replies_to}
+use Rattle.bl_order.specs.Machine.{State, Event, Opens, Admits, IsTrail, change, start, state_after, session_at, no_session, has_ended, weight_of}
 use Rattle.bl_order.specs.Room.{admitted_weight}
 use Rattle.bl_order.proofs.Sound.{IsSound}
 use Rattle.bl_order.proofs.Trails.{sound-start}
 use Rattle.bl_hall.specs.Chronicle.{Chronicle, HasTrail, state_now}
-use Rattle.bl_hall.specs.Told.{AreAnswers, Waits, reply_of, replies_above}
+use Rattle.bl_hall.specs.Told.{AreAnswers, Waits, reply_of}
 use Rattle.bl_hall.specs.declared.reply.Reply as owned
-use Rattle.bl_gate.specs.Counts.{times, StartsWith}
+use Rattle.bl_gate.specs.Counts.{times}
 use Rattle.bl_gate.specs.Gates.{PassView, Calls, Follows, hall_seen, hall_with, state_seen}
 use Rattle.bl_gate.proofs.Trails.{begins_length}
 use Rattle.bl_gate.proofs.Totals.{times-append}
 use Rattle.bl_worker.specs.Turns.{AdmitsNoLine}
 use Rattle.bl_worker.proofs.Passing.{after_parts, trail_front, trail_back}
-use Rattle.bl_worker.proofs.Settling.{call_inside, legal_front, one_place, sound_at}
+use Rattle.bl_worker.proofs.Settling.{call_inside, one_place, sound_at}
 use Rattle.bl_wire.specs.Replies.{line_or_full, line_text}
 use Rattle.bl_engine.specs.Requests as request
 use Rattle.bl_engine.specs.Requests.{Request, SameUpTo}
-use Rattle.bl_session.specs.Pages.{ordinal_of}
 use Rattle.bl_session.specs.Transcripts.{admitted}
-use Rattle.bl_session.proofs.RunLaws.{setup_after}
 use Rattle.bl_session.proofs.TranscriptLaws.{KeepsSession, KeepsWeight, admitted-append, sessions_kept, weights_kept}
-use Rattle.bl_serve.specs.Told.{told_text, line_of}
-use Rattle.bl_serve.specs.Talks.{AreAdmitted, HasNoSettles, IsCovered, IsHeard, IsOverUpTo, IsTalk, StandAt, Talk, asked_in}
+use Rattle.bl_serve.specs.Told.{line_of}
+use Rattle.bl_serve.specs.Courses.{AreAdmitted, HasNoSettles, IsCovered, IsHeard, IsOverUpTo, IsCourse, StandAt, Course, asked_in}
 use Rattle.bl_serve.proofs.Admitted.{admitted_none, admitted_later, admitted_upto, admitted_one, admitted_full, asked_more}
 use Rattle.bl_serve.proofs.Alone.{get_front, get_inside, stood, none_came}
 use Rattle.bl_serve.proofs.Opened.{AreBelow, all_below, none_unopened}
@@ -110,7 +107,7 @@ module _ (p q : PassView) (follows : Follows p q) (legal : HasTrail (hall_seen q
       s = subst (Stays (state_seen p) session upto) (sym state_is)
           (stays (state_seen p) rest session upto sound trail_rest h.over (subst (All (IsBehind upto)) (sym are) above))
 
-  module _ (names : KnownNames) (first : PassView) (talk : Talk) (told : List Request) (t : IsTalk names first p talk told) where
+  module _ (names : KnownNames) (first : PassView) (course : Course) (told : List Request) (t : IsCourse names first p course told) where
     names_then : names ≡ q.base.setup.names → names ≡ p.base.setup.names
     names_then e = e ∙ ap (λ (h : Chronicle). h.setup.names) follows.base
 
@@ -118,27 +115,27 @@ module _ (p q : PassView) (follows : Follows p q) (legal : HasTrail (hall_seen q
     length_on = begins_length q.seen p.seen follows.seen
 
     -- no line of it was admitted
-    pub talk_on : AdmitsNoLine p q → IsTalk names first q talk told
-    talk_on none = record {
+    pub course_on : AdmitsNoLine p q → IsCourse names first q course told
+    course_on none = record {
       gained = t.gained ++ none.gained;
       own = none.own ∙ (ap (λ l. l ++ none.gained) t.own ∙ append_assoc first.own t.gained none.gained);
       within = λ i some. within i (either i t.gained none.gained some);
       trail = legal;
-      there = (kept_session talk.session t.there).there;
+      there = (kept_session course.session t.there).there;
       subject = t.subject;
       more = t.more;
       opened = t.opened;
-      subject_is = (kept_session talk.session t.there).subject ∙ t.subject_is;
+      subject_is = (kept_session course.session t.there).subject ∙ t.subject_is;
       works = t.works;
-      admits = admitted_later (state_seen p) (state_seen q) talk.last (asked_in told) t.works kept_weight.limit kept_weight.weight t.admits;
+      admits = admitted_later (state_seen p) (state_seen q) course.last (asked_in told) t.works kept_weight.limit kept_weight.weight t.admits;
       covers = t.covers;
       heard = λ is alone.
-          let a : StandAt (t.gained ++ none.gained) talk.session (p.seen ++ rest) = subst (StandAt (t.gained ++ none.gained) talk.session) follows.seen.1 alone in
-          let n : (i k : ℕ) (w : Work) → slice_get (p.seen ++ rest) i ≡ Some (Admits talk.session k w) → 1 ≤ times i none.gained → ⊥ =
-          λ i k w at new. none.no_line i talk.session k w new (ap (λ (l : List Event). slice_get l i) follows.seen.1 ∙ at) in
-          subst (λ l. IsHeard q talk.session talk.upto l talk.replies) (append-nil t.works)
-          (heard_on talk.session talk.upto t.works [] talk.replies (t.heard (names_then is) (stood talk.session t.gained none.gained p.seen rest a n t.within))
-          (none_came talk.session t.gained none.gained p.seen rest a n t.within) (All-nil (IsBehind talk.upto)));
+          let a : StandAt (t.gained ++ none.gained) course.session (p.seen ++ rest) = subst (StandAt (t.gained ++ none.gained) course.session) follows.seen.1 alone in
+          let n : (i k : ℕ) (w : Work) → slice_get (p.seen ++ rest) i ≡ Some (Admits course.session k w) → 1 ≤ times i none.gained → ⊥ =
+          λ i k w at new. none.no_line i course.session k w new (ap (λ (l : List Event). slice_get l i) follows.seen.1 ∙ at) in
+          subst (λ l. IsHeard q course.session course.upto l course.replies) (append-nil t.works)
+          (heard_on course.session course.upto t.works [] course.replies (t.heard (names_then is) (stood course.session t.gained none.gained p.seen rest a n t.within))
+          (none_came course.session t.gained none.gained p.seen rest a n t.within) (All-nil (IsBehind course.upto)));
     }
       where
         within : (i : ℕ) → (1 ≤ times i t.gained) ⊎ (1 ≤ times i none.gained) → i < length q.seen
@@ -146,12 +143,12 @@ module _ (p q : PassView) (follows : Follows p q) (legal : HasTrail (hall_seen q
         within i (inr new) = none.within i new
 
     -- a line of it was admitted
-    module _ (k : ℕ) (w : Work) (A : State → Type 0) (lt : talk.last < k) (le : talk.upto ≤ talk.last) (call : Calls p (Admits talk.session k w) A q) where
+    module _ (k : ℕ) (w : Work) (A : State → Type 0) (lt : course.last < k) (le : course.upto ≤ course.last) (call : Calls p (Admits course.session k w) A q) where
       abbrev others : List Event
       others = call.from.0
 
       abbrev event : Event
-      event = Admits talk.session k w
+      event = Admits course.session k w
 
       seen_is : q.seen ≡ p.seen ++ (others ++ event ∷ [])
       seen_is = call.seen ∙ (ap (λ l. l ++ event ∷ []) call.from.1 ∙ append_assoc p.seen others (event ∷ []))
@@ -159,44 +156,44 @@ module _ (p q : PassView) (follows : Follows p q) (legal : HasTrail (hall_seen q
       abbrev one : List (ℕ × Work)
       one = (k, w) ∷ []
 
-      alone_before : StandAt (t.gained ++ length call.trail ∷ []) talk.session q.seen → StandAt (t.gained ++ length call.trail ∷ []) talk.session (p.seen ++ others)
+      alone_before : StandAt (t.gained ++ length call.trail ∷ []) course.session q.seen → StandAt (t.gained ++ length call.trail ∷ []) course.session (p.seen ++ others)
       alone_before alone i j v at =
-          alone i j v (ap (λ (l : List Event). slice_get l i) call.seen ∙ get_front call.trail (event ∷ []) i (Admits talk.session j v) (ap (λ (l : List Event). slice_get l i) call.from.1 ∙ at))
+          alone i j v (ap (λ (l : List Event). slice_get l i) call.seen ∙ get_front call.trail (event ∷ []) i (Admits course.session j v) (ap (λ (l : List Event). slice_get l i) call.from.1 ∙ at))
 
-      not_new : (i j : ℕ) (v : Work) → slice_get (p.seen ++ others) i ≡ Some (Admits talk.session j v) → 1 ≤ times i (length call.trail ∷ []) → ⊥
+      not_new : (i j : ℕ) (v : Work) → slice_get (p.seen ++ others) i ≡ Some (Admits course.session j v) → 1 ≤ times i (length call.trail ∷ []) → ⊥
       not_new i j v at new =
-          let here = get_inside (p.seen ++ others) i (Admits talk.session j v) at in
+          let here = get_inside (p.seen ++ others) i (Admits course.session j v) at in
           let same = one_place i (length call.trail) new in
           absurd (omega (arith, here, same, ap length call.from.1))
 
-      came_is : admitted talk.session (others ++ event ∷ []) ≡ admitted talk.session others ++ one
-      came_is = admitted-append talk.session others (event ∷ []) ∙ ap (λ l. admitted talk.session others ++ l) (own_line (eqb_tells talk.session talk.session))
+      came_is : admitted course.session (others ++ event ∷ []) ≡ admitted course.session others ++ one
+      came_is = admitted-append course.session others (event ∷ []) ∙ ap (λ l. admitted course.session others ++ l) (own_line (eqb_tells course.session course.session))
         where
-          own_line : (((talk.session == talk.session) ≡ true) × (talk.session ≡ talk.session)) ⊎ (((talk.session == talk.session) ≡ false) × (talk.session ≡ talk.session → ⊥)) → admitted talk.session (event ∷ []) ≡ one
+          own_line : (((course.session == course.session) ≡ true) × (course.session ≡ course.session)) ⊎ (((course.session == course.session) ≡ false) × (course.session ≡ course.session → ⊥)) → admitted course.session (event ∷ []) ≡ one
           own_line (inl e) = ap (λ (b : Bool). cond b one []) e.0
           own_line (inr e) = absurd (e.1 refl)
 
-      pub talk_asked : IsTalk names first q (record { session = talk.session; last = k; upto = talk.upto; replies = talk.replies }) (told ++ request.Admits k w ∷ [])
-      talk_asked = record {
+      pub course_asked : IsCourse names first q (record { session = course.session; last = k; upto = course.upto; replies = course.replies }) (told ++ request.Admits k w ∷ [])
+      course_asked = record {
         gained = t.gained ++ length call.trail ∷ [];
         own = call.own ∙ (ap (λ l. l ++ length call.trail ∷ []) t.own ∙ append_assoc first.own t.gained (length call.trail ∷ []));
         within = λ i some. within i (either i t.gained (length call.trail ∷ []) some);
         trail = legal;
-        there = (kept_session talk.session t.there).there;
+        there = (kept_session course.session t.there).there;
         subject = t.subject;
         more = t.more ++ request.Admits k w ∷ [];
         opened = ap (λ l. l ++ request.Admits k w ∷ []) t.opened;
-        subject_is = (kept_session talk.session t.there).subject ∙ t.subject_is;
+        subject_is = (kept_session course.session t.there).subject ∙ t.subject_is;
         works = t.works ++ one;
         admits = subst (λ l. AreAdmitted (state_seen q) k l (t.works ++ one)) (sym (asked_more told (request.Admits k w ∷ [])))
-            (admitted_one (state_seen p) (state_seen q) talk.last (asked_in told) t.works kept_weight.limit kept_weight.weight t.admits k w lt);
-        covers = covers_asked talk.upto told k w t.covers;
+            (admitted_one (state_seen p) (state_seen q) course.last (asked_in told) t.works kept_weight.limit kept_weight.weight t.admits k w lt);
+        covers = covers_asked course.upto told k w t.covers;
         heard = λ is alone.
             let a = alone_before alone in
-            let none : admitted talk.session others ≡ [] = none_came talk.session t.gained (length call.trail ∷ []) p.seen others a not_new t.within in
+            let none : admitted course.session others ≡ [] = none_came course.session t.gained (length call.trail ∷ []) p.seen others a not_new t.within in
             let rests : rest ≡ others ++ event ∷ [] = same_rest p.seen rest (others ++ event ∷ []) (sym follows.seen.1 ∙ seen_is) in
-            heard_on talk.session talk.upto t.works one talk.replies (t.heard (names_then is) (stood talk.session t.gained (length call.trail ∷ []) p.seen others a not_new t.within))
-            (ap (admitted talk.session) rests ∙ (came_is ∙ ap (λ l. l ++ one) none)) (All-cons (IsBehind talk.upto) (k, w) [] (omega (arith, lt, le)) (All-nil (IsBehind talk.upto)));
+            heard_on course.session course.upto t.works one course.replies (t.heard (names_then is) (stood course.session t.gained (length call.trail ∷ []) p.seen others a not_new t.within))
+            (ap (admitted course.session) rests ∙ (came_is ∙ ap (λ l. l ++ one) none)) (All-cons (IsBehind course.upto) (k, w) [] (omega (arith, lt, le)) (All-nil (IsBehind course.upto)));
       }
         where
           within : (i : ℕ) → (1 ≤ times i t.gained) ⊎ (1 ≤ times i (length call.trail ∷ [])) → i < length q.seen
@@ -209,11 +206,11 @@ module _ (p q : PassView) (follows : Follows p q) (legal : HasTrail (hall_seen q
 
 -- ---- at one moment of a pass
 
-module _ (names : KnownNames) (first q : PassView) (talk : Talk) (told : List Request) (t : IsTalk names first q talk told) where
+module _ (names : KnownNames) (first q : PassView) (course : Course) (told : List Request) (t : IsCourse names first q course told) where
   -- a line of it was refused, for want of room
-  pub talk_full : (k : ℕ) (w : Work) → talk.last < k → (state_seen q).limit < admitted_weight (state_seen q) + weight_of w
-      → IsTalk names first q (record { session = talk.session; last = k; upto = talk.upto; replies = talk.replies }) (told ++ request.Admits k w ∷ [])
-  talk_full k w lt over = record {
+  pub course_full : (k : ℕ) (w : Work) → course.last < k → (state_seen q).limit < admitted_weight (state_seen q) + weight_of w
+      → IsCourse names first q (record { session = course.session; last = k; upto = course.upto; replies = course.replies }) (told ++ request.Admits k w ∷ [])
+  course_full k w lt over = record {
     gained = t.gained;
     own = t.own;
     within = t.within;
@@ -225,16 +222,16 @@ module _ (names : KnownNames) (first q : PassView) (talk : Talk) (told : List Re
     subject_is = t.subject_is;
     works = t.works;
     admits = subst (λ l. AreAdmitted (state_seen q) k l t.works) (sym (asked_more told (request.Admits k w ∷ [])))
-        (admitted_full (state_seen q) (state_seen q) talk.last (asked_in told) t.works refl (omega arith) t.admits k w lt over);
-    covers = covers_asked talk.upto told k w t.covers;
+        (admitted_full (state_seen q) (state_seen q) course.last (asked_in told) t.works refl (omega arith) t.admits k w lt over);
+    covers = covers_asked course.upto told k w t.covers;
     heard = t.heard;
   }
 
   -- its lines up to an ordinal were answered
-  pub talk_settled : (ordinal : ℕ) (replies : ℕ → List ℕ) → talk.last ≤ ordinal → ¬ Waits (state_seen q) talk.session
-      → (names ≡ q.base.setup.names → (SameUpTo talk.upto talk.replies (line_text (state_seen q) talk.session)) → SameUpTo ordinal replies (line_text (state_seen q) talk.session))
-      → IsTalk names first q (record { session = talk.session; last = ordinal; upto = ordinal; replies = replies }) (told ++ request.Settles ∷ [])
-  talk_settled ordinal replies le none same = record {
+  pub course_settled : (ordinal : ℕ) (replies : ℕ → List ℕ) → course.last ≤ ordinal → ¬ Waits (state_seen q) course.session
+      → (names ≡ q.base.setup.names → (SameUpTo course.upto course.replies (line_text (state_seen q) course.session)) → SameUpTo ordinal replies (line_text (state_seen q) course.session))
+      → IsCourse names first q (record { session = course.session; last = ordinal; upto = ordinal; replies = replies }) (told ++ request.Settles ∷ [])
+  course_settled ordinal replies le none same = record {
     gained = t.gained;
     own = t.own;
     within = t.within;
@@ -246,8 +243,8 @@ module _ (names : KnownNames) (first q : PassView) (talk : Talk) (told : List Re
     subject_is = t.subject_is;
     works = t.works;
     admits = subst (λ l. AreAdmitted (state_seen q) ordinal l t.works) (sym (asked_more told (request.Settles ∷ []) ∙ append-nil (asked_in told)))
-        (admitted_upto (state_seen q) (state_seen q) talk.last (asked_in told) t.works refl (omega arith) t.admits ordinal le);
-    covers = covers_settled ordinal talk.last told le t.admits.asked_low;
+        (admitted_upto (state_seen q) (state_seen q) course.last (asked_in told) t.works refl (omega arith) t.admits ordinal le);
+    covers = covers_settled ordinal course.last told le t.admits.asked_low;
     heard = λ is alone.
         let h = t.heard is alone in record {
           lines = h.lines;
@@ -256,7 +253,7 @@ module _ (names : KnownNames) (first q : PassView) (talk : Talk) (told : List Re
         };
   }
     where
-      over : (p : ℕ) → p < length (state_seen q).order → (tag (state_seen q).order p).session ≡ talk.session → (b : Bool) → has_ended (state_seen q) p ≡ b → has_ended (state_seen q) p ≡ true
+      over : (p : ℕ) → p < length (state_seen q).order → (tag (state_seen q).order p).session ≡ course.session → (b : Bool) → has_ended (state_seen q) p ≡ b → has_ended (state_seen q) p ≡ true
       over p lt own true is = is
       over p lt own false is = absurd (none (p, lt, own, is))
 
@@ -288,8 +285,8 @@ module _ (names : KnownNames) (first q : PassView) (session u : ℕ) (replies : 
       ap (replies_to (change before (Opens u)) session k) (sym e)
       ∙ replies_other (change before (Opens u)) session k 0 (length before.order) (λ p low high own at. not_mine p (omega (arith, high)) own)
 
-  pub talk_opened : IsTalk names first q (record { session = session; last = 0; upto = 0; replies = replies }) (request.Opens u ∷ [])
-  talk_opened = record {
+  pub course_opened : IsCourse names first q (record { session = session; last = 0; upto = 0; replies = replies }) (request.Opens u ∷ [])
+  course_opened = record {
     gained = length call.trail ∷ [];
     own = call.own;
     within = λ i some. (let l = call_inside first q (Opens u) (λ y. session ≡ length y.sessions) call in let e = one_place i (length call.trail) some in omega (arith, l, e));

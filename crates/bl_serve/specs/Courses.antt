@@ -67,7 +67,7 @@ pub record IsHeard (pass : PassView) (session upto : ℕ) (works : List (ℕ × 
   pub answers : SameUpTo upto replies (line_text (state_seen pass) session)
 
 -- a session over a gate: its number, the last ordinal that was asked, the one up to which it was answered, and the text of its replies
-pub record Talk : Type 0 where
+pub record Course : Type 0 where
   pub session : ℕ
   pub last : ℕ
   pub upto : ℕ
@@ -75,20 +75,20 @@ pub record Talk : Type 0 where
 
 -- The session is open since the pass was first, and this was told of it. Where no other pass spoke for it, and the names are the hall's,
 -- it was answered what the trail leads to.
-pub record IsTalk (names : KnownNames) (first pass : PassView) (talk : Talk) (told : List Request) : Type 0 where
+pub record IsCourse (names : KnownNames) (first pass : PassView) (course : Course) (told : List Request) : Type 0 where
   pub gained : List ℕ
   pub own : pass.own ≡ first.own ++ gained
   pub within : (p : ℕ) → 1 ≤ times p gained → p < length pass.seen
   pub trail : HasTrail (hall_seen pass)
-  pub there : talk.session < length (state_seen pass).sessions
+  pub there : course.session < length (state_seen pass).sessions
   pub subject : ℕ
   pub more : List Request
   pub opened : told ≡ request.Opens subject ∷ more
-  pub subject_is : (session_at (state_seen pass) talk.session).subject ≡ subject
+  pub subject_is : (session_at (state_seen pass) course.session).subject ≡ subject
   pub works : List (ℕ × Work)
-  pub admits : AreAdmitted (state_seen pass) talk.last (asked_in told) works
-  pub covers : IsCovered talk.upto told
-  pub heard : names ≡ pass.base.setup.names → StandAt gained talk.session pass.seen → IsHeard pass talk.session talk.upto works talk.replies
+  pub admits : AreAdmitted (state_seen pass) course.last (asked_in told) works
+  pub covers : IsCovered course.upto told
+  pub heard : names ≡ pass.base.setup.names → StandAt gained course.session pass.seen → IsHeard pass course.session course.upto works course.replies
 
 -- What a session does to a pass while it listens: it admits no line, and where a hall was seen its trail is one still.
 pub record Listens (before after : PassView) : Type 0 where
