@@ -10,6 +10,7 @@ use Rattle.bl_order.specs.Room.{admitted_weight}
 use Rattle.bl_engine.specs.Requests as request
 use Rattle.bl_engine.specs.Requests.{Request}
 use Rattle.bl_session.specs.Transcripts.{has_ordinal}
+use Rattle.bl_session.proofs.TranscriptLaws.{equal_self, filter_same}
 use Rattle.bl_serve.specs.Courses.{AreAdmitted, asked_in}
 
 abbrev Low : ℕ → ℕ × Work → Type 0
@@ -25,17 +26,8 @@ asked_more (request.Opens u ∷ told) more = asked_more told more
 asked_more (request.Admits k w ∷ told) more = ap (λ l. (k, w) ∷ l) (asked_more told more)
 asked_more (request.Settles ∷ told) more = asked_more told more
 
-filter_same : (p q : ℕ × Work → Bool) (l : List (ℕ × Work)) → All (λ (a : ℕ × Work). p a ≡ q a) l → filter p l ≡ filter q l
-filter_same p q [] same = refl
-filter_same p q (a ∷ l) same =
-    ap (λ b. cond b (a ∷ filter p l) (filter p l)) (All-head (λ (a : ℕ × Work). p a ≡ q a) a l same)
-    ∙ ap (λ r. cond (q a) (a ∷ r) r) (filter_same p q l (All-tail (λ (a : ℕ × Work). p a ≡ q a) a l same))
-
 apart : (m n : ℕ) → m < n → (n == m) ≡ false
 apart m n lt = grind (arith, nat_tests)
-
-equal_self : (k : ℕ) → (k == k) ≡ true
-equal_self k = grind (arith, nat_tests)
 
 or_false : (b : Bool) → (b || false) ≡ b
 or_false true = refl

@@ -6,6 +6,7 @@ use Rattle.bl_work.specs.declared.work.Work.{Work}
 use Rattle.bl_order.specs.Machine.{Event, Opens, Admits, Starts, Ends, Loses}
 use Rattle.bl_gate.specs.Counts.{times}
 use Rattle.bl_gate.proofs.Totals.{times-append}
+use Rattle.bl_worker.proofs.Settling.{get_later}
 use Rattle.bl_session.specs.Transcripts.{admitted}
 use Rattle.bl_serve.specs.Courses.{StandAt}
 
@@ -24,11 +25,6 @@ none_admitted session (Loses n ∷ events) none = none_admitted session events (
 
 -- ---- what stands where
 
-pub get_front : (xs ys : List Event) (p : ℕ) (e : Event) → slice_get xs p ≡ Some e → slice_get (xs ++ ys) p ≡ Some e
-get_front [] ys p e h = absurd (cc)
-get_front (x ∷ xs) ys zero e h = h
-get_front (x ∷ xs) ys (suc p) e h = get_front xs ys p e h
-
 get_back : (xs ys : List Event) (j : ℕ) (e : Event) → slice_get ys j ≡ Some e → slice_get (xs ++ ys) (length xs + j) ≡ Some e
 get_back [] ys j e h = ap (slice_get ys) (zero_more j) ∙ h
   where
@@ -44,7 +40,7 @@ get_inside [] p e h = absurd (cc)
 get_inside (x ∷ xs) zero e h = omega arith
 get_inside (x ∷ xs) (suc p) e h = omega (arith, get_inside xs p e h)
 
-either : (i : ℕ) (g h : List ℕ) → 1 ≤ times i (g ++ h) → (1 ≤ times i g) ⊎ (1 ≤ times i h)
+pub either : (i : ℕ) (g h : List ℕ) → 1 ≤ times i (g ++ h) → (1 ≤ times i g) ⊎ (1 ≤ times i h)
 either i g h some = let e = times-append i g h in grind arith
 
 -- A trail that was seen went on, and positions were gained at which no line of the session stands: so its lines stood at the others
@@ -59,7 +55,7 @@ module _ (session : ℕ) (g h : List ℕ) (seen others : List Event) (alone : St
       go (inr new) = absurd (none p k w at new)
 
   pub stood : StandAt g session seen
-  stood p k w at = old p k w (get_front seen others p (Admits session k w) at)
+  stood p k w at = old p k w (get_later (seen ++ others) seen p (Admits session k w) (others, refl) at)
 
   pub none_came : admitted session others ≡ []
   none_came = none_admitted session others (λ j k w at. let lt = within (length seen + j) (old (length seen + j) k w (get_back seen others j (Admits session k w) at)) in absurd (omega (arith, lt)))

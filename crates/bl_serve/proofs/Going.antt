@@ -17,10 +17,9 @@ use Rattle.bl_hall.specs.declared.reply.Reply as owned
 use Rattle.bl_gate.specs.Counts.{times}
 use Rattle.bl_gate.specs.Gates.{PassView, Calls, Follows, hall_seen, hall_with, state_seen}
 use Rattle.bl_gate.proofs.Trails.{begins_length}
-use Rattle.bl_gate.proofs.Totals.{times-append}
 use Rattle.bl_worker.specs.Turns.{AdmitsNoLine}
 use Rattle.bl_worker.proofs.Passing.{after_parts, trail_front, trail_back}
-use Rattle.bl_worker.proofs.Settling.{call_inside, one_place, sound_at}
+use Rattle.bl_worker.proofs.Settling.{call_inside, get_later, one_place, sound_at}
 use Rattle.bl_wire.specs.Replies.{line_or_full, line_text}
 use Rattle.bl_engine.specs.Requests as request
 use Rattle.bl_engine.specs.Requests.{Request, SameUpTo}
@@ -29,13 +28,10 @@ use Rattle.bl_session.proofs.TranscriptLaws.{KeepsSession, KeepsWeight, admitted
 use Rattle.bl_serve.specs.Told.{line_of}
 use Rattle.bl_serve.specs.Courses.{AreAdmitted, HasNoSettles, IsCovered, IsHeard, IsOverUpTo, IsCourse, StandAt, Course, asked_in}
 use Rattle.bl_serve.proofs.Admitted.{admitted_none, admitted_later, admitted_upto, admitted_one, admitted_full, asked_more}
-use Rattle.bl_serve.proofs.Alone.{get_front, get_inside, stood, none_came}
+use Rattle.bl_serve.proofs.Alone.{either, get_inside, stood, none_came}
 use Rattle.bl_serve.proofs.Opened.{AreBelow, all_below, none_unopened}
 use Rattle.bl_serve.proofs.Staying.{IsBehind, Stays, answers_stay, over_stays, replies_other, stays}
 use Rattle.bl_serve.proofs.Telling.{GoByLines, line_is}
-
-either : (i : ℕ) (g h : List ℕ) → 1 ≤ times i (g ++ h) → (1 ≤ times i g) ⊎ (1 ≤ times i h)
-either i g h some = let e = times-append i g h in grind arith
 
 -- ---- what was asked before the last settling
 
@@ -158,7 +154,7 @@ module _ (p q : PassView) (follows : Follows p q) (legal : HasTrail (hall_seen q
 
       alone_before : StandAt (t.gained ++ length call.trail ∷ []) course.session q.seen → StandAt (t.gained ++ length call.trail ∷ []) course.session (p.seen ++ others)
       alone_before alone i j v at =
-          alone i j v (ap (λ (l : List Event). slice_get l i) call.seen ∙ get_front call.trail (event ∷ []) i (Admits course.session j v) (ap (λ (l : List Event). slice_get l i) call.from.1 ∙ at))
+          alone i j v (ap (λ (l : List Event). slice_get l i) call.seen ∙ get_later (call.trail ++ event ∷ []) call.trail i (Admits course.session j v) (event ∷ [], refl) (ap (λ (l : List Event). slice_get l i) call.from.1 ∙ at))
 
       not_new : (i j : ℕ) (v : Work) → slice_get (p.seen ++ others) i ≡ Some (Admits course.session j v) → 1 ≤ times i (length call.trail ∷ []) → ⊥
       not_new i j v at new =

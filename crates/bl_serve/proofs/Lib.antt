@@ -1,9 +1,9 @@
 mod ToldLaws
+mod Opened
 mod Staying
 mod Telling
 mod Alone
 mod Admitted
-mod Opened
 mod Going
 mod Transcribing
 mod Listening

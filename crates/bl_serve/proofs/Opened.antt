@@ -56,7 +56,7 @@ none_unopened x (Loses n ∷ events) session trail le = none_unopened (change x 
 abbrev pub AreBelow : ℕ → List Entry → Type 0
 AreBelow sessions order = (p : ℕ) → p < length order → (tag order p).session < sessions
 
-last_or_before : (A : List Entry) (e : Entry) (p : ℕ) → p < length (A ++ e ∷ []) → (p ≡ length A) ⊎ (p < length A)
+pub last_or_before : (A : List Entry) (e : Entry) (p : ℕ) → p < length (A ++ e ∷ []) → (p ≡ length A) ⊎ (p < length A)
 last_or_before A e p lt = grind (arith, longer A e)
 
 below_more : (n : ℕ) (A : List Entry) (e : Entry) → AreBelow n A → (tag (A ++ e ∷ []) (length A)).session < n → AreBelow n (A ++ e ∷ [])

@@ -19,6 +19,7 @@ use Rattle.bl_session.specs.Transcripts.{admitted}
 use Rattle.bl_session.proofs.OrderLaws.{tag-grown, tag-last, tag-child, longer, join, first_kept}
 use Rattle.bl_worker.proofs.Passing.{passes_step}
 use Rattle.bl_serve.specs.Courses.{IsOverUpTo}
+use Rattle.bl_serve.proofs.Opened.{last_or_before}
 
 -- a work that is admitted behind an ordinal
 abbrev pub IsBehind : ℕ → ℕ × Work → Type 0
@@ -29,9 +30,6 @@ IsBehind n asked = n < asked.0
 -- from a place on, each that is the session's stands below a line behind the ordinal
 abbrev pub AreLaterOf : ℕ → ℕ → ℕ → List Entry → Type 0
 AreLaterOf session n from order = (p : ℕ) → from ≤ p → p < length order → (tag order p).session ≡ session → n < ordinal_of (tag order p)
-
-last_or_before : (A : List Entry) (e : Entry) (p : ℕ) → p < length (A ++ e ∷ []) → (p ≡ length A) ⊎ (p < length A)
-last_or_before A e p lt = grind (arith, longer A e)
 
 -- one place more
 later_more : (session n from : ℕ) (A : List Entry) (e : Entry) → AreLaterOf session n from A

@@ -16,20 +16,20 @@ use Rattle.bl_session.specs.Blocks.{Gives, IsInFront, behind, left_in, line_of, 
 -- ---- the lines of replies
 
 -- each reply's line passes
-abbrev Lines : (ℕ → Type 0) → List Reply → Type 0
+abbrev pub Lines : (ℕ → Type 0) → List Reply → Type 0
 Lines P [] = Unit {0}
 Lines P (r ∷ replies) = P (line_of r) × Lines P replies
 
-lines-put : (P : ℕ → Type 0) (r : Reply) (replies : List Reply) → P (line_of r) → Lines P replies → Lines P (put_in r replies)
+pub lines-put : (P : ℕ → Type 0) (r : Reply) (replies : List Reply) → P (line_of r) → Lines P replies → Lines P (put_in r replies)
 lines-put P r [] p ps = (p, tt)
 lines-put P r (s ∷ replies) p ps =
     elim (is_before r.label s.label) as (λ t. Lines P (cond t (r ∷ s ∷ replies) (s ∷ put_in r replies))) [ true ↦ (p, ps) | false ↦ (ps.0, lines-put P r replies p ps.1) ]
 
-lines-as : (P Q : ℕ → Type 0) (replies : List Reply) → ((n : ℕ) → P n → Q n) → Lines P replies → Lines Q replies
+pub lines-as : (P Q : ℕ → Type 0) (replies : List Reply) → ((n : ℕ) → P n → Q n) → Lines P replies → Lines Q replies
 lines-as P Q [] f ps = tt
 lines-as P Q (r ∷ replies) f ps = (f (line_of r) ps.0, lines-as P Q replies f ps.1)
 
-both : (a b : Bool) → (a && b) ≡ true → b ≡ true
+pub both : (a b : Bool) → (a && b) ≡ true → b ≡ true
 both true b is = is
 both false b is = absurd (true≢false (sym is))
 

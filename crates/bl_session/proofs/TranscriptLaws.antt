@@ -130,7 +130,7 @@ run_admits_none fate (suc most) x n i = go (nat_lt n (length x.order)) (run_admi
 
 -- ---- what is told
 
-filter_same : (p q : ℕ × Work → Bool) (l : List (ℕ × Work)) → All (λ (a : ℕ × Work). p a ≡ q a) l → filter p l ≡ filter q l
+pub filter_same : (p q : ℕ × Work → Bool) (l : List (ℕ × Work)) → All (λ (a : ℕ × Work). p a ≡ q a) l → filter p l ≡ filter q l
 filter_same p q [] same = refl
 filter_same p q (a ∷ l) same =
     ap (λ b. cond b (a ∷ filter p l) (filter p l)) (All-head (λ (a : ℕ × Work). p a ≡ q a) a l same)
@@ -170,7 +170,7 @@ record Tells (k : ℕ) (turns : List Turn) (limit : ℕ) (y : State) (works : Li
   lines : works ≡ filter (λ (asked : ℕ × Work). has_ordinal works asked.0) (asked_after k turns)
   full : All (λ (asked : ℕ × Work). has_ordinal works asked.0 ≡ false → limit < admitted_weight y + weight_of asked.1) (asked_after k turns)
 
-equal_self : (k : ℕ) → (k == k) ≡ true
+pub equal_self : (k : ℕ) → (k == k) ≡ true
 equal_self k = grind (arith, nat_tests)
 
 -- a work that fits

@@ -59,7 +59,7 @@ happened p q event Answered call follows legal =
 
 -- ---- what stands where
 
-get_later : (t s : List Event) (p : ℕ) (e : Event) → StartsWith t s → slice_get s p ≡ Some e → slice_get t p ≡ Some e
+pub get_later : (t s : List Event) (p : ℕ) (e : Event) → StartsWith t s → slice_get s p ≡ Some e → slice_get t p ≡ Some e
 get_later t s p e (rest, is) there = ap (λ (l : List Event). slice_get l p) is ∙ longer s rest p e there
   where
     longer : (xs ys : List Event) (p : ℕ) (e : Event) → slice_get xs p ≡ Some e → slice_get (xs ++ ys) p ≡ Some e
