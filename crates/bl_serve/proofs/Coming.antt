@@ -19,7 +19,7 @@ use Rattle.bl_wire.specs.Replies.{line_or_full, line_text}
 use Rattle.bl_engine.specs.Requests as request
 use Rattle.bl_engine.specs.Requests.{Request, SameUpTo}
 use Rattle.bl_session.proofs.RunLaws.{setup_after}
-use Rattle.bl_serve.specs.Courses.{IsCourse, Listens, SpeaksAlone, Course}
+use Rattle.bl_serve.specs.Courses.{HasOpened, IsCourse, Listens, SpeaksAlone, Course}
 use Rattle.bl_serve.specs.Told.{ordinal_of, front, line_of, told_text, IsTold}
 use Rattle.bl_serve.specs.Visits.{HasCome, HasTold, IsOf, IsSilent, course_of}
 use Rattle.bl_serve.specs.declared.visit.Visit.{Visit}
@@ -27,7 +27,7 @@ use Rattle.bl_serve.proofs.Opened.{last_low}
 use Rattle.bl_serve.proofs.Going.{block_text, course_asked, course_full, course_on, course_opened, course_settled}
 use Rattle.bl_serve.proofs.Telling.{GoByLines}
 use Rattle.bl_serve.proofs.ToldLaws.{behind_old}
-use Rattle.bl_serve.proofs.Transcribing.{heard}
+use Rattle.bl_serve.proofs.Transcribing.{heard, opened}
 use Rattle.bl_serve.proofs.VisitLaws.{text_stays, told_on}
 
 -- what holds whatever a call gave holds where it gave an error
@@ -46,6 +46,7 @@ from_first names first p q course told same t = record {
   subject = t.subject;
   more = t.more;
   opened = t.opened;
+  opening = t.opening;
   subject_is = t.subject_is;
   works = t.works;
   admits = t.admits;
@@ -164,6 +165,10 @@ module _ (gate : GateView) (first : PassView) (old : Visit) where
               (λ i. record { session = s; last = sym last i; upto = sym upto i; replies = told_text gate.names (sym v i) })
               (course_full gate.names first new.pass (course_of gate.names old s) told listened k w lt is.3));
         }
+
+        -- the pass opened the session
+        pub opened_here : HasOpened first new.pass s
+        opened_here = opened gate.names first new.pass (course_of gate.names old s) told listened
 
         -- for another cause: then another pass spoke for the session
         pub spoken_for : (why : Cause) → IsCause (state_seen new.pass) s k w why → (why ≡ cause.Full → ⊥) → IsReadable gate.names w

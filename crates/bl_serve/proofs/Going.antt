@@ -3,7 +3,7 @@ use Rattle.std.proofs.Common.{◌≡◌, ℕ, ◌+◌, ◌<◌, ◌≤◌, ◌�
 use Rattle.std.specs.Prelude.{All, ◌==◌, slice_get}
 use Rattle.std.proofs.Math.Seq.{get_or-append_seam}
 use Rattle.std.proofs.lemmas.List.Elements.{All-nil, All-cons, All-weaker}
-use Rattle.std.proofs.lemmas.Bool.Decides.{eqb_tells}
+use Rattle.std.proofs.lemmas.Bool.Decides.{eqb_tells, nat_tests}
 use Rattle.bl_work.specs.Names.{KnownNames}
 use Rattle.bl_work.specs.declared.work.Work.{Work}
 use Rattle.bl_order.specs.Labels.{tag, replies_to}
@@ -16,7 +16,8 @@ use Rattle.bl_hall.specs.Told.{AreAnswers, Waits, reply_of}
 use Rattle.bl_hall.specs.declared.reply.Reply as owned
 use Rattle.bl_gate.specs.Counts.{times}
 use Rattle.bl_gate.specs.Gates.{PassView, Calls, Follows, hall_seen, hall_with, state_seen}
-use Rattle.bl_gate.proofs.Trails.{begins_length}
+use Rattle.bl_gate.proofs.Totals.{times-append}
+use Rattle.bl_gate.proofs.Trails.{begins_length, begins_more}
 use Rattle.bl_worker.specs.Turns.{AdmitsNoLine}
 use Rattle.bl_worker.proofs.Passing.{after_parts, trail_front, trail_back}
 use Rattle.bl_worker.proofs.Settling.{call_inside, get_later, one_place, sound_at}
@@ -26,7 +27,7 @@ use Rattle.bl_engine.specs.Requests.{Request, SameUpTo}
 use Rattle.bl_session.specs.Transcripts.{admitted}
 use Rattle.bl_session.proofs.TranscriptLaws.{KeepsSession, KeepsWeight, admitted-append, sessions_kept, weights_kept}
 use Rattle.bl_serve.specs.Told.{line_of}
-use Rattle.bl_serve.specs.Courses.{AreAdmitted, HasNoSettles, IsCovered, IsHeard, IsOverUpTo, IsCourse, StandAt, Course, asked_in}
+use Rattle.bl_serve.specs.Courses.{AreAdmitted, HasNoSettles, IsCovered, IsHeard, IsOpenedAt, IsOverUpTo, IsCourse, StandAt, Course, asked_in}
 use Rattle.bl_serve.proofs.Admitted.{admitted_none, admitted_later, admitted_upto, admitted_one, admitted_full, asked_more}
 use Rattle.bl_serve.proofs.Alone.{either, get_inside, stood, none_came}
 use Rattle.bl_serve.proofs.Opened.{AreBelow, all_below, none_unopened}
@@ -59,6 +60,22 @@ covers_settled upto last told le low = record {
   low = subst (All (λ (a : ℕ × Work). a.0 ≤ upto)) (sym (asked_more told (request.Settles ∷ []) ∙ append-nil (asked_in told)))
       (All-weaker (λ (a : ℕ × Work). a.0 ≤ last) (λ (a : ℕ × Work). a.0 ≤ upto) (λ a lo. omega (arith, lo, le)) (asked_in told) low);
 }
+
+-- ---- where the session was opened
+
+more_times : (i : ℕ) (g h : List ℕ) → 1 ≤ times i g → 1 ≤ times i (g ++ h)
+more_times i g h some = omega (arith, times-append i g h, some)
+
+opening_on : (p q : PassView) (g h : List ℕ) (session u : ℕ) → Follows p q → IsOpenedAt g p session u → IsOpenedAt (g ++ h) q session u
+opening_on p q g h session u follows o = record {
+  front = o.front;
+  there = begins_more q.seen p.seen (o.front ++ Opens u ∷ []) follows.seen o.there;
+  number = o.number ∙ ap (λ (b : Chronicle). length (state_now (hall_with b o.front)).sessions) (sym follows.base);
+  own = more_times (length o.front) g h o.own;
+}
+
+once : (k : ℕ) → 1 ≤ times k (k ∷ [])
+once k = grind (arith, nat_tests)
 
 -- ---- from one moment of a pass to a later one
 
@@ -121,6 +138,7 @@ module _ (p q : PassView) (follows : Follows p q) (legal : HasTrail (hall_seen q
       subject = t.subject;
       more = t.more;
       opened = t.opened;
+      opening = opening_on p q t.gained none.gained course.session t.subject follows t.opening;
       subject_is = (kept_session course.session t.there).subject ∙ t.subject_is;
       works = t.works;
       admits = admitted_later (state_seen p) (state_seen q) course.last (asked_in told) t.works kept_weight.limit kept_weight.weight t.admits;
@@ -179,6 +197,7 @@ module _ (p q : PassView) (follows : Follows p q) (legal : HasTrail (hall_seen q
         subject = t.subject;
         more = t.more ++ request.Admits k w ∷ [];
         opened = ap (λ l. l ++ request.Admits k w ∷ []) t.opened;
+        opening = opening_on p q t.gained (length call.trail ∷ []) course.session t.subject follows t.opening;
         subject_is = (kept_session course.session t.there).subject ∙ t.subject_is;
         works = t.works ++ one;
         admits = subst (λ l. AreAdmitted (state_seen q) k l (t.works ++ one)) (sym (asked_more told (request.Admits k w ∷ [])))
@@ -215,6 +234,7 @@ module _ (names : KnownNames) (first q : PassView) (course : Course) (told : Lis
     subject = t.subject;
     more = t.more ++ request.Admits k w ∷ [];
     opened = ap (λ l. l ++ request.Admits k w ∷ []) t.opened;
+    opening = t.opening;
     subject_is = t.subject_is;
     works = t.works;
     admits = subst (λ l. AreAdmitted (state_seen q) k l t.works) (sym (asked_more told (request.Admits k w ∷ [])))
@@ -236,6 +256,7 @@ module _ (names : KnownNames) (first q : PassView) (course : Course) (told : Lis
     subject = t.subject;
     more = t.more ++ request.Settles ∷ [];
     opened = ap (λ l. l ++ request.Settles ∷ []) t.opened;
+    opening = t.opening;
     subject_is = t.subject_is;
     works = t.works;
     admits = subst (λ l. AreAdmitted (state_seen q) ordinal l t.works) (sym (asked_more told (request.Settles ∷ []) ∙ append-nil (asked_in told)))
@@ -291,6 +312,12 @@ module _ (names : KnownNames) (first q : PassView) (session u : ℕ) (replies : 
     subject = u;
     more = [];
     opened = refl;
+    opening = record {
+      front = call.trail;
+      there = ([], call.seen ∙ sym (append-nil (call.trail ++ Opens u ∷ [])));
+      number = call.answered ∙ ap (λ (b : Chronicle). length (state_now (hall_with b call.trail)).sessions) (sym base);
+      own = once (length call.trail);
+    };
     subject_is =
         ap (λ (y : State). (session_at y session).subject) state_then
         ∙ (ap (λ n. (slice_index_or (before.sessions ++ record { subject = u; last = 0 } ∷ []) n no_session).subject) call.answered

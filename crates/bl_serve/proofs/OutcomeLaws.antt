@@ -1,6 +1,5 @@
 -- Laws of what a session over a gate ends with.
-use Rattle.std.proofs.Common.{◌≡◌, ℕ, zero, suc, ◌≤◌, ◌++◌, ◌∷◌, [], Bool, true, false, true≢false, List, Option, Some, None, All, ◌⊎◌, inl, inr, refl, sym, ap, subst, ◌∙◌, arith, append-nil, replicate, take, drop}
-use Rattle.std.proofs.lemmas.List.{take-append-drop}
+use Rattle.std.proofs.Common.{◌≡◌, ℕ, zero, suc, ◌≤◌, ◌++◌, ◌∷◌, [], Bool, true, false, true≢false, List, Option, Some, None, All, ◌⊎◌, inl, inr, refl, sym, ap, subst, ◌∙◌, arith, append-nil, replicate}
 use Rattle.bl_gate.specs.Gates.{GateView, PassView, state_seen}
 use Rattle.bl_hall.specs.declared.reply.Reply.{Reply}
 use Rattle.bl_work.specs.Names.{KnownNames}
@@ -19,9 +18,9 @@ use Rattle.bl_engine.specs.View.{View, Ends, ends}
 use Rattle.bl_engine.specs.Stages.{Finished, Stopped, TurnedAway, TurnedAwayInPart, refused_sessions}
 use Rattle.bl_serve.specs.Told.{told_text}
 use Rattle.bl_serve.specs.Visits.{HasCome, HasTold, IsCrowded, course_of}
-use Rattle.bl_serve.specs.Outcome.{replies_alone, IsServed, IsCutShort, IsTranscribed, IsTranscribedInPart}
+use Rattle.bl_serve.specs.Outcome.{replies_alone, IsSeen, IsServed, IsCutShort, IsTranscribed, IsTranscribedInPart}
 use Rattle.bl_serve.specs.declared.visit.Visit.{Visit}
-use Rattle.bl_serve.proofs.Transcribing.{nothing_told, replies_are, transcribed, turned_away, written_is}
+use Rattle.bl_serve.proofs.Transcribing.{nothing_told, opened, replies_are, transcribed, turned_away, written_is}
 use Rattle.bl_serve.proofs.VisitLaws.{all_named}
 
 module _ (names : KnownNames) (e : Ends) (view : View) where
@@ -104,9 +103,6 @@ only_settles : (turns : List Turn) (n : ℕ) → told_by turns ≡ replicate n r
 only_settles turns zero is = is
 only_settles turns (suc n) is = absurd (true≢false (sym (ap is_settles is) ∙ not_settles turns))
 
-begins_part : (n : ℕ) (text : List ℕ) → Begins (take n text) text
-begins_part n text = (drop n text, sym (take-append-drop n text))
-
 module _ (gate : GateView) (at_first : PassView) (visit : Visit) where
   abbrev replies : ℕ → List ℕ
   replies = told_text gate.names visit.told.items
@@ -116,9 +112,10 @@ module _ (gate : GateView) (at_first : PassView) (visit : Visit) where
   whole turns c = go visit.session c.course
     where
       go : (o : Option ℕ) → HasTold gate at_first visit o (told_by turns) → IsTranscribed gate.names at_first visit.pass turns (session_text (told_text gate.names visit.told.items) turns)
-      go None course = (0, λ is alone. nothing_told visit.pass (told_text gate.names visit.told.items) turns course.none)
+      go None course = (0, inl course.none, λ is alone. nothing_told visit.pass (told_text gate.names visit.told.items) turns course.none)
       go (Some s) course = (
         s,
+        inr (opened gate.names at_first visit.pass (course_of gate.names visit s) (told_by turns) course),
         λ is alone.
             subst (IsTranscript visit.pass.base.setup visit.pass.base.limit visit.pass.seen s turns)
             (sym (written_is gate.names at_first visit.pass (course_of gate.names visit s) (told_by turns) course is alone turns refl))
@@ -133,6 +130,7 @@ module _ (gate : GateView) (at_first : PassView) (visit : Visit) where
       go : (o : Option ℕ) → HasTold gate at_first visit o told → IsTranscribedInPart gate.names at_first visit.pass heard written
       go None course = (
         0,
+        inl (only_settles heard settles (by ∙ ap (λ l. l ++ replicate settles request.Settles) course.none)),
         λ is alone. (
           session_text (told_text gate.names visit.told.items) heard,
           nothing_told visit.pass (told_text gate.names visit.told.items) heard (only_settles heard settles (by ∙ ap (λ l. l ++ replicate settles request.Settles) course.none)),
@@ -141,6 +139,7 @@ module _ (gate : GateView) (at_first : PassView) (visit : Visit) where
       )
       go (Some s) course = (
         s,
+        inr (opened gate.names at_first visit.pass (course_of gate.names visit s) told course),
         λ is alone. (
           session_text (line_text (state_seen visit.pass) s) heard,
           transcribed gate.names at_first visit.pass (course_of gate.names visit s) told course is alone heard settles by,
@@ -148,8 +147,8 @@ module _ (gate : GateView) (at_first : PassView) (visit : Visit) where
         ),
       )
 
-  crowded : (subject : ℕ) (turns : List Turn) → IsCrowded visit.pass → IsOpening subject turns → IsTranscribed gate.names at_first visit.pass turns (refused_sessions ++ bye_line)
-  crowded subject turns full opening = (0, λ is alone. turned_away visit.pass subject turns full.trail full.full opening)
+  crowded : (subject : ℕ) (turns : List Turn) → IsCrowded visit.pass → IsOpening subject turns → IsSeen visit.pass 0 turns (refused_sessions ++ bye_line)
+  crowded subject turns full opening = turned_away visit.pass subject turns full.trail full.full opening
 
 -- ---- outcomes
 
@@ -163,7 +162,7 @@ module _ (gate : GateView) (at_first before : PassView) (visit : Visit) (e : End
   served_here : Finished gate.names e seen ⊎ (IsCrowded visit.pass × TurnedAway gate.names e seen (refused_sessions ++ bye_line))
       → (told : List Reply) × All (λ (r : Reply). NamesAnswer gate.names r.answer) told
       × (((f : Finished gate.names e (replies_alone (told_text gate.names told))) × IsTranscribed gate.names before visit.pass f.turns (session_text (told_text gate.names told) f.turns))
-      ⊎ ((a : TurnedAway gate.names e (replies_alone (told_text gate.names told)) (refused_sessions ++ bye_line)) × IsTranscribed gate.names before visit.pass a.turns (refused_sessions ++ bye_line)))
+      ⊎ ((a : TurnedAway gate.names e (replies_alone (told_text gate.names told)) (refused_sessions ++ bye_line)) × IsSeen visit.pass 0 a.turns (refused_sessions ++ bye_line)))
   served_here (inl f) = (
     visit.told.items,
     named (told_by f.turns) f.came,
@@ -177,7 +176,7 @@ module _ (gate : GateView) (at_first before : PassView) (visit : Visit) (e : End
     named [] a.1.came,
     inr (
       away_plain gate.names e seen (refused_sessions ++ bye_line) a.1,
-      subst (λ (p : PassView). IsTranscribed gate.names p visit.pass a.1.turns (refused_sessions ++ bye_line)) same (crowded gate at_first visit a.1.subject a.1.turns a.0 a.1.opened),
+      crowded gate at_first visit a.1.subject a.1.turns a.0 a.1.opened,
     ),
   )
 
@@ -186,7 +185,7 @@ module _ (gate : GateView) (at_first before : PassView) (visit : Visit) (e : End
       → (told : List Reply) × All (λ (r : Reply). NamesAnswer gate.names r.answer) told
       × (((s : Stopped fault gate.names e read_failed write_failed (replies_alone (told_text gate.names told))) × IsTranscribedInPart gate.names before visit.pass s.heard s.written)
       ⊎ ((a : TurnedAwayInPart fault gate.names e read_failed write_failed (replies_alone (told_text gate.names told)) (refused_sessions ++ bye_line))
-      × IsTranscribedInPart gate.names before visit.pass a.part.turns (take a.much (refused_sessions ++ bye_line))))
+      × IsSeen visit.pass 0 a.part.turns (refused_sessions ++ bye_line)))
   cut_here fault read_failed write_failed (inl s) = (
     visit.told.items,
     named s.told s.came,
@@ -200,9 +199,7 @@ module _ (gate : GateView) (at_first before : PassView) (visit : Visit) (e : End
     named [] a.1.part.came,
     inr (
       away_part_plain gate.names e seen fault read_failed write_failed (refused_sessions ++ bye_line) a.1,
-      subst (λ (p : PassView). IsTranscribedInPart gate.names p visit.pass a.1.part.turns (take a.1.much (refused_sessions ++ bye_line))) same
-          (let t = crowded gate at_first visit a.1.part.subject a.1.part.turns a.0 a.1.part.opened in
-          (t.0, λ is alone. (refused_sessions ++ bye_line, t.1 is alone, begins_part a.1.much (refused_sessions ++ bye_line)))),
+      crowded gate at_first visit a.1.part.subject a.1.part.turns a.0 a.1.part.opened,
     ),
   )
 

@@ -18,7 +18,7 @@ use Rattle.bl_engine.specs.Requests as request
 use Rattle.bl_engine.specs.Requests.{Request, SameUpTo, told_of, told_by}
 use Rattle.bl_engine.specs.Stages.{refused_sessions}
 use Rattle.bl_session.specs.Transcripts.{IsTranscript, Talks, asked_after, has_ordinal}
-use Rattle.bl_serve.specs.Courses.{HasNoSettles, IsCovered, IsHeard, IsCourse, SpeaksAlone, StandAt, Course, asked_in}
+use Rattle.bl_serve.specs.Courses.{HasOpened, IsOpenedAt, HasNoSettles, IsCovered, IsHeard, IsCourse, SpeaksAlone, StandAt, Course, asked_in}
 use Rattle.bl_serve.proofs.Admitted.{asked_more}
 use Rattle.bl_serve.proofs.Opened.{sessions_within}
 
@@ -88,11 +88,20 @@ abbrev first_subject : List Request → ℕ
 first_subject [] = 0
 first_subject (r ∷ told) = opened_by r
 
+-- ---- the session that was opened
+
+module _ (names : KnownNames) (first q : PassView) (course : Course) (told : List Request) (t : IsCourse names first q course told) where
+  pub gained_is : drop (length first.own) q.own ≡ t.gained
+  gained_is = ap (drop (length first.own)) t.own ∙ drop-append_seam first.own t.gained
+
+  pub opened : HasOpened first q course.session
+  opened = (t.subject, subst (λ (l : List ℕ). IsOpenedAt l q course.session t.subject) (sym gained_is) t.opening)
+
 -- ---- the transcript
 
 module _ (names : KnownNames) (first q : PassView) (course : Course) (told : List Request) (t : IsCourse names first q course told) (is : names ≡ q.base.setup.names) (alone : SpeaksAlone first q course.session) where
   pub heard : IsHeard q course.session course.upto t.works course.replies
-  heard = t.heard is (subst (λ (l : List ℕ). StandAt l course.session q.seen) (ap (drop (length first.own)) t.own ∙ drop-append_seam first.own t.gained) alone)
+  heard = t.heard is (subst (λ (l : List ℕ). StandAt l course.session q.seen) (gained_is names first q course told t) alone)
 
   -- what is answered by the trail
   abbrev pub by_trail : ℕ → List ℕ

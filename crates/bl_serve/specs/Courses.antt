@@ -3,11 +3,11 @@ use Rattle.std.specs.Prelude.{◌≡◌, ℕ, ◌+◌, ◌<◌, ◌≤◌, ⊤, 
 use Rattle.bl_work.specs.Names.{KnownNames}
 use Rattle.bl_work.specs.declared.work.Work.{Work}
 use Rattle.bl_order.specs.Labels.{tag}
-use Rattle.bl_order.specs.Machine.{State, Event, Admits, session_at, has_ended, weight_of}
+use Rattle.bl_order.specs.Machine.{State, Event, Opens, Admits, session_at, has_ended, weight_of}
 use Rattle.bl_order.specs.Room.{admitted_weight}
-use Rattle.bl_hall.specs.Chronicle.{HasTrail}
-use Rattle.bl_gate.specs.Counts.{times}
-use Rattle.bl_gate.specs.Gates.{PassView, Follows, hall_seen, state_seen}
+use Rattle.bl_hall.specs.Chronicle.{HasTrail, state_now}
+use Rattle.bl_gate.specs.Counts.{StartsWith, times}
+use Rattle.bl_gate.specs.Gates.{PassView, Follows, hall_seen, hall_with, state_seen}
 use Rattle.bl_worker.specs.Turns.{AdmitsNoLine}
 use Rattle.bl_wire.specs.Replies.{line_text}
 use Rattle.bl_engine.specs.Requests as request
@@ -24,6 +24,17 @@ StandAt positions session trail =
 -- it was what it was before.
 abbrev pub SpeaksAlone : (before after : PassView) → ℕ → Type 0
 SpeaksAlone before after session = StandAt (drop (length before.own) after.own) session after.seen
+
+-- At one of these positions the session was opened for the subject: its number is that of the sessions before it.
+pub record IsOpenedAt (positions : List ℕ) (pass : PassView) (session subject : ℕ) : Type 0 where
+  pub front : List Event
+  pub there : StartsWith pass.seen (front ++ Opens subject ∷ [])
+  pub number : session ≡ length (state_now (hall_with pass.base front)).sessions
+  pub own : 1 ≤ times (length front) positions
+
+-- the pass opened the session since it was what it was before
+abbrev pub HasOpened : (before after : PassView) → ℕ → Type 0
+HasOpened before after session = (subject : ℕ) × IsOpenedAt (drop (length before.own) after.own) after session subject
 
 -- the works that are asked in what was told, each with its ordinal
 abbrev pub asked_in : List Request → List (ℕ × Work)
@@ -84,6 +95,7 @@ pub record IsCourse (names : KnownNames) (first pass : PassView) (course : Cours
   pub subject : ℕ
   pub more : List Request
   pub opened : told ≡ request.Opens subject ∷ more
+  pub opening : IsOpenedAt gained pass course.session subject
   pub subject_is : (session_at (state_seen pass) course.session).subject ≡ subject
   pub works : List (ℕ × Work)
   pub admits : AreAdmitted (state_seen pass) course.last (asked_in told) works

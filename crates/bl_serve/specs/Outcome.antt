@@ -1,5 +1,5 @@
 -- What a session over a gate ends with.
-use Rattle.std.specs.Prelude.{◌≡◌, ℕ, List, All, ⊤, ◌⊎◌, ◌++◌, take}
+use Rattle.std.specs.Prelude.{◌≡◌, ℕ, List, [], All, ⊤, ◌⊎◌, ◌++◌}
 use Rattle.bl_hall.specs.declared.reply.Reply as owned
 use Rattle.bl_work.specs.Names.{KnownNames}
 use Rattle.bl_wire.specs.Watch.{Use}
@@ -12,7 +12,8 @@ use Rattle.bl_engine.specs.View.{View, ends}
 use Rattle.bl_engine.specs.Stages.{Finished, Stopped, TurnedAway, TurnedAwayInPart, refused_sessions}
 use Rattle.bl_engine.specs.Spoken.{Begins}
 use Rattle.bl_session.specs.Transcripts.{IsTranscript}
-use Rattle.bl_serve.specs.Courses.{SpeaksAlone}
+use Rattle.bl_engine.specs.Requests.{told_by}
+use Rattle.bl_serve.specs.Courses.{HasOpened, SpeaksAlone}
 use Rattle.bl_serve.specs.Told.{told_text}
 
 -- nothing is said of what was settled, or of what was asked
@@ -23,17 +24,26 @@ Unsaid _ = ⊤
 abbrev pub replies_alone : (ℕ → List ℕ) → View
 replies_alone replies = record { replies = replies; settled = Unsaid; came = Unsaid }
 
--- What was written for these lines is a transcript of them by all that the pass has seen, where no other pass spoke for the session
--- and the names are the hall's.
+-- a transcript by all that a pass has seen
+abbrev pub IsSeen : PassView → ℕ → List Turn → List ℕ → Type 0
+IsSeen pass session turns text = IsTranscript pass.base.setup pass.base.limit pass.seen session turns text
+
+-- the lines tell nothing, or the pass opened the session
+abbrev pub IsOwn : (before after : PassView) → List Turn → ℕ → Type 0
+IsOwn before after turns session = (told_by turns ≡ []) ⊎ HasOpened before after session
+
+-- What was written for these lines is a transcript of them by all that the pass has seen, of the session that it opened, where no other
+-- pass spoke for that and the names are the hall's.
 abbrev pub IsTranscribed : KnownNames → (before after : PassView) → List Turn → List ℕ → Type 0
 IsTranscribed names before after turns text =
-    (session : ℕ) × (names ≡ after.base.setup.names → SpeaksAlone before after session → IsTranscript after.base.setup after.base.limit after.seen session turns text)
+    (session : ℕ) × IsOwn before after turns session
+    × (names ≡ after.base.setup.names → SpeaksAlone before after session → IsSeen after session turns text)
 
 -- the same, where it begins one
 abbrev pub IsTranscribedInPart : KnownNames → (before after : PassView) → List Turn → List ℕ → Type 0
 IsTranscribedInPart names before after turns part =
-    (session : ℕ) × (names ≡ after.base.setup.names → SpeaksAlone before after session →
-    (text : List ℕ) × IsTranscript after.base.setup after.base.limit after.seen session turns text × Begins part text)
+    (session : ℕ) × IsOwn before after turns session
+    × (names ≡ after.base.setup.names → SpeaksAlone before after session → (text : List ℕ) × IsSeen after session turns text × Begins part text)
 
 -- The input was read to its end, or to the end of a first line that was refused and no further. What is written is the text of a
 -- session that was told these replies, or there were as many sessions as there may be; and it is a transcript.
@@ -43,7 +53,7 @@ IsServed names before after reader writer =
     × (((f : Finished names (ends reader.before reader.after writer.before writer.after) (replies_alone (told_text names told)))
     × IsTranscribed names before after f.turns (session_text (told_text names told) f.turns))
     ⊎ ((a : TurnedAway names (ends reader.before reader.after writer.before writer.after) (replies_alone (told_text names told)) (refused_sessions ++ bye_line))
-    × IsTranscribed names before after a.turns (refused_sessions ++ bye_line)))
+    × IsSeen after 0 a.turns (refused_sessions ++ bye_line)))
 
 -- The session ended early. Only the end that is told has failed, and what is written begins the text of a session that was told
 -- these replies, and a transcript of the lines that were heard.
@@ -53,4 +63,4 @@ IsCutShort names before after fault reader writer =
     × (((s : Stopped fault names (ends reader.before reader.after writer.before writer.after) reader.failed writer.failed (replies_alone (told_text names told)))
     × IsTranscribedInPart names before after s.heard s.written)
     ⊎ ((a : TurnedAwayInPart fault names (ends reader.before reader.after writer.before writer.after) reader.failed writer.failed (replies_alone (told_text names told)) (refused_sessions ++ bye_line))
-    × IsTranscribedInPart names before after a.part.turns (take a.much (refused_sessions ++ bye_line))))
+    × IsSeen after 0 a.part.turns (refused_sessions ++ bye_line)))

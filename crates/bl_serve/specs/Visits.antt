@@ -5,7 +5,7 @@ use Rattle.bl_order.specs.Machine.{most_sessions}
 use Rattle.bl_hall.specs.Chronicle.{HasTrail}
 use Rattle.bl_gate.specs.Gates.{GateView, PassView, Follows, hall_seen, state_seen}
 use Rattle.bl_engine.specs.Requests.{Request}
-use Rattle.bl_serve.specs.Courses.{IsCourse, SpeaksAlone, Course}
+use Rattle.bl_serve.specs.Courses.{HasOpened, IsCourse, SpeaksAlone, Course}
 use Rattle.bl_serve.specs.Told.{behind, told_text, IsTold}
 use Rattle.bl_serve.specs.declared.visit.Visit.{Visit}
 use Rattle.bl_serve.specs.declared.visit.Page.{Page}
@@ -49,9 +49,9 @@ pub record IsCrowded (pass : PassView) : Type 0 where
   pub trail : HasTrail (hall_seen pass)
   pub full : most_sessions ≤ length (state_seen pass).sessions
 
--- another pass spoke for the session, where the names are the hall's
+-- another pass spoke for the session that the pass opened, where the names are the hall's
 abbrev pub IsSpokenFor : KnownNames → (before after : PassView) → Type 0
-IsSpokenFor names before after = (session : ℕ) × (names ≡ after.base.setup.names → SpeaksAlone before after session → ⊥)
+IsSpokenFor names before after = (session : ℕ) × HasOpened before after session × (names ≡ after.base.setup.names → SpeaksAlone before after session → ⊥)
 
 -- the replies to lines above an ordinal stand from the page's place on
 pub record IsPage (visit : Visit) (page : Page) (n : ℕ) : Type 0 where

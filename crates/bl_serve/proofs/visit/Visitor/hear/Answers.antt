@@ -1,3 +1,4 @@
+use Rattle.std.proofs.Common.{rules}
 use Rattle.bl_worker.proofs.Admitting.{admits_itself}
 use Rattle.bl_serve.specs.Courses.{Listens}
 use Rattle.bl_serve.proofs.Listening.{listens_once, listens_then}
@@ -7,6 +8,9 @@ pub returns-in-Ok-Some-clause-listens : goal.returns-in-Ok-Some-clause-listens
 returns-in-Ok-Some-clause-listens g c =
     listens_then c.args.pass.now c.loop.pass c.answers.new.pass c.loop.invariant.2
     (listens_once c.loop.pass c.answers.new.pass c.answers.ensures.follows (admits_itself c.loop.pass c.answers.new.pass c.answers.ensures.own) c.answers.ensures.trail)
+
+pub returns-in-Ok-Some-clause-told : goal.returns-in-Ok-Some-clause-told
+returns-in-Ok-Some-clause-told g c = search rules
 
 pub returns-in_err-tell-in-Ok-None-clause-listens : goal.returns-in_err-tell-in-Ok-None-clause-listens
 returns-in_err-tell-in-Ok-None-clause-listens g c =
