@@ -47,6 +47,7 @@ from_first names first p q course told same t = record {
   more = t.more;
   opened = t.opened;
   opening = t.opening;
+  mine = t.mine;
   subject_is = t.subject_is;
   works = t.works;
   admits = t.admits;

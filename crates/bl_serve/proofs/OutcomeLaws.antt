@@ -16,11 +16,12 @@ use Rattle.bl_session.specs.Transcripts.{IsTranscript}
 use Rattle.bl_wire.specs.declared.fault.SessionFault.{SessionFault}
 use Rattle.bl_engine.specs.View.{View, Ends, ends}
 use Rattle.bl_engine.specs.Stages.{Finished, Stopped, TurnedAway, TurnedAwayInPart, refused_sessions}
+use Rattle.bl_serve.specs.Courses.{SpeaksForItsOwn}
 use Rattle.bl_serve.specs.Told.{told_text}
 use Rattle.bl_serve.specs.Visits.{HasCome, HasTold, IsCrowded, course_of}
 use Rattle.bl_serve.specs.Outcome.{replies_alone, IsSeen, IsServed, IsCutShort, IsTranscribed, IsTranscribedInPart}
 use Rattle.bl_serve.specs.declared.visit.Visit.{Visit}
-use Rattle.bl_serve.proofs.Transcribing.{nothing_told, opened, replies_are, transcribed, turned_away, written_is}
+use Rattle.bl_serve.proofs.Transcribing.{nothing_told, opened, speaks, speaks_for_none, replies_are, transcribed, turned_away, written_is}
 use Rattle.bl_serve.proofs.VisitLaws.{all_named}
 
 module _ (names : KnownNames) (e : Ends) (view : View) where
@@ -203,6 +204,14 @@ module _ (gate : GateView) (at_first before : PassView) (visit : Visit) (e : End
     ),
   )
 
+-- whatever was told, the pass spoke for its own session alone
+pub speaks_then : (gate : GateView) (at_first : PassView) (visit : Visit) (told : List Request) → HasCome gate at_first visit told → SpeaksForItsOwn at_first visit.pass
+speaks_then gate at_first visit told c = go visit.session c.course
+  where
+    go : (o : Option ℕ) → HasTold gate at_first visit o told → SpeaksForItsOwn at_first visit.pass
+    go None course = speaks_for_none at_first visit.pass course.own
+    go (Some s) course = speaks gate.names at_first visit.pass (course_of gate.names visit s) told course
+
 module _ (names : KnownNames) (gate : GateView) (at_first before : PassView) (visit : Visit) (start rest first kept : Option (List ℕ)) (read_failed write_failed : Bool) (is : names ≡ gate.names) (same : at_first ≡ before) where
   abbrev there : Ends
   there = ends start rest first kept
@@ -220,3 +229,16 @@ module _ (names : KnownNames) (gate : GateView) (at_first before : PassView) (vi
   cut_short fault ended = cut_here gate at_first before visit there same fault read_failed write_failed
       (subst (λ (n : KnownNames). Stopped fault n there read_failed write_failed (seen gate at_first before visit there same)
       ⊎ (IsCrowded visit.pass × TurnedAwayInPart fault n there read_failed write_failed (seen gate at_first before visit there same) (refused_sessions ++ bye_line))) is ended)
+
+  pub served_speaks : Finished names (ends start rest first kept) (seen gate at_first before visit (ends start rest first kept) same)
+      ⊎ (IsCrowded visit.pass × TurnedAway names (ends start rest first kept) (seen gate at_first before visit (ends start rest first kept) same) (refused_sessions ++ bye_line))
+      → SpeaksForItsOwn before visit.pass
+  served_speaks (inl f) = subst (λ (p : PassView). SpeaksForItsOwn p visit.pass) same (speaks_then gate at_first visit (told_by f.turns) f.came)
+  served_speaks (inr a) = subst (λ (p : PassView). SpeaksForItsOwn p visit.pass) same (speaks_then gate at_first visit [] a.1.came)
+
+  pub cut_speaks : (fault : SessionFault)
+      → Stopped fault names (ends start rest first kept) read_failed write_failed (seen gate at_first before visit (ends start rest first kept) same)
+      ⊎ (IsCrowded visit.pass × TurnedAwayInPart fault names (ends start rest first kept) read_failed write_failed (seen gate at_first before visit (ends start rest first kept) same) (refused_sessions ++ bye_line))
+      → SpeaksForItsOwn before visit.pass
+  cut_speaks fault (inl s) = subst (λ (p : PassView). SpeaksForItsOwn p visit.pass) same (speaks_then gate at_first visit s.told s.came)
+  cut_speaks fault (inr a) = subst (λ (p : PassView). SpeaksForItsOwn p visit.pass) same (speaks_then gate at_first visit [] a.1.part.came)

@@ -8,6 +8,7 @@ use Rattle.bl_work.specs.declared.work.Work.{Work}
 use Rattle.bl_order.specs.Machine.{most_sessions, weight_of, start}
 use Rattle.bl_order.specs.Room.{admitted_weight}
 use Rattle.bl_hall.specs.Chronicle.{HasTrail}
+use Rattle.bl_gate.specs.Counts.{times}
 use Rattle.bl_gate.specs.Gates.{PassView, hall_seen, state_seen}
 use Rattle.bl_wire.specs.declared.turn.Turn.{Turn}
 use Rattle.bl_wire.specs.declared.turn.Turn.TheVariants.{Skip, Wait, Greets, Bad, Ask}
@@ -18,7 +19,7 @@ use Rattle.bl_engine.specs.Requests as request
 use Rattle.bl_engine.specs.Requests.{Request, SameUpTo, told_of, told_by}
 use Rattle.bl_engine.specs.Stages.{refused_sessions}
 use Rattle.bl_session.specs.Transcripts.{IsTranscript, Talks, asked_after, has_ordinal}
-use Rattle.bl_serve.specs.Courses.{HasOpened, IsOpenedAt, HasNoSettles, IsCovered, IsHeard, IsCourse, SpeaksAlone, StandAt, Course, asked_in}
+use Rattle.bl_serve.specs.Courses.{HasOpened, IsOpenedAt, SpeaksForItsOwn, HasNoSettles, IsCovered, IsHeard, IsCourse, SpeaksAlone, StandAt, Course, asked_in}
 use Rattle.bl_serve.proofs.Admitted.{asked_more}
 use Rattle.bl_serve.proofs.Opened.{sessions_within}
 
@@ -96,6 +97,19 @@ module _ (names : KnownNames) (first q : PassView) (course : Course) (told : Lis
 
   pub opened : HasOpened first q course.session
   opened = (t.subject, subst (λ (l : List ℕ). IsOpenedAt l q course.session t.subject) (sym gained_is) t.opening)
+
+  pub speaks : SpeaksForItsOwn first q
+  speaks i session k w some at =
+      subst (HasOpened first q) (sym (t.mine i session k w (subst (λ (l : List ℕ). 1 ≤ times i l) gained_is some) at)) opened
+
+-- a pass that gained nothing
+pub speaks_for_none : (first q : PassView) → q.own ≡ first.own → SpeaksForItsOwn first q
+speaks_for_none first q same i session k w some at =
+    let none : drop (length first.own) q.own ≡ [] = ap (drop (length first.own)) (same ∙ sym (append-nil first.own)) ∙ drop-append_seam first.own [] in
+    absurd (nothing (subst (λ (l : List ℕ). 1 ≤ times i l) none some))
+  where
+    nothing : 1 ≤ 0 → ⊥
+    nothing le = omega (arith, le)
 
 -- ---- the transcript
 

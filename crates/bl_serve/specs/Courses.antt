@@ -36,6 +36,18 @@ pub record IsOpenedAt (positions : List ℕ) (pass : PassView) (session subject 
 abbrev pub HasOpened : (before after : PassView) → ℕ → Type 0
 HasOpened before after session = (subject : ℕ) × IsOpenedAt (drop (length before.own) after.own) after session subject
 
+-- each line of the trail that stands at one of these positions is of the session
+abbrev pub AreOf : List ℕ → ℕ → List Event → Type 0
+AreOf positions session trail =
+    (p other ordinal : ℕ) (work : Work) → 1 ≤ times p positions → slice_get trail p ≡ Some (Admits other ordinal work) → other ≡ session
+
+-- The pass spoke for no session but one that it opened itself: each line at a position that it has gained since it was what it was
+-- before is of such a one.
+abbrev pub SpeaksForItsOwn : (before after : PassView) → Type 0
+SpeaksForItsOwn before after =
+    (p session ordinal : ℕ) (work : Work) → 1 ≤ times p (drop (length before.own) after.own)
+    → slice_get after.seen p ≡ Some (Admits session ordinal work) → HasOpened before after session
+
 -- the works that are asked in what was told, each with its ordinal
 abbrev pub asked_in : List Request → List (ℕ × Work)
 asked_in [] = []
@@ -96,6 +108,7 @@ pub record IsCourse (names : KnownNames) (first pass : PassView) (course : Cours
   pub more : List Request
   pub opened : told ≡ request.Opens subject ∷ more
   pub opening : IsOpenedAt gained pass course.session subject
+  pub mine : AreOf gained course.session pass.seen
   pub subject_is : (session_at (state_seen pass) course.session).subject ≡ subject
   pub works : List (ℕ × Work)
   pub admits : AreAdmitted (state_seen pass) course.last (asked_in told) works

@@ -4,6 +4,7 @@ ghost use Rattle.bl_gate.specs.Gates.{Follows};
 ghost use Rattle.bl_wire.specs.Watch.{used};
 ghost use Rattle.bl_wire.specs.declared.fault.SessionFault.TheVariants.{Clash};
 ghost use Rattle.bl_serve.specs.Outcome.{IsServed, IsCutShort};
+ghost use Rattle.bl_serve.specs.Courses.{SpeaksForItsOwn};
 ghost use Rattle.bl_serve.specs.Visits.{IsSpokenFor};
 
 use crate::visit::{Visit, Visitor};
@@ -30,7 +31,7 @@ use std::sync::Wait;
 ///
 /// What is written is a transcript of the lines that were read, by all that the pass has seen at the end, and after a fault begins one, where
 /// no other pass spoke for the session; and then `Clash` does not come. The gate's names have to be those of its hall, which they are from
-/// `Gate::new` on.
+/// `Gate::new` on. The pass spoke for no other session than its own.
 pub fn serve<R: BufRead, W: Write, T: Wait>(
     rt: &T,
     alloc: Global,
@@ -44,6 +45,7 @@ pub fn serve<R: BufRead, W: Write, T: Wait>(
     requires reader { reader.old.failed ≡ false }
     requires writer { writer.old.failed ≡ false }
     ensures follows { Follows pass result.0 }
+    ensures lines { SpeaksForItsOwn pass result.0 }
     ensures ok { OnOk result.1 (IsServed gate.now.names pass result.0 (used R.remaining reader.old reader.new) (used W.contents writer.old writer.new)) }
     ensures fine { OnOk result.1 ((reader.new.failed ≡ false) × (writer.new.failed ≡ false) × (writer.new.unflushed ≡ false)) }
     ensures clash { IfErr result.1 (λ fault. fault ≡ Clash → IsSpokenFor gate.now.names pass result.0) }
@@ -67,6 +69,7 @@ pub fn serve_with<R: BufRead, W: Write, P: Pause, T: Wait>(
     requires reader { reader.old.failed ≡ false }
     requires writer { writer.old.failed ≡ false }
     ensures follows { Follows pass result.0 }
+    ensures lines { SpeaksForItsOwn pass result.0 }
     ensures ok { OnOk result.1 (IsServed gate.now.names pass result.0 (used R.remaining reader.old reader.new) (used W.contents writer.old writer.new)) }
     ensures fine { OnOk result.1 ((reader.new.failed ≡ false) × (writer.new.failed ≡ false) × (writer.new.unflushed ≡ false)) }
     ensures clash { IfErr result.1 (λ fault. fault ≡ Clash → IsSpokenFor gate.now.names pass result.0) }

@@ -2,7 +2,7 @@ use Rattle.std.proofs.Common.{[], sym, ap, subst, ◌∙◌}
 use Rattle.bl_gate.specs.Gates.{PassView}
 use Rattle.bl_serve.specs.Courses.{HasOpened, SpeaksAlone}
 use Rattle.bl_serve.proofs.Coming.{come_first}
-use Rattle.bl_serve.proofs.OutcomeLaws.{served, cut_short}
+use Rattle.bl_serve.proofs.OutcomeLaws.{served, served_speaks, cut_short, cut_speaks}
 use Rattle.bl_serve.proofs.session.serve_with.Goals as goal
 
 pub converse-requires-clause-whole : goal.converse-requires-clause-whole
@@ -31,3 +31,17 @@ pub returns-clause-clash : goal.returns-clause-clash
 returns-clause-clash g c = λ e.
     let h = c.in-Err.ensures.clash e in
     (h.0, subst (λ (p : PassView). HasOpened p c.converse.new.state.pass h.0) c.of.ensures h.1, λ names alone. h.2 names (subst (λ (p : PassView). SpeaksAlone p c.converse.new.state.pass h.0) (sym c.of.ensures) alone))
+
+pub returns-in-Ok-clause-lines : goal.returns-in-Ok-clause-lines
+returns-in-Ok-clause-lines g c =
+    let R = g.R.Read.remaining in
+    let W = g.W.Write.contents in
+    served_speaks c.names.result.now c.args.gate.now c.of.result.value c.args.pass c.converse.new.state (R c.args.reader.now.inner) (R c.converse.new.reader.inner)
+    (W c.args.writer.now.inner) (W c.converse.new.writer.inner) c.converse.new.reader.failed c.converse.new.writer.failed c.names.ensures c.of.ensures c.in-Ok.ensures.ok
+
+pub returns-clause-lines : goal.returns-clause-lines
+returns-clause-lines g c =
+    let R = g.R.Read.remaining in
+    let W = g.W.Write.contents in
+    cut_speaks c.names.result.now c.args.gate.now c.of.result.value c.args.pass c.converse.new.state (R c.args.reader.now.inner) (R c.converse.new.reader.inner)
+    (W c.args.writer.now.inner) (W c.converse.new.writer.inner) c.converse.new.reader.failed c.converse.new.writer.failed c.names.ensures c.of.ensures c.in-Err.fault c.in-Err.ensures.err
