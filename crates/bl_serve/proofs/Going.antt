@@ -96,7 +96,7 @@ is_line (Loses n) = false
 same_session : (a b : Event) → Some a ≡ Some b → session_of a ≡ session_of b
 same_session a b e = let h : a ≡ b = cc in ap session_of h
 
-no_line : (u session k : ℕ) (w : Work) → Some (Opens u) ≡ Some (Admits session k w) → ⊥
+pub no_line : (u session k : ℕ) (w : Work) → Some (Opens u) ≡ Some (Admits session k w) → ⊥
 no_line u session k w e = let h : Opens u ≡ Admits session k w = cc in true≢false (sym (ap is_line h))
 
 -- those at the positions that it had are as they were

@@ -10,3 +10,4 @@ mod Listening
 mod VisitLaws
 mod Coming
 mod OutcomeLaws
+mod Speaking

@@ -99,17 +99,26 @@ module _ (names : KnownNames) (first q : PassView) (course : Course) (told : Lis
   opened = (t.subject, subst (λ (l : List ℕ). IsOpenedAt l q course.session t.subject) (sym gained_is) t.opening)
 
   pub speaks : SpeaksForItsOwn first q
-  speaks i session k w some at =
-      subst (HasOpened first q) (sym (t.mine i session k w (subst (λ (l : List ℕ). 1 ≤ times i l) gained_is some) at)) opened
+  speaks = record {
+    within = λ i some. t.within i (subst (λ (l : List ℕ). 1 ≤ times i l) gained_is some);
+    lines = λ i session k w some at. subst (HasOpened first q) (sym (t.mine i session k w (subst (λ (l : List ℕ). 1 ≤ times i l) gained_is some) at)) opened;
+  }
 
 -- a pass that gained nothing
 pub speaks_for_none : (first q : PassView) → q.own ≡ first.own → SpeaksForItsOwn first q
-speaks_for_none first q same i session k w some at =
-    let none : drop (length first.own) q.own ≡ [] = ap (drop (length first.own)) (same ∙ sym (append-nil first.own)) ∙ drop-append_seam first.own [] in
-    absurd (nothing (subst (λ (l : List ℕ). 1 ≤ times i l) none some))
+speaks_for_none first q same = record {
+  within = λ i some. absurd (nothing i some);
+  lines = λ i session k w some at. absurd (nothing i some);
+}
   where
-    nothing : 1 ≤ 0 → ⊥
-    nothing le = omega (arith, le)
+    none : drop (length first.own) q.own ≡ []
+    none = ap (drop (length first.own)) (same ∙ sym (append-nil first.own)) ∙ drop-append_seam first.own []
+
+    empty : (i : ℕ) → 1 ≤ times i [] → ⊥
+    empty i le = omega (arith, le)
+
+    nothing : (i : ℕ) → 1 ≤ times i (drop (length first.own) q.own) → ⊥
+    nothing i some = empty i (subst (λ (l : List ℕ). 1 ≤ times i l) none some)
 
 -- ---- the transcript
 

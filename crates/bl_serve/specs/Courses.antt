@@ -41,12 +41,12 @@ abbrev pub AreOf : List ℕ → ℕ → List Event → Type 0
 AreOf positions session trail =
     (p other ordinal : ℕ) (work : Work) → 1 ≤ times p positions → slice_get trail p ≡ Some (Admits other ordinal work) → other ≡ session
 
--- The pass spoke for no session but one that it opened itself: each line at a position that it has gained since it was what it was
--- before is of such a one.
-abbrev pub SpeaksForItsOwn : (before after : PassView) → Type 0
-SpeaksForItsOwn before after =
-    (p session ordinal : ℕ) (work : Work) → 1 ≤ times p (drop (length before.own) after.own)
-    → slice_get after.seen p ≡ Some (Admits session ordinal work) → HasOpened before after session
+-- The pass spoke for no session but one that it opened itself: each position that it has gained since it was what it was before is one
+-- that it has seen, and a line there is of such a one.
+pub record SpeaksForItsOwn (before after : PassView) : Type 0 where
+  pub within : (p : ℕ) → 1 ≤ times p (drop (length before.own) after.own) → p < length after.seen
+  pub lines : (p session ordinal : ℕ) (work : Work) → 1 ≤ times p (drop (length before.own) after.own)
+      → slice_get after.seen p ≡ Some (Admits session ordinal work) → HasOpened before after session
 
 -- the works that are asked in what was told, each with its ordinal
 abbrev pub asked_in : List Request → List (ℕ × Work)

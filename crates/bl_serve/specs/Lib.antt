@@ -1,4 +1,5 @@
 pub mod Told
 pub mod Courses
+pub mod Speakers
 pub mod Visits
 pub mod Outcome
