@@ -19,7 +19,7 @@ use Rattle.bl_wire.specs.Replies.{line_or_full, line_text}
 use Rattle.bl_engine.specs.Requests as request
 use Rattle.bl_engine.specs.Requests.{Request, SameUpTo}
 use Rattle.bl_session.proofs.RunLaws.{setup_after}
-use Rattle.bl_serve.specs.Courses.{HasOpened, IsCourse, Listens, SpeaksAlone, Course}
+use Rattle.bl_serve.specs.Courses.{IsOwn, IsCourse, KeepsQuiet, SpeaksAlone, Course}
 use Rattle.bl_serve.specs.Told.{ordinal_of, front, line_of, told_text, IsTold}
 use Rattle.bl_serve.specs.Visits.{HasCome, HasTold, IsOf, IsSilent, course_of}
 use Rattle.bl_serve.specs.declared.visit.Visit.{Visit}
@@ -27,7 +27,7 @@ use Rattle.bl_serve.proofs.Opened.{last_low}
 use Rattle.bl_serve.proofs.Going.{block_text, course_asked, course_full, course_on, course_opened, course_settled}
 use Rattle.bl_serve.proofs.Telling.{GoByLines}
 use Rattle.bl_serve.proofs.ToldLaws.{behind_old}
-use Rattle.bl_serve.proofs.Transcribing.{heard, opened}
+use Rattle.bl_serve.proofs.Transcribing.{heard, is_own}
 use Rattle.bl_serve.proofs.VisitLaws.{text_stays, told_on}
 
 -- what holds whatever a call gave holds where it gave an error
@@ -52,7 +52,7 @@ from_first names first p q course told same t = record {
   works = t.works;
   admits = t.admits;
   covers = t.covers;
-  heard = t.heard;
+  answered = t.answered;
 }
 
 -- a visit that has just begun
@@ -64,7 +64,7 @@ come_first gate first visit is same session last none upto = record {
     told = subst (All (IsTold gate.names 0 visit.upto)) (sym none) (All-nil (IsTold gate.names 0 visit.upto));
     within = omega (arith, last, upto);
   };
-  course = subst (λ o. HasTold gate first visit o []) (sym session) (record { none = refl; own = ap (λ p. p.own) (sym same); heard = none; last = last });
+  course = subst (λ o. HasTold gate first visit o []) (sym session) (record { none = refl; own = ap (λ p. p.own) (sym same); replies = none; last = last });
 }
 
 abbrev is_full : Cause → Bool
@@ -102,7 +102,7 @@ module _ (gate : GateView) (first : PassView) (old : Visit) where
       → HasCome gate first new (request.Opens u ∷ [])
   come_opened new s u c zero_upto follows legal call session told upto last =
       let quiet = (silent c).1 in
-      let items : new.told.items ≡ [] = told ∙ quiet.heard in
+      let items : new.told.items ≡ [] = told ∙ quiet.replies in
       record {
         own = of_later new c.own follows told upto (subst (λ n. old.upto ≤ n) (sym last) c.own.within);
         course = subst (λ o. HasTold gate first new o (request.Opens u ∷ [])) (sym session)
@@ -120,21 +120,21 @@ module _ (gate : GateView) (first : PassView) (old : Visit) where
       record {
         own = of_later new c.own follows told upto (subst (λ n. old.upto ≤ n) (sym last) c.own.within);
         course = subst (λ o. HasTold gate first new o []) (sym (session ∙ quiet.0))
-            (record { none = refl; own = same ∙ quiet.1.own; heard = told ∙ quiet.1.heard; last = last ∙ quiet.1.last });
+            (record { none = refl; own = same ∙ quiet.1.own; replies = told ∙ quiet.1.replies; last = last ∙ quiet.1.last });
       }
 
   module _ (s : ℕ) (session : old.session ≡ Some s) (told : List Request) (c : HasCome gate first old told) where
     pub course_is : IsCourse gate.names first old.pass (course_of gate.names old s) told
     course_is = subst (λ o. HasTold gate first old o told) session c.course
 
-    -- it listened
-    pub come_listened : (new : Visit) → Listens old.pass new.pass → new.session ≡ old.session → new.told.items ≡ old.told.items → new.upto ≡ old.upto → new.last ≡ old.last → HasCome gate first new told
-    come_listened new listens same v upto last = record {
-      own = of_later new c.own listens.follows v upto (subst (λ n. old.upto ≤ n) (sym last) c.own.within);
+    -- it after_quiet
+    pub come_quiet : (new : Visit) → KeepsQuiet old.pass new.pass → new.session ≡ old.session → new.told.items ≡ old.told.items → new.upto ≡ old.upto → new.last ≡ old.last → HasCome gate first new told
+    come_quiet new quiet same v upto last = record {
+      own = of_later new c.own quiet.follows v upto (subst (λ n. old.upto ≤ n) (sym last) c.own.within);
       course = subst (λ o. HasTold gate first new o told) (sym (same ∙ session))
           (subst (λ t. IsCourse gate.names first new.pass t told)
           (λ i. record { session = s; last = sym last i; upto = sym upto i; replies = told_text gate.names (sym v i) })
-          (course_on old.pass new.pass listens.follows (listens.trail course_is.trail) gate.names first (course_of gate.names old s) told course_is listens.lines));
+          (course_on old.pass new.pass quiet.follows (quiet.trail course_is.trail) gate.names first (course_of gate.names old s) told course_is quiet.lines));
     }
 
     module _ (new : Visit) (k : ℕ) (w : Work) (lt : old.last < k) (follows : Follows old.pass new.pass) (legal : HasTrail (hall_seen new.pass))
@@ -154,8 +154,8 @@ module _ (gate : GateView) (first : PassView) (old : Visit) where
 
       -- a line was refused
       module _ (own : new.pass.own ≡ old.pass.own) where
-        listened : IsCourse gate.names first new.pass (course_of gate.names old s) told
-        listened = course_on old.pass new.pass follows legal gate.names first (course_of gate.names old s) told course_is (admits_itself old.pass new.pass own)
+        after_quiet : IsCourse gate.names first new.pass (course_of gate.names old s) told
+        after_quiet = course_on old.pass new.pass follows legal gate.names first (course_of gate.names old s) told course_is (admits_itself old.pass new.pass own)
 
         -- for want of room
         pub come_full : IsCause (state_seen new.pass) s k w cause.Full → new.last ≡ k → HasCome gate first new (told ++ request.Admits k w ∷ [])
@@ -164,34 +164,34 @@ module _ (gate : GateView) (first : PassView) (old : Visit) where
           course = subst (λ o. HasTold gate first new o (told ++ request.Admits k w ∷ [])) (sym (same ∙ session))
               (subst (λ t. IsCourse gate.names first new.pass t (told ++ request.Admits k w ∷ []))
               (λ i. record { session = s; last = sym last i; upto = sym upto i; replies = told_text gate.names (sym v i) })
-              (course_full gate.names first new.pass (course_of gate.names old s) told listened k w lt is.3));
+              (course_full gate.names first new.pass (course_of gate.names old s) told after_quiet k w lt is.3));
         }
 
-        -- the pass opened the session
-        pub opened_here : HasOpened first new.pass s
-        opened_here = opened gate.names first new.pass (course_of gate.names old s) told listened
+        -- the pass opened the session, and spoke for no other one
+        pub own_here : IsOwn first new.pass s
+        own_here = is_own gate.names first new.pass (course_of gate.names old s) told after_quiet
 
         -- for another cause: then another pass spoke for the session
         pub spoken_for : (why : Cause) → IsCause (state_seen new.pass) s k w why → (why ≡ cause.Full → ⊥) → IsReadable gate.names w
             → gate.names ≡ new.pass.base.setup.names → SpeaksAlone first new.pass s → ⊥
         spoken_for cause.Stranger is other readable names alone = is (subst (λ n. IsReadable n w) (names ∙ sym (ap (λ m. m.names) (setup_after (start new.pass.base.setup new.pass.base.limit) new.pass.seen))) readable)
-        spoken_for cause.Session is other readable names alone = let there = listened.there in omega (arith, is.1, there)
+        spoken_for cause.Session is other readable names alone = let there = after_quiet.there in omega (arith, is.1, there)
         spoken_for cause.Ordinal is other readable names alone =
-            let h = heard gate.names first new.pass (course_of gate.names old s) told listened names alone in
+            let h = heard gate.names first new.pass (course_of gate.names old s) told after_quiet names alone in
             let low = last_low (start new.pass.base.setup new.pass.base.limit) new.pass.seen s old.last (omega arith)
-            (subst (All (λ (a : ℕ × Work). a.0 ≤ old.last)) (sym h.lines) listened.admits.works_low)
+            (subst (All (λ (a : ℕ × Work). a.0 ≤ old.last)) (sym h.lines) after_quiet.admits.works_low)
             in
             omega (arith, is.2, low, lt)
         spoken_for cause.Full is other readable names alone = other refl
 
     -- its lines were answered
-    pub come_settled : GoByLines → (new : Visit) (more : List owned.Reply) (ordinal : ℕ) → Listens old.pass new.pass → HasTrail (hall_seen new.pass) → AreAnswers (state_seen new.pass) s old.upto (map reply_of more)
+    pub come_settled : GoByLines → (new : Visit) (more : List owned.Reply) (ordinal : ℕ) → KeepsQuiet old.pass new.pass → HasTrail (hall_seen new.pass) → AreAnswers (state_seen new.pass) s old.upto (map reply_of more)
         → All (IsTold gate.names old.upto ordinal) more → old.last ≤ ordinal → new.session ≡ old.session → new.told.items ≡ old.told.items ++ more → new.upto ≡ ordinal → new.last ≡ ordinal
         → HasCome gate first new (told ++ request.Settles ∷ [])
-    come_settled by_lines new more ordinal listens legal answers are le same items upto last = record {
+    come_settled by_lines new more ordinal quiet legal answers are le same items upto last = record {
       own = record {
-        gate_is = listens.follows.gate ∙ c.own.gate_is;
-        follows = follows_then first old.pass new.pass c.own.follows listens.follows;
+        gate_is = quiet.follows.gate ∙ c.own.gate_is;
+        follows = follows_then first old.pass new.pass c.own.follows quiet.follows;
         told = subst (λ n. All (IsTold gate.names 0 n) new.told.items) (sym upto) (subst (All (IsTold gate.names 0 ordinal)) (sym items)
             (told_on gate.names old.upto ordinal old.told.items more (omega (arith, c.own.within, le)) c.own.told are));
         within = omega (arith, upto, last);
@@ -199,12 +199,12 @@ module _ (gate : GateView) (first : PassView) (old : Visit) where
       course = subst (λ o. HasTold gate first new o (told ++ request.Settles ∷ [])) (sym (same ∙ session))
           (subst (λ t. IsCourse gate.names first new.pass t (told ++ request.Settles ∷ []))
           (λ i. record { session = s; last = sym last i; upto = sym upto i; replies = told_text gate.names new.told.items })
-          (course_settled gate.names first new.pass (course_of gate.names old s) told listened ordinal (told_text gate.names new.told.items) le answers.waits
+          (course_settled gate.names first new.pass (course_of gate.names old s) told after_quiet ordinal (told_text gate.names new.told.items) le answers.waits
           (λ names was k low. either_side names was k low (below_or_not k old.upto))));
     }
       where
-        listened : IsCourse gate.names first new.pass (course_of gate.names old s) told
-        listened = course_on old.pass new.pass listens.follows legal gate.names first (course_of gate.names old s) told course_is listens.lines
+        after_quiet : IsCourse gate.names first new.pass (course_of gate.names old s) told
+        after_quiet = course_on old.pass new.pass quiet.follows legal gate.names first (course_of gate.names old s) told course_is quiet.lines
 
         below_or_not : (a b : ℕ) → (a ≤ b) ⊎ (b < a)
         below_or_not a b = grind arith

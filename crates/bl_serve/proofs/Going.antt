@@ -1,4 +1,4 @@
--- How a course goes on with what its pass sees: while it only listens, where a line of it is admitted or refused, and where it is answered.
+-- How a course goes on with what its pass sees: while it only quiet, where a line of it is admitted or refused, and where it is answered.
 use Rattle.std.proofs.Common.{◌≡◌, ℕ, ◌+◌, ◌<◌, ◌≤◌, ◌⊎◌, inl, inr, Bool, true, false, true≢false, cond, List, [], ◌∷◌, ◌++◌, length, map, refl, sym, ap, subst, ◌∙◌, arith, append-nil, append_assoc, length-append, Some, slice_index_or, drop}
 use Rattle.std.specs.Prelude.{All, ◌==◌, slice_get}
 use Rattle.std.proofs.Math.Seq.{get_or-append_seam}
@@ -27,7 +27,7 @@ use Rattle.bl_engine.specs.Requests.{Request, SameUpTo}
 use Rattle.bl_session.specs.Transcripts.{admitted}
 use Rattle.bl_session.proofs.TranscriptLaws.{KeepsSession, KeepsWeight, admitted-append, sessions_kept, weights_kept}
 use Rattle.bl_serve.specs.Told.{line_of}
-use Rattle.bl_serve.specs.Courses.{AreAdmitted, AreOf, HasNoSettles, IsCovered, IsHeard, IsOpenedAt, IsOverUpTo, IsCourse, StandAt, Course, asked_in}
+use Rattle.bl_serve.specs.Courses.{AreAdmitted, AreOf, HasNoSettles, IsCovered, IsAnswered, IsOpenedAt, IsOverUpTo, IsCourse, StandAt, Course, asked_in}
 use Rattle.bl_serve.proofs.Admitted.{admitted_none, admitted_later, admitted_upto, admitted_one, admitted_full, asked_more}
 use Rattle.bl_serve.proofs.Alone.{either, get_inside, stood, none_came}
 use Rattle.bl_serve.proofs.Opened.{AreBelow, all_below, none_unopened}
@@ -134,8 +134,8 @@ module _ (p q : PassView) (follows : Follows p q) (legal : HasTrail (hall_seen q
   kept_session session lt = subst (λ y. KeepsSession (state_seen p) y session) (sym state_is) (sessions_kept (state_seen p) rest session lt)
 
   -- what was heard is heard still, with the lines that came
-  heard_on : (session upto : ℕ) (works came : List (ℕ × Work)) (replies : ℕ → List ℕ) → IsHeard p session upto works replies
-      → admitted session follows.seen.0 ≡ came → All (IsBehind upto) came → IsHeard q session upto (works ++ came) replies
+  heard_on : (session upto : ℕ) (works came : List (ℕ × Work)) (replies : ℕ → List ℕ) → IsAnswered p session upto works replies
+      → admitted session follows.seen.0 ≡ came → All (IsBehind upto) came → IsAnswered q session upto (works ++ came) replies
   heard_on session upto works came replies h are above = record {
     lines = ap (admitted session) follows.seen.1 ∙ (admitted-append session p.seen rest ∙ (ap (λ l. l ++ admitted session rest) h.lines ∙ ap (λ l. works ++ l) are));
     over = over_stays (state_seen p) session upto (state_seen q) s;
@@ -170,12 +170,12 @@ module _ (p q : PassView) (follows : Follows p q) (legal : HasTrail (hall_seen q
       works = t.works;
       admits = admitted_later (state_seen p) (state_seen q) course.last (asked_in told) t.works kept_weight.limit kept_weight.weight t.admits;
       covers = t.covers;
-      heard = λ is alone.
+      answered = λ is alone.
           let a : StandAt (t.gained ++ none.gained) course.session (p.seen ++ rest) = subst (StandAt (t.gained ++ none.gained) course.session) follows.seen.1 alone in
           let n : (i k : ℕ) (w : Work) → slice_get (p.seen ++ rest) i ≡ Some (Admits course.session k w) → 1 ≤ times i none.gained → ⊥ =
           λ i k w at new. none.no_line i course.session k w new (ap (λ (l : List Event). slice_get l i) follows.seen.1 ∙ at) in
-          subst (λ l. IsHeard q course.session course.upto l course.replies) (append-nil t.works)
-          (heard_on course.session course.upto t.works [] course.replies (t.heard (names_then is) (stood course.session t.gained none.gained p.seen rest a n t.within))
+          subst (λ l. IsAnswered q course.session course.upto l course.replies) (append-nil t.works)
+          (heard_on course.session course.upto t.works [] course.replies (t.answered (names_then is) (stood course.session t.gained none.gained p.seen rest a n t.within))
           (none_came course.session t.gained none.gained p.seen rest a n t.within) (All-nil (IsBehind course.upto)));
     }
       where
@@ -235,11 +235,11 @@ module _ (p q : PassView) (follows : Follows p q) (legal : HasTrail (hall_seen q
         admits = subst (λ l. AreAdmitted (state_seen q) k l (t.works ++ one)) (sym (asked_more told (request.Admits k w ∷ [])))
             (admitted_one (state_seen p) (state_seen q) course.last (asked_in told) t.works kept_weight.limit kept_weight.weight t.admits k w lt);
         covers = covers_asked course.upto told k w t.covers;
-        heard = λ is alone.
+        answered = λ is alone.
             let a = alone_before alone in
             let none : admitted course.session others ≡ [] = none_came course.session t.gained (length call.trail ∷ []) p.seen others a not_new t.within in
             let rests : rest ≡ others ++ event ∷ [] = same_rest p.seen rest (others ++ event ∷ []) (sym follows.seen.1 ∙ seen_is) in
-            heard_on course.session course.upto t.works one course.replies (t.heard (names_then is) (stood course.session t.gained (length call.trail ∷ []) p.seen others a not_new t.within))
+            heard_on course.session course.upto t.works one course.replies (t.answered (names_then is) (stood course.session t.gained (length call.trail ∷ []) p.seen others a not_new t.within))
             (ap (admitted course.session) rests ∙ (came_is ∙ ap (λ l. l ++ one) none)) (All-cons (IsBehind course.upto) (k, w) [] (omega (arith, lt, le)) (All-nil (IsBehind course.upto)));
       }
         where
@@ -278,7 +278,7 @@ module _ (names : KnownNames) (first q : PassView) (course : Course) (told : Lis
     admits = subst (λ l. AreAdmitted (state_seen q) k l t.works) (sym (asked_more told (request.Admits k w ∷ [])))
         (admitted_full (state_seen q) (state_seen q) course.last (asked_in told) t.works refl (omega arith) t.admits k w lt over);
     covers = covers_asked course.upto told k w t.covers;
-    heard = t.heard;
+    answered = t.answered;
   }
 
   -- its lines up to an ordinal were answered
@@ -301,8 +301,8 @@ module _ (names : KnownNames) (first q : PassView) (course : Course) (told : Lis
     admits = subst (λ l. AreAdmitted (state_seen q) ordinal l t.works) (sym (asked_more told (request.Settles ∷ []) ∙ append-nil (asked_in told)))
         (admitted_upto (state_seen q) (state_seen q) course.last (asked_in told) t.works refl (omega arith) t.admits ordinal le);
     covers = covers_settled ordinal course.last told le t.admits.asked_low;
-    heard = λ is alone.
-        let h = t.heard is alone in record {
+    answered = λ is alone.
+        let h = t.answered is alone in record {
           lines = h.lines;
           over = λ p lt own low. over p lt own (has_ended (state_seen q) p) refl;
           answers = same is h.answers;
@@ -366,7 +366,7 @@ module _ (names : KnownNames) (first q : PassView) (session u : ℕ) (replies : 
     works = [];
     admits = admitted_none (state_seen q) 0;
     covers = record { done = []; rest = request.Opens u ∷ []; split = refl; unsettled = tt; low = All-nil (λ (a : ℕ × Work). a.0 ≤ 0) };
-    heard = λ is alone. record {
+    answered = λ is alone. record {
       lines = ap (admitted session) call.seen ∙ (admitted-append session call.trail (Opens u ∷ []) ∙ (append-nil (admitted session call.trail)
           ∙ none_unopened (start first.base.setup first.base.limit) call.trail session trail_before (omega (arith, call.answered))));
       over = subst (λ y. IsOverUpTo y session 0) (sym state_then) (λ p lt own low. absurd (not_mine p lt own));

@@ -6,7 +6,7 @@ mod Alone
 mod Admitted
 mod Going
 mod Transcribing
-mod Listening
+mod Quiet
 mod VisitLaws
 mod Coming
 mod OutcomeLaws

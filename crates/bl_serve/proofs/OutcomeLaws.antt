@@ -21,7 +21,8 @@ use Rattle.bl_serve.specs.Told.{told_text}
 use Rattle.bl_serve.specs.Visits.{HasCome, HasTold, IsCrowded, course_of}
 use Rattle.bl_serve.specs.Outcome.{replies_alone, IsSeen, IsServed, IsCutShort, IsTranscribed, IsTranscribedInPart}
 use Rattle.bl_serve.specs.declared.visit.Visit.{Visit}
-use Rattle.bl_serve.proofs.Transcribing.{nothing_told, opened, speaks, speaks_for_none, replies_are, transcribed, turned_away, written_is}
+use Rattle.bl_serve.proofs.Coming.{silent}
+use Rattle.bl_serve.proofs.Transcribing.{nothing_told, is_own, speaks, speaks_for_none, replies_are, transcribed, turned_away, written_is}
 use Rattle.bl_serve.proofs.VisitLaws.{all_named}
 
 module _ (names : KnownNames) (e : Ends) (view : View) where
@@ -113,10 +114,10 @@ module _ (gate : GateView) (at_first : PassView) (visit : Visit) where
   whole turns c = go visit.session c.course
     where
       go : (o : Option ℕ) → HasTold gate at_first visit o (told_by turns) → IsTranscribed gate.names at_first visit.pass turns (session_text (told_text gate.names visit.told.items) turns)
-      go None course = (0, inl course.none, λ is alone. nothing_told visit.pass (told_text gate.names visit.told.items) turns course.none)
-      go (Some s) course = (
+      go None course = inl (course.none, course.own, nothing_told visit.pass (told_text gate.names visit.told.items) turns course.none)
+      go (Some s) course = inr (
         s,
-        inr (opened gate.names at_first visit.pass (course_of gate.names visit s) (told_by turns) course),
+        is_own gate.names at_first visit.pass (course_of gate.names visit s) (told_by turns) course,
         λ is alone.
             subst (IsTranscript visit.pass.base.setup visit.pass.base.limit visit.pass.seen s turns)
             (sym (written_is gate.names at_first visit.pass (course_of gate.names visit s) (told_by turns) course is alone turns refl))
@@ -129,18 +130,20 @@ module _ (gate : GateView) (at_first : PassView) (visit : Visit) where
   in_part heard told settles upto written c by le begins = go visit.session c.course
     where
       go : (o : Option ℕ) → HasTold gate at_first visit o told → IsTranscribedInPart gate.names at_first visit.pass heard written
-      go None course = (
-        0,
-        inl (only_settles heard settles (by ∙ ap (λ l. l ++ replicate settles request.Settles) course.none)),
-        λ is alone. (
-          session_text (told_text gate.names visit.told.items) heard,
-          nothing_told visit.pass (told_text gate.names visit.told.items) heard (only_settles heard settles (by ∙ ap (λ l. l ++ replicate settles request.Settles) course.none)),
-          begins (told_text gate.names visit.told.items) (λ k low. refl),
-        ),
-      )
-      go (Some s) course = (
+      go None course =
+          let none = only_settles heard settles (by ∙ ap (λ l. l ++ replicate settles request.Settles) course.none) in
+          inl (
+            none,
+            course.own,
+            (
+              session_text (told_text gate.names visit.told.items) heard,
+              nothing_told visit.pass (told_text gate.names visit.told.items) heard none,
+              begins (told_text gate.names visit.told.items) (λ k low. refl),
+            ),
+          )
+      go (Some s) course = inr (
         s,
-        inr (opened gate.names at_first visit.pass (course_of gate.names visit s) told course),
+        is_own gate.names at_first visit.pass (course_of gate.names visit s) told course,
         λ is alone. (
           session_text (line_text (state_seen visit.pass) s) heard,
           transcribed gate.names at_first visit.pass (course_of gate.names visit s) told course is alone heard settles by,
@@ -163,7 +166,7 @@ module _ (gate : GateView) (at_first before : PassView) (visit : Visit) (e : End
   served_here : Finished gate.names e seen ⊎ (IsCrowded visit.pass × TurnedAway gate.names e seen (refused_sessions ++ bye_line))
       → (told : List Reply) × All (λ (r : Reply). NamesAnswer gate.names r.answer) told
       × (((f : Finished gate.names e (replies_alone (told_text gate.names told))) × IsTranscribed gate.names before visit.pass f.turns (session_text (told_text gate.names told) f.turns))
-      ⊎ ((a : TurnedAway gate.names e (replies_alone (told_text gate.names told)) (refused_sessions ++ bye_line)) × IsSeen visit.pass 0 a.turns (refused_sessions ++ bye_line)))
+      ⊎ ((a : TurnedAway gate.names e (replies_alone (told_text gate.names told)) (refused_sessions ++ bye_line)) × (visit.pass.own ≡ before.own) × IsSeen visit.pass 0 a.turns (refused_sessions ++ bye_line)))
   served_here (inl f) = (
     visit.told.items,
     named (told_by f.turns) f.came,
@@ -177,6 +180,7 @@ module _ (gate : GateView) (at_first before : PassView) (visit : Visit) (e : End
     named [] a.1.came,
     inr (
       away_plain gate.names e seen (refused_sessions ++ bye_line) a.1,
+      (silent gate at_first visit a.1.came).1.own ∙ ap (λ (p : PassView). p.own) same,
       crowded gate at_first visit a.1.subject a.1.turns a.0 a.1.opened,
     ),
   )
@@ -186,7 +190,7 @@ module _ (gate : GateView) (at_first before : PassView) (visit : Visit) (e : End
       → (told : List Reply) × All (λ (r : Reply). NamesAnswer gate.names r.answer) told
       × (((s : Stopped fault gate.names e read_failed write_failed (replies_alone (told_text gate.names told))) × IsTranscribedInPart gate.names before visit.pass s.heard s.written)
       ⊎ ((a : TurnedAwayInPart fault gate.names e read_failed write_failed (replies_alone (told_text gate.names told)) (refused_sessions ++ bye_line))
-      × IsSeen visit.pass 0 a.part.turns (refused_sessions ++ bye_line)))
+      × (visit.pass.own ≡ before.own) × IsSeen visit.pass 0 a.part.turns (refused_sessions ++ bye_line)))
   cut_here fault read_failed write_failed (inl s) = (
     visit.told.items,
     named s.told s.came,
@@ -200,6 +204,7 @@ module _ (gate : GateView) (at_first before : PassView) (visit : Visit) (e : End
     named [] a.1.part.came,
     inr (
       away_part_plain gate.names e seen fault read_failed write_failed (refused_sessions ++ bye_line) a.1,
+      (silent gate at_first visit a.1.part.came).1.own ∙ ap (λ (p : PassView). p.own) same,
       crowded gate at_first visit a.1.part.subject a.1.part.turns a.0 a.1.part.opened,
     ),
   )

@@ -34,8 +34,10 @@ opened_later whole after positions session u met o = record {
 
 pub session_share : (whole before after : PassView) → HasMet whole after → SpeaksForItsOwn before after → IsShare whole (drop (length before.own) after.own)
 session_share whole before after met s p session k w mine at =
-    let o = s.lines p session k w mine (sym (get_sooner whole.seen after.seen p met.seen (s.within p mine)) ∙ at) in
-    (o.0, opened_later whole after (drop (length before.own) after.own) session o.0 met o.1)
+    let is : drop (length before.own) after.own ≡ s.gained = ap (drop (length before.own)) s.own ∙ drop-append_seam before.own s.gained in
+    let gained : 1 ≤ times p s.gained = subst (λ (l : List ℕ). 1 ≤ times p l) is mine in
+    let o = s.lines p session k w gained (sym (get_sooner whole.seen after.seen p met.seen (s.within p gained)) ∙ at) in
+    (o.0, opened_later whole after (drop (length before.own) after.own) session o.0 met (subst (λ (l : List ℕ). IsOpenedAt l after session o.0) (sym is) o.1))
 
 pub turn_share : (whole before after : PassView) → HasMet whole after → AdmitsNoLine before after → IsShare whole (drop (length before.own) after.own)
 turn_share whole before after met none p session k w mine at =

@@ -8,7 +8,6 @@ use Rattle.bl_work.specs.declared.work.Work.{Work}
 use Rattle.bl_order.specs.Machine.{most_sessions, weight_of, start}
 use Rattle.bl_order.specs.Room.{admitted_weight}
 use Rattle.bl_hall.specs.Chronicle.{HasTrail}
-use Rattle.bl_gate.specs.Counts.{times}
 use Rattle.bl_gate.specs.Gates.{PassView, hall_seen, state_seen}
 use Rattle.bl_wire.specs.declared.turn.Turn.{Turn}
 use Rattle.bl_wire.specs.declared.turn.Turn.TheVariants.{Skip, Wait, Greets, Bad, Ask}
@@ -19,7 +18,7 @@ use Rattle.bl_engine.specs.Requests as request
 use Rattle.bl_engine.specs.Requests.{Request, SameUpTo, told_of, told_by}
 use Rattle.bl_engine.specs.Stages.{refused_sessions}
 use Rattle.bl_session.specs.Transcripts.{IsTranscript, Talks, asked_after, has_ordinal}
-use Rattle.bl_serve.specs.Courses.{HasOpened, IsOpenedAt, SpeaksForItsOwn, HasNoSettles, IsCovered, IsHeard, IsCourse, SpeaksAlone, StandAt, Course, asked_in}
+use Rattle.bl_serve.specs.Courses.{AreOf, HasOpened, IsOpenedAt, IsOwn, SpeaksForItsOwn, HasNoSettles, IsCovered, IsAnswered, IsCourse, SpeaksAlone, StandAt, Course, asked_in}
 use Rattle.bl_serve.proofs.Admitted.{asked_more}
 use Rattle.bl_serve.proofs.Opened.{sessions_within}
 
@@ -98,33 +97,31 @@ module _ (names : KnownNames) (first q : PassView) (course : Course) (told : Lis
   pub opened : HasOpened first q course.session
   opened = (t.subject, subst (λ (l : List ℕ). IsOpenedAt l q course.session t.subject) (sym gained_is) t.opening)
 
+  pub is_own : IsOwn first q course.session
+  is_own = record { opened = opened; mine = subst (λ (l : List ℕ). AreOf l course.session q.seen) (sym gained_is) t.mine }
+
   pub speaks : SpeaksForItsOwn first q
   speaks = record {
-    within = λ i some. t.within i (subst (λ (l : List ℕ). 1 ≤ times i l) gained_is some);
-    lines = λ i session k w some at. subst (HasOpened first q) (sym (t.mine i session k w (subst (λ (l : List ℕ). 1 ≤ times i l) gained_is some) at)) opened;
+    gained = t.gained;
+    own = t.own;
+    within = t.within;
+    lines = λ i session k w some at. (t.subject, subst (λ (n : ℕ). IsOpenedAt t.gained q n t.subject) (sym (t.mine i session k w some at)) t.opening);
   }
 
 -- a pass that gained nothing
 pub speaks_for_none : (first q : PassView) → q.own ≡ first.own → SpeaksForItsOwn first q
 speaks_for_none first q same = record {
-  within = λ i some. absurd (nothing i some);
-  lines = λ i session k w some at. absurd (nothing i some);
+  gained = [];
+  own = same ∙ sym (append-nil first.own);
+  within = λ i some. absurd (omega (arith, some));
+  lines = λ i session k w some at. absurd (omega (arith, some));
 }
-  where
-    none : drop (length first.own) q.own ≡ []
-    none = ap (drop (length first.own)) (same ∙ sym (append-nil first.own)) ∙ drop-append_seam first.own []
-
-    empty : (i : ℕ) → 1 ≤ times i [] → ⊥
-    empty i le = omega (arith, le)
-
-    nothing : (i : ℕ) → 1 ≤ times i (drop (length first.own) q.own) → ⊥
-    nothing i some = empty i (subst (λ (l : List ℕ). 1 ≤ times i l) none some)
 
 -- ---- the transcript
 
 module _ (names : KnownNames) (first q : PassView) (course : Course) (told : List Request) (t : IsCourse names first q course told) (is : names ≡ q.base.setup.names) (alone : SpeaksAlone first q course.session) where
-  pub heard : IsHeard q course.session course.upto t.works course.replies
-  heard = t.heard is (subst (λ (l : List ℕ). StandAt l course.session q.seen) (gained_is names first q course told t) alone)
+  pub heard : IsAnswered q course.session course.upto t.works course.replies
+  heard = t.answered is (subst (λ (l : List ℕ). StandAt l course.session q.seen) (gained_is names first q course told t) alone)
 
   -- what is answered by the trail
   abbrev pub by_trail : ℕ → List ℕ

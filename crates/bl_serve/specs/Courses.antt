@@ -21,7 +21,7 @@ StandAt positions session trail =
     (p ordinal : ℕ) (work : Work) → slice_get trail p ≡ Some (Admits session ordinal work) → 1 ≤ times p positions
 
 -- No other pass spoke for the session: each line of it that the pass has seen stands at a position that the pass has gained since
--- it was what it was before.
+-- `before`.
 abbrev pub SpeaksAlone : (before after : PassView) → ℕ → Type 0
 SpeaksAlone before after session = StandAt (drop (length before.own) after.own) session after.seen
 
@@ -32,7 +32,7 @@ pub record IsOpenedAt (positions : List ℕ) (pass : PassView) (session subject 
   pub number : session ≡ length (state_now (hall_with pass.base front)).sessions
   pub own : 1 ≤ times (length front) positions
 
--- the pass opened the session since it was what it was before
+-- the pass opened the session since `before`
 abbrev pub HasOpened : (before after : PassView) → ℕ → Type 0
 HasOpened before after session = (subject : ℕ) × IsOpenedAt (drop (length before.own) after.own) after session subject
 
@@ -41,12 +41,19 @@ abbrev pub AreOf : List ℕ → ℕ → List Event → Type 0
 AreOf positions session trail =
     (p other ordinal : ℕ) (work : Work) → 1 ≤ times p positions → slice_get trail p ≡ Some (Admits other ordinal work) → other ≡ session
 
--- The pass spoke for no session but one that it opened itself: each position that it has gained since it was what it was before is one
--- that it has seen, and a line there is of such a one.
+-- the pass opened the session since `before`, and spoke for no other one
+pub record IsOwn (before after : PassView) (session : ℕ) : Type 0 where
+  pub opened : HasOpened before after session
+  pub mine : AreOf (drop (length before.own) after.own) session after.seen
+
+-- The pass spoke for no session but one that it opened itself: it owns what it owned, each position that it has gained since `before` is
+-- one that it has seen, and a line there is of a session that was opened at one of them.
 pub record SpeaksForItsOwn (before after : PassView) : Type 0 where
-  pub within : (p : ℕ) → 1 ≤ times p (drop (length before.own) after.own) → p < length after.seen
-  pub lines : (p session ordinal : ℕ) (work : Work) → 1 ≤ times p (drop (length before.own) after.own)
-      → slice_get after.seen p ≡ Some (Admits session ordinal work) → HasOpened before after session
+  pub gained : List ℕ
+  pub own : after.own ≡ before.own ++ gained
+  pub within : (p : ℕ) → 1 ≤ times p gained → p < length after.seen
+  pub lines : (p session ordinal : ℕ) (work : Work) → 1 ≤ times p gained
+      → slice_get after.seen p ≡ Some (Admits session ordinal work) → (subject : ℕ) × IsOpenedAt gained after session subject
 
 -- the works that are asked in what was told, each with its ordinal
 abbrev pub asked_in : List Request → List (ℕ × Work)
@@ -55,8 +62,8 @@ asked_in (request.Opens subject ∷ told) = asked_in told
 asked_in (request.Admits ordinal work ∷ told) = (ordinal, work) ∷ asked_in told
 asked_in (request.Settles ∷ told) = asked_in told
 
--- Of the works that were asked these were admitted, and another one was refused only where its weight and those that were admitted by
--- then exceed the limit. All have ordinals up to the last one.
+-- Of the works that were asked these were admitted, and of another one the weight and all that was admitted exceed the limit in this
+-- state. All have ordinals up to the last one.
 pub record AreAdmitted (x : State) (last : ℕ) (asked works : List (ℕ × Work)) : Type 0 where
   pub are : works ≡ filter (λ (a : ℕ × Work). has_ordinal works a.0) asked
   pub full : All (λ (a : ℕ × Work). has_ordinal works a.0 ≡ false → x.limit < admitted_weight x + weight_of a.1) asked
@@ -84,19 +91,20 @@ IsOverUpTo x session n = (p : ℕ) → p < length x.order → (tag x.order p).se
 
 -- What the trail admits for the session are these works. Its lines up to an ordinal are over, and what is answered to them is what the
 -- trail leads to.
-pub record IsHeard (pass : PassView) (session upto : ℕ) (works : List (ℕ × Work)) (replies : ℕ → List ℕ) : Type 0 where
+pub record IsAnswered (pass : PassView) (session upto : ℕ) (works : List (ℕ × Work)) (replies : ℕ → List ℕ) : Type 0 where
   pub lines : admitted session pass.seen ≡ works
   pub over : IsOverUpTo (state_seen pass) session upto
   pub answers : SameUpTo upto replies (line_text (state_seen pass) session)
 
--- a session over a gate: its number, the last ordinal that was asked, the one up to which it was answered, and the text of its replies
+-- a session over a gate: its number, an ordinal up to which all lies that was asked, the one up to which it was answered, and the text of
+-- its replies
 pub record Course : Type 0 where
   pub session : ℕ
   pub last : ℕ
   pub upto : ℕ
   pub replies : ℕ → List ℕ
 
--- The session is open since the pass was first, and this was told of it. Where no other pass spoke for it, and the names are the hall's,
+-- The pass has opened the session since `first`, and this was told of it. Where no other pass spoke for it, and the names are the hall's,
 -- it was answered what the trail leads to.
 pub record IsCourse (names : KnownNames) (first pass : PassView) (course : Course) (told : List Request) : Type 0 where
   pub gained : List ℕ
@@ -113,10 +121,11 @@ pub record IsCourse (names : KnownNames) (first pass : PassView) (course : Cours
   pub works : List (ℕ × Work)
   pub admits : AreAdmitted (state_seen pass) course.last (asked_in told) works
   pub covers : IsCovered course.upto told
-  pub heard : names ≡ pass.base.setup.names → StandAt gained course.session pass.seen → IsHeard pass course.session course.upto works course.replies
+  pub answered : names ≡ pass.base.setup.names → StandAt gained course.session pass.seen → IsAnswered pass course.session course.upto works course.replies
 
--- What a session does to a pass while it listens: it admits no line, and where a hall was seen its trail is one still.
-pub record Listens (before after : PassView) : Type 0 where
+-- What a session does to a pass while it keeps quiet: the pass follows what it was and admits no line, and where what it had seen was a
+-- trail it is one still.
+pub record KeepsQuiet (before after : PassView) : Type 0 where
   pub follows : Follows before after
   pub lines : AdmitsNoLine before after
   pub trail : HasTrail (hall_seen before) → HasTrail (hall_seen after)

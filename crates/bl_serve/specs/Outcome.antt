@@ -13,7 +13,7 @@ use Rattle.bl_engine.specs.Stages.{Finished, Stopped, TurnedAway, TurnedAwayInPa
 use Rattle.bl_engine.specs.Spoken.{Begins}
 use Rattle.bl_session.specs.Transcripts.{IsTranscript}
 use Rattle.bl_engine.specs.Requests.{told_by}
-use Rattle.bl_serve.specs.Courses.{HasOpened, SpeaksAlone}
+use Rattle.bl_serve.specs.Courses.{IsOwn, SpeaksAlone}
 use Rattle.bl_serve.specs.Told.{told_text}
 
 -- nothing is said of what was settled, or of what was asked
@@ -28,22 +28,24 @@ replies_alone replies = record { replies = replies; settled = Unsaid; came = Uns
 abbrev pub IsSeen : PassView → ℕ → List Turn → List ℕ → Type 0
 IsSeen pass session turns text = IsTranscript pass.base.setup pass.base.limit pass.seen session turns text
 
--- the lines tell nothing, or the pass opened the session
-abbrev pub IsOwn : (before after : PassView) → List Turn → ℕ → Type 0
-IsOwn before after turns session = (told_by turns ≡ []) ⊎ HasOpened before after session
-
--- What was written for these lines is a transcript of them by all that the pass has seen, of the session that it opened, where no other
--- pass spoke for that and the names are the hall's.
+-- What was written for these lines is a transcript of them by all that the pass has seen. They tell nothing, and the pass has gained
+-- nothing; or it is of the session that the pass opened, where no other pass spoke for that and the names are the hall's.
 abbrev pub IsTranscribed : KnownNames → (before after : PassView) → List Turn → List ℕ → Type 0
 IsTranscribed names before after turns text =
-    (session : ℕ) × IsOwn before after turns session
-    × (names ≡ after.base.setup.names → SpeaksAlone before after session → IsSeen after session turns text)
+    ((told_by turns ≡ []) × (after.own ≡ before.own) × IsSeen after 0 turns text)
+    ⊎ ((session : ℕ) × IsOwn before after session
+    × (names ≡ after.base.setup.names → SpeaksAlone before after session → IsSeen after session turns text))
 
--- the same, where it begins one
+-- it begins one
+abbrev pub BeginsSeen : PassView → ℕ → List Turn → List ℕ → Type 0
+BeginsSeen pass session turns part = (text : List ℕ) × IsSeen pass session turns text × Begins part text
+
+-- the same, where what was written begins it
 abbrev pub IsTranscribedInPart : KnownNames → (before after : PassView) → List Turn → List ℕ → Type 0
 IsTranscribedInPart names before after turns part =
-    (session : ℕ) × IsOwn before after turns session
-    × (names ≡ after.base.setup.names → SpeaksAlone before after session → (text : List ℕ) × IsSeen after session turns text × Begins part text)
+    ((told_by turns ≡ []) × (after.own ≡ before.own) × BeginsSeen after 0 turns part)
+    ⊎ ((session : ℕ) × IsOwn before after session
+    × (names ≡ after.base.setup.names → SpeaksAlone before after session → BeginsSeen after session turns part))
 
 -- The input was read to its end, or to the end of a first line that was refused and no further. What is written is the text of a
 -- session that was told these replies, or there were as many sessions as there may be; and it is a transcript.
@@ -53,7 +55,7 @@ IsServed names before after reader writer =
     × (((f : Finished names (ends reader.before reader.after writer.before writer.after) (replies_alone (told_text names told)))
     × IsTranscribed names before after f.turns (session_text (told_text names told) f.turns))
     ⊎ ((a : TurnedAway names (ends reader.before reader.after writer.before writer.after) (replies_alone (told_text names told)) (refused_sessions ++ bye_line))
-    × IsSeen after 0 a.turns (refused_sessions ++ bye_line)))
+    × (after.own ≡ before.own) × IsSeen after 0 a.turns (refused_sessions ++ bye_line)))
 
 -- The session ended early. Only the end that is told has failed, and what is written begins the text of a session that was told
 -- these replies, and a transcript of the lines that were heard.
@@ -63,4 +65,4 @@ IsCutShort names before after fault reader writer =
     × (((s : Stopped fault names (ends reader.before reader.after writer.before writer.after) reader.failed writer.failed (replies_alone (told_text names told)))
     × IsTranscribedInPart names before after s.heard s.written)
     ⊎ ((a : TurnedAwayInPart fault names (ends reader.before reader.after writer.before writer.after) reader.failed writer.failed (replies_alone (told_text names told)) (refused_sessions ++ bye_line))
-    × IsSeen after 0 a.part.turns (refused_sessions ++ bye_line)))
+    × (after.own ≡ before.own) × IsSeen after 0 a.part.turns (refused_sessions ++ bye_line)))

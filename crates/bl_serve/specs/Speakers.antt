@@ -9,7 +9,7 @@ use Rattle.bl_gate.specs.Counts.{StartsWith, times, total, within}
 use Rattle.bl_gate.specs.Gates.{PassView, hall_seen}
 use Rattle.bl_serve.specs.Courses.{IsOpenedAt}
 
--- positions in what a pass has seen, where each line is of a session that was opened at one of them
+-- positions such that each line that the pass has seen there is of a session that was opened at one of them
 abbrev pub IsShare : PassView → List ℕ → Type 0
 IsShare whole positions =
     (p session ordinal : ℕ) (work : Work) → 1 ≤ times p positions → slice_get whole.seen p ≡ Some (Admits session ordinal work)

@@ -5,12 +5,12 @@ use Rattle.bl_order.specs.Machine.{most_sessions}
 use Rattle.bl_hall.specs.Chronicle.{HasTrail}
 use Rattle.bl_gate.specs.Gates.{GateView, PassView, Follows, hall_seen, state_seen}
 use Rattle.bl_engine.specs.Requests.{Request}
-use Rattle.bl_serve.specs.Courses.{HasOpened, IsCourse, SpeaksAlone, Course}
+use Rattle.bl_serve.specs.Courses.{IsCourse, IsOwn, SpeaksAlone, Course}
 use Rattle.bl_serve.specs.Told.{behind, told_text, IsTold}
 use Rattle.bl_serve.specs.declared.visit.Visit.{Visit}
 use Rattle.bl_serve.specs.declared.visit.Page.{Page}
 
--- the pass is of the gate and follows what it was at first, and what was told are replies to lines up to the last one
+-- the pass is of the gate and follows what it was at first, and what was told are replies to lines up to the last one that was settled
 pub record IsOf (gate : GateView) (first : PassView) (visit : Visit) : Type 0 where
   pub gate_is : visit.pass.gate ≡ gate.id
   pub follows : Follows first visit.pass
@@ -21,7 +21,7 @@ pub record IsOf (gate : GateView) (first : PassView) (visit : Visit) : Type 0 wh
 pub record IsSilent (first : PassView) (visit : Visit) (told : List Request) : Type 0 where
   pub none : told ≡ []
   pub own : visit.pass.own ≡ first.own
-  pub heard : visit.told.items ≡ []
+  pub replies : visit.told.items ≡ []
   pub last : visit.last ≡ 0
 
 -- the course of a visit's session
@@ -51,7 +51,7 @@ pub record IsCrowded (pass : PassView) : Type 0 where
 
 -- another pass spoke for the session that the pass opened, where the names are the hall's
 abbrev pub IsSpokenFor : KnownNames → (before after : PassView) → Type 0
-IsSpokenFor names before after = (session : ℕ) × HasOpened before after session × (names ≡ after.base.setup.names → SpeaksAlone before after session → ⊥)
+IsSpokenFor names before after = (session : ℕ) × IsOwn before after session × (names ≡ after.base.setup.names → SpeaksAlone before after session → ⊥)
 
 -- the replies to lines above an ordinal stand from the page's place on
 pub record IsPage (visit : Visit) (page : Page) (n : ℕ) : Type 0 where

@@ -7,9 +7,9 @@ ghost use Rattle.bl_worker.specs.Turns.{AdmitsNoLine};
 ghost use lib.ListN.{get_elem?};
 ghost use mathlib.Core.Option.{some};
 
-/// What a session or a turn has gained is a share of what the pass owns that closes the gate. Where all that it owns is shared out among
-/// such, no other pass spoke for a session than the one that opened it. So what `serve` supposes of the others holds in every run in
-/// which passes go to sessions and turns alone.
+/// What a session has gained, and what a turn or a worker has, is a share: each line there is of a session that was opened there.
+/// Where a gate is closed by a pass whose positions are the sum of such shares, no other pass spoke for a session than the one that
+/// opened it; and that is what `serve` supposes of the others.
 pub fn sessions_are_spoken_for_by_their_own()
     ensures sessions { (whole before after : PassView) → HasMet whole after → SpeaksForItsOwn before after →
         IsShare whole (drop (length before.own) after.own) }

@@ -26,12 +26,13 @@ use std::sync::Wait;
 ///
 /// At `Ok` the input was read to its end, or to the end of a first line that was refused, and what was told is written and handed on.
 /// `Read` and `Write` come only where that end failed, and that end alone, `TooLong` only where 16,777,216 bytes were read and another
-/// one is there. `Clash` comes where the gate found that somebody else spoke for the session. After a fault nothing more is written, and
-/// what was not consumed stays unread. What was admitted stays admitted.
+/// one is there. `Clash` comes only where the gate found that somebody else spoke for the session. After a fault nothing more is
+/// written, and what was not consumed stays unread. What was admitted stays admitted.
 ///
-/// What is written is a transcript of the lines that were read, by all that the pass has seen at the end, and after a fault begins one, where
-/// no other pass spoke for the session; and then `Clash` does not come. The gate's names have to be those of its hall, which they are from
-/// `Gate::new` on. The pass spoke for no other session than its own.
+/// What is written is a transcript of the lines that were read, by all that the pass has seen at the end, where no other pass spoke for the
+/// session; and then `Clash` does not come. After a fault it begins one of the lines that were heard: all that were read, but perhaps
+/// the last. The gate's names have to be those of its hall, which they are from `Gate::new` on. The pass spoke for no other session
+/// than its own.
 pub fn serve<R: BufRead, W: Write, T: Wait>(
     rt: &T,
     alloc: Global,

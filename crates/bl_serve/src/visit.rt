@@ -5,7 +5,7 @@ ghost use Rattle.bl_gate.specs.Gates.{hall_seen, state_seen};
 ghost use Rattle.bl_hall.specs.Chronicle.{HasTrail};
 ghost use Rattle.bl_hall.specs.Told.{AreAnswers, reply_of};
 ghost use Rattle.bl_work.specs.Readable.{IsReadable};
-ghost use Rattle.bl_serve.specs.Courses.{Listens};
+ghost use Rattle.bl_serve.specs.Courses.{KeepsQuiet};
 ghost use Rattle.bl_serve.specs.Told.{told_text};
 ghost use Rattle.bl_serve.specs.Visits.{HasCome, IsCrowded, IsPage, IsSpokenFor, IsWhole};
 
@@ -44,8 +44,8 @@ pub struct Visitor<'a, P, T> {
     pub first: Snapshot<Pass>,
 }
 
-/// The pass, the session once it is open, the entries of the block's lines, the last ordinal that was asked, what was told of the
-/// session, and the ordinal up to which.
+/// The pass, the session once it is open, the entries of the block's lines, an ordinal up to which all lies that was asked, what was
+/// told of the session, and the ordinal up to which.
 #[derive(Drop)]
 pub struct Visit {
     pub pass: Pass,
@@ -103,7 +103,7 @@ impl<'a, P: Pause, T: Wait> Visitor<'a, P, T> {
     /// Takes a turn with each of these entries that may start.
     fn run(&self, pass: &mut Pass, entries: &[u32]) -> Result<(), AllocError>
         requires { pass.old.gate ≡ self.now.gate.now.id }
-        ensures { Listens pass.old pass.new }
+        ensures { KeepsQuiet pass.old pass.new }
     {
         let mut count = 0usize;
         for n in entries {
@@ -124,7 +124,7 @@ impl<'a, P: Pause, T: Wait> Visitor<'a, P, T> {
         after: u32,
     ) -> Result<Vec<Reply>, AllocError>
         requires { pass.old.gate ≡ self.now.gate.now.id }
-        ensures listens { Listens pass.old pass.new }
+        ensures quiet { KeepsQuiet pass.old pass.new }
         ensures trail { HasTrail (hall_seen pass.new) }
         ensures told { IfOk result (λ replies. AreAnswers (state_seen pass.new) session after (map reply_of replies.items)) }
     {

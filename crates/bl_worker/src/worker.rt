@@ -1,7 +1,7 @@
 //! A worker, turn by turn.
 ghost use Rattle.std.specs.Prelude.{◌≡◌, OnOk};
 ghost use Rattle.bl_gate.specs.Gates.{Follows};
-ghost use Rattle.bl_worker.specs.Turns.{Settles};
+ghost use Rattle.bl_worker.specs.Turns.{AdmitsNoLine, Settles};
 
 use crate::bell::Bell;
 use crate::pause::Pause;
@@ -40,6 +40,7 @@ pub fn run_worker<P: Pause, R: Wait>(
 ) -> Result<(), WorkFault>
     requires gate { pass.old.gate ≡ gate.now.id }
     ensures follows { Follows pass.old pass.new }
+    ensures lines { AdmitsNoLine pass.old pass.new }
     ensures settles { OnOk result (Settles pass.old pass.new) }
 {
     let backoff = Backoff::new();

@@ -1,6 +1,6 @@
 use Rattle.std.proofs.Common.{[], sym, ap, subst, ◌∙◌}
 use Rattle.bl_gate.specs.Gates.{PassView}
-use Rattle.bl_serve.specs.Courses.{HasOpened, SpeaksAlone}
+use Rattle.bl_serve.specs.Courses.{IsOwn, SpeaksAlone}
 use Rattle.bl_serve.proofs.Coming.{come_first}
 use Rattle.bl_serve.proofs.OutcomeLaws.{served, served_speaks, cut_short, cut_speaks}
 use Rattle.bl_serve.proofs.session.serve_with.Goals as goal
@@ -30,7 +30,7 @@ returns-clause-err g c =
 pub returns-clause-clash : goal.returns-clause-clash
 returns-clause-clash g c = λ e.
     let h = c.in-Err.ensures.clash e in
-    (h.0, subst (λ (p : PassView). HasOpened p c.converse.new.state.pass h.0) c.of.ensures h.1, λ names alone. h.2 names (subst (λ (p : PassView). SpeaksAlone p c.converse.new.state.pass h.0) (sym c.of.ensures) alone))
+    (h.0, subst (λ (p : PassView). IsOwn p c.converse.new.state.pass h.0) c.of.ensures h.1, λ names alone. h.2 names (subst (λ (p : PassView). SpeaksAlone p c.converse.new.state.pass h.0) (sym c.of.ensures) alone))
 
 pub returns-in-Ok-clause-lines : goal.returns-in-Ok-clause-lines
 returns-in-Ok-clause-lines g c =

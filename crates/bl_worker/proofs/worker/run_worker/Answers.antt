@@ -1,6 +1,11 @@
+use Rattle.std.proofs.Common.{sym, subst}
+use Rattle.bl_gate.specs.Gates.{PassView}
 use Rattle.bl_gate.proofs.Following.{follows_then}
+use Rattle.bl_worker.proofs.Admitting.{admits_then}
 use Rattle.bl_worker.proofs.Settling.{settles_then}
+use Rattle.bl_worker.specs.Turns.{AdmitsNoLine}
 use Rattle.bl_worker.proofs.worker.run_worker.Goals as goal
+use Rattle.bl_worker.proofs.worker.run_worker.Goals.{in-None, in-Some+in_ok-work_once+in-Idle}
 
 pub loop-preserved-in-Idle-2 : goal.loop-preserved-in-Idle-2
 loop-preserved-in-Idle-2 g c = (
@@ -8,6 +13,7 @@ loop-preserved-in-Idle-2 g c = (
   tt,
   follows_then c.args.pass.now c.loop.pass c.work_once.new.pass c.loop.invariant.2 c.work_once.ensures.follows,
   settles_then c.args.pass.now c.loop.pass c.work_once.new.pass c.loop.invariant.3 c.in_ok-work_once.ensures.settles c.work_once.ensures.follows c.work_once.ensures.trail,
+  admits_then c.args.pass.now c.loop.pass c.work_once.new.pass c.loop.invariant.4 c.work_once.ensures.lines c.work_once.ensures.follows,
 )
 
 pub loop-preserved-in-Missed : goal.loop-preserved-in-Missed
@@ -16,6 +22,7 @@ loop-preserved-in-Missed g c = (
   tt,
   follows_then c.args.pass.now c.loop.pass c.work_once.new.pass c.loop.invariant.2 c.work_once.ensures.follows,
   settles_then c.args.pass.now c.loop.pass c.work_once.new.pass c.loop.invariant.3 c.in_ok-work_once.ensures.settles c.work_once.ensures.follows c.work_once.ensures.trail,
+  admits_then c.args.pass.now c.loop.pass c.work_once.new.pass c.loop.invariant.4 c.work_once.ensures.lines c.work_once.ensures.follows,
 )
 
 pub loop-preserved : goal.loop-preserved
@@ -24,4 +31,18 @@ loop-preserved g c = (
   tt,
   follows_then c.args.pass.now c.loop.pass c.work_once.new.pass c.loop.invariant.2 c.work_once.ensures.follows,
   settles_then c.args.pass.now c.loop.pass c.work_once.new.pass c.loop.invariant.3 c.in_ok-work_once.ensures.settles c.work_once.ensures.follows c.work_once.ensures.trail,
+  admits_then c.args.pass.now c.loop.pass c.work_once.new.pass c.loop.invariant.4 c.work_once.ensures.lines c.work_once.ensures.follows,
 )
+
+pub returns-clause-lines : goal.returns-clause-lines
+returns-clause-lines g c =
+    elim c.match-next.branch [
+      | in-None w ↦ subst (λ (p : PassView). AdmitsNoLine c.args.pass.now p) (sym w.pass-is) c.loop.invariant.4
+      | in-Some+in_ok-work_once+in-Idle w ↦
+          subst (λ (p : PassView). AdmitsNoLine c.args.pass.now p) (sym w.pass-is)
+          (admits_then c.args.pass.now c.loop.pass w.work_once.new.pass c.loop.invariant.4 w.work_once.ensures.lines w.work_once.ensures.follows)
+    ]
+
+pub returns-in_err-work_once-clause-lines : goal.returns-in_err-work_once-clause-lines
+returns-in_err-work_once-clause-lines g c =
+    admits_then c.args.pass.now c.loop.pass c.work_once.new.pass c.loop.invariant.4 c.work_once.ensures.lines c.work_once.ensures.follows

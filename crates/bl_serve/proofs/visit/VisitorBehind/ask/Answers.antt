@@ -2,8 +2,8 @@ use Rattle.std.proofs.Common.{[], ◌∷◌, ◌++◌, ◌≡◌, Bool, true, fa
 use Rattle.bl_core.specs.Answers.{IsCause}
 use Rattle.bl_gate.specs.Gates.{state_seen}
 use Rattle.bl_engine.specs.Requests as request
-use Rattle.bl_serve.proofs.Coming.{come_asked, come_full, come_listened, not_full, opened_here, spoken_for}
-use Rattle.bl_serve.proofs.Listening.{listens_once}
+use Rattle.bl_serve.proofs.Coming.{come_asked, come_full, come_quiet, not_full, own_here, spoken_for}
+use Rattle.bl_serve.proofs.Quiet.{quiet_once}
 use Rattle.bl_worker.proofs.Admitting.{admits_itself}
 use Rattle.bl_engine.specs.declared.behind.Asking.{Asking}
 use Rattle.bl_engine.specs.declared.behind.Asking.TheVariants.{Taken, Clash}
@@ -50,7 +50,7 @@ returns g c =
       clash = λ _. (
         (
           c.in-Some.session,
-          opened_here c.args.self.now.gate.now c.args.self.now.first.value c.args.state.now c.in-Some.session c.in-Some.is w.told w.come
+          own_here c.args.self.now.gate.now c.args.self.now.first.value c.args.state.now c.in-Some.session c.in-Some.is w.told w.come
               (record { pass = c.line.new.pass; session = c.args.state.now.session; asked = c.reserve.new.self; last = c.args.state.now.last; told = c.args.state.now.told; upto = c.args.state.now.upto })
               c.args.ordinal c.args.work c.requires.last c.line.ensures.follows c.line.ensures.trail refl refl refl c.in-Err.ensures.err.0,
           spoken_for c.args.self.now.gate.now c.args.self.now.first.value c.args.state.now c.in-Some.session c.in-Some.is w.told w.come
@@ -58,8 +58,8 @@ returns g c =
               c.args.ordinal c.args.work c.requires.last c.line.ensures.follows c.line.ensures.trail refl refl refl c.in-Err.ensures.err.0 c.in-Err.refused.cause c.in-Err.ensures.err.1 (not_full c.in-Err.refused.cause c.in-Stranger.is) c.requires.takes,
         ),
         λ told came.
-            come_listened c.args.self.now.gate.now c.args.self.now.first.value c.args.state.now c.in-Some.session c.in-Some.is told came _
-            (listens_once c.args.state.now.pass c.line.new.pass c.line.ensures.follows (admits_itself c.args.state.now.pass c.line.new.pass c.in-Err.ensures.err.0) c.line.ensures.trail) refl refl refl refl,
+            come_quiet c.args.self.now.gate.now c.args.self.now.first.value c.args.state.now c.in-Some.session c.in-Some.is told came _
+            (quiet_once c.args.state.now.pass c.line.new.pass c.line.ensures.follows (admits_itself c.args.state.now.pass c.line.new.pass c.in-Err.ensures.err.0) c.line.ensures.trail) refl refl refl refl,
       );
       err = tt;
       last = omega (arith, c.requires.last);

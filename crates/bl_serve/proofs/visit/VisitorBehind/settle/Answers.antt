@@ -4,29 +4,29 @@ use Rattle.bl_gate.specs.Gates.{state_seen}
 use Rattle.bl_hall.specs.Told.{AreAnswers, reply_of}
 use Rattle.bl_hall.specs.declared.reply.Reply.{Reply}
 use Rattle.bl_serve.specs.Told.{behind, told_text, IsTold}
-use Rattle.bl_serve.proofs.Coming.{come_listened, come_settled, on_err}
-use Rattle.bl_serve.proofs.Listening.{listens_then}
+use Rattle.bl_serve.proofs.Coming.{come_quiet, come_settled, on_err}
+use Rattle.bl_serve.proofs.Quiet.{quiet_then}
 use Rattle.bl_serve.proofs.VisitLaws.{text_stays, page_stands}
 use Rattle.bl_serve.proofs.visit.VisitorBehind.settle.Goals as goal
 
 pub returns-in_err-run-clause-err : goal.returns-in_err-run-clause-err
 returns-in_err-run-clause-err g c = on_err c.from_residual.result (λ told came.
-    inl (come_listened c.args.self.now.gate.now c.args.self.now.first.value c.args.state.now c.in-Some.session c.in-Some.is told came _ c.run.ensures refl refl refl refl))
+    inl (come_quiet c.args.self.now.gate.now c.args.self.now.first.value c.args.state.now c.in-Some.session c.in-Some.is told came _ c.run.ensures refl refl refl refl))
 
 pub returns-in_err-replies-clause-err : goal.returns-in_err-replies-clause-err
 returns-in_err-replies-clause-err g c = on_err c.from_residual-in_err-replies.result (λ told came.
-    inl (come_listened c.args.self.now.gate.now c.args.self.now.first.value c.args.state.now c.in-Some.session c.in-Some.is told came _
-    (listens_then c.args.state.now.pass c.run.new.pass c.hear.new.pass c.run.ensures c.hear.ensures.listens) refl refl refl refl))
+    inl (come_quiet c.args.self.now.gate.now c.args.self.now.first.value c.args.state.now c.in-Some.session c.in-Some.is told came _
+    (quiet_then c.args.state.now.pass c.run.new.pass c.hear.new.pass c.run.ensures c.hear.ensures.quiet) refl refl refl refl))
 
 pub returns-then-not-are_told-clause-err : goal.returns-then-not-are_told-clause-err
 returns-then-not-are_told-clause-err g c = λ told came.
-    inl (come_listened c.args.self.now.gate.now c.args.self.now.first.value c.args.state.now c.in-Some.session c.in-Some.is told came _
-    (listens_then c.args.state.now.pass c.run.new.pass c.hear.new.pass c.run.ensures c.hear.ensures.listens) refl refl refl refl)
+    inl (come_quiet c.args.self.now.gate.now c.args.self.now.first.value c.args.state.now c.in-Some.session c.in-Some.is told came _
+    (quiet_then c.args.state.now.pass c.run.new.pass c.hear.new.pass c.run.ensures c.hear.ensures.quiet) refl refl refl refl)
 
 pub returns-in_err-append-clause-err : goal.returns-in_err-append-clause-err
 returns-in_err-append-clause-err g c = on_err c.from_residual-in_err-append.result (λ told came.
-    inl (come_listened c.args.self.now.gate.now c.args.self.now.first.value c.args.state.now c.in-Some.session c.in-Some.is told came _
-    (listens_then c.args.state.now.pass c.run.new.pass c.hear.new.pass c.run.ensures c.hear.ensures.listens) refl (search rules) refl refl))
+    inl (come_quiet c.args.self.now.gate.now c.args.self.now.first.value c.args.state.now c.in-Some.session c.in-Some.is told came _
+    (quiet_then c.args.state.now.pass c.run.new.pass c.hear.new.pass c.run.ensures c.hear.ensures.quiet) refl (search rules) refl refl))
 
 pub returns-clause-came : goal.returns-clause-came
 returns-clause-came g c = λ told came.
@@ -36,7 +36,7 @@ returns-clause-came g c = λ told came.
     let e : c.append.new.self.items ≡ c.args.state.now.told.items ++ more = search rules in
     let are : All (IsTold names c.args.after c.args.ordinal) more = search rules in
     come_settled c.args.self.now.gate.now c.args.self.now.first.value c.args.state.now c.in-Some.session c.in-Some.is told came c.replies_go_by_lines.ensures _ more c.args.ordinal
-    (listens_then c.args.state.now.pass c.run.new.pass c.hear.new.pass c.run.ensures c.hear.ensures.listens) c.hear.ensures.trail
+    (quiet_then c.args.state.now.pass c.run.new.pass c.hear.new.pass c.run.ensures c.hear.ensures.quiet) c.hear.ensures.trail
     (subst (λ n. AreAnswers (state_seen c.hear.new.pass) c.in-Some.session n (map reply_of more)) (sym upto) c.in_ok-replies.ensures.told)
     (subst (λ n. All (IsTold names n c.args.ordinal) more) (sym upto) are) c.requires.last refl e refl refl
 
@@ -50,7 +50,7 @@ returns-clause-whole g c =
     record {
       told = c.requires.whole.told ++ request.Settles ∷ [];
       come = come_settled c.args.self.now.gate.now c.args.self.now.first.value c.args.state.now c.in-Some.session c.in-Some.is c.requires.whole.told c.requires.whole.come c.replies_go_by_lines.ensures _ more c.args.ordinal
-          (listens_then c.args.state.now.pass c.run.new.pass c.hear.new.pass c.run.ensures c.hear.ensures.listens) c.hear.ensures.trail
+          (quiet_then c.args.state.now.pass c.run.new.pass c.hear.new.pass c.run.ensures c.hear.ensures.quiet) c.hear.ensures.trail
           (subst (λ n. AreAnswers (state_seen c.hear.new.pass) c.in-Some.session n (map reply_of more)) (sym upto) c.in_ok-replies.ensures.told)
           (subst (λ n. All (IsTold names n c.args.ordinal) more) (sym upto) are) c.requires.last refl e refl refl;
       upto = refl;
