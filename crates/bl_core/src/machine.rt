@@ -12,8 +12,8 @@ use crate::session::{Session, SessionNo};
 use bl_eval::lent::{Done, DoneParts, Lent, Unrun, UnrunParts};
 use bl_grant::grants::Grants;
 use bl_order::laws::{
-    headline, lines_are_readable, read_lines_are_in_the_setup, tasks_are_of_scripts,
-    the_order_has_room,
+    each_state_holds, headline, lines_are_readable, read_lines_are_in_the_setup,
+    tasks_are_of_scripts, the_order_has_room,
 };
 use bl_place::place::{Descent, Place, Stand, declared, enter_children, enter_queues, work_at};
 use bl_place::shelf::{Shelf, contents_of, is_done_of, is_unrun_of, mark, take_back};
@@ -109,6 +109,7 @@ impl Core {
     ghost use Rattle.bl_order.specs.Now.{content_at, content_now, policy_at, policy_now, IsFirstToAlter};
     ghost use Rattle.bl_order.specs.Order.{Applies, accesses_of, is_altered, is_rule};
     ghost use Rattle.bl_order.specs.Past.{is_done};
+    ghost use Rattle.bl_order.specs.TheHeadline.{IsTheHeadline};
     ghost use Rattle.bl_core.specs.Answers.{IsCause, IsLentBy, IsNotOpened, IsStarted, IsStarvedBy, loan_at};
     ghost use Rattle.bl_core.specs.Origins.{origin_of, work_asked};
 
@@ -548,9 +549,11 @@ impl Core {
     pub fn policy(&self) -> &Policy
         ensures value { result.now ≡ policy_now self.now }
         ensures reached { IsReached self.now }
+        ensures headline { IsTheHeadline self.now }
         ensures holds { Holds self.now }
     {
         headline();
+        each_state_holds();
         &self.policy
     }
 

@@ -12,7 +12,7 @@ ghost use Rattle.bl_flow.specs.Sealed.{IsPlain, IsPossible, IsSealed};
 use bl_core::machine::Core;
 use bl_level::level::dominates_means_dominance;
 use bl_order::laws::{
-    children_follow_their_parent, headline, rules_make_the_policy, tasks_are_of_scripts,
+    children_follow_their_parent, each_state_holds, rules_make_the_policy, tasks_are_of_scripts,
 };
 use bl_policy::laws::first_fault_is_the_first;
 use bl_work::laws::blind_append;
@@ -56,7 +56,7 @@ pub fn plain_histories_are_sealed()
 pub fn reached_orders_bring_scripts()
     ensures { (x : State) → IsReached x → IsPossible (history_of x) }
 {
-    headline();
+    each_state_holds();
     tasks_are_of_scripts();
 }
 

@@ -4,18 +4,15 @@ use Rattle.std.specs.Prelude.{IsTrue, ◌==◌, slice_get, Some}
 use Rattle.std.proofs.lemmas.Bool.Decides.{eqb_tells}
 use Rattle.bl_order.specs.AtHand.{IsAtHand, RestsOnEndedPlaces, ParentsHaveEnded}
 use Rattle.bl_order.specs.Headline.{IsReached}
+use Rattle.bl_order.specs.Laws.{IsClosed}
 use Rattle.bl_order.specs.Order.{conflict, Entry, Child}
 use Rattle.bl_order.specs.Past.{place, no_entry}
 use Rattle.bl_order.specs.Machine.{State, past_at, is_lost, has_ended, runs}
 use Rattle.bl_order.proofs.Sound.{IsSound, HasParent, HaveParents}
-use Rattle.bl_order.proofs.Conflicts.{or_right}
+use Rattle.bl_order.proofs.Conflicts.{or_left, or_right}
 use Rattle.bl_order.proofs.Frame.{place-alike}
 use Rattle.bl_order.proofs.Steps.{parent-map, equal_self}
 use Rattle.bl_order.proofs.Reached.{sound-reached}
-
-or_left : (a b : Bool) → a ≡ true → (a || b) ≡ true
-or_left true b h = refl
-or_left false b h = absurd (true≢false (sym h))
 
 one_of : (a b : Bool) → (a || b) ≡ true → (a ≡ true) ⊎ (b ≡ true)
 one_of true b h = inl refl
@@ -79,7 +76,17 @@ stands [] n e h = absurd (cc)
 stands (x ∷ xs) zero e h = (omega arith, cc)
 stands (x ∷ xs) (suc n) e h = let t : (n < length xs) × (get_or xs n no_entry ≡ e) = stands xs n e h in (omega (arith, t.0), t.1)
 
-pub parents_have_ended : (x : State) → IsReached x → ParentsHaveEnded x
-parents_have_ended x r n parent which h =
+pub parents-ended : (x : State) → IsSound x → ParentsHaveEnded x
+parents-ended x sound n parent which h =
     let t : (n < length x.order) × (get_or x.order n no_entry ≡ Child parent which) = stands x.order n (Child parent which) h in
-    subst (HasParent (has_ended x) n) t.1 ((sound-reached x r).parents n t.0)
+    subst (HasParent (has_ended x) n) t.1 (sound.parents n t.0)
+
+pub parents_have_ended : (x : State) → IsReached x → ParentsHaveEnded x
+parents_have_ended x r = parents-ended x (sound-reached x r)
+
+-- the ended places are closed
+pub closed-sound : (x : State) → IsSound x → IsClosed x.setup (is_lost x) x.order (has_ended x)
+closed-sound x sound = record {
+  conflicts = λ m n lt within over c. sound.orderly m n lt within (or_right (runs x n) (has_ended x n) over) c;
+  parents = λ n parent which h. parents-ended x sound n parent which h;
+}

@@ -7,6 +7,10 @@ use Rattle.bl_policy.specs.declared.access.Access.{Access}
 use Rattle.bl_work.specs.Modes.{alters}
 use Rattle.bl_order.specs.Order.{Task, Runs, Applies, OfPolicy, OfDocument, is_rule, claims_of, excludes, conflict, is_altered, is_declared, accesses_of}
 
+pub or_left : (a b : Bool) → a ≡ true → (a || b) ≡ true
+or_left true b h = refl
+or_left false b h = absurd (true≢false (sym h))
+
 pub or_right : (a b : Bool) → b ≡ true → (a || b) ≡ true
 or_right true b h = refl
 or_right false b h = h

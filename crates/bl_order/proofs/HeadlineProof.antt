@@ -1,5 +1,5 @@
 use Rattle.std.proofs.Common.{◌≡◌, ℕ, zero, suc, ◌<◌, ◌≤◌, map, Bool, true, false, cond, ◌||◌, List, [], ◌∷◌, ◌++◌, length, refl, sym, ◌∙◌, ap, subst, inl, inr, arith, ◌⊎◌, true≢false}
-use Rattle.std.specs.Prelude.{IsTrue, Option, Some, None}
+use Rattle.std.specs.Prelude.{All, IsTrue, Option, Some, None}
 use Rattle.std.proofs.lemmas.List.Elements.{All-from_recursion}
 use Rattle.std.specs.List.{AllByRecursion}
 use Rattle.bl_policy.specs.Policy.{SecurityPolicy}
@@ -7,20 +7,22 @@ use Rattle.bl_policy.specs.Properties.{IsSecure}
 use Rattle.bl_policy.specs.declared.access.Access.{Access}
 use Rattle.bl_policy.specs.declared.denial.Denial.{Denial}
 use Rattle.bl_work.specs.Effects.{Effect}
-use Rattle.bl_order.specs.Order.{Task, Runs, Applies, accesses_of}
+use Rattle.bl_order.specs.Order.{Task, Runs, Applies, accesses_of, is_altered}
 use Rattle.bl_order.specs.Past.{is_done, fault_of_task, answer_of}
-use Rattle.bl_order.specs.Machine.{State, Phase, Waiting, Running, Ended, Gone, is_waiting, is_running, is_over, phase_at, is_lost, has_ended, runs, past_at, MayStart, start, Hold, held_below}
-use Rattle.bl_order.specs.Now.{policy_at, policy_now}
+use Rattle.bl_order.specs.Machine.{State, Phase, Waiting, Running, Ended, Gone, is_waiting, is_running, is_over, phase_at, is_lost, has_ended, runs, past_at, MayStart, start, Hold, held, held_below}
+use Rattle.bl_order.specs.Now.{policy_at, policy_now, IsFirstToAlter}
 use Rattle.bl_order.proofs.Sound.{IsSound}
 use Rattle.bl_order.specs.Headline.{IsReached, Holds}
+use Rattle.bl_order.proofs.AtHandLaws.{closed-sound}
+use Rattle.bl_order.proofs.Conflicts.{or_left}
 use Rattle.bl_order.proofs.StateLaws.{policy_now-open, content_now-open, content_now-first}
 use Rattle.bl_order.proofs.Steps.{waiting_is_not_over, running_is_not_over}
 use Rattle.bl_order.proofs.Secure.{secure-all}
 use Rattle.bl_order.proofs.Lawful.{IsLawful, lawful-trail, lawful-start}
 use Rattle.bl_order.proofs.Reached.{sound-reached}
-use Rattle.bl_order.proofs.Trails.{sound-start, past-step, past-begun}
+use Rattle.bl_order.proofs.Trails.{sound-start, past-begun}
 
-done-no_fault : (b : Bool) (f : Option Denial) (t : Task) (es : List Effect) → is_done (answer_of b f t es) ≡ true → f ≡ None
+pub done-no_fault : (b : Bool) (f : Option Denial) (t : Task) (es : List Effect) → is_done (answer_of b f t es) ≡ true → f ≡ None
 done-no_fault true f t es h = absurd (true≢false (sym h))
 done-no_fault false None t es h = refl
 done-no_fault false (Some d) t es h = absurd (true≢false (sym h))
@@ -69,10 +71,6 @@ never_stuck x n lt open_ = go (all_or_first (has_ended x) (suc n))
     go (inl a) = absurd (true≢false (sym (a n (omega arith)) ∙ open_))
     go (inr t) = found t.0 t.1 t.3 (waiting_or_running (phase_at x t.0) t.2)
 
-or_left : (a b : Bool) → a ≡ true → (a || b) ≡ true
-or_left true b h = refl
-or_left false b h = absurd (true≢false (sym h))
-
 -- ---- what is held
 
 all-append : {X : Type 0} (P : X → Type 0) (xs ys : List X) → AllByRecursion P xs → AllByRecursion P ys → AllByRecursion P (xs ++ ys)
@@ -98,20 +96,65 @@ all-held P x (suc n) each =
     go true e = all-map P (λ (a : Access). record { subject = (past_at x n).subject; doc = a.doc; mode = a.mode }) (accesses_of (past_at x n).task) (each n (omega arith) e)
     go false e = tt
 
--- ---- the headline
+-- the accesses that are held are secure, where the policy now is that at each running place
+pub secure-held : (x : State) → IsSound x → ((n : ℕ) → n < length x.order → IsTrue (runs x n) → policy_now x ≡ policy_at x n)
+    → All (λ (h : Hold). IsSecure (policy_now x) h.subject h.doc h.mode) (held x)
+secure-held x sound running =
+    All-from_recursion _ _ (all-held (λ h. IsSecure (policy_now x) h.subject h.doc h.mode) x (length x.order)
+    (λ n lt r. subst (λ p. AllByRecursion (λ (a : Access). IsSecure p (past_at x n).subject a.doc a.mode) (accesses_of (past_at x n).task)) (sym (running n lt r)) (secure-at x n (sound.allowed n lt r))))
+
+-- ---- the first place that is still to alter a document
+
+idle_altered : (a e : Bool) → (e || cond a false true) ≡ true → a ≡ true → e ≡ true
+idle_altered a true h k = refl
+idle_altered true false h k = h
+idle_altered false false h k = absurd (true≢false (sym k))
+
+open_altered : (a e : Bool) → (e || cond a false true) ≡ false → (a ≡ true) × (e ≡ false)
+open_altered a true h = absurd (true≢false h)
+open_altered true false h = (refl, refl)
+open_altered false false h = absurd (true≢false h)
+
+module _ (x : State) (doc : ℕ) where
+  -- the place has ended, or does not alter the document
+  is_idle : ℕ → Bool
+  is_idle k = has_ended x k || cond (is_altered (accesses_of (past_at x k).task) doc) false true
+
+  pub first-there : (m : ℕ) × IsFirstToAlter x doc m
+  unfolding is_idle
+  first-there = go (all_or_first is_idle (length x.order))
+    where
+      go : ((m : ℕ) → m < length x.order → is_idle m ≡ true) ⊎ ((m : ℕ) × (m < length x.order) × (is_idle m ≡ false) × ((k : ℕ) → k < m → is_idle k ≡ true)) → (m : ℕ) × IsFirstToAlter x doc m
+      go (inl all) = (
+        length x.order,
+        record {
+          within = omega arith;
+          all_before = λ k lt a. idle_altered _ (has_ended x k) (all k lt) a;
+          itself = λ lt. absurd (omega (arith, lt));
+        },
+      )
+      go (inr t) = (
+        t.0,
+        record {
+          within = omega (arith, t.1);
+          all_before = λ k lt a. idle_altered _ (has_ended x k) (t.3 k lt) a;
+          itself = λ lt. open_altered _ (has_ended x t.0) t.2;
+        },
+      )
+
+-- ---- what holds of a state
 
 pub holds-sound : (x : State) → IsSound x → IsLawful x → Holds x
 holds-sound x sound lawful = record {
-  secure = All-from_recursion _ _ (all-held (λ h. IsSecure (policy_now x) h.subject h.doc h.mode) x (length x.order)
-      (λ n lt r. subst (λ p. AllByRecursion (λ (a : Access). IsSecure p (past_at x n).subject a.doc a.mode) (accesses_of (past_at x n).task)) (sym (running n lt r)) (secure-at x n (sound.allowed n lt r))));
   at_running = running;
   at_ready = λ n may. policy_now-open x n sound.orderly may.there (waiting_is_not_over (phase_at x n) may.waits) may.clear;
   content_at_ready = λ n o may d. content_now-open x n o sound.orderly may.there (waiting_is_not_over (phase_at x n) may.waits) may.clear d;
   content_at_running = λ n o lt r d. content_now-open x n o sound.orderly lt (running_is_not_over (phase_at x n) r) (λ m below c. sound.orderly m n below lt (or_left (runs x n) (has_ended x n) r) c) d;
   content_at_first = λ o m first. content_now-first x o m sound.orderly first;
+  first_there = λ o. first-there x o;
   not_stuck = λ n lt u. never_stuck x n lt u;
-  for_good = λ e needs n lt over. past-step x e sound needs n lt over;
   running_stays = λ e needs n lt r other. past-begun x e sound needs n lt (or_left (runs x n) (has_ended x n) r) other;
+  closed = closed-sound x sound;
   legal = lawful.legal;
 }
   where

@@ -22,3 +22,4 @@ pub mod ClaimLaws
 pub mod ReadLines
 pub mod ReadableLines
 pub mod KnownAnswers
+pub mod TheHeadlineProof

@@ -1,5 +1,5 @@
 -- How the policy and the contents now move with each event.
-use Rattle.std.proofs.Common.{◌≡◌, ◌≢◌, ℕ, zero, suc, ◌<◌, ◌≤◌, Bool, true, false, cond, ◌&&◌, ◌||◌, List, [], ◌∷◌, length, refl, sym, ◌∙◌, ap, subst, inl, inr, arith, ◌⊎◌, true≢false}
+use Rattle.std.proofs.Common.{◌≡◌, ◌≢◌, ℕ, zero, suc, ◌<◌, ◌≤◌, Bool, true, false, cond, ◌&&◌, List, [], ◌∷◌, length, refl, sym, ◌∙◌, ap, subst, inl, inr, arith, ◌⊎◌, true≢false}
 use Rattle.std.specs.Prelude.{IsTrue, Option, Some, None}
 use Rattle.bl_policy.specs.Policy.{SecurityPolicy}
 use Rattle.bl_policy.specs.declared.denial.Denial.{Denial}
@@ -18,7 +18,7 @@ use Rattle.bl_order.proofs.Sound.{IsSound, has_begun}
 use Rattle.bl_order.specs.Headline.{IsReached, MovesOn}
 use Rattle.bl_order.proofs.Places.{made, less_or_equal}
 use Rattle.bl_order.specs.Order.{is_rule}
-use Rattle.bl_order.proofs.Conflicts.{or_right, rule_conflicts, conflict_where_altered, altered_is_declared}
+use Rattle.bl_order.proofs.Conflicts.{or_left, or_right, rule_conflicts, conflict_where_altered, altered_is_declared}
 use Rattle.bl_order.proofs.StateLaws.{changed-skips, policy-made, content-made, and_false, not_ended_after}
 use Rattle.bl_order.proofs.Steps.{Moves, running_is_not_over, waiting_is_not_over, other, begun_within, equal_self}
 use Rattle.bl_order.proofs.Reached.{sound-reached}
@@ -258,10 +258,6 @@ content_now-admitted x i o w d sound =
     ∙ sym (content_now-made x d)
 
 -- ---- a loss, from what it needs
-
-or_left : (a b : Bool) → a ≡ true → (a || b) ≡ true
-or_left true b h = refl
-or_left false b h = absurd (true≢false (sym h))
 
 moves-gone : (x : State) (k : ℕ) (sound : IsSound x) → (IsTrue (runs x k) ⊎ MayStart x k) → Moves x (with_phase x k Gone) k Gone
 moves-gone x k sound (inl running) =

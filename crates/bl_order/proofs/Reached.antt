@@ -20,6 +20,11 @@ after-more : (x : State) (es : List Event) (e : Event) → state_after x (es ++ 
 after-more x [] e = refl
 after-more x (f ∷ es) e = after-more (change x f) es e
 
+-- each first part of a trail is one
+pub trail-front : (x : State) (front rest : List Event) → IsTrail x (front ++ rest) → IsTrail x front
+trail-front x [] rest trail = tt
+trail-front x (e ∷ front) rest trail = (trail.0, trail-front (change x e) front rest trail.1)
+
 -- no event leads to the start
 pub reached-first : (setup : Setup) (limit : ℕ) → IsReached (start setup limit)
 reached-first setup limit = record { setup = setup; limit = limit; events = []; trail = tt; leads = refl }

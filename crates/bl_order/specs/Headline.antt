@@ -1,13 +1,13 @@
--- What holds of every state that a trail leads to.
-use Rattle.std.specs.Prelude.{◌≡◌, ℕ, ◌<◌, ◌≤◌, false, IsTrue, ◌⊎◌, List, length, All, if◌then◌else◌}
-use Rattle.bl_policy.specs.Properties.{IsSecure}
+-- What a trail leads to, and what holds of every such state.
+use Rattle.std.specs.Prelude.{◌≡◌, ℕ, ◌<◌, ◌≤◌, false, IsTrue, ◌⊎◌, List, length, if◌then◌else◌}
 use Rattle.bl_work.specs.declared.work.Work.{Work}
 use Rattle.bl_work.specs.Effects.{after}
 use Rattle.bl_setup.specs.Setup.{Setup}
 use Rattle.bl_order.specs.Order.{accesses_of, is_altered, is_declared}
 use Rattle.bl_order.specs.Past.{changed}
-use Rattle.bl_order.specs.Machine.{State, Event, Opens, Admits, Starts, Ends, Loses, Hold, past_at, is_lost, has_ended, runs, MayStart, Needs, IsTrail, change, start, state_after, held}
+use Rattle.bl_order.specs.Machine.{State, Event, Opens, Admits, Starts, Ends, Loses, past_at, is_lost, has_ended, runs, MayStart, Needs, IsTrail, change, start, state_after}
 use Rattle.bl_order.specs.Now.{policy_at, policy_now, content_at, content_now, IsFirstToAlter}
+use Rattle.bl_order.specs.Laws.{IsClosed}
 use Rattle.bl_order.specs.Legal.{IsLegal}
 
 -- some trail leads to the state
@@ -18,11 +18,9 @@ pub record IsReached (x : State) : Type 0 where
   pub trail : IsTrail (start setup limit) events
   pub leads : x ≡ state_after (start setup limit) events
 
--- The headline, of a state: what is held is secure, places find the policy and the contents of their place, nothing is stuck, and
--- what has ended stays as it is.
+-- What stands beside the headline (TheHeadline), of a state: places find the policy and the contents of their place, nothing is
+-- stuck, what runs is told as before, the ended places are closed, and the order is legal.
 pub record Holds (x : State) : Type 0 where
-  -- Bell and La Padula 1976: every access that is held has the three properties, under the policy now
-  pub secure : All (λ (h : Hold). IsSecure (policy_now x) h.subject h.doc h.mode) (held x)
   -- the policy now is the policy at each running place, and at each that may start
   pub at_running : (n : ℕ) → n < length x.order → IsTrue (runs x n) → policy_now x ≡ policy_at x n
   pub at_ready : (n : ℕ) → MayStart x n → policy_now x ≡ policy_at x n
@@ -32,16 +30,16 @@ pub record Holds (x : State) : Type 0 where
   -- and a running place still finds it
   pub content_at_running : (n doc : ℕ) → n < length x.order → IsTrue (runs x n) → IsTrue (is_declared (accesses_of (past_at x n).task) doc)
       → content_now x doc ≡ content_at x doc n
-  -- the content now is the content at the first place that is still to alter it
+  -- the content now is the content at the first place that is still to alter it, or at the end of the order, and there is one
   pub content_at_first : (doc m : ℕ) → IsFirstToAlter x doc m → content_now x doc ≡ content_at x doc m
+  pub first_there : (doc : ℕ) → (m : ℕ) × IsFirstToAlter x doc m
   -- where a place has not ended, one at or before it runs or may start
   pub not_stuck : (n : ℕ) → n < length x.order → has_ended x n ≡ false → (m : ℕ) × (m ≤ n) × (IsTrue (runs x m) ⊎ MayStart x m)
-  -- no event changes what is said of a place that has ended
-  pub for_good : (event : Event) → Needs x event → (n : ℕ) → n < length x.order → IsTrue (has_ended x n)
-      → past_at (change x event) n ≡ past_at x n
-  -- nor does any event but its own loss change what is said of a place that runs
+  -- no event but its own loss changes what is said of a place that runs
   pub running_stays : (event : Event) → Needs x event → (n : ℕ) → n < length x.order → IsTrue (runs x n) → (event ≡ Loses n → ⊥)
       → past_at (change x event) n ≡ past_at x n
+  -- the ended places are closed, so that the frame law speaks of them
+  pub closed : IsClosed x.setup (is_lost x) x.order (has_ended x)
   -- the order is legal
   pub legal : IsLegal x.setup (is_lost x) x.order
 

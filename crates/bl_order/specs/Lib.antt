@@ -11,3 +11,4 @@ pub mod Room
 pub mod AtHand
 pub mod Known
 pub mod Codes
+pub mod TheHeadline

@@ -5,16 +5,18 @@ ghost use Rattle.bl_order.specs.Claims.{AreFewAndApart, numbered_claims, numbers
 ghost use Rattle.bl_order.specs.Known.{IsAsked, KnowsWork};
 ghost use Rattle.bl_order.specs.Headline.{Holds, IsReached, MovesOn};
 ghost use Rattle.bl_order.specs.Laws.{FollowsItsParent, IsAnswered, IsClosed, KeepsAnswers, KeepsPlaces, LeavesThePolicy, LooksBack, RestsOnEnded, RestsOnLossesBefore, RulesMakeThePolicy, RulesStandAlone};
-ghost use Rattle.bl_order.specs.Machine.{Event, MayStart, Needs, State, change, children_at, may_start, past_at, runs, start};
+ghost use Rattle.bl_order.specs.Machine.{Event, IsTrail, MayStart, Needs, State, change, children_at, may_start, past_at, runs, start};
 ghost use Rattle.bl_order.specs.Order.{Child, Entry, Task, accesses_of, conflict, unnamed};
 ghost use Rattle.bl_order.specs.Past.{place};
 ghost use Rattle.bl_order.specs.Room.{HasRoom, IsBehaviourOrRule};
+ghost use Rattle.bl_order.specs.TheHeadline.{IsTheHeadline, IsTheHeadlineThroughout};
 ghost use Rattle.bl_setup.specs.Agreement.{Agree};
 ghost use Rattle.bl_setup.specs.Setup.{Setup};
 ghost use Rattle.bl_work.specs.LineGrammar.{LineOf};
 ghost use Rattle.bl_work.specs.declared.asked.Line.TheVariants as asked;
 ghost use Rattle.bl_work.specs.declared.work.Work.{Work};
 
+use bl_policy::laws::{first_fault_is_the_first, rule_fault_is_the_first};
 use bl_work::laws::{lines_ask_scripts, read_lines_are_known};
 
 /// Each place is lost, denied or granted as the policy and the contents at its place say.
@@ -82,8 +84,20 @@ pub fn may_start_is_tested()
     ensures { (x : State) (n : ℕ) → (IsTrue (may_start x n) ↔ MayStart x n) }
 {}
 
-/// Bell and La Padula 1976 over Cheeseman et al. 2023: what holds of each state that a trail leads to.
+/// The headline (Bell and La Padula 1976 over Cheeseman et al. 2023), of each state that a trail leads to, and so at every moment of
+/// each run.
 pub fn headline()
+    ensures state { (x : State) → IsReached x → IsTheHeadline x }
+    ensures throughout { (setup : Setup) (limit : ℕ) (events : List Event) → IsTrail (start setup limit) events →
+        IsTheHeadlineThroughout setup limit events }
+{
+    first_fault_is_the_first();
+    rule_fault_is_the_first();
+}
+
+/// What stands beside the headline in each state that a trail leads to: places find the policy and the contents of their place,
+/// nothing is stuck, what runs is told as before, the ended places are closed, and the order is legal.
+pub fn each_state_holds()
     ensures { (x : State) → IsReached x → Holds x }
 {}
 

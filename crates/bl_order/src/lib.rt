@@ -12,7 +12,8 @@
 //!     Legal       which orders may come about
 //!     Machine     the states, the events that may come next in each, and trails
 //!     Now         the policy and the contents, at a place and now
-//!     Headline    what holds of each state that a trail leads to
+//!     TheHeadline the headline: what a reader of the promises looks for first
+//!     Headline    what a trail leads to, and what else holds of each such state
 //!     Room        how many places the order may come to have
 //!     Laws        what the laws say of places
 //!     AtHand      what is said of a place while others have not ended

@@ -11,6 +11,7 @@ use Rattle.bl_setup.specs.Setup.{Setup}
 use Rattle.bl_order.specs.Headline.{IsReached, Holds}
 use Rattle.bl_order.specs.Machine.{State, Event, Session, MayStart, Needs, IsTrail, is_waiting, has_ended, runs, change, start, state_after, session_at, no_session, entry_weight, weight_of}
 use Rattle.bl_order.specs.Machine as machine
+use Rattle.bl_order.specs.TheHeadline.{IsTheHeadlineThroughout}
 use Rattle.bl_wire.specs.declared.turn.Turn.{Turn}
 use Rattle.bl_wire.specs.declared.turn.Turn.TheVariants.{Skip, Wait, Greets, Bad, Ask}
 use Rattle.bl_wire.specs.Lines.{onto, lines_of, without_cr}
@@ -272,13 +273,18 @@ runs_whole lead room setup limit fate agree (Greets subject ∷ turns) are small
       ended = λ n lt. all.1.stands.ran.over n (omega (arith, lt, all.1.all));
     }
 
-pub is_run : StepsLeadOn → OrderHasRoom → ((x : State) → IsReached x → Holds x) → (setup : Setup) (limit : ℕ) (fate : ℕ → Fate) (turns : List Turn) → Agree setup → All (StandsIn setup.names) turns
+-- and that the headline holds at every moment of a trail
+abbrev pub TrailsAreTheHeadline : Type 0
+TrailsAreTheHeadline = (setup : Setup) (limit : ℕ) (events : List Event) → IsTrail (start setup limit) events → IsTheHeadlineThroughout setup limit events
+
+pub is_run : StepsLeadOn → OrderHasRoom → TrailsAreTheHeadline → ((x : State) → IsReached x → Holds x) → (setup : Setup) (limit : ℕ) (fate : ℕ → Fate) (turns : List Turn) → Agree setup → All (StandsIn setup.names) turns
     → length turns < 2 ^ 32 → IsOneTrail setup limit fate turns
-is_run lead room holds setup limit fate turns agree are small =
+is_run lead room headline holds setup limit fate turns agree are small =
     let run : RunsWhole setup limit (one setup limit fate turns) = runs_whole lead room setup limit fate agree turns are small in
     record {
       trail = run.trail;
       ended = run.ended;
+      headline = headline setup limit (one setup limit fate turns) run.trail;
       holds = holds (one_state setup limit fate turns) (record { setup = setup; limit = limit; events = one setup limit fate turns; trail = run.trail; leads = refl });
     }
 

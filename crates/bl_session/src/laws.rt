@@ -13,10 +13,10 @@ ghost use Rattle.bl_wire.specs.Watch.{Use};
 ghost use Rattle.bl_wire.specs.declared.fault.SessionFault.{SessionFault};
 ghost use Rattle.bl_wire.specs.declared.turn.Turn.{Turn};
 
-use bl_order::laws::{headline, steps_lead_on, the_order_has_room};
+use bl_order::laws::{each_state_holds, headline, steps_lead_on, the_order_has_room};
 
-/// The events of one session and one worker are a trail, whatever becomes of its places, and at its end every place has ended, so that
-/// the headline holds of what `serve_alone` runs: of any turns that lines are, of those that were served, and of those that were heard
+/// The events of one session and one worker are a trail, whatever becomes of its places, so that the headline holds at every moment of
+/// what `serve_alone` runs, and at its end every place has ended: of any turns that lines are, of those that were served, and of those that were heard
 /// before a fault.
 pub fn one_is_a_trail()
     ensures turns { (setup : Setup) (limit : ℕ) (fate : ℕ → Fate) (turns : List Turn) → Agree setup →
@@ -27,6 +27,7 @@ pub fn one_is_a_trail()
         (cut : IsCutShort setup limit fault reader writer) → IsOneTrail setup limit cut.fate cut.heard }
 {
     headline();
+    each_state_holds();
     steps_lead_on();
     the_order_has_room();
 }

@@ -4,7 +4,7 @@ use Rattle.bl_session.proofs.laws.one_is_a_trail.Goals as goal
 
 pub returns : goal.returns
 returns c =
-    let run = is_run c.steps_lead_on.ensures.next c.the_order_has_room.ensures.order c.headline.ensures in
+    let run = is_run c.steps_lead_on.ensures.next c.the_order_has_room.ensures.order c.headline.ensures.throughout c.each_state_holds.ensures in
     record {
       turns = run;
       served = λ setup limit reader writer agree served.

@@ -30,4 +30,4 @@ returns-clause-items c =
 pub returns-clause-secure : goal.returns-clause-secure
 returns-clause-secure c =
     subst (λ (x : State). All (λ (h : Hold). IsSecure (policy_now x) h.subject h.doc h.mode) (held x)) c.self.view_is
-    (c.headline.ensures (state_of c.self.inside) c.self.invariant.reached).secure
+    (c.headline.ensures.state (state_of c.self.inside) c.self.invariant.reached).secure
