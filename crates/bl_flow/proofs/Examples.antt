@@ -1,6 +1,7 @@
--- The setup of the examples, and the lines that are said in them.
+-- The setup of the examples, the lines that are said in them, and where trails lead.
 use Rattle.std.proofs.Common.{ℕ, zero, suc, arith, lit<, lit≤, sym, ◌∙◌, ap, inl, inr, ◌⊎◌, true≢false, refl}
-use Rattle.std.specs.Prelude.{◌≡◌, ◌<◌, Bool, true, false, ◌&&◌, List, [], ◌∷◌, ◌++◌, length, slice_index_or, Contains, codes}
+use Rattle.std.specs.Prelude.{◌≡◌, ◌<◌, Bool, true, false, not, ◌&&◌, List, [], ◌∷◌, ◌++◌, length, slice_index_or, Contains, codes}
+use Rattle.std.proofs.lemmas.Bool.{not-true}
 use Rattle.std.proofs.lemmas.List.Elements.{All-from_recursion, All-nil}
 use Rattle.std.proofs.lemmas.Nat.Bits.{bit_at-zero}
 use Rattle.bl_level.specs.Level.{SecurityLevel}
@@ -8,9 +9,9 @@ use Rattle.bl_level.specs.LevelText as of_level
 use Rattle.bl_level.specs.LevelText.{LevelText}
 use Rattle.bl_level.specs.Lexing.{Front, nothing, token, broken, front, past_blanks, Begins}
 use Rattle.bl_level.specs.Token.{Tok}
-use Rattle.bl_policy.specs.Policy.{SecurityPolicy, no_policy, with_subject, with_document, with_modes}
+use Rattle.bl_policy.specs.Policy.{SecurityPolicy, no_policy, with_subject, with_document, with_modes, is_trusted}
 use Rattle.bl_policy.specs.declared.access.Mode.TheVariants.{Read, Write}
-use Rattle.bl_policy.specs.declared.rule.Rule.TheVariants.{Current, Classify}
+use Rattle.bl_policy.specs.declared.rule.Rule.TheVariants.{Rescind, Current, Classify}
 use Rattle.bl_work.specs.FirstWhenFault.{HasFewAccesses}
 use Rattle.bl_work.specs.Grammar as grammar
 use Rattle.bl_work.specs.Meaning.{script_of}
@@ -18,13 +19,18 @@ use Rattle.bl_work.specs.Names.{KnownNames}
 use Rattle.bl_work.specs.Readable.{IsReadable}
 use Rattle.bl_work.specs.Spelled as spelled
 use Rattle.bl_work.specs.Spelled.{SpelledAccess, SpelledBody}
-use Rattle.bl_work.specs.SpelledRules.{current, classify}
+use Rattle.bl_work.specs.SpelledRules.{rescind, current, classify}
 use Rattle.bl_work.specs.WhenFaults.{lists_in, names_of_when, IsOnce, declarations_of_when, IsDeclared, uses_in}
 use Rattle.bl_work.specs.declared.script.Condition.TheVariants.{Is}
+use Rattle.bl_work.specs.declared.answer.Answer.{Answer}
+use Rattle.bl_work.specs.declared.answer.Answer.TheVariants.{Done, RuleDone, Denied, Lost}
 use Rattle.bl_work.specs.declared.work.Work.{Work}
 use Rattle.bl_work.specs.declared.work.Work.TheVariants as work
 use Rattle.bl_setup.specs.Setup.{Setup}
-use Rattle.bl_order.specs.Machine.{State, MayStart, has_ended, is_waiting, phase_at}
+use Rattle.bl_order.specs.Headline.{IsReached}
+use Rattle.bl_order.specs.Machine.{State, Event, IsTrail, MayStart, has_ended, is_waiting, phase_at, start, state_after}
+use Rattle.bl_flow.specs.Low.{History, AgreeLow, is_low_document, place_in}
+use Rattle.bl_flow.specs.Sealed.{IsPlain, changes_a_level}
 use Rattle.bl_flow.proofs.Lists.{less_or_equal}
 
 -- ---- who and what
@@ -68,9 +74,22 @@ policy ann_trusted bob_trusted bobs_level =
     s) u)
     ann memo (record { 0 = 7 })) ann note (record { 0 = 7 })) bob memo (record { 0 = 7 })) bob note (record { 0 = 7 })
 
+-- the memo and the note have these texts
+abbrev pub with_texts : SecurityPolicy → (memo_text note_text : List ℕ) → Setup
+with_texts p memo_text note_text = record { names = names; policy = p; contents = memo_text ∷ note_text ∷ [] }
+
 -- the memo has this text, and the note `n`
 abbrev pub with_memo : SecurityPolicy → List ℕ → Setup
-with_memo p words = record { names = names; policy = p; contents = words ∷ codes "n" ∷ [] }
+with_memo p words = with_texts p words (codes "n")
+
+-- two setups that differ in the memo agree on what is low
+pub memos-agree : (ann_trusted bob_trusted : Bool)
+    → AgreeLow u (with_memo (policy ann_trusted bob_trusted u) (codes "1")) (with_memo (policy ann_trusted bob_trusted u) (codes "2"))
+memos-agree a b = record { policy = refl; contents = same }
+  where
+    same : (doc : ℕ) → is_low_document u (policy a b u) doc ≡ true → slice_index_or (codes "2" ∷ codes "n" ∷ []) doc [] ≡ slice_index_or (codes "1" ∷ codes "n" ∷ []) doc []
+    same zero low = absurd (true≢false (sym low))
+    same (suc doc) low = refl
 
 -- ---- lines are read
 
@@ -196,6 +215,33 @@ shows_note_is_readable = (
   },
 )
 
+-- `when write note do set note "m"; end`
+abbrev pub sets_note : Work
+sets_note = asks (to_write note_name) [] (spelled.set note_name (codes "m") spelled.empty)
+
+abbrev sets_note_text : List ℕ
+sets_note_text = codes "when write note do set note " ++ 34 ∷ codes "m" ++ 34 ∷ codes "; end"
+
+pub sets_note_is_readable : IsReadable names sets_note
+sets_note_is_readable = (
+  sets_note_text,
+  record {
+    short = lit≤ tt;
+    spelled = grammar.when (to_write note_name) [] (spelled.set note_name (codes "m") spelled.empty);
+    reads = tokens_begin 11 sets_note_text refl;
+    means = (
+      record {
+        shallow = lit≤ tt;
+        few = record { whens = lit≤ tt; accesses = All-from_recursion HasFewAccesses ((to_write note_name ∷ []) ∷ []) (lit≤ tt, tt) };
+        known = All-from_recursion (Contains names.documents) (note_name ∷ note_name ∷ []) (is_note, (is_note, tt));
+        once = All-from_recursion IsOnce (declarations_of_when (to_write note_name) [] (spelled.set note_name (codes "m") spelled.empty)) (none_before note_name, tt);
+        declared = All-from_recursion IsDeclared (uses_in (to_write note_name ∷ []) (spelled.set note_name (codes "m") spelled.empty)) (refl, tt);
+      },
+      refl,
+    );
+  },
+)
+
 -- `when read memo, write note do copy memo to note; end`
 abbrev pub copies_memo : Work
 copies_memo = asks (to_read memo_name) (to_write note_name ∷ []) (spelled.copy memo_name note_name spelled.empty)
@@ -297,25 +343,74 @@ declassifies_memo_is_readable = (
   },
 )
 
--- ---- what may start
+-- `rescind bob note r`
+abbrev pub rescinds_note : Work
+rescinds_note = work.Rule (Rescind bob note Read)
 
--- each place below n has ended
-abbrev all_ended : State → ℕ → Bool
-all_ended x zero = true
-all_ended x (suc n) = has_ended x n && all_ended x n
+pub rescinds_note_is_readable : IsReadable names rescinds_note
+rescinds_note_is_readable = (
+  codes "rescind bob note r",
+  record {
+    short = lit≤ tt;
+    spelled = grammar.rule (rescind (codes "bob") note_name Read);
+    reads = tokens_begin 6 (codes "rescind bob note r") refl;
+    means = (refl, refl, refl);
+  },
+)
+
+-- ---- tests of each place
+
+-- both of two tests pass
+both_true : (a b : Bool) → (a && b) ≡ true → (a ≡ true) × (b ≡ true)
+both_true true b h = (refl, h)
+both_true false b h = absurd (true≢false (sym h))
+
+-- the test passes of each number below n
+abbrev all_below : (ℕ → Bool) → ℕ → Bool
+all_below test zero = true
+all_below test (suc n) = test n && all_below test n
+
+each_below : (test : ℕ → Bool) (n m : ℕ) → m < n → all_below test n ≡ true → test m ≡ true
+each_below test zero m below passes = absurd (omega (arith, below))
+each_below test (suc n) m below passes = go (less_or_equal m n below) (λ lt. each_below test n m lt (both_true (test n) (all_below test n) passes).1)
+  where
+    go : (m < n) ⊎ (m ≡ n) → (m < n → test m ≡ true) → test m ≡ true
+    go (inl lt) deeper = deeper lt
+    go (inr same) deeper = ap test same ∙ (both_true (test n) (all_below test n) passes).0
 
 -- the next place may start, where all before it have ended
-pub next_may_start : (x : State) (n : ℕ) → n < length x.order → is_waiting (phase_at x n) ≡ true → all_ended x n ≡ true → MayStart x n
-next_may_start x n lt waits all = record { there = lt; waits = waits; clear = λ m below conflicts. ended n m below all }
-  where
-    both : (a b : Bool) → (a && b) ≡ true → (a ≡ true) × (b ≡ true)
-    both true b h = (refl, h)
-    both false b h = absurd (true≢false (sym h))
+pub next_may_start : (x : State) (n : ℕ) → n < length x.order → is_waiting (phase_at x n) ≡ true → all_below (has_ended x) n ≡ true → MayStart x n
+next_may_start x n lt waits ended = record { there = lt; waits = waits; clear = λ m below conflicts. each_below (has_ended x) n m below ended }
 
-    ended : (k m : ℕ) → m < k → all_ended x k ≡ true → has_ended x m ≡ true
-    ended zero m below h = absurd (omega arith)
-    ended (suc k) m below h = go (less_or_equal m k below) (λ lt. ended k m lt (both (has_ended x k) (all_ended x k) h).1)
-      where
-        go : (m < k) ⊎ (m ≡ k) → (m < k → has_ended x m ≡ true) → has_ended x m ≡ true
-        go (inl lt) deeper = deeper lt
-        go (inr same) deeper = ap (has_ended x) same ∙ (both (has_ended x k) (all_ended x k) h).0
+-- the subject of a place is not trusted at first
+abbrev is_untrusted_at : History → ℕ → Bool
+is_untrusted_at h n = not (is_trusted h.setup.policy (place_in h n).subject)
+
+-- the place changes no level
+abbrev levels_stay_at : History → ℕ → Bool
+levels_stay_at h n = not (changes_a_level (place_in h n).task)
+
+-- a history is plain where both tests pass of each place
+pub plain_by_tests : (h : History) → all_below (is_untrusted_at h) (length h.order) ≡ true → all_below (levels_stay_at h) (length h.order) ≡ true → IsPlain h
+plain_by_tests h untrusted stay = record {
+  untrusted = λ n below. not-true (is_trusted h.setup.policy (place_in h n).subject) (each_below (is_untrusted_at h) (length h.order) n below untrusted);
+  levels_stay = λ n below. not-true (changes_a_level (place_in h n).task) (each_below (levels_stay_at h) (length h.order) n below stay);
+}
+
+-- ---- where trails lead
+
+-- where the events lead from a setup
+abbrev pub after : Setup → List Event → State
+after setup events = state_after (start setup 10000) events
+
+pub reached : (setup : Setup) (events : List Event) → IsTrail (start setup 10000) events → IsReached (after setup events)
+reached setup events trail = record { setup = setup; limit = 10000; events = events; trail = trail; leads = refl }
+
+-- the first byte that an answer shows, or 0
+abbrev pub first_shown : Answer → ℕ
+first_shown (Done []) = 0
+first_shown (Done ([] ∷ more)) = 0
+first_shown (Done ((b ∷ bytes) ∷ more)) = b
+first_shown RuleDone = 0
+first_shown (Denied denial) = 0
+first_shown Lost = 0

@@ -9,3 +9,4 @@ pub mod Told
 pub mod Plain
 mod Examples
 mod Rows
+mod PlainRows

@@ -1,47 +1,19 @@
--- Two histories that are sealed, of which much is purged; and for each premise two that tell a low subject otherwise without it.
+-- For each premise on a history alone, two that meet all others and tell a low subject otherwise.
 use Rattle.std.proofs.Common.{ℕ, zero, suc, arith, lit<, lit≤, sym, ap, true≢false, refl}
-use Rattle.std.specs.Prelude.{◌≡◌, ◌<◌, Bool, true, false, List, [], ◌∷◌, slice_get, slice_index_or, Some, codes}
-use Rattle.bl_policy.specs.Policy.{is_trusted}
+use Rattle.std.specs.Prelude.{◌≡◌, ◌<◌, true, false, List, [], ◌∷◌, slice_get, slice_index_or, Some, codes}
 use Rattle.bl_policy.specs.declared.access.Mode.TheVariants.{Append}
 use Rattle.bl_work.specs.Statements.{Nothing, Show}
-use Rattle.bl_work.specs.declared.answer.Answer.{Answer}
-use Rattle.bl_work.specs.declared.answer.Answer.TheVariants.{Done, RuleDone, Denied, Lost}
 use Rattle.bl_work.specs.declared.work.Work.{Work}
 use Rattle.bl_work.specs.declared.work.Work.TheVariants as work
-use Rattle.bl_setup.specs.Setup.{Setup}
 use Rattle.bl_order.specs.Headline.{IsReached}
 use Rattle.bl_order.specs.Legal.{IsLegal}
-use Rattle.bl_order.specs.Machine.{State, Event, IsTrail, Opens, Admits, Starts, Ends, start, state_after}
+use Rattle.bl_order.specs.Machine.{State, Event, IsTrail, Opens, Admits, Starts, Ends, start}
 use Rattle.bl_order.specs.Order.{Line, Child}
 use Rattle.bl_flow.specs.Flow.{TellTheSame}
-use Rattle.bl_flow.specs.Low.{History, AgreeLow, history_of, place_in, is_low_document}
+use Rattle.bl_flow.specs.Low.{History, AgreeLow, history_of, is_low_document}
 use Rattle.bl_flow.specs.Purge.{KeepTheSame, kept_entries}
-use Rattle.bl_flow.specs.Sealed.{IsPlain, IsSealed, TrustedLetNothingDown, NoDocumentComesDown, NoChildComesDown, changes_a_level}
-use Rattle.bl_flow.proofs.Examples.{u, s, memo, ann, bob, policy, with_memo, shows_memo, shows_memo_is_readable, shows_note, shows_note_is_readable, copies_memo, copies_memo_is_readable, chooses, chooses_is_readable, comes_to_u, comes_to_u_is_readable, declassifies_memo, declassifies_memo_is_readable, next_may_start}
-
--- where the events lead from a setup
-abbrev after : Setup → List Event → State
-after setup events = state_after (start setup 10000) events
-
-reached : (setup : Setup) (events : List Event) → IsTrail (start setup 10000) events → IsReached (after setup events)
-reached setup events trail = record { setup = setup; limit = 10000; events = events; trail = trail; leads = refl }
-
--- two setups that differ in the memo agree on what is low
-memos-agree : (ann_trusted bob_trusted : Bool) → AgreeLow u (with_memo (policy ann_trusted bob_trusted u) (codes "1")) (with_memo (policy ann_trusted bob_trusted u) (codes "2"))
-memos-agree a b = record { policy = refl; contents = same }
-  where
-    same : (doc : ℕ) → is_low_document u (policy a b u) doc ≡ true → slice_index_or (codes "2" ∷ codes "n" ∷ []) doc [] ≡ slice_index_or (codes "1" ∷ codes "n" ∷ []) doc []
-    same zero low = absurd (true≢false (sym low))
-    same (suc doc) low = refl
-
--- the first byte that an answer shows, or 0
-abbrev first_shown : Answer → ℕ
-first_shown (Done []) = 0
-first_shown (Done ([] ∷ more)) = 0
-first_shown (Done ((b ∷ bytes) ∷ more)) = b
-first_shown RuleDone = 0
-first_shown (Denied denial) = 0
-first_shown Lost = 0
+use Rattle.bl_flow.specs.Sealed.{IsSealed, TrustedLetNothingDown, NoDocumentComesDown, NoChildComesDown}
+use Rattle.bl_flow.proofs.Examples.{u, s, memo, ann, bob, policy, with_memo, memos-agree, shows_memo, shows_memo_is_readable, shows_note, shows_note_is_readable, copies_memo, copies_memo_is_readable, chooses, chooses_is_readable, comes_to_u, comes_to_u_is_readable, declassifies_memo, declassifies_memo_is_readable, next_may_start, after, reached, first_shown}
 
 -- Two states that trails lead to and that differ only in what is not kept, and in contents of documents that are not low: and yet a
 -- low place is told otherwise.
@@ -274,110 +246,3 @@ peeks-alike = record { entries = refl; losses = refl }
 
 peeks-tells : TellTheSame u (peeks (codes "1")) (peeks (codes "2")) → ⊥
 peeks-tells t = absurd (omega (arith, ap (λ p. first_shown p.answer) (t.places 0 0 (lit< tt) (lit< tt) refl refl refl)))
-
--- ---- two plain histories: ann reads the memo and spawns by it while bob shows the note twice, and bob speaks alone
-
-abbrev beside_ann : List Event
-beside_ann =
-    Opens ann ∷ Opens bob ∷ Admits 0 1 chooses ∷ Admits 1 1 shows_note ∷ Starts 0 ∷ Ends 0 ∷ Admits 1 2 shows_note
-    ∷ Starts 1 ∷ Ends 1 ∷ Starts 2 ∷ Ends 2 ∷ Starts 3 ∷ Ends 3 ∷ []
-
-abbrev alone : List Event
-alone = Opens ann ∷ Opens bob ∷ Admits 1 1 shows_note ∷ Admits 1 2 shows_note ∷ Starts 0 ∷ Ends 0 ∷ Starts 1 ∷ Ends 1 ∷ []
-
-abbrev one : State
-one = after (with_memo (policy false false u) (codes "1")) beside_ann
-
-abbrev two : State
-two = after (with_memo (policy false false u) (codes "2")) alone
-
-one-order : one.order ≡ Line 0 1 ann chooses ∷ Line 1 1 bob shows_note ∷ Child 0 1 ∷ Line 1 2 bob shows_note ∷ []
-one-order = refl
-
-one-kept : kept_entries u (history_of one) ≡ Line 1 1 bob shows_note ∷ Line 1 2 bob shows_note ∷ []
-one-kept = refl
-
-one-reached : IsReached one
-one-reached =
-    reached (with_memo (policy false false u) (codes "1")) beside_ann (
-      (lit< tt, lit< tt),
-      (
-        (lit< tt, lit< tt),
-        (
-          (lit< tt, chooses_is_readable, lit< tt, lit< tt, lit≤ tt),
-          (
-            (lit< tt, shows_note_is_readable, lit< tt, lit< tt, lit≤ tt),
-            (
-              next_may_start _ 0 (lit< tt) refl refl,
-              (
-                refl,
-                (
-                  (lit< tt, shows_note_is_readable, lit< tt, lit< tt, lit≤ tt),
-                  (next_may_start _ 1 (lit< tt) refl refl, (refl, (next_may_start _ 2 (lit< tt) refl refl, (refl, (next_may_start _ 3 (lit< tt) refl refl, (refl, tt)))))),
-                ),
-              ),
-            ),
-          ),
-        ),
-      ),
-    )
-
-two-reached : IsReached two
-two-reached =
-    reached (with_memo (policy false false u) (codes "2")) alone (
-      (lit< tt, lit< tt),
-      (
-        (lit< tt, lit< tt),
-        (
-          (lit< tt, shows_note_is_readable, lit< tt, lit< tt, lit≤ tt),
-          (
-            (lit< tt, shows_note_is_readable, lit< tt, lit< tt, lit≤ tt),
-            (next_may_start _ 0 (lit< tt) refl refl, (refl, (next_may_start _ 1 (lit< tt) refl refl, (refl, tt)))),
-          ),
-        ),
-      ),
-    )
-
-one-plain : IsPlain (history_of one)
-one-plain = record { untrusted = untrusted; levels_stay = levels_stay }
-  where
-    untrusted : (n : ℕ) → n < 4 → is_trusted (policy false false u) (place_in (history_of one) n).subject ≡ false
-    untrusted zero lt = refl
-    untrusted (suc zero) lt = refl
-    untrusted (suc (suc zero)) lt = refl
-    untrusted (suc (suc (suc zero))) lt = refl
-    untrusted (suc (suc (suc (suc n)))) lt = absurd (omega (arith, lt))
-
-    levels_stay : (n : ℕ) → n < 4 → changes_a_level (place_in (history_of one) n).task ≡ false
-    levels_stay zero lt = refl
-    levels_stay (suc zero) lt = refl
-    levels_stay (suc (suc zero)) lt = refl
-    levels_stay (suc (suc (suc zero))) lt = refl
-    levels_stay (suc (suc (suc (suc n)))) lt = absurd (omega (arith, lt))
-
-two-plain : IsPlain (history_of two)
-two-plain = record { untrusted = untrusted; levels_stay = levels_stay }
-  where
-    untrusted : (n : ℕ) → n < 2 → is_trusted (policy false false u) (place_in (history_of two) n).subject ≡ false
-    untrusted zero lt = refl
-    untrusted (suc zero) lt = refl
-    untrusted (suc (suc n)) lt = absurd (omega (arith, lt))
-
-    levels_stay : (n : ℕ) → n < 2 → changes_a_level (place_in (history_of two) n).task ≡ false
-    levels_stay zero lt = refl
-    levels_stay (suc zero) lt = refl
-    levels_stay (suc (suc n)) lt = absurd (omega (arith, lt))
-
--- they agree on what is low, and the same is kept of both: what the law on states supposes is met
-one-two-agree : AgreeLow u one.setup two.setup
-one-two-agree = memos-agree false false
-
-one-two-alike : KeepTheSame u (history_of one) (history_of two)
-one-two-alike = record { entries = refl; losses = refl }
-
--- bob shows the note in both
-one-shown : (place_in (history_of one) 3).answer ≡ Done (codes "n" ∷ [])
-one-shown = refl
-
-two-shown : (place_in (history_of two) 1).answer ≡ Done (codes "n" ∷ [])
-two-shown = refl

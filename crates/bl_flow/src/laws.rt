@@ -12,7 +12,8 @@ ghost use Rattle.bl_flow.specs.Sealed.{IsPlain, IsPossible, IsSealed};
 use bl_core::machine::Core;
 use bl_level::level::dominates_means_dominance;
 use bl_order::laws::{
-    children_follow_their_parent, each_state_holds, rules_make_the_policy, tasks_are_of_scripts,
+    children_follow_their_parent, each_state_holds, rules_make_the_policy,
+    sessions_and_ordinals_bear_on_no_place, tasks_are_of_scripts,
 };
 use bl_policy::laws::first_fault_is_the_first;
 use bl_work::laws::blind_append;
@@ -32,8 +33,8 @@ pub fn low_places_stand_alone()
     rules_make_the_policy();
 }
 
-/// Two histories that differ only in what is not kept, and in contents of documents that are not low, tell low subjects the
-/// same.
+/// Two histories that differ only in what is not kept, in sessions and ordinals, and in contents of documents that are not
+/// low, tell low subjects the same.
 pub fn low_subjects_are_told_the_same()
     ensures { (level : SecurityLevel) (one two : History) →
         IsPossible one → IsPossible two → IsSealed level one → IsSealed level two →
@@ -41,6 +42,7 @@ pub fn low_subjects_are_told_the_same()
         TellTheSame level one two }
 {
     low_places_stand_alone();
+    sessions_and_ordinals_bear_on_no_place();
 }
 
 /// Where no trusted subject speaks and no rule changes a level, a history is sealed at every level.
@@ -60,8 +62,8 @@ pub fn reached_orders_bring_scripts()
     tasks_are_of_scripts();
 }
 
-/// For every two trails whose histories are sealed: where the states that they lead to differ only in what is not kept, and
-/// in contents of documents that are not low, low subjects are told the same.
+/// For every two trails whose histories are sealed: where the states that they lead to differ only in what is not kept, in
+/// sessions and ordinals, and in contents of documents that are not low, low subjects are told the same.
 pub fn states_tell_low_subjects_the_same()
     ensures { (level : SecurityLevel) (x y : State) →
         IsReached x → IsReached y → IsSealed level (history_of x) → IsSealed level (history_of y) →
@@ -73,7 +75,7 @@ pub fn states_tell_low_subjects_the_same()
 }
 
 /// The same of two cores, each in the state that it is in: an entry that is kept of both is answered alike, and so are the
-/// children that it brings.
+/// children that it brings. One that has not ended is compared by the answer that it will have if nothing more is lost.
 pub fn cores_tell_low_subjects_the_same(one: &Core, two: &Core)
     ensures { (level : SecurityLevel) →
         IsSealed level (history_of one.now) → IsSealed level (history_of two.now) →
