@@ -38,13 +38,14 @@ fn refused_lines_among_blocks(rt: HostRuntime) -> Result<(), Fail> {
     assert_said(&rt, input, output)
 }
 
-/// A block of more than 120,000 bytes is written whole, and its writer has not failed.
+/// A content of 65,536 bytes, the most that one may have, is shown twice: a block of more than 131,072 bytes is written whole, and its
+/// writer has not failed.
 #[test]
 fn long_block(rt: HostRuntime) -> Result<(), Fail> {
     let alloc = rt.alloc();
     let mut note = String::new(alloc);
-    for _ in 0..6_000 {
-        note.push_str("0123456789")?;
+    for _ in 0..4_096 {
+        note.push_str("0123456789abcdef")?;
     }
     let input = b"hello ann\nwhen read note do show note; end\nwhen read note do show note; end\n";
     let parts = [

@@ -16,7 +16,7 @@ pub enum SessionFault {
     TooLong,
     /// Memory was refused.
     Memory,
-    /// Somebody else spoke for this session. It waits for sessions over a shared machine: a session with one worker never has it.
+    /// Another pass spoke for this session, of those that share a gate. A session with one worker never has it.
     Clash,
 }
 

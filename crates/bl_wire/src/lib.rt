@@ -7,7 +7,6 @@
 //!     lines      cuts a reader's bytes into lines
 //!     held       a line while it comes
 //!     turn       what a line is to a session
-//!     label      entries with their labels
 //!     words      writes answers
 //!     reply      writes refusals
 //!     put        writes the whole of some bytes
@@ -16,7 +15,6 @@
 pub mod ends;
 pub mod fault;
 pub mod held;
-pub mod label;
 pub mod lines;
 pub mod part;
 pub mod put;

@@ -1,6 +1,7 @@
 //! Readers and writers that remember whether they failed, so that a fault of a session can be
 //! traced to the end that it came from. Nobody else sets the mark: it is kept here, beside the
-//! few calls that can fail.
+//! few calls that can fail. It says what `Source` and `Target` answered; that these pass on what the
+//! library's call answered is trusted (ends.rt).
 ghost use Rattle.std.specs.Prelude.{◌≡◌, ◌==◌, ◌≤◌, ◌<◌, nat_lt, false, not, ◌||◌, ◌&&◌, IfOk, IfErr, OnOk, length, take};
 ghost use Rattle.std.specs.Io.KnownBytes.{Keeps, Appends};
 ghost use Rattle.bl_wire.specs.Asked.{IsAsked};

@@ -1,11 +1,10 @@
 //! Writes answers, with their labels.
 ghost use Rattle.std.specs.Prelude.{◌<◌, ◌∷◌, IfSome, length};
 ghost use Rattle.bl_work.specs.declared.answer.Answer.TheVariants.{Done, Denied};
-ghost use Rattle.bl_wire.specs.Replies.{label_text, answer_text, object_text, reply_text};
+ghost use Rattle.bl_wire.specs.Replies.{label_text, answer_text, object_text};
 ghost use Rattle.bl_wire.specs.Named.{NamesDenial, NamesAnswer};
 ghost use Rattle.bl_wire.specs.Watch.{end_state, Puts};
 
-use crate::label::Entered;
 use crate::put::{put, put_number};
 use crate::watched::Watched;
 use bl_policy::denial::Denial;
@@ -79,14 +78,4 @@ pub fn put_answer<W: Write>(writer: &mut Watched<W>, names: &Names, answer: &Ans
             put(writer, b" lost");
         }
     }
-}
-
-/// Writes an entry's label and its answer, unless the writer has failed.
-pub fn put_reply<W: Write>(writer: &mut Watched<W>, names: &Names, entry: &Entered, answer: &Answer)
-    requires { NamesAnswer names.now answer.now }
-    ensures { Puts (reply_text names.now (record { label = entry.now.ordinal ∷ entry.now.path.items; answer = answer.now })) (end_state W.contents writer.old) (end_state W.contents writer.new) }
-{
-    put_label(writer, entry.ordinal, &entry.path);
-    put_answer(writer, names, answer);
-    put(writer, b"\n");
 }
