@@ -15,6 +15,7 @@ pub record Queue : Type 0 where
 abbrev pub most_cowns : ℕ
 most_cowns = 1025
 
+-- own choice: 100,000 entries
 abbrev pub most_entries : ℕ
 most_entries = 100000
 

@@ -5,13 +5,10 @@ ghost use Rattle.bl_queue.specs.Claims.{most_claims, AreClaims};
 ghost use Rattle.bl_queue.specs.Queues.{most_entries};
 ghost use Rattle.bl_queue.specs.Holders.{no_cown, no_holders, held_at, cown_at, may_hold, left_at, granted, joined, listed, is_held_at_once, is_holding, AreHeld, AreSettled, IsSettled, over_at, IsAfter, IsEnding, HasEntered};
 
-use crate::claim::Claim;
+use crate::claim::{Claim, MOST_CLAIMS};
 use crate::cown::{Cown, Held};
 use std::alloc::{AllocError, Global};
 use std::marker::Model;
-
-/// How many claims an entry has at most.
-const MOST_CLAIMS: usize = 9;
 
 /// The claims of all entries in the order in which they entered, which of them are over, for each the next one of its cown,
 /// the cowns, for each entry how many of its claims wait, and the free entries in the order in which they became free.

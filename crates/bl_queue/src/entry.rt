@@ -3,11 +3,8 @@ ghost use Rattle.std.specs.Prelude.{◌≡◌, ◌≤◌, length};
 ghost use Rattle.bl_queue.specs.Claims.{most_claims};
 ghost use Rattle.bl_queue.specs.Entries.{is_waiting, entered, standing};
 
-use crate::claim::Claim;
+use crate::claim::{Claim, MOST_CLAIMS};
 use std::marker::Model;
-
-/// How many claims an entry has at most.
-const MOST_CLAIMS: usize = 9;
 
 /// Where an entry stands.
 #[derive(Clone, Copy)]
