@@ -56,7 +56,7 @@ fn leave(entry: u32, script: Script, index: u8, grants: Grants) -> Unrun
         entry,
         script,
         index,
-        grants,
+        grants: grants.withdraw(),
     }
 }
 

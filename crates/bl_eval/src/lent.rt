@@ -9,6 +9,7 @@ ghost use Rattle.bl_eval.specs.Loan.{part_of, effects_on, backs, AreFor};
 
 use bl_grant::grant::Returned;
 use bl_grant::grants::Grants;
+use bl_grant::withdrawn::Withdrawn;
 use bl_work::answer::Outputs;
 use bl_work::document::Document;
 use bl_work::script::Script;
@@ -70,7 +71,7 @@ pub struct Unrun {
     pub(crate) entry: u32,
     pub(crate) script: Script,
     pub(crate) index: u8,
-    pub(crate) grants: Grants,
+    pub(crate) grants: Withdrawn,
 }
 
 impl Model for Unrun {
@@ -116,7 +117,7 @@ pub struct UnrunParts {
     /// The number of the behaviour in the script.
     pub index: u8,
     /// The grants as they were lent, in declared order.
-    pub grants: Grants,
+    pub grants: Withdrawn,
 }
 
 /// Whether these are the same contents, in order.

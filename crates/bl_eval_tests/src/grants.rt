@@ -230,15 +230,11 @@ fn are_closed(alloc: Global, grants: Grants, after: &[Document]) -> bool {
     }
 }
 
-/// Whether note is shown, what is added to log comes back with note, and the grants still tell what was lent to whom.
-fn go_by_document(
-    alloc: Global,
-    contents: &[Document],
-    after: &[Document],
-) -> Result<bool, AllocError>
-    requires { length contents.now ≡ 2 }
+/// `read note, append log`.
+fn read_note_append_log() -> [Access; 2]
+    ensures { result ≡ record { mode = Read; doc = 1 } ∷ record { mode = Append; doc = 2 } ∷ [] }
 {
-    let accesses = [
+    [
         Access {
             mode: Mode::Read,
             doc: note(),
@@ -247,22 +243,51 @@ fn go_by_document(
             mode: Mode::Append,
             doc: DocId::new(2),
         },
-    ];
+    ]
+}
+
+/// Whether note is shown, and what is added to log comes back with note.
+fn go_by_document(
+    alloc: Global,
+    contents: &[Document],
+    after: &[Document],
+) -> Result<bool, AllocError>
+    requires { length contents.now ≡ 2 }
+{
+    let accesses = read_note_append_log();
     let mut grants = both(alloc, &accesses, contents)?;
     let entry = grants.entry() == 7;
     let shown = grants.content(note()).bytes() == b"n1".as_slice();
     let added = grants.add(alloc, DocId::new(2), b"x").is_ok();
-    let lent = grants.were_lent(7, &accesses, contents);
-    let to_another = grants.were_lent(8, &accesses, contents);
     let closed = are_closed(alloc, grants, after);
-    Ok(all_hold(&[entry, shown, added, lent, !to_another, closed]))
+    Ok(all_hold(&[entry, shown, added, closed]))
 }
 
-/// Whether grants of `n1` and `l1` go by document.
+/// Whether grants that were given up after something was added to log tell what was lent to whom, and give back what there is.
+fn tell_what_was_lent(
+    alloc: Global,
+    contents: &[Document],
+    after: &[Document],
+) -> Result<bool, AllocError>
+    requires { length contents.now ≡ 2 }
+{
+    let accesses = read_note_append_log();
+    let mut grants = both(alloc, &accesses, contents)?;
+    let added = grants.add(alloc, DocId::new(2), b"x").is_ok();
+    let withdrawn = grants.withdraw();
+    let lent = withdrawn.were_lent(7, &accesses, contents);
+    let to_another = withdrawn.were_lent(8, &accesses, contents);
+    let closed = are_back(withdrawn.close(), after);
+    Ok(all_hold(&[added, lent, !to_another, closed]))
+}
+
+/// Whether grants of `n1` and `l1` go by document, also when they are given up.
 fn both_go(alloc: Global) -> Result<bool, AllocError> {
     let contents = [Document::new(alloc, b"n1")?, Document::new(alloc, b"l1")?];
     let after = [Document::new(alloc, b"n1")?, Document::new(alloc, b"l1x")?];
-    go_by_document(alloc, &contents, &after)
+    let by_document = go_by_document(alloc, &contents, &after)?;
+    let told = tell_what_was_lent(alloc, &contents, &after)?;
+    Ok(by_document && told)
 }
 
 #[test]

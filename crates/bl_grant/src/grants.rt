@@ -11,6 +11,7 @@ ghost use Rattle.bl_grant.specs.Loans.{loans, accesses_of, lent_of, entry_of, co
 ghost use Rattle.bl_grant.specs.Granted.{loaned_of};
 
 use crate::grant::{Grant, Returned};
+use crate::withdrawn::Withdrawn;
 use bl_policy::access::Access;
 use bl_policy::id::DocId;
 use bl_work::document::Document;
@@ -100,8 +101,8 @@ impl Grants {
         }
     }
 
-    /// Whether these are the grants that `lend` makes of these, whatever was done with them since. It takes no memory.
-    pub fn were_lent(&self, entry: u32, accesses: &[Access], documents: &[Document]) -> bool
+    /// Whether these are the grants that `lend` makes of these, whatever was done with them since.
+    pub(crate) fn were_lent(&self, entry: u32, accesses: &[Access], documents: &[Document]) -> bool
         ensures { IsTrue result ↔ ((length documents.now ≡ length accesses.now) × (map as_lent self.now ≡ loans entry accesses.now documents.now)) }
     {
         if documents.len() != accesses.len() {
@@ -133,8 +134,8 @@ impl Grants {
         self.grants.len()
     }
 
-    /// Whether the grant in this place was lent this content. It tells nothing of what was done with the grant.
-    pub fn had(&self, place: usize, content: &Document) -> bool
+    /// Whether the grant in this place was lent this content, whatever was done with it since.
+    pub(crate) fn had(&self, place: usize, content: &Document) -> bool
         requires { place < length self.now }
         ensures { IsTrue result ↔ ((slice_index_or self.now place no_loan).lent ≡ content.now) }
     {
@@ -192,6 +193,13 @@ impl Grants {
         for grant in self.grants.iter_mut() {
             grant.reset();
         }
+    }
+
+    /// Gives the grants up: from now on no content changes, and what was lent may be asked. It takes no memory.
+    pub fn withdraw(self) -> Withdrawn
+        ensures { result ≡ self }
+    {
+        Withdrawn { grants: self }
     }
 
     /// Closes each grant, and gives back what the calls since the last reset made of the contents, in order. It takes no

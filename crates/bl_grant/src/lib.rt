@@ -6,3 +6,4 @@ pub mod grant;
 pub mod grants;
 mod held;
 pub mod returned;
+pub mod withdrawn;
