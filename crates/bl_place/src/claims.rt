@@ -1,16 +1,14 @@
 //! The claims of a place in the queues: the policy is cown 0, and a document the cown one above its position.
 ghost use Rattle.std.specs.Prelude.{◌≡◌, ◌<◌, ◌≤◌, [], ◌∷◌, false, length};
+ghost use Rattle.bl_queue.specs.Claims.{most_claims};
 ghost use Rattle.bl_place.specs.Queueing.{behaviour_claims, document_claim, policy_claim};
 
 use crate::place::is_exclusive;
 use bl_policy::access::Access;
-use bl_queue::claim::Claim;
+use bl_queue::claim::{Claim, MOST_CLAIMS};
 use std::marker::Model;
 
-/// How many claims a place has at most: the policy's, and one for each of 8 accesses.
-const MOST_CLAIMS: usize = 9;
-
-/// The claims of a place, the policy's first.
+/// The claims of a place, the policy's first: at most that one, and one for each of 8 accesses.
 #[derive(Drop)]
 pub struct Claims {
     claims: [Claim; MOST_CLAIMS],
@@ -19,13 +17,14 @@ pub struct Claims {
 
 impl Model for Claims {
     ghost use Rattle.std.specs.Prelude.{◌≤◌, List, take};
+    ghost use Rattle.bl_queue.specs.Claims.{most_claims};
     ghost use Rattle.bl_queue.specs.declared.claim.Claim.{Claim};
 
     ghost Value = { List Claim };
 
     ghost view = { λ c. take c.count c.claims };
 
-    ghost invariant = { λ c. c.count ≤ 9 };
+    ghost invariant = { λ c. c.count ≤ most_claims };
 }
 
 /// The claim of a document that is declared: one who only reads it shares it.
@@ -41,7 +40,7 @@ fn document_claim(access: &Access) -> Claim
 impl Claims {
     /// The claims of a behaviour that declares these accesses: it shares the policy.
     pub fn of_behaviour(accesses: &[Access]) -> Claims
-        requires { length accesses.now < 9 }
+        requires { length accesses.now < most_claims }
         ensures { result ≡ behaviour_claims accesses.now }
     {
         let mut claims = [Claim {

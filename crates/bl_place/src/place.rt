@@ -3,6 +3,7 @@ ghost use Rattle.std.specs.Prelude.{◌≡◌, ◌<◌, ◌≤◌, ◌++◌, ◌
 ghost use Rattle.std.specs.Vec.{vec_capacity};
 ghost use Rattle.bl_policy.specs.Mode.{is_exclusive};
 ghost use Rattle.bl_order.specs.Order.{accesses_of, is_rule};
+ghost use Rattle.bl_queue.specs.Claims.{most_claims};
 ghost use Rattle.bl_place.specs.Places.{work_in, task_in, child_places, HasTask};
 ghost use Rattle.bl_place.specs.Queueing.{claims_for, MayEnter, QueuesTell};
 
@@ -133,7 +134,7 @@ pub fn declared(places: &[Place], n: usize) -> Option<&[Access]>
 fn claims_at(places: &[Place], n: usize) -> Claims
     requires there { n < length places.now }
     requires task { HasTask places.now n }
-    requires few { length (claims_for (task_in places.now n)) ≤ 9 }
+    requires few { length (claims_for (task_in places.now n)) ≤ most_claims }
     ensures { result ≡ claims_for (task_in places.now n) }
 {
     match declared(places, n) {
