@@ -1,5 +1,6 @@
 //! What a core begins with.
 ghost use Rattle.std.specs.Prelude.{◌≤◌, IfOk};
+ghost use Rattle.bl_queue.specs.Queues.{most_entries};
 ghost use Rattle.bl_core.specs.Beginning.{Begins};
 
 use crate::session::Session;
@@ -26,7 +27,7 @@ pub(crate) struct Beginning {
 impl Beginning {
     /// The beginning over a setup, for as many places as the limit. An error comes only where a growth is refused.
     pub(crate) fn new(alloc: Global, setup: &Setup, limit: u32) -> Result<Beginning, AllocError>
-        requires most { limit ≤ 100000 }
+        requires most { limit ≤ most_entries }
         ensures { IfOk result (Begins setup.now limit) }
     {
         let sessions = Vec::with_capacity(alloc, MOST_SESSIONS)?;

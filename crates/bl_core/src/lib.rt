@@ -7,9 +7,11 @@
 //!     held       what is held, access by access
 //!     session    the numbers of sessions
 //!     refusal    why a call changed nothing
+//!     foreign    what a core hands back that it did not lend
 #![tactic(auto)]
 
 mod beginning;
+pub mod foreign;
 pub mod held;
 pub mod machine;
 pub mod origin;

@@ -3,11 +3,10 @@ ghost use Rattle.std.specs.Prelude.{◌≡◌};
 ghost use Rattle.bl_core.specs.Weights.{IsWeighed, ruled};
 
 use crate::beginning::{Beginning, MOST_SESSIONS};
+use crate::foreign::{Foreign, ForeignUnrun};
 use crate::held::Held;
 use crate::origin::Origin;
-use crate::refusal::{
-    Cause, Foreign, ForeignUnrun, NotReady, OpenRefused, Refused, StartFault, Starved,
-};
+use crate::refusal::{Cause, NotReady, OpenRefused, Refused, StartFault, Starved};
 use crate::session::{Session, SessionNo};
 use bl_eval::lent::{Done, DoneParts, Lent, Unrun, UnrunParts};
 use bl_grant::grants::Grants;
@@ -101,6 +100,7 @@ impl Core {
     ghost use Rattle.std.specs.Prelude.{◌≡◌, ◌<◌, ◌≤◌, ◌↔◌, ℕ, Bool, true, false, IsTrue, IsSome, IsNone, IsOk, length, IfOk, OnErr, OnOk, IfErr, IfSome, IfNone, MatchResult, MatchOption, Some, None, Ok, Err, option_map, option_and_then, slice_get, map, All};
     ghost use Rattle.bl_policy.specs.Properties.{IsSecure};
     ghost use Rattle.bl_core.specs.HeldItems.{item_of};
+    ghost use Rattle.bl_queue.specs.Queues.{most_entries};
     ghost use Rattle.bl_work.specs.Readable.{IsReadable};
     ghost use Rattle.bl_work.specs.declared.answer.Answer.TheVariants as answers;
     ghost use Rattle.bl_order.specs.Headline.{Holds, IsReached};
@@ -117,7 +117,7 @@ impl Core {
     /// only where a growth is refused.
     pub fn new(alloc: Global, setup: Setup, limit: u32) -> Result<Core, AllocError>
         requires some { 1 ≤ limit }
-        requires most { limit ≤ 100000 }
+        requires most { limit ≤ most_entries }
         ensures { IfOk result (λ core. core ≡ start setup limit) }
     {
         match Beginning::new(alloc, &setup, limit) {

@@ -1,5 +1,4 @@
 //! Why a call changed nothing.
-pub use bl_eval::foreign::{Foreign, ForeignUnrun};
 use bl_work::work::Work;
 use std::marker::Model;
 

@@ -2,7 +2,6 @@
 #![tactic(auto)]
 
 pub mod evaluate;
-pub mod foreign;
 pub mod laws;
 pub mod lent;
 mod told;

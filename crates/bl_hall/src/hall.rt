@@ -4,10 +4,10 @@ use crate::link::{Link, Tally, count_children, count_end, count_start, link_chil
 use crate::reply::{AnswersFault, Reply};
 use crate::rooms::Rooms;
 use crate::walk::{places_above, write_label};
+use bl_core::foreign::{Foreign, ForeignUnrun};
 use bl_core::machine::{Core, Started};
 use bl_core::refusal::{NotReady, OpenRefused, Refused, StartFault, Starved};
 use bl_core::session::SessionNo;
-use bl_eval::foreign::{Foreign, ForeignUnrun};
 use bl_eval::lent::{Done, Unrun};
 use bl_order::laws::{may_start_is_tested, the_order_has_room};
 use bl_policy::id::SubjectId;

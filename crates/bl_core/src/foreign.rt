@@ -1,11 +1,11 @@
-//! What a lender hands back that it did not lend.
+//! What a core hands back that it did not lend. A core alone makes these.
 //!
 //! Neither of these types has `Drop`: each is taken apart, or buried.
-use crate::lent::{Done, DoneParts, Unrun, UnrunParts};
+use bl_eval::lent::{Done, DoneParts, Unrun, UnrunParts};
 use bl_grant::grant::Returned;
 use std::marker::Model;
 
-/// What was done, handed back by a lender that did not lend what it was done with. Its value is what was lent, and to whom.
+/// What was done, handed back by a core that did not lend what it was done with. Its value is what was lent, and to whom.
 pub struct Foreign {
     done: Done,
 }
@@ -26,7 +26,7 @@ impl Foreign {
     ghost use Rattle.std.specs.Prelude.{◌≡◌};
 
     /// Hands back what was done.
-    pub fn new(done: Done) -> Foreign
+    pub(crate) fn new(done: Done) -> Foreign
         ensures { result ≡ done }
     {
         Foreign { done }
@@ -40,7 +40,7 @@ impl Foreign {
         done
     }
 
-    /// Spends what was done, since its lender is not at hand.
+    /// Spends what was done, where the core that lent it is not at hand. If another core did, the entry there never ends.
     pub fn bury(self) {
         let Foreign { done } = self;
         let DoneParts {
@@ -56,7 +56,7 @@ impl Foreign {
     }
 }
 
-/// What was left undone, handed back by a lender that did not lend it. Its value is what was lent, and to whom.
+/// What was left undone, handed back by a core that did not lend it. Its value is what was lent, and to whom.
 pub struct ForeignUnrun {
     unrun: Unrun,
 }
@@ -77,7 +77,7 @@ impl ForeignUnrun {
     ghost use Rattle.std.specs.Prelude.{◌≡◌};
 
     /// Hands back what was left undone.
-    pub fn new(unrun: Unrun) -> ForeignUnrun
+    pub(crate) fn new(unrun: Unrun) -> ForeignUnrun
         ensures { result ≡ unrun }
     {
         ForeignUnrun { unrun }
@@ -91,7 +91,7 @@ impl ForeignUnrun {
         unrun
     }
 
-    /// Spends what was left undone, since its lender is not at hand.
+    /// Spends what was left undone, where the core that lent it is not at hand. If another core did, the entry there never ends.
     pub fn bury(self) {
         let ForeignUnrun { unrun } = self;
         let UnrunParts {
