@@ -27,9 +27,14 @@ fn admits(core: &mut Core, alloc: Global, ordinal: u32, text: &[u8]) -> bool {
     }
 }
 
+/// A core over the base setup with nothing admitted; none where a growth is refused.
+fn idle(alloc: Global) -> Option<Core> {
+    Core::new(alloc, base_or_none(alloc)?, 2).ok()
+}
+
 /// A core over the base setup, in which `ann` adds to the memo and then shows it; none where a growth is refused.
 fn admitted(alloc: Global) -> Option<Core> {
-    let mut core = Core::new(alloc, base_or_none(alloc)?, 2).ok()?;
+    let mut core = idle(alloc)?;
     let _session = core.open(SubjectId::new(ANN));
     let add = b"when write memo do add memo \"a\"; end";
     if admits(&mut core, alloc, 1, add) && admits(&mut core, alloc, 2, SHOW_MEMO) {
@@ -40,8 +45,17 @@ fn admitted(alloc: Global) -> Option<Core> {
     }
 }
 
-/// Ends what a running entry was lent as lost.
-fn lose(rt: &impl Abort, core: &mut Core, unrun: Unrun) {
+/// What was left undone, which the core did not lend and hands back.
+fn handed_back(rt: &impl Abort, core: &mut Core, unrun: Unrun) -> Unrun {
+    match core.lose(unrun) {
+        Ok(()) => panic!(rt; "not foreign"),
+        Err(foreign) => foreign.into_unrun(),
+    }
+}
+
+/// Ends what a running entry was lent as lost. It comes back from another core first, in which nothing runs.
+fn lose(rt: &impl Abort, core: &mut Core, other: &mut Core, unrun: Unrun) {
+    let unrun = handed_back(rt, other, unrun);
     match core.lose(unrun) {
         Ok(()) => {}
         Err(_foreign) => panic!(rt; "foreign"),
@@ -49,10 +63,10 @@ fn lose(rt: &impl Abort, core: &mut Core, unrun: Unrun) {
 }
 
 /// Ends an entry with what is done of what it was lent, or as lost.
-fn finish_or_lose<R: AllocGlobal + Abort>(rt: &R, core: &mut Core, lent: Lent) {
+fn finish_or_lose<R: AllocGlobal + Abort>(rt: &R, core: &mut Core, other: &mut Core, lent: Lent) {
     match eval(rt.alloc(), lent) {
         Ok(done) => finish(rt, core, done),
-        Err(unrun) => lose(rt, core, unrun),
+        Err(unrun) => lose(rt, core, other, unrun),
     }
 }
 
@@ -68,9 +82,9 @@ fn lose_starved(rt: &impl Abort, core: &mut Core, starved: Starved) {
 }
 
 /// Starts and ends the entry that adds.
-fn add<R: AllocGlobal + Abort>(rt: &R, core: &mut Core) {
+fn add<R: AllocGlobal + Abort>(rt: &R, core: &mut Core, other: &mut Core) {
     match core.start(0) {
-        Ok(Started::Run(lent)) => finish_or_lose(rt, core, lent),
+        Ok(Started::Run(lent)) => finish_or_lose(rt, core, other, lent),
         Ok(Started::Denied(_)) | Ok(Started::RuleDone) => panic!(rt; "nothing lent"),
         Err(StartFault::NotReady) => panic!(rt; "not ready"),
         Err(StartFault::Memory(starved)) => lose_starved(rt, core, starved),
@@ -86,9 +100,9 @@ fn show_again<R: AllocGlobal + Abort>(rt: &R, core: &mut Core, starved: Starved)
 }
 
 /// Starts and ends the entry that shows.
-fn show<R: AllocGlobal + Abort>(rt: &R, core: &mut Core) {
+fn show<R: AllocGlobal + Abort>(rt: &R, core: &mut Core, other: &mut Core) {
     match core.start(1) {
-        Ok(Started::Run(lent)) => finish_or_lose(rt, core, lent),
+        Ok(Started::Run(lent)) => finish_or_lose(rt, core, other, lent),
         Ok(Started::Denied(_)) | Ok(Started::RuleDone) => panic!(rt; "nothing lent"),
         Err(StartFault::NotReady) => panic!(rt; "not ready"),
         Err(StartFault::Memory(starved)) => show_again(rt, core, starved),
@@ -105,13 +119,17 @@ fn memo_after<'a>(core: &Core) -> &'a [u8] {
 /// and has changed nothing.
 #[test]
 fn starved_and_lost(rt: HostRuntime) {
-    if let Some(core) = admitted(rt.alloc()) {
-        let mut core = core;
-        add(&rt, &mut core);
-        let memo = memo_after(&core);
-        assert!(rt; has(&core, MEMO, memo));
-        show(&rt, &mut core);
-        assert!(rt; is_lost(&core, 1) || is_done(&core, 1, &[memo]));
-        drop(core);
+    if let Some(other) = idle(rt.alloc()) {
+        let mut other = other;
+        if let Some(core) = admitted(rt.alloc()) {
+            let mut core = core;
+            add(&rt, &mut core, &mut other);
+            let memo = memo_after(&core);
+            assert!(rt; has(&core, MEMO, memo));
+            show(&rt, &mut core, &mut other);
+            assert!(rt; is_lost(&core, 1) || is_done(&core, 1, &[memo]));
+            drop(core);
+        }
+        drop(other);
     }
 }
