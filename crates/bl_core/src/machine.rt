@@ -464,6 +464,28 @@ impl Core {
         }
     }
 
+    /// Hands back what was done where it is what `finish_lent` takes. `Foreign` comes exactly where the entry does not run here, or the
+    /// script, the index or the inputs are not those that it was lent, and hands it back too. It takes no memory.
+    pub fn recognise(&self, done: Done) -> Result<Done, Foreign>
+        ensures { MatchResult result (λ own. IsLentBy self.now done × (own ≡ done)) (λ foreign. ¬ IsLentBy self.now done × (foreign ≡ done)) }
+    {
+        if !self.has_lent(&done) {
+            return Err(Foreign::new(done));
+        }
+        Ok(done)
+    }
+
+    /// Hands back what was left undone where it is what `lose_lent` takes. `ForeignUnrun` comes exactly where the entry does not run
+    /// here, or the script, the index or the inputs are not those that it was lent, and hands it back too. It takes no memory.
+    pub fn recognise_unrun(&self, unrun: Unrun) -> Result<Unrun, ForeignUnrun>
+        ensures { MatchResult result (λ own. IsLentBy self.now unrun × (own ≡ unrun)) (λ foreign. ¬ IsLentBy self.now unrun × (foreign ≡ unrun)) }
+    {
+        if !self.has_lent_unrun(&unrun) {
+            return Err(ForeignUnrun::new(unrun));
+        }
+        Ok(unrun)
+    }
+
     /// Ends a running entry as `finish_lent` does. `Foreign` comes exactly where the entry does not run here, or the script, the
     /// index or the inputs are not those that it was lent, and hands back what was done. It takes no memory.
     pub fn finish(&mut self, done: Done) -> Result<(), Foreign>
@@ -471,10 +493,8 @@ impl Core {
         ensures err { OnErr result (self.new ≡ self.old) }
         ensures foreign { MatchResult result (λ _. IsLentBy self.old done) (λ foreign. ¬ IsLentBy self.old done × (foreign ≡ done)) }
     {
-        if !self.has_lent(&done) {
-            return Err(Foreign::new(done));
-        }
-        self.finish_lent(done);
+        let own = self.recognise(done)?;
+        self.finish_lent(own);
         Ok(())
     }
 
@@ -485,10 +505,8 @@ impl Core {
         ensures err { OnErr result (self.new ≡ self.old) }
         ensures foreign { MatchResult result (λ _. IsLentBy self.old unrun) (λ foreign. ¬ IsLentBy self.old unrun × (foreign ≡ unrun)) }
     {
-        if !self.has_lent_unrun(&unrun) {
-            return Err(ForeignUnrun::new(unrun));
-        }
-        self.lose_lent(unrun);
+        let own = self.recognise_unrun(unrun)?;
+        self.lose_lent(own);
         Ok(())
     }
 
