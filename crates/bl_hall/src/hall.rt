@@ -182,21 +182,9 @@ impl Hall {
         ensures foreign { MatchResult result (λ _. IsLentBy (state_now self.old) done) (λ foreign. ¬ IsLentBy (state_now self.old) done × (foreign ≡ done)) }
         ensures continues { Continues self.old self.new }
     {
-        the_order_has_room();
-        let n = done.entry();
-        let before = self.core.entries();
-        match self.core.finish(done) {
-            Ok(()) => {
-                let after = self.core.entries();
-                let children = after - before;
-                link_children(&mut self.links, n, children);
-                count_children(&self.links, &mut self.tallies, n, children);
-                count_end(&self.links, &mut self.tallies, n);
-                self.events.push_reserved(Event::End(n));
-                Ok(())
-            }
-            Err(foreign) => Err(foreign),
-        }
+        let own = self.core.recognise(done)?;
+        self.finish_lent(own);
+        Ok(())
     }
 
     /// Ends a running entry as lost, with what it was lent: nothing that it was lent has changed.
@@ -221,16 +209,9 @@ impl Hall {
         ensures foreign { MatchResult result (λ _. IsLentBy (state_now self.old) unrun) (λ foreign. ¬ IsLentBy (state_now self.old) unrun × (foreign ≡ unrun)) }
         ensures continues { Continues self.old self.new }
     {
-        the_order_has_room();
-        let n = unrun.entry();
-        match self.core.lose(unrun) {
-            Ok(()) => {
-                count_end(&self.links, &mut self.tallies, n);
-                self.events.push_reserved(Event::Lost(n));
-                Ok(())
-            }
-            Err(foreign) => Err(foreign),
-        }
+        let own = self.core.recognise_unrun(unrun)?;
+        self.lose_lent(own);
+        Ok(())
     }
 
     /// Ends an entry as lost that was refused memory at its start. `NotReady` comes where the entry may not start.
