@@ -266,10 +266,11 @@ impl Hall {
     }
 
     /// The label of an entry that is there, put into `label` in place of what stood there: the ordinal of its line, and the child
-    /// numbers from there down to it. An error comes only where a growth is refused.
+    /// numbers from there down to it. An error comes only where a growth is refused, and leaves `label` empty.
     pub fn write_label(&self, n: u32, label: &mut Vec<u32>) -> Result<(), AllocError>
         requires { n < length (state_now self.now).order }
-        ensures { OnOk result (label.new.items ≡ (tag (state_now self.now).order n).label) }
+        ensures ok { OnOk result (label.new.items ≡ (tag (state_now self.now).order n).label) }
+        ensures err { OnErr result (label.new.items ≡ []) }
     {
         write_label(&self.core, n, label)
     }

@@ -1,5 +1,5 @@
 //! Ways over the links: the lines of a session, the places of each of them, and the label of a place.
-ghost use Rattle.std.specs.Prelude.{◌≡◌, ◌<◌, ◌++◌, ℕ, All, List, IfOk, OnOk, length, slice_index_or, Some};
+ghost use Rattle.std.specs.Prelude.{◌≡◌, ◌<◌, ◌++◌, ℕ, [], All, List, IfOk, OnErr, OnOk, length, reverse, slice_index_or, Some};
 ghost use Rattle.bl_order.specs.Headline.{IsReached};
 ghost use Rattle.bl_order.specs.Labels.{tag};
 ghost use Rattle.bl_order.specs.Past.{no_entry};
@@ -95,13 +95,13 @@ pub(crate) fn places_above(
     gather_families(alloc, links, lines)
 }
 
-/// Puts the label of an entry into `label`.
-pub(crate) fn write_label(core: &Core, n: u32, label: &mut Vec<u32>) -> Result<(), AllocError>
+/// Adds the label of an entry to what is empty, from the entry's own number up to its line's ordinal.
+fn climb(core: &Core, n: u32, label: &mut Vec<u32>) -> Result<(), AllocError>
     requires reached { IsReached core.now }
     requires there { n < length core.now.order }
-    ensures { OnOk result (label.new.items ≡ (tag core.now.order n).label) }
+    requires empty { label.old.items ≡ [] }
+    ensures { OnOk result (label.new.items ≡ reverse (tag core.now.order n).label) }
 {
-    label.clear();
     let mut at = n;
     'up: loop {
         match core.origin(at) {
@@ -111,10 +111,29 @@ pub(crate) fn write_label(core: &Core, n: u32, label: &mut Vec<u32>) -> Result<(
             }
             Some(Origin::Line { ordinal, .. }) => {
                 label.push(ordinal)?;
-                label.reverse();
                 return Ok(());
             }
             None => unreachable!(),
+        }
+    }
+}
+
+/// Puts the label of an entry into `label`, which an error leaves empty.
+pub(crate) fn write_label(core: &Core, n: u32, label: &mut Vec<u32>) -> Result<(), AllocError>
+    requires reached { IsReached core.now }
+    requires there { n < length core.now.order }
+    ensures ok { OnOk result (label.new.items ≡ (tag core.now.order n).label) }
+    ensures err { OnErr result (label.new.items ≡ []) }
+{
+    label.clear();
+    match climb(core, n, label) {
+        Ok(()) => {
+            label.reverse();
+            Ok(())
+        }
+        Err(refused) => {
+            label.clear();
+            Err(refused)
         }
     }
 }

@@ -20,7 +20,7 @@ loop-n-preserved c =
     let x : State = state_now c.args.self.now in
     let n : ℕ = get_or c.args.places.now c.loop-n.n-index 0 in
     let reply : owned.Reply = record { label = c.write_label.new.label; answer = c.in_ok-answer.answer } in
-    let label : c.write_label.new.label.items ≡ (tag x.order n).label = c.in_ok-write_label.ensures in
+    let label : c.write_label.new.label.items ≡ (tag x.order n).label = c.in_ok-write_label.ensures.ok in
     let answer : c.in_ok-answer.answer ≡ (past_at x n).answer =
     c.in_ok-answer.ensures ∙ c.in-Some.ensures.value ∙ ap (λ (y : State). (past_at y n).answer) (core-is c.self.inside c.self.invariant c.args.self.now c.self.view_is)
     in

@@ -1,10 +1,10 @@
 use Rattle.std.proofs.Common.{◌≡◌, ◌∷◌, ◌++◌, [], sym, ap, ◌∙◌, arith, append_assoc}
 use Rattle.std.specs.Prelude.{Some, reverse}
-use Rattle.std.proofs.lemmas.List.{reverse-append}
+use Rattle.std.proofs.lemmas.List.{reverse-append, reverse-reverse}
 use Rattle.bl_order.specs.Labels.{Tag, tag}
 use Rattle.bl_hall.proofs.Answering.{child-there, line-there, origin-there}
 use Rattle.bl_hall.proofs.Tags.{parent-of, tag-child, tag-line}
-use Rattle.bl_hall.proofs.walk.write_label.Goals as goal
+use Rattle.bl_hall.proofs.walk.climb.Goals as goal
 
 pub up-smaller : goal.up-smaller
 up-smaller c =
@@ -34,5 +34,5 @@ returns-in-Some-Line c =
     let label : (tag c.args.core.now.order c.up.at).label ≡ c.in-Some-Line.ordinal ∷ [] =
     ap (λ (t : Tag). t.label) (tag-line c.args.core.now.order c.up.at c.in-Some-Line.field-0-0 c.in-Some-Line.ordinal line.1.0 line.1.1 line.1.2)
     in
-    c.reverse.ensures.items ∙ ap reverse c.in_ok-push-in-Some-Line.ensures.items ∙ reverse-append c.up.label.items (c.in-Some-Line.ordinal ∷ [])
-    ∙ sym (c.up.invariant.1 ∙ ap (λ l. l ++ reverse c.up.label.items) label)
+    c.in_ok-push-in-Some-Line.ensures.items ∙ sym (reverse-reverse (c.up.label.items ++ c.in-Some-Line.ordinal ∷ []))
+    ∙ ap reverse (reverse-append c.up.label.items (c.in-Some-Line.ordinal ∷ []) ∙ sym (c.up.invariant.1 ∙ ap (λ l. l ++ reverse c.up.label.items) label))

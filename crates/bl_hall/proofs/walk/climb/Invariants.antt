@@ -1,7 +1,7 @@
 use Rattle.std.proofs.Common.{◌≡◌, ◌<◌, ◌++◌, length}
 use Rattle.std.specs.Prelude.{reverse}
 use Rattle.bl_order.specs.Labels.{tag}
-use Rattle.bl_hall.proofs.walk.write_label.Given as goal
+use Rattle.bl_hall.proofs.walk.climb.Given as goal
 
 abbrev pub invariant-up : goal.invariant-up
 invariant-up l =
