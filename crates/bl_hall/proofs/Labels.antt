@@ -51,6 +51,18 @@ before-far (m ∷ a) (n ∷ b) (p ∷ c) h k = go (three_ways m n) (three_ways p
         head-same p m c a (same ∙ sym one) ∙ deeper (sym (head-same m n a b one) ∙ h) (sym (head-same p n c b same) ∙ k)
     go (inr (inl one)) (inr (inr more)) deeper = head-more p m c a (omega (arith, one, more))
 
+-- of two labels one is before the other
+pub before-other : (a b : List ℕ) → is_before a b ≡ false → a ≢ b → is_before b a ≡ true
+before-other [] [] h other = absurd (other refl)
+before-other [] (n ∷ b) h other = absurd (true≢false h)
+before-other (m ∷ a) [] h other = refl
+before-other (m ∷ a) (n ∷ b) h other = go (three_ways m n) (before-other a b)
+  where
+    go : (m < n) ⊎ ((m ≡ n) ⊎ (n < m)) → (is_before a b ≡ false → a ≢ b → is_before b a ≡ true) → is_before (n ∷ b) (m ∷ a) ≡ true
+    go (inl lt) deeper = absurd (true≢false (sym (head-less m n a b lt) ∙ h))
+    go (inr (inl same)) deeper = head-same n m b a (sym same) ∙ deeper (sym (head-same m n a b same) ∙ h) (λ e. other (λ i. same i ∷ e i))
+    go (inr (inr gt)) deeper = head-less n m b a gt
+
 -- a longer label stands behind what its front stands behind
 pub before-longer : (l w a : List ℕ) → is_before l a ≡ false → is_before (l ++ w) a ≡ false
 before-longer [] w [] h = nothing w

@@ -3,6 +3,7 @@ pub mod Labels
 pub mod Tags
 pub mod Lines
 pub mod Ordered
+pub mod Standing
 pub mod Leading
 pub mod Entering
 pub mod Tallying
