@@ -9,7 +9,7 @@ use bl_core::machine::{Core, Started};
 use bl_core::refusal::{NotReady, OpenRefused, Refused, StartFault, Starved};
 use bl_core::session::SessionNo;
 use bl_eval::lent::{Done, Unrun};
-use bl_order::laws::{may_start_is_tested, the_order_has_room};
+use bl_order::laws::{headline, may_start_is_tested, the_order_has_room};
 use bl_policy::id::SubjectId;
 use bl_setup::setup::Setup;
 use bl_work::work::Work;
@@ -51,6 +51,7 @@ impl Hall {
     ghost use Rattle.std.specs.Prelude.{◌≡◌, ◌<◌, ◌≤◌, ◌↔◌, ℕ, IsTrue, IsSome, IsNone, IsOk, length, map, All, [], IfOk, OnErr, OnOk, IfErr, IfSome, MatchResult, MatchOption, Some, None, Ok, Err};
     ghost use Rattle.bl_order.specs.Labels.{tag};
     ghost use Rattle.bl_order.specs.Machine.{Opens, Admits, Starts, Ends, Loses, MayStart, Needs, has_ended, runs};
+    ghost use Rattle.bl_order.specs.TheHeadline.{IsTheHeadlineThroughout};
     ghost use Rattle.bl_core.specs.Answers.{IsCause, IsLentBy, IsNotOpened, IsStarted, IsStarvedBy, loan_at};
     ghost use Rattle.bl_hall.specs.Chronicle.{Continues, HasTrail, kept_of, state_now, with_event};
     ghost use Rattle.bl_hall.specs.Told.{AreAnswers, IsUnanswered, Waits, reply_in, reply_of};
@@ -78,7 +79,8 @@ impl Hall {
         }
     }
 
-    /// The allocator that it was made with.
+    /// The allocator that it was made with; a gate round it makes its own parts with this one. No clause says which it is, since a
+    /// hall's value has no allocator.
     pub fn alloc(&self) -> Global {
         self.alloc
     }
@@ -324,11 +326,13 @@ impl Hall {
         &self.core
     }
 
-    /// The events, in the order in which they happened.
+    /// The events, in the order in which they happened. They are a trail, so the headline holds at every moment of it.
     pub fn trail(&self) -> &[Event]
         ensures value { result.now ≡ map kept_of self.now.trail }
         ensures trail { HasTrail self.now }
+        ensures headline { IsTheHeadlineThroughout self.now.setup self.now.limit self.now.trail }
     {
+        headline();
         self.events.as_slice()
     }
 }
