@@ -7,3 +7,4 @@ pub mod Keeps
 pub mod Coming
 pub mod Errors
 pub mod Ids
+pub mod Alone

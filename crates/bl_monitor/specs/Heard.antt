@@ -1,5 +1,5 @@
 -- What a monitor has been told, and what the definitions of the order say of it.
-use Rattle.std.specs.Prelude.{◌≡◌, ℕ, ◌<◌, ◌≤◌, Bool, true, false, ◌&&◌, if◌then◌else◌, nat_lt, List, [], ◌∷◌, ◌++◌, length, slice_index_or, Option, Some, None}
+use Rattle.std.specs.Prelude.{◌≡◌, ℕ, suc, ◌<◌, ◌≤◌, Bool, true, false, ◌&&◌, if◌then◌else◌, nat_lt, List, [], ◌∷◌, ◌++◌, length, map, take, slice_index_or, Option, Some, None}
 use Rattle.bl_policy.specs.FirstFault.{first_fault}
 use Rattle.bl_policy.specs.Policy.{SecurityPolicy}
 use Rattle.bl_policy.specs.declared.denial.Denial.{Denial}
@@ -7,7 +7,8 @@ use Rattle.bl_work.specs.Effects.{children}
 use Rattle.bl_work.specs.declared.answer.Answer.{Answer}
 use Rattle.bl_order.specs.Order as order
 use Rattle.bl_setup.specs.Setup.{Setup}
-use Rattle.bl_order.specs.Order.{accesses_of}
+use Rattle.bl_order.specs.Machine.{State}
+use Rattle.bl_order.specs.Order.{accesses_of, unnamed}
 use Rattle.bl_order.specs.Past.{Past, place, policy_before, is_done}
 use Rattle.bl_order.specs.Legal.{child_count}
 use Rattle.bl_order.specs.Known.{KnowsWork}
@@ -83,3 +84,10 @@ fault_of heard n =
     if nat_lt n (length heard.order)
     then first_fault (heard_policy_at heard n) (place_at heard n).subject (accesses_of (place_at heard n).task)
     else None
+
+-- A monitor was told the entries of a state's order up to place n, one after another, without sessions and ordinals, and which of them
+-- are lost.
+pub record IsToldAlone (heard : Heard) (x : State) (lost : ℕ → Bool) (n : ℕ) : Type 0 where
+  pub setup : heard.setup ≡ x.setup
+  pub entries : heard.order ≡ map unnamed (take (suc n) x.order)
+  pub marks : (k : ℕ) → k ≤ n → is_lost heard k ≡ lost k

@@ -21,7 +21,7 @@ use std::alloc::{AllocError, Global};
 use std::marker::Model;
 use std::sync::Arc;
 
-/// An entry of the admission order, with whether it is lost to want of memory.
+/// An entry of the admission order, and whether it was lost when memory ran out.
 #[derive(Drop)]
 pub enum Entry {
     /// A line of a session that speaks for the subject.
