@@ -86,23 +86,23 @@ module _ (order : List Entry) where
       go false is older = older
 
   -- no place stands twice
-  abbrev pub AreApart : List ℕ → Type 0
-  AreApart [] = Unit {0}
-  AreApart (m ∷ ms) = Each (λ q. q ≢ m) ms × AreApart ms
+  abbrev pub StandOnce : List ℕ → Type 0
+  StandOnce [] = Unit {0}
+  StandOnce (m ∷ ms) = Each (λ q. q ≢ m) ms × StandOnce ms
 
-  put-apart : (n : ℕ) (ms : List ℕ) → Each (λ q. q ≢ n) ms → AreApart ms → AreApart (put_place order n ms)
-  put-apart n [] h apart = (tt, tt)
-  put-apart n (m ∷ ms) h apart =
-      elim (is_before (label n) (label m)) as (λ t. AreApart (cond t (n ∷ m ∷ ms) (m ∷ put_place order n ms)))
-      [ true ↦ (h, apart) | false ↦ (put-each (λ q. q ≢ m) n ms (λ e. h.0 (sym e)) apart.0, put-apart n ms h.1 apart.1) ]
+  put-once : (n : ℕ) (ms : List ℕ) → Each (λ q. q ≢ n) ms → StandOnce ms → StandOnce (put_place order n ms)
+  put-once n [] h apart = (tt, tt)
+  put-once n (m ∷ ms) h apart =
+      elim (is_before (label n) (label m)) as (λ t. StandOnce (cond t (n ∷ m ∷ ms) (m ∷ put_place order n ms)))
+      [ true ↦ (h, apart) | false ↦ (put-each (λ q. q ≢ m) n ms (λ e. h.0 (sym e)) apart.0, put-once n ms h.1 apart.1) ]
 
-  pub are-apart : (mine : Tag → Bool) (n : ℕ) → AreApart (places_with order mine n)
-  are-apart mine zero = tt
-  are-apart mine (suc n) =
-      elim (mine (tag order n)) as (λ t. AreApart (cond t (put_place order n (places_with order mine n)) (places_with order mine n))) [
-        | true ↦ put-apart n (places_with order mine n)
-            (each-as (IsMember mine n) (λ q. q ≢ n) (places_with order mine n) (λ q h e. omega (arith, h.0, e)) (are-members mine n)) (are-apart mine n)
-        | false ↦ are-apart mine n
+  pub stand-once : (mine : Tag → Bool) (n : ℕ) → StandOnce (places_with order mine n)
+  stand-once mine zero = tt
+  stand-once mine (suc n) =
+      elim (mine (tag order n)) as (λ t. StandOnce (cond t (put_place order n (places_with order mine n)) (places_with order mine n))) [
+        | true ↦ put-once n (places_with order mine n)
+            (each-as (IsMember mine n) (λ q. q ≢ n) (places_with order mine n) (λ q h e. omega (arith, h.0, e)) (are-members mine n)) (stand-once mine n)
+        | false ↦ stand-once mine n
       ]
 
   -- no place from one on passes the test

@@ -1,6 +1,6 @@
 -- The replies above an ordinal, as they stand.
-use Rattle.std.proofs.Common.{◌≡◌, ◌≢◌, ℕ, zero, suc, ◌<◌, Bool, true, false, ◌&&◌, ◌==◌, nat_lt, List, [], ◌∷◌, ◌++◌, length, map, refl, sym, ap, subst, ◌∙◌, arith, eqb-true, eq-eqb, ltb-true, lt-ltb, slice_index_or}
-use Rattle.std.specs.Prelude.{All, AllPairs, Contains, IsTrue}
+use Rattle.std.proofs.Common.{◌≡◌, ◌≢◌, ℕ, zero, suc, ◌<◌, true, false, ◌&&◌, ◌==◌, nat_lt, List, [], ◌∷◌, ◌++◌, length, map, refl, sym, ap, subst, ◌∙◌, arith, eqb-true, eq-eqb, ltb-true, lt-ltb, slice_index_or}
+use Rattle.std.specs.Prelude.{AllPairs, Contains, IsTrue}
 use Rattle.std.proofs.lemmas.List.Kept.{AllPairs-cons}
 use Rattle.bl_order.specs.Headline.{IsReached}
 use Rattle.bl_order.specs.Labels.{Tag, Reply, tag, is_before}
@@ -9,7 +9,7 @@ use Rattle.bl_hall.specs.Linked.{places_with}
 use Rattle.bl_hall.specs.Told.{AreInOrder, IsAbove, is_above, replies_above, reply_in, root_ordinal}
 use Rattle.bl_hall.proofs.Entering.{both}
 use Rattle.bl_hall.proofs.Labels.{before-other}
-use Rattle.bl_hall.proofs.Ordered.{AreApart, Each, InOrder, IsFound, IsMember, are-apart, are-members, are-ordered, each-all, each-as, each-both, found, replies-over}
+use Rattle.bl_hall.proofs.Ordered.{Each, InOrder, IsFound, IsMember, StandOnce, are-members, are-ordered, each-all, each-as, each-both, found, replies-over, stand-once}
 use Rattle.bl_hall.proofs.Tags.{same-place}
 
 -- whether the label of a reply is before that of another
@@ -63,7 +63,7 @@ module _ (x : State) (r : IsReached x) (session after : ℕ) where
       before-other (tag x.order q).label (tag x.order m).label not_before
       (λ e. apart (same-place x r q m k.there h.there (k.own ∙ sym h.own) e))
 
-  rises : (ms : List ℕ) → InOrder x.order ms → AreApart x.order ms → Each (IsAbove x session after) ms → AllPairs IsBefore (map (reply_in x) ms)
+  rises : (ms : List ℕ) → InOrder x.order ms → StandOnce x.order ms → Each (IsAbove x session after) ms → AllPairs IsBefore (map (reply_in x) ms)
   rises [] ordered apart above = pairs-nil
   rises (m ∷ ms) ordered apart above =
       AllPairs-cons IsBefore (reply_in x m) (map (reply_in x) ms)
@@ -89,7 +89,7 @@ module _ (x : State) (r : IsReached x) (session after : ℕ) where
   unfolding places
   of-places = record {
     rising =
-        rises places (are-ordered x.order (is_above session after) (length x.order)) (are-apart x.order (is_above session after) (length x.order)) all-above;
+        rises places (are-ordered x.order (is_above session after) (length x.order)) (stand-once x.order (is_above session after) (length x.order)) all-above;
     each = λ n h.
         let at : IsFound x.order n places = found x.order (is_above session after) n (length x.order) h.there (test n h) in
         subst (λ ms. Contains (map (reply_in x) ms) (reply_in x n)) (sym at.is) (contains-split (reply_in x) at.before n at.behind);
