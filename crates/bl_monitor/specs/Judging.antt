@@ -1,9 +1,8 @@
 -- What comes of an entry.
-use Rattle.std.specs.Prelude.{◌≡◌, ℕ, ◌<◌, Bool, ◌&&◌, if◌then◌else◌, List, length, All, Option, None, is_some, true}
+use Rattle.std.specs.Prelude.{◌≡◌, ℕ, ◌<◌, Bool, ◌&&◌, if◌then◌else◌, List, length, Option, None, is_some, true}
 use Rattle.bl_policy.specs.FirstFault.{first_fault}
 use Rattle.bl_policy.specs.Policy.{SecurityPolicy}
 use Rattle.bl_policy.specs.RuleEffect.{HasIdsBelow}
-use Rattle.bl_policy.specs.declared.access.Access.{Access}
 use Rattle.bl_policy.specs.declared.denial.Denial.{Denial}
 use Rattle.bl_work.specs.Effects.{Effect, effects_of, after, outputs, children}
 use Rattle.bl_work.specs.Statements.{Part}
