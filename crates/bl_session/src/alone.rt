@@ -1,12 +1,13 @@
 //! A session with one worker, in one thread: lines are admitted without being run, and at each
 //! `wait` and at the end of the input they are run in admission order, over a hall of their own.
-ghost use Rattle.std.specs.Prelude.{◌≡◌, ◌≢◌, false, OnOk, IfErr};
+ghost use Rattle.std.specs.Prelude.{◌≡◌, ◌≢◌, false, OnOk, IfErr, IsSome};
 ghost use Rattle.bl_wire.specs.Watch.{used};
 ghost use Rattle.bl_session.specs.Outcome.{IsServed, IsCutShort};
 ghost use Rattle.bl_wire.specs.declared.fault.SessionFault.TheVariants.{Clash};
 
 use crate::entries::{Alone, Pages, begin};
 use bl_engine::session::converse;
+use bl_hall::hall::Hall;
 use bl_setup::setup::Setup;
 use bl_wire::fault::SessionFault;
 use bl_wire::watched::Watched;
@@ -19,6 +20,15 @@ use std::io::{BufRead, Write};
 pub struct Kept {
     behind: Alone,
     pages: Pages,
+}
+
+impl Kept {
+    /// The hall, with the trail of the session.
+    pub fn hall(&self) -> &Hall
+        ensures { result.now ≡ self.now.pages.hall }
+    {
+        &self.pages.hall
+    }
 }
 
 /// Serves one session over a reader and a writer. The admitted lines weigh at most `limit` together, one for each `when`. A limit is 1 to
@@ -62,6 +72,7 @@ pub fn serve_and_keep<R: BufRead, W: Write>(
     ensures handed_on { OnOk result.0 (writer.new.unflushed ≡ false) }
     ensures err { IfErr result.0 (λ fault. IsCutShort setup limit fault (used R.remaining reader.old reader.new) (used W.contents writer.old writer.new)) }
     ensures never { IfErr result.0 (λ fault. fault ≢ Clash) }
+    ensures kept { OnOk result.0 (IsSome result.1) }
 {
     let Ok((behind, mut pages)) = begin(alloc, setup, limit) else {
         return (Err(SessionFault::Memory), None);
