@@ -1,4 +1,6 @@
 //! How a session ended that was not served to its end.
+ghost use Rattle.std.specs.Prelude.{◌≡◌};
+
 use bl_wire::fault::SessionFault;
 
 /// Why a session ended early.
@@ -15,4 +17,11 @@ pub enum Why {
 pub struct Ended {
     pub session: u32,
     pub why: Why,
+}
+
+/// Why a session ended early whose service ended with this fault.
+pub fn why_of(fault: SessionFault) -> Why
+    ensures { result ≡ Why.Session fault }
+{
+    Why::Session(fault)
 }

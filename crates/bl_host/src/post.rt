@@ -3,7 +3,8 @@ ghost use Rattle.std.specs.Prelude.{◌≡◌};
 ghost use Rattle.bl_gate.specs.Gates.{Follows};
 
 use crate::desk::{Desk, Guest};
-use crate::ended::Why;
+use crate::ended::{Why, why_of};
+use crate::rest::hand_on_rest;
 use bl_gate::gate::Gate;
 use bl_gate::pass::Pass;
 use bl_serve::session::serve_with;
@@ -50,7 +51,8 @@ impl<'a, P: Pause, T: Wait> Post<'a, P, T> {
         }
     }
 
-    /// Serves the session of a connection, and ends the connection's output.
+    /// Serves the session of a connection, and ends the connection's output once what was written is handed on. An output that failed is not
+    /// called again; it ends with the connection.
     fn serve_stream(&self, pass: Pass, stream: &TcpStream) -> (Pass, Result<(), SessionFault>)
         requires { pass.gate ≡ self.now.gate.now.id }
         ensures { Follows pass result.0 }
@@ -74,7 +76,9 @@ impl<'a, P: Pause, T: Wait> Post<'a, P, T> {
             self.bell,
             self.pause,
         );
-        let _ = stream.shutdown(Shutdown::Write);
+        if hand_on_rest(writer).is_some() {
+            let _ = stream.shutdown(Shutdown::Write);
+        }
         served
     }
 
@@ -90,7 +94,7 @@ impl<'a, P: Pause, T: Wait> Post<'a, P, T> {
         let (pass, served) = self.serve_stream(pass, stream);
         let fine = match served {
             Ok(()) => true,
-            Err(fault) => desk.tell(self.rt, guest.number, Why::Session(fault)),
+            Err(fault) => desk.tell(self.rt, guest.number, why_of(fault)),
         };
         Share { pass, fine }
     }
