@@ -1,18 +1,20 @@
 -- What a run of `serve` tells, and its status.
-use Rattle.std.proofs.Common.{◌≡◌, ◌<◌, ◌++◌, ◌∷◌, ◌∙◌, [], ℕ, zero, suc, ◌+◌, Bool, true, false, List, length, take, get_or, refl, sym, ap, subst, add-one, append-nil, append_assoc}
-use Rattle.std.specs.Prelude.{Some, None, not}
+use Rattle.std.proofs.Common.{◌≡◌, ◌<◌, ◌++◌, ◌∷◌, ◌∙◌, [], ℕ, zero, suc, ◌+◌, Bool, true, false, List, length, take, get_or, refl, sym, ap, add-one, append-nil}
+use Rattle.std.specs.Prelude.{None, Some, not}
 use Rattle.std.specs.List.{flat_map}
-use Rattle.std.specs.Io.KnownBytes.{Appends}
 use Rattle.std.proofs.Math.Seq.{take-suc}
 use Rattle.std.proofs.lemmas.Grind.{flat_map-append}
 use Rattle.bl_host.specs.declared.ended.Ended.{Ended}
 use Rattle.bl_wire.specs.Watch.{EndState, Puts}
-use Rattle.bl_wire.proofs.PutLaws.{puts-all, puts-append}
+use Rattle.bl_wire.proofs.PutLaws.{puts-all, puts-append, puts-nil, puts-two}
 use Rattle.bl_run.specs.declared.fault.ProgramFault.{ProgramFault}
 use Rattle.bl_run.specs.declared.fault.ProgramFault.TheVariants.{CannotReadSetup, Setup, CannotReadTrail, CannotWriteTrail, CannotListen, Read, Write, TooLong, Worker, NoMemory}
 use Rattle.bl_run.specs.Message.{ended_line, fault_line}
-use Rattle.bl_run.specs.Serving.{HasHosted, IsUnkept, faults_found, found, hosted_text, status_after, unkept}
-use Rattle.bl_run.specs.Status.{status_of}
+use Rattle.bl_run.specs.declared.serve.Finished.{Finished}
+use Rattle.bl_run.specs.declared.whole.Unkept.{Unkept}
+use Rattle.bl_run.specs.Keeping.{IsUnkept, TellsTrail, left_line, unkept_faults, unkept_text}
+use Rattle.bl_run.specs.Serving.{HasHosted, faults_found, found, hosted_text}
+use Rattle.bl_run.specs.Status.{status_after, status_of}
 
 -- the lines of one session more
 pub lines-on : (es : List Ended) (i : ℕ) (d : Ended) → i < length es
@@ -38,7 +40,7 @@ told-stays TooLong later = stays 2 later
 told-stays Worker later = stays 2 later
 told-stays NoMemory later = stays 3 later
 
-status-append : (s : ℕ) (a b : List ProgramFault) → status_after (status_after s a) b ≡ status_after s (a ++ b)
+pub status-append : (s : ℕ) (a b : List ProgramFault) → status_after (status_after s a) b ≡ status_after s (a ++ b)
 status-append s [] b = refl
 status-append zero (fault ∷ a) b = told-stays fault b
 status-append (suc n) (fault ∷ a) b = stays n b
@@ -55,35 +57,48 @@ status-three whole memory worker r s t one two three =
 clash : (b : Bool) → b ≡ true → b ≡ false → ⊥
 clash b yes' no' = cc
 
--- a run of which the trail had no fault
-pub hosted-alone : (whole : Bool) (es : List Ended) (memory worker : Bool) (s : ℕ) (x y : EndState) → s ≡ status_after 0 (faults_found whole memory worker)
-    → Puts (hosted_text whole es memory worker) x y → HasHosted s (record { before = x.bytes; after = y.bytes; failed = y.failed })
-hosted-alone whole es memory worker s x y status puts = record {
-  whole = whole;
-  ended = es;
-  memory = memory;
-  worker = worker;
+some_is_some : (unkept : Unkept) → Some unkept ≡ None → ⊥
+some_is_some unkept e = cc
+
+-- where there is no trail to keep nothing is told of one
+pub untold : (has_one : Bool) (s : ℕ) (finished : Finished) (x y : EndState) → has_one ≡ false → finished.status ≡ s → y ≡ x → TellsTrail has_one s finished x y
+untold has_one s finished x y none' is same = record {
   trail = None;
   unkept_by = tt;
   unwritten = λ _. refl;
-  status_is = status ∙ ap (status_after 0) (sym (append-nil (faults_found whole memory worker)));
-  said = λ fine. subst (Appends x.bytes y.bytes) (sym (append-nil (hosted_text whole es memory worker))) (puts-all (hosted_text whole es memory worker) x y puts fine);
+  kept = λ yes' _. absurd (clash has_one yes' none');
+  status_is = is;
+  puts = puts-nil x y same;
 }
 
--- a run of which the trail was not kept
-pub hosted-unkept : (whole : Bool) (es : List Ended) (memory worker : Bool) (r s : ℕ) (fault : ProgramFault) (x y z : EndState) → whole ≡ true → IsUnkept fault
-    → r ≡ status_after 0 (faults_found whole memory worker) → s ≡ status_after r (found true fault)
-    → Puts (hosted_text whole es memory worker) x y → Puts (flat_map fault_line (found true fault)) y z
-    → HasHosted s (record { before = x.bytes; after = z.bytes; failed = z.failed })
-hosted-unkept whole es memory worker r s fault x y z is unkept-by first second puts more = record {
+-- a trail that was not kept is told
+pub told_trail : (unkept : Unkept) (s : ℕ) (finished : Finished) (x y z : EndState) → IsUnkept unkept.fault
+    → finished.status ≡ status_after s (found true unkept.fault)
+    → Puts (flat_map fault_line (found true unkept.fault)) x y → Puts (left_line unkept.left) y z → TellsTrail true s finished x z
+told_trail unkept s finished x y z by is fault left = record {
+  trail = Some unkept;
+  unkept_by = by;
+  unwritten = λ off. absurd (clash true refl off);
+  kept = λ _ none'. absurd (some_is_some unkept none');
+  status_is = is;
+  puts = puts-two (unkept_text (Some unkept)) (flat_map fault_line (found true unkept.fault)) (left_line unkept.left) x y z
+      (ap (λ l. l ++ left_line unkept.left) (sym (append-nil (fault_line unkept.fault)))) fault left;
+}
+
+-- what was found by the end of the threads is told, and then what became of the trail
+pub hosted : (whole : Bool) (es : List Ended) (memory worker : Bool) (r : ℕ) (finished : Finished) (x y z : EndState)
+    → r ≡ status_after 0 (faults_found whole memory worker) → Puts (hosted_text whole es memory worker) x y
+    → TellsTrail whole r finished y z → HasHosted finished (record { before = x.bytes; after = z.bytes; failed = z.failed })
+hosted whole es memory worker r finished x y z status puts then = record {
   whole = whole;
   ended = es;
   memory = memory;
   worker = worker;
-  trail = Some fault;
-  unkept_by = unkept-by;
-  unwritten = λ off. absurd (clash whole is off);
-  status_is = second ∙ ap (λ q. status_after q (found true fault)) first ∙ status-append 0 (faults_found whole memory worker) (found true fault);
-  said = λ fine. puts-all (hosted_text whole es memory worker ++ flat_map fault_line (found true fault)) x z
-      (puts-append (hosted_text whole es memory worker) (flat_map fault_line (found true fault)) x y z puts more) fine;
+  trail = then.trail;
+  unkept_by = then.unkept_by;
+  unwritten = then.unwritten;
+  kept = then.kept;
+  status_is = then.status_is ∙ ap (λ q. status_after q (unkept_faults then.trail)) status ∙ status-append 0 (faults_found whole memory worker) (unkept_faults then.trail);
+  said = λ fine. puts-all (hosted_text whole es memory worker ++ unkept_text then.trail) x z
+      (puts-append (hosted_text whole es memory worker) (unkept_text then.trail) x y z puts then.puts) fine;
 }

@@ -1,6 +1,8 @@
 pub mod Status
 pub mod Failure
 pub mod Message
+pub mod Keeping
 pub mod Replays
 pub mod Runs
 pub mod Serving
+pub mod AloneKept

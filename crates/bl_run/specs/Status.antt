@@ -1,5 +1,5 @@
 -- The status that a run ends with.
-use Rattle.std.specs.Prelude.{◌≡◌, ◌⊎◌, ℕ}
+use Rattle.std.specs.Prelude.{◌≡◌, ◌⊎◌, ℕ, zero, suc, List, [], ◌∷◌}
 use Rattle.bl_trail.specs.declared.verdict.Verdict.{Verdict}
 use Rattle.bl_trail.specs.declared.verdict.Verdict.TheVariants.{Accepted, Rejected}
 use Rattle.bl_run.specs.declared.fault.ProgramFault.{ProgramFault}
@@ -30,3 +30,9 @@ status_by (Rejected number) = 1
 -- a trail was rejected; bad arguments; or done, a fault, or want of memory
 abbrev pub IsStatus : ℕ → Type 0
 IsStatus status = (status ≡ 1) ⊎ ((status ≡ 2) ⊎ IsEnd status)
+
+-- a status after further faults: the first fault gives it
+abbrev pub status_after : ℕ → List ProgramFault → ℕ
+status_after status [] = status
+status_after zero (fault ∷ later) = status_of fault
+status_after (suc n) (fault ∷ later) = suc n

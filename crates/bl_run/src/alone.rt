@@ -1,20 +1,32 @@
 //! The run of the command `alone`.
-ghost use Rattle.std.specs.Prelude.{◌≡◌, ◌⊎◌, false, OnOk, IfErr};
+ghost use Rattle.std.specs.Prelude.{◌≡◌, ◌⊎◌, ℕ, List, false, is_some, IfErr, IsOk, IsSome, OnOk};
+ghost use Rattle.std.specs.List.{flat_map};
+ghost use Rattle.std.specs.Option.{option_to_list};
+ghost use Rattle.std.specs.Result.{result_err};
 ghost use Rattle.bl_setup.specs.Setup.{Setup as AnySetup};
 ghost use Rattle.bl_setup.specs.Grammar.{IsSetup};
-ghost use Rattle.bl_wire.specs.Watch.{used};
+ghost use Rattle.bl_wire.specs.Watch.{Puts, end_state, used};
 ghost use Rattle.bl_session.specs.Outcome.{IsServed};
+ghost use Rattle.bl_run.specs.AloneKept.{HasEnded, HasSat, IsAloneKept};
 ghost use Rattle.bl_run.specs.Failure.{HasFailed};
+ghost use Rattle.bl_run.specs.Keeping.{TellsTrail};
+ghost use Rattle.bl_run.specs.Message.{fault_line};
 ghost use Rattle.bl_run.specs.Runs.{IsRun};
+ghost use Rattle.bl_run.specs.Status.{IsEnd, status_after};
 
 use crate::fault::{ProgramFault, of_session, of_setup};
+use crate::keep::keep;
+use crate::part::{PartFile, TrailFile, claim, give_back};
+use crate::serve::{Finished, end_with, tell_trail};
 use crate::told::tell;
-use bl_session::alone::serve_and_keep;
+use bl_session::alone::{Kept, serve_and_keep};
 use bl_setup::reader::read_setup;
+use bl_setup::setup::Setup;
 use bl_wire::watched::Watched;
 use std::alloc::Global;
 use std::io::{BufRead, Write};
 use std::mem;
+use std::rt::Files;
 
 /// One session over a reader and a writer, after the setup of these bytes.
 fn serve_setup<R: BufRead, W: Write>(
@@ -74,5 +86,137 @@ pub fn alone_on<R: BufRead, W: Write, E: Write>(
     match serve_setup(alloc, setup, limit, reader, writer) {
         Ok(()) => 0,
         Err(fault) => tell(errors, &fault),
+    }
+}
+
+/// What a session with a trail was asked for: where memory comes from, the weight of the lines that are admitted at most, and where the trail is
+/// kept.
+#[derive(Clone, Copy)]
+pub struct AloneRun<'a> {
+    pub alloc: Global,
+    pub limit: u32,
+    pub trail: TrailFile<'a>,
+}
+
+/// What stands before a session with a trail: the setup, and the file that was claimed for the trail.
+struct Begun<F> {
+    setup: Setup,
+    claimed: Option<PartFile<F>>,
+}
+
+/// One session over a reader and a writer, and what it kept; nothing where there was no memory for it to begin.
+fn sit<R: BufRead, W: Write>(
+    alloc: Global,
+    setup: Setup,
+    limit: u32,
+    reader: &mut Watched<R>,
+    writer: &mut Watched<W>,
+) -> (Result<(), ProgramFault>, Option<Kept>)
+    requires reader { reader.old.failed ≡ false }
+    requires writer { writer.old.failed ≡ false }
+    ensures ended { HasEnded setup limit (result_err result.0) (used R.remaining reader.old reader.new) (used W.contents writer.old writer.new) }
+    ensures handed_on { OnOk result.0 (writer.new.unflushed ≡ false) }
+    ensures kept { OnOk result.0 (IsSome result.1) }
+{
+    let (served, kept) = serve_and_keep(alloc, setup, limit, reader, writer);
+    match served {
+        Ok(()) => (Ok(()), kept),
+        Err(fault) => (Err(of_session(fault)), kept),
+    }
+}
+
+/// Tells the fault of a session, where it has one, and gives the status by it.
+fn tell_served<E: Write>(errors: &mut Watched<E>, served: &Result<(), ProgramFault>) -> u8
+    ensures puts { Puts (flat_map fault_line (option_to_list (result_err served.now))) (end_state E.contents errors.old) (end_state E.contents errors.new) }
+    ensures status { result ≡ status_after 0 (option_to_list (result_err served.now)) }
+    ensures fine { result ≡ 0 → IsOk served.now }
+    ensures range { IsEnd result }
+{
+    match served {
+        Ok(()) => 0,
+        Err(fault) => tell(errors, fault),
+    }
+}
+
+/// Keeps the trail of what a session kept, and tells where that fails; nothing where no session began. The status is that after it.
+fn keep_session<T: Files, E: Write>(
+    rt: &T,
+    run: &AloneRun<'_>,
+    session: Option<Kept>,
+    claimed: Option<PartFile<T::File>>,
+    status: u8,
+    errors: &mut Watched<E>,
+) -> Finished
+    ensures trail { TellsTrail (is_some session) status result (end_state E.contents errors.old) (end_state E.contents errors.new) }
+    ensures done { IsSome session → result.status ≡ 0 → IsSome result.kept }
+    ensures range { IsEnd status → IsEnd result.status }
+{
+    let Some(session) = session else {
+        give_back(rt, claimed);
+        return Finished { status, kept: None };
+    };
+    let kept = keep(rt, run.alloc, session.hall(), claimed, &run.trail);
+    // the process ends next, and what the session kept goes with its memory
+    mem::forget(session);
+    tell_trail(errors, status, kept)
+}
+
+/// One session over a reader and a writer, whose trail is kept when it has ended, well or not.
+fn sit_and_keep<T: Files, R: BufRead, W: Write, E: Write>(
+    rt: &T,
+    begun: Begun<T::File>,
+    run: &AloneRun<'_>,
+    reader: &mut Watched<R>,
+    writer: &mut Watched<W>,
+    errors: &mut Watched<E>,
+) -> Finished
+    requires reader { reader.old.failed ≡ false }
+    requires writer { writer.old.failed ≡ false }
+    ensures run { (setup : List ℕ) → IsSetup setup begun.setup → HasSat setup run.now.limit result
+        (used R.remaining reader.old reader.new) (used W.contents writer.old writer.new) (used E.contents errors.old errors.new) }
+    ensures kept { result.status ≡ 0 → IsSome result.kept }
+    ensures handed_on { result.status ≡ 0 → writer.new.unflushed ≡ false }
+    ensures status { IsEnd result.status }
+{
+    let Begun { setup, claimed } = begun;
+    let (served, session) = sit(run.alloc, setup, run.limit, reader, writer);
+    let status = tell_served(errors, &served);
+    drop(served);
+    keep_session(rt, run, session, claimed, status, errors)
+}
+
+/// One session over a reader and a writer, after the setup of these bytes, whose trail is kept: the command `alone` with `--trail`.
+///
+/// It goes as `alone_on` says. When the session has ended, well or not, its trail is kept; where that fails, it is told after a fault of the
+/// session. The first fault gives the status, and without one it is 0. No trail is kept where no session began.
+pub fn alone_kept_on<T: Files, R: BufRead, W: Write, E: Write>(
+    rt: &T,
+    setup: &[u8],
+    run: &AloneRun<'_>,
+    reader: &mut Watched<R>,
+    writer: &mut Watched<W>,
+    errors: &mut Watched<E>,
+) -> Finished
+    requires reader { reader.old.failed ≡ false }
+    requires writer { writer.old.failed ≡ false }
+    ensures run { IsAloneKept setup.now run.now result
+        (used R.remaining reader.old reader.new) (used W.contents writer.old writer.new) (used E.contents errors.old errors.new) }
+    ensures kept { result.status ≡ 0 → IsSome result.kept }
+    ensures handed_on { result.status ≡ 0 → writer.new.unflushed ≡ false }
+    ensures status { IsEnd result.status }
+{
+    let setup = match read_setup(run.alloc, setup) {
+        Ok(setup) => setup,
+        Err(fault) => return end_with(errors, of_setup(fault)),
+    };
+    match claim(rt, run.alloc, &run.trail) {
+        Ok(claimed) => {
+            let begun = Begun { setup, claimed };
+            sit_and_keep(rt, begun, run, reader, writer, errors)
+        }
+        Err(fault) => {
+            drop(setup);
+            end_with(errors, fault)
+        }
     }
 }

@@ -1,15 +1,21 @@
 //! The run of the command `serve`.
-ghost use Rattle.std.specs.Prelude.{◌≡◌, ◌≤◌, List, false, true, not, IfErr, IfOk, OnOk};
+ghost use Rattle.std.specs.Prelude.{◌≡◌, ◌<◌, ◌≤◌, ◌⊎◌, List, false, true, not, IfErr, IfOk, IsSome, OnOk};
+ghost use Rattle.std.specs.Io.KnownBytes.{Appends};
 ghost use Rattle.std.specs.List.{flat_map};
 ghost use Rattle.bl_gate.specs.Gates.{Follows};
 ghost use Rattle.bl_wire.specs.Watch.{Puts, end_state, used};
+ghost use Rattle.bl_run.specs.Keeping.{IsUnkept, TellsTrail};
 ghost use Rattle.bl_run.specs.Message.{ended_line, fault_line};
-ghost use Rattle.bl_run.specs.Serving.{HasHosted, IsNewGate, IsPrepared, IsServe, IsUnkept, IsUnprepared, faults_found, found, hosted_text, status_after};
-ghost use Rattle.bl_run.specs.Status.{IsEnd};
+ghost use Rattle.bl_run.specs.Runs.{HasTold};
+ghost use Rattle.bl_run.specs.Serving.{HasHosted, IsNewGate, IsPrepared, IsServe, IsUnannounced, IsUnprepared, faults_found, found, hosted_text, listening};
+ghost use Rattle.bl_run.specs.Status.{IsEnd, status_after};
 
 use crate::fault::{ProgramFault, of_setup};
-use crate::keep::write_kept;
-use crate::told::{tell, tell_ended};
+use crate::keep::keep;
+use crate::named::Kept;
+use crate::part::{PartFile, TrailFile, claim, give_back};
+use crate::told::{tell, tell_ended, tell_left};
+use crate::whole::Unkept;
 use bl_gate::gate::Gate;
 use bl_gate::pass::Pass;
 use bl_hall::hall::Hall;
@@ -37,12 +43,12 @@ pub struct Ground<'a, P, T> {
 }
 
 /// What a run of `serve` was asked for: the weight of the lines that are admitted at most, 1 to 100,000, how many threads and sessions
-/// there are, and the name of the trail file.
+/// there are, and where the trail is kept.
 #[derive(Clone, Copy)]
 pub struct ServeRun<'a> {
     pub limit: u32,
     pub options: Options,
-    pub trail: &'a str,
+    pub trail: TrailFile<'a>,
     pub ghost limited: { (1 ≤ limit) × (limit ≤ 100000) },
 }
 
@@ -65,32 +71,66 @@ fn gate_over(alloc: Global, setup: Setup, limit: u32) -> Result<(Gate, Pass), Pr
     }
 }
 
-/// All before the first session: the setup of these bytes is read, the gate is made, and `listening` is told.
-fn prepare<W: Write>(
+/// What stands before the first session: the gate, all parts of the right to close it, and the file that was claimed for the trail.
+struct Prepared<F> {
+    gate: Gate,
+    pass: Pass,
+    claimed: Option<PartFile<F>>,
+}
+
+/// Claims the trail's file, if that is asked for, and tells `listening`.
+fn announce<T: Files, W: Write>(
+    rt: &T,
+    alloc: Global,
+    trail: &TrailFile<'_>,
+    writer: &mut Watched<W>,
+) -> Result<Option<PartFile<T::File>>, ProgramFault>
+    ensures ok { OnOk result (Appends (W.contents writer.old.inner) (W.contents writer.new.inner) listening) }
+    ensures handed_on { OnOk result (writer.new.unflushed ≡ false) }
+    ensures err { IfErr result (λ fault. IsUnannounced trail.now.claims fault (used W.contents writer.old writer.new)) }
+{
+    let claimed = claim(rt, alloc, trail)?;
+    if put_out(writer, b"listening\n") {
+        Ok(claimed)
+    } else {
+        give_back(rt, claimed);
+        Err(ProgramFault::Write)
+    }
+}
+
+/// All before the first session: the setup of these bytes is read, the gate is made, the trail's file is claimed if that is asked for, and
+/// `listening` is told.
+fn prepare<T: Files, W: Write>(
+    rt: &T,
     alloc: Global,
     setup: &[u8],
-    limit: u32,
+    run: &ServeRun<'_>,
     writer: &mut Watched<W>,
-) -> Result<(Gate, Pass), ProgramFault>
-    requires some { 1 ≤ limit }
-    requires most { limit ≤ 100000 }
-    ensures ok { IfOk result (λ made. IsPrepared setup.now limit made.0 made.1 (used W.contents writer.old writer.new)) }
+) -> Result<Prepared<T::File>, ProgramFault>
+    ensures ok { IfOk result (λ made. IsPrepared setup.now run.now.limit made.gate made.pass (used W.contents writer.old writer.new)) }
     ensures handed_on { OnOk result (writer.new.unflushed ≡ false) }
-    ensures err { IfErr result (λ fault. IsUnprepared setup.now fault (used W.contents writer.old writer.new)) }
+    ensures err { IfErr result (λ fault. IsUnprepared setup.now run.now.trail.claims fault (used W.contents writer.old writer.new)) }
 {
     let setup = match read_setup(alloc, setup) {
         Ok(setup) => setup,
         Err(fault) => return Err(of_setup(fault)),
     };
-    let Ok(made) = gate_over(alloc, setup, limit) else {
+    let Ok((gate, pass)) = gate_over(alloc, setup, run.limit) else {
         return Err(ProgramFault::NoMemory);
     };
-    if put_out(writer, b"listening\n") {
-        Ok(made)
-    } else {
-        drop(made);
-        Err(ProgramFault::Write)
-    }
+    let claimed = match announce(rt, alloc, &run.trail, writer) {
+        Ok(claimed) => claimed,
+        Err(fault) => {
+            drop(gate);
+            drop(pass);
+            return Err(fault);
+        }
+    };
+    Ok(Prepared {
+        gate,
+        pass,
+        claimed,
+    })
 }
 
 /// Tells a fault where it was found, and gives the status that the run then has: that of the first fault, and 0 for none.
@@ -102,6 +142,8 @@ fn tell_found<E: Write>(
 ) -> u8
     ensures puts { Puts (flat_map fault_line (found is_found fault.now)) (end_state E.contents errors.old) (end_state E.contents errors.new) }
     ensures status { result ≡ status_after status (found is_found fault.now) }
+    ensures stays { 0 < status → result ≡ status }
+    ensures rises { is_found ≡ true → 0 < result }
     ensures range { IsEnd status → IsEnd result }
 {
     if !is_found {
@@ -131,6 +173,7 @@ fn tell_hosted<E: Write>(
 ) -> u8
     ensures puts { Puts (hosted_text whole ended.now memory worker) (end_state E.contents errors.old) (end_state E.contents errors.new) }
     ensures status { result ≡ status_after 0 (faults_found whole memory worker) }
+    ensures rises { whole ≡ false → 0 < result }
     ensures range { IsEnd result }
 {
     let status = tell_found(errors, 0, !whole, &ProgramFault::NoMemory);
@@ -139,39 +182,85 @@ fn tell_hosted<E: Write>(
     tell_found(errors, status, worker, &ProgramFault::Worker)
 }
 
-/// Closes the gate, and keeps the trail in the file of this name.
+/// Closes the gate, and keeps the trail.
 fn keep_closed<T: Files>(
     rt: &T,
     alloc: Global,
     gate: Gate,
     pass: Pass,
-    name: &str,
-) -> Result<(), ProgramFault>
+    claimed: Option<PartFile<T::File>>,
+    trail: &TrailFile<'_>,
+) -> Result<Kept, Unkept>
     requires gate { pass.gate ≡ gate.id }
     requires all { pass.parts ≡ 64 }
-    ensures err { IfErr result IsUnkept }
+    ensures err { IfErr result (λ unkept. IsUnkept unkept.fault) }
 {
     let hall = gate.close(pass);
-    let kept = write_kept(rt, alloc, &hall, name);
+    let kept = keep(rt, alloc, &hall, claimed, trail);
     drop(hall);
     kept
 }
 
-/// All after `listening`: the sessions are served, what was found is told, and the trail is kept where each thread was started. The
-/// result is the status of the run.
+/// How a run ended that had a trail to keep: its status, and that the trail was kept, where it was.
+#[derive(Drop)]
+pub struct Finished {
+    pub status: u8,
+    pub kept: Option<Kept>,
+}
+
+/// A run ends with this fault, which is told, before a trail was to be kept.
+pub fn end_with<E: Write>(errors: &mut Watched<E>, fault: ProgramFault) -> Finished
+    ensures told { HasTold fault result.status (used E.contents errors.old errors.new) }
+    ensures status { (result.status ≡ 3) ⊎ (result.status ≡ 4) }
+{
+    let status = tell(errors, &fault);
+    Finished { status, kept: None }
+}
+
+/// Tells that a trail was not kept, and where what is left of it is. The status is that after this fault.
+pub(crate) fn tell_trail<E: Write>(
+    errors: &mut Watched<E>,
+    status: u8,
+    kept: Result<Kept, Unkept>,
+) -> Finished
+    requires { IfErr kept (λ unkept. IsUnkept unkept.fault) }
+    ensures trail { TellsTrail true status result (end_state E.contents errors.old) (end_state E.contents errors.new) }
+    ensures done { result.status ≡ 0 → IsSome result.kept }
+    ensures range { IsEnd status → IsEnd result.status }
+{
+    match kept {
+        Ok(kept) => Finished {
+            status,
+            kept: Some(kept),
+        },
+        Err(unkept) => {
+            let status = tell_found(errors, status, true, &unkept.fault);
+            tell_left(errors, &unkept.left);
+            Finished { status, kept: None }
+        }
+    }
+}
+
+/// All after `listening`: the sessions are served, what was found is told, and the trail is kept where each thread was started. The status is 0
+/// only where it was kept.
 fn host_on<P: Pause + Sync, T: Threads + Wait + Files + Sync, E: Write>(
     ground: &Ground<'_, P, T>,
     listener: TcpListener,
-    gate: Gate,
-    pass: Pass,
+    prepared: Prepared<T::File>,
     run: &ServeRun<'_>,
     errors: &mut Watched<E>,
-) -> u8
-    requires gate { pass.gate ≡ gate.id }
-    requires parts { pass.parts ≡ 64 }
+) -> Finished
+    requires gate { prepared.pass.gate ≡ prepared.gate.id }
+    requires parts { prepared.pass.parts ≡ 64 }
     ensures run { HasHosted result (used E.contents errors.old errors.new) }
-    ensures range { IsEnd result }
+    ensures kept { result.status ≡ 0 → IsSome result.kept }
+    ensures range { IsEnd result.status }
 {
+    let Prepared {
+        gate,
+        pass,
+        claimed,
+    } = prepared;
     let site = Site {
         rt: ground.rt,
         alloc: ground.alloc,
@@ -188,19 +277,18 @@ fn host_on<P: Pause + Sync, T: Threads + Wait + Files + Sync, E: Write>(
     let status = tell_hosted(errors, whole, ended.as_slice(), memory, worker);
     drop(ended);
     if !whole {
+        give_back(ground.rt, claimed);
         drop(pass);
         drop(gate);
-        return status;
+        return Finished { status, kept: None };
     }
-    match keep_closed(ground.rt, ground.alloc, gate, pass, run.trail) {
-        Ok(()) => status,
-        Err(fault) => tell_found(errors, status, true, &fault),
-    }
+    let kept = keep_closed(ground.rt, ground.alloc, gate, pass, claimed, &run.trail);
+    tell_trail(errors, status, kept)
 }
 
 /// Sessions over TCP at a listener, after the setup of these bytes: the command `serve`.
 ///
-/// `listening` is told on `writer` before the first session is served. The result is the status of the run: 0 where all was done, 3 for a
+/// `listening` is told on `writer` before the first session is served. The status of the run is 0 where all was done and the trail was kept, 3 for a
 /// fault of the setup, of the output, of a worker or of the trail file, and 4 for want of memory. A session that ends early is told and
 /// changes no status. Where several faults were found all are told, and the first gives the status.
 pub fn serve_on<P: Pause + Sync, T: Threads + Wait + Files + Sync, W: Write, E: Write>(
@@ -210,13 +298,14 @@ pub fn serve_on<P: Pause + Sync, T: Threads + Wait + Files + Sync, W: Write, E: 
     run: &ServeRun<'_>,
     writer: &mut Watched<W>,
     errors: &mut Watched<E>,
-) -> u8
-    ensures run { IsServe setup.now result (used W.contents writer.old writer.new) (used E.contents errors.old errors.new) }
-    ensures handed_on { result ≡ 0 → writer.new.unflushed ≡ false }
-    ensures status { IsEnd result }
+) -> Finished
+    ensures run { IsServe setup.now run.now.trail.claims result (used W.contents writer.old writer.new) (used E.contents errors.old errors.new) }
+    ensures handed_on { result.status ≡ 0 → writer.new.unflushed ≡ false }
+    ensures kept { result.status ≡ 0 → IsSome result.kept }
+    ensures status { IsEnd result.status }
 {
-    match prepare(ground.alloc, setup, run.limit, writer) {
-        Ok((gate, pass)) => host_on(ground, listener, gate, pass, run, errors),
-        Err(fault) => tell(errors, &fault),
+    match prepare(ground.rt, ground.alloc, setup, run, writer) {
+        Ok(prepared) => host_on(ground, listener, prepared, run, errors),
+        Err(fault) => end_with(errors, fault),
     }
 }

@@ -1,10 +1,12 @@
 //! What a run says on standard error. Nothing of it needs memory, and once standard error has failed nothing more is said.
 ghost use Rattle.std.specs.Prelude.{◌≡◌, ◌⊎◌};
 ghost use Rattle.bl_wire.specs.Watch.{Puts, end_state, used};
+ghost use Rattle.bl_run.specs.Keeping.{left_line, left_words as words_left};
 ghost use Rattle.bl_run.specs.Message.{ended_line, ended_words as words_for, fault_line, message_of};
 ghost use Rattle.bl_run.specs.Runs.{HasTold};
 
 use crate::fault::ProgramFault;
+use crate::whole::Left;
 use bl_host::ended::{Ended, Why};
 use bl_wire::fault::SessionFault;
 use bl_wire::put::{put, put_number, put_out};
@@ -71,4 +73,28 @@ pub fn tell_ended<E: Write>(errors: &mut Watched<E>, ended: &Ended)
     put(errors, b": ");
     put(errors, ended_words(ended.why).as_bytes());
     put_out(errors, b"\n");
+}
+
+/// Tells where what is left of a trail is that was not kept, on a line of its own; nothing where nothing is left. Where `errors` failed it is
+/// marked, and only a part was said.
+pub fn tell_left<E: Write>(errors: &mut Watched<E>, left: &Option<Left>)
+    ensures puts { Puts (left_line left.now) (end_state E.contents errors.old) (end_state E.contents errors.new) }
+{
+    let Some(left) = left else {
+        return;
+    };
+    put(errors, left_words(left.whole).as_bytes());
+    put(errors, left.name.as_str().as_bytes());
+    put_out(errors, b"\n");
+}
+
+/// The words for what is left of a trail, whole or not.
+fn left_words(whole: bool) -> &'static str
+    ensures { result.now ≡ words_left whole }
+{
+    if whole {
+        "the whole trail is in "
+    } else {
+        "the trail is cut short in "
+    }
 }

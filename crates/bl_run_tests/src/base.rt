@@ -1,15 +1,16 @@
 //! A run of `serve` with clients beside it.
 use bl_host::options::Options;
+use bl_run::part::TrailFile;
 use bl_run::serve::{Ground, ServeRun, serve_on};
 use bl_wire::watched::Watched;
 use bl_worker::pause::Pause;
 use std::alloc::Global;
-use std::io;
 use std::io::{Read, Write};
 use std::net::{Ipv4Addr, Net, Shutdown, SocketAddr, TcpListener, TcpStream};
 use std::rt::Files;
 use std::sync::Wait;
 use std::thread::Threads;
+use std::{fs, io};
 
 /// The setup of the worked examples.
 pub(crate) const BASE: &[u8] = b"ranks u c s t\ncategories nato crypto\n\
@@ -32,6 +33,14 @@ pub(crate) fn listen<R: Net<Listener = TcpListener, Stream = TcpStream>>(
     Ok((listener, at))
 }
 
+/// A connection to a server.
+pub(crate) fn connect<R: Net<Listener = TcpListener, Stream = TcpStream>>(
+    rt: &R,
+    at: SocketAddr,
+) -> io::Result<TcpStream> {
+    TcpStream::connect(rt, at)
+}
+
 /// What a client hears who sends these lines and ends its input.
 pub(crate) fn converse<R: Net<Listener = TcpListener, Stream = TcpStream>>(
     rt: &R,
@@ -39,7 +48,7 @@ pub(crate) fn converse<R: Net<Listener = TcpListener, Stream = TcpStream>>(
     at: SocketAddr,
     lines: &[u8],
 ) -> io::Result<Vec<u8>> {
-    let mut stream = TcpStream::connect(rt, at)?;
+    let mut stream = connect(rt, at)?;
     stream.write_all(lines)?;
     stream.shutdown(Shutdown::Write)?;
     let mut heard = Vec::new(alloc);
@@ -66,12 +75,17 @@ pub(crate) fn serve<P: Pause + Sync, R: Threads + Wait + Files + Sync>(
     let ground = Ground { rt, alloc, pause };
     let mut writer = Watched::new(Vec::new(alloc));
     let mut errors = Watched::new(Vec::new(alloc));
-    let status = serve_on(&ground, listener, BASE, run, &mut writer, &mut errors);
+    let finished = serve_on(&ground, listener, BASE, run, &mut writer, &mut errors);
     Served {
-        status,
+        status: finished.status,
         told: writer.into_inner(),
         said: errors.into_inner(),
     }
+}
+
+/// Removes the trail that an earlier run left under this name.
+pub(crate) fn clear<R: Files>(rt: &R, name: &str) {
+    let _ = fs::remove_file(rt, name);
 }
 
 /// A run of two workers and two session threads.
@@ -83,6 +97,10 @@ pub(crate) fn two_of_each(sessions: u32, trail: &str) -> ServeRun<'_> {
             session_threads: 2,
             sessions,
         },
-        trail,
+        trail: TrailFile {
+            name: trail,
+            replaces: false,
+            claims: false,
+        },
     }
 }

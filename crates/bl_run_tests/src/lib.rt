@@ -3,6 +3,8 @@
 //!     base        a run of `serve` with clients beside it
 //!     overlaps    two sessions that run side by side
 //!     ends        sessions that end early, and trails that cannot be kept
+//!     trails      trail files
+//!     failing     a file system whose files fail
 #![tactic(auto)]
 
 #[cfg(test)]
@@ -10,4 +12,8 @@ mod base;
 #[cfg(test)]
 mod ends;
 #[cfg(test)]
+mod failing;
+#[cfg(test)]
 mod overlaps;
+#[cfg(test)]
+mod trails;

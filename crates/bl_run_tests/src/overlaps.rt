@@ -1,5 +1,5 @@
 //! Two sessions that run side by side.
-use super::base::{BASE, converse, listen, serve, two_of_each};
+use super::base::{BASE, clear, converse, listen, serve, two_of_each};
 use bl_run::replay::replay_on;
 use bl_wire::watched::Watched;
 use bl_worker::pause::Pause;
@@ -89,6 +89,7 @@ fn tcp_overlap(rt: HostRuntime) {
     let Ok((listener, at)) = listen(&rt) else {
         panic!(rt; "no port");
     };
+    clear(&rt, "overlap.trail");
     let hold = HoldFirst::new();
     let run = two_of_each(2, "overlap.trail");
     let (handle, held) = (&rt, &hold);
@@ -103,6 +104,7 @@ fn tcp_overlap(rt: HostRuntime) {
     assert!(rt; served.told.as_slice() == b"listening\n".as_slice());
     assert!(rt; served.said.is_empty());
     let trail = fs::read(&rt, "overlap.trail").expect(&rt, "the trail is kept");
+    clear(&rt, "overlap.trail");
     let mut verdict = Watched::new(Vec::new(alloc));
     let mut errors = Watched::new(Vec::new(alloc));
     let status = replay_on(alloc, BASE, trail.as_slice(), &mut verdict, &mut errors);

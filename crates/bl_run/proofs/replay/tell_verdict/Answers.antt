@@ -1,6 +1,6 @@
-use Rattle.std.proofs.Common.{rules, ◌≡◌, ◌++◌, ◌∷◌, [], List, ℕ, ◌∙◌, ap, sym, refl, append_assoc, codes, decimal}
+use Rattle.std.proofs.Common.{rules, ◌≡◌, ◌++◌, ◌∷◌, [], ◌∙◌, ap, sym, refl, append_assoc, codes, decimal}
 use Rattle.std.specs.Prelude.{not}
-use Rattle.bl_wire.specs.Watch.{Puts, end_state}
+use Rattle.bl_wire.specs.Watch.{Puts}
 use Rattle.bl_wire.proofs.PutLaws.{puts-three}
 use Rattle.bl_run.specs.Replays.{verdict_line, verdict_text}
 use Rattle.bl_run.proofs.replay.tell_verdict.Goals as goal

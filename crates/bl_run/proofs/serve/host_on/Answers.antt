@@ -1,20 +1,31 @@
-use Rattle.std.proofs.Common.{rules, ◌≡◌, true}
-use Rattle.bl_run.proofs.Hosting.{hosted-alone, hosted-unkept}
+use Rattle.std.proofs.Common.{rules, ◌≡◌, true, refl, sym, subst}
+use Rattle.bl_wire.specs.Watch.{end_state}
+use Rattle.bl_run.specs.Keeping.{TellsTrail}
+use Rattle.bl_run.proofs.Hosting.{hosted, untold}
 use Rattle.bl_run.proofs.serve.host_on.Goals as goal
 
+-- a thread was not started, and no trail is kept
 pub returns-then-not-whole-clause-run : goal.returns-then-not-whole-clause-run
 returns-then-not-whole-clause-run g c =
     let h = c.host-pass.result in
-    hosted-alone h.whole c.as_slice.result.now h.memory h.worker _ _ _ c.tell_hosted-status.ensures.status c.tell_hosted-status.ensures.puts
+    let E = g.E.Write.contents in
+    let told = end_state E c.tell_hosted-status.new.errors in
+    hosted h.whole c.as_slice.result.now h.memory h.worker c.tell_hosted-status.result _ (end_state E c.args.errors.now) told told
+    c.tell_hosted-status.ensures.status c.tell_hosted-status.ensures.puts
+    (untold h.whole c.tell_hosted-status.result _ told told c.if-not-whole.true refl refl)
 
-pub returns-in-Ok-clause-run : goal.returns-in-Ok-clause-run
-returns-in-Ok-clause-run g c =
+-- the trail was kept, or is told
+pub returns : goal.returns
+returns g c =
     let h = c.host-pass.result in
-    hosted-alone h.whole c.as_slice.result.now h.memory h.worker _ _ _ c.tell_hosted-status.ensures.status c.tell_hosted-status.ensures.puts
-
-pub returns-in-Err-clause-run : goal.returns-in-Err-clause-run
-returns-in-Err-clause-run g c =
-    let h = c.host-pass.result in
+    let E = g.E.Write.contents in
+    let told = end_state E c.tell_hosted-status.new.errors in
+    let end = end_state E c.tell_trail.new.errors in
     let whole : h.whole ≡ true = search rules in
-    hosted-unkept h.whole c.as_slice.result.now h.memory h.worker _ _ c.in-Err.fault _ _ _ whole c.in-Err.ensures.err
-    c.tell_hosted-status.ensures.status c.tell_found.ensures.status c.tell_hosted-status.ensures.puts c.tell_found.ensures.puts
+    record {
+      run = hosted h.whole c.as_slice.result.now h.memory h.worker c.tell_hosted-status.result c.tell_trail.result (end_state E c.args.errors.now) told end
+          c.tell_hosted-status.ensures.status c.tell_hosted-status.ensures.puts
+          (subst (λ b. TellsTrail b c.tell_hosted-status.result c.tell_trail.result told end) (sym whole) c.tell_trail.ensures.trail);
+      kept = c.tell_trail.ensures.done;
+      range = c.tell_trail.ensures.range c.tell_hosted-status.ensures.range;
+    }

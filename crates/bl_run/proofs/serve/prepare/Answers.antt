@@ -1,5 +1,4 @@
-use Rattle.std.proofs.Common.{inl, inr, ap, refl, ◌∙◌}
-use Rattle.std.specs.Prelude.{not}
+use Rattle.std.proofs.Common.{inl, inr, refl}
 use Rattle.std.proofs.KnownBytes.{Keeps-refl}
 use Rattle.bl_run.proofs.serve.prepare.Goals as goal
 
@@ -7,19 +6,7 @@ use Rattle.bl_run.proofs.serve.prepare.Goals as goal
 pub returns-in_default-clause-err : goal.returns-in_default-clause-err
 returns-in_default-clause-err g c = inr (record { begun = c.in-Ok.setup; is = c.in-Ok.ensures.setup; why = inl (refl, Keeps-refl _) })
 
-pub returns-then-put_out-clause-ok : goal.returns-then-put_out-clause-ok
-returns-then-put_out-clause-ok g c = record {
-  begun = c.in-Ok.setup;
-  is = c.in-Ok.ensures.setup;
-  made = c.in-Ok-gate_over.ensures.ok;
-  told = c.put_out.ensures.all c.if-put_out.true;
-}
-
--- the output failed
-pub returns-else-put_out-clause-err : goal.returns-else-put_out-clause-err
-returns-else-put_out-clause-err g c =
-    inr (record {
-      begun = c.in-Ok.setup;
-      is = c.in-Ok.ensures.setup;
-      why = inr (refl, c.put_out.ensures.failed ∙ ap not c.if-put_out.false, c.put_out.ensures.some);
-    })
+-- `listening` was not told
+pub returns-in-Err-announce-clause-err : goal.returns-in-Err-announce-clause-err
+returns-in-Err-announce-clause-err g c =
+    inr (record { begun = c.in-Ok.setup; is = c.in-Ok.ensures.setup; why = inr c.in-Err-announce.ensures.err })

@@ -1,0 +1,163 @@
+//! The file that a trail is written to before it has its name: a new one, beside that name.
+ghost use Rattle.std.specs.Prelude.{◌≡◌, ◌≤◌, ◌+◌, ◌<◌, ◌↔◌, ℕ, IsTrue, IfErr, IfOk, IfSome, codes, length, string_bytes, take, true};
+ghost use Rattle.std.specs.Fs.{asks_create_new, asks_write};
+ghost use Rattle.bl_run.specs.Keeping.{IsPartName, IsUnkept};
+
+use crate::fault::{ProgramFault, of_file};
+use std::alloc::{AllocError, Global};
+use std::fs::OpenOptions;
+use std::io::{ErrorKind, Read};
+use std::os::unix::fs::OpenOptionsExt;
+use std::rt::Files;
+use std::{fs, io};
+
+/// Where a trail is kept.
+#[derive(Clone, Copy, Debug, PartialEq, Eq)]
+pub struct TrailFile<'a> {
+    /// The name that the file is to have.
+    pub name: &'a str,
+    /// Whether a trail that stands under the name may be replaced.
+    pub replaces: bool,
+    /// Whether the file is made before the first session, so that a trail that cannot be kept is told then.
+    pub claims: bool,
+}
+
+/// A file that was made new beside the name that a trail is to have, under a name of its own.
+#[derive(Drop)]
+pub struct PartFile<F> {
+    pub(crate) name: String,
+    pub(crate) file: F,
+}
+
+/// How a trail begins (FORMATS, "Trail").
+const HEAD: &[u8] = b"trail 1\n";
+
+/// The most bytes that the last component of a name may have (`NAME_MAX` of POSIX systems).
+const MOST_NAME: usize = 255;
+
+/// How many names are tried beside the one that a trail is to have.
+const MOST_PARTS: u32 = 99;
+
+/// A first part of a name, all of it where its last component leaves room for so many bytes behind it.
+fn with_room(name: &str, room: usize) -> &str
+    requires { room < 255 }
+    ensures short { length name.now + room ≤ 255 → result.now ≡ name.now }
+    ensures front { (n : ℕ) × (result.now ≡ take n name.now) }
+{
+    let start = match name.rfind('/') {
+        Some(at) => at + 1,
+        None => 0,
+    };
+    if name.len() - start <= MOST_NAME - room {
+        return name;
+    }
+    let most = name.floor_char_boundary(start + (MOST_NAME - room));
+    name.split_at(most).0
+}
+
+/// The name of the file that a trail is written to before it has its own name: with `.part` behind it, or `.part.N` from the second on;
+/// where that would be too long, the last component is cut short before it.
+fn part_name(alloc: Global, name: &str, number: u32) -> Result<String, AllocError>
+    requires { number ≤ 99 }
+    ensures { IfOk result (λ part. IsPartName name.now number (string_bytes part)) }
+{
+    if number <= 1 {
+        let front = with_room(name, 5);
+        format!(in alloc; "{front}.part")
+    } else {
+        let front = with_room(name, 8);
+        format!(in alloc; "{front}.part.{number}")
+    }
+}
+
+/// How the file is opened: it is written and made new, which follows no link and takes no name that is there, and nobody but its owner may read
+/// or write it.
+fn part_options() -> OpenOptions
+    ensures new { IsTrue (asks_create_new result) }
+    ensures write { IsTrue (asks_write result) }
+{
+    let mut options = OpenOptions::new();
+    options.mode(0o600);
+    options.write(true).create_new(true);
+    options
+}
+
+/// Makes a new file beside this name, under the first of its names that is free.
+pub(crate) fn make_part<R: Files>(
+    rt: &R,
+    alloc: Global,
+    name: &str,
+) -> Result<PartFile<R::File>, ProgramFault>
+    ensures err { IfErr result IsUnkept }
+{
+    for number in 1..=MOST_PARTS {
+        let Ok(part) = part_name(alloc, name, number) else {
+            return Err(ProgramFault::NoMemory);
+        };
+        match part_options().open(rt, part.as_str()) {
+            Ok(file) => return Ok(PartFile { name: part, file }),
+            Err(error) if error.kind() == ErrorKind::AlreadyExists => {}
+            Err(error) => return Err(of_file(&error, ProgramFault::CannotWriteTrail)),
+        }
+    }
+    Err(ProgramFault::CannotWriteTrail)
+}
+
+/// Whether the bytes that a reader gives begin as a trail does.
+fn begins_as_trail<F: Read + Drop>(alloc: Global, file: F) -> io::Result<bool>
+    ensures { IfOk result (λ is. IfSome (F.remaining file) (λ all. IsTrue is ↔ (take 8 all ≡ codes "trail 1\n"))) }
+{
+    let mut bytes = Vec::new(alloc);
+    file.take(8).read_to_end(&mut bytes)?;
+    Ok(bytes.as_slice() == HEAD)
+}
+
+/// Whether a plain file stands under this name that begins as a trail does. No link is followed.
+pub(crate) fn is_trail<R: Files>(rt: &R, alloc: Global, name: &str) -> bool {
+    let Ok(found) = fs::symlink_metadata(rt, name) else {
+        return false;
+    };
+    if !found.is_file() {
+        return false;
+    }
+    match fs::open(rt, name) {
+        Ok(file) => begins_as_trail(alloc, file).unwrap_or(false),
+        Err(_) => false,
+    }
+}
+
+/// Whether a trail can take this name as things stand: nothing is there, or a trail that may be replaced.
+fn is_free<R: Files>(rt: &R, alloc: Global, trail: &TrailFile<'_>) -> bool {
+    match fs::symlink_metadata(rt, trail.name) {
+        Ok(_) => trail.replaces && is_trail(rt, alloc, trail.name),
+        Err(error) => error.kind() == ErrorKind::NotFound && !trail.name.is_empty(),
+    }
+}
+
+/// Makes the file of a trail that claims its name; nothing where it does not. The name has to be free now.
+pub(crate) fn claim<R: Files>(
+    rt: &R,
+    alloc: Global,
+    trail: &TrailFile<'_>,
+) -> Result<Option<PartFile<R::File>>, ProgramFault>
+    ensures err { IfErr result IsUnkept }
+    ensures claims { IfErr result (λ _. trail.now.claims ≡ true) }
+{
+    if !trail.claims {
+        return Ok(None);
+    }
+    if !is_free(rt, alloc, trail) {
+        return Err(ProgramFault::CannotWriteTrail);
+    }
+    match make_part(rt, alloc, trail.name) {
+        Ok(part) => Ok(Some(part)),
+        Err(fault) => Err(fault),
+    }
+}
+
+/// Removes a file that was claimed, and in which nothing was written.
+pub(crate) fn give_back<R: Files>(rt: &R, claimed: Option<PartFile<R::File>>) {
+    if let Some(part) = claimed {
+        let _removed = fs::remove_file(rt, part.name.as_str());
+    }
+}

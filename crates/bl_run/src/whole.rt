@@ -1,0 +1,107 @@
+//! Trails that are written whole, and what is left of those that are not kept.
+ghost use Rattle.std.specs.Prelude.{◌≡◌, IfErr, IfOk, None};
+ghost use Rattle.std.specs.Io.KnownBytes.{Appends};
+ghost use Rattle.bl_audit.specs.Written.{trail_text};
+ghost use Rattle.bl_run.specs.Keeping.{IsUnkept};
+
+use crate::fault::ProgramFault;
+use crate::part::PartFile;
+use bl_audit::trail::{TrailFault, write_trail};
+use bl_hall::hall::Hall;
+use bl_host::rest::hand_on_rest;
+use bl_wire::watched::Watched;
+use std::alloc::Global;
+use std::io::{BufWriter, Write};
+
+/// What is left of a trail that was not kept.
+#[derive(Debug, PartialEq, Eq, Drop)]
+pub struct Left {
+    /// The name of the file that has it.
+    pub name: String,
+    /// Whether all of the trail is there; else a first part of it.
+    pub whole: bool,
+}
+
+/// Why a trail was not kept, and what is left of it; nothing where no file could be made for it.
+#[derive(Debug, PartialEq, Eq, Drop)]
+pub struct Unkept {
+    pub fault: ProgramFault,
+    pub left: Option<Left>,
+}
+
+/// A file that has a whole trail. Only `write_whole` makes one, and it may not be dropped: the trail takes its name, or what is left of it is
+/// told.
+pub(crate) struct Whole<F> {
+    name: String,
+    file: F,
+}
+
+impl<F: Drop> Whole<F> {
+    /// The name of the file.
+    pub(crate) fn name(&self) -> &str {
+        self.name.as_str()
+    }
+
+    /// Lets the file go: its trail has its name.
+    pub(crate) fn end(self) {
+        let Whole { name: _, file: _ } = self;
+    }
+
+    /// The trail was not kept for this fault, and is left in its file.
+    pub(crate) fn leave(self, fault: ProgramFault) -> Unkept
+        ensures { result.fault ≡ fault }
+    {
+        let Whole { name, file: _ } = self;
+        let whole = true;
+        Unkept {
+            fault,
+            left: Some(Left { name, whole }),
+        }
+    }
+}
+
+/// The trail was not kept for this fault, and a first part of it is left in the file of this name.
+fn cut_short(name: String, fault: ProgramFault) -> Unkept
+    ensures { result.fault ≡ fault }
+{
+    let whole = false;
+    Unkept {
+        fault,
+        left: Some(Left { name, whole }),
+    }
+}
+
+/// What a fault of the trail's writer is to the program.
+fn of_trail(fault: TrailFault) -> ProgramFault
+    ensures write { fault ≡ TrailFault.Write → result ≡ ProgramFault.CannotWriteTrail }
+    ensures memory { fault ≡ TrailFault.Memory → result ≡ ProgramFault.NoMemory }
+    ensures unkept { IsUnkept result }
+{
+    match fault {
+        TrailFault::Write => ProgramFault::CannotWriteTrail,
+        TrailFault::Memory => ProgramFault::NoMemory,
+    }
+}
+
+/// Writes the trail of a hall to a file. At a fault a first part of it was written, and stays.
+pub(crate) fn write_whole<F: Write + Drop>(
+    alloc: Global,
+    hall: &Hall,
+    part: PartFile<F>,
+) -> Result<Whole<F>, Unkept>
+    ensures text { IfOk result (λ whole. Appends (F.contents part.file) (F.contents whole.file) (trail_text hall.now.setup hall.now.limit hall.now.trail)) }
+    ensures err { IfErr result (λ unkept. IsUnkept unkept.fault) }
+{
+    let PartFile { name, file } = part;
+    let Ok(writer) = BufWriter::new(alloc, file) else {
+        return Err(cut_short(name, ProgramFault::NoMemory));
+    };
+    let mut writer = Watched::new(writer);
+    let written = write_trail(alloc, hall, &mut writer);
+    let rest = hand_on_rest(writer);
+    match (written, rest) {
+        (Ok(()), Some(file)) => Ok(Whole { name, file }),
+        (Ok(()), None) => Err(cut_short(name, ProgramFault::CannotWriteTrail)),
+        (Err(fault), _) => Err(cut_short(name, of_trail(fault))),
+    }
+}
