@@ -2,29 +2,56 @@
 use Rattle.std.specs.Prelude.{Some, codes, true, pos, [], ◌∷◌}
 use Rattle.clap.specs.Walk.{Rule}
 use Rattle.clap.specs.Simple.{App, new_app, new_rule, on_top, with_rule, with_subcommand}
-use Rattle.clap.specs.declared.builder.action.ArgAction.TheVariants.{Set}
+use Rattle.clap.specs.declared.builder.action.ArgAction.TheVariants.{Set, SetTrue}
 use Rattle.clap.specs.declared.builder.value_parser.ValueParser.TheVariants.{Signed}
 
 -- `--setup` has to be given, and takes any text
 abbrev pub setup_rule : Rule
-setup_rule = record (new_rule (codes "setup")) { long = Some (codes "setup"); required = true; action = Some Set }
+setup_rule = record (new_rule (codes "setup")) {
+  long = Some (codes "setup");
+  required = true;
+  action = Some Set;
+  value_names = 1;
+}
 
 -- `--limit` takes a number from 1 to 100,000, and without it the number is 10,000
 abbrev pub limit_rule : Rule
 limit_rule = record (new_rule (codes "limit")) {
   long = Some (codes "limit");
   action = Some Set;
+  value_names = 1;
   parser = Some (Signed (pos 1) (pos 100000));
   defaults = codes "10000" ∷ [];
 }
 
 -- the command `alone` has both
-abbrev pub alone_app : App
-alone_app = with_rule (with_rule (new_app (codes "alone")) setup_rule) limit_rule
+abbrev pub session_app : App
+session_app = with_rule (with_rule (new_app (codes "alone")) setup_rule) limit_rule
 
 -- `--trail` has to be given, and takes any text
 abbrev pub trail_rule : Rule
-trail_rule = record (new_rule (codes "trail")) { long = Some (codes "trail"); required = true; action = Some Set }
+trail_rule = record (new_rule (codes "trail")) {
+  long = Some (codes "trail");
+  required = true;
+  action = Some Set;
+  value_names = 1;
+}
+
+-- `--trail` of `alone` may be left out, and takes any text
+abbrev pub kept_trail_rule : Rule
+kept_trail_rule = record (new_rule (codes "trail")) { long = Some (codes "trail"); action = Some Set; value_names = 1 }
+
+-- `--replace` may be given, and takes nothing
+abbrev pub replace_rule : Rule
+replace_rule = record (new_rule (codes "replace")) { long = Some (codes "replace"); action = Some SetTrue }
+
+-- `--claim-trail` may be given, and takes nothing
+abbrev pub claim_rule : Rule
+claim_rule = record (new_rule (codes "claim-trail")) { long = Some (codes "claim-trail"); action = Some SetTrue }
+
+-- and it may have a trail, with what is said of it
+abbrev pub alone_app : App
+alone_app = with_rule (with_rule (with_rule session_app kept_trail_rule) replace_rule) claim_rule
 
 -- `--port` has to be given, a number from 1 to 65,535
 abbrev pub port_rule : Rule
@@ -32,6 +59,7 @@ port_rule = record (new_rule (codes "port")) {
   long = Some (codes "port");
   required = true;
   action = Some Set;
+  value_names = 1;
   parser = Some (Signed (pos 1) (pos 65535));
 }
 
@@ -40,6 +68,7 @@ abbrev pub workers_rule : Rule
 workers_rule = record (new_rule (codes "workers")) {
   long = Some (codes "workers");
   action = Some Set;
+  value_names = 1;
   parser = Some (Signed (pos 1) (pos 16));
   defaults = codes "2" ∷ [];
 }
@@ -49,6 +78,7 @@ abbrev pub threads_rule : Rule
 threads_rule = record (new_rule (codes "session-threads")) {
   long = Some (codes "session-threads");
   action = Some Set;
+  value_names = 1;
   parser = Some (Signed (pos 1) (pos 16));
   defaults = codes "2" ∷ [];
 }
@@ -58,6 +88,7 @@ abbrev pub sessions_rule : Rule
 sessions_rule = record (new_rule (codes "sessions")) {
   long = Some (codes "sessions");
   action = Some Set;
+  value_names = 1;
   parser = Some (Signed (pos 1) (pos 1000));
   defaults = codes "1" ∷ [];
 }
@@ -71,8 +102,12 @@ abbrev pub crews_app : App
 crews_app = with_rule (with_rule places_app workers_rule) threads_rule
 
 -- and the number of sessions, and a limit
+abbrev pub counts_app : App
+counts_app = with_rule (with_rule crews_app sessions_rule) limit_rule
+
+-- and what is said of its trail
 abbrev pub serve_app : App
-serve_app = with_rule (with_rule crews_app sessions_rule) limit_rule
+serve_app = with_rule (with_rule counts_app replace_rule) claim_rule
 
 -- the command `replay` has a setup and a trail
 abbrev pub replay_app : App

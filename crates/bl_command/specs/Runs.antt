@@ -1,8 +1,12 @@
 -- How a run of a command ends.
-use Rattle.std.specs.Prelude.{ℕ, List, Result, Ok, Err}
+use Rattle.std.specs.Prelude.{◌≡◌, ◌⊎◌, ℕ, List, Some, None, Result, Ok, Err}
 use Rattle.std.specs.Io.KnownBytes.{Keeps}
 use Rattle.bl_run.specs.declared.fault.ProgramFault.{ProgramFault}
-use Rattle.bl_run.specs.declared.fault.ProgramFault.TheVariants.{CannotListen}
+use Rattle.bl_run.specs.declared.fault.ProgramFault.TheVariants.{CannotListen, CannotWriteTrail, NoMemory}
+use Rattle.clap.specs.declared.error.kind.ErrorKind.{ErrorKind}
+use Rattle.clap.specs.declared.error.kind.ErrorKind.TheVariants.{DisplayHelp, DisplayVersion}
+use Rattle.bl_wire.specs.Watch.{Use}
+use Rattle.bl_command.specs.Status.{status_for}
 use Rattle.bl_run.specs.Runs.{HasTold, IsReplayOn, IsRun, Run}
 use Rattle.bl_command.specs.declared.command.Command.{Command}
 use Rattle.bl_command.specs.declared.command.Command.TheVariants.{Alone, Serve, Replay}
@@ -13,15 +17,29 @@ pub record IsReplay (setup trail : List ℕ) (run : Run) : Type 0 where
   pub ends : IsReplayOn setup trail run.status run.output run.errors
   pub unread : Keeps run.input.before run.input.after
 
--- a run of this command, after its files had these bytes; without a listener nothing can be served over TCP
+-- the fault was told, and nothing was read or written
+abbrev pub HasOnlyTold : ProgramFault → Run → Type 0
+HasOnlyTold fault run = HasTold fault run.status run.errors × Keeps run.input.before run.input.after × Keeps run.output.before run.output.after
+
+-- a run of this command, after its files had these bytes; without a listener nothing can be served over TCP, and without files no trail kept
 abbrev pub IsRunOf : Command → Files → Run → Type 0
-IsRunOf (Alone path limit) files run = IsRun files.setup.items limit run
-IsRunOf (Serve path limit hosting) files run =
-    HasTold CannotListen run.status run.errors × Keeps run.input.before run.input.after × Keeps run.output.before run.output.after
+IsRunOf (Alone path limit None) files run = IsRun files.setup.items limit run
+IsRunOf (Alone path limit (Some trail)) files run = HasOnlyTold CannotWriteTrail run
+IsRunOf (Serve path hosting) files run = HasOnlyTold CannotListen run
 IsRunOf (Replay path name) files run = IsReplay files.setup.items files.trail.items run
 
 -- a run of this command, where its files have these bytes, or could not be read for this fault
 abbrev pub IsRunAfter : Command → Result Files ProgramFault → Run → Type 0
 IsRunAfter command (Ok files) run = IsRunOf command files run
-IsRunAfter command (Err fault) run =
-    HasTold fault run.status run.errors × Keeps run.input.before run.input.after × Keeps run.output.before run.output.after
+IsRunAfter command (Err fault) run = HasOnlyTold fault run
+
+-- what is shown stands on one end alone: help and the version on the output, and anything else on standard error
+abbrev pub IsShown : ErrorKind → Use → Use → Type 0
+IsShown DisplayHelp output errors = Keeps errors.before errors.after
+IsShown DisplayVersion output errors = Keeps errors.before errors.after
+IsShown _ output errors = Keeps output.before output.after
+
+-- Words that name no command. Help and the version are shown on the output, and anything else on standard error, and nothing on the other; or a
+-- growth was refused, which alone is told.
+pub record IsRefused (kind : ErrorKind) (status : ℕ) (output errors : Use) : Type 0 where
+  pub why : ((status ≡ status_for kind) × IsShown kind output errors) ⊎ (HasTold NoMemory status errors × Keeps output.before output.after)

@@ -1,5 +1,5 @@
 -- What the words of a command line name.
-use Rattle.std.specs.Prelude.{◌≡◌, ◌≤◌, ℕ, List, Option, Some, None, codes}
+use Rattle.std.specs.Prelude.{◌≡◌, ◌≤◌, ℕ, Bool, true, false, List, Option, Some, None, codes}
 use Rattle.std.specs.Str.Parse.{IsNumeral, digits_value, without_leading_plus}
 use Rattle.clap.specs.Matches.{found_of, first_value, one_text}
 use Rattle.clap.specs.Faults.{fault_of}
@@ -7,6 +7,7 @@ use Rattle.clap.specs.Kinds.{Kinds}
 use Rattle.clap.specs.Simple.{subcommand_of, subcommand_rows_of}
 use Rattle.clap.specs.Walk.{Row, rows_of}
 use Rattle.clap.specs.declared.parser.matches.ArgMatches.{ArgMatches}
+use Rattle.bl_run.specs.declared.part.TrailFile.{TrailFile}
 use Rattle.bl_command.specs.CommandLine.{server_app}
 use Rattle.bl_command.specs.declared.command.Command.{Command}
 use Rattle.bl_command.specs.declared.command.Hosting.{Hosting}
@@ -14,6 +15,7 @@ use Rattle.bl_command.specs.declared.command.Command.TheVariants.{Alone, Serve, 
 
 -- each number of what is hosted is in its range
 pub record IsHostingInRange (hosting : Hosting) : Type 0 where
+  pub limit : (1 ≤ hosting.limit) × (hosting.limit ≤ 100000)
   pub port : (1 ≤ hosting.port) × (hosting.port ≤ 65535)
   pub workers : (1 ≤ hosting.workers) × (hosting.workers ≤ 16)
   pub threads : (1 ≤ hosting.session_threads) × (hosting.session_threads ≤ 16)
@@ -21,8 +23,8 @@ pub record IsHostingInRange (hosting : Hosting) : Type 0 where
 
 -- each number is in its range
 abbrev pub IsInRange : Command → Type 0
-IsInRange (Alone setup limit) = (1 ≤ limit) × (limit ≤ 100000)
-IsInRange (Serve setup limit hosting) = (1 ≤ limit) × (limit ≤ 100000) × IsHostingInRange hosting
+IsInRange (Alone setup limit trail) = (1 ≤ limit) × (limit ≤ 100000)
+IsInRange (Serve setup hosting) = IsHostingInRange hosting
 IsInRange (Replay setup trail) = Unit {0}
 
 -- the text is a decimal numeral, before which a plus may stand, and this is the number that it writes
@@ -35,38 +37,65 @@ HasNumber options name n = (text : List ℕ) × (one_text (found_of options) nam
 
 -- the name of a command's setup file
 abbrev pub setup_of : Command → List ℕ
-setup_of (Alone setup limit) = setup.now
-setup_of (Serve setup limit hosting) = setup.now
+setup_of (Alone setup limit trail) = setup.now
+setup_of (Serve setup hosting) = setup.now
 setup_of (Replay setup trail) = setup.now
 
 -- the name of the trail file that a command reads
 abbrev pub read_trail_of : Command → Option (List ℕ)
-read_trail_of (Alone setup limit) = None
-read_trail_of (Serve setup limit hosting) = None
+read_trail_of (Alone setup limit trail) = None
+read_trail_of (Serve setup hosting) = None
 read_trail_of (Replay setup trail) = Some trail.now
 
 -- the word for a command
 abbrev pub word_of : Command → List ℕ
-word_of (Alone setup limit) = codes "alone"
-word_of (Serve setup limit hosting) = codes "serve"
+word_of (Alone setup limit trail) = codes "alone"
+word_of (Serve setup hosting) = codes "serve"
 word_of (Replay setup trail) = codes "replay"
+
+-- the flag of this name was given, or was not
+pub record HasFlag (options : ArgMatches) (name : List ℕ) (given : Bool) : Type 0 where
+  pub yes : one_text (found_of options) name ≡ Some (codes "true") → given ≡ true
+  pub no : one_text (found_of options) name ≡ Some (codes "false") → given ≡ false
+  pub none : one_text (found_of options) name ≡ None → given ≡ false
+
+-- the trail file has this name, and what the options say of it
+pub record HasTrailFile (options : ArgMatches) (name : List ℕ) (file : TrailFile) : Type 0 where
+  pub name_is : file.name.now ≡ name
+  pub replaces : HasFlag options (codes "replace") file.replaces
+  pub claims : HasFlag options (codes "claim-trail") file.claims
+
+-- the options name this trail file, or none
+abbrev pub HasTrail : ArgMatches → Option TrailFile → Type 0
+HasTrail options None = first_value (found_of options) (codes "trail") ≡ None
+HasTrail options (Some file) = (name : List ℕ) × (first_value (found_of options) (codes "trail") ≡ Some name) × HasTrailFile options name file
 
 -- the options of `serve` say this of its sessions and its trail
 pub record HasHosting (options : ArgMatches) (hosting : Hosting) : Type 0 where
+  pub limit : HasNumber options (codes "limit") hosting.limit
   pub port : HasNumber options (codes "port") hosting.port
-  pub trail : first_value (found_of options) (codes "trail") ≡ Some hosting.trail.now
+  pub trail : HasTrail options (Some hosting.trail)
   pub workers : HasNumber options (codes "workers") hosting.workers
   pub threads : HasNumber options (codes "session-threads") hosting.session_threads
   pub sessions : HasNumber options (codes "sessions") hosting.sessions
 
 -- the options of a command are these
 abbrev pub HasOptions : ArgMatches → Command → Type 0
-HasOptions options (Alone setup limit) =
-    (first_value (found_of options) (codes "setup") ≡ Some setup.now) × HasNumber options (codes "limit") limit
-HasOptions options (Serve setup limit hosting) =
-    (first_value (found_of options) (codes "setup") ≡ Some setup.now) × HasNumber options (codes "limit") limit × HasHosting options hosting
+HasOptions options (Alone setup limit trail) =
+    (first_value (found_of options) (codes "setup") ≡ Some setup.now) × HasNumber options (codes "limit") limit × HasTrail options trail
+HasOptions options (Serve setup hosting) =
+    (first_value (found_of options) (codes "setup") ≡ Some setup.now) × HasHosting options hosting
 HasOptions options (Replay setup trail) =
     (first_value (found_of options) (codes "setup") ≡ Some setup.now) × (first_value (found_of options) (codes "trail") ≡ Some trail.now)
+
+-- the command has this word and these options
+pub record IsOfOptions (word : List ℕ) (options : ArgMatches) (command : Command) : Type 0 where
+  pub word_is : word_of command ≡ word
+  pub has : HasOptions options command
+
+-- no command with this word has these options, and its numbers in their ranges
+abbrev pub HasNoCommand : List ℕ → ArgMatches → Type 0
+HasNoCommand word options = (command : Command) → IsOfOptions word options command → IsInRange command → ⊥
 
 -- a subcommand's word and what was found of its options are those of the command
 abbrev pub IsEntered : Option (List ℕ × List Row) → Command → Type 0
@@ -84,6 +113,10 @@ entered_by words = subcommand_of server_app words
 -- the words name the command
 abbrev pub Name : List (List ℕ) → Command → Type 0
 Name words command = IsEntered (entered_by words) command
+
+-- the words name no command whose numbers are in their ranges
+abbrev pub NameNone : List (List ℕ) → Type 0
+NameNone words = (command : Command) → Name words command → IsInRange command → ⊥
 
 -- the kinds of error that the program's command line may give at these words; none where they name a command
 unfoldable pub faults_of : List (List ℕ) → Kinds

@@ -1,12 +1,16 @@
 //! The command line.
-ghost use Rattle.std.specs.Prelude.{◌≡◌, ◌≤◌, [], ◌∷◌, false, map, option_copied, string_bytes, IfOk, IfErr, OnOk, IfSome};
-ghost use Rattle.clap.specs.Words.{kind_of, rule_of, app_of, HasKind};
+ghost use Rattle.std.specs.Prelude.{◌≡◌, ◌≤◌, ◌⊎◌, ℕ, [], ◌∷◌, false, codes, map, option_copied, string_bytes, IfErr, IfNone, IfOk, IfSome, OnOk};
+ghost use Rattle.clap.specs.Kinds.{HasKind};
+ghost use Rattle.clap.specs.Words.{kind_of, rule_of, app_of};
 ghost use Rattle.clap.specs.declared.builder.command.Command.TheViews.{out-Command as fields_of};
-ghost use Rattle.bl_command.specs.CommandLine.{setup_rule, limit_rule, trail_rule, port_rule, workers_rule, threads_rule, sessions_rule, alone_app, places_app, crews_app, serve_app, replay_app, root_app, server_app};
+ghost use Rattle.bl_command.specs.CommandLine.{setup_rule, limit_rule, trail_rule, kept_trail_rule, replace_rule, claim_rule, port_rule, workers_rule, threads_rule, sessions_rule, session_app, alone_app, places_app, crews_app, counts_app, serve_app, replay_app, root_app, server_app};
 ghost use Rattle.bl_run.specs.Status.{IsStatus};
 ghost use Rattle.bl_command.specs.Status.{status_for};
-ghost use Rattle.bl_command.specs.Words.{HasHosting, HasNumber, IsHostingInRange, IsInRange, IsOf, Name, faults_of, setup_of, read_trail_of};
+ghost use Rattle.bl_command.specs.Words.{HasHosting, HasNoCommand, HasNumber, HasTrail, HasTrailFile, IsHostingInRange, IsInRange, IsOf, IsOfOptions, Name, NameNone, faults_of, setup_of, read_trail_of};
+ghost use Rattle.bl_command.specs.declared.command.Command.{Command as AnyCommand};
+ghost use Rattle.bl_command.specs.declared.command.Hosting.{Hosting as AnyHosting};
 
+use bl_run::part::TrailFile;
 use clap::error::ErrorKind;
 use clap::{Arg, ArgAction, ArgMatches, Command as Parser, Error, value_parser};
 use std::alloc::{AllocError, Global};
@@ -14,10 +18,12 @@ use std::alloc::{AllocError, Global};
 /// What a run of `serve` hosts, and where it keeps the trail.
 #[derive(Clone, Copy, Debug)]
 pub struct Hosting<'a> {
+    /// The weight of the lines that are admitted at most, 1 to 100,000.
+    pub limit: u32,
     /// The port that is listened on, 1 to 65,535.
     pub port: u32,
-    /// The name of the trail file.
-    pub trail: &'a str,
+    /// Where the trail is kept.
+    pub trail: TrailFile<'a>,
     /// How many workers there are, 1 to 16.
     pub workers: u32,
     /// How many session threads there are, 1 to 16.
@@ -35,13 +41,13 @@ pub enum Command<'a> {
         setup: &'a str,
         /// The weight of the lines that are admitted at most, 1 to 100,000.
         limit: u32,
+        /// Where the trail is kept; `None` where it is not.
+        trail: Option<TrailFile<'a>>,
     },
     /// Sessions over TCP on 127.0.0.1.
     Serve {
         /// The name of the setup file.
         setup: &'a str,
-        /// The weight of the lines that are admitted at most, 1 to 100,000.
-        limit: u32,
         /// What is hosted.
         hosting: Hosting<'a>,
     },
@@ -66,6 +72,16 @@ const MOST_THREADS: u32 = 16;
 /// How many sessions are taken in one run at most.
 const MOST_SESSIONS: u32 = 1000;
 
+/// What help says behind the options.
+const MORE: &str = "Exit status:\n  \
+    0  done; lines that are refused or denied do not change it\n  \
+    1  the trail was rejected\n  \
+    2  bad arguments\n  \
+    3  a fault of a file, of the port, of the input or output, or of a worker\n  \
+    4  out of memory, or a thread could not be started\n\n\
+    `alone` reads its session from standard input and writes its replies to standard output.\n\
+    The repository's docs/FORMATS.md describes the lines of a session, the setup file and the trail.";
+
 fn setup_option<'a>(alloc: Global) -> Arg<'a>
     ensures rule { rule_of result ≡ setup_rule }
     ensures own { result.global ≡ false }
@@ -74,6 +90,7 @@ fn setup_option<'a>(alloc: Global) -> Arg<'a>
         .long("setup")
         .required(true)
         .action(ArgAction::Set)
+        .value_name("FILE")
         .help("The setup file")
 }
 
@@ -86,6 +103,7 @@ fn limit_option<'a>(alloc: Global) -> Arg<'a>
         .action(ArgAction::Set)
         .value_parser(value_parser!(u32).range(1..=100_000))
         .default_value("10000")
+        .value_name("N")
         .help("The weight of the lines that are admitted, 1 to 100000")
 }
 
@@ -97,7 +115,40 @@ fn trail_option<'a>(alloc: Global) -> Arg<'a>
         .long("trail")
         .required(true)
         .action(ArgAction::Set)
+        .value_name("FILE")
         .help("The trail file")
+}
+
+/// `--trail` of a command that keeps a trail where it is asked to.
+fn kept_trail_option<'a>(alloc: Global) -> Arg<'a>
+    ensures rule { rule_of result ≡ kept_trail_rule }
+    ensures own { result.global ≡ false }
+{
+    Arg::new(alloc, "trail")
+        .long("trail")
+        .action(ArgAction::Set)
+        .value_name("FILE")
+        .help("The trail file; without it no trail is kept")
+}
+
+fn replace_option<'a>(alloc: Global) -> Arg<'a>
+    ensures rule { rule_of result ≡ replace_rule }
+    ensures own { result.global ≡ false }
+{
+    Arg::new(alloc, "replace")
+        .long("replace")
+        .action(ArgAction::SetTrue)
+        .help("Lets an old trail of that name be replaced")
+}
+
+fn claim_option<'a>(alloc: Global) -> Arg<'a>
+    ensures rule { rule_of result ≡ claim_rule }
+    ensures own { result.global ≡ false }
+{
+    Arg::new(alloc, "claim-trail")
+        .long("claim-trail")
+        .action(ArgAction::SetTrue)
+        .help("Makes the trail file first, and ends at once where that fails")
 }
 
 fn port_option<'a>(alloc: Global) -> Arg<'a>
@@ -109,6 +160,7 @@ fn port_option<'a>(alloc: Global) -> Arg<'a>
         .required(true)
         .action(ArgAction::Set)
         .value_parser(value_parser!(u32).range(1..=65_535))
+        .value_name("N")
         .help("The port that is listened on, 1 to 65535")
 }
 
@@ -121,6 +173,7 @@ fn workers_option<'a>(alloc: Global) -> Arg<'a>
         .action(ArgAction::Set)
         .value_parser(value_parser!(u32).range(1..=16))
         .default_value("2")
+        .value_name("N")
         .help("How many workers there are, 1 to 16")
 }
 
@@ -133,6 +186,7 @@ fn threads_option<'a>(alloc: Global) -> Arg<'a>
         .action(ArgAction::Set)
         .value_parser(value_parser!(u32).range(1..=16))
         .default_value("2")
+        .value_name("N")
         .help("How many threads serve sessions, 1 to 16")
 }
 
@@ -145,17 +199,30 @@ fn sessions_option<'a>(alloc: Global) -> Arg<'a>
         .action(ArgAction::Set)
         .value_parser(value_parser!(u32).range(1..=1000))
         .default_value("1")
+        .value_name("N")
         .help("How many sessions are taken, 1 to 1000")
+}
+
+/// The command `alone`, with what it has to be given and its limit.
+fn session_parser<'a>(alloc: Global) -> Result<Parser<'a>, AllocError>
+    ensures app { IfOk result (λ parser. app_of parser ≡ session_app) }
+    ensures own { IfOk result (λ parser. (fields_of parser).has_globals ≡ false) }
+{
+    Parser::new(alloc, "alone")
+        .about("One session on standard input and output")
+        .after_help(MORE)
+        .arg(setup_option(alloc))?
+        .arg(limit_option(alloc))
 }
 
 fn alone_parser<'a>(alloc: Global) -> Result<Parser<'a>, AllocError>
     ensures app { IfOk result (λ parser. app_of parser ≡ alone_app) }
     ensures own { IfOk result (λ parser. (fields_of parser).has_globals ≡ false) }
 {
-    Parser::new(alloc, "alone")
-        .about("One session on standard input and output")
-        .arg(setup_option(alloc))?
-        .arg(limit_option(alloc))
+    session_parser(alloc)?
+        .arg(kept_trail_option(alloc))?
+        .arg(replace_option(alloc))?
+        .arg(claim_option(alloc))
 }
 
 /// The command `serve`, with what it has to be given.
@@ -165,6 +232,7 @@ fn places_parser<'a>(alloc: Global) -> Result<Parser<'a>, AllocError>
 {
     Parser::new(alloc, "serve")
         .about("Sessions over TCP on 127.0.0.1")
+        .after_help(MORE)
         .arg(setup_option(alloc))?
         .arg(port_option(alloc))?
         .arg(trail_option(alloc))
@@ -180,13 +248,23 @@ fn crews_parser<'a>(alloc: Global) -> Result<Parser<'a>, AllocError>
         .arg(threads_option(alloc))
 }
 
-fn serve_parser<'a>(alloc: Global) -> Result<Parser<'a>, AllocError>
-    ensures app { IfOk result (λ parser. app_of parser ≡ serve_app) }
+/// The same, with the numbers of its sessions and of their weight.
+fn counts_parser<'a>(alloc: Global) -> Result<Parser<'a>, AllocError>
+    ensures app { IfOk result (λ parser. app_of parser ≡ counts_app) }
     ensures own { IfOk result (λ parser. (fields_of parser).has_globals ≡ false) }
 {
     crews_parser(alloc)?
         .arg(sessions_option(alloc))?
         .arg(limit_option(alloc))
+}
+
+fn serve_parser<'a>(alloc: Global) -> Result<Parser<'a>, AllocError>
+    ensures app { IfOk result (λ parser. app_of parser ≡ serve_app) }
+    ensures own { IfOk result (λ parser. (fields_of parser).has_globals ≡ false) }
+{
+    counts_parser(alloc)?
+        .arg(replace_option(alloc))?
+        .arg(claim_option(alloc))
 }
 
 fn replay_parser<'a>(alloc: Global) -> Result<Parser<'a>, AllocError>
@@ -195,6 +273,7 @@ fn replay_parser<'a>(alloc: Global) -> Result<Parser<'a>, AllocError>
 {
     Parser::new(alloc, "replay")
         .about("The verdict on a trail")
+        .after_help(MORE)
         .arg(setup_option(alloc))?
         .arg(trail_option(alloc))
 }
@@ -206,6 +285,7 @@ fn root_parser<'a>(alloc: Global) -> Result<Parser<'a>, AllocError>
     Parser::new(alloc, "bl_server")
         .version("0.1.0")
         .about("A document server that enforces Bell and La Padula")
+        .after_help(MORE)
         .subcommand_required(true)
         .subcommand(alone_parser(alloc)?)
 }
@@ -222,6 +302,7 @@ fn parser<'a>(alloc: Global) -> Result<Parser<'a>, AllocError>
 fn number(found: &ArgMatches<'_>, name: &str, most: u32) -> Option<u32>
     ensures range { IfSome result (λ n. (1 ≤ n) × (n ≤ most)) }
     ensures written { IfSome result (HasNumber found.now name.now) }
+    ensures none { IfNone result ((n : ℕ) → HasNumber found.now name.now n → 1 ≤ n → n ≤ most → ⊥) }
 {
     let number = found.get_one::<u32>(name)?;
     if number < 1 || number > most {
@@ -230,17 +311,41 @@ fn number(found: &ArgMatches<'_>, name: &str, most: u32) -> Option<u32>
     Some(number)
 }
 
+/// The file of this name, with what the options say of it.
+fn trail_file<'a>(options: &ArgMatches<'_>, name: &'a str) -> TrailFile<'a>
+    ensures { HasTrailFile options.now name.entry.now result }
+{
+    TrailFile {
+        name,
+        replaces: options.get_flag("replace"),
+        claims: options.get_flag("claim-trail"),
+    }
+}
+
+/// The trail file that the options name; `None` where they name none.
+fn trail_of<'a>(options: &ArgMatches<'a>) -> Option<TrailFile<'a>>
+    ensures { HasTrail options.now result }
+{
+    match options.get_str("trail") {
+        Some(name) => Some(trail_file(options, name)),
+        None => None,
+    }
+}
+
 /// What the options of `serve` say of its sessions and its trail.
 fn hosting_of<'a>(options: &ArgMatches<'a>) -> Option<Hosting<'a>>
     ensures range { IfSome result IsHostingInRange }
     ensures written { IfSome result (HasHosting options.now) }
+    ensures none { IfNone result ((hosting : AnyHosting) → HasHosting options.now hosting → IsHostingInRange hosting → ⊥) }
 {
+    let limit = number(options, "limit", MOST_LIMIT)?;
     let port = number(options, "port", MOST_PORT)?;
-    let trail = options.get_str("trail")?;
+    let trail = trail_of(options)?;
     let workers = number(options, "workers", MOST_THREADS)?;
     let session_threads = number(options, "session-threads", MOST_THREADS)?;
     let sessions = number(options, "sessions", MOST_SESSIONS)?;
     Some(Hosting {
+        limit,
         port,
         trail,
         workers,
@@ -249,33 +354,55 @@ fn hosting_of<'a>(options: &ArgMatches<'a>) -> Option<Hosting<'a>>
     })
 }
 
+/// The command `alone` with these options.
+fn alone_of<'a>(options: &ArgMatches<'a>) -> Option<Command<'a>>
+    ensures range { IfSome result IsInRange }
+    ensures written { IfSome result (IsOfOptions (codes "alone") options.now) }
+    ensures none { IfNone result (HasNoCommand (codes "alone") options.now) }
+{
+    let setup = options.get_str("setup")?;
+    let limit = number(options, "limit", MOST_LIMIT)?;
+    let trail = trail_of(options);
+    Some(Command::Alone {
+        setup,
+        limit,
+        trail,
+    })
+}
+
+/// The command `serve` with these options.
+fn serve_of<'a>(options: &ArgMatches<'a>) -> Option<Command<'a>>
+    ensures range { IfSome result IsInRange }
+    ensures written { IfSome result (IsOfOptions (codes "serve") options.now) }
+    ensures none { IfNone result (HasNoCommand (codes "serve") options.now) }
+{
+    let setup = options.get_str("setup")?;
+    let hosting = hosting_of(options)?;
+    Some(Command::Serve { setup, hosting })
+}
+
+/// The command `replay` with these options.
+fn replay_of<'a>(options: &ArgMatches<'a>) -> Option<Command<'a>>
+    ensures range { IfSome result IsInRange }
+    ensures written { IfSome result (IsOfOptions (codes "replay") options.now) }
+    ensures none { IfNone result (HasNoCommand (codes "replay") options.now) }
+{
+    let setup = options.get_str("setup")?;
+    let trail = options.get_str("trail")?;
+    Some(Command::Replay { setup, trail })
+}
+
 /// The command that the matches name, where they are matches of `parser`.
 fn command_of<'a>(found: &ArgMatches<'a>) -> Option<Command<'a>>
     ensures range { IfSome result IsInRange }
     ensures written { IfSome result (IsOf found.now) }
+    ensures none { IfNone result ((command : AnyCommand) → IsOf found.now command → IsInRange command → ⊥) }
 {
     let (name, options) = found.subcommand()?;
     match name {
-        "alone" => {
-            let setup = options.get_str("setup")?;
-            let limit = number(options, "limit", MOST_LIMIT)?;
-            Some(Command::Alone { setup, limit })
-        }
-        "serve" => {
-            let setup = options.get_str("setup")?;
-            let limit = number(options, "limit", MOST_LIMIT)?;
-            let hosting = hosting_of(options)?;
-            Some(Command::Serve {
-                setup,
-                limit,
-                hosting,
-            })
-        }
-        "replay" => {
-            let setup = options.get_str("setup")?;
-            let trail = options.get_str("trail")?;
-            Some(Command::Replay { setup, trail })
-        }
+        "alone" => alone_of(options),
+        "serve" => serve_of(options),
+        "replay" => replay_of(options),
         _ => None,
     }
 }
@@ -310,7 +437,9 @@ pub fn read_words<'a>(alloc: Global, words: &'a [String]) -> Result<Command<'a>,
     ensures range { IfOk result IsInRange }
     ensures written { IfOk result (Name (map (λ word. string_bytes word) words.entry.now)) }
     ensures faultless { OnOk result (faults_of (map (λ word. string_bytes word) words.entry.now) ≡ []) }
-    ensures faults { IfErr result (HasKind (ErrorKind.InvalidValue ∷ faults_of (map (λ word. string_bytes word) words.entry.now))) }
+    // Words that were parsed and not read name no command with its numbers in their ranges.
+    ensures faults { IfErr result (λ error. HasKind (faults_of (map (λ word. string_bytes word) words.entry.now)) error
+        ⊎ ((kind_of error ≡ ErrorKind.InvalidValue) × NameNone (map (λ word. string_bytes word) words.entry.now))) }
 {
     let matches = parser(alloc)?.try_get_matches_from(words)?;
     match command_of(&matches) {

@@ -2,9 +2,11 @@
 //!
 //!     command    the command line
 //!     run        a run over the ends that it is given
+//!     files      the files that a command reads
 //!     shell      what the program takes from the system
 #![tactic(auto)]
 
 pub mod command;
+pub mod files;
 pub mod run;
 pub mod shell;

@@ -1,11 +1,10 @@
 //! A run of the program over the ends that it is given: its input, its output and standard error.
-ghost use Rattle.std.specs.Prelude.{◌≡◌, ◌≢◌, ◌⊎◌, false, IfOk, IfErr};
+ghost use Rattle.std.specs.Prelude.{◌≡◌, ◌≢◌, false, IfOk, IfErr};
 ghost use Rattle.std.specs.IoError.{error_kind};
 ghost use Rattle.clap.specs.Words.{kind_of};
 ghost use Rattle.bl_wire.specs.Watch.{used};
 ghost use Rattle.bl_run.specs.Status.{IsStatus};
-ghost use Rattle.bl_command.specs.Runs.{IsRunAfter, IsRunOf};
-ghost use Rattle.bl_command.specs.Status.{status_for};
+ghost use Rattle.bl_command.specs.Runs.{IsRefused, IsRunAfter, IsRunOf};
 
 use crate::command::{Command, status_of};
 use bl_run::alone::alone_on;
@@ -27,7 +26,8 @@ pub struct Files {
     pub trail: Vec<u8>,
 }
 
-/// A run of a command over its files. The result is the status of the run. There is no listener, so `serve` cannot listen.
+/// A run of a command over its files. The result is the status of the run. There is no listener here, so `serve` cannot listen, and no place for a
+/// file, so a trail cannot be kept.
 fn run_over<R: BufRead, W: Write, E: Write>(
     alloc: Global,
     command: &Command<'_>,
@@ -48,9 +48,12 @@ fn run_over<R: BufRead, W: Write, E: Write>(
     }) }
 {
     match command {
-        Command::Alone { limit, .. } => {
-            alone_on(alloc, &files.setup, *limit, reader, writer, errors)
-        }
+        Command::Alone {
+            limit,
+            trail: None,
+            ..
+        } => alone_on(alloc, &files.setup, *limit, reader, writer, errors),
+        Command::Alone { trail: Some(_), .. } => tell(errors, &ProgramFault::CannotWriteTrail),
         Command::Serve { .. } => tell(errors, &ProgramFault::CannotListen),
         Command::Replay { .. } => replay_on(alloc, &files.setup, &files.trail, writer, errors),
     }
@@ -93,7 +96,7 @@ fn refuse<W: Write, E: Write>(
 ) -> u8
     requires writer { writer.old.failed ≡ false }
     requires errors { errors.old.failed ≡ false }
-    ensures refused { (result ≡ status_for (kind_of error.now)) ⊎ (result ≡ 4) }
+    ensures refused { IsRefused (kind_of error.now) result (used W.contents writer.old writer.new) (used E.contents errors.old errors.new) }
     ensures status { IsStatus result }
 {
     let status = status_of(error);
@@ -101,11 +104,11 @@ fn refuse<W: Write, E: Write>(
         Ok(text) if status != 4 => text,
         _ => return tell(errors, &ProgramFault::NoMemory),
     };
-    let _shown = if error.use_stderr() {
-        put_out(errors, text.as_bytes())
+    if error.use_stderr() {
+        put_out(errors, text.as_bytes());
     } else {
-        put_out(writer, text.as_bytes())
-    };
+        put_out(writer, text.as_bytes());
+    }
     status
 }
 
@@ -128,7 +131,7 @@ pub fn run_asked<R: BufRead, W: Write, E: Write>(
       output = used W.contents writer.old writer.new;
       errors = used E.contents errors.old errors.new;
     })) }
-    ensures refused { IfErr asked.entry (λ error. (result ≡ status_for (kind_of error)) ⊎ (result ≡ 4)) }
+    ensures refused { IfErr asked.entry (λ error. IsRefused (kind_of error) result (used W.contents writer.old writer.new) (used E.contents errors.old errors.new)) }
     ensures status { IsStatus result }
 {
     match asked {

@@ -1,30 +1,32 @@
 //! What the program takes from the system: its words, its files and its ends.
-ghost use Rattle.std.specs.Prelude.{◌≡◌, ◌≢◌, ◌+◌, ◌<◌, ◌≤◌, ◌^◌, Err, IfErr, IfOk, IfSome, Ok, length, take};
+ghost use Rattle.std.specs.Prelude.{◌≡◌, ◌≢◌, ◌≤◌, [], ◌∷◌, false, Err, IfErr, IfOk, IsSome, Ok};
 ghost use Rattle.std.specs.IoError.{error_kind};
-ghost use Rattle.bl_run.specs.Status.{IsStatus};
+ghost use Rattle.std.specs.Net.Addr.{ipv4_octets};
+ghost use Rattle.bl_wire.specs.Watch.{used};
+ghost use Rattle.bl_run.specs.AloneKept.{IsAloneKept};
+ghost use Rattle.bl_run.specs.Runs.{HasTold};
+ghost use Rattle.bl_run.specs.Serving.{IsServe};
+ghost use Rattle.bl_run.specs.Status.{IsEnd, IsStatus};
 ghost use Rattle.bl_command.specs.Words.{IsHostingInRange};
 
 use crate::command::{Command, Hosting, read_words};
+use crate::files::{read_files, read_setup_file};
 use crate::run::{Files, run_asked, run_unread};
 use bl_host::options::Options;
+use bl_run::alone::{AloneRun, alone_kept_on};
 use bl_run::fault::{ProgramFault, of_file};
-use bl_run::serve::{Ground, ServeRun, serve_on};
+use bl_run::serve::{Finished, Ground, ServeRun, end_with, serve_on};
 use bl_run::told::tell;
+use bl_wire::put::put_out;
 use bl_wire::watched::Watched;
 use bl_worker::pause::NoPause;
-use std::alloc::Global;
-use std::io::{BufReader, BufWriter, ErrorKind, Read, Write};
+use clap::Error;
+use std::io::{BufRead, BufReader, BufWriter, ErrorKind, IsTerminal, Write};
 use std::net::{Ipv4Addr, Net, TcpListener, TcpStream};
 use std::rt::{Env, Files as OpensFiles};
 use std::sync::Wait;
 use std::thread::Threads;
-use std::{env, fs, io, str};
-
-/// How many bytes a setup file has at most.
-const MOST_SETUP: u64 = 16_777_216;
-
-/// How many bytes a trail file has at most.
-const MOST_TRAIL: u64 = 1_073_741_824;
+use std::{env, io, str};
 
 /// Standard error as a writer of texts.
 #[derive(Drop)]
@@ -54,71 +56,64 @@ fn words_of<R: AllocGlobal + Env>(rt: &R) -> io::Result<Vec<String>> {
     Ok(words)
 }
 
-/// The bytes that a reader gives, and at most one more than `most` of them.
-pub fn read_most<F: Read + Drop>(alloc: Global, file: F, most: u64) -> io::Result<Vec<u8>>
-    requires { most < 2 ^ 32 }
-    ensures { IfOk result (λ bytes. IfSome (F.remaining file) (λ all. bytes.items ≡ take (most + 1) all)) }
+/// Where the program listens: a port of 127.0.0.1, which programs of the same machine alone reach.
+fn address_of(port: u32) -> (Ipv4Addr, u16)
+    requires { port ≤ 65535 }
+    ensures address { ipv4_octets result.0 ≡ 127 ∷ 0 ∷ 0 ∷ 1 ∷ [] }
+    ensures port { result.1 ≡ port }
 {
-    let mut bytes = Vec::new(alloc);
-    file.take(most + 1).read_to_end(&mut bytes)?;
-    Ok(bytes)
+    (Ipv4Addr::new(127, 0, 0, 1), port as u16)
 }
 
-/// The bytes of a file, and at most one more than `most` of them.
-fn read_file<R: AllocGlobal + OpensFiles>(rt: &R, path: &str, most: u64) -> io::Result<Vec<u8>>
-    requires { most < 2 ^ 32 }
+/// What came of listening.
+fn listening(bound: io::Result<TcpListener>) -> Result<TcpListener, ProgramFault>
+    ensures ok { IfOk bound (λ listener. result ≡ Ok listener) }
+    ensures memory { IfErr bound (λ error. error_kind error ≡ ErrorKind.OutOfMemory → result ≡ Err ProgramFault.NoMemory) }
+    ensures other { IfErr bound (λ error. error_kind error ≢ ErrorKind.OutOfMemory → result ≡ Err ProgramFault.CannotListen) }
 {
-    read_most(rt.alloc(), fs::open(rt, path)?, most)
-}
-
-/// What was read of a trail file, of which a byte more than it may have was read where it has one: such a file is not read.
-pub fn read_within(bytes: io::Result<Vec<u8>>, most: u64) -> Result<Vec<u8>, ProgramFault>
-    ensures ok { IfOk result (λ trail. (bytes ≡ Ok trail) × (length trail.items ≤ most)) }
-    ensures long { IfOk bytes (λ all. most < length all.items → result ≡ Err ProgramFault.CannotReadTrail) }
-    ensures memory { IfErr bytes (λ error. error_kind error ≡ ErrorKind.OutOfMemory → result ≡ Err ProgramFault.NoMemory) }
-    ensures other { IfErr bytes (λ error. error_kind error ≢ ErrorKind.OutOfMemory → result ≡ Err ProgramFault.CannotReadTrail) }
-{
-    match bytes {
-        Ok(trail) if trail.len() as u64 <= most => Ok(trail),
-        Ok(_) => Err(ProgramFault::CannotReadTrail),
-        Err(error) => Err(of_file(&error, ProgramFault::CannotReadTrail)),
+    match bound {
+        Ok(listener) => Ok(listener),
+        Err(error) => Err(of_file(&error, ProgramFault::CannotListen)),
     }
-}
-
-/// The bytes of a setup file.
-fn read_setup_file<R: AllocGlobal + OpensFiles>(
-    rt: &R,
-    path: &str,
-) -> Result<Vec<u8>, ProgramFault> {
-    match read_file(rt, path, MOST_SETUP) {
-        Ok(setup) => Ok(setup),
-        Err(error) => Err(of_file(&error, ProgramFault::CannotReadSetup)),
-    }
-}
-
-/// The files that a command reads, in the order in which their faults are told.
-fn read_files<R: AllocGlobal + OpensFiles>(
-    rt: &R,
-    command: &Command<'_>,
-) -> Result<Files, ProgramFault> {
-    let setup = read_setup_file(rt, command.setup())?;
-    let trail = match command.read_trail() {
-        Some(path) => read_within(read_file(rt, path, MOST_TRAIL), MOST_TRAIL)?,
-        None => Vec::new(rt.alloc()),
-    };
-    Ok(Files { setup, trail })
 }
 
 /// A listener on a port of 127.0.0.1.
-fn listen<R: Net<Listener = TcpListener, Stream = TcpStream>>(
+pub fn listen<R: Net<Listener = TcpListener, Stream = TcpStream>>(
     rt: &R,
     port: u32,
 ) -> Result<TcpListener, ProgramFault>
     requires { port ≤ 65535 }
 {
-    match TcpListener::bind(rt, (Ipv4Addr::LOCALHOST, port as u16)) {
-        Ok(listener) => Ok(listener),
-        Err(error) => Err(of_file(&error, ProgramFault::CannotListen)),
+    listening(TcpListener::bind(rt, address_of(port)))
+}
+
+/// How many threads and sessions there are, by what is hosted.
+fn options_of(hosting: &Hosting<'_>) -> Options
+    requires { IsHostingInRange hosting.now }
+    ensures workers { result.workers ≡ hosting.now.workers }
+    ensures threads { result.session_threads ≡ hosting.now.session_threads }
+    ensures sessions { result.sessions ≡ hosting.now.sessions }
+{
+    Options {
+        workers: hosting.workers,
+        session_threads: hosting.session_threads,
+        sessions: hosting.sessions,
+    }
+}
+
+/// What a run of `serve` is asked for, by what is hosted.
+fn run_of<'a>(hosting: &Hosting<'a>) -> ServeRun<'a>
+    requires { IsHostingInRange hosting.now }
+    ensures limit { result.limit ≡ hosting.now.limit }
+    ensures workers { result.options.workers ≡ hosting.now.workers }
+    ensures threads { result.options.session_threads ≡ hosting.now.session_threads }
+    ensures sessions { result.options.sessions ≡ hosting.now.sessions }
+    ensures trail { result.trail ≡ hosting.now.trail }
+{
+    ServeRun {
+        limit: hosting.limit,
+        options: options_of(hosting),
+        trail: hosting.trail,
     }
 }
 
@@ -135,6 +130,34 @@ fn read_and_listen<R: AllocGlobal + OpensFiles + Net<Listener = TcpListener, Str
     Ok((setup, listener))
 }
 
+/// A run of what is hosted, once its setup file was read and its port is listened on, or a fault was found, which is told.
+fn serve_found<R: AllocGlobal + OpensFiles + Threads + Wait + Sync, W: Write, E: Write>(
+    rt: &R,
+    found: Result<(Vec<u8>, TcpListener), ProgramFault>,
+    hosting: &Hosting<'_>,
+    writer: &mut Watched<W>,
+    errors: &mut Watched<E>,
+) -> Finished
+    requires { IsHostingInRange hosting.now }
+    ensures fault { IfErr found (λ fault. HasTold fault result.status (used E.contents errors.old errors.new)) }
+    ensures run { IfOk found (λ both. IsServe both.0.items hosting.now.trail.claims result (used W.contents writer.old writer.new) (used E.contents errors.old errors.new)) }
+    ensures kept { result.status ≡ 0 → IsSome result.kept }
+    ensures status { IsEnd result.status }
+{
+    match found {
+        Ok((setup, listener)) => {
+            let ground = Ground {
+                rt,
+                alloc: rt.alloc(),
+                pause: &NoPause,
+            };
+            let run = run_of(hosting);
+            serve_on(&ground, listener, setup.as_slice(), &run, writer, errors)
+        }
+        Err(fault) => end_with(errors, fault),
+    }
+}
+
 /// A run of the command `serve`. The result is the status of the run.
 fn run_serve<
     R: AllocGlobal
@@ -145,41 +168,97 @@ fn run_serve<
         + Net<Listener = TcpListener, Stream = TcpStream>
         + Sync,
     E: Write,
->(rt: &R, path: &str, limit: u32, hosting: Hosting<'_>, errors: &mut Watched<E>) -> u8
-    requires limit { (1 ≤ limit) × (limit ≤ 100000) }
-    requires hosting { IsHostingInRange hosting }
+>(rt: &R, path: &str, hosting: &Hosting<'_>, errors: &mut Watched<E>) -> u8
+    requires { IsHostingInRange hosting.now }
+    ensures { IsStatus result }
+{
+    let found = read_and_listen(rt, path, hosting.port);
+    let Ok(writer) = BufWriter::new(rt.alloc(), io::writer(rt)) else {
+        return tell(errors, &ProgramFault::NoMemory);
+    };
+    serve_found(rt, found, hosting, &mut Watched::new(writer), errors).status
+}
+
+/// A session with a trail, once its setup file was read, or a fault was found, which is told.
+fn sit_found<T: OpensFiles, R: BufRead, W: Write, E: Write>(
+    rt: &T,
+    setup: Result<Vec<u8>, ProgramFault>,
+    run: &AloneRun<'_>,
+    reader: &mut Watched<R>,
+    writer: &mut Watched<W>,
+    errors: &mut Watched<E>,
+) -> Finished
+    requires reader { reader.old.failed ≡ false }
+    requires writer { writer.old.failed ≡ false }
+    ensures fault { IfErr setup (λ fault. HasTold fault result.status (used E.contents errors.old errors.new)) }
+    ensures run { IfOk setup (λ bytes. IsAloneKept bytes.items run.now result
+        (used R.remaining reader.old reader.new) (used W.contents writer.old writer.new) (used E.contents errors.old errors.new)) }
+    ensures kept { result.status ≡ 0 → IsSome result.kept }
+    ensures status { IsEnd result.status }
+{
+    match setup {
+        Ok(setup) => alone_kept_on(rt, setup.as_slice(), run, reader, writer, errors),
+        Err(fault) => end_with(errors, fault),
+    }
+}
+
+/// What is said to who begins a session at a terminal.
+const HINT: &[u8] =
+    b"Say `hello SUBJECT`, and then a line for each request. `wait` brings the answers, and the end of input (Ctrl-D) ends the session.\n";
+
+/// Says at a terminal how a session goes.
+fn tell_hint<R: Eprint>(rt: &R) {
+    put_out(&mut Watched::new(StandardError { rt }), HINT);
+}
+
+/// A run of `alone` or `replay`, or of words that name no command, over standard input and output. The result is the status of the run.
+fn run_sitting<R: AllocGlobal + OpensFiles + Print + Eprint + Input, E: Write>(
+    rt: &R,
+    asked: Result<Command<'_>, Error>,
+    errors: &mut Watched<E>,
+) -> u8
+where
+    R::Reader: IsTerminal,
+    requires { errors.old.failed ≡ false }
     ensures { IsStatus result }
 {
     let alloc = rt.alloc();
-    let (setup, listener) = match read_and_listen(rt, path, hosting.port) {
-        Ok(found) => found,
-        Err(fault) => return tell(errors, &fault),
+    let input = rt.reader();
+    if matches!(&asked, Ok(Command::Alone { .. })) && input.is_terminal() {
+        tell_hint(rt);
+    }
+    let Ok(reader) = BufReader::new(alloc, input) else {
+        return tell(errors, &ProgramFault::NoMemory);
     };
     let Ok(writer) = BufWriter::new(alloc, io::writer(rt)) else {
         return tell(errors, &ProgramFault::NoMemory);
     };
-    let ground = Ground {
-        rt,
-        alloc,
-        pause: &NoPause,
-    };
-    let run = ServeRun {
-        limit,
-        options: Options {
-            workers: hosting.workers,
-            session_threads: hosting.session_threads,
-            sessions: hosting.sessions,
+    let mut reader = Watched::new(reader);
+    let mut writer = Watched::new(writer);
+    if let Ok(
+        Command::Alone {
+            setup,
+            limit,
+            trail: Some(trail),
         },
-        trail: hosting.trail,
+    ) = &asked
+    {
+        let run = AloneRun {
+            alloc,
+            limit: *limit,
+            trail: *trail,
+        };
+        let setup = read_setup_file(rt, setup);
+        return sit_found(rt, setup, &run, &mut reader, &mut writer, errors).status;
+    }
+    let files = match &asked {
+        Ok(command) => read_files(rt, command),
+        Err(_) => Ok(Files {
+            setup: Vec::new(alloc),
+            trail: Vec::new(alloc),
+        }),
     };
-    serve_on(
-        &ground,
-        listener,
-        setup.as_slice(),
-        &run,
-        &mut Watched::new(writer),
-        errors,
-    )
+    run_asked(alloc, asked, files, &mut reader, &mut writer, errors)
 }
 
 /// A run of the program. The result is its status: 0 where all was done, or help or the version was asked for, 1 for a trail
@@ -196,44 +275,18 @@ pub fn run<
         + Net<Listener = TcpListener, Stream = TcpStream>
         + Sync,
 >(rt: &R) -> u8
+where
+    R::Reader: IsTerminal,
     ensures { IsStatus result }
 {
-    let alloc = rt.alloc();
     let mut errors = Watched::new(StandardError { rt });
     let words = match words_of(rt) {
         Ok(words) => words,
         Err(error) => return run_unread(&error, &mut errors),
     };
-    let asked = read_words(alloc, words.as_slice());
-    if let Ok(
-        Command::Serve {
-            setup,
-            limit,
-            hosting,
-        },
-    ) = &asked
-    {
-        return run_serve(rt, setup, *limit, *hosting, &mut errors);
+    let asked = read_words(rt.alloc(), words.as_slice());
+    if let Ok(Command::Serve { setup, hosting }) = &asked {
+        return run_serve(rt, setup, hosting, &mut errors);
     }
-    let files = match &asked {
-        Ok(command) => read_files(rt, command),
-        Err(_) => Ok(Files {
-            setup: Vec::new(alloc),
-            trail: Vec::new(alloc),
-        }),
-    };
-    let Ok(reader) = BufReader::new(alloc, rt.reader()) else {
-        return tell(&mut errors, &ProgramFault::NoMemory);
-    };
-    let Ok(writer) = BufWriter::new(alloc, io::writer(rt)) else {
-        return tell(&mut errors, &ProgramFault::NoMemory);
-    };
-    run_asked(
-        alloc,
-        asked,
-        files,
-        &mut Watched::new(reader),
-        &mut Watched::new(writer),
-        &mut errors,
-    )
+    run_sitting(rt, asked, &mut errors)
 }

@@ -2,9 +2,12 @@
 //!
 //!     runs       what the program says, and the status that it ends with
 //!     words      the words of a command line
+//!     system     files and the port
 #![tactic(auto)]
 
 #[cfg(test)]
 mod runs;
+#[cfg(test)]
+mod system;
 #[cfg(test)]
 mod words;

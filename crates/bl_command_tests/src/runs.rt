@@ -1,7 +1,7 @@
 //! What the program says, and the status that it ends with.
 use bl_command::command::read_words;
+use bl_command::files::{read_most, read_within};
 use bl_command::run::{Files, run_asked, run_unread};
-use bl_command::shell::{read_most, read_within};
 use bl_run::alone::alone_on;
 use bl_run::fault::{ProgramFault, of_file, of_setup};
 use bl_run::replay::replay_on;
@@ -216,7 +216,8 @@ fn tells_bad_words(rt: HostRuntime) -> Result<(), Fail> {
         "bl_server alone --setup memo.txt --limit few",
         "bl_server alone --setup memo.txt --setup memo.txt",
         "bl_server alone --setup memo.txt --port 7",
-        "bl_server alone --setup memo.txt --trail trail.txt",
+        "bl_server alone --setup memo.txt --trail",
+        "bl_server replay --setup memo.txt --trail trail.txt --replace",
         "bl_server replay",
         "bl_server replay --setup memo.txt",
         "bl_server replay --trail trail.txt",

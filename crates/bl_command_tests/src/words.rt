@@ -1,5 +1,6 @@
 //! The words of a command line.
-use bl_command::command::{Command, read_words, status_of};
+use bl_command::command::{Command, Hosting, read_words, status_of};
+use bl_run::part::TrailFile;
 use std::alloc::Global;
 use std::test::Fail;
 
@@ -16,8 +17,14 @@ fn words(alloc: Global, text: &str) -> Result<Vec<String>, Fail> {
 fn name_alone(alloc: Global, text: &str, most: u32) -> Result<bool, Fail> {
     let given = words(alloc, text)?;
     Ok(match read_words(alloc, given.as_slice()) {
-        Ok(Command::Alone { setup, limit }) => setup == "base.txt" && limit == most,
-        Ok(Command::Serve { .. }) | Ok(Command::Replay { .. }) | Err(_) => false,
+        Ok(
+            Command::Alone {
+                setup,
+                limit,
+                trail: None,
+            },
+        ) => setup == "base.txt" && limit == most,
+        Ok(_) | Err(_) => false,
     })
 }
 
@@ -28,6 +35,148 @@ fn status_without_a_command(alloc: Global, text: &str) -> Result<Option<u8>, Fai
         Ok(_) => None,
         Err(error) => Some(status_of(&error)),
     })
+}
+
+/// Whether these words name the command `serve`, with the setup `base.txt` and what is hosted as `wanted` has it.
+fn name_serve(alloc: Global, text: &str, wanted: &Hosting<'_>) -> Result<bool, Fail> {
+    let given = words(alloc, text)?;
+    Ok(match read_words(alloc, given.as_slice()) {
+        Ok(Command::Serve { setup, hosting }) => {
+            setup == "base.txt" && is_same(&hosting, wanted)
+        }
+        Ok(_) | Err(_) => false,
+    })
+}
+
+/// Whether two hostings have equal numbers and the same trail file.
+fn is_same(one: &Hosting<'_>, other: &Hosting<'_>) -> bool {
+    one.limit == other.limit
+        && one.port == other.port
+        && one.workers == other.workers
+        && one.session_threads == other.session_threads
+        && one.sessions == other.sessions
+        && one.trail.name == other.trail.name
+        && one.trail.replaces == other.trail.replaces
+        && one.trail.claims == other.trail.claims
+}
+
+/// What is hosted at port 7654 with the trail `run.trail`, where nothing else is said.
+const PLAIN: Hosting<'static> = Hosting {
+    limit: 10_000,
+    port: 7654,
+    trail: TrailFile {
+        name: "run.trail",
+        replaces: false,
+        claims: false,
+    },
+    workers: 2,
+    session_threads: 2,
+    sessions: 1,
+};
+
+#[test]
+fn reads_serve(rt: HostRuntime) -> Result<(), Fail> {
+    let least = "bl_server serve --setup base.txt --port 7654 --trail run.trail";
+    assert!(rt; name_serve(rt.alloc(), least, &PLAIN)?);
+    let all =
+        "bl_server serve --sessions 1000 --claim-trail --limit 7 --session-threads 3 --trail other.trail \
+        --workers 16 --replace --port 65535 --setup base.txt";
+    let wanted = Hosting {
+        limit: 7,
+        port: 65_535,
+        trail: TrailFile {
+            name: "other.trail",
+            replaces: true,
+            claims: true,
+        },
+        workers: 16,
+        session_threads: 3,
+        sessions: 1000,
+    };
+    assert!(rt; name_serve(rt.alloc(), all, &wanted)?);
+    Ok(())
+}
+
+/// Each number is taken at both ends of its range, and refused one past each.
+#[test]
+fn reads_numbers_in_their_ranges(rt: HostRuntime) -> Result<(), Fail> {
+    let options = [
+        ("--trail run.trail --port", "1", "65535", "65536"),
+        ("--trail run.trail --port 7654 --workers", "1", "16", "17"),
+        (
+            "--trail run.trail --port 7654 --session-threads",
+            "1",
+            "16",
+            "17",
+        ),
+        (
+            "--trail run.trail --port 7654 --sessions",
+            "1",
+            "1000",
+            "1001",
+        ),
+        (
+            "--trail run.trail --port 7654 --limit",
+            "1",
+            "100000",
+            "100001",
+        ),
+    ];
+    for (option, least, most, past) in options {
+        for (number, status) in [("0", Some(2)), (least, None), (most, None), (past, Some(2))] {
+            let text = format!(in rt.alloc();
+                "bl_server serve --setup base.txt {option} {number}"
+            )?;
+            let ended = status_without_a_command(rt.alloc(), text.as_str())?;
+            assert_eq!(rt; ended, status, "at {option} {number}");
+        }
+    }
+    Ok(())
+}
+
+/// What `serve` has to be given.
+#[test]
+fn refuses_serve_without_a_place(rt: HostRuntime) -> Result<(), Fail> {
+    let given = [
+        "bl_server serve",
+        "bl_server serve --port 7654 --trail run.trail",
+        "bl_server serve --setup base.txt --trail run.trail",
+        "bl_server serve --setup base.txt --port 7654",
+        "bl_server serve --setup base.txt --port 7654 --trail run.trail --replace --replace",
+    ];
+    for text in given {
+        let ended = status_without_a_command(rt.alloc(), text)?;
+        assert_eq!(rt; ended, Some(2), "at {text}");
+    }
+    Ok(())
+}
+
+/// The trail file of `alone`, where one is named, with what is said of it.
+#[test]
+fn reads_alone_with_a_trail(rt: HostRuntime) -> Result<(), Fail> {
+    let given = [
+        ("", false, false),
+        ("--replace", true, false),
+        ("--claim-trail", false, true),
+    ];
+    for (more, replaces, claims) in given {
+        let text = format!(in rt.alloc();
+            "bl_server alone --setup base.txt --trail run.trail {more}"
+        )?;
+        let given = words(rt.alloc(), text.as_str())?;
+        let name = "run.trail";
+        let wanted = TrailFile {
+            name,
+            replaces,
+            claims,
+        };
+        let read = match read_words(rt.alloc(), given.as_slice()) {
+            Ok(Command::Alone { trail, .. }) => trail == Some(wanted),
+            Ok(_) | Err(_) => false,
+        };
+        assert!(rt; read, "at {text}");
+    }
+    Ok(())
 }
 
 #[test]

@@ -1,4 +1,4 @@
-use Rattle.std.proofs.Common.{sym, ◌∙◌}
+use Rattle.std.proofs.Common.{inl, inr, sym, ◌∙◌}
 use Rattle.std.proofs.lemmas.Result.{err_from_is_err_and}
 use Rattle.bl_command.proofs.CommandLine.{matches_are_entered, faultless, has_fault}
 use Rattle.bl_command.proofs.command.read_words.Goals as goal
@@ -16,4 +16,11 @@ returns-in-Some-clause-faultless c = faultless _ _ c.in_ok-parser.ensures c.in_o
 pub returns-in_err-matches-clause-faults : goal.returns-in_err-matches-clause-faults
 returns-in_err-matches-clause-faults c =
     let p = err_from_is_err_and c.from_residual-in_err-matches.result c.from_residual-in_err-matches.ensures.1 in
-    rw p.1 (has_fault _ _ c.in_ok-parser.ensures _ _ p.2 c.in_err-matches.ensures.kinds)
+    rw p.1 (inl (has_fault _ _ c.in_ok-parser.ensures _ _ p.2 c.in_err-matches.ensures.kinds))
+
+-- matches that are of no command are of words that name none
+pub returns-clause-faults : goal.returns-clause-faults
+returns-clause-faults c =
+    let matches = c.in_ok-matches in
+    let same = matches_are_entered _ _ matches.matches c.in_ok-parser.ensures matches.ensures.matches in
+    inr (c.in_ok-error-in-None.ensures.kind, λ command named range. c.in-None.ensures.none command (named.0, same ∙ named.1, named.2) range)

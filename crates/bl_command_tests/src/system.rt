@@ -1,0 +1,87 @@
+//! What the program takes from the system: its files and its port.
+use bl_command::command::Command;
+use bl_command::files::read_files;
+use bl_command::shell::listen;
+use bl_run::fault::ProgramFault;
+use std::fs;
+use std::net::{IpAddr, Ipv4Addr, TcpListener};
+use std::test::Fail;
+
+/// A replay over these files.
+fn replay<'a>(setup: &'a str, trail: &'a str) -> Command<'a> {
+    Command::Replay { setup, trail }
+}
+
+/// A trail may have more bytes than a setup may, and a setup more than a megabyte; all of both are read.
+#[test]
+fn reads_whole_files(rt: HostRuntime) -> Result<(), Fail> {
+    let alloc = rt.alloc();
+    let setup = vec![in alloc; b'#'; 2_000_000]?;
+    let trail = vec![in alloc; b'#'; 16_777_300]?;
+    fs::write(&rt, "whole.setup", setup.as_slice())?;
+    fs::write(&rt, "whole.trail", trail.as_slice())?;
+    let read = read_files(&rt, &replay("whole.setup", "whole.trail"));
+    let _ = fs::remove_file(&rt, "whole.setup");
+    let _ = fs::remove_file(&rt, "whole.trail");
+    let Ok(files) = read else {
+        return Err(Fail::new("not read"));
+    };
+    assert!(rt; files.setup.as_slice() == setup.as_slice());
+    assert!(rt; files.trail.as_slice() == trail.as_slice());
+    Ok(())
+}
+
+/// A setup is read up to one byte more than it may have.
+#[test]
+fn reads_one_byte_past_a_setup(rt: HostRuntime) -> Result<(), Fail> {
+    let alloc = rt.alloc();
+    let setup = vec![in alloc; b'#'; 16_777_300]?;
+    fs::write(&rt, "large.setup", setup.as_slice())?;
+    let limit = 1;
+    let trail = None;
+    let setup = "large.setup";
+    let read = read_files(
+        &rt,
+        &Command::Alone {
+            setup,
+            limit,
+            trail,
+        },
+    );
+    let _ = fs::remove_file(&rt, "large.setup");
+    let Ok(files) = read else {
+        return Err(Fail::new("not read"));
+    };
+    assert_eq!(rt; files.setup.len(), 16_777_217);
+    assert!(rt; files.trail.is_empty());
+    Ok(())
+}
+
+/// The setup file is asked for first.
+#[test]
+fn tells_the_file_that_is_not_there(rt: HostRuntime) -> Result<(), Fail> {
+    fs::write(&rt, "there.setup", "ranks u\n")?;
+    let both = read_files(&rt, &replay("nowhere.setup", "nowhere.trail"));
+    let one = read_files(&rt, &replay("there.setup", "nowhere.trail"));
+    let _ = fs::remove_file(&rt, "there.setup");
+    assert!(rt; matches!(both, Err(ProgramFault::CannotReadSetup)));
+    assert!(rt; matches!(one, Err(ProgramFault::CannotReadTrail)));
+    Ok(())
+}
+
+/// The program listens on 127.0.0.1 alone, and tells a port that is taken.
+#[test]
+fn listens_on_this_machine_alone(rt: HostRuntime) -> Result<(), Fail> {
+    let any = TcpListener::bind(&rt, (Ipv4Addr::LOCALHOST, 0))?;
+    let port = any.local_addr()?.port();
+    let taken = listen(&rt, u32::from(port));
+    assert!(rt; matches!(taken, Err(ProgramFault::CannotListen)));
+    drop(any);
+    let Ok(listener) = listen(&rt, u32::from(port)) else {
+        return Err(Fail::new("cannot listen"));
+    };
+    let at = listener.local_addr()?;
+    assert!(rt; at.ip() == IpAddr::V4(Ipv4Addr::LOCALHOST));
+    assert!(rt; at.port() == port);
+    Ok(())
+}
