@@ -15,7 +15,7 @@ use Rattle.bl_policy.specs.declared.policy.Policy.TheInside.{Inside}
 use Rattle.bl_policy.specs.Mode.{place_of, flag_of, has_mode}
 use Rattle.bl_policy.specs.Matrix.{triple, take_out, put_modes}
 use Rattle.bl_policy.specs.Cells.{clearance_from, modes_of, matrix_of, clause_of, failed_in, no_cell, cell_at, IsCellOf, HaveFirstFailed, HasMendedRow, HasMendedColumn}
-use Rattle.bl_policy.specs.FirstFault.{fault_of}
+use Rattle.bl_policy.specs.FirstFault.{property_fault}
 use Rattle.bl_policy.specs.Policy.{SecurityPolicy, Clearance, nobody, lowest, clearance_of, level_of, with_subject, with_modes, without_triple, with_current, allows, CurrentBelowGreatest}
 use Rattle.bl_policy.specs.Fields.{policy_of, IsSound}
 use Rattle.bl_policy.proofs.CellLemmas.{no_mode, is_in-matrix_of, matrix_of-set, matrix_of-lost, matrix_from-more}
@@ -65,7 +65,7 @@ cell-first_failed p sound s o place cell are at was =
 
 -- the fault of an access, as its cell has it
 pub cell-fault : (p : Inside) → IsSound p → (s o place : ℕ) (m : Mode) (cell : Cell) → AreThere (policy_of p) s o → place ≡ s * 1024 + o → cell ≡ get_or p.cells.items place cell
-    → refused (clause_of (failed_in cell m)) s o ≡ fault_of (policy_of p) s (record { mode = m; doc = o })
+    → refused (clause_of (failed_in cell m)) s o ≡ property_fault (policy_of p) s (record { mode = m; doc = o })
 cell-fault p sound s o place m cell are at was =
     fault-read (policy_of p) s o m cell (cell-first_failed p sound s o place cell are at was) (cell-allows p sound s o place cell are at was m)
 

@@ -1,5 +1,5 @@
 -- Cells that have the first property that fails: what they say of an access, and that they have it after each change.
-use Rattle.std.proofs.Common.{◌≡◌, ◌≢◌, ◌⊎◌, inl, inr, ℕ, suc, ◌+◌, ◌*◌, ◌<◌, ◌≤◌, Bool, true, false, refl, sym, ◌∙◌, ap, subst, arith, List, [], ◌∷◌, ◌++◌, length, get_or, set, length-set, map, Option, Some, None}
+use Rattle.std.proofs.Common.{◌≡◌, ◌≢◌, ◌⊎◌, inl, inr, ℕ, ◌+◌, ◌*◌, ◌<◌, ◌≤◌, Bool, true, false, refl, sym, ◌∙◌, ap, subst, arith, List, [], ◌∷◌, ◌++◌, length, get_or, set, length-set, Option, Some, None}
 use Rattle.std.specs.Prelude.{if◌then◌else◌}
 use Rattle.std.proofs.Math.ListN.{get_or-map}
 use Rattle.std.proofs.Math.Seq.{map-set_same}
@@ -13,12 +13,11 @@ use Rattle.bl_policy.specs.declared.denial.Clause.{Clause}
 use Rattle.bl_policy.specs.declared.denial.Clause.TheVariants as failing
 use Rattle.bl_policy.specs.declared.denial.Denial.{Denial}
 use Rattle.bl_policy.specs.declared.policy.cell.Cell.{Cell}
-use Rattle.bl_policy.specs.declared.policy.cell.Failed.{Failed}
 use Rattle.bl_policy.specs.declared.policy.cell.Failed.TheVariants.{Nothing, Simple, Star, Discretionary}
 use Rattle.bl_policy.specs.Mode.{has_mode}
 use Rattle.bl_policy.specs.Policy.{SecurityPolicy, Clearance, nobody, lowest, clearance_of, level_of, allows}
 use Rattle.bl_policy.specs.Properties.{is_simple, is_star}
-use Rattle.bl_policy.specs.FirstFault.{denied, fault_of}
+use Rattle.bl_policy.specs.FirstFault.{denied, property_fault}
 use Rattle.bl_policy.specs.Cells.{modes_of, clause_of, failed_in, failed_property, cell_of, no_cell, cell_at, IsCellOf, HaveFirstFailed, HasMendedRow, HasMendedColumn}
 
 -- ---- what a cell says of an access
@@ -42,7 +41,7 @@ failed_in-cell_of subject level modes Write = refl
 
 -- the first property that a cell has of a mode is the fault of that access
 pub fault-read : (p : SecurityPolicy) (s o : ℕ) (m : Mode) (cell : Cell) → IsCellOf (clearance_of p s) (level_of p o) cell → has_mode cell.modes m ≡ allows p s o m
-    → refused (clause_of (failed_in cell m)) s o ≡ fault_of p s (record { mode = m; doc = o })
+    → refused (clause_of (failed_in cell m)) s o ≡ property_fault p s (record { mode = m; doc = o })
 fault-read p s o m cell is has =
     ap (λ f. refused (clause_of f) s o) (ap (λ c. failed_in c m) is ∙ failed_in-cell_of (clearance_of p s) (level_of p o) cell.modes m)
     ∙ named (is_simple p s o m) (is_star p s o m) (has_mode cell.modes m) s o

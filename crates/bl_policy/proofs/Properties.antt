@@ -3,6 +3,8 @@ use Rattle.std.proofs.Common.{◌≡◌, ℕ, ◌<◌, zero, suc, Bool, true, fa
 use Rattle.std.specs.Prelude.{IsTrue, ◌↔◌, slice_get, unwrap_or, if◌then◌else◌}
 use Rattle.std.proofs.lemmas.Bool.Decides.{nat_tests}
 use Rattle.std.proofs.lemmas.List.Elements.{All-cons}
+use Rattle.std.proofs.lemmas.Nat.Bits.{bit_at-zero}
+use Rattle.std.specs.Int.{bit_at}
 use Rattle.bl_level.specs.Level.{SecurityLevel, dominates, Dominates}
 use Rattle.bl_policy.specs.declared.access.Mode.{Mode}
 use Rattle.bl_policy.specs.declared.access.Mode.TheVariants.{Read, Append, Write}
@@ -10,9 +12,9 @@ use Rattle.bl_policy.specs.declared.access.Access.{Access}
 use Rattle.bl_policy.specs.declared.denial.Clause.{Clause}
 use Rattle.bl_policy.specs.declared.denial.Clause.TheVariants as failing
 use Rattle.bl_policy.specs.declared.denial.Denial.{Denial}
-use Rattle.bl_policy.specs.Policy.{SecurityPolicy, greatest_of, current_of, level_of, is_trusted}
-use Rattle.bl_policy.specs.Properties.{Observes, Flows, observes, flows, Simple, Star, IsSecure, is_simple, is_star, is_discretionary}
-use Rattle.bl_policy.specs.FirstFault.{denied, fault_of, fault_or, first_fault, FailsFirst, IsFirstFault}
+use Rattle.bl_policy.specs.Policy.{SecurityPolicy, lowest, greatest_of, current_of, level_of, is_trusted}
+use Rattle.bl_policy.specs.Properties.{Observes, Flows, MayCarry, observes, flows, may_carry, Simple, Star, Carry, IsSecure, IsGranted, is_simple, is_star, is_discretionary, is_carry}
+use Rattle.bl_policy.specs.FirstFault.{denied, property_fault, carry_fault, fault_of, fault_or, first_fault, FailsFirst, IsFirstFault}
 
 abbrev pub Means : Type 0
 Means = (a b : SecurityLevel) → IsTrue (dominates a b) ↔ Dominates a b
@@ -50,6 +52,14 @@ module _ (means : Means) where
   pub star-means : (p : SecurityPolicy) (s o : ℕ) (m : Mode) → IsTrue (is_star p s o m) ↔ Star p s o m
   star-means p s o m = either (is_trusted p s) (flows (current_of p s) (level_of p o) m) _ (flows-means (current_of p s) (level_of p o) m)
 
+  may_carry-means : (carried level : SecurityLevel) (m : Mode) → IsTrue (may_carry carried level m) ↔ MayCarry carried level m
+  may_carry-means carried level Read = ((λ h. tt), (λ h. refl))
+  may_carry-means carried level Append = means level carried
+  may_carry-means carried level Write = means level carried
+
+  pub carry-means : (p : SecurityPolicy) (s : ℕ) (carried : SecurityLevel) (o : ℕ) (m : Mode) → IsTrue (is_carry p s carried o m) ↔ Carry p s carried o m
+  carry-means p s carried o m = either (is_trusted p s) (may_carry carried (level_of p o) m) _ (may_carry-means carried (level_of p o) m)
+
   -- ---- one access
 
   abbrev chain : Bool → Bool → Bool → ℕ → ℕ → Option Denial
@@ -61,18 +71,19 @@ module _ (means : Means) where
   chain_none true false z s o e = absurd (cc)
   chain_none false y z s o e = absurd (cc)
 
-  pub secure-of_none : (p : SecurityPolicy) (s : ℕ) (a : Access) → fault_of p s a ≡ None → IsSecure p s a.doc a.mode
+  pub secure-of_none : (p : SecurityPolicy) (s : ℕ) (a : Access) → property_fault p s a ≡ None → IsSecure p s a.doc a.mode
   secure-of_none p s a e =
       let t = chain_none (is_simple p s a.doc a.mode) (is_star p s a.doc a.mode) (is_discretionary p s a.doc a.mode) s a.doc e in
       record { simple = (simple-means p s a.doc a.mode).0 t.0; star = (star-means p s a.doc a.mode).0 t.1; discretionary = t.2 }
 
-  pub none-of_secure : (p : SecurityPolicy) (s : ℕ) (a : Access) → IsSecure p s a.doc a.mode → fault_of p s a ≡ None
+  pub none-of_secure : (p : SecurityPolicy) (s : ℕ) (a : Access) → IsSecure p s a.doc a.mode → property_fault p s a ≡ None
   none-of_secure p s a h = λ i. chain ((simple-means p s a.doc a.mode).1 h.simple i) ((star-means p s a.doc a.mode).1 h.star i) (h.discretionary i) s a.doc
 
   abbrev FailsTests : Clause → Bool → Bool → Bool → Type 0
   FailsTests failing.Simple x y z = x ≡ false
   FailsTests failing.Star x y z = (x ≡ true) × (y ≡ false)
   FailsTests failing.Discretionary x y z = (x ≡ true) × (y ≡ true) × (z ≡ false)
+  FailsTests failing.Carry x y z = ⊥
   FailsTests failing.Admin x y z = ⊥
   FailsTests failing.Trusted x y z = ⊥
   FailsTests failing.Greatest x y z = ⊥
@@ -89,63 +100,122 @@ module _ (means : Means) where
   chain_some true false z s o d e = subst (Told true false z s o) (some_is _ d e) ((refl, refl), refl, refl)
   chain_some false y z s o d e = subst (Told false y z s o) (some_is _ d e) (refl, refl, refl)
 
-  fails-tests : (clause : Clause) (p : SecurityPolicy) (s o : ℕ) (m : Mode) → FailsTests clause (is_simple p s o m) (is_star p s o m) (is_discretionary p s o m) → FailsFirst clause p s o m
-  fails-tests failing.Simple p s o m t = λ h. true≢false (sym ((simple-means p s o m).1 h) ∙ t)
-  fails-tests failing.Star p s o m t = ((simple-means p s o m).0 t.0, λ h. true≢false (sym ((star-means p s o m).1 h) ∙ t.1))
-  fails-tests failing.Discretionary p s o m t = ((simple-means p s o m).0 t.0, (star-means p s o m).0 t.1, λ h. true≢false (sym h ∙ t.2))
-  fails-tests failing.Admin p s o m t = t
-  fails-tests failing.Trusted p s o m t = t
-  fails-tests failing.Greatest p s o m t = t
+  fails-tests : (clause : Clause) (p : SecurityPolicy) (s : ℕ) (carried : SecurityLevel) (o : ℕ) (m : Mode)
+      → FailsTests clause (is_simple p s o m) (is_star p s o m) (is_discretionary p s o m) → FailsFirst clause p s carried o m
+  fails-tests failing.Simple p s carried o m t = λ h. true≢false (sym ((simple-means p s o m).1 h) ∙ t)
+  fails-tests failing.Star p s carried o m t = ((simple-means p s o m).0 t.0, λ h. true≢false (sym ((star-means p s o m).1 h) ∙ t.1))
+  fails-tests failing.Discretionary p s carried o m t = ((simple-means p s o m).0 t.0, (star-means p s o m).0 t.1, λ h. true≢false (sym h ∙ t.2))
+  fails-tests failing.Carry p s carried o m t = absurd t
+  fails-tests failing.Admin p s carried o m t = t
+  fails-tests failing.Trusted p s carried o m t = t
+  fails-tests failing.Greatest p s carried o m t = t
 
-  -- ---- a list of accesses
+  -- ---- one access, with what is carried
 
   fault_or_none : (x y : Option Denial) → fault_or x y ≡ None → (x ≡ None) × (y ≡ None)
   fault_or_none None y e = (refl, e)
   fault_or_none (Some d) y e = absurd (cc)
 
-  pub all-of_none : (p : SecurityPolicy) (s : ℕ) (accesses : List Access) → first_fault p s accesses ≡ None → All (λ access. IsSecure p s access.doc access.mode) accesses
-  all-of_none p s [] e = λ k d h. absurd (omega arith)
-  all-of_none p s (a ∷ rest) e =
-      let parts = fault_or_none (fault_of p s a) (first_fault p s rest) e in
-      All-cons (λ access. IsSecure p s access.doc access.mode) a rest (secure-of_none p s a parts.0) (all-of_none p s rest parts.1)
+  carry_none : (b : Bool) (s o : ℕ) → (if b then None else denied failing.Carry s o) ≡ None → b ≡ true
+  carry_none true s o e = refl
+  carry_none false s o e = absurd (cc)
 
-  pub none-of_all : (p : SecurityPolicy) (s : ℕ) (accesses : List Access) → All (λ access. IsSecure p s access.doc access.mode) accesses → first_fault p s accesses ≡ None
-  none-of_all p s [] each = refl
-  none-of_all p s (a ∷ rest) each =
-      ap (λ f. fault_or f (first_fault p s rest)) (none-of_secure p s a (each 0 a (omega arith)))
-      ∙ none-of_all p s rest (λ k d h. each (suc k) d (omega arith))
+  pub granted-of_none : (p : SecurityPolicy) (s : ℕ) (carried : SecurityLevel) (a : Access) → fault_of p s carried a ≡ None → IsGranted p s carried a.doc a.mode
+  granted-of_none p s carried a e =
+      let parts = fault_or_none (property_fault p s a) (carry_fault p s carried a) e in
+      record {
+        secure = secure-of_none p s a parts.0;
+        carry = (carry-means p s carried a.doc a.mode).0 (carry_none (is_carry p s carried a.doc a.mode) s a.doc parts.1);
+      }
 
-  secure_earlier : (p : SecurityPolicy) (s : ℕ) (a : Access) (rest : List Access) (n : ℕ) → IsSecure p s a.doc a.mode → ((k : ℕ) (earlier : Access) → k < n → slice_get rest k ≡ Some earlier → IsSecure p s earlier.doc earlier.mode)
-      → (k : ℕ) (earlier : Access) → k < suc n → slice_get (a ∷ rest) k ≡ Some earlier → IsSecure p s earlier.doc earlier.mode
-  secure_earlier p s a rest n first later zero earlier h at = subst (λ (access : Access). IsSecure p s access.doc access.mode) (some_is a earlier at) first
-  secure_earlier p s a rest n first later (suc k) earlier h at = later k earlier (omega arith) at
+  pub none-of_granted : (p : SecurityPolicy) (s : ℕ) (carried : SecurityLevel) (a : Access) → IsGranted p s carried a.doc a.mode → fault_of p s carried a ≡ None
+  none-of_granted p s carried a h =
+      ap (λ f. fault_or f (carry_fault p s carried a)) (none-of_secure p s a h.secure)
+      ∙ ap (λ b. if b then None else denied failing.Carry s a.doc) ((carry-means p s carried a.doc a.mode).1 h.carry)
 
-  some_cons : (p : SecurityPolicy) (s : ℕ) (a : Access) (rest : List Access) (denial : Denial) (f : Option Denial) → fault_of p s a ≡ f
-      → (first_fault p s rest ≡ Some denial → IsFirstFault p s rest denial) → fault_or f (first_fault p s rest) ≡ Some denial → IsFirstFault p s (a ∷ rest) denial
-  some_cons p s a rest denial None is later e =
+  -- a refusal of an access names its first property that fails
+  pub record Names (p : SecurityPolicy) (s : ℕ) (carried : SecurityLevel) (a : Access) (denial : Denial) : Type 0 where
+    pub fails : FailsFirst denial.clause p s carried a.doc a.mode
+    pub subject : denial.subject ≡ s
+    pub object : denial.object ≡ Some a.doc
+
+  names-carry : (p : SecurityPolicy) (s : ℕ) (carried : SecurityLevel) (a : Access) (denial : Denial) (b : Bool) → is_carry p s carried a.doc a.mode ≡ b
+      → IsSecure p s a.doc a.mode → (if b then None else denied failing.Carry s a.doc) ≡ Some denial → Names p s carried a denial
+  names-carry p s carried a denial true is secure e = absurd (cc)
+  names-carry p s carried a denial false is secure e =
+      subst (λ (d : Denial). Names p s carried a d) (some_is _ denial e)
+      (record {
+        fails = (secure, λ h. true≢false (sym ((carry-means p s carried a.doc a.mode).1 h) ∙ is));
+        subject = refl;
+        object = refl;
+      })
+
+  names-first : (p : SecurityPolicy) (s : ℕ) (carried : SecurityLevel) (a : Access) (denial : Denial) (f : Option Denial) → property_fault p s a ≡ f
+      → fault_or f (carry_fault p s carried a) ≡ Some denial → Names p s carried a denial
+  names-first p s carried a denial None is e =
+      names-carry p s carried a denial (is_carry p s carried a.doc a.mode) refl (secure-of_none p s a is) e
+  names-first p s carried a denial (Some d) is e =
+      let told = chain_some (is_simple p s a.doc a.mode) (is_star p s a.doc a.mode) (is_discretionary p s a.doc a.mode) s a.doc denial (is ∙ e) in
+      record { fails = fails-tests denial.clause p s carried a.doc a.mode told.0; subject = told.1; object = told.2 }
+
+  -- ---- a list of accesses
+
+  pub all-of_none : (p : SecurityPolicy) (s : ℕ) (carried : SecurityLevel) (accesses : List Access) → first_fault p s carried accesses ≡ None → All (λ access. IsGranted p s carried access.doc access.mode) accesses
+  all-of_none p s carried [] e = λ k d h. absurd (omega arith)
+  all-of_none p s carried (a ∷ rest) e =
+      let parts = fault_or_none (fault_of p s carried a) (first_fault p s carried rest) e in
+      All-cons (λ access. IsGranted p s carried access.doc access.mode) a rest (granted-of_none p s carried a parts.0) (all-of_none p s carried rest parts.1)
+
+  pub none-of_all : (p : SecurityPolicy) (s : ℕ) (carried : SecurityLevel) (accesses : List Access) → All (λ access. IsGranted p s carried access.doc access.mode) accesses → first_fault p s carried accesses ≡ None
+  none-of_all p s carried [] each = refl
+  none-of_all p s carried (a ∷ rest) each =
+      ap (λ f. fault_or f (first_fault p s carried rest)) (none-of_granted p s carried a (each 0 a (omega arith)))
+      ∙ none-of_all p s carried rest (λ k d h. each (suc k) d (omega arith))
+
+  granted_earlier : (p : SecurityPolicy) (s : ℕ) (carried : SecurityLevel) (a : Access) (rest : List Access) (n : ℕ) → IsGranted p s carried a.doc a.mode
+      → ((k : ℕ) (earlier : Access) → k < n → slice_get rest k ≡ Some earlier → IsGranted p s carried earlier.doc earlier.mode)
+      → (k : ℕ) (earlier : Access) → k < suc n → slice_get (a ∷ rest) k ≡ Some earlier → IsGranted p s carried earlier.doc earlier.mode
+  granted_earlier p s carried a rest n first later zero earlier h at = subst (λ (access : Access). IsGranted p s carried access.doc access.mode) (some_is a earlier at) first
+  granted_earlier p s carried a rest n first later (suc k) earlier h at = later k earlier (omega arith) at
+
+  some_cons : (p : SecurityPolicy) (s : ℕ) (carried : SecurityLevel) (a : Access) (rest : List Access) (denial : Denial) (f : Option Denial) → fault_of p s carried a ≡ f
+      → (first_fault p s carried rest ≡ Some denial → IsFirstFault p s carried rest denial) → fault_or f (first_fault p s carried rest) ≡ Some denial → IsFirstFault p s carried (a ∷ rest) denial
+  some_cons p s carried a rest denial None is later e =
       let r = later e in
       record {
         place = suc r.place;
         access = r.access;
         at = r.at;
-        secure_before = secure_earlier p s a rest r.place (secure-of_none p s a is) r.secure_before;
+        granted_before = granted_earlier p s carried a rest r.place (granted-of_none p s carried a is) r.granted_before;
         fails = r.fails;
         subject = r.subject;
         object = r.object;
       }
-  some_cons p s a rest denial (Some d) is later e =
-      let told = chain_some (is_simple p s a.doc a.mode) (is_star p s a.doc a.mode) (is_discretionary p s a.doc a.mode) s a.doc denial (is ∙ e) in
+  some_cons p s carried a rest denial (Some d) is later e =
+      let named = names-first p s carried a denial (property_fault p s a) refl (is ∙ e) in
       record {
         place = 0;
         access = a;
         at = refl;
-        secure_before = λ k earlier h at. absurd (omega arith);
-        fails = fails-tests denial.clause p s a.doc a.mode told.0;
-        subject = told.1;
-        object = told.2;
+        granted_before = λ k earlier h at. absurd (omega arith);
+        fails = named.fails;
+        subject = named.subject;
+        object = named.object;
       }
 
-  -- the first fault is that of the first access that is not secure
-  pub first-of_some : (p : SecurityPolicy) (s : ℕ) (accesses : List Access) (denial : Denial) → first_fault p s accesses ≡ Some denial → IsFirstFault p s accesses denial
-  first-of_some p s [] denial e = absurd (cc)
-  first-of_some p s (a ∷ rest) denial e = some_cons p s a rest denial (fault_of p s a) refl (λ later. first-of_some p s rest denial later) e
+  -- the first fault is that of the first access that is not granted
+  pub first-of_some : (p : SecurityPolicy) (s : ℕ) (carried : SecurityLevel) (accesses : List Access) (denial : Denial) → first_fault p s carried accesses ≡ Some denial → IsFirstFault p s carried accesses denial
+  first-of_some p s carried [] denial e = absurd (cc)
+  first-of_some p s carried (a ∷ rest) denial e = some_cons p s carried a rest denial (fault_of p s carried a) refl (λ later. first-of_some p s carried rest denial later) e
+
+-- every level dominates the lowest one
+no_category : (k : ℕ) → bit_at 0 k ≡ 1 → ⊥
+no_category k h = absurd (omega (arith, h, bit_at-zero k))
+
+pub above-lowest : (level : SecurityLevel) → Dominates level lowest
+above-lowest level = record { rank = omega arith; categories = λ k h. absurd (no_category k h) }
+
+pub carries-lowest : (level : SecurityLevel) (m : Mode) → MayCarry lowest level m
+carries-lowest level Read = tt
+carries-lowest level Append = above-lowest level
+carries-lowest level Write = above-lowest level

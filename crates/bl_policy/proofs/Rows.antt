@@ -3,7 +3,7 @@ use Rattle.std.proofs.Common.{◌≡◌, false, refl, [], ◌∷◌}
 use Rattle.std.specs.Prelude.{None}
 use Rattle.bl_policy.specs.declared.access.Mode.TheVariants.{Read, Append, Write}
 use Rattle.bl_policy.specs.Matrix.{no_triple, triple, put_in, take_out}
-use Rattle.bl_policy.specs.Policy.{SecurityPolicy, with_modes, no_policy, with_subject, with_document}
+use Rattle.bl_policy.specs.Policy.{SecurityPolicy, lowest, with_modes, no_policy, with_subject, with_document}
 use Rattle.bl_policy.specs.FirstFault.{first_fault, denied}
 use Rattle.bl_policy.specs.declared.denial.Clause.TheVariants as failing
 
@@ -12,12 +12,12 @@ base : SecurityPolicy
 base = with_modes (with_modes (with_document (with_subject no_policy (record { greatest = record { rank = 3; categories = 3 }; current = record { rank = 2; categories = 1 }; trusted = false; admin = false })) (record { rank = 2; categories = 1 })) 0 0 (record { 0 = 5 })) 0 0 (record { 0 = 1 })
 
 -- both modes are allowed
-allowed : first_fault base 0 (record { mode = Read; doc = 0 } ∷ record { mode = Write; doc = 0 } ∷ []) ≡ None
+allowed : first_fault base 0 lowest (record { mode = Read; doc = 0 } ∷ record { mode = Write; doc = 0 } ∷ []) ≡ None
 unfolding base
 allowed = refl
 
 -- the second access is not, for want of its mode
-refused : first_fault base 0 (record { mode = Read; doc = 0 } ∷ record { mode = Append; doc = 0 } ∷ []) ≡ denied failing.Discretionary 0 0
+refused : first_fault base 0 lowest (record { mode = Read; doc = 0 } ∷ record { mode = Append; doc = 0 } ∷ []) ≡ denied failing.Discretionary 0 0
 unfolding base
 refused = refl
 

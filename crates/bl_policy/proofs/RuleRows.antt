@@ -8,7 +8,7 @@ use Rattle.bl_policy.specs.declared.denial.Denial.{Denial}
 use Rattle.bl_policy.specs.declared.denial.Clause.TheVariants as failing
 use Rattle.bl_policy.specs.declared.rule.Rule.TheVariants.{Give, Rescind, Current, Classify}
 use Rattle.bl_policy.specs.Matrix.{Matrix, Triple, triple, no_triple, put_in}
-use Rattle.bl_policy.specs.Policy.{SecurityPolicy, Clearance, with_subject}
+use Rattle.bl_policy.specs.Policy.{SecurityPolicy, Clearance, lowest, with_subject}
 use Rattle.bl_policy.specs.FirstFault.{first_fault, denied}
 use Rattle.bl_policy.specs.RuleEffect.{rule_fault, after_rule}
 
@@ -60,7 +60,7 @@ base = record {
 
 -- one access
 abbrev asks : SecurityPolicy → ℕ → Mode → ℕ → Option Denial
-asks p s mode doc = first_fault p s (record { mode = mode; doc = doc } ∷ [])
+asks p s mode doc = first_fault p s lowest (record { mode = mode; doc = doc } ∷ [])
 
 -- rules and their checks
 

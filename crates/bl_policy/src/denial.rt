@@ -13,6 +13,8 @@ pub enum Clause {
     Star,
     /// The discretionary property: the mode is not in the matrix for this subject and document.
     Discretionary,
+    /// The carry property: the access would alter below a level at which the behaviour's parent, or one above it, ran.
+    Carry,
     /// The rule needs an administrator, and the speaker is none.
     Admin,
     /// The rule needs a trusted subject, and the speaker is none.
@@ -30,6 +32,7 @@ impl Clause {
             Clause::Simple => "simple",
             Clause::Star => "star",
             Clause::Discretionary => "discretionary",
+            Clause::Carry => "carry",
             Clause::Admin => "admin",
             Clause::Trusted => "trusted",
             Clause::Greatest => "greatest",

@@ -2,12 +2,13 @@
 //
 // Each function does nothing, and its contract is the law.
 ghost use Rattle.std.specs.Prelude.{◌≡◌, ◌≢◌, ◌⊎◌, ◌↔◌, ℕ, IsTrue, Some, None, List, length, All};
+ghost use Rattle.bl_level.specs.Level.{SecurityLevel};
 ghost use Rattle.bl_policy.specs.declared.access.Mode.{Mode};
 ghost use Rattle.bl_policy.specs.declared.access.Access.{Access};
 ghost use Rattle.bl_policy.specs.declared.denial.Denial.{Denial};
 ghost use Rattle.bl_policy.specs.Matrix.{Triple, Matrix, no_triple, is_in, put_in, take_out};
-ghost use Rattle.bl_policy.specs.Policy.{SecurityPolicy, clearance_of, greatest_of, is_trusted, is_admin, allows, CurrentBelowGreatest};
-ghost use Rattle.bl_policy.specs.Properties.{Simple, Star, Discretionary, IsSecure, is_simple, is_star, is_discretionary};
+ghost use Rattle.bl_policy.specs.Policy.{SecurityPolicy, lowest, clearance_of, greatest_of, is_trusted, is_admin, allows, CurrentBelowGreatest};
+ghost use Rattle.bl_policy.specs.Properties.{Simple, Star, Discretionary, Carry, IsGranted, is_simple, is_star, is_discretionary, is_carry};
 ghost use Rattle.bl_policy.specs.FirstFault.{first_fault, IsFirstFault};
 ghost use Rattle.bl_policy.specs.declared.rule.Rule.{Rule};
 ghost use Rattle.bl_policy.specs.declared.rule.Rule.TheVariants.{Give, Rescind};
@@ -24,23 +25,32 @@ pub fn matrix_is_a_set()
     ensures same { (a b : Matrix) → ((t : Triple) → is_in a t ≡ is_in b t) → a ≡ b }
 {}
 
-/// The tests of the three properties say the properties.
+/// The tests of the properties say the properties.
 pub fn tests_are_the_properties()
     ensures simple { (p : SecurityPolicy) (s o : ℕ) (m : Mode) → IsTrue (is_simple p s o m) ↔ Simple p s o m }
     ensures star { (p : SecurityPolicy) (s o : ℕ) (m : Mode) → IsTrue (is_star p s o m) ↔ Star p s o m }
     ensures discretionary { (p : SecurityPolicy) (s o : ℕ) (m : Mode) → IsTrue (is_discretionary p s o m) ↔ Discretionary p s o m }
+    ensures carry { (p : SecurityPolicy) (s : ℕ) (carried : SecurityLevel) (o : ℕ) (m : Mode) →
+        IsTrue (is_carry p s carried o m) ↔ Carry p s carried o m }
 {
     dominates_means_dominance();
 }
 
-/// The first fault is none just where each access is secure, and else it is that of the first access that
+/// The first fault is none just where each access is granted, and else it is that of the first access that
 /// is not, with the first property that this access fails.
 pub fn first_fault_is_the_first()
-    ensures none { (p : SecurityPolicy) (s : ℕ) (accesses : List Access) → (first_fault p s accesses ≡ None) ↔ All (λ access. IsSecure p s access.doc access.mode) accesses }
-    ensures some { (p : SecurityPolicy) (s : ℕ) (accesses : List Access) (denial : Denial) → first_fault p s accesses ≡ Some denial → IsFirstFault p s accesses denial }
+    ensures none { (p : SecurityPolicy) (s : ℕ) (carried : SecurityLevel) (accesses : List Access) →
+        (first_fault p s carried accesses ≡ None) ↔ All (λ access. IsGranted p s carried access.doc access.mode) accesses }
+    ensures some { (p : SecurityPolicy) (s : ℕ) (carried : SecurityLevel) (accesses : List Access) (denial : Denial) →
+        first_fault p s carried accesses ≡ Some denial → IsFirstFault p s carried accesses denial }
 {
     dominates_means_dominance();
 }
+
+/// Every level dominates the lowest one, so who carries that is judged by the three properties alone.
+pub fn the_lowest_level_binds_nobody()
+    ensures { (p : SecurityPolicy) (s o : ℕ) (m : Mode) → Carry p s lowest o m }
+{}
 
 /// A rule is refused just where its speaker fails a condition, and the refusal names the first that fails.
 pub fn rule_fault_is_the_first()

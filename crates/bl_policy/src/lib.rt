@@ -4,8 +4,8 @@
 //!     access        modes, sets of modes, and one access
 //!     denial        what the refusal of an access or of a rule says
 //!     rule          the changes of the policy that a subject may ask for
-//!     policy        levels, rights and the matrix, and what they decide; `policy/cell` keeps what each access fails, and
-//!                   `policy/apply` says what a rule makes of them
+//!     policy        levels, rights and the matrix, and what they decide; `policy/cell` keeps what each access fails,
+//!                   `policy/carry` asks what a behaviour carries, and `policy/apply` says what a rule makes of them
 //!     laws          what the words of the definitions mean, for every policy
 #![tactic(auto)]
 

@@ -8,13 +8,14 @@ ghost use Rattle.bl_level.specs.Level.{Dominates};
 ghost use Rattle.bl_policy.specs.Limits.{most_subjects, most_documents};
 ghost use Rattle.bl_policy.specs.Mode.{has_mode};
 ghost use Rattle.bl_policy.specs.declared.access.Mode.{Mode};
-ghost use Rattle.bl_policy.specs.Properties.{IsSecure};
-ghost use Rattle.bl_policy.specs.FirstFault.{fault_of, first_fault};
+ghost use Rattle.bl_policy.specs.Properties.{Carry, IsGranted, IsSecure, is_carry};
+ghost use Rattle.bl_policy.specs.FirstFault.{fault_of, first_fault, property_fault};
 ghost use Rattle.bl_policy.specs.Policy.{no_policy, greatest_of, current_of, level_of, is_trusted, is_admin, allows, with_subject, with_document, with_modes};
 
 use crate::access::{Access, ModeSet};
-use crate::denial::Denial;
+use crate::denial::{Clause, Denial};
 use crate::id::{DocId, SubjectId};
+use crate::policy::carry::{is_lowest, may_carry};
 use crate::policy::cell::{Cell, mend_column, mend_row};
 use bitflags::Flags;
 use bl_level::level::Level;
@@ -184,11 +185,11 @@ impl Policy {
         self.cells[place] = self.subjects[subject.position() as usize].cell(level, modes);
     }
 
-    /// What the access fails first: simple security, then the star property, then the discretionary one.
-    fn fault(&self, subject: SubjectId, access: &Access) -> Option<Denial>
+    /// What the access fails first of the three properties: simple security, then star, then discretionary.
+    fn property_fault(&self, subject: SubjectId, access: &Access) -> Option<Denial>
         requires known { subject < length self.now.subjects }
         requires there { access.now.doc < length self.now.documents }
-        ensures first { result ≡ fault_of self.now subject access.now }
+        ensures first { result ≡ property_fault self.now subject access.now }
         ensures secure { IfNone result (IsSecure self.now subject access.now.doc access.now.mode) }
     {
         let failed = self.cells[cell_place(subject, access.doc)].failed(access.mode);
@@ -199,17 +200,51 @@ impl Policy {
         })
     }
 
+    /// Whether the access alters nothing below the level that its behaviour carries. The lowest level is asked
+    /// first, since nearly every behaviour carries that.
+    fn has_carry(&self, subject: SubjectId, carried: &Level, access: &Access) -> bool
+        requires known { subject < length self.now.subjects }
+        requires there { access.now.doc < length self.now.documents }
+        ensures test { result ≡ is_carry self.now subject carried.now access.now.doc access.now.mode }
+        ensures property { IsTrue result ↔ Carry self.now subject carried.now access.now.doc access.now.mode }
+    {
+        is_lowest(carried)
+            || self.is_trusted(subject)
+            || may_carry(carried, &self.level(access.doc), access.mode)
+    }
+
+    /// What the access fails first: one of the three properties, and then carry.
+    fn fault(&self, subject: SubjectId, carried: &Level, access: &Access) -> Option<Denial>
+        requires known { subject < length self.now.subjects }
+        requires there { access.now.doc < length self.now.documents }
+        ensures first { result ≡ fault_of self.now subject carried.now access.now }
+        ensures granted { IfNone result (IsGranted self.now subject carried.now access.now.doc access.now.mode) }
+    {
+        let failed = self.property_fault(subject, access);
+        if failed.is_some() || self.has_carry(subject, carried, access) {
+            return failed;
+        }
+        Some(Denial {
+            clause: Clause::Carry,
+            subject,
+            object: Some(access.doc),
+        })
+    }
+
     /// The first access, in the order given, that fails a property, with the first that it fails in the
-    /// order simple-security, star, discretionary (Bell and La Padula 1976, the three properties). None
-    /// where every access meets all three.
-    pub fn decide(&self, subject: SubjectId, accesses: &[Access]) -> Option<Denial>
+    /// order simple-security, star, discretionary (Bell and La Padula 1976, the three properties), carry. None
+    /// where every access meets all of them. The level is that which the behaviour carries: a trusted subject
+    /// apart, it may append to and write only documents whose level dominates it. Who carries the lowest level
+    /// is bound by the three properties alone.
+    pub fn decide(&self, subject: SubjectId, carried: &Level, accesses: &[Access]) -> Option<Denial>
         requires known { subject < length self.now.subjects }
         requires there { All (λ access. access.doc < length self.now.documents) accesses.now }
-        ensures first { result ≡ first_fault self.now subject accesses.now }
+        ensures first { result ≡ first_fault self.now subject carried.now accesses.now }
         ensures secure { IfNone result (All (λ access. IsSecure self.now subject access.doc access.mode) accesses.now) }
+        ensures granted { IfNone result (All (λ access. IsGranted self.now subject carried.now access.doc access.mode) accesses.now) }
     {
         for access in accesses {
-            let found = self.fault(subject, access);
+            let found = self.fault(subject, carried, access);
             if found.is_some() {
                 return found;
             }
@@ -287,4 +322,5 @@ impl Policy {
 }
 
 mod apply;
+pub mod carry;
 mod cell;

@@ -7,6 +7,7 @@ use bl_policy::access::{Access, Mode, ModeSet};
 use bl_policy::denial::{Clause, Denial};
 use bl_policy::id::{DocId, SubjectId};
 use bl_policy::policy::Policy;
+use bl_policy::policy::carry::lowest_level;
 use bl_policy::rule::Rule;
 use std::process::Abort;
 use std::test::Fail;
@@ -86,7 +87,7 @@ pub fn decide(
         .iter()
         .all(|access| (access.doc.position() as usize) < documents);
     assert!(rt; are_there);
-    policy.decide(subject, accesses)
+    policy.decide(subject, &lowest_level(), accesses)
 }
 
 fn apply(rt: &impl Abort, policy: &mut Policy, subject: SubjectId, rule: Rule) -> Option<Denial> {

@@ -1,4 +1,4 @@
-use Rattle.std.proofs.Common.{◌≡◌, ◌<◌, ℕ, refl, sym, subst, ap, ◌∙◌, arith, length, map, List}
+use Rattle.std.proofs.Common.{◌≡◌, ◌<◌, ℕ, refl, subst, ap, ◌∙◌, arith, length, map, List}
 use Rattle.bl_policy.specs.declared.policy.Subject.{Subject}
 use Rattle.bl_policy.specs.declared.policy.cell.Cell.{Cell}
 use Rattle.bl_policy.specs.Cells.{clearance_from, modes_of, HasMendedColumn}

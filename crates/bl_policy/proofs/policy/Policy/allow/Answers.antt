@@ -1,10 +1,10 @@
-use Rattle.std.proofs.Common.{◌≡◌, sym, subst, ap, ◌∙◌, ◌<◌, length}
+use Rattle.std.proofs.Common.{◌≡◌, sym, subst, ap, ◌∙◌, ◌<◌}
 use Rattle.std.specs.Prelude.{bit_and, bit_or}
 use Rattle.bitflags.specs.Sets.{known_from}
 use Rattle.bl_policy.specs.declared.access.ModeSet.{ModeSet}
 use Rattle.bl_policy.specs.Policy.{SecurityPolicy, Clearance, clearance_of, level_of, allows}
 use Rattle.bl_policy.specs.Matrix.{triple}
-use Rattle.bl_policy.specs.Cells.{cell_of, clearance_from}
+use Rattle.bl_policy.specs.Cells.{cell_of}
 use Rattle.bl_policy.specs.Fields.{policy_of}
 use Rattle.bl_policy.proofs.Triples.{is_in-put_modes}
 use Rattle.bl_policy.proofs.ModeLemmas.{or-small}

@@ -1,4 +1,4 @@
-use Rattle.std.proofs.Common.{◌≡◌, ◌<◌, ◌*◌, refl, sym, subst, ap, ◌∙◌, arith, length, map, List}
+use Rattle.std.proofs.Common.{◌≡◌, ◌<◌, ◌*◌, refl, sym, subst, ap, ◌∙◌, arith, length, List}
 use Rattle.std.specs.Vec.{with_item, with_items}
 use Rattle.std.proofs.lemmas.List.{length-map}
 use Rattle.bl_level.specs.Level.{SecurityLevel, Dominates}

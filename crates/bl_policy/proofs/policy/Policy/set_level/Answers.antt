@@ -3,7 +3,6 @@ use Rattle.bl_policy.specs.declared.policy.Subject.{Subject}
 use Rattle.bl_policy.specs.declared.policy.cell.Cell.{Cell}
 use Rattle.bl_policy.specs.Policy.{SecurityPolicy}
 use Rattle.bl_policy.specs.Cells.{clearance_from, modes_of, HasMendedColumn}
-use Rattle.bl_policy.specs.Fields.{policy_of}
 use Rattle.bl_policy.proofs.FieldLemmas.{written_back, IsSound-classified}
 use Rattle.bl_policy.proofs.policy.Policy.set_level.Goals as goal
 
