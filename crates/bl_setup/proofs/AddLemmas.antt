@@ -8,10 +8,11 @@ use Rattle.bl_policy.specs.declared.policy.AddFault.TheVariants as add
 use Rattle.bl_work.specs.Names.{KnownNames}
 use Rattle.bl_policy.specs.Policy.{SecurityPolicy}
 use Rattle.bl_setup.specs.Setup.{Setup}
+use Rattle.bl_setup.specs.declared.version.Version.TheVariants.{Two}
 
 pub same_setup : {n n' : KnownNames} {p p' : SecurityPolicy} {c c' : List (List ℕ)} → n ≡ n' → p ≡ p' → c ≡ c'
-    → ◌≡◌ {A = Setup} (record { names = n; policy = p; contents = c }) (record { names = n'; policy = p'; contents = c' })
-same_setup a b c = λ i. record { names = a i; policy = b i; contents = c i }
+    → ◌≡◌ {A = Setup} (record { names = n; policy = p; contents = c; version = Two }) (record { names = n'; policy = p'; contents = c'; version = Two })
+same_setup a b c = λ i. record { names = a i; policy = b i; contents = c i; version = Two }
 
 -- what was looked up and not found is not there
 pub not_there : {P : Type 0} (o : Option ℕ) (b : Bool) → b ≡ is_some o → b ≡ false → (IsSome o ↔ P) → P → ⊥

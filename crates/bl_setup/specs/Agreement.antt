@@ -2,6 +2,7 @@
 use Rattle.std.specs.Prelude.{◌≡◌, [], length}
 use Rattle.bl_level.specs.Scheme.{SchemeNames}
 use Rattle.bl_setup.specs.Setup.{Setup}
+use Rattle.bl_setup.specs.declared.version.Version.TheVariants.{Two}
 use Rattle.bl_policy.specs.Policy.{no_policy}
 
 -- the policy and the contents are of the subjects and documents that have names
@@ -10,6 +11,6 @@ pub record Agree (setup : Setup) : Type 0 where
   pub documents : length setup.names.documents ≡ length setup.policy.documents
   pub contents : length setup.names.documents ≡ length setup.contents
 
--- a setup that has a scheme alone
+-- a setup that has a scheme alone; own choice: what is read is judged by version 2
 abbrev pub of_scheme : SchemeNames → Setup
-of_scheme scheme = record { names = record { scheme = scheme; subjects = []; documents = [] }; policy = no_policy; contents = [] }
+of_scheme scheme = record { names = record { scheme = scheme; subjects = []; documents = [] }; policy = no_policy; contents = []; version = Two }

@@ -5,6 +5,7 @@
 //!     declared      what a setup file declares, as whole lists
 //!     lines         the lines that are read
 //!     head, draft   the scheme, and a setup while it is read
+//!     version       the versions of trails, by which runs are judged
 //!
 //! Why a file is refused, `fault`, is passed on from below.
 #![tactic(auto)]
@@ -15,5 +16,6 @@ mod head;
 mod lines;
 pub mod reader;
 pub mod setup;
+pub mod version;
 
 pub use bl_declare::fault;

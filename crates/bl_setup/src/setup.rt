@@ -3,6 +3,7 @@ ghost use Rattle.std.specs.Prelude.{◌≡◌, IfOk};
 ghost use Rattle.bl_setup.specs.Agreement.{Agree};
 
 use crate::draft::Draft;
+use crate::version::Version;
 use bl_policy::policy::Policy;
 use bl_work::document::Document;
 use bl_work::names::Names;
@@ -10,7 +11,7 @@ use std::alloc::AllocError;
 use std::marker::Model;
 
 /// The names of subjects and documents with the scheme of their levels, the policy over their positions, and the content
-/// of each document.
+/// of each document. A run over it is judged by version 2.
 #[derive(Drop)]
 pub struct Setup {
     names: Names,
@@ -28,10 +29,11 @@ impl Model for Setup {
     ghost coded = { Prim.hlevel (codes, matrix_code) };
 
     ghost use Rattle.bl_setup.specs.Agreement.{Agree};
+    ghost use Rattle.bl_setup.specs.declared.version.Version.TheVariants.{Two};
 
-    ghost view = { λ s. record { names = s.names; policy = s.policy; contents = s.contents.items } };
+    ghost view = { λ s. record { names = s.names; policy = s.policy; contents = s.contents.items; version = Two } };
 
-    ghost invariant = { λ s. Agree (record { names = s.names; policy = s.policy; contents = s.contents.items }) };
+    ghost invariant = { λ s. Agree (record { names = s.names; policy = s.policy; contents = s.contents.items; version = Two }) };
 }
 
 /// The same contents, each with one more owner.
@@ -91,6 +93,16 @@ impl Setup {
         ensures agree { Agree self.now }
     {
         &self.policy
+    }
+
+    /// The version of trails by which a run over this setup is judged: 2.
+    pub fn version(&self) -> Version
+        ensures value { result ≡ self.now.version }
+        ensures two { self.now.version ≡ Version.Two }
+    {
+        // read for the proof alone: what is said of a setup is said of its fields
+        let _names = &self.names;
+        Version::Two
     }
 
     /// The content of each document, in the order of their names.
