@@ -15,6 +15,7 @@ use Rattle.bl_work.specs.declared.work.Work.TheVariants as work
 use Rattle.bl_work.specs.declared.answer.Answer.{Answer}
 use Rattle.bl_work.specs.declared.answer.Answer.TheVariants.{Denied}
 use Rattle.bl_setup.specs.Setup.{Setup}
+use Rattle.bl_setup.specs.declared.version.Version.TheVariants.{Two}
 use Rattle.bl_order.specs.Order.{Entry, Line}
 use Rattle.bl_order.specs.Past.{place}
 
@@ -106,7 +107,7 @@ allowed_all =
     root note (modes 5)
 
 abbrev pub base : Setup
-base = record { names = names; policy = allowed_all; contents = m1 ∷ n1 ∷ [] ∷ [] }
+base = record { names = names; policy = allowed_all; contents = m1 ∷ n1 ∷ [] ∷ []; version = Two }
 
 -- base, and behind it `subject dan greatest u current u admin`
 abbrev pub with_dan : Setup
@@ -114,6 +115,7 @@ with_dan = record {
   names = record names { subjects = codes "ann" ∷ codes "bob" ∷ codes "cat" ∷ codes "root" ∷ codes "dan" ∷ [] };
   policy = with_subject allowed_all (record { greatest = u; current = u; trusted = false; admin = true });
   contents = m1 ∷ n1 ∷ [] ∷ [];
+  version = Two;
 }
 
 abbrev pub access : Mode → ℕ → Access

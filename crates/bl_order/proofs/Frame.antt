@@ -2,9 +2,12 @@ use Rattle.std.proofs.Common.{◌≡◌, ℕ, zero, suc, ◌<◌, ◌≤◌, Boo
 use mathlib.Core.Path.{fun_ext}
 use Rattle.std.specs.Prelude.{◌-◌, slice_index_or}
 use Rattle.bl_work.specs.Effects.{effects_of, children, after}
+use Rattle.bl_level.specs.Level.{SecurityLevel, join_of}
 use Rattle.bl_setup.specs.Setup.{Setup}
+use Rattle.bl_setup.specs.declared.version.Version.{Version}
+use Rattle.bl_setup.specs.declared.version.Version.TheVariants.{One, Two}
 use Rattle.bl_order.specs.Order.{Entry, Line, Child, Task, conflict, is_altered, is_declared, accesses_of, body_of}
-use Rattle.bl_order.specs.Past.{Past, earlier, place, no_entry, at_place, policy_of, content_of, changed, is_done, subject_of, task_of, child_task, deeds, judged}
+use Rattle.bl_order.specs.Past.{Past, earlier, place, no_entry, at_place, policy_of, content_of, changed, is_done, subject_of, carried_of, task_of, child_task, deeds, judged}
 use Rattle.bl_order.proofs.Sound.{HasParent, HaveParents}
 use Rattle.bl_order.proofs.Places.{made, at_place-earlier, less_or_equal}
 use Rattle.bl_order.specs.Order.{is_rule}
@@ -51,6 +54,11 @@ module _ (s : Setup) (A : List Entry) (l m : ℕ → Bool) (ended : ℕ → Bool
     subject-same (Line i k u w) h = refl
     subject-same (Child p j) h = ap (λ r. r.subject) (parent-same p h.0 h.1)
 
+    carried-same : (v : Version) (e : Entry) → HasParent ended n e → carried_of v (earlier s l A n) e ≡ carried_of v (earlier s m A n) e
+    carried-same One e h = refl
+    carried-same Two (Line i k u w) h = refl
+    carried-same Two (Child p j) h = ap (λ r. join_of r.level r.carried) (parent-same p h.0 h.1)
+
     task-same : (e : Entry) → HasParent ended n e → task_of (earlier s l A n) e ≡ task_of (earlier s m A n) e
     task-same (Line i k u w) h = refl
     task-same (Child p j) h = ap (λ r. child_task r.task (slice_index_or (children r.effects) (j - 1) 0)) (parent-same p h.0 h.1)
@@ -82,11 +90,13 @@ module _ (s : Setup) (A : List Entry) (l m : ℕ → Bool) (ended : ℕ → Bool
           let hl : List Past = earlier s l A n in
           let hm : List Past = earlier s m A n in
           let t : Task = task_of hl e in
-          ap (λ b. judged b (policy_of s hl) (deeds t (content_of s hl)) (subject_of hl e) t) (same_lost n over)
-          ∙ ap (λ y. judged (m n) y (deeds t (content_of s hl)) (subject_of hl e) t) (policy-same over)
-          ∙ ap (λ y. judged (m n) (policy_of s hm) y (subject_of hl e) t) (deeds-same t (content_of s hl) (content_of s hm) (content-same over))
-          ∙ ap (λ y. judged (m n) (policy_of s hm) (deeds t (content_of s hm)) y t) (subject-same e (parents n within))
-          ∙ ap (λ u. judged (m n) (policy_of s hm) (deeds u (content_of s hm)) (subject_of hm e) u) (task-same e (parents n within));
+          let c : SecurityLevel = carried_of s.version hl e in
+          ap (λ b. judged b (policy_of s hl) (deeds t (content_of s hl)) (subject_of hl e) c t) (same_lost n over)
+          ∙ ap (λ y. judged (m n) y (deeds t (content_of s hl)) (subject_of hl e) c t) (policy-same over)
+          ∙ ap (λ y. judged (m n) (policy_of s hm) y (subject_of hl e) c t) (deeds-same t (content_of s hl) (content_of s hm) (content-same over))
+          ∙ ap (λ y. judged (m n) (policy_of s hm) (deeds t (content_of s hm)) y c t) (subject-same e (parents n within))
+          ∙ ap (λ y. judged (m n) (policy_of s hm) (deeds t (content_of s hm)) (subject_of hm e) y t) (carried-same s.version e (parents n within))
+          ∙ ap (λ u. judged (m n) (policy_of s hm) (deeds u (content_of s hm)) (subject_of hm e) (carried_of s.version hm e) u) (task-same e (parents n within));
     }
 
   -- THE FRAME LAW: what an ended place is answered rests on ended places alone

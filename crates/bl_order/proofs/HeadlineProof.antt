@@ -2,6 +2,7 @@ use Rattle.std.proofs.Common.{◌≡◌, ℕ, zero, suc, ◌<◌, ◌≤◌, map
 use Rattle.std.specs.Prelude.{All, IsTrue, Option, Some, None}
 use Rattle.std.proofs.lemmas.List.Elements.{All-from_recursion}
 use Rattle.std.specs.List.{AllByRecursion}
+use Rattle.bl_level.specs.Level.{SecurityLevel}
 use Rattle.bl_policy.specs.Policy.{SecurityPolicy}
 use Rattle.bl_policy.specs.Properties.{IsSecure}
 use Rattle.bl_policy.specs.declared.access.Access.{Access}
@@ -27,14 +28,14 @@ done-no_fault true f t es h = absurd (true≢false (sym h))
 done-no_fault false None t es h = refl
 done-no_fault false (Some d) t es h = absurd (true≢false (sym h))
 
-secure-task : (p : SecurityPolicy) (s : ℕ) (t : Task) → fault_of_task p s t ≡ None → AllByRecursion (λ a. IsSecure p s a.doc a.mode) (accesses_of t)
-secure-task p s (Runs z i) h = secure-all p s (accesses_of (Runs z i)) h
-secure-task p s (Applies rule) h = tt
+secure-task : (p : SecurityPolicy) (s : ℕ) (carried : SecurityLevel) (t : Task) → fault_of_task p s carried t ≡ None → AllByRecursion (λ a. IsSecure p s a.doc a.mode) (accesses_of t)
+secure-task p s carried (Runs z i) h = secure-all p s carried (accesses_of (Runs z i)) h
+secure-task p s carried (Applies rule) h = tt
 
 -- a place that is answered Done is secure at its place
 pub secure-at : (x : State) (n : ℕ) → is_done (past_at x n).answer ≡ true
     → AllByRecursion (λ (a : Access). IsSecure (policy_at x n) (past_at x n).subject a.doc a.mode) (accesses_of (past_at x n).task)
-secure-at x n d = (secure-task (policy_at x n) (past_at x n).subject (past_at x n).task (done-no_fault (is_lost x n) _ (past_at x n).task _ d))
+secure-at x n d = (secure-task (policy_at x n) (past_at x n).subject (past_at x n).carried (past_at x n).task (done-no_fault (is_lost x n) _ (past_at x n).task _ d))
 
 -- the first place that has not ended
 all_or_first : (f : ℕ → Bool) (n : ℕ) → ((m : ℕ) → m < n → f m ≡ true) ⊎ ((m : ℕ) × (m < n) × (f m ≡ false) × ((k : ℕ) → k < m → f k ≡ true))

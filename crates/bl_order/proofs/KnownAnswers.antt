@@ -1,9 +1,10 @@
 -- An answer names no ids but those of its setup.
 use Rattle.std.proofs.Common.{ℕ, zero, suc, ◌<◌, Bool, true, false, cond, List, [], ◌∷◌, length, arith}
 use Rattle.std.specs.Prelude.{All, IfSome, Option, Some, None, option_map}
+use Rattle.bl_level.specs.Level.{SecurityLevel}
 use Rattle.bl_policy.specs.Policy.{SecurityPolicy, clearance_of}
-use Rattle.bl_policy.specs.Properties.{is_simple, is_star, is_discretionary}
-use Rattle.bl_policy.specs.FirstFault.{denied, fault_of, fault_or, first_fault}
+use Rattle.bl_policy.specs.Properties.{is_simple, is_star, is_discretionary, is_carry}
+use Rattle.bl_policy.specs.FirstFault.{denied, property_fault, carry_fault, fault_of, fault_or, first_fault}
 use Rattle.bl_policy.specs.declared.access.Access.{Access}
 use Rattle.bl_policy.specs.RuleEffect.{IsRuleOf, document_of, failed_condition, refusal, rule_fault}
 use Rattle.bl_policy.specs.declared.denial.Clause.{Clause}
@@ -25,17 +26,24 @@ module _ (setup : Setup) (p : SecurityPolicy) (s : ℕ) (known : s < length setu
   one doc there true false d = record { subject = known; object = there }
   one doc there false c d = record { subject = known; object = there }
 
+  carries : (doc : ℕ) → doc < length setup.policy.documents → (b : Bool) → IfSome (cond b None (denied failing.Carry s doc)) (KnowsDenial setup)
+  carries doc there true = tt
+  carries doc there false = record { subject = known; object = there }
+
   either : (first later : Option Denial) → IfSome first (KnowsDenial setup) → IfSome later (KnowsDenial setup) → IfSome (fault_or first later) (KnowsDenial setup)
   either None later here there = there
   either (Some denial) later here there = here
 
   -- what the policy has against accesses whose documents are there
-  fault_known : (accesses : List Access) → All (λ (a : Access). a.doc < length setup.policy.documents) accesses → IfSome (first_fault p s accesses) (KnowsDenial setup)
-  fault_known [] below = tt
-  fault_known (a ∷ rest) below =
-      either (fault_of p s a) (first_fault p s rest)
+  fault_known : (carried : SecurityLevel) (accesses : List Access) → All (λ (a : Access). a.doc < length setup.policy.documents) accesses
+      → IfSome (first_fault p s carried accesses) (KnowsDenial setup)
+  fault_known carried [] below = tt
+  fault_known carried (a ∷ rest) below =
+      either (fault_of p s carried a) (first_fault p s carried rest)
+      (either (property_fault p s a) (carry_fault p s carried a)
       (one a.doc (below zero a (omega arith)) (is_simple p s a.doc a.mode) (is_star p s a.doc a.mode) (is_discretionary p s a.doc a.mode))
-      (fault_known rest (λ k d lt. below (suc k) d (omega (arith, lt))))
+      (carries a.doc (below zero a (omega arith)) (is_carry p s carried a.doc a.mode)))
+      (fault_known carried rest (λ k d lt. below (suc k) d (omega (arith, lt))))
 
   document_known : (rule : Rule) → IsRuleOf setup.policy rule → IfSome (document_of rule) (λ doc. doc < length setup.policy.documents)
   document_known (Give t o m) there = there.1
@@ -52,9 +60,9 @@ module _ (setup : Setup) (p : SecurityPolicy) (s : ℕ) (known : s < length setu
       go (Some clause) = record { subject = known; object = document_known rule there }
 
   -- what the policy has against a task whose ids are there
-  pub denial_known : (task : Task) → KnowsTask setup task → IfSome (fault_of_task p s task) (KnowsDenial setup)
-  denial_known (Runs script index) there = fault_known (accesses_of (Runs script index)) there
-  denial_known (Applies rule) there = refusal_known rule there
+  pub denial_known : (carried : SecurityLevel) (task : Task) → KnowsTask setup task → IfSome (fault_of_task p s carried task) (KnowsDenial setup)
+  denial_known carried (Runs script index) there = fault_known carried (accesses_of (Runs script index)) there
+  denial_known carried (Applies rule) there = refusal_known rule there
 
 -- an answer names no ids but those of what is held against its task
 pub answer_known : (setup : Setup) (lost : Bool) (fault : Option Denial) (task : Task) (effects : List Effect)

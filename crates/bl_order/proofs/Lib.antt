@@ -23,3 +23,4 @@ pub mod ReadLines
 pub mod ReadableLines
 pub mod KnownAnswers
 pub mod TheHeadlineProof
+pub mod LineageProof

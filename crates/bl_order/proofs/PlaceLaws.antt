@@ -1,15 +1,19 @@
 -- What the record of a place says.
 use Rattle.std.proofs.Common.{◌≡◌, ℕ, zero, suc, ◌-◌, ◌<◌, ◌≤◌, Bool, true, false, cond, ◌&&◌, ◌||◌, not, List, [], ◌∷◌, length, map, refl, sym, ◌∙◌, ap, inl, inr, arith, ◌⊎◌, true≢false, get_or, eqb-true}
 use Rattle.std.specs.Prelude.{◌==◌, Option, Some, None, slice_get, slice_index_or, nat_lt}
-use Rattle.bl_policy.specs.Policy.{SecurityPolicy}
+use Rattle.bl_level.specs.Level.{SecurityLevel, join_of}
+use Rattle.bl_policy.specs.Policy.{SecurityPolicy, current_of, lowest}
 use Rattle.bl_policy.specs.RuleEffect.{rule_fault, rule_makes, unless_failed, after_rule}
 use Rattle.bl_policy.specs.declared.denial.Denial.{Denial}
 use Rattle.bl_policy.specs.declared.rule.Rule.{Rule}
 use Rattle.bl_work.specs.Effects.{Effect, after, children}
 use Rattle.bl_work.specs.declared.answer.Answer.TheVariants.{RuleDone, Denied, Lost}
 use Rattle.bl_setup.specs.Setup.{Setup}
+use Rattle.bl_setup.specs.declared.version.Version.{Version}
+use Rattle.bl_setup.specs.declared.version.Version.TheVariants.{One, Two}
+use Rattle.bl_work.specs.declared.work.Work.{Work}
 use Rattle.bl_order.specs.Order.{Entry, Child, Task, Runs, Applies, is_rule, conflict, is_altered, accesses_of, Line, unnamed}
-use Rattle.bl_order.specs.Past.{Past, earlier, place, past_of, no_entry, policy_of, content_of, is_done, subject_of, task_of, child_task, deeds, answer_of, was_lost, fault_of_task, changed}
+use Rattle.bl_order.specs.Past.{Past, earlier, place, past_of, no_entry, policy_of, content_of, is_done, at_place, subject_of, carried_of, task_of, child_task, deeds, judged, answer_of, was_lost, fault_of_task, changed}
 use Rattle.bl_order.specs.Laws.{IsAnswered, IsClosed, KeepsAnswers, lost_too, RulesMakeThePolicy, fault_at}
 use Rattle.bl_order.specs.Machine.{State, past_at, has_ended, phase_at, MayStart, may_start, is_clear, is_waiting}
 use Rattle.std.proofs.lemmas.Bool.Decides.{nat_tests}
@@ -50,8 +54,15 @@ place-lost setup l m order n same =
 
 -- ---- sessions and ordinals
 
+carried-unnamed : (v : Version) (h : List Past) (session ordinal subject : ℕ) (work : Work)
+    → carried_of v h (Line 0 0 subject work) ≡ carried_of v h (Line session ordinal subject work)
+carried-unnamed One h session ordinal subject work = refl
+carried-unnamed Two h session ordinal subject work = refl
+
 past-unnamed : (setup : Setup) (lost : Bool) (h : List Past) (e : Entry) → past_of setup lost h (unnamed e) ≡ past_of setup lost h e
-past-unnamed setup lost h (Line session ordinal subject work) = refl
+past-unnamed setup lost h (Line session ordinal subject work) =
+    ap (λ c. judged lost (policy_of setup h) (deeds (task_of h (Line 0 0 subject work)) (content_of setup h)) subject c (task_of h (Line 0 0 subject work)))
+    (carried-unnamed setup.version h session ordinal subject work)
 past-unnamed setup lost h (Child parent which) = refl
 
 get-unnamed : (order : List Entry) (n : ℕ) → get_or (map unnamed order) n no_entry ≡ unnamed (get_or order n no_entry)
@@ -100,10 +111,10 @@ module _ (setup : Setup) (lost : ℕ → Bool) (order : List Entry) (doc : ℕ) 
 -- ---- rules
 
 -- what is denied is a task that the policy has this against, and changes nothing
-denied_changes : (b : Bool) (p : SecurityPolicy) (s : ℕ) (t : Task) (es : List Effect) (denial : Denial) → answer_of b (fault_of_task p s t) t es ≡ Denied denial
-    → changed (answer_of b (fault_of_task p s t) t es) t s p ≡ p
-denied_changes b p s (Runs script index) es denial h = refl
-denied_changes b p s (Applies rule) es denial h = go b (rule_fault p s rule) h refl
+denied_changes : (b : Bool) (p : SecurityPolicy) (s : ℕ) (carried : SecurityLevel) (t : Task) (es : List Effect) (denial : Denial)
+    → answer_of b (fault_of_task p s carried t) t es ≡ Denied denial → changed (answer_of b (fault_of_task p s carried t) t es) t s p ≡ p
+denied_changes b p s carried (Runs script index) es denial h = refl
+denied_changes b p s carried (Applies rule) es denial h = go b (rule_fault p s rule) h refl
   where
     go : (c : Bool) (f : Option Denial) → answer_of c f (Applies rule) es ≡ Denied denial → rule_fault p s rule ≡ f → changed (answer_of c f (Applies rule) es) (Applies rule) s p ≡ p
     go true f k is = refl
@@ -134,13 +145,13 @@ pub rules-make : (setup : Setup) (lost : ℕ → Bool) (order : List Entry) (n :
 rules-make setup lost order n = record {
   at_first = refl;
   by_a_rule = λ rule is kept.
-      ap (λ t. changed (answer_of (lost n) (fault_of_task before subject t) t all) t subject before) is
+      ap (λ t. changed (answer_of (lost n) (fault_of_task before subject carried t) t all) t subject before) is
       ∙ ap (λ b. changed (answer_of b (rule_fault before subject rule) (Applies rule) all) (Applies rule) subject before) kept
       ∙ ap (λ b. cond b before (after_rule before subject rule)) (kept_lost (rule_fault before subject rule) (Applies rule) all);
   by_one_that_is_done = λ rule is done.
-      ap (λ t. changed (answer_of (lost n) (fault_of_task before subject t) t all) t subject before) is
-      ∙ done_makes (lost n) before subject rule all (ap (λ t. answer_of (lost n) (fault_of_task before subject t) t all) (sym is) ∙ done);
-  by_none_refused = λ denial h. denied_changes (lost n) before subject (place setup lost order n).task all denial h;
+      ap (λ t. changed (answer_of (lost n) (fault_of_task before subject carried t) t all) t subject before) is
+      ∙ done_makes (lost n) before subject rule all (ap (λ t. answer_of (lost n) (fault_of_task before subject carried t) t all) (sym is) ∙ done);
+  by_none_refused = λ denial h. denied_changes (lost n) before subject carried (place setup lost order n).task all denial h;
   by_none_lost = λ gone.
       ap (λ b. changed (answer_of b (fault_at setup lost order n) (place setup lost order n).task all) (place setup lost order n).task subject before) gone
       ∙ lost_changes (place setup lost order n).task subject before;
@@ -152,6 +163,9 @@ rules-make setup lost order n = record {
 
     subject : ℕ
     subject = (place setup lost order n).subject
+
+    carried : SecurityLevel
+    carried = (place setup lost order n).carried
 
     all : List Effect
     all = deeds (place setup lost order n).task (content_of setup (earlier setup lost order n))
@@ -179,6 +193,38 @@ pub task-child : (setup : Setup) (lost : ℕ → Bool) (order : List Entry) (n p
 task-child setup lost order n parent which lt h =
     ap (task_of (earlier setup lost order n)) (entry-at order n (Child parent which) h)
     ∙ ap (λ p. child_task p.task (slice_index_or (children p.effects) (which - 1) 0)) (at_place-earlier setup lost order n parent lt)
+
+carried-by : (v : Version) (h : List Past) (parent which : ℕ) → v ≡ Two
+    → carried_of v h (Child parent which) ≡ join_of (at_place h parent).level (at_place h parent).carried
+carried-by One h parent which e = absurd (cc)
+carried-by Two h parent which e = refl
+
+carried-none : (v : Version) (h : List Past) (e : Entry) → v ≡ One → carried_of v h e ≡ lowest
+carried-none One h e is = refl
+carried-none Two h e is = absurd (cc)
+
+carried-line : (v : Version) (h : List Past) (session ordinal subject : ℕ) (work : Work) → carried_of v h (Line session ordinal subject work) ≡ lowest
+carried-line One h session ordinal subject work = refl
+carried-line Two h session ordinal subject work = refl
+
+-- a child carries its parent's level with what that carried
+pub carried-child : (setup : Setup) (lost : ℕ → Bool) (order : List Entry) (n parent which : ℕ) → setup.version ≡ Two → parent < n → slice_get order n ≡ Some (Child parent which)
+    → (place setup lost order n).carried ≡ join_of (place setup lost order parent).level (place setup lost order parent).carried
+carried-child setup lost order n parent which two lt h =
+    ap (carried_of setup.version (earlier setup lost order n)) (entry-at order n (Child parent which) h)
+    ∙ carried-by setup.version (earlier setup lost order n) parent which two
+    ∙ ap (λ p. join_of p.level p.carried) (at_place-earlier setup lost order n parent lt)
+
+-- in version 1 nothing is carried
+pub carried-nothing : (setup : Setup) (lost : ℕ → Bool) (order : List Entry) (n : ℕ) → setup.version ≡ One → (place setup lost order n).carried ≡ lowest
+carried-nothing setup lost order n one = carried-none setup.version (earlier setup lost order n) (get_or order n no_entry) one
+
+-- a line carries nothing
+pub line-carries_nothing : (setup : Setup) (lost : ℕ → Bool) (order : List Entry) (n session ordinal subject : ℕ) (work : Work)
+    → slice_get order n ≡ Some (Line session ordinal subject work) → (place setup lost order n).carried ≡ lowest
+line-carries_nothing setup lost order n session ordinal subject work h =
+    ap (carried_of setup.version (earlier setup lost order n)) (entry-at order n (Line session ordinal subject work) h)
+    ∙ carried-line setup.version (earlier setup lost order n) session ordinal subject work
 
 -- ---- who may start
 

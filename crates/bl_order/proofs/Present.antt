@@ -146,7 +146,7 @@ started_acts a (Runs script index) s v never = same (is_over (cond (is_done a) R
     same false w = refl
 
 pub lost-answer : (s : Setup) (l : ℕ → Bool) (A : List Entry) (n : ℕ) → l n ≡ true → (place s l A n).answer ≡ Lost
-lost-answer s l A n e = ap (λ b. (judged b (policy_of s (earlier s l A n)) (deeds (place s l A n).task (content_of s (earlier s l A n))) (place s l A n).subject (place s l A n).task).answer) e
+lost-answer s l A n e = ap (λ b. (judged b (policy_of s (earlier s l A n)) (deeds (place s l A n).task (content_of s (earlier s l A n))) (place s l A n).subject (place s l A n).carried (place s l A n).task).answer) e
 
 -- what is lost changes no policy
 lost_changes : (t : Task) (s : ℕ) (v : SecurityPolicy) → changed Lost t s v ≡ v

@@ -7,7 +7,7 @@ use Rattle.bl_level.specs.Level.{SecurityLevel}
 use Rattle.bl_level.proofs.Dominance.{dominates-sets}
 use Rattle.bl_policy.specs.Policy.{SecurityPolicy, greatest_of, current_of, level_of, is_trusted}
 use Rattle.bl_policy.specs.Properties.{observes, Observes, flows, Flows, is_simple, is_star, is_discretionary, IsSecure}
-use Rattle.bl_policy.specs.FirstFault.{first_fault, fault_of, fault_or, denied}
+use Rattle.bl_policy.specs.FirstFault.{first_fault, property_fault, carry_fault, fault_of, fault_or, denied}
 use Rattle.bl_policy.specs.declared.access.Access.{Access}
 use Rattle.bl_policy.specs.declared.access.Mode.{Mode}
 use Rattle.bl_policy.specs.declared.access.Mode.TheVariants.{Read, Append, Write}
@@ -33,7 +33,7 @@ star-is : (trusted : Bool) (current level : SecurityLevel) (m : Mode) → (trust
 star-is true current level m h = inl refl
 star-is false current level m h = inr (flows-is current level m h)
 
-secure-access : (p : SecurityPolicy) (s : ℕ) (a : Access) → fault_of p s a ≡ None → IsSecure p s a.doc a.mode
+secure-access : (p : SecurityPolicy) (s : ℕ) (a : Access) → property_fault p s a ≡ None → IsSecure p s a.doc a.mode
 secure-access p s a h = go (is_simple p s a.doc a.mode) (is_star p s a.doc a.mode) (is_discretionary p s a.doc a.mode) refl refl refl h
   where
     go : (x y z : Bool) → is_simple p s a.doc a.mode ≡ x → is_star p s a.doc a.mode ≡ y → is_discretionary p s a.doc a.mode ≡ z
@@ -52,8 +52,10 @@ fault_or-none None b h = (refl, h)
 fault_or-none (Some d) b h = absurd (cc)
 
 -- where no access is at fault, each has the properties
-pub secure-all : (p : SecurityPolicy) (s : ℕ) (accesses : List Access) → first_fault p s accesses ≡ None → AllByRecursion (λ (a : Access). IsSecure p s a.doc a.mode) accesses
-secure-all p s [] h = tt
-secure-all p s (a ∷ rest) h =
-    let none : (fault_of p s a ≡ None) × (first_fault p s rest ≡ None) = fault_or-none (fault_of p s a) (first_fault p s rest) h in
-    (secure-access p s a none.0, secure-all p s rest none.1)
+pub secure-all : (p : SecurityPolicy) (s : ℕ) (carried : SecurityLevel) (accesses : List Access) → first_fault p s carried accesses ≡ None
+    → AllByRecursion (λ (a : Access). IsSecure p s a.doc a.mode) accesses
+secure-all p s carried [] h = tt
+secure-all p s carried (a ∷ rest) h =
+    let none : (fault_of p s carried a ≡ None) × (first_fault p s carried rest ≡ None) = fault_or-none (fault_of p s carried a) (first_fault p s carried rest) h in
+    let here : (property_fault p s a ≡ None) × (carry_fault p s carried a ≡ None) = fault_or-none (property_fault p s a) (carry_fault p s carried a) none.0 in
+    (secure-access p s a here.0, secure-all p s carried rest none.1)

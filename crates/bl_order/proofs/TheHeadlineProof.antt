@@ -2,9 +2,10 @@
 use Rattle.std.proofs.Common.{◌≡◌, ℕ, suc, ◌<◌, ◌≤◌, Bool, true, false, cond, leb, List, length, take, drop, take-append-drop, length-take-le, refl, sym, ◌∙◌, ap, inl, inr, arith, subst, ◌++◌, ◌⊎◌, true≢false}
 use Rattle.std.specs.Prelude.{◌↔◌, All, IsTrue, Option, Some, None}
 use Rattle.std.proofs.lemmas.Bool.{leb-true, leb-false}
+use Rattle.bl_level.specs.Level.{SecurityLevel}
 use Rattle.bl_policy.specs.FirstFault.{first_fault, IsFirstFault}
 use Rattle.bl_policy.specs.Policy.{SecurityPolicy}
-use Rattle.bl_policy.specs.Properties.{IsSecure}
+use Rattle.bl_policy.specs.Properties.{IsGranted}
 use Rattle.bl_policy.specs.RuleEffect.{rule_fault, rule_makes, unless_failed, IsRuleFault}
 use Rattle.bl_policy.specs.declared.access.Access.{Access}
 use Rattle.bl_policy.specs.declared.denial.Denial.{Denial}
@@ -33,8 +34,10 @@ use Rattle.bl_order.proofs.Trails.{moves-start, moves-end, moves-lost, within, p
 
 -- what bl_policy promises of first faults
 pub record FaultLaws : Type 0 where
-  pub none : (p : SecurityPolicy) (s : ℕ) (accesses : List Access) → (first_fault p s accesses ≡ None) ↔ All (λ access. IsSecure p s access.doc access.mode) accesses
-  pub some : (p : SecurityPolicy) (s : ℕ) (accesses : List Access) (denial : Denial) → first_fault p s accesses ≡ Some denial → IsFirstFault p s accesses denial
+  pub none : (p : SecurityPolicy) (s : ℕ) (carried : SecurityLevel) (accesses : List Access)
+      → (first_fault p s carried accesses ≡ None) ↔ All (λ access. IsGranted p s carried access.doc access.mode) accesses
+  pub some : (p : SecurityPolicy) (s : ℕ) (carried : SecurityLevel) (accesses : List Access) (denial : Denial)
+      → first_fault p s carried accesses ≡ Some denial → IsFirstFault p s carried accesses denial
   pub rule : (p : SecurityPolicy) (s : ℕ) (rule : Rule) (denial : Denial) → rule_fault p s rule ≡ Some denial → IsRuleFault p s rule denial
 
 -- ---- answers and faults
@@ -65,17 +68,17 @@ denied_fault false None (Runs script index) es denial h = absurd (cc)
 denied_fault false None (Applies rule) es denial h = absurd (cc)
 denied_fault false (Some d) t es denial h = let same : d ≡ denial = cc in ap Some same
 
-behaviour_fault : (p : SecurityPolicy) (s : ℕ) (t : Task) → is_rule t ≡ false → fault_of_task p s t ≡ first_fault p s (accesses_of t)
-behaviour_fault p s (Runs script index) h = refl
-behaviour_fault p s (Applies rule) h = absurd (true≢false h)
+behaviour_fault : (p : SecurityPolicy) (s : ℕ) (carried : SecurityLevel) (t : Task) → is_rule t ≡ false → fault_of_task p s carried t ≡ first_fault p s carried (accesses_of t)
+behaviour_fault p s carried (Runs script index) h = refl
+behaviour_fault p s carried (Applies rule) h = absurd (true≢false h)
 
-named : (laws : FaultLaws) (p : SecurityPolicy) (s : ℕ) (t : Task) (denial : Denial) → fault_of_task p s t ≡ Some denial → IsFirstFaultOf p s t denial
-named laws p s (Runs script index) denial h = laws.some p s (accesses_of (Runs script index)) denial h
-named laws p s (Applies rule) denial h = laws.rule p s rule denial h
+named : (laws : FaultLaws) (p : SecurityPolicy) (s : ℕ) (carried : SecurityLevel) (t : Task) (denial : Denial) → fault_of_task p s carried t ≡ Some denial → IsFirstFaultOf p s carried t denial
+named laws p s carried (Runs script index) denial h = laws.some p s carried (accesses_of (Runs script index)) denial h
+named laws p s carried (Applies rule) denial h = laws.rule p s rule denial h
 
-idle_policy : (p : SecurityPolicy) (s : ℕ) (t : Task) (a : Answer) (denial : Denial) → a ≡ Denied denial → fault_of_task p s t ≡ Some denial → changed a t s p ≡ p
-idle_policy p s (Runs script index) a denial is fault = refl
-idle_policy p s (Applies rule) a denial is fault = ap (λ b. changed b (Applies rule) s p) is ∙ ap (λ f. unless_failed f (rule_makes p s rule) p) fault
+idle_policy : (p : SecurityPolicy) (s : ℕ) (carried : SecurityLevel) (t : Task) (a : Answer) (denial : Denial) → a ≡ Denied denial → fault_of_task p s carried t ≡ Some denial → changed a t s p ≡ p
+idle_policy p s carried (Runs script index) a denial is fault = refl
+idle_policy p s carried (Applies rule) a denial is fault = ap (λ b. changed b (Applies rule) s p) is ∙ ap (λ f. unless_failed f (rule_makes p s rule) p) fault
 
 -- what a place would do
 abbrev would : State → ℕ → List Effect
@@ -83,7 +86,7 @@ would x n = deeds (past_at x n).task (content_of x.setup (earlier x.setup (is_lo
 
 -- what the policy at a place has against it
 abbrev fault_there : State → ℕ → Option Denial
-fault_there x n = fault_of_task (policy_at x n) (past_at x n).subject (past_at x n).task
+fault_there x n = fault_of_task (policy_at x n) (past_at x n).subject (past_at x n).carried (past_at x n).task
 
 -- ---- a start
 
@@ -98,16 +101,16 @@ module _ (x : State) (sound : IsSound x) (n : ℕ) (may : MayStart x n) where
   ends_then h = ap is_over phase_then ∙ over_unless (is_done (past_at x n).answer) h
 
   module _ (laws : FaultLaws) (behaves : is_rule (past_at x n).task ≡ false) where
-    same_fault : fault_there x n ≡ first_fault (policy_at x n) (past_at x n).subject (accesses_of (past_at x n).task)
-    same_fault = behaviour_fault (policy_at x n) (past_at x n).subject (past_at x n).task behaves
+    same_fault : fault_there x n ≡ first_fault (policy_at x n) (past_at x n).subject (past_at x n).carried (accesses_of (past_at x n).task)
+    same_fault = behaviour_fault (policy_at x n) (past_at x n).subject (past_at x n).carried (past_at x n).task behaves
 
     there : is_done (past_at x n).answer ≡ true → IsAllowedAt x n
-    there h = (laws.none (policy_at x n) (past_at x n).subject (accesses_of (past_at x n).task)).0
+    there h = (laws.none (policy_at x n) (past_at x n).subject (past_at x n).carried (accesses_of (past_at x n).task)).0
         (sym same_fault ∙ done-no_fault (is_lost x n) (fault_there x n) (past_at x n).task (would x n) h)
 
     back : IsAllowedAt x n → is_done (past_at x n).answer ≡ true
     back all = done-where_none (is_lost x n) (fault_there x n) (past_at x n).task (would x n) (waits_not_gone (phase_at x n) may.waits)
-        (same_fault ∙ (laws.none (policy_at x n) (past_at x n).subject (accesses_of (past_at x n).task)).1 all) behaves
+        (same_fault ∙ (laws.none (policy_at x n) (past_at x n).subject (past_at x n).carried (accesses_of (past_at x n).task)).1 all) behaves
 
     pub runs_exactly : IsTrue (runs (change x (Starts n)) n) ↔ IsAllowedAt x n
     runs_exactly = ((λ h. there (sym runs_then ∙ h)), (λ all. runs_then ∙ back all))
@@ -175,12 +178,12 @@ headline-reached laws x r =
       runs_where_allowed = λ n may behaves. runs_exactly x sound n may laws behaves;
       start_leaves = λ k n may. past-started x sound k may n;
       start_ends = λ n may h. ends_then x sound n may h;
-      denied_rightly = λ n denial h. named laws (policy_at x n) (past_at x n).subject (past_at x n).task denial (denied_fault (is_lost x n) (fault_there x n) (past_at x n).task (would x n) denial h);
+      denied_rightly = λ n denial h. named laws (policy_at x n) (past_at x n).subject (past_at x n).carried (past_at x n).task denial (denied_fault (is_lost x n) (fault_there x n) (past_at x n).task (would x n) denial h);
       denied_idle = λ n denial may h. record {
         policy =
             moves.start_policy n may
             ∙ ap (changed (past_at x n).answer (past_at x n).task (past_at x n).subject) (holds.at_ready n may)
-            ∙ idle_policy (policy_at x n) (past_at x n).subject (past_at x n).task (past_at x n).answer denial h
+            ∙ idle_policy (policy_at x n) (past_at x n).subject (past_at x n).carried (past_at x n).task (past_at x n).answer denial h
             (denied_fault (is_lost x n) (fault_there x n) (past_at x n).task (would x n) denial h)
             ∙ sym (holds.at_ready n may);
         contents = λ doc. moves.start_content n doc may;

@@ -3,8 +3,8 @@ use Rattle.std.specs.Prelude.{◌≡◌, ℕ, ◌<◌, ◌≤◌, false, IsTrue,
 use Rattle.bl_work.specs.declared.work.Work.{Work}
 use Rattle.bl_work.specs.Effects.{after}
 use Rattle.bl_setup.specs.Setup.{Setup}
-use Rattle.bl_order.specs.Order.{accesses_of, is_altered, is_declared}
-use Rattle.bl_order.specs.Past.{changed}
+use Rattle.bl_order.specs.Order.{accesses_of, is_declared}
+use Rattle.bl_order.specs.Past.{changed, may_alter}
 use Rattle.bl_order.specs.Machine.{State, Event, Opens, Admits, Starts, Ends, Loses, past_at, is_lost, has_ended, runs, MayStart, Needs, IsTrail, change, start, state_after}
 use Rattle.bl_order.specs.Now.{policy_at, policy_now, content_at, content_now, IsFirstToAlter}
 use Rattle.bl_order.specs.Laws.{IsClosed}
@@ -53,7 +53,7 @@ pub record MovesOn (x : State) : Type 0 where
   pub end_policy : (n : ℕ) → IsTrue (runs x n) → policy_now (change x (Ends n)) ≡ policy_now x
   pub end_content : (n doc : ℕ) → IsTrue (runs x n)
       → content_now (change x (Ends n)) doc
-      ≡ (if is_altered (accesses_of (past_at x n).task) doc
+      ≡ (if may_alter (past_at x n).task doc
       then after (content_now x doc) (past_at x n).effects doc
       else content_now x doc)
   -- a loss, a line and an opening change neither

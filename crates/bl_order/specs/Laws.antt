@@ -1,13 +1,17 @@
 -- What is said of places, in the words of their answers, contents and children.
 use Rattle.std.specs.Prelude.{◌≡◌, ℕ, suc, ◌-◌, ◌<◌, ◌≤◌, Bool, true, false, ◌&&◌, ◌||◌, ◌==◌, List, [], ◌++◌, length, slice_index_or, Option, Some, None, slice_get}
+use Rattle.bl_level.specs.Level.{join_of}
+use Rattle.bl_policy.specs.Policy.{current_of, lowest}
 use Rattle.bl_policy.specs.RuleEffect.{rule_makes, after_rule}
 use Rattle.bl_policy.specs.declared.denial.Denial.{Denial}
 use Rattle.bl_policy.specs.declared.rule.Rule.{Rule}
 use Rattle.bl_work.specs.Effects.{after, children}
 use Rattle.bl_work.specs.declared.answer.Answer.TheVariants.{RuleDone, Denied, Lost}
+use Rattle.bl_work.specs.declared.work.Work.{Work}
 use Rattle.bl_setup.specs.Setup.{Setup}
-use Rattle.bl_order.specs.Order.{Entry, Task, Applies, is_rule, is_altered, accesses_of, conflict, Child}
-use Rattle.bl_order.specs.Past.{place, policy_before, content_before, is_done, child_task, deeds, fault_of_task, granted}
+use Rattle.bl_setup.specs.declared.version.Version.TheVariants.{One, Two}
+use Rattle.bl_order.specs.Order.{Entry, Task, Applies, is_rule, conflict, Line, Child}
+use Rattle.bl_order.specs.Past.{place, policy_before, content_before, is_done, may_alter, child_task, deeds, fault_of_task, granted}
 
 -- the places of an order keep their records where more entries come
 abbrev pub KeepsPlaces : Setup → (ℕ → Bool) → List Entry → List Entry → Type 0
@@ -21,11 +25,13 @@ RestsOnLossesBefore setup order n =
 module _ (setup : Setup) (lost : ℕ → Bool) (order : List Entry) where
   -- what the policy at a place has against what it does
   abbrev pub fault_at : ℕ → Option Denial
-  fault_at n = fault_of_task (policy_before setup lost order n) (place setup lost order n).subject (place setup lost order n).task
+  fault_at n =
+      fault_of_task (policy_before setup lost order n) (place setup lost order n).subject (place setup lost order n).carried
+      (place setup lost order n).task
 
   -- the place ran, and it declares the document append or write
   abbrev pub wrote : ℕ → ℕ → Bool
-  wrote doc n = is_done (place setup lost order n).answer && is_altered (accesses_of (place setup lost order n).task) doc
+  wrote doc n = is_done (place setup lost order n).answer && may_alter (place setup lost order n).task doc
 
 -- A lost place answers so; another is denied with what the policy at its place has against it, or granted where that is
 -- nothing. What ran did its deeds on the contents at its place, and what did not run did nothing.
@@ -72,11 +78,26 @@ abbrev pub LeavesThePolicy : Setup → (ℕ → Bool) → List Entry → ℕ →
 LeavesThePolicy setup lost order n =
     ((k : ℕ) → k < n → is_rule (place setup lost order k).task ≡ false) → policy_before setup lost order n ≡ setup.policy
 
--- a child speaks for its parent's subject, and runs the behaviour that its parent's spawn of its number named
+-- A child speaks for its parent's subject, runs the behaviour that its parent's spawn of its number named, and carries the level at which its
+-- parent ran with what that carried; in version 1 it carries nothing.
 pub record FollowsItsParent (setup : Setup) (lost : ℕ → Bool) (order : List Entry) (n parent which : ℕ) : Type 0 where
   pub subject : (place setup lost order n).subject ≡ (place setup lost order parent).subject
   pub task : (place setup lost order n).task
       ≡ child_task (place setup lost order parent).task (slice_index_or (children (place setup lost order parent).effects) (which - 1) 0)
+  pub carried : setup.version ≡ Two → (place setup lost order n).carried
+      ≡ join_of (place setup lost order parent).level (place setup lost order parent).carried
+  pub carries_nothing : setup.version ≡ One → (place setup lost order n).carried ≡ lowest
+
+-- a line carries nothing
+abbrev pub LineCarriesNothing : Setup → (ℕ → Bool) → List Entry → ℕ → Type 0
+LineCarriesNothing setup lost order n =
+    (session ordinal subject : ℕ) (work : Work) → slice_get order n ≡ Some (Line session ordinal subject work)
+    → (place setup lost order n).carried ≡ lowest
+
+-- a place runs at its subject's current level, by the policy at the place
+abbrev pub RunsAtItsLevel : Setup → (ℕ → Bool) → List Entry → ℕ → Type 0
+RunsAtItsLevel setup lost order n =
+    (place setup lost order n).level ≡ current_of (policy_before setup lost order n) (place setup lost order n).subject
 
 -- A set of ended places is closed: where a place has ended, so has each earlier one that it conflicts with, and each child
 -- stands behind its parent, which has ended.

@@ -9,6 +9,7 @@ pub mod Legal
 pub mod Headline
 pub mod Room
 pub mod AtHand
+pub mod Lineage
 pub mod Known
 pub mod Codes
 pub mod TheHeadline

@@ -2,8 +2,8 @@
 use Rattle.std.specs.Prelude.{◌≡◌, ℕ, zero, suc, ◌<◌, ◌≤◌, Bool, false, IsTrue, if◌then◌else◌, List, [], ◌∷◌, length}
 use Rattle.bl_policy.specs.Policy.{SecurityPolicy}
 use Rattle.bl_setup.specs.Setup.{Setup}
-use Rattle.bl_order.specs.Order.{Entry, accesses_of, is_altered}
-use Rattle.bl_order.specs.Past.{Past, place, policy_of, content_of, policy_before, content_before}
+use Rattle.bl_order.specs.Order.{Entry}
+use Rattle.bl_order.specs.Past.{Past, place, policy_of, content_of, policy_before, content_before, may_alter}
 use Rattle.bl_order.specs.Machine.{State, past_at, is_lost, has_ended}
 
 -- PolicyAt: the policy at place n, which all the places before it make
@@ -32,8 +32,8 @@ policy_now x = policy_of x.setup (ended_places x)
 abbrev pub content_now : State → ℕ → List ℕ
 content_now x doc = content_of x.setup (ended_places x) doc
 
--- m is the first place that declares the document append or write and has not ended, or the end of the order
+-- m is the first place that is to alter the document and has not ended, or the end of the order
 pub record IsFirstToAlter (x : State) (doc m : ℕ) : Type 0 where
   pub within : m ≤ length x.order
-  pub all_before : (k : ℕ) → k < m → IsTrue (is_altered (accesses_of (past_at x k).task) doc) → IsTrue (has_ended x k)
-  pub itself : m < length x.order → IsTrue (is_altered (accesses_of (past_at x m).task) doc) × (has_ended x m ≡ false)
+  pub all_before : (k : ℕ) → k < m → IsTrue (may_alter (past_at x k).task doc) → IsTrue (has_ended x k)
+  pub itself : m < length x.order → IsTrue (may_alter (past_at x m).task doc) × (has_ended x m ≡ false)

@@ -1,7 +1,8 @@
 -- What is said of each place of the order: its subject, what it does, its answer and its effects. All of it is said by looking
 -- backwards, from the records of the places before it.
 use Rattle.std.specs.Prelude.{ℕ, zero, suc, ◌-◌, Bool, true, false, ◌&&◌, if◌then◌else◌, ◌==◌, List, [], ◌∷◌, length, slice_index_or, Option, Some, None}
-use Rattle.bl_policy.specs.Policy.{SecurityPolicy}
+use Rattle.bl_level.specs.Level.{SecurityLevel, join_of}
+use Rattle.bl_policy.specs.Policy.{SecurityPolicy, current_of, lowest}
 use Rattle.bl_policy.specs.FirstFault.{first_fault}
 use Rattle.bl_policy.specs.RuleEffect.{rule_fault, after_rule}
 use Rattle.bl_policy.specs.declared.access.Access.{Access}
@@ -12,18 +13,23 @@ use Rattle.bl_work.specs.declared.work.Work.TheVariants as work
 use Rattle.bl_work.specs.declared.answer.Answer.{Answer}
 use Rattle.bl_work.specs.declared.answer.Answer.TheVariants.{Done, RuleDone, Denied, Lost}
 use Rattle.bl_setup.specs.Setup.{Setup}
+use Rattle.bl_setup.specs.declared.version.Version.{Version}
+use Rattle.bl_setup.specs.declared.version.Version.TheVariants.{One, Two}
 use Rattle.bl_order.specs.Order.{Entry, Line, Child, Task, Runs, Applies, accesses_of, body_of, is_declared, is_altered}
 
--- the record of a place
+-- The record of a place: who speaks, the level at which it runs (the subject's current one, by the policy at the place), the level that
+-- it carries, what it does, its answer and its effects.
 pub record Past : Type 0 where
   pub subject : ℕ
+  pub level : SecurityLevel
+  pub carried : SecurityLevel
   pub task : Task
   pub answer : Answer
   pub effects : List Effect
 
 -- what stands where there is no such place
 abbrev pub no_past : Past
-no_past = record { subject = 0; task = Runs [] 0; answer = Lost; effects = [] }
+no_past = record { subject = 0; level = lowest; carried = lowest; task = Runs [] 0; answer = Lost; effects = [] }
 
 -- of the records of places 0 and up, newest first, that of place n
 abbrev pub at_place : List Past → ℕ → Past
@@ -55,19 +61,30 @@ abbrev pub policy_of : Setup → List Past → SecurityPolicy
 policy_of setup [] = setup.policy
 policy_of setup (past ∷ earlier) = changed past.answer past.task past.subject (policy_of setup earlier)
 
--- The content that these records make: the last of these places that ran and declares the document append or write has changed
--- what stood there before; without such a place it is the setup's content.
+-- whether a task is to alter a document: it declares the document append or write
+abbrev pub may_alter : Task → ℕ → Bool
+may_alter task doc = is_altered (accesses_of task) doc
+
+-- what a place leaves of a content: where it ran and declares the document append or write, the content as its effects change it
+abbrev pub leaves : Past → ℕ → List ℕ → List ℕ
+leaves past doc content = if is_done past.answer && may_alter past.task doc then after content past.effects doc else content
+
+-- The content that these records make: the setup's, changed in order by what each of these places leaves of it.
 abbrev pub content_of : Setup → List Past → ℕ → List ℕ
 content_of setup [] doc = slice_index_or setup.contents doc []
-content_of setup (past ∷ earlier) doc =
-    if is_done past.answer && is_altered (accesses_of past.task) doc
-    then after (content_of setup earlier doc) past.effects doc
-    else content_of setup earlier doc
+content_of setup (past ∷ earlier) doc = leaves past doc (content_of setup earlier doc)
 
 -- Subject: a line speaks for its session's subject, a child for its parent's
 abbrev pub subject_of : List Past → Entry → ℕ
 subject_of earlier (Line session ordinal subject work) = subject
 subject_of earlier (Child parent which) = (at_place earlier parent).subject
+
+-- Carried (own choice, for what a behaviour remembers): a line carries nothing, and a child the levels at which its parent, and those
+-- above it, ran; in version 1 nothing is carried.
+abbrev pub carried_of : Version → List Past → Entry → SecurityLevel
+carried_of One earlier entry = lowest
+carried_of Two earlier (Line session ordinal subject work) = lowest
+carried_of Two earlier (Child parent which) = join_of (at_place earlier parent).level (at_place earlier parent).carried
 
 -- a behaviour's line runs the first behaviour of its script, and a rule's line applies the rule
 abbrev pub first_task : Work → Task
@@ -95,9 +112,9 @@ deeds task contents = effects_of (lent (accesses_of task) contents) (body_of tas
 
 -- What the policy has against a task: of a behaviour the first access at fault, of a rule its failing condition (own choice: the
 -- order in which faults are named).
-abbrev pub fault_of_task : SecurityPolicy → ℕ → Task → Option Denial
-fault_of_task policy subject (Runs script index) = first_fault policy subject (accesses_of (Runs script index))
-fault_of_task policy subject (Applies rule) = rule_fault policy subject rule
+abbrev pub fault_of_task : SecurityPolicy → ℕ → SecurityLevel → Task → Option Denial
+fault_of_task policy subject carried (Runs script index) = first_fault policy subject carried (accesses_of (Runs script index))
+fault_of_task policy subject carried (Applies rule) = rule_fault policy subject rule
 
 -- the answer of a task that nothing is held against: a behaviour is done, with the texts that it showed, and a rule is done
 abbrev pub granted : Task → List Effect → Answer
@@ -114,17 +131,24 @@ answer_of false None task effects = granted task effects
 abbrev pub only_if_done : Answer → List Effect → List Effect
 only_if_done answer effects = if is_done answer then effects else []
 
--- the record of a task, by whether it is lost, the policy, what it would do, and who speaks
-abbrev pub judged : Bool → SecurityPolicy → List Effect → ℕ → Task → Past
-judged lost policy effects subject task =
-    let answer = answer_of lost (fault_of_task policy subject task) task effects in
-    record { subject = subject; task = task; answer = answer; effects = only_if_done answer effects }
+-- the record of a task, by whether it is lost, the policy, what it would do, who speaks, and what is carried
+abbrev pub judged : Bool → SecurityPolicy → List Effect → ℕ → SecurityLevel → Task → Past
+judged lost policy effects subject carried task =
+    let answer = answer_of lost (fault_of_task policy subject carried task) task effects in
+    record {
+      subject = subject;
+      level = current_of policy subject;
+      carried = carried;
+      task = task;
+      answer = answer;
+      effects = only_if_done answer effects;
+    }
 
 -- the record of an entry's place, by whether it is lost and the records of the places before it
 abbrev pub past_of : Setup → Bool → List Past → Entry → Past
 past_of setup lost earlier entry =
     judged lost (policy_of setup earlier) (deeds (task_of earlier entry) (content_of setup earlier))
-    (subject_of earlier entry) (task_of earlier entry)
+    (subject_of earlier entry) (carried_of setup.version earlier entry) (task_of earlier entry)
 
 -- what stands where there is no entry
 abbrev pub no_entry : Entry

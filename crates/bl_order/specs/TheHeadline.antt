@@ -1,8 +1,9 @@
 -- The headline, of a state that a trail leads to: one field for each phrase of its sentence.
 use Rattle.std.specs.Prelude.{◌≡◌, ◌↔◌, ◌⊎◌, ℕ, suc, ◌<◌, ◌≤◌, Bool, false, IsTrue, length, map, take, All, List, ◌++◌}
+use Rattle.bl_level.specs.Level.{SecurityLevel}
 use Rattle.bl_policy.specs.FirstFault.{IsFirstFault}
 use Rattle.bl_policy.specs.Policy.{SecurityPolicy}
-use Rattle.bl_policy.specs.Properties.{IsSecure}
+use Rattle.bl_policy.specs.Properties.{IsSecure, IsGranted}
 use Rattle.bl_policy.specs.RuleEffect.{IsRuleFault}
 use Rattle.bl_policy.specs.declared.access.Access.{Access}
 use Rattle.bl_policy.specs.declared.denial.Denial.{Denial}
@@ -14,15 +15,17 @@ use Rattle.bl_order.specs.Now.{policy_at, policy_now, content_now}
 use Rattle.bl_order.specs.Order.{Task, Runs, Applies, accesses_of, is_rule, unnamed}
 use Rattle.bl_order.specs.Past.{Past, place, is_done}
 
--- the policy at the place allows each access that its task declares: each has the three properties there
+-- the policy at the place allows each access that its task declares: each is granted there to who carries what the place does
 abbrev pub IsAllowedAt : State → ℕ → Type 0
-IsAllowedAt x n = All (λ (a : Access). IsSecure (policy_at x n) (past_at x n).subject a.doc a.mode) (accesses_of (past_at x n).task)
+IsAllowedAt x n =
+    All (λ (a : Access). IsGranted (policy_at x n) (past_at x n).subject (past_at x n).carried a.doc a.mode) (accesses_of (past_at x n).task)
 
 -- the denial names what the policy has against a task first: of a behaviour the first access at fault with its first failed
 -- property, of a rule its first failed condition
-abbrev pub IsFirstFaultOf : SecurityPolicy → ℕ → Task → Denial → Type 0
-IsFirstFaultOf policy subject (Runs script index) denial = IsFirstFault policy subject (accesses_of (Runs script index)) denial
-IsFirstFaultOf policy subject (Applies rule) denial = IsRuleFault policy subject rule denial
+abbrev pub IsFirstFaultOf : SecurityPolicy → ℕ → SecurityLevel → Task → Denial → Type 0
+IsFirstFaultOf policy subject carried (Runs script index) denial =
+    IsFirstFault policy subject carried (accesses_of (Runs script index)) denial
+IsFirstFaultOf policy subject carried (Applies rule) denial = IsRuleFault policy subject rule denial
 
 -- what is said of place n by who is told the entries up to it alone, one after another, without sessions and ordinals, and
 -- which of them are lost
@@ -53,7 +56,7 @@ pub record IsTheHeadline (x : State) : Type 0 where
   pub start_ends : (n : ℕ) → MayStart x n → is_done (past_at x n).answer ≡ false → IsTrue (has_ended (change x (Starts n)) n)
   -- a denial names the first fault of its place, by the policy there
   pub denied_rightly : (n : ℕ) (denial : Denial) → (past_at x n).answer ≡ Denied denial
-      → IsFirstFaultOf (policy_at x n) (past_at x n).subject (past_at x n).task denial
+      → IsFirstFaultOf (policy_at x n) (past_at x n).subject (past_at x n).carried (past_at x n).task denial
   -- and changes nothing: no policy, no content, and no child enters
   pub denied_idle : (n : ℕ) (denial : Denial) → MayStart x n → (past_at x n).answer ≡ Denied denial → LeavesAll x (change x (Starts n))
   -- what is said of a place that has ended, runs or may start is what is said by who is told the order alone up to it

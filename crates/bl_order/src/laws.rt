@@ -4,7 +4,8 @@ ghost use Rattle.bl_order.specs.AtHand.{ParentsHaveEnded, RestsOnEndedPlaces};
 ghost use Rattle.bl_order.specs.Claims.{AreFewAndApart, numbered_claims, numbers_conflict};
 ghost use Rattle.bl_order.specs.Known.{IsAsked, KnowsWork};
 ghost use Rattle.bl_order.specs.Headline.{Holds, IsReached, MovesOn};
-ghost use Rattle.bl_order.specs.Laws.{FollowsItsParent, IsAnswered, IsClosed, KeepsAnswers, KeepsPlaces, LeavesThePolicy, LooksBack, RestsOnEnded, RestsOnLossesBefore, RulesMakeThePolicy, RulesStandAlone};
+ghost use Rattle.bl_order.specs.Laws.{FollowsItsParent, IsAnswered, IsClosed, KeepsAnswers, KeepsPlaces, LeavesThePolicy, LineCarriesNothing, LooksBack, RestsOnEnded, RestsOnLossesBefore, RulesMakeThePolicy, RulesStandAlone, RunsAtItsLevel};
+ghost use Rattle.bl_order.specs.Lineage.{KeepsItsLineage};
 ghost use Rattle.bl_order.specs.Machine.{Event, IsTrail, MayStart, Needs, State, change, children_at, may_start, past_at, runs, start};
 ghost use Rattle.bl_order.specs.Order.{Child, Entry, Task, accesses_of, conflict, unnamed};
 ghost use Rattle.bl_order.specs.Past.{place};
@@ -12,11 +13,12 @@ ghost use Rattle.bl_order.specs.Room.{HasRoom, IsBehaviourOrRule};
 ghost use Rattle.bl_order.specs.TheHeadline.{IsTheHeadline, IsTheHeadlineThroughout};
 ghost use Rattle.bl_setup.specs.Agreement.{Agree};
 ghost use Rattle.bl_setup.specs.Setup.{Setup};
+ghost use Rattle.bl_setup.specs.declared.version.Version.TheVariants as Version;
 ghost use Rattle.bl_work.specs.LineGrammar.{LineOf};
 ghost use Rattle.bl_work.specs.declared.asked.Line.TheVariants as asked;
 ghost use Rattle.bl_work.specs.declared.work.Work.{Work};
 
-use bl_policy::laws::{first_fault_is_the_first, rule_fault_is_the_first};
+use bl_policy::laws::{first_fault_is_the_first, rule_fault_is_the_first, rules_keep_rights};
 use bl_work::laws::{lines_ask_scripts, read_lines_are_known};
 
 /// Each place is lost, denied or granted as the policy and the contents at its place say.
@@ -72,12 +74,31 @@ pub fn behaviours_leave_the_policy()
         LeavesThePolicy setup lost order n }
 {}
 
-/// A child speaks for its parent's subject, and runs what its parent spawned.
+/// A child speaks for its parent's subject, runs what its parent spawned, and carries the level at which its parent ran with
+/// what that carried.
 pub fn children_follow_their_parent()
     ensures { (setup : Setup) (lost : ℕ → Bool) (order : List Entry) (n parent which : ℕ) →
         parent < n → slice_get order n ≡ Some (Child parent which) →
         FollowsItsParent setup lost order n parent which }
 {}
+
+/// A place runs at its subject's current level, by the policy at the place, and a line carries nothing.
+pub fn places_run_at_their_level()
+    ensures level { (setup : Setup) (lost : ℕ → Bool) (order : List Entry) (n : ℕ) →
+        RunsAtItsLevel setup lost order n }
+    ensures lines { (setup : Setup) (lost : ℕ → Bool) (order : List Entry) (n : ℕ) →
+        LineCarriesNothing setup lost order n }
+{}
+
+/// Where an untrusted subject's behaviour runs, what it may alter dominates what it, its parent and those above that may look
+/// at, each by the policy at its place: of runs that are judged by version 2.
+pub fn lineage()
+    ensures { (x : State) (n : ℕ) → IsReached x → x.setup.version ≡ Version.Two →
+        KeepsItsLineage x n }
+{
+    first_fault_is_the_first();
+    rules_keep_rights();
+}
 
 /// The test of who may start.
 pub fn may_start_is_tested()

@@ -17,6 +17,7 @@
 //!     Room        how many places the order may come to have
 //!     Laws        what the laws say of places
 //!     AtHand      what is said of a place while others have not ended
+//!     Lineage     what may have come to a place from those above it
 #![tactic(auto)]
 
 pub mod laws;

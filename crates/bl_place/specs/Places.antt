@@ -1,5 +1,6 @@
 -- What is kept of the places, as the definitions of the order see it.
 use Rattle.std.specs.Prelude.{ℕ, ◌+◌, ◌<◌, List, [], ◌∷◌, length, slice_index_or}
+use Rattle.bl_policy.specs.Policy.{lowest}
 use Rattle.bl_work.specs.declared.answer.Answer.TheVariants as answers
 use Rattle.bl_work.specs.declared.work.Work.{Work}
 use Rattle.bl_work.specs.declared.work.Work.TheVariants as works
@@ -12,6 +13,7 @@ use Rattle.bl_place.specs.declared.place.Descent.{Descent}
 use Rattle.bl_place.specs.declared.place.Descent.TheVariants.{Line, Child}
 use Rattle.bl_place.specs.declared.place.Stand.{Stand}
 use Rattle.bl_place.specs.declared.place.Stand.TheVariants.{Waiting, Running, Ended}
+use Rattle.bl_place.specs.declared.place.Siblings.{Siblings}
 use Rattle.bl_place.specs.declared.place.Place.{Place}
 
 -- the entry of a descent, spoken for by this subject
@@ -33,7 +35,7 @@ phase_of (Ended (answers.Denied denial)) = phases.Ended
 
 -- what stands where there is no place
 abbrev pub no_place : Place
-no_place = record { descent = Child 0 0; root = 0; index = 0; subject = 0; stand = Waiting }
+no_place = record { descent = Child 0 0; root = 0; index = 0; subject = 0; carried = lowest; stand = Waiting }
 
 abbrev pub place_in : List Place → ℕ → Place
 place_in places n = slice_index_or places n no_place
@@ -59,8 +61,18 @@ HasBehaviour (works.Rule rule) index = Unit {0}
 abbrev pub HasTask : List Place → ℕ → Type 0
 HasTask places n = HasBehaviour (work_in places n) (place_in places n).index
 
--- the children of a place, from this number on
-abbrev pub child_places : ℕ → ℕ → ℕ → ℕ → List ℕ → List Place
-child_places parent root subject which [] = []
-child_places parent root subject which (index ∷ rest) =
-    record { descent = Child parent which; root = root; index = index; subject = subject; stand = Waiting } ∷ child_places parent root subject (which + 1) rest
+-- the child of this number among siblings, by the number of its behaviour
+abbrev pub child_place : Siblings → ℕ → ℕ → Place
+child_place siblings which index = record {
+  descent = Child siblings.parent which;
+  root = siblings.root;
+  index = index;
+  subject = siblings.subject;
+  carried = siblings.carried;
+  stand = Waiting;
+}
+
+-- siblings from this number on, by the numbers of their behaviours
+abbrev pub child_places : Siblings → ℕ → List ℕ → List Place
+child_places siblings which [] = []
+child_places siblings which (index ∷ rest) = child_place siblings which index ∷ child_places siblings (which + 1) rest

@@ -9,6 +9,7 @@ ghost use Rattle.bl_place.specs.Queueing.{claims_for, MayEnter, QueuesTell};
 
 use crate::claims::Claims;
 use crate::session::SessionNo;
+use bl_level::level::Level;
 use bl_policy::access::{Access, Mode};
 use bl_policy::id::SubjectId;
 use bl_queue::queues::Queues;
@@ -53,8 +54,23 @@ pub struct Place {
     pub index: u8,
     /// For whom it speaks.
     pub subject: SubjectId,
+    /// The level that it carries, below which it may alter nothing: the lowest for a line.
+    pub carried: Level,
     /// Where it stands.
     pub stand: Stand,
+}
+
+/// What the children of a place have in common.
+#[derive(Drop)]
+pub struct Siblings {
+    /// The number of their parent.
+    pub parent: u32,
+    /// The place of the line that they descend from.
+    pub root: u32,
+    /// For whom they speak.
+    pub subject: SubjectId,
+    /// The level that each of them carries.
+    pub carried: Level,
 }
 
 impl Stand {
@@ -159,26 +175,24 @@ pub fn enter_queues(queues: &mut Queues, places: &[Place], from: usize)
 }
 
 /// The children of a place enter, in order, by the numbers of their behaviours.
-pub fn enter_children(
-    places: &mut Vec<Place>,
-    parent: u32,
-    root: u32,
-    subject: SubjectId,
-    spawned: &[u8],
-)
+pub fn enter_children(places: &mut Vec<Place>, siblings: &Siblings, spawned: &[u8])
     requires room { vec_len places.old + length spawned.now ≤ vec_capacity places.old }
     requires few { length spawned.now < 2 ^ 32 }
-    ensures items { places.new.items ≡ places.old.items ++ child_places parent root subject 1 spawned.now }
+    ensures items { places.new.items ≡ places.old.items ++ child_places siblings.now 1 spawned.now }
     ensures room { vec_capacity places.new ≡ vec_capacity places.old }
 {
     let mut which = 0;
     for index in spawned {
         which += 1;
         places.push_reserved(Place {
-            descent: Descent::Child { parent, which },
-            root,
+            descent: Descent::Child {
+                parent: siblings.parent,
+                which,
+            },
+            root: siblings.root,
             index: *index,
-            subject,
+            subject: siblings.subject,
+            carried: siblings.carried,
             stand: Stand::Waiting,
         });
     }
