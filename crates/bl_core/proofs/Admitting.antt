@@ -7,14 +7,16 @@ use Rattle.std.proofs.Math.Seq.{get_or-append_seam}
 use Rattle.std.proofs.lemmas.List.{length-map, map-append, map-set, get_or-map}
 use Rattle.std.proofs.lemmas.List.Sums.{sum_by_push}
 use Rattle.bl_work.specs.declared.work.Work.{Work}
-use Rattle.bl_policy.specs.Policy.{SecurityPolicy}
+use Rattle.bl_policy.specs.Policy.{SecurityPolicy, lowest}
 use Rattle.bl_setup.specs.Setup.{Setup}
+use Rattle.bl_setup.specs.declared.version.Version.{Version}
+use Rattle.bl_setup.specs.declared.version.Version.TheVariants.{One, Two}
 use Rattle.bl_order.specs.Headline.{IsReached}
 use Rattle.bl_order.specs.Known.{KnowsWork}
 use Rattle.bl_order.specs.Room.{IsBehaviourOrRule}
 use Rattle.bl_order.specs.Order.{Entry, Task, accesses_of, is_altered}
 use Rattle.bl_order.specs.Order as orders
-use Rattle.bl_order.specs.Past.{Past, no_entry, subject_of, task_of, earlier, first_task, child_task}
+use Rattle.bl_order.specs.Past.{Past, no_entry, subject_of, carried_of, task_of, earlier, first_task, child_task}
 use Rattle.bl_order.specs.Machine.{State, Session, Opens, Admits, Needs, change, past_at, runs, is_lost, is_running, session_at, no_session, entry_weight, weight_of, Waiting}
 use Rattle.bl_order.proofs.Sound.{IsSound}
 use Rattle.bl_order.proofs.Reached.{sound-reached, reached-next}
@@ -103,7 +105,7 @@ module _ (c d : Inside) (subject : ℕ) (v : Opened c d subject) where
 -- ---- a line
 
 abbrev pub new_place : ℕ → ℕ → ℕ → ℕ → Work → Place
-new_place n session ordinal subject work = record { descent = Line session ordinal work; root = n; index = 0; subject = subject; stand = stands.Waiting }
+new_place n session ordinal subject work = record { descent = Line session ordinal work; root = n; index = 0; subject = subject; carried = lowest; stand = stands.Waiting }
 
 pub record Admitted (c d : Inside) (i o subject : ℕ) (w : Work) : Type 0 where
   pub setup : d.setup ≡ c.setup
@@ -153,6 +155,10 @@ module _ (c : Inside) (i o subject : ℕ) (w : Work) (speaks : subject ≡ (sess
     subject =
         ap (subject_of (earlier (change (state_of c) (Admits i o w)).setup (is_lost (change (state_of c) (Admits i o w))) (change (state_of c) (Admits i o w)).order (length c.places.items))) entry_new
         ∙ sym speaks ∙ ap (λ (s : Place). s.subject) (sym new_at);
+    carried =
+        ap (carried_of c.setup.version (earlier (change (state_of c) (Admits i o w)).setup (is_lost (change (state_of c) (Admits i o w))) (change (state_of c) (Admits i o w)).order (length c.places.items))) entry_new
+        ∙ carries_nothing c.setup.version
+        ∙ ap (λ (s : Place). s.carried) (sym new_at);
     answer = λ a e. let f : stands.Waiting ≡ stands.Ended a = ap (λ (s : Place). s.stand) (sym new_at) ∙ e in absurd (cc);
     root = subst (λ (s : Place). s.root < length (c.places.items ++ new_place (length c.places.items) i o subject w ∷ [])) (sym new_at)
         (omega (arith, length-append c.places.items (new_place (length c.places.items) i o subject w ∷ [])));
@@ -165,6 +171,11 @@ module _ (c : Inside) (i o subject : ℕ) (w : Work) (speaks : subject ≡ (sess
       child_first : (u : Work) → first_task u ≡ child_task (first_task u) 0
       child_first (works.Behaviour script) = refl
       child_first (works.Rule rule) = refl
+
+      carries_nothing : (v : Version) → carried_of v (earlier (change (state_of c) (Admits i o w)).setup (is_lost (change (state_of c) (Admits i o w))) (change (state_of c) (Admits i o w)).order (length c.places.items))
+          (orders.Line i o (session_at (state_of c) i).subject w) ≡ lowest
+      carries_nothing One = refl
+      carries_nothing Two = refl
 
   -- may enter the queues
   pub enters_new : ((x : State) (m : ℕ) → IsReached x → m < length x.order → IsBehaviourOrRule (past_at x m).task)

@@ -4,6 +4,7 @@ use mathlib.Core.Path.{fun_ext}
 use Rattle.std.specs.Prelude.{map, ◌==◌, All, Option, Some, None}
 use Rattle.std.proofs.lemmas.Bool.Decides.{eqb_tells}
 use Rattle.bl_policy.specs.Mode.{is_exclusive}
+use Rattle.bl_level.specs.Level.{SecurityLevel}
 use Rattle.bl_policy.specs.Policy.{SecurityPolicy}
 use Rattle.bl_policy.specs.declared.access.Access.{Access}
 use Rattle.bl_policy.specs.declared.denial.Denial.{Denial}
@@ -119,11 +120,11 @@ done_by true g s i es h = absurd (true≢false (sym h))
 done_by false (Some d) s i es h = absurd (true≢false (sym h))
 done_by false None s i es h = (refl, refl)
 
-judged_by : (gone : Bool) (p : SecurityPolicy) (es : List Effect) (u : ℕ) (t : Task) (s : List Part) (i : ℕ) → t ≡ Runs s i → is_done (judged gone p es u t).answer ≡ true
-    → ((judged gone p es u t).answer ≡ answers.Done (outputs es)) × ((judged gone p es u t).effects ≡ es)
-judged_by gone p es u t s i e =
-    subst (λ (v : Task). is_done (judged gone p es u v).answer ≡ true → ((judged gone p es u v).answer ≡ answers.Done (outputs es)) × ((judged gone p es u v).effects ≡ es)) (sym e)
-    (done_by gone (fault_of_task p u (Runs s i)) s i es)
+judged_by : (gone : Bool) (p : SecurityPolicy) (es : List Effect) (u : ℕ) (l : SecurityLevel) (t : Task) (s : List Part) (i : ℕ) → t ≡ Runs s i → is_done (judged gone p es u l t).answer ≡ true
+    → ((judged gone p es u l t).answer ≡ answers.Done (outputs es)) × ((judged gone p es u l t).effects ≡ es)
+judged_by gone p es u l t s i e =
+    subst (λ (v : Task). is_done (judged gone p es u l v).answer ≡ true → ((judged gone p es u l v).answer ≡ answers.Done (outputs es)) × ((judged gone p es u l v).effects ≡ es)) (sym e)
+    (done_by gone (fault_of_task p u l (Runs s i)) s i es)
 
 -- a place that was done: its answer and effects are those of the behaviour on what it is lent
 pub done-effects : (x : State) (n : ℕ) (s : List Part) (i : ℕ) → (past_at x n).task ≡ Runs s i → is_done (past_at x n).answer ≡ true
@@ -131,5 +132,5 @@ pub done-effects : (x : State) (n : ℕ) (s : List Part) (i : ℕ) → (past_at 
 done-effects x n s i e h =
     let es : deeds (past_at x n).task (λ o. content_at x o n) ≡ effects_on (loan_at x n) = deeds-loan n (past_at x n).task (λ o. content_at x o n) s i e in
     let both : ((past_at x n).answer ≡ answers.Done (outputs (deeds (past_at x n).task (λ o. content_at x o n)))) × ((past_at x n).effects ≡ deeds (past_at x n).task (λ o. content_at x o n)) =
-    judged_by (is_lost x n) (policy_at x n) (deeds (past_at x n).task (λ o. content_at x o n)) (past_at x n).subject (past_at x n).task s i e h in
+    judged_by (is_lost x n) (policy_at x n) (deeds (past_at x n).task (λ o. content_at x o n)) (past_at x n).subject (past_at x n).carried (past_at x n).task s i e h in
     (both.0 ∙ ap (λ l. answers.Done (outputs l)) es, both.1 ∙ es)

@@ -49,6 +49,7 @@ module _ (d : Inside) (b : Begun d) where
   keeps_at = record {
     reached = reached-first d.setup d.limit;
     agree = b.begins.agree;
+    two = b.begins.two;
     policy = b.begins.policy;
     subjects = ap (λ (p : SecurityPolicy). length p.subjects) b.begins.policy;
     documents = ap (λ (p : SecurityPolicy). length p.documents) b.begins.policy;

@@ -4,28 +4,33 @@ use Rattle.std.specs.Prelude.{sum_by, map}
 use Rattle.std.proofs.Math.Seq.{map-set_same}
 use Rattle.std.proofs.lemmas.List.{get_or-append_right, map-set, map-append}
 use Rattle.std.proofs.lemmas.List.Sums.{sum_by-append}
+use Rattle.bl_level.specs.Level.{SecurityLevel, join_of}
+use Rattle.bl_policy.specs.Policy.{SecurityPolicy, current_of}
 use Rattle.bl_work.specs.Effects.{children}
 use Rattle.bl_work.specs.declared.work.Work.{Work}
 use Rattle.bl_work.specs.declared.work.Work.TheVariants as works
+use Rattle.bl_setup.specs.declared.version.Version.{Version}
+use Rattle.bl_setup.specs.declared.version.Version.TheVariants.{One, Two}
 use Rattle.bl_order.specs.Known.{KnowsWork}
 use Rattle.bl_order.specs.Headline.{IsReached}
 use Rattle.bl_order.specs.Room.{IsBehaviourOrRule}
 use Rattle.bl_order.specs.Order.{Entry, Task, accesses_of, is_altered, is_declared}
 use Rattle.bl_order.specs.Order as orders
-use Rattle.bl_order.specs.Past.{Past, no_entry, subject_of, task_of, earlier, at_place, first_task, child_task}
+use Rattle.bl_order.specs.Past.{Past, no_entry, subject_of, carried_of, task_of, earlier, at_place, first_task, child_task}
 use Rattle.bl_order.specs.Machine.{State, Phase, Waiting, Ended, Ends, change, past_at, runs, has_ended, is_lost, phase_at, child_entries, children_at, entry_weight}
 use Rattle.bl_order.proofs.Sound.{IsSound}
 use Rattle.bl_order.proofs.Conflicts.{conflict_where_altered, altered_is_declared}
+use Rattle.bl_order.proofs.HeadlineProof.{holds-reached}
 use Rattle.bl_order.proofs.Places.{at_place-earlier}
 use Rattle.bl_order.proofs.Reached.{sound-reached, reached-next}
 use Rattle.bl_order.proofs.Steps.{length-child_entries, running_is_not_over}
 use Rattle.bl_order.proofs.Trails.{past-ended, within}
-use Rattle.bl_place.specs.Places.{no_place, place_in, entry_of, phase_of, work_of, work_in, task_in, child_places, HasBehaviour}
+use Rattle.bl_place.specs.Places.{no_place, place_in, entry_of, phase_of, work_of, work_in, task_in, child_place, child_places, HasBehaviour}
 use Rattle.bl_place.specs.Queueing.{MayEnter, stand_for}
 use Rattle.bl_core.specs.View.{state_of}
 use Rattle.bl_core.specs.Keeps.{Keeps, Tells}
 use Rattle.bl_place.specs.declared.place.Place.{Place}
-use Rattle.bl_place.specs.declared.place.Descent.TheVariants.{Child}
+use Rattle.bl_place.specs.declared.place.Siblings.{Siblings}
 use Rattle.bl_place.specs.declared.place.Stand.TheVariants as stands
 use Rattle.bl_core.specs.declared.session.Session.{Session}
 use Rattle.bl_core.specs.declared.machine.Core.TheInside.{Inside}
@@ -34,17 +39,26 @@ use Rattle.bl_core.proofs.Grown.{Same, Grows, grows-set, grows-append, grows-bot
 use Rattle.bl_core.proofs.Views.{length-order}
 use Rattle.bl_core.proofs.Written.{Written, same-entry}
 
-pub length-child_places : (p root subject which : ℕ) (ks : List ℕ) → length (child_places p root subject which ks) ≡ length ks
-length-child_places p root subject which [] = refl
-length-child_places p root subject which (k ∷ ks) = ap suc (length-child_places p root subject (which + 1) ks)
+-- what the children of a place have in common: they carry its level now, joined with what it carried
+abbrev pub siblings_of : Inside → ℕ → Siblings
+siblings_of c n = record {
+  parent = n;
+  root = (place_in c.places.items n).root;
+  subject = (place_in c.places.items n).subject;
+  carried = join_of (current_of c.policy (place_in c.places.items n).subject) (place_in c.places.items n).carried;
+}
 
-entries-children : (p root subject which : ℕ) (ks : List ℕ) → map entry_of (child_places p root subject which ks) ≡ child_entries p which ks
-entries-children p root subject which [] = refl
-entries-children p root subject which (k ∷ ks) = ap (λ (l : List Entry). orders.Child p which ∷ l) (entries-children p root subject (which + 1) ks)
+pub length-child_places : (b : Siblings) (which : ℕ) (ks : List ℕ) → length (child_places b which ks) ≡ length ks
+length-child_places b which [] = refl
+length-child_places b which (k ∷ ks) = ap suc (length-child_places b (which + 1) ks)
 
-phases-children : (p root subject which : ℕ) (ks : List ℕ) → map (λ (s : Place). phase_of s.stand) (child_places p root subject which ks) ≡ replicate (length ks) Waiting
-phases-children p root subject which [] = refl
-phases-children p root subject which (k ∷ ks) = ap (λ l. Waiting ∷ l) (phases-children p root subject (which + 1) ks)
+entries-children : (b : Siblings) (which : ℕ) (ks : List ℕ) → map entry_of (child_places b which ks) ≡ child_entries b.parent which ks
+entries-children b which [] = refl
+entries-children b which (k ∷ ks) = ap (λ (l : List Entry). orders.Child b.parent which ∷ l) (entries-children b (which + 1) ks)
+
+phases-children : (b : Siblings) (which : ℕ) (ks : List ℕ) → map (λ (s : Place). phase_of s.stand) (child_places b which ks) ≡ replicate (length ks) Waiting
+phases-children b which [] = refl
+phases-children b which (k ∷ ks) = ap (λ l. Waiting ∷ l) (phases-children b (which + 1) ks)
 
 weight-children : (p which : ℕ) (ks : List ℕ) → sum_by entry_weight (child_entries p which ks) ≡ 0
 weight-children p which [] = refl
@@ -85,21 +99,17 @@ pub has_behaviour : (w : Work) (i : ℕ) → IsBehaviourOrRule (child_task (firs
 has_behaviour (works.Behaviour script) i is = is.1
 has_behaviour (works.Rule rule) i is = tt
 
-abbrev child_place : ℕ → ℕ → ℕ → ℕ → ℕ → Place
-child_place p which root index subject = record { descent = Child p which; root = root; index = index; subject = subject; stand = stands.Waiting }
-
 plus_zero : (a : ℕ) → a ≡ a + 0
 plus_zero a = omega arith
 
 plus_suc : (a b : ℕ) → (a + 1) + b ≡ a + suc b
 plus_suc a b = omega arith
 
-child-read : (p root subject which : ℕ) (ks : List ℕ) (j : ℕ) → j < length ks
-    → get_or (child_places p root subject which ks) j no_place ≡ child_place p (which + j) root (get_or ks j 0) subject
-child-read p root subject which [] j lt = absurd (omega arith)
-child-read p root subject which (k ∷ ks) zero lt = ap (λ v. child_place p v root k subject) (plus_zero which)
-child-read p root subject which (k ∷ ks) (suc j) lt =
-    child-read p root subject (which + 1) ks j (omega arith) ∙ ap (λ v. child_place p v root (get_or ks j 0) subject) (plus_suc which j)
+child-read : (b : Siblings) (which : ℕ) (ks : List ℕ) (j : ℕ) → j < length ks
+    → get_or (child_places b which ks) j no_place ≡ child_place b (which + j) (get_or ks j 0)
+child-read b which [] j lt = absurd (omega arith)
+child-read b which (k ∷ ks) zero lt = ap (λ v. child_place b v k) (plus_zero which)
+child-read b which (k ∷ ks) (suc j) lt = child-read b (which + 1) ks j (omega arith) ∙ ap (λ v. child_place b v (get_or ks j 0)) (plus_suc which j)
 
 entry-read : (p which : ℕ) (ks : List ℕ) (j : ℕ) → j < length ks → get_or (child_entries p which ks) j no_entry ≡ orders.Child p (which + j)
 entry-read p which [] j lt = absurd (omega arith)
@@ -113,10 +123,10 @@ module _ (c : Inside) (n : ℕ) (t : Place) (ks : List ℕ) (k : Keeps c) (r : r
     (are : ks ≡ children (past_at (state_of c) n).effects)
     (law : (x : State) (m : ℕ) → IsReached x → m < length x.order → IsBehaviourOrRule (past_at x m).task) where
   abbrev family : List Place
-  family = child_places n (place_in c.places.items n).root (place_in c.places.items n).subject 1 ks
+  family = child_places (siblings_of c n) 1 ks
 
   abbrev after : List Place
-  after = set c.places.items n t ++ child_places n (place_in c.places.items n).root (place_in c.places.items n).subject 1 ks
+  after = set c.places.items n t ++ child_places (siblings_of c n) 1 ks
 
   sound : IsSound (state_of c)
   sound = sound-reached (state_of c) k.reached
@@ -128,11 +138,11 @@ module _ (c : Inside) (n : ℕ) (t : Place) (ks : List ℕ) (k : Keeps c) (r : r
   grows-after = grows-both c.places.items (set c.places.items n t) after (grows-set c.places.items n t lt same) (grows-append (set c.places.items n t) family)
 
   place-read : (j : ℕ) → j < length ks → get_or after (length c.places.items + j) no_place
-      ≡ child_place n (1 + j) (place_in c.places.items n).root (get_or ks j 0) (place_in c.places.items n).subject
+      ≡ child_place (siblings_of c n) (1 + j) (get_or ks j 0)
   place-read j l =
       get_or-append_right (set c.places.items n t) family (length c.places.items) (length c.places.items + j) no_place (length-set c.places.items n t) (omega arith)
       ∙ ap (λ m. get_or family m no_place) (less (length c.places.items) j)
-      ∙ child-read n (place_in c.places.items n).root (place_in c.places.items n).subject 1 ks j l
+      ∙ child-read (siblings_of c n) 1 ks j l
 
   work-read : (j : ℕ) → j < length ks → work_in after (length c.places.items + j) ≡ work_in c.places.items n
   work-read j l =
@@ -171,6 +181,21 @@ module _ (c : Inside) (n : ℕ) (t : Place) (ks : List ℕ) (k : Keeps c) (r : r
   in_order j l =
       omega (arith, l, length-append (state_of c).order (children_at (state_of c) n), length-order c, ap length are, length-child_entries n 1 (children (past_at (state_of c) n).effects))
 
+  -- the level at which it ran is that of its subject now
+  level-now : (past_at (state_of c) n).level ≡ current_of c.policy (place_in c.places.items n).subject
+  level-now =
+      ap (λ (p : SecurityPolicy). current_of p (past_at (state_of c) n).subject)
+      (sym ((holds-reached (state_of c) k.reached).at_running n (within (state_of c) sound n r) r) ∙ sym k.policy)
+      ∙ ap (current_of c.policy) (k.told n lt).subject
+
+  -- so a child carries that, and what it carried
+  carried-new : (v : Version) (j : ℕ) → v ≡ Two → carried_of v (before j) (orders.Child n (1 + j)) ≡ (siblings_of c n).carried
+  carried-new One j two = absurd (cc)
+  carried-new Two j two =
+      ap (λ (p : Past). join_of p.level p.carried) (parent-read j)
+      ∙ ap (λ (l : SecurityLevel). join_of l (past_at (state_of c) n).carried) level-now
+      ∙ ap (join_of (current_of c.policy (place_in c.places.items n).subject)) (k.told n lt).carried
+
   pub tells-child : (j : ℕ) → j < length ks → Tells c.setup after (length c.places.items + j) (past_at (change (state_of c) (Ends n)) (length c.places.items + j))
   tells-child j l = record {
     task = task-new j l;
@@ -179,6 +204,7 @@ module _ (c : Inside) (n : ℕ) (t : Place) (ks : List ℕ) (k : Keeps c) (r : r
         ∙ ap (λ (p : Past). p.subject) (parent-read j)
         ∙ (k.told n lt).subject
         ∙ ap (λ (s : Place). s.subject) (sym (place-read j l));
+    carried = ap (carried_of c.setup.version (before j)) (entry-new j l) ∙ carried-new c.setup.version j k.two ∙ ap (λ (s : Place). s.carried) (sym (place-read j l));
     answer = λ a e. let f : stands.Waiting ≡ stands.Ended a = ap (λ (s : Place). s.stand) (sym (place-read j l)) ∙ e in absurd (cc);
     root = subst (λ (s : Place). s.root < length after) (sym (place-read j l)) (omega (arith, (k.told n lt).root, grows-after.longer));
     behaviour = has_behaviour (work_in after (length c.places.items + j)) (place_in after (length c.places.items + j)).index
@@ -194,14 +220,14 @@ module _ (c : Inside) (n : ℕ) (t : Place) (ks : List ℕ) (k : Keeps c) (r : r
   tells-new m ge l =
       subst (λ (j : ℕ). Tells c.setup after j (past_at (change (state_of c) (Ends n)) j)) (over_length m ge)
       (tells-child (m - length c.places.items)
-      (omega (arith, ge, l, length-append (set c.places.items n t) family, length-set c.places.items n t, length-child_places n (place_in c.places.items n).root (place_in c.places.items n).subject 1 ks)))
+      (omega (arith, ge, l, length-append (set c.places.items n t) family, length-set c.places.items n t, length-child_places (siblings_of c n) 1 ks)))
 
   -- and may enter the queues
   pub enters-new : (m : ℕ) → length c.places.items ≤ m → m < length after → MayEnter (length c.setup.policy.documents + 1) after m
   enters-new m ge l =
       subst (MayEnter (length c.setup.policy.documents + 1) after) (over_length m ge)
       (enters (m - length c.places.items)
-      (omega (arith, ge, l, length-append (set c.places.items n t) family, length-set c.places.items n t, length-child_places n (place_in c.places.items n).root (place_in c.places.items n).subject 1 ks)))
+      (omega (arith, ge, l, length-append (set c.places.items n t) family, length-set c.places.items n t, length-child_places (siblings_of c n) 1 ks)))
     where
       enters : (j : ℕ) → j < length ks → MayEnter (length c.setup.policy.documents + 1) after (length c.places.items + j)
       enters j lj = record {
@@ -211,9 +237,9 @@ module _ (c : Inside) (n : ℕ) (t : Place) (ks : List ℕ) (k : Keeps c) (r : r
         waits = ap (λ (s : Place). stand_for s.stand) (place-read j lj);
       }
 
-pub state-ended : (c d : Inside) (n root subject : ℕ) (t : Place) (ks : List ℕ) → Written c d n t (child_places n root subject 1 ks) → Same (place_in c.places.items n) t
+pub state-ended : (c d : Inside) (n : ℕ) (t : Place) (ks : List ℕ) → Written c d n t (child_places (siblings_of c n) 1 ks) → Same (place_in c.places.items n) t
     → phase_of t.stand ≡ Ended → ks ≡ children (past_at (state_of c) n).effects → state_of d ≡ change (state_of c) (Ends n)
-state-ended c d n root subject t ks w same ended are = λ j. record {
+state-ended c d n t ks w same ended are = λ j. record {
   setup = w.setup j;
   limit = w.limit j;
   sessions = map (λ (s : Session). record { subject = s.subject; last = s.last }) (w.sessions j);
@@ -224,15 +250,15 @@ state-ended c d n root subject t ks w same ended are = λ j. record {
     order : map entry_of d.places.items ≡ (state_of c).order ++ children_at (state_of c) n
     order =
         ap (map entry_of) w.places
-        ∙ map-append entry_of (set c.places.items n t) (child_places n root subject 1 ks)
-        ∙ ap (λ (l : List Entry). l ++ map entry_of (child_places n root subject 1 ks)) (map-set_same entry_of c.places.items n t no_place (same-entry (place_in c.places.items n) t same))
-        ∙ ap (λ (l : List Entry). (state_of c).order ++ l) (entries-children n root subject 1 ks ∙ ap (child_entries n 1) are)
+        ∙ map-append entry_of (set c.places.items n t) (child_places (siblings_of c n) 1 ks)
+        ∙ ap (λ (l : List Entry). l ++ map entry_of (child_places (siblings_of c n) 1 ks)) (map-set_same entry_of c.places.items n t no_place (same-entry (place_in c.places.items n) t same))
+        ∙ ap (λ (l : List Entry). (state_of c).order ++ l) (entries-children (siblings_of c n) 1 ks ∙ ap (child_entries n 1) are)
 
     phases : map (λ (s : Place). phase_of s.stand) d.places.items ≡ set (state_of c).phases n Ended ++ replicate (length (children_at (state_of c) n)) Waiting
     phases =
         ap (map (λ (s : Place). phase_of s.stand)) w.places
-        ∙ map-append (λ (s : Place). phase_of s.stand) (set c.places.items n t) (child_places n root subject 1 ks)
-        ∙ ap (λ (l : List Phase). l ++ map (λ (s : Place). phase_of s.stand) (child_places n root subject 1 ks))
+        ∙ map-append (λ (s : Place). phase_of s.stand) (set c.places.items n t) (child_places (siblings_of c n) 1 ks)
+        ∙ ap (λ (l : List Phase). l ++ map (λ (s : Place). phase_of s.stand) (child_places (siblings_of c n) 1 ks))
         (map-set (λ (s : Place). phase_of s.stand) c.places.items n t ∙ ap (set (state_of c).phases n) ended)
         ∙ ap (λ (l : List Phase). set (state_of c).phases n Ended ++ l)
-        (phases-children n root subject 1 ks ∙ ap (λ (m : ℕ). replicate m Waiting) (ap length are ∙ sym (length-child_entries n 1 (children (past_at (state_of c) n).effects))))
+        (phases-children (siblings_of c n) 1 ks ∙ ap (λ (m : ℕ). replicate m Waiting) (ap length are ∙ sym (length-child_entries n 1 (children (past_at (state_of c) n).effects))))

@@ -3,6 +3,7 @@ use Rattle.std.proofs.Common.{◌≡◌, ℕ, ◌<◌, ◌≤◌, ◌+◌, inl, 
 use Rattle.std.specs.Prelude.{All}
 use Rattle.std.specs.Vec.{with_item, with_items}
 use Rattle.std.proofs.Math.ListN.{get_or-append}
+use Rattle.std.proofs.lemmas.List.{get_or_read}
 use Rattle.bl_policy.specs.Policy.{SecurityPolicy}
 use Rattle.bl_policy.specs.declared.access.Access.{Access}
 use Rattle.bl_work.specs.Effects.{Effect, after, children, outputs}
@@ -44,7 +45,7 @@ use Rattle.bl_core.proofs.Backs.{put_back-read, length-put_back, backs-all, done
 use Rattle.bl_core.proofs.Reading.{shelves-declared}
 use Rattle.bl_core.proofs.Lending.{runs_of, accesses_part, written_items}
 use Rattle.bl_core.proofs.Queueing.{tell-set, tell-stands}
-use Rattle.bl_core.proofs.Ending.{alone, enters-new, state-ended, tells-new, weight-ended}
+use Rattle.bl_core.proofs.Ending.{alone, siblings_of, enters-new, state-ended, tells-new, weight-ended}
 
 -- the fields after a running place was lost
 abbrev pub lost : Inside → ℕ → Place → Queue → List Shelf → Inside
@@ -67,6 +68,12 @@ module _ (c : Inside) (k : Keeps c) (n : ℕ) (r : runs (state_of c) n ≡ true)
 
   pub end_there : n < length c.places.items
   end_there = subst (λ (m : ℕ). n < m) (length-order c) in_order
+
+  -- for whom it speaks is in the policy
+  pub end_speaks : (s : Place) → s ≡ get_or c.places.items n s → s.subject < length c.policy.subjects
+  end_speaks s at =
+      subst (λ (t : Place). t.subject < length c.policy.subjects) (sym (get_or_read c.places.items n s end_there at no_place))
+      (subst (λ (m : ℕ). (place_in c.places.items n).subject < m) (sym k.subjects) (k.told n end_there).speaks)
 
   pub end_open : is_over (phase_of (place_in c.places.items n).stand) ≡ false
   end_open = ap is_over (sym (phase-read c n end_there)) ∙ running_is_not_over (phase_at (state_of c) n) r
@@ -126,16 +133,16 @@ module _ (c : Inside) (k : Keeps c) (n : ℕ) (r : runs (state_of c) n ≡ true)
   -- the children may enter the queues
   pub end_enters : (s : Place) (outs : List (List ℕ)) (ks : List ℕ) → s ≡ get_or c.places.items n s → ks ≡ children (effects_on (loan_at (state_of c) n))
       → ((x : State) (m : ℕ) → IsReached x → m < length x.order → IsBehaviourOrRule (past_at x m).task) → (m : ℕ) → length c.places.items ≤ m
-      → m < length (set c.places.items n (stands_at s (stands.Ended (answers.Done outs))) ++ child_places n (place_in c.places.items n).root (place_in c.places.items n).subject 1 ks)
+      → m < length (set c.places.items n (stands_at s (stands.Ended (answers.Done outs))) ++ child_places (siblings_of c n) 1 ks)
       → MayEnter (length c.setup.policy.documents + 1)
-      (set c.places.items n (stands_at s (stands.Ended (answers.Done outs))) ++ child_places n (place_in c.places.items n).root (place_in c.places.items n).subject 1 ks) m
+      (set c.places.items n (stands_at s (stands.Ended (answers.Done outs))) ++ child_places (siblings_of c n) 1 ks) m
   end_enters s outs ks at named law =
       enters-new c n (stands_at s (stands.Ended (answers.Done outs))) ks k r (same-read c.places.items n s (stands.Ended (answers.Done outs)) end_there at)
       (named ∙ ap children (sym both.1)) law
 
   module _ (d : Inside) (s : Place) (at : s ≡ get_or c.places.items n s) (outs : List (List ℕ)) (shown : outs ≡ outputs (effects_on (loan_at (state_of c) n)))
       (ks : List ℕ) (named : ks ≡ children (effects_on (loan_at (state_of c) n)))
-      (w : Written c d n (stands_at s (stands.Ended (answers.Done outs))) (child_places n (place_in c.places.items n).root (place_in c.places.items n).subject 1 ks))
+      (w : Written c d n (stands_at s (stands.Ended (answers.Done outs))) (child_places (siblings_of c n) 1 ks))
       (policy : d.policy ≡ c.policy)
       (shelves : d.shelves.items ≡ put_back c.shelves.items (backs n (part_of (loan_at (state_of c) n)).accesses (loan_at (state_of c) n).inputs (effects_on (loan_at (state_of c) n)))) where
     are : ks ≡ children (past_at (state_of c) n).effects
@@ -145,7 +152,7 @@ module _ (c : Inside) (k : Keeps c) (n : ℕ) (r : runs (state_of c) n ≡ true)
     same = same-read c.places.items n s (stands.Ended (answers.Done outs)) end_there at
 
     pub end-state : state_of d ≡ change (state_of c) (Ends n)
-    end-state = state-ended c d n (place_in c.places.items n).root (place_in c.places.items n).subject (stands_at s (stands.Ended (answers.Done outs))) ks w same refl are
+    end-state = state-ended c d n (stands_at s (stands.Ended (answers.Done outs))) ks w same refl are
 
     shelved : AreShelved (change (state_of c) (Ends n)) d.shelves.items
     shelved =
@@ -160,7 +167,7 @@ module _ (c : Inside) (k : Keeps c) (n : ℕ) (r : runs (state_of c) n ≡ true)
     pub end-kept : ((x : State) (m : ℕ) → IsReached x → m < length x.order → IsBehaviourOrRule (past_at x m).task) → Keeps d
     end-kept law =
         kept-moved c d (Ends n) k r
-        (moved-written c d n (stands_at s (stands.Ended (answers.Done outs))) (child_places n (place_in c.places.items n).root (place_in c.places.items n).subject 1 ks) w end_there same
+        (moved-written c d n (stands_at s (stands.Ended (answers.Done outs))) (child_places (siblings_of c n) 1 ks) w end_there same
         k (Ends n) end-state
         (λ a is. ap (λ (p : Past). p.answer) (past-ended (state_of c) sound n r n in_order) ∙ both.0 ∙ ap answers.Done (sym shown) ∙ ended_of (answers.Done outs) a is)
         (λ m ge lt. subst (λ (l : List Place). Tells c.setup l m (past_at (change (state_of c) (Ends n)) m)) (sym w.places)

@@ -17,6 +17,7 @@ pub record Same (s t : Place) : Type 0 where
   pub root : t.root ≡ s.root
   pub index : t.index ≡ s.index
   pub subject : t.subject ≡ s.subject
+  pub carried : t.carried ≡ s.carried
 
 -- the places that were there are the same, and others may follow
 pub record Grows (old new : List Place) : Type 0 where
@@ -24,7 +25,7 @@ pub record Grows (old new : List Place) : Type 0 where
   pub same : (m : ℕ) → m < length old → Same (place_in old m) (place_in new m)
 
 pub same_self : (s : Place) → Same s s
-same_self s = record { descent = refl; root = refl; index = refl; subject = refl }
+same_self s = record { descent = refl; root = refl; index = refl; subject = refl; carried = refl }
 
 pub equal_or_not : (m n : ℕ) → (m ≡ n) ⊎ (m ≢ n)
 equal_or_not m n = grind arith
@@ -54,7 +55,7 @@ grows-both a b c g h = record {
   same = λ m lt.
       let s : Same (get_or a m no_place) (get_or b m no_place) = g.same m lt in
       let t : Same (get_or b m no_place) (get_or c m no_place) = h.same m (omega (arith, g.longer)) in
-      record { descent = t.descent ∙ s.descent; root = t.root ∙ s.root; index = t.index ∙ s.index; subject = t.subject ∙ s.subject };
+      record { descent = t.descent ∙ s.descent; root = t.root ∙ s.root; index = t.index ∙ s.index; subject = t.subject ∙ s.subject; carried = t.carried ∙ s.carried };
 }
 
 module _ (old new : List Place) (g : Grows old new) where
@@ -69,14 +70,15 @@ module _ (old new : List Place) (g : Grows old new) where
       ∙ ap (child_task (first_task (work_in old n))) (g.same n lt).index
 
   -- what is told of a place is told still
-  pub tells-grown : (setup : Setup) (n : ℕ) (p q : Past) → n < length old → Tells setup old n p → q.task ≡ p.task → q.subject ≡ p.subject
+  pub tells-grown : (setup : Setup) (n : ℕ) (p q : Past) → n < length old → Tells setup old n p → q.task ≡ p.task → q.subject ≡ p.subject → q.carried ≡ p.carried
       → ((a : Answer) → (place_in new n).stand ≡ Ended a → q.answer ≡ a) → Tells setup new n q
-  tells-grown setup n p q lt told task subject answer =
+  tells-grown setup n p q lt told task subject carried answer =
       let s : Same (get_or old n no_place) (get_or new n no_place) = g.same n lt in
       let works : work_in new n ≡ work_in old n = work_in-grown n lt told.root in
       record {
         task = task ∙ told.task ∙ sym (task_in-grown n lt told.root);
         subject = subject ∙ told.subject ∙ sym s.subject;
+        carried = carried ∙ told.carried ∙ sym s.carried;
         answer = answer;
         root = omega (arith, s.root, told.root, g.longer);
         behaviour = subst (λ (w : Work). HasBehaviour w (get_or new n no_place).index) (sym works)

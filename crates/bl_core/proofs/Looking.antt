@@ -48,8 +48,8 @@ answer-known c k n lt =
     let x : State = state_of c in
     let past : Past = past_at x n in
     let told : Tells c.setup c.places.items n past = k.told n lt in
-    answer_known c.setup (is_lost x n) (fault_of_task (policy_at x n) past.subject past.task) past.task
+    answer_known c.setup (is_lost x n) (fault_of_task (policy_at x n) past.subject past.carried past.task) past.task
     (deeds past.task (λ doc. content_at x doc n))
-    (denial_known c.setup (policy_at x n) past.subject (subst (λ (s : ℕ). s < length c.setup.policy.subjects) (sym told.subject) told.speaks) past.task
+    (denial_known c.setup (policy_at x n) past.subject (subst (λ (s : ℕ). s < length c.setup.policy.subjects) (sym told.subject) told.speaks) past.carried past.task
     (subst (KnowsTask c.setup) (sym told.task)
     (task-known c.setup (work_in c.places.items n) (place_in c.places.items n).index told.knows told.behaviour)))

@@ -1,14 +1,19 @@
 -- What every event keeps of the fields.
-use Rattle.std.proofs.Common.{◌≡◌, ℕ, ◌<◌, ◌≤◌, ◌+◌, ◌⊎◌, inl, inr, Bool, length, refl, ap, sym, ◌∙◌, subst, arith}
+use Rattle.std.proofs.Common.{◌≡◌, ℕ, ◌<◌, ◌≤◌, ◌+◌, ◌⊎◌, inl, inr, Bool, length, get_or, refl, ap, sym, ◌∙◌, subst, arith}
 use Rattle.std.specs.Prelude.{sum_by, All}
 use Rattle.std.specs.Vec.{vec_capacity}
+use Rattle.bl_level.specs.Level.{join_of}
 use Rattle.bl_work.specs.declared.answer.Answer.{Answer}
 use Rattle.bl_setup.specs.Setup.{Setup}
 use Rattle.bl_setup.specs.Agreement.{Agree}
-use Rattle.bl_order.specs.Past.{Past}
-use Rattle.bl_order.specs.Machine.{State, Event, Opens, Admits, Starts, Ends, Loses, Needs, change, past_at, phase_at, is_over, entry_weight}
+use Rattle.bl_setup.specs.declared.version.Version.{Version}
+use Rattle.bl_setup.specs.declared.version.Version.TheVariants.{One, Two}
+use Rattle.bl_order.specs.Order.{Entry, Line, Child}
+use Rattle.bl_order.specs.Past.{Past, no_entry, carried_of, earlier}
+use Rattle.bl_order.specs.Machine.{State, Event, Opens, Admits, Starts, Ends, Loses, Needs, change, past_at, phase_at, has_ended, is_lost, is_over, entry_weight}
 use Rattle.bl_order.specs.Now.{policy_now}
-use Rattle.bl_order.proofs.Sound.{IsSound}
+use Rattle.bl_order.proofs.Places.{at_place-earlier}
+use Rattle.bl_order.proofs.Sound.{HasParent, IsSound}
 use Rattle.bl_order.proofs.Reached.{sound-reached, reached-next}
 use Rattle.bl_order.proofs.Steps.{past-alike, running_is_not_over, waiting_is_not_over}
 use Rattle.bl_order.proofs.Trails.{past-step, past-admitted, past-started, past-ended, within}
@@ -23,18 +28,33 @@ use Rattle.bl_core.specs.declared.machine.Core.TheInside.{Inside}
 use Rattle.bl_core.proofs.Grown.{Grows, tells-grown}
 use Rattle.bl_core.proofs.Views.{length-order, phase-read, over-by}
 
--- a record has the same task and the same subject
+-- a record has the same task, the same subject, and carries the same
 pub record Speaks (p q : Past) : Type 0 where
   pub task : q.task ≡ p.task
   pub subject : q.subject ≡ p.subject
+  pub carried : q.carried ≡ p.carried
 
 speaks-same : (p q : Past) → q ≡ p → Speaks p q
-speaks-same p q e = record { task = ap (λ (r : Past). r.task) e; subject = ap (λ (r : Past). r.subject) e }
+speaks-same p q e = record { task = ap (λ (r : Past). r.task) e; subject = ap (λ (r : Past). r.subject) e; carried = ap (λ (r : Past). r.carried) e }
 
-speaks-alike : {b : Bool} (p q : Past) → IsAlike b p q → Speaks p q
-speaks-alike p q a = record { task = sym a.task; subject = sym a.subject }
+speaks-alike : {b : Bool} (p q : Past) → IsAlike b p q → q.carried ≡ p.carried → Speaks p q
+speaks-alike p q a carried = record { task = sym a.task; subject = sym a.subject; carried = carried }
 
--- no event changes what a place does, or who speaks
+-- a loss changes nothing of what is carried, since each child's parent has ended
+carried-lost : (x : State) (k : ℕ) → IsSound x → Needs x (Loses k) → (m : ℕ) → m < length x.order → (past_at (change x (Loses k)) m).carried ≡ (past_at x m).carried
+carried-lost x k sound needs m lt = go x.setup.version (get_or x.order m no_entry) (sound.parents m lt)
+  where
+    go : (v : Version) (e : Entry) → HasParent (has_ended x) m e
+        → carried_of v (earlier x.setup (is_lost (change x (Loses k))) x.order m) e ≡ carried_of v (earlier x.setup (is_lost x) x.order m) e
+    go One e has = refl
+    go Two (Line session ordinal subject work) has = refl
+    go Two (Child parent which) has =
+        ap (λ (r : Past). join_of r.level r.carried)
+        (at_place-earlier x.setup (is_lost (change x (Loses k))) x.order m parent has.0
+        ∙ past-step x (Loses k) sound needs parent (omega (arith, has.0, lt)) has.1
+        ∙ sym (at_place-earlier x.setup (is_lost x) x.order m parent has.0))
+
+-- no event changes what a place does, who speaks, or what is carried
 pub speaks-step : (x : State) (e : Event) → IsSound x → Needs x e → (m : ℕ) → m < length x.order → Speaks (past_at x m) (past_at (change x e) m)
 speaks-step x (Opens s) sound needs m lt = speaks-same (past_at x m) (past_at x m) refl
 speaks-step x (Admits i o w) sound needs m lt = speaks-same (past_at x m) _ (past-admitted x sound i o w m lt)
@@ -42,8 +62,10 @@ speaks-step x (Starts k) sound may m lt = speaks-same (past_at x m) _ (past-star
 speaks-step x (Ends k) sound running m lt = speaks-same (past_at x m) _ (past-ended x sound k running m lt)
 speaks-step x (Loses k) sound (inl running) m lt =
     speaks-alike (past_at x m) _ (past-alike x k sound (within x sound k running) (running_is_not_over (phase_at x k) running) m lt)
+    (carried-lost x k sound (inl running) m lt)
 speaks-step x (Loses k) sound (inr may) m lt =
     speaks-alike (past_at x m) _ (past-alike x k sound may.there (waiting_is_not_over (phase_at x k) may.waits) m lt)
+    (carried-lost x k sound (inr may) m lt)
 
 -- what an event makes of the fields
 pub record Moved (c d : Inside) (e : Event) : Type 0 where
@@ -77,6 +99,7 @@ module _ (c d : Inside) (e : Event) (k : Keeps c) (needs : Needs (state_of c) e)
   old m lt =
       tells-grown c.places.items d.places.items v.grows c.setup m (past_at (state_of c) m) (past_at (change (state_of c) e) m) lt (k.told m lt)
       (speaks-step (state_of c) e sound needs m in_order).task (speaks-step (state_of c) e sound needs m in_order).subject
+      (speaks-step (state_of c) e sound needs m in_order).carried
       (answers (v.stands m lt))
     where
       in_order : m < length (state_of c).order
@@ -100,6 +123,7 @@ module _ (c d : Inside) (e : Event) (k : Keeps c) (needs : Needs (state_of c) e)
   keeps_at = record {
     reached = reached-next (state_of c) e k.reached needs;
     agree = subst Agree (sym v.setup) k.agree;
+    two = subst (λ (s : Setup). s.version ≡ Two) (sym v.setup) k.two;
     policy = v.policy;
     subjects = v.subjects ∙ k.subjects ∙ ap (λ (s : Setup). length s.policy.subjects) (sym v.setup);
     documents = v.documents ∙ k.documents ∙ ap (λ (s : Setup). length s.policy.documents) (sym v.setup);

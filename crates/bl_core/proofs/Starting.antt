@@ -116,19 +116,22 @@ module _ (c d : Inside) (n : ℕ) (t : Place) (w : Written c d n t []) (k : Keep
 by_fault : (f g : Option Denial) (t : Task) (es : List Effect) (b : Bool) → b ≡ false → f ≡ g → answer_of b g t es ≡ answer_of false f t es
 by_fault f g t es b e h = ap (λ (v : Bool). answer_of v g t es) e ∙ ap (λ (v : Option Denial). answer_of false v t es) (sym h)
 
+-- what a policy has against what a place does
+abbrev pub fault_by : SecurityPolicy → Past → Option Denial
+fault_by p past = fault_of_task p past.subject past.carried past.task
+
 module _ (c : Inside) (k : Keeps c) (n : ℕ) (may : MayStart (state_of c) n) where
   -- the fault under the policy that is kept is the fault at the place
-  pub answer-by : (f : Option Denial) → f ≡ fault_of_task c.policy (past_at (state_of c) n).subject (past_at (state_of c) n).task
+  pub answer-by : (f : Option Denial) → f ≡ fault_by c.policy (past_at (state_of c) n)
       → (es : List Effect) × ((past_at (state_of c) n).answer ≡ answer_of false f (past_at (state_of c) n).task es)
   answer-by f e = (
     _,
-    by_fault f (fault_of_task (policy_at (state_of c) n) (past_at (state_of c) n).subject (past_at (state_of c) n).task) (past_at (state_of c) n).task _ (is_lost (state_of c) n)
+    by_fault f (fault_by (policy_at (state_of c) n) (past_at (state_of c) n)) (past_at (state_of c) n).task _ (is_lost (state_of c) n)
         (waiting_is_not_gone (phase_at (state_of c) n) may.waits)
-        (e ∙ ap (λ (p : SecurityPolicy). fault_of_task p (past_at (state_of c) n).subject (past_at (state_of c) n).task)
-        (k.policy ∙ (holds-reached (state_of c) k.reached).at_ready n may)),
+        (e ∙ ap (λ (p : SecurityPolicy). fault_by p (past_at (state_of c) n)) (k.policy ∙ (holds-reached (state_of c) k.reached).at_ready n may)),
   )
 
-  pub denied-by : (denial : Denial) → Some denial ≡ fault_of_task c.policy (past_at (state_of c) n).subject (past_at (state_of c) n).task
+  pub denied-by : (denial : Denial) → Some denial ≡ fault_by c.policy (past_at (state_of c) n)
       → (past_at (state_of c) n).answer ≡ answers.Denied denial
   denied-by denial e = (answer-by (Some denial) e).1
 
@@ -136,7 +139,7 @@ module _ (c : Inside) (k : Keeps c) (n : ℕ) (may : MayStart (state_of c) n) wh
   done_runs (Runs script index) es h = refl
   done_runs (Applies rule) es h = absurd (true≢false h)
 
-  pub done-by : is_rule (past_at (state_of c) n).task ≡ false → None ≡ fault_of_task c.policy (past_at (state_of c) n).subject (past_at (state_of c) n).task
+  pub done-by : is_rule (past_at (state_of c) n).task ≡ false → None ≡ fault_by c.policy (past_at (state_of c) n)
       → is_done (past_at (state_of c) n).answer ≡ true
   done-by behaviour e =
       let b : (es : List Effect) × ((past_at (state_of c) n).answer ≡ answer_of false None (past_at (state_of c) n).task es) = answer-by None e in
@@ -147,7 +150,7 @@ module _ (c : Inside) (k : Keeps c) (n : ℕ) (may : MayStart (state_of c) n) wh
       → (past_at (state_of c) n).answer ≡ ruled f
   ruled-by rule f is e =
       let b : (es : List Effect) × ((past_at (state_of c) n).answer ≡ answer_of false f (past_at (state_of c) n).task es) =
-      answer-by f (e ∙ ap (fault_of_task c.policy (past_at (state_of c) n).subject) (sym is)) in
+      answer-by f (e ∙ ap (fault_of_task c.policy (past_at (state_of c) n).subject (past_at (state_of c) n).carried) (sym is)) in
       b.1 ∙ ap (λ (t : Task). answer_of false f t b.0) is ∙ go f b.0
     where
       go : (g : Option Denial) (es : List Effect) → answer_of false g (Applies rule) es ≡ ruled g

@@ -34,12 +34,12 @@ pub record Written (c d : Inside) (n : ℕ) (t : Place) (more : List Place) : Ty
 
 -- the place, standing otherwise
 abbrev pub stands_at : Place → Stand → Place
-stands_at s v = record { descent = s.descent; root = s.root; index = s.index; subject = s.subject; stand = v }
+stands_at s v = record { descent = s.descent; root = s.root; index = s.index; subject = s.subject; carried = s.carried; stand = v }
 
 pub same-read : (places : List Place) (n : ℕ) (s : Place) (v : Stand) → n < length places → s ≡ get_or places n s → Same (place_in places n) (stands_at s v)
 same-read places n s v lt at =
     let e : s ≡ get_or places n no_place = get_or_read places n s lt at no_place in
-    record { descent = ap (λ (t : Place). t.descent) e; root = ap (λ (t : Place). t.root) e; index = ap (λ (t : Place). t.index) e; subject = ap (λ (t : Place). t.subject) e }
+    record { descent = ap (λ (t : Place). t.descent) e; root = ap (λ (t : Place). t.root) e; index = ap (λ (t : Place). t.index) e; subject = ap (λ (t : Place). t.subject) e; carried = ap (λ (t : Place). t.carried) e }
 
 pub append_nil : {X : Type 0} (xs : List X) → xs ++ [] ≡ xs
 append_nil [] = refl

@@ -4,6 +4,7 @@ use Rattle.std.specs.Vec.{vec_capacity}
 use Rattle.bl_work.specs.declared.answer.Answer.{Answer}
 use Rattle.bl_setup.specs.Setup.{Setup}
 use Rattle.bl_setup.specs.Agreement.{Agree}
+use Rattle.bl_setup.specs.declared.version.Version.TheVariants.{Two}
 use Rattle.bl_order.specs.Order.{accesses_of, is_altered}
 use Rattle.bl_order.specs.Past.{Past}
 use Rattle.bl_order.specs.Machine.{State, past_at, runs, entry_weight, most_sessions}
@@ -24,6 +25,7 @@ use Rattle.bl_core.specs.declared.machine.Core.TheInside.{Inside}
 pub record Tells (setup : Setup) (places : List Place) (n : ℕ) (past : Past) : Type 0 where
   pub task : past.task ≡ task_in places n
   pub subject : past.subject ≡ (place_in places n).subject
+  pub carried : past.carried ≡ (place_in places n).carried
   pub answer : (a : Answer) → (place_in places n).stand ≡ Ended a → past.answer ≡ a
   pub root : (place_in places n).root < length places
   pub behaviour : HasTask places n
@@ -41,11 +43,12 @@ pub record AreShelved (x : State) (shelves : List Shelf) : Type 0 where
   pub home : (doc : ℕ) → doc < length shelves → (shelf_in shelves doc).lent ≡ false
       → (n : ℕ) → runs x n ≡ true → is_altered (accesses_of (past_at x n).task) doc ≡ false
 
--- what the fields keep at a state: a trail leads to it, the policy and the contents are those now, each place is told, the queues
--- have all places, and there is room for all that may still come
+-- what the fields keep at a state: a trail leads to it, it is judged by version 2, the policy and the contents are those now, each
+-- place is told, the queues have all places, and there is room for all that may still come
 pub record KeepsAt (x : State) (c : Inside) : Type 0 where
   pub reached : IsReached x
   pub agree : Agree c.setup
+  pub two : c.setup.version ≡ Two
   pub policy : c.policy ≡ policy_now x
   pub subjects : length c.policy.subjects ≡ length c.setup.policy.subjects
   pub documents : length c.policy.documents ≡ length c.setup.policy.documents

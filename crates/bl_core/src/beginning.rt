@@ -34,6 +34,8 @@ impl Beginning {
         let places = Vec::with_capacity(alloc, limit as usize)?;
         let shelves = shelve(alloc, setup.contents())?;
         let policy = setup.policy().copy()?;
+        // asked for the proof alone: a run over a setup that was read is judged by version 2
+        let _version = setup.version();
         let cowns = policy.documents() as u32 + 1;
         let queues = Queues::new(alloc, cowns, limit)?;
         Ok(Beginning {

@@ -10,15 +10,19 @@ use crate::refusal::{Cause, NotReady, OpenRefused, Refused, StartFault, Starved}
 use crate::session::{Session, SessionNo};
 use bl_eval::lent::{Done, DoneParts, Lent, Unrun, UnrunParts};
 use bl_grant::grants::Grants;
+use bl_level::level::Level;
 use bl_order::laws::{
-    each_state_holds, headline, lines_are_readable, read_lines_are_in_the_setup,
+    each_state_holds, headline, lineage, lines_are_readable, read_lines_are_in_the_setup,
     tasks_are_of_scripts, the_order_has_room,
 };
-use bl_place::place::{Descent, Place, Stand, declared, enter_children, enter_queues, work_at};
+use bl_place::place::{
+    Descent, Place, Siblings, Stand, declared, enter_children, enter_queues, work_at,
+};
 use bl_place::shelf::{Shelf, contents_of, is_done_of, is_unrun_of, mark, take_back};
 use bl_policy::denial::Denial;
 use bl_policy::id::{DocId, SubjectId};
 use bl_policy::policy::Policy;
+use bl_policy::policy::carry::lowest_level;
 use bl_policy::rule::Rule;
 use bl_queue::queues::Queues;
 use bl_setup::setup::Setup;
@@ -105,6 +109,7 @@ impl Core {
     ghost use Rattle.bl_work.specs.declared.answer.Answer.TheVariants as answers;
     ghost use Rattle.bl_order.specs.Headline.{Holds, IsReached};
     ghost use Rattle.bl_order.specs.Known.{KnowsAnswer, KnowsWork};
+    ghost use Rattle.bl_order.specs.Lineage.{KeepsItsLineage};
     ghost use Rattle.bl_order.specs.Machine.{Opens, Admits, Starts, Ends, Loses, MayStart, Hold, Needs, State, change, has_ended, held, is_lost, past_at, runs, start};
     ghost use Rattle.bl_order.specs.Now.{content_at, content_now, policy_at, policy_now, IsFirstToAlter};
     ghost use Rattle.bl_order.specs.Order.{Applies, accesses_of, is_altered, is_rule};
@@ -225,6 +230,7 @@ impl Core {
             root: n,
             index: 0,
             subject,
+            carried: lowest_level(),
             stand: Stand::Waiting,
         });
         enter_queues(&mut self.queues, self.places.as_slice(), n as usize);
@@ -284,8 +290,8 @@ impl Core {
         let Some(accesses) = declared(self.places.as_slice(), n as usize) else {
             unreachable!()
         };
-        self.policy
-            .decide(self.places[n as usize].subject, accesses)
+        let place = &self.places[n as usize];
+        self.policy.decide(place.subject, &place.carried, accesses)
     }
 
     /// Ends a place that may start with its denial.
@@ -356,13 +362,18 @@ impl Core {
     }
 
     /// Starts an entry. A rule or a denied behaviour ends at once; another behaviour runs, and is lent the contents of what it
-    /// declares, in declared order. `NotReady` comes where the entry may not start, and `Memory` where a growth was refused.
+    /// declares, in declared order. `NotReady` comes where the entry may not start, and `Memory` where a growth was refused. Where an
+    /// untrusted subject's entry runs, what it may alter dominates all that it and those above it may look at.
     pub fn start(&mut self, n: u32) -> Result<Started, StartFault>
         ensures ok { IfOk result (λ begun. IsStarted self.old n begun × (self.new ≡ change self.old (Starts n))) }
         ensures err { OnErr result (self.new ≡ self.old) }
         ensures not_ready { (result ≡ Err StartFault.NotReady) ↔ ¬ MayStart self.old n }
         ensures starved { IfErr result (IsStarvedBy n) }
+        ensures lineage { IfOk result (λ _. KeepsItsLineage self.old n) }
     {
+        lineage();
+        // read for the proof alone: the run is judged by version 2
+        let _setup = &self.setup;
         if !self.is_ready(n) {
             return Err(StartFault::NotReady);
         }
@@ -376,7 +387,7 @@ impl Core {
     }
 
     /// Ends a running entry with what was done of what it was lent: its exclusive contents come back, its answer is kept, and its
-    /// children enter at the end of the order.
+    /// children enter at the end of the order. Each of them carries the level at which the entry ran, joined with what it carried.
     pub fn finish_lent(&mut self, done: Done)
         requires running { IsTrue (runs self.old done.entry) }
         requires lent { done ≡ loan_at self.old done.entry }
@@ -397,10 +408,16 @@ impl Core {
         self.queues.end(entry);
         let place = &mut self.places[entry as usize];
         place.stand = Stand::Ended(Answer::Done(outputs));
-        let root = place.root;
-        let subject = place.subject;
+        // it ran until now, so the policy now is the one at its place
+        let level = self.policy.current(place.subject);
+        let siblings = Siblings {
+            parent: entry,
+            root: place.root,
+            subject: place.subject,
+            carried: level.join(&place.carried),
+        };
         let first = self.places.len();
-        enter_children(&mut self.places, entry, root, subject, spawned.as_slice());
+        enter_children(&mut self.places, &siblings, spawned.as_slice());
         enter_queues(&mut self.queues, self.places.as_slice(), first);
     }
 
@@ -649,6 +666,18 @@ impl Core {
             Descent::Line { work, .. } => Some(work),
             Descent::Child { .. } => None,
         }
+    }
+
+    /// The level that an entry carries, below which it may alter nothing unless its subject is trusted: the lowest for a line, and for a
+    /// child the level at which its parent ran, joined with what that carried. `None` where it is not there.
+    pub fn carried(&self, n: u32) -> Option<Level>
+        ensures value { IfSome result (λ level. level ≡ (past_at self.now n).carried) }
+        ensures some { IsSome result ↔ n < length self.now.order }
+    {
+        if n as usize >= self.places.len() {
+            return None;
+        }
+        Some(self.places[n as usize].carried)
     }
 
     /// Whether an entry has ended; `false` where it is not there.

@@ -2,6 +2,7 @@
 //!
 //!     base         a core over the base setup, and what the tests ask of it
 //!     examples     what is allowed, denied and changed, entry after entry
+//!     carried      what a behaviour carries from its parents
 //!     starts       which entries may start
 //!     refusals     what a core refuses: sessions, names, and what it did not lend
 //!     memory       what is left where a growth is refused
@@ -10,6 +11,8 @@
 
 #[cfg(test)]
 mod base;
+#[cfg(test)]
+mod carried;
 #[cfg(test)]
 mod examples;
 #[cfg(test)]

@@ -9,6 +9,7 @@ use bl_order::laws::read_lines_are_in_the_setup;
 use bl_policy::id::SubjectId;
 use bl_read::line::read_line;
 use bl_setup::setup::Setup;
+use bl_setup::version::Version;
 use bl_work::answer::Answer;
 use bl_work::asked::Line;
 use std::alloc::AllocGlobal;
@@ -254,7 +255,7 @@ fn assert_order<R: AllocGlobal + Abort>(rt: &R, order: &Order, newest: bool) {
     let mut core = base_core(rt);
     let sources = run_order(rt, &mut core, order, newest);
     assert!(rt; sources.len() == ENTRIES as usize);
-    let mut monitor = right(rt, Monitor::new(rt.alloc(), base(rt)));
+    let mut monitor = right(rt, Monitor::new(rt.alloc(), base(rt), Version::Two));
     assert_answers(rt, &core, &mut monitor, &sources);
     drop(monitor);
     drop(core);

@@ -3,6 +3,7 @@ use Rattle.std.specs.Prelude.{◌≡◌, ℕ, List, [], ◌∷◌, ◌++◌, len
 use Rattle.atomic_table.specs.Seated.{TableId}
 use Rattle.bl_policy.specs.Policy.{no_policy}
 use Rattle.bl_work.specs.Names.{KnownNames}
+use Rattle.bl_setup.specs.declared.version.Version.TheVariants.{Two}
 use Rattle.bl_order.specs.Machine.{State, Event}
 use Rattle.bl_core.specs.declared.machine.Started.{Started}
 use Rattle.bl_core.specs.declared.machine.Started.TheVariants.{Denied, RuleDone, Run}
@@ -34,6 +35,7 @@ no_hall = record {
     names = record { scheme = record { ranks = []; categories = [] }; subjects = []; documents = [] };
     policy = no_policy;
     contents = [];
+    version = Two;
   };
   limit = 0;
   trail = [];

@@ -18,12 +18,13 @@ use Rattle.bl_work.specs.Statements as statement
 use Rattle.bl_work.specs.Statements.{Statements, Part, no_part}
 use Rattle.bl_work.proofs.Blind.{effects_from-same}
 use Rattle.bl_work.proofs.Altered.{unaltered-stays}
-use Rattle.bl_order.specs.Order.{Task, Runs, Applies, is_declared, is_altered, accesses_of}
-use Rattle.bl_order.specs.Past.{Past, lent, deeds, is_done, answer_of, only_if_done, fault_of_task}
+use Rattle.bl_order.specs.Order.{Task, Runs, Applies, is_declared, is_altered}
+use Rattle.bl_order.specs.Past.{Past, lent, deeds, leaves, may_alter, is_done, answer_of, only_if_done, fault_of_task}
 use Rattle.bl_monitor.specs.declared.run.Run.{Run}
 use Rattle.bl_monitor.specs.Undoing.{content_listed}
 use Rattle.bl_monitor.specs.Running.{StandsAfter, GoesOn, UsesBelow}
-use Rattle.bl_monitor.specs.Judging.{Leaves, left_by, effects_on, content_behind, record_of}
+use Rattle.bl_monitor.specs.declared.place.Admitted.{Admitted}
+use Rattle.bl_monitor.specs.Judging.{Case, case_of, Leaves, left_by, effects_on, content_behind, record_of}
 
 abbrev IsBelow : ℕ → Access → Type 0
 IsBelow count access = access.doc < count
@@ -102,45 +103,57 @@ has_run contents now part body first new is right shown behaviours long goes =
         stands.contents doc (omega (arith, long)) ∙ unaltered-stays part.accesses (content_listed contents) part.body right.modes doc e
         ∙ ap (λ b. cond b (after (content_listed contents doc) (effects_on contents part) doc) (content_listed contents doc)) (sym e)
 
+-- the record of a task, by whether it is lost and what is held against it
+abbrev past_with : List (List ℕ) → Past → Bool → Option Denial → Past
+past_with contents past lost fault =
+    let effects : List Effect = deeds past.task (content_listed contents) in
+    record past { answer = answer_of lost fault past.task effects; effects = only_if_done (answer_of lost fault past.task effects) effects }
+
 -- a behaviour that nothing is held against leaves what it makes
-pub leaves_done : (lost : Bool) (policy : SecurityPolicy) (contents : List (List ℕ)) (subject : ℕ) (script : List Part) (index : ℕ) (now : List (List ℕ))
-    → lost ≡ false → None ≡ first_fault policy subject (slice_index_or script index no_part).accesses
+pub leaves_done : (policy : SecurityPolicy) (contents : List (List ℕ)) (a : Admitted) (script : List Part) (index : ℕ) (now : List (List ℕ))
+    → a.lost ≡ false → None ≡ first_fault policy a.subject a.carried (slice_index_or script index no_part).accesses
     → Leaves contents (left_by contents (slice_index_or script index no_part)) now
-    → Leaves contents (content_behind contents (record_of lost policy contents subject (Runs script index))) now
-leaves_done lost policy contents subject script index now unlost none leaves =
-    subst (λ b. Leaves contents (content_behind contents (record_of b policy contents subject (Runs script index))) now) (sym unlost)
-    (subst (λ (f : Option Denial). Leaves contents (content_behind contents (past_with f)) now) none leaves)
+    → Leaves contents (content_behind contents (record_of policy contents (case_of a (Runs script index)))) now
+leaves_done policy contents a script index now unlost none stands = record {
+  as_many = stands.as_many;
+  left = λ doc lt.
+      stands.left doc lt
+      ∙ ap (λ (f : Option Denial). leaves (past_with contents past false f) doc (content_listed contents doc)) none
+      ∙ ap (λ b. leaves (past_with contents past b (fault_of_task policy a.subject a.carried (Runs script index))) doc (content_listed contents doc)) (sym unlost);
+}
   where
-    past_with : Option Denial → Past
-    past_with f =
-        let effects : List Effect = deeds (Runs script index) (content_listed contents) in
-        record { subject = subject; task = Runs script index; answer = answer_of false f (Runs script index) effects; effects = only_if_done (answer_of false f (Runs script index) effects) effects }
+    past : Past
+    past = record_of policy contents (case_of a (Runs script index))
 
 -- a task that is not done leaves the contents
 pub leaves_idle : (contents : List (List ℕ)) (past : Past) → is_done past.answer ≡ false → Leaves contents (content_behind contents past) contents
 leaves_idle contents past idle = record {
   as_many = refl;
-  left = λ doc lt. sym (ap (λ b. cond (b && is_altered (accesses_of past.task) doc) (after (content_listed contents doc) past.effects doc) (content_listed contents doc)) idle);
+  left = λ doc lt. sym (ap (λ b. cond (b && may_alter past.task doc) (after (content_listed contents doc) past.effects doc) (content_listed contents doc)) idle);
 }
 
-pub leaves_lost : (lost : Bool) (policy : SecurityPolicy) (contents : List (List ℕ)) (subject : ℕ) (task : Task) → lost ≡ true
-    → Leaves contents (content_behind contents (record_of lost policy contents subject task)) contents
-leaves_lost lost policy contents subject task is =
-    leaves_idle contents (record_of lost policy contents subject task) (ap (λ b. is_done (record_of b policy contents subject task).answer) is)
+pub leaves_lost : (policy : SecurityPolicy) (contents : List (List ℕ)) (c : Case) → c.lost ≡ true
+    → Leaves contents (content_behind contents (record_of policy contents c)) contents
+leaves_lost policy contents c is =
+    leaves_idle contents (record_of policy contents c) (ap (λ b. is_done (record_of policy contents (record c { lost = b })).answer) is)
 
-pub leaves_denied : (lost : Bool) (policy : SecurityPolicy) (contents : List (List ℕ)) (subject : ℕ) (script : List Part) (index : ℕ) (denial : Denial)
-    → lost ≡ false → Some denial ≡ first_fault policy subject (slice_index_or script index no_part).accesses
-    → Leaves contents (content_behind contents (record_of lost policy contents subject (Runs script index))) contents
-leaves_denied lost policy contents subject script index denial unlost some =
-    leaves_idle contents (record_of lost policy contents subject (Runs script index))
-    (ap (λ b. is_done (record_of b policy contents subject (Runs script index)).answer) unlost
-    ∙ sym (ap (λ (f : Option Denial). is_done (answer_of false f (Runs script index) (deeds (Runs script index) (content_listed contents)))) some))
+pub leaves_denied : (policy : SecurityPolicy) (contents : List (List ℕ)) (a : Admitted) (script : List Part) (index : ℕ) (denial : Denial)
+    → a.lost ≡ false → Some denial ≡ first_fault policy a.subject a.carried (slice_index_or script index no_part).accesses
+    → Leaves contents (content_behind contents (record_of policy contents (case_of a (Runs script index)))) contents
+leaves_denied policy contents a script index denial unlost some =
+    leaves_idle contents past
+    (ap (λ b. is_done (past_with contents past b (fault_of_task policy a.subject a.carried (Runs script index))).answer) unlost
+    ∙ sym (ap (λ (f : Option Denial). is_done (past_with contents past false f).answer) some))
+  where
+    past : Past
+    past = record_of policy contents (case_of a (Runs script index))
 
-pub leaves_rule : (lost : Bool) (policy : SecurityPolicy) (contents : List (List ℕ)) (subject : ℕ) (task : Task) (rule : Rule) → task ≡ Applies rule
-    → Leaves contents (content_behind contents (record_of lost policy contents subject task)) contents
-leaves_rule lost policy contents subject task rule is =
-    subst (λ (t : Task). Leaves contents (content_behind contents (record_of lost policy contents subject t)) contents) (sym is)
-    (leaves_idle contents (record_of lost policy contents subject (Applies rule)) (idle lost (fault_of_task policy subject (Applies rule)) (deeds (Applies rule) (content_listed contents))))
+pub leaves_rule : (policy : SecurityPolicy) (contents : List (List ℕ)) (a : Admitted) (task : Task) (rule : Rule) → task ≡ Applies rule
+    → Leaves contents (content_behind contents (record_of policy contents (case_of a task))) contents
+leaves_rule policy contents a task rule is =
+    leaves_idle contents (record_of policy contents (case_of a task))
+    (ap (λ t. is_done (record_of policy contents (case_of a t)).answer) is
+    ∙ idle a.lost (fault_of_task policy a.subject a.carried (Applies rule)) (deeds (Applies rule) (content_listed contents)))
   where
     idle : (lost : Bool) (f : Option Denial) (effects : List Effect) → is_done (answer_of lost f (Applies rule) effects) ≡ false
     idle true f effects = refl

@@ -2,7 +2,7 @@
 use Rattle.std.proofs.Common.{◌≡◌, ℕ, ◌-◌, ◌<◌, ◌≤◌, true, cond, List, [], ◌∷◌, ◌++◌, length, get_or, refl, sym, ◌∙◌, ap, subst, arith}
 use Rattle.std.specs.Prelude.{is_some, nat_lt, ◌&&◌, slice_index_or, Some, None}
 use Rattle.bl_policy.specs.FirstFault.{first_fault}
-use Rattle.bl_policy.specs.Policy.{SecurityPolicy}
+use Rattle.bl_policy.specs.Policy.{SecurityPolicy, current_of, lowest}
 use Rattle.bl_policy.proofs.Rules.{AsMany}
 use Rattle.std.proofs.lemmas.Bool.Decides.{nat_tests}
 use Rattle.std.proofs.lemmas.List.{get_or_default}
@@ -11,35 +11,39 @@ use Rattle.bl_work.specs.Effects.{children}
 use Rattle.bl_work.specs.declared.work.Work.{Work}
 use Rattle.bl_work.specs.declared.work.Work.TheVariants as work
 use Rattle.bl_setup.specs.Setup.{Setup}
-use Rattle.bl_order.specs.Order.{Task, accesses_of}
-use Rattle.bl_order.specs.Past.{at_place, is_done, changed, subject_of, task_of, first_task, child_task, fault_of_task, deeds}
+use Rattle.bl_setup.specs.declared.version.Version.{Version}
+use Rattle.bl_setup.specs.declared.version.Version.TheVariants.{One, Two}
+use Rattle.bl_order.specs.Order.{Task, Line, Child, accesses_of}
+use Rattle.bl_order.specs.Past.{Past, at_place, is_done, changed, carried_of, first_task, child_task, fault_of_task, deeds}
 use Rattle.bl_order.proofs.Places.{at_place-earlier}
+use Rattle.bl_monitor.specs.declared.monitor.Monitor.TheInside.{Inside}
 use Rattle.bl_monitor.specs.declared.monitor.Entry.{Entry}
 use Rattle.bl_monitor.specs.declared.monitor.Entry.TheVariants as entry
 use Rattle.bl_monitor.specs.declared.place.Admitted.{Admitted}
 use Rattle.bl_monitor.specs.declared.place.Place.{Place}
-use Rattle.bl_monitor.specs.Heard.{Heard, is_lost, place_at, IsChild, MayCome, Knows, lost_of, children_of, spawned_by, fault_of, answer_at}
-use Rattle.bl_monitor.specs.Heard as heard
+use Rattle.bl_monitor.specs.Heard.{Heard, is_lost, place_at, IsChild, MayCome, Knows, children_of, spawned_by, fault_of, answer_at}
 use Rattle.bl_monitor.specs.Kept.{spawned_of}
 use Rattle.bl_monitor.specs.Places as kept
-use Rattle.bl_monitor.specs.Places.{no_place, script_of, HasScript, HasChild}
-use Rattle.bl_monitor.specs.Sound.{heard_of, pasts_of, kept_policy_at, IsRight, Tells, IsSound, CanCome, IsAdmitted}
-use Rattle.std.proofs.lemmas.List.{map-append}
+use Rattle.bl_monitor.specs.Places.{no_place, place_of, script_of, HasScript, HasChild}
+use Rattle.bl_monitor.specs.Sound.{setup_of, heard_of, pasts_of, kept_policy_at, Tells, IsSound, CanCome, IsAdmitted}
 use Rattle.bl_monitor.specs.declared.judge.Judged.{Judged}
 use Rattle.bl_monitor.specs.Undoing.{content_listed}
-use Rattle.bl_monitor.specs.Judging.{HasBelow, IsJudged, KnowsEntry, Leaves, content_behind, record_of}
+use Rattle.bl_monitor.specs.Judging.{HasBelow, IsJudged, KnowsEntry, Leaves, carried_by_children, case_of, content_behind, record_of}
 use Rattle.bl_order.specs.Known.{KnowsAnswer, KnowsWork}
 use Rattle.bl_order.proofs.KnownAnswers.{answer_known}
 use Rattle.bl_monitor.proofs.Ids.{task_ids}
-use Rattle.bl_monitor.proofs.Keeps.{as_many_ruled, length-mapped, sound_more, answer_more}
+use Rattle.bl_monitor.proofs.Keeps.{IsNext, as_many_ruled, length-mapped, sound_more, answer_more}
 
--- what is known of an entry that is admitted
-pub record IsNext (setup : Setup) (places : List Place) (e : Entry) (a : Admitted) : Type 0 where
-  pub right : IsRight setup a
-  pub subject : subject_of (pasts_of setup places) (kept.entry_of a) ≡ a.subject
-  pub task : task_of (pasts_of setup places) (kept.entry_of a) ≡ kept.task_of a
-  pub told : kept.entry_of a ≡ heard.entry_of e
-  pub lost : a.lost ≡ lost_of e
+-- a line carries nothing, in each version
+line_carries : (v : Version) (pasts : List Past) (subject : ℕ) (w : Work) → carried_of v pasts (Line 0 0 subject w) ≡ lowest
+line_carries One pasts subject w = refl
+line_carries Two pasts subject w = refl
+
+-- a child carries what its parent's record says that its children do
+child_carries : (v : Version) (pasts : List Past) (parent which : ℕ)
+    → carried_of v pasts (Child parent which) ≡ carried_by_children v (at_place pasts parent).level (at_place pasts parent).carried
+child_carries One pasts parent which = refl
+child_carries Two pasts parent which = refl
 
 -- a work whose ids are known, with the first behaviour of its script
 first_ids : (setup : Setup) (w : Work) → KnowsWork setup w → HasScript w → HasBelow (length setup.policy.subjects) (length setup.policy.documents) w 0
@@ -64,7 +68,19 @@ few_behaviours : (w : Work) → HasScript w → length (script_of w) ≤ 32
 few_behaviours (work.Behaviour script) right = right.few
 few_behaviours (work.Rule rule) right = omega arith
 
-module _ (setup : Setup) (policy : SecurityPolicy) (contents : List (List ℕ)) (places : List Place) (sound : IsSound setup policy contents places) where
+module _ (m : Inside) (sound : IsSound (setup_of m) m.policy m.contents.items m.places.items) where
+  abbrev setup : Setup
+  setup = setup_of m
+
+  abbrev policy : SecurityPolicy
+  policy = m.policy
+
+  abbrev contents : List (List ℕ)
+  contents = m.contents.items
+
+  abbrev places : List Place
+  places = m.places.items
+
   abbrev h : Heard
   h = heard_of setup places
 
@@ -111,16 +127,15 @@ module _ (setup : Setup) (policy : SecurityPolicy) (contents : List (List ℕ)) 
   admitted_can (entry.Line subject w lost) a is = tt
   admitted_can (entry.Child parent which lost) a is = is.0
 
-  pub next : (e : Entry) (a : Admitted) → Knows setup e → IsAdmitted places e a → HasScript a.work → IsNext setup places e a
-  next (entry.Line subject w lost) a knows is right = subst (λ b. HasScript b.work → IsNext setup places (entry.Line subject w lost) b) (sym is)
+  pub next : (e : Entry) (a : Admitted) → Knows setup e → IsAdmitted places e a → HasScript a.work → IsNext setup (pasts_of setup places) a
+  next (entry.Line subject w lost) a knows is right = subst (λ b. HasScript b.work → IsNext setup (pasts_of setup places) b) (sym is)
       (λ (r : HasScript w). record {
         right = record { subject = knows.0; ids = first_ids setup w knows.1 r; script = r };
         subject = refl;
+        carried = line_carries setup.version (pasts_of setup places) subject w;
         task = first_is w;
-        told = refl;
-        lost = refl;
       }) right
-  next (entry.Child parent which lost) a knows is right = subst (λ b. HasScript b.work → IsNext setup places (entry.Child parent which lost) b) (sym is.1)
+  next (entry.Child parent which lost) a knows is right = subst (λ b. HasScript b.work → IsNext setup (pasts_of setup places) b) (sym is.1)
       (λ (r : HasScript (slice_index_or places parent no_place).admitted.work).
       let t : Tells setup (kept_policy_at setup places parent) (slice_index_or places parent no_place) (at_place (pasts_of setup places) parent) = sound.told parent is.0.behind in
       let one : 0 < which = is.0.from_one in
@@ -137,11 +152,10 @@ module _ (setup : Setup) (policy : SecurityPolicy) (contents : List (List ℕ)) 
           script = r;
         };
         subject = t.subject;
+        carried = child_carries setup.version (pasts_of setup places) parent which ∙ sym t.by_children;
         task = ap (λ k. child_task k (slice_index_or (children (at_place (pasts_of setup places) parent).effects) (which - 1) 0)) t.task
             ∙ other_is w (slice_index_or places parent no_place).admitted.index (slice_index_or (children (at_place (pasts_of setup places) parent).effects) (which - 1) 0)
             ∙ ap (λ xs. child_task (first_task w) (slice_index_or xs (which - 1) 0)) (sym t.spawned);
-        told = refl;
-        lost = refl;
       }) right
 
   found_at : (n : ℕ) (q : Place) → n < length places → q ≡ get_or places n q → Tells setup (kept_policy_at setup places n) q (place_at h n)
@@ -154,9 +168,10 @@ module _ (setup : Setup) (policy : SecurityPolicy) (contents : List (List ℕ)) 
   told_fault n q lt is =
       let t : Tells setup (kept_policy_at setup places n) q (place_at h n) = found_at n q lt is in
       t.fault
-      ∙ ap (λ s. first_fault (kept_policy_at setup places n) s (accesses_of (kept.task_of q.admitted))) (sym t.subject)
-      ∙ ap (λ (k : Task). first_fault (kept_policy_at setup places n) (place_at h n).subject (accesses_of k)) (sym t.task)
-      ∙ ap (λ b. cond b (first_fault (kept_policy_at setup places n) (place_at h n).subject (accesses_of (place_at h n).task)) None) (sym (below n lt))
+      ∙ ap (λ s. first_fault (kept_policy_at setup places n) s q.admitted.carried (accesses_of (kept.task_of q.admitted))) (sym t.subject)
+      ∙ ap (λ c. first_fault (kept_policy_at setup places n) (place_at h n).subject c (accesses_of (kept.task_of q.admitted))) (sym t.carried)
+      ∙ ap (λ (k : Task). first_fault (kept_policy_at setup places n) (place_at h n).subject (place_at h n).carried (accesses_of k)) (sym t.task)
+      ∙ ap (λ b. cond b (first_fault (kept_policy_at setup places n) (place_at h n).subject (place_at h n).carried (accesses_of (place_at h n).task)) None) (sym (below n lt))
 
   pub told_children : (n : ℕ) (q : Place) → n < length places → q ≡ get_or places n q
       → cond (is_some q.children) (Some (length (spawned_of q.children))) None ≡ children_of h n
@@ -184,35 +199,34 @@ module _ (setup : Setup) (policy : SecurityPolicy) (contents : List (List ℕ)) 
 
   -- one entry more
   module _ (e : Entry) (a : Admitted) (j : Judged) (now : SecurityPolicy) (left : List (List ℕ)) (knows : Knows setup e) (is : IsAdmitted places e a) (script : HasScript a.work)
-      (judged : IsJudged a.lost policy contents a.subject (kept.task_of a) j) (made : now ≡ changed j.answer (kept.task_of a) a.subject policy)
-      (leaves : Leaves contents (content_behind contents (record_of a.lost policy contents a.subject (kept.task_of a))) left) where
-    coming : IsNext setup places e a
+      (judged : IsJudged policy contents (case_of a (kept.task_of a)) j) (made : now ≡ changed j.answer (kept.task_of a) a.subject policy)
+      (leaves : Leaves contents (content_behind contents (record_of policy contents (case_of a (kept.task_of a)))) left) where
+    coming : IsNext setup (pasts_of setup places) a
     coming = next e a knows is script
 
-    pub next_sound : IsSound setup now left (places ++ record { admitted = a; fault = j.fault; children = j.children } ∷ [])
-    next_sound = sound_more setup policy contents places a j now left sound coming.right coming.subject coming.task judged made leaves
+    -- what is kept of it
+    abbrev kept_now : Place
+    kept_now = place_of a (carried_by_children setup.version (current_of policy a.subject) a.carried) j
 
-    pub next_answer : j.answer ≡ answer_at (heard_of setup (places ++ record { admitted = a; fault = j.fault; children = j.children } ∷ [])) (length places)
-    next_answer = answer_more setup policy contents places a j now left sound coming.right coming.subject coming.task judged made leaves
+    abbrev more : List Place
+    more = places ++ kept_now ∷ []
+
+    pub next_sound : IsSound setup now left more
+    next_sound = sound_more setup policy contents places a j now left sound coming judged made leaves
+
+    pub next_answer : j.answer ≡ answer_at (heard_of setup more) (length places)
+    next_answer = answer_more setup policy contents places a j now left sound coming judged made leaves
 
     pub next_ids : KnowsAnswer setup j.answer
     next_ids =
-        let r : IsRight setup a = coming.right in
         subst (KnowsAnswer setup) (sym judged.answer)
-        (answer_known setup a.lost (fault_of_task policy a.subject (kept.task_of a)) (kept.task_of a) (deeds (kept.task_of a) (content_listed contents))
-        (task_ids setup policy a.subject r.subject a.work a.index r.ids))
-
-    pub next_heard : heard_of setup (places ++ record { admitted = a; fault = j.fault; children = j.children } ∷ []) ≡ heard.with_entry h e
-    next_heard = λ i. record {
-      setup = setup;
-      order = (map-append (λ (q : Place). kept.entry_of q.admitted) places (record { admitted = a; fault = j.fault; children = j.children } ∷ []) ∙ ap (λ x. h.order ++ x ∷ []) coming.told) i;
-      lost = (map-append (λ (q : Place). q.admitted.lost) places (record { admitted = a; fault = j.fault; children = j.children } ∷ []) ∙ ap (λ x. h.lost ++ x ∷ []) coming.lost) i;
-    }
+        (answer_known setup a.lost (fault_of_task policy a.subject a.carried (kept.task_of a)) (kept.task_of a) (deeds (kept.task_of a) (content_listed contents))
+        (task_ids setup policy a.subject a.carried coming.right.subject a.work a.index coming.right.ids))
 
   -- what a judge asks for
   pub next_known : (e : Entry) (a : Admitted) → Knows setup e → IsAdmitted places e a → HasScript a.work → KnowsEntry policy contents a
   next_known e a knows is script =
-      let n : IsNext setup places e a = next e a knows is script in
+      let n : IsNext setup (pasts_of setup places) a = next e a knows is script in
       record {
         subject = subst (λ count. a.subject < count) (sym ruled.subjects) n.right.subject;
         ids = subst (λ count. HasBelow count (length policy.documents) a.work a.index) (sym ruled.subjects)

@@ -2,15 +2,20 @@
 use Rattle.std.proofs.Common.{ℕ, ◌<◌, length}
 use Rattle.std.specs.Prelude.{All, IfSome}
 use Rattle.std.proofs.lemmas.List.Elements.{All-get_or}
+use Rattle.bl_level.specs.Level.{SecurityLevel}
 use Rattle.bl_policy.specs.Policy.{SecurityPolicy}
 use Rattle.bl_policy.specs.declared.access.Access.{Access}
 use Rattle.bl_work.specs.Statements.{Part, no_part}
 use Rattle.bl_work.specs.declared.work.Work.{Work}
 use Rattle.bl_work.specs.declared.work.Work.TheVariants as work
-use Rattle.bl_setup.specs.Setup.{Setup}
+use Rattle.bl_setup.specs.Setup.{Setup, by_version}
+use Rattle.bl_setup.specs.declared.version.Version.{Version}
 use Rattle.bl_order.specs.Past.{fault_of_task, first_task, child_task}
-use Rattle.bl_order.specs.Known.{KnowsTask, KnowsDenial}
+use Rattle.bl_order.specs.Known.{KnowsTask, KnowsWork, KnowsDenial}
 use Rattle.bl_order.proofs.KnownAnswers.{denial_known}
+use Rattle.bl_monitor.specs.declared.monitor.Entry.{Entry}
+use Rattle.bl_monitor.specs.declared.monitor.Entry.TheVariants as entry
+use Rattle.bl_monitor.specs.Heard.{Knows}
 use Rattle.bl_monitor.specs.Judging.{HasBelow}
 
 -- what is to be done of a work whose ids are there
@@ -21,7 +26,16 @@ task_known setup (work.Behaviour script) index there =
 task_known setup (work.Rule rule) index there = there
 
 -- what the policy has against it
-pub task_ids : (setup : Setup) (p : SecurityPolicy) (s : ℕ) → s < length setup.policy.subjects → (w : Work) (index : ℕ)
+pub task_ids : (setup : Setup) (p : SecurityPolicy) (s : ℕ) (carried : SecurityLevel) → s < length setup.policy.subjects → (w : Work) (index : ℕ)
     → HasBelow (length setup.policy.subjects) (length setup.policy.documents) w index
-    → IfSome (fault_of_task p s (child_task (first_task w) index)) (KnowsDenial setup)
-task_ids setup p s known w index there = denial_known setup p s known (child_task (first_task w) index) (task_known setup w index there)
+    → IfSome (fault_of_task p s carried (child_task (first_task w) index)) (KnowsDenial setup)
+task_ids setup p s carried known w index there = denial_known setup p s known carried (child_task (first_task w) index) (task_known setup w index there)
+
+work_of_version : (v : Version) (setup : Setup) (w : Work) → KnowsWork setup w → KnowsWork (by_version v setup) w
+work_of_version v setup (work.Behaviour script) knows = knows
+work_of_version v setup (work.Rule rule) knows = knows
+
+-- a setup of another version has the same ids
+pub knows_of_version : (v : Version) (setup : Setup) (e : Entry) → Knows setup e → Knows (by_version v setup) e
+knows_of_version v setup (entry.Line subject w lost) knows = (knows.0, work_of_version v setup w knows.1)
+knows_of_version v setup (entry.Child parent which lost) knows = tt

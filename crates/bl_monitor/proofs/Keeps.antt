@@ -1,24 +1,26 @@
 -- A monitor stays sound by one entry more, and answers it as the definitions of the order say.
 use Rattle.std.proofs.Common.{◌≡◌, ℕ, zero, suc, ◌<◌, Bool, true, false, cond, List, [], ◌∷◌, ◌++◌, length, get_or, refl, sym, ◌∙◌, ap, subst, arith, ◌⊎◌, inl, inr, length-append, add-one}
-use Rattle.std.specs.Prelude.{◌==◌, ◌&&◌, ◌||◌, ◌≤◌, All, map, slice_index_or}
+use Rattle.std.specs.Prelude.{◌==◌, ◌||◌, ◌≤◌, All, map, slice_index_or}
 use mathlib.Core.Path.{fun_ext}
 use Rattle.std.proofs.Math.ListN.{get_or-append}
 use Rattle.std.proofs.lemmas.Bool.Decides.{eqb_tells}
 use Rattle.std.proofs.lemmas.List.{map-append}
 use Rattle.std.proofs.lemmas.List.Elements.{All-head, All-tail, All-get_or}
-use Rattle.bl_policy.specs.Policy.{SecurityPolicy}
+use Rattle.bl_level.specs.Level.{SecurityLevel}
+use Rattle.bl_policy.specs.Policy.{SecurityPolicy, current_of}
 use Rattle.bl_policy.specs.RuleEffect.{after_rule}
 use Rattle.bl_policy.proofs.Rules.{AsMany, as_many-after}
 use Rattle.bl_policy.specs.declared.access.Access.{Access}
-use Rattle.bl_work.specs.Effects.{Effect, after, effects_of}
+use Rattle.bl_work.specs.Effects.{Effect, effects_of}
 use Rattle.bl_work.specs.Statements.{Part, no_part}
 use Rattle.bl_work.specs.declared.answer.Answer.{Answer}
 use Rattle.bl_work.specs.declared.work.Work.{Work}
 use Rattle.bl_work.specs.declared.work.Work.TheVariants as work
 use Rattle.bl_setup.specs.Agreement.{Agree}
-use Rattle.bl_setup.specs.Setup.{Setup}
-use Rattle.bl_order.specs.Order.{Entry, Task, Runs, Applies, accesses_of, is_declared, is_altered}
-use Rattle.bl_order.specs.Past.{Past, at_place, was_lost, changed, policy_of, content_of, earlier, place, past_of, judged, deeds, lent, is_done, subject_of, task_of, first_task, child_task, no_entry}
+use Rattle.bl_setup.specs.Setup.{Setup, by_version}
+use Rattle.bl_setup.specs.declared.version.Version.{Version}
+use Rattle.bl_order.specs.Order.{Entry, Task, Runs, Applies, is_declared}
+use Rattle.bl_order.specs.Past.{Past, at_place, was_lost, changed, policy_of, content_of, earlier, place, past_of, judged, deeds, leaves, lent, is_done, subject_of, carried_of, task_of, first_task, child_task, no_entry}
 use Rattle.bl_order.proofs.Places.{earlier-grown}
 use Rattle.bl_order.proofs.PlaceLaws.{earlier-lost}
 use Rattle.bl_monitor.specs.declared.place.Admitted.{Admitted}
@@ -27,9 +29,9 @@ use Rattle.bl_monitor.specs.declared.judge.Judged.{Judged}
 use Rattle.bl_monitor.specs.Heard.{Heard, is_lost}
 use Rattle.bl_order.specs.Known.{AreBelow}
 use Rattle.bl_monitor.specs.Undoing.{content_listed}
-use Rattle.bl_monitor.specs.Judging.{HasBelow, Leaves, content_behind, record_of, IsJudged}
+use Rattle.bl_monitor.specs.Judging.{HasBelow, Leaves, carried_by_children, case_of, content_behind, record_of, IsJudged}
 use Rattle.bl_monitor.specs.Places as kept
-use Rattle.bl_monitor.specs.Places.{no_place, script_of, HasScript}
+use Rattle.bl_monitor.specs.Places.{no_place, place_of, script_of, HasScript}
 use Rattle.bl_monitor.specs.Sound.{heard_of, pasts_of, kept_policy_at, IsRight, Tells, IsSound}
 use Rattle.bl_monitor.proofs.Spawns.{Spawns, spawns, no_spawns}
 
@@ -152,6 +154,10 @@ module _ (setup : Setup) (places : List Place) (p : Place) where
       all : earlier setup (is_lost (heard_of setup more)) (heard_of setup more).order (suc (length places)) ≡ next_past ∷ pasts
       all = ap (λ n. earlier setup (is_lost (heard_of setup more)) (heard_of setup more).order n) (sym (length-append places (p ∷ []) ∙ add-one (length places))) ∙ pasts_more
 
+-- a setup of another version is as much one whole
+pub agree_of_version : (v : Version) (setup : Setup) → Agree setup → Agree (by_version v setup)
+agree_of_version v setup agree = record { subjects = agree.subjects; documents = agree.documents; contents = agree.contents }
+
 -- before the first entry all is as the setup has it
 pub first_sound : (setup : Setup) (policy : SecurityPolicy) (contents : List (List ℕ)) → Agree setup → policy ≡ setup.policy → contents ≡ setup.contents
     → IsSound setup policy contents []
@@ -176,20 +182,30 @@ same_deeds subjects count (work.Behaviour script) index f g there same =
     (fun_ext (same_lent count (slice_index_or script index no_part).accesses f g (declared count script index there.0 there.1) same))
 same_deeds subjects count (work.Rule rule) index f g there same = refl
 
+-- what is known of an entry that is admitted after these records
+pub record IsNext (setup : Setup) (pasts : List Past) (a : Admitted) : Type 0 where
+  pub right : IsRight setup a
+  pub subject : subject_of pasts (kept.entry_of a) ≡ a.subject
+  pub carried : carried_of setup.version pasts (kept.entry_of a) ≡ a.carried
+  pub task : task_of pasts (kept.entry_of a) ≡ kept.task_of a
+
 -- the record of an entry, by what is kept
-pub same_past : (setup : Setup) (policy : SecurityPolicy) (contents : List (List ℕ)) (pasts : List Past) (a : Admitted) → IsRight setup a
+pub same_past : (setup : Setup) (policy : SecurityPolicy) (contents : List (List ℕ)) (pasts : List Past) (a : Admitted) → IsNext setup pasts a
     → policy ≡ policy_of setup pasts
     → length setup.policy.documents ≡ length contents
     → ((doc : ℕ) → doc < length contents → content_listed contents doc ≡ content_of setup pasts doc)
-    → subject_of pasts (kept.entry_of a) ≡ a.subject → task_of pasts (kept.entry_of a) ≡ kept.task_of a
-    → past_of setup a.lost pasts (kept.entry_of a) ≡ record_of a.lost policy contents a.subject (kept.task_of a)
-same_past setup policy contents pasts a right ruled many same subject task =
-    ap (λ t. judged a.lost (policy_of setup pasts) (deeds t (content_of setup pasts)) (subject_of pasts (kept.entry_of a)) t) task
-    ∙ ap (λ s. judged a.lost (policy_of setup pasts) (deeds (kept.task_of a) (content_of setup pasts)) s (kept.task_of a)) subject
-    ∙ ap (λ p. judged a.lost p (deeds (kept.task_of a) (content_of setup pasts)) a.subject (kept.task_of a)) (sym ruled)
-    ∙ ap (λ es. judged a.lost policy es a.subject (kept.task_of a))
-    (same_deeds (length setup.policy.subjects) (length setup.policy.documents) a.work a.index (content_of setup pasts) (content_listed contents) right.ids
+    → past_of setup a.lost pasts (kept.entry_of a) ≡ record_of policy contents (case_of a (kept.task_of a))
+same_past setup policy contents pasts a next ruled many same =
+    ap (λ t. judged a.lost (policy_of setup pasts) (deeds t (content_of setup pasts)) (subject_of pasts (kept.entry_of a)) (carried_of setup.version pasts (kept.entry_of a)) t) next.task
+    ∙ ap (λ s. judged a.lost (policy_of setup pasts) (deeds its_task (content_of setup pasts)) s (carried_of setup.version pasts (kept.entry_of a)) its_task) next.subject
+    ∙ ap (λ c. judged a.lost (policy_of setup pasts) (deeds its_task (content_of setup pasts)) a.subject c its_task) next.carried
+    ∙ ap (λ p. judged a.lost p (deeds its_task (content_of setup pasts)) a.subject a.carried its_task) (sym ruled)
+    ∙ ap (λ es. judged a.lost policy es a.subject a.carried its_task)
+    (same_deeds (length setup.policy.subjects) (length setup.policy.documents) a.work a.index (content_of setup pasts) (content_listed contents) next.right.ids
     (λ doc lt. sym (same doc (omega arith))))
+  where
+    its_task : Task
+    its_task = kept.task_of a
 
 -- what is done spawns behaviours of its script
 work_spawns : (subjects documents : ℕ) (w : Work) (index : ℕ) (contents : ℕ → List ℕ) → HasScript w → HasBelow subjects documents w index
@@ -204,23 +220,25 @@ record_spawns false effects script s = no_spawns script
 
 module _ (setup : Setup) (policy : SecurityPolicy) (contents : List (List ℕ)) (places : List Place) (a : Admitted) (j : Judged) (now : SecurityPolicy)
     (left : List (List ℕ))
-    (sound : IsSound setup policy contents places) (right : IsRight setup a)
-    (subject : subject_of (pasts_of setup places) (kept.entry_of a) ≡ a.subject)
-    (task : task_of (pasts_of setup places) (kept.entry_of a) ≡ kept.task_of a)
-    (is : IsJudged a.lost policy contents a.subject (kept.task_of a) j)
+    (sound : IsSound setup policy contents places) (next : IsNext setup (pasts_of setup places) a)
+    (is : IsJudged policy contents (case_of a (kept.task_of a)) j)
     (made : now ≡ changed j.answer (kept.task_of a) a.subject policy)
-    (leaves : Leaves contents (content_behind contents (record_of a.lost policy contents a.subject (kept.task_of a))) left) where
+    (stands : Leaves contents (content_behind contents (record_of policy contents (case_of a (kept.task_of a)))) left) where
+  -- what its children carry
+  abbrev on : SecurityLevel
+  on = carried_by_children setup.version (current_of policy a.subject) a.carried
+
   abbrev added_place : Place
-  added_place = record { admitted = a; fault = j.fault; children = j.children }
+  added_place = place_of a on j
 
   abbrev added_past : Past
-  added_past = record_of a.lost policy contents a.subject (kept.task_of a)
+  added_past = record_of policy contents (case_of a (kept.task_of a))
 
   many : length setup.policy.documents ≡ length contents
   many = sym sound.agree.documents ∙ sound.agree.contents ∙ sym sound.as_many
 
   next_is : past_of setup a.lost (pasts_of setup places) (kept.entry_of a) ≡ added_past
-  next_is = same_past setup policy contents (pasts_of setup places) a right sound.ruled many sound.current subject task
+  next_is = same_past setup policy contents (pasts_of setup places) a next sound.ruled many sound.current
 
   pasts_are : pasts_of setup (places ++ added_place ∷ []) ≡ added_past ∷ pasts_of setup places
   pasts_are = pasts_more setup places added_place ∙ ap (λ q. q ∷ pasts_of setup places) next_is
@@ -241,10 +259,12 @@ module _ (setup : Setup) (policy : SecurityPolicy) (contents : List (List ℕ)) 
   here =
       let s : Spawns (script_of a.work) added_past.effects =
       record_spawns (is_done added_past.answer) (deeds (kept.task_of a) (content_listed contents)) (script_of a.work)
-      (work_spawns (length setup.policy.subjects) (length setup.policy.documents) a.work a.index (content_listed contents) right.script right.ids) in
+      (work_spawns (length setup.policy.subjects) (length setup.policy.documents) a.work a.index (content_listed contents) next.right.script next.right.ids) in
       record {
-        right = right;
+        right = next.right;
         subject = refl;
+        carried = refl;
+        by_children = refl;
         task = refl;
         fault = is.fault;
         ran = is.ran;
@@ -257,11 +277,10 @@ module _ (setup : Setup) (policy : SecurityPolicy) (contents : List (List ℕ)) 
   sound_more = record {
     agree = sound.agree;
     ruled = ruled_more;
-    as_many = leaves.as_many ∙ sound.as_many;
+    as_many = stands.as_many ∙ sound.as_many;
     current = λ doc lt.
-        leaves.left doc (omega (arith, leaves.as_many))
-        ∙ ap (λ t. cond (is_done added_past.answer && is_altered (accesses_of (kept.task_of a)) doc) (after t added_past.effects doc) t)
-        (sound.current doc (omega (arith, leaves.as_many)))
+        stands.left doc (omega (arith, stands.as_many))
+        ∙ ap (leaves added_past doc) (sound.current doc (omega (arith, stands.as_many)))
         ∙ ap (λ h. content_of setup h doc) (sym pasts_are);
     told = λ k lt.
         subst (λ p. Tells setup p (get_or (places ++ added_place ∷ []) k no_place) (at_place (pasts_of setup (places ++ added_place ∷ [])) k))

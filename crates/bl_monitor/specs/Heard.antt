@@ -78,11 +78,12 @@ spawned_by heard n = if nat_lt n (length heard.order) then children (place_at he
 abbrev pub heard_policy_at : Heard → ℕ → SecurityPolicy
 heard_policy_at heard n = policy_before heard.setup (is_lost heard) heard.order n
 
--- FirstFault of the accesses that an entry declares, at its place: a rule declares none, and has no fault of an access
+-- FirstFault of the accesses that an entry declares, at its place and with the level that it carries: a rule declares none, and has no
+-- fault of an access
 abbrev pub fault_of : Heard → ℕ → Option Denial
 fault_of heard n =
     if nat_lt n (length heard.order)
-    then first_fault (heard_policy_at heard n) (place_at heard n).subject (accesses_of (place_at heard n).task)
+    then first_fault (heard_policy_at heard n) (place_at heard n).subject (place_at heard n).carried (accesses_of (place_at heard n).task)
     else None
 
 -- A monitor was told the entries of a state's order up to place n, one after another, without sessions and ordinals, and which of them

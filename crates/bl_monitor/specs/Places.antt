@@ -1,5 +1,7 @@
 -- What is kept of a place.
 use Rattle.std.specs.Prelude.{◌≡◌, ℕ, ◌<◌, ◌≤◌, true, false, List, [], None, is_some, length, slice_index_or, ⊤}
+use Rattle.bl_level.specs.Level.{SecurityLevel}
+use Rattle.bl_policy.specs.Policy.{lowest}
 use Rattle.bl_work.specs.Script.{IsScript}
 use Rattle.bl_work.specs.Statements.{Part}
 use Rattle.bl_work.specs.declared.work.Work.{Work}
@@ -9,16 +11,23 @@ use Rattle.bl_order.specs.Past.{first_task, child_task}
 use Rattle.bl_monitor.specs.Kept.{spawned_of}
 use Rattle.bl_monitor.specs.declared.place.Origin.{Origin}
 use Rattle.bl_monitor.specs.declared.place.Origin.TheVariants as origin
+use Rattle.bl_monitor.specs.declared.judge.Judged.{Judged}
 use Rattle.bl_monitor.specs.declared.place.Admitted.{Admitted}
 use Rattle.bl_monitor.specs.declared.place.Place.{Place}
 
 -- what stands where there is no such place
 abbrev pub no_place : Place
 no_place = record {
-  admitted = record { origin = origin.Line; lost = false; subject = 0; work = work.Behaviour []; index = 0 };
+  admitted = record { origin = origin.Line; lost = false; subject = 0; carried = lowest; work = work.Behaviour []; index = 0 };
+  carried_by_children = lowest;
   fault = None;
   children = None;
 }
+
+-- what is kept of an entry whose children carry this level, of which this came
+abbrev pub place_of : Admitted → SecurityLevel → Judged → Place
+place_of admitted level judged =
+    record { admitted = admitted; carried_by_children = level; fault = judged.fault; children = judged.children }
 
 -- the behaviours of a work: a rule has none
 abbrev pub script_of : Work → List Part

@@ -1,18 +1,22 @@
 //! What an entry is answered, and what it changes.
 ghost use Rattle.std.specs.Prelude.{◌≡◌, ◌<◌, ℕ, List, length, slice_index_or, IfOk, OnOk, OnErr};
+ghost use Rattle.bl_policy.specs.Policy.{current_of};
 ghost use Rattle.bl_policy.specs.RuleEffect.{IsRuleOf};
 ghost use Rattle.bl_work.specs.Statements.{no_part};
 ghost use Rattle.bl_order.specs.Order.{Runs, Applies};
 ghost use Rattle.bl_order.specs.Past.{changed};
 ghost use Rattle.bl_order.specs.Known.{AreBelow};
-ghost use Rattle.bl_monitor.specs.Judging.{KnowsEntry, IsJudged, IsDone, IsIdle, Leaves, left_by, content_behind, record_of};
+ghost use Rattle.bl_monitor.specs.Judging.{KnowsEntry, IsJudged, IsDone, IsIdle, Leaves, carried_by_children, case_of, left_by, content_behind, record_of};
 ghost use Rattle.bl_monitor.specs.Places.{task_of};
 
 use crate::place::Admitted;
 use crate::run::Run;
+use bl_level::level::Level;
 use bl_policy::denial::Denial;
 use bl_policy::policy::Policy;
+use bl_policy::policy::carry::lowest_level;
 use bl_policy::rule::Rule;
+use bl_setup::version::Version;
 use bl_work::answer::{Answer, Outputs};
 use bl_work::document::Document;
 use bl_work::script::Script;
@@ -25,6 +29,17 @@ pub(crate) struct Judged {
     pub(crate) answer: Answer,
     pub(crate) fault: Option<Denial>,
     pub(crate) children: Option<Vec<u8>>,
+}
+
+/// The level that the children of an entry carry: in version 2 its subject's current level, joined with what it carries itself.
+pub(crate) fn level_for_children(version: Version, policy: &Policy, admitted: &Admitted) -> Level
+    requires { admitted.now.subject < length policy.now.subjects }
+    ensures { result ≡ carried_by_children version (current_of policy.now admitted.now.subject) admitted.now.carried }
+{
+    match version {
+        Version::One => lowest_level(),
+        Version::Two => policy.current(admitted.subject).join(&admitted.carried),
+    }
 }
 
 /// What comes of a behaviour that runs on these contents. After an error they are as they were.
@@ -80,12 +95,13 @@ fn behaviour(
     requires documents { AreBelow (length policy.now.documents) script.now }
     requires index { admitted.now.index < length script.now }
     requires as_many { length policy.now.documents ≡ length contents.old }
-    ensures judged { IfOk result (IsJudged admitted.now.lost policy.now contents.old admitted.now.subject (Runs script.now admitted.now.index)) }
-    ensures left { OnOk result (Leaves contents.old (content_behind contents.old (record_of admitted.now.lost policy.now contents.old admitted.now.subject (Runs script.now admitted.now.index))) contents.new) }
+    ensures judged { IfOk result (IsJudged policy.now contents.old (case_of admitted.now (Runs script.now admitted.now.index))) }
+    ensures left { OnOk result (Leaves contents.old
+        (content_behind contents.old (record_of policy.now contents.old (case_of admitted.now (Runs script.now admitted.now.index)))) contents.new) }
     ensures err { OnErr result (contents.new ≡ contents.old) }
 {
     let index = admitted.index as usize;
-    let fault = policy.decide(admitted.subject, script.accesses(index));
+    let fault = policy.decide(admitted.subject, &admitted.carried, script.accesses(index));
     if admitted.lost {
         return Ok(idle(Answer::Lost, fault));
     }
@@ -100,7 +116,7 @@ fn apply(policy: &mut Policy, admitted: &Admitted, rule: &Rule) -> Judged
     requires subject { admitted.now.subject < length policy.old.subjects }
     requires ids { IsRuleOf policy.old rule.now }
     ensures judged { (contents : List (List ℕ)) →
-        IsJudged admitted.now.lost policy.old contents admitted.now.subject (Applies rule.now) result }
+        IsJudged policy.old contents (case_of admitted.now (Applies rule.now)) result }
     ensures policy { policy.new ≡ changed result.answer (Applies rule.now) admitted.now.subject policy.old }
 {
     if admitted.lost {
@@ -121,9 +137,10 @@ pub(crate) fn judge(
     admitted: &Admitted,
 ) -> Result<Judged, AllocError>
     requires { KnowsEntry policy.old contents.old admitted.now }
-    ensures judged { IfOk result (IsJudged admitted.now.lost policy.old contents.old admitted.now.subject (task_of admitted.now)) }
+    ensures judged { IfOk result (IsJudged policy.old contents.old (case_of admitted.now (task_of admitted.now))) }
     ensures policy { IfOk result (λ judged. policy.new ≡ changed judged.answer (task_of admitted.now) admitted.now.subject policy.old) }
-    ensures left { OnOk result (Leaves contents.old (content_behind contents.old (record_of admitted.now.lost policy.old contents.old admitted.now.subject (task_of admitted.now))) contents.new) }
+    ensures left { OnOk result (Leaves contents.old
+        (content_behind contents.old (record_of policy.old contents.old (case_of admitted.now (task_of admitted.now)))) contents.new) }
     ensures err { OnErr result (policy.new ≡ policy.old) }
     ensures err_contents { OnErr result (contents.new ≡ contents.old) }
 {

@@ -4,16 +4,19 @@
 //! policy. So no step takes longer because more entries came before.
 ghost use Rattle.std.specs.Prelude.{◌≡◌, ◌↔◌, ◌<◌, ◌++◌, [], ◌∷◌, IfOk, IsErrOf, vec_len, vec_capacity};
 ghost use Rattle.std.specs.Arc.{arc_value};
-ghost use Rattle.bl_monitor.specs.Places.{HasChild};
+ghost use Rattle.bl_monitor.specs.Places.{HasChild, place_of};
 ghost use Rattle.bl_monitor.specs.Sound.{CanCome, IsAdmitted};
 ghost use Rattle.bl_monitor.specs.declared.monitor.MonitorFault.TheVariants as faults;
 
-use crate::judge::{Judged, judge};
+use crate::judge::{Judged, judge, level_for_children};
 use crate::place::{Admitted, Origin, Place, child_index};
+use bl_level::level::Level;
 use bl_policy::denial::Denial;
 use bl_policy::id::SubjectId;
 use bl_policy::policy::Policy;
+use bl_policy::policy::carry::lowest_level;
 use bl_setup::setup::Setup;
+pub use bl_setup::version::Version;
 use bl_work::answer::Answer;
 use bl_work::document::Document;
 use bl_work::work::Work;
@@ -57,11 +60,13 @@ impl From<AllocError> for MonitorFault {
     }
 }
 
-/// The answers of an admission order, one entry after another.
+/// The answers of an admission order, one entry after another. The setup says by itself that runs are judged by version 2; the
+/// monitor's own version decides.
 #[derive(Drop)]
 pub struct Monitor {
     alloc: Global,
     setup: Arc<Setup, Global>,
+    version: Version,
     policy: Policy,
     contents: Vec<Document>,
     places: Vec<Place>,
@@ -77,12 +82,11 @@ impl Model for Monitor {
 
     ghost coded = { Prim.hlevel (codes, matrix_code, coded_entry) };
 
-    ghost use Rattle.bl_monitor.specs.Sound.{heard_of, IsSound};
-    ghost use Rattle.std.specs.Arc.{arc_value};
+    ghost use Rattle.bl_monitor.specs.Sound.{heard_of, setup_of, IsSound};
 
-    ghost view = { λ m. heard_of (arc_value m.setup) m.places.items };
+    ghost view = { λ m. heard_of (setup_of m) m.places.items };
 
-    ghost invariant = { λ m. IsSound (arc_value m.setup) m.policy m.contents.items m.places.items };
+    ghost invariant = { λ m. IsSound (setup_of m) m.policy m.contents.items m.places.items };
 }
 
 /// The setup, which others may own too.
@@ -123,6 +127,7 @@ fn admit(places: &[Place], entry: Entry) -> Result<Admitted, MonitorFault>
             origin: Origin::Line,
             lost,
             subject,
+            carried: lowest_level(),
             work,
             index: 0,
         }),
@@ -146,6 +151,7 @@ fn child(places: &[Place], parent: u32, which: u32, lost: bool) -> Result<Admitt
                 origin: Origin::Child { parent, which },
                 lost,
                 subject: place.admitted.subject,
+                carried: place.carried_by_children,
                 work: place.admitted.work.share()?,
                 index,
             })
@@ -155,9 +161,14 @@ fn child(places: &[Place], parent: u32, which: u32, lost: bool) -> Result<Admitt
 }
 
 /// Keeps what came of an entry behind the other places, which have room for it, and gives the answer.
-fn keep(places: &mut Vec<Place>, admitted: Admitted, judged: Judged) -> Answer
+fn keep(
+    places: &mut Vec<Place>,
+    admitted: Admitted,
+    carried_by_children: Level,
+    judged: Judged,
+) -> Answer
     requires { vec_len places.old < vec_capacity places.old }
-    ensures places { places.new.items ≡ places.old.items ++ record { admitted = admitted; fault = judged.fault; children = judged.children } ∷ [] }
+    ensures places { places.new.items ≡ places.old.items ++ place_of admitted carried_by_children judged ∷ [] }
     ensures answer { result ≡ judged.answer }
 {
     let Judged {
@@ -167,6 +178,7 @@ fn keep(places: &mut Vec<Place>, admitted: Admitted, judged: Judged) -> Answer
     } = judged;
     let kept = Place {
         admitted,
+        carried_by_children,
         fault,
         children,
     };
@@ -177,13 +189,14 @@ fn keep(places: &mut Vec<Place>, admitted: Admitted, judged: Judged) -> Answer
 impl Monitor {
     ghost use Rattle.std.specs.Arc.{arc_value};
     ghost use Rattle.std.specs.Prelude.{◌≡◌, ◌↔◌, length, [], IfOk, OnOk, OnErr, IsErrOf};
+    ghost use Rattle.bl_setup.specs.Setup.{by_version};
     ghost use Rattle.bl_order.specs.Known.{KnowsAnswer};
     ghost use Rattle.bl_monitor.specs.Heard.{Knows, MayCome, with_entry, answer_at, children_of, spawned_by, fault_of};
     ghost use Rattle.bl_monitor.specs.declared.monitor.MonitorFault.TheVariants as faults;
 
-    /// A monitor of an empty order over this setup.
-    pub fn new(alloc: Global, setup: Setup) -> Result<Monitor, AllocError>
-        ensures { IfOk result (λ m. m ≡ record { setup = setup; order = []; lost = [] }) }
+    /// A monitor of an empty order over this setup. It judges by this version: in version 1 a child carries nothing.
+    pub fn new(alloc: Global, setup: Setup, version: Version) -> Result<Monitor, AllocError>
+        ensures { IfOk result (λ m. m ≡ record { setup = by_version version setup; order = []; lost = [] }) }
     {
         let setup = owned(alloc, setup)?;
         let policy = setup.policy().copy()?;
@@ -191,15 +204,17 @@ impl Monitor {
         Ok(Monitor {
             alloc,
             setup,
+            version,
             policy,
             contents,
             places: Vec::new(alloc),
         })
     }
 
-    /// One more owner of the setup.
+    /// One more owner of the setup, which says by itself that runs are judged by version 2.
     pub fn share_setup(&self) -> Result<Arc<Setup, Global>, AllocError>
-        ensures { IfOk result (λ setup. arc_value setup ≡ self.now.setup) }
+        ensures value { IfOk result (λ setup. self.now.setup ≡ by_version self.now.setup.version (arc_value setup)) }
+        ensures knows { IfOk result (λ setup. (entry : Entry) → Knows (arc_value setup) entry → Knows self.now.setup entry) }
     {
         Ok(Arc::try_clone(&self.setup)?)
     }
@@ -219,8 +234,9 @@ impl Monitor {
         // asked for the proof alone: the behaviours are a script, as those of each kept place
         let _behaviours = admitted.behaviours();
         self.places.reserve(1)?;
+        let carried_by_children = level_for_children(self.version, &self.policy, &admitted);
         let judged = judge(self.alloc, &mut self.policy, &mut self.contents, &admitted)?;
-        Ok(keep(&mut self.places, admitted, judged))
+        Ok(keep(&mut self.places, admitted, carried_by_children, judged))
     }
 
     /// How many children an entry spawned; `None` for a number that is no entry's, or an entry's that was not done.

@@ -3,6 +3,7 @@ ghost use Rattle.std.specs.Prelude.{◌≡◌, ◌-◌, MatchOption, slice_index
 ghost use Rattle.bl_monitor.specs.Kept.{spawned_of};
 ghost use Rattle.bl_monitor.specs.Places.{no_place, HasChild};
 
+use bl_level::level::Level;
 use bl_policy::denial::Denial;
 use bl_policy::id::SubjectId;
 use bl_work::work::Work;
@@ -20,6 +21,8 @@ pub(crate) struct Admitted {
     pub(crate) origin: Origin,
     pub(crate) lost: bool,
     pub(crate) subject: SubjectId,
+    /// The level that it carries: the lowest for a line.
+    pub(crate) carried: Level,
     pub(crate) work: Work,
     /// The number of the behaviour; 0 for a rule.
     pub(crate) index: u8,
@@ -41,11 +44,12 @@ impl Admitted {
     }
 }
 
-/// An answered entry: what the policy had against its accesses at its place, and the behaviours that it spawned if it was
-/// done.
+/// An answered entry: the level that its children carry, what the policy had against its accesses at its place, and the
+/// behaviours that it spawned if it was done.
 #[derive(Drop)]
 pub(crate) struct Place {
     pub(crate) admitted: Admitted,
+    pub(crate) carried_by_children: Level,
     pub(crate) fault: Option<Denial>,
     pub(crate) children: Option<Vec<u8>>,
 }

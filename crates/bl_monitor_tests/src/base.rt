@@ -3,7 +3,7 @@
 ghost use Rattle.std.specs.Prelude.{IfOk};
 ghost use Rattle.bl_monitor.specs.Heard.{Knows};
 
-use bl_monitor::monitor::{Entry, Monitor, MonitorFault};
+use bl_monitor::monitor::{Entry, Monitor, MonitorFault, Version};
 use bl_order::laws::read_lines_are_in_the_setup;
 use bl_policy::denial::{Clause, Denial};
 use bl_policy::id::{DocId, SubjectId};
@@ -43,14 +43,24 @@ pub(super) const SHOW_MEMO: &[u8] = b"when read memo do show memo; end";
 pub(super) const ADD_AND_SPAWN: &[u8] =
     b"when write memo do add memo \"a\"; spawn when read memo do show memo; end; end";
 
-/// A monitor over the base setup with this content of `note`, and with further lines.
-pub(super) fn monitor_over(alloc: Global, note: &[u8], more: &[u8]) -> Result<Monitor, Fail> {
+/// The base setup with this content of `note`, and with further lines.
+fn setup_with(alloc: Global, note: &[u8], more: &[u8]) -> Result<Setup, Fail> {
     let mut text = Vec::new(alloc);
     text.extend_from_slice(BEFORE_NOTE)?;
     text.extend_from_slice(note)?;
     text.extend_from_slice(BEHIND_NOTE)?;
     text.extend_from_slice(more)?;
-    Ok(Monitor::new(alloc, read_setup(alloc, &text)?)?)
+    Ok(read_setup(alloc, &text)?)
+}
+
+/// A monitor over the base setup with this content of `note`, and with further lines.
+pub(super) fn monitor_over(alloc: Global, note: &[u8], more: &[u8]) -> Result<Monitor, Fail> {
+    Ok(Monitor::new(alloc, setup_with(alloc, note, more)?, Version::Two)?)
+}
+
+/// A monitor of version 1 over the base setup.
+pub(super) fn monitor_of_version_one(alloc: Global) -> Result<Monitor, Fail> {
+    Ok(Monitor::new(alloc, setup_with(alloc, b"\"n1\"", b"")?, Version::One)?)
 }
 
 /// A monitor over the base setup.
@@ -136,6 +146,19 @@ pub(super) fn is_shown(
     Ok(is_done(&answer, texts))
 }
 
+/// Whether a rule of the subject that a first line greets for is done.
+pub(super) fn is_rule_done(
+    monitor: &mut Monitor,
+    alloc: Global,
+    first: &[u8],
+    text: &[u8],
+) -> Result<bool, Fail> {
+    match answer_to(monitor, alloc, first, text, false)? {
+        Answer::RuleDone => Ok(true),
+        Answer::Done(_) | Answer::Denied(_) | Answer::Lost => Ok(false),
+    }
+}
+
 /// Whether a line of `ann` is done, and shows these texts.
 pub(super) fn ann_is_shown(
     monitor: &mut Monitor,
@@ -155,6 +178,25 @@ pub(super) fn child_is_shown(
 ) -> Result<bool, Fail> {
     let answer = child(monitor, parent, which)?;
     Ok(is_done(&answer, texts))
+}
+
+/// Whether a child is denied so.
+pub(super) fn child_is_denied(
+    monitor: &mut Monitor,
+    parent: u32,
+    which: u32,
+    denial: Denial,
+) -> Result<bool, Fail> {
+    let answer = child(monitor, parent, which)?;
+    Ok(is_denial(&answer, denial))
+}
+
+/// Whether this is the denial.
+fn is_denial(answer: &Answer, denial: Denial) -> bool {
+    match answer {
+        Answer::Denied(found) => *found == denial,
+        Answer::Done(_) | Answer::RuleDone | Answer::Lost => false,
+    }
 }
 
 /// Whether this is `denied star ann note`.

@@ -3,10 +3,13 @@
 //!     base       a monitor over the base setup, and what the tests ask of it
 //!     entries    lines and children, read from the lines of a session
 //!     rules      rules among the entries
+//!     carried    levels that children carry
 #![tactic(auto)]
 
 #[cfg(test)]
 mod base;
+#[cfg(test)]
+mod carried;
 #[cfg(test)]
 mod entries;
 #[cfg(test)]

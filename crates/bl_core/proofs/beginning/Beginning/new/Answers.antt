@@ -8,6 +8,7 @@ pub returns : goal.returns
 returns c =
     record {
       agree = c.policy.ensures.agree;
+      two = c.version-version.ensures.two;
       policy = c.in_ok-policy.ensures ∙ c.policy.ensures.value;
       sessions = c.in_ok-sessions.ensures.items;
       places = c.in_ok-places.ensures.items;

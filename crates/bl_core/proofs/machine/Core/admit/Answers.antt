@@ -1,11 +1,16 @@
 use Rattle.std.proofs.Common.{◌≡◌, ◌<◌, ◌≤◌, ◌+◌, ◌++◌, ◌∷◌, [], ℕ, List, length, length-append, sym, subst, ap, ◌∙◌, get_or, arith, refl, set}
 use Rattle.std.specs.Vec.{with_item}
+use Rattle.bl_level.specs.Level.{SecurityLevel}
+use Rattle.bl_policy.specs.Policy.{lowest}
+use Rattle.bl_work.specs.declared.work.Work.{Work}
 use Rattle.bl_order.specs.Machine.{State, Admits, Needs, change, session_at}
 use Rattle.bl_order.specs.Order.{Entry, Line}
 use Rattle.bl_order.proofs.Reached.{reached-next}
 use Rattle.bl_place.specs.Queueing.{MayEnter, QueuesTell}
 use Rattle.bl_core.specs.View.{state_of}
+use Rattle.bl_place.specs.declared.place.Descent.TheVariants as descents
 use Rattle.bl_place.specs.declared.place.Place.{Place}
+use Rattle.bl_place.specs.declared.place.Stand.TheVariants as stands
 use Rattle.bl_core.specs.declared.session.Session.{Session}
 use Rattle.bl_core.specs.declared.machine.Core.TheInside.{Inside}
 use Rattle.bl_core.proofs.Admitting.{Admitted, kept-admitted, state-admitted, session-read, length-sessions, new_place, tells_before, enters_last}
@@ -32,6 +37,13 @@ there c = omega (arith, (needs c).0, length-sessions c.self.inside)
 row : (c : After-enter_queues) → c.index_mut-row.result.now ≡ get_or c.self.inside.sessions.items c.args.session c.index_mut-row.result.now
 row c = c.index_mut-row.ensures.value ∙ ap (λ (j : ℕ). get_or c.self.inside.sessions.items j c.index_mut-row.result.now) c.number.ensures
 
+-- the place that was pushed
+pushed : (old new : List Place) (root n session ordinal subject : ℕ) (work : Work) (carried : SecurityLevel) → root ≡ n → carried ≡ lowest
+    → new ≡ old ++ record { descent = descents.Line session ordinal work; root = root; index = 0; subject = subject; carried = carried; stand = stands.Waiting } ∷ []
+    → new ≡ old ++ new_place n session ordinal subject work ∷ []
+pushed old new root n session ordinal subject work carried same nothing is =
+    is ∙ (λ j. old ++ record { descent = descents.Line session ordinal work; root = same j; index = 0; subject = subject; carried = nothing j; stand = stands.Waiting } ∷ [])
+
 admitted : (c : After-enter_queues) → Admitted c.self.inside (after c) c.args.session c.args.ordinal c.index_mut-row.result.now.subject c.args.work
 admitted c = record {
   setup = refl;
@@ -39,8 +51,8 @@ admitted c = record {
   weight = ap (λ (w : ℕ). c.self.inside.weight + w) c.weight-more.ensures.number;
   sessions = ap (λ (j : ℕ). set c.self.inside.sessions.items j (record { subject = c.index_mut-row.result.now.subject; last = c.args.ordinal })) c.number.ensures;
   rooms = refl;
-  places = c.push_reserved.ensures.items
-      ∙ ap (λ (m : ℕ). c.self.inside.places.items ++ new_place m c.args.session c.args.ordinal c.index_mut-row.result.now.subject c.args.work ∷ []) (c.len-n.ensures ∙ c.self.inside.places.ok.0);
+  places = pushed c.self.inside.places.items c.push_reserved.new.self.items c.len-n.result (length c.self.inside.places.items) c.args.session c.args.ordinal
+      c.index_mut-row.result.now.subject c.args.work c.lowest_level.result (c.len-n.ensures ∙ c.self.inside.places.ok.0) c.lowest_level.ensures c.push_reserved.ensures.items;
   capacity = c.push_reserved.ensures.capacity;
   queued = tell-as (length c.self.inside.setup.policy.documents + 1) c.self.inside.limit c.push_reserved.new.self.items (length c.push_reserved.new.self.items)
       c.self.inside.queues c.enter_queues.new.queues c.self.invariant.queued.cowns_are c.self.invariant.queued.limit_is
@@ -65,8 +77,9 @@ count c = c.len-n.ensures ∙ c.self.inside.places.ok.0
 listed : (c : After-as_slice) → c.as_slice.result.now
     ≡ c.self.inside.places.items ++ new_place (length c.self.inside.places.items) c.args.session c.args.ordinal c.index_mut-row.result.now.subject c.args.work ∷ []
 listed c =
-    c.as_slice.ensures.value ∙ c.push_reserved.ensures.items
-    ∙ ap (λ (m : ℕ). c.self.inside.places.items ++ new_place m c.args.session c.args.ordinal c.index_mut-row.result.now.subject c.args.work ∷ []) (count c)
+    c.as_slice.ensures.value
+    ∙ pushed c.self.inside.places.items c.push_reserved.new.self.items c.len-n.result (length c.self.inside.places.items) c.args.session c.args.ordinal
+    c.index_mut-row.result.now.subject c.args.work c.lowest_level.result (count c) c.lowest_level.ensures c.push_reserved.ensures.items
 
 longer : (c : After-as_slice) → length c.as_slice.result.now ≡ length c.self.inside.places.items + 1
 longer c =

@@ -2,13 +2,15 @@ use Rattle.std.proofs.Common.{◌≡◌, ◌<◌, ◌≤◌, ◌+◌, ◌++◌, 
 use Rattle.std.specs.Prelude.{All}
 use Rattle.std.specs.Vec.{with_items}
 use Rattle.std.proofs.lemmas.List.{get_or_read}
+use Rattle.bl_level.specs.Level.{SecurityLevel, join_of}
+use Rattle.bl_policy.specs.Policy.{current_of}
 use Rattle.bl_work.specs.declared.answer.Answer.TheVariants as answers
 use Rattle.bl_work.specs.Effects.{children, outputs}
 use Rattle.bl_order.specs.Machine.{State, change, Ends}
 use Rattle.bl_grant.specs.Loaned.{Back}
 use Rattle.bl_eval.specs.Loan.{Loan, backs, part_of, effects_on}
 use Rattle.bl_core.specs.Answers.{loan_at}
-use Rattle.bl_place.specs.Places.{child_places, no_place, place_in}
+use Rattle.bl_place.specs.Places.{child_places, no_place}
 use Rattle.bl_place.specs.Shelves.{put_back}
 use Rattle.bl_queue.specs.Queues.{Queue}
 use Rattle.bl_place.specs.Queueing.{MayEnter, QueuesTell}
@@ -23,16 +25,22 @@ use Rattle.bl_core.proofs.Backs.{length-put_back}
 use Rattle.bl_core.proofs.Lending.{written_items}
 use Rattle.bl_core.proofs.Lent.{runs-here, backs-here, outputs-here, children-here}
 use Rattle.bl_core.proofs.Queueing.{queue-runs, tell-as, tell-own}
-use Rattle.bl_core.proofs.Ending.{length-child_places}
-use Rattle.bl_core.proofs.Finishing.{end_there, end_shelves, end_room, end_tell, end_enters, end-state, end-kept}
+use Rattle.bl_core.proofs.Ending.{length-child_places, siblings_of}
+use Rattle.bl_core.proofs.Finishing.{end_there, end_speaks, end_shelves, end_room, end_tell, end_enters, end-state, end-kept}
 use Rattle.bl_core.proofs.machine.Core.finish_lent.Goals as goal
 use Rattle.bl_core.proofs.machine.Core.finish_lent.Goals.{After-as_slice, After-as_slice-2}
 
 -- the places after the children entered
-entered : (old new : List Place) (n : ℕ) (s : Place) (v : Stand) (ks : List ℕ) → n < length old → s ≡ get_or old n s
-    → new ≡ set old n (stands_at s v) ++ child_places n s.root s.subject 1 ks → new ≡ set old n (stands_at s v) ++ child_places n (place_in old n).root (place_in old n).subject 1 ks
-entered old new n s v ks lt at is =
-    is ∙ ap (λ (p : Place). set old n (stands_at s v) ++ child_places n p.root p.subject 1 ks) (get_or_read old n s lt at no_place)
+entered : (c : Inside) (n : ℕ) (new : List Place) (s : Place) (v : Stand) (carried : SecurityLevel) (ks : List ℕ) → n < length c.places.items → s ≡ get_or c.places.items n s
+    → carried ≡ join_of (current_of c.policy s.subject) s.carried
+    → new ≡ set c.places.items n (stands_at s v) ++ child_places (record { parent = n; root = s.root; subject = s.subject; carried = carried }) 1 ks
+    → new ≡ set c.places.items n (stands_at s v) ++ child_places (siblings_of c n) 1 ks
+entered c n new s v carried ks lt at joined is =
+    is
+    ∙ ap (λ (l : SecurityLevel). set c.places.items n (stands_at s v) ++ child_places (record { parent = n; root = s.root; subject = s.subject; carried = l }) 1 ks) joined
+    ∙ ap (λ (p : Place). set c.places.items n (stands_at s v)
+    ++ child_places (record { parent = n; root = p.root; subject = p.subject; carried = join_of (current_of c.policy p.subject) p.carried }) 1 ks)
+    (get_or_read c.places.items n s lt at no_place)
 
 pub take_back-requires : goal.take_back-requires
 take_back-requires c =
@@ -62,12 +70,19 @@ enter_children-requires-clause-room c = omega (arith, fits c, c.self.invariant.r
 pub enter_children-requires-clause-few : goal.enter_children-requires-clause-few
 enter_children-requires-clause-few c = omega (arith, fits c)
 
+pub current-level-requires : goal.current-level-requires
+current-level-requires c =
+    end_speaks c.self.inside c.self.invariant c.into_parts-entry.result.entry
+    (runs-here c.self.inside c.args.self.now c.self.view_is c.args.done c.into_parts-entry.result.entry (ap (λ (l : Loan). l.entry) c.into_parts-entry.ensures.loan) c.requires.running)
+    c.index_mut-place.result.now c.index_mut-place.ensures.value
+
 pub end-requires : goal.end-requires
 end-requires c = inr (queue-runs c.self.inside c.self.invariant c.into_parts-entry.result.entry (end_there c.self.inside c.self.invariant c.into_parts-entry.result.entry (runs-here c.self.inside c.args.self.now c.self.view_is c.args.done c.into_parts-entry.result.entry (ap (λ (l : Loan). l.entry) c.into_parts-entry.ensures.loan) c.requires.running)) (runs-here c.self.inside c.args.self.now c.self.view_is c.args.done c.into_parts-entry.result.entry (ap (λ (l : Loan). l.entry) c.into_parts-entry.ensures.loan) c.requires.running))
 
 -- the places as the children enter the queues
-listed : (c : After-as_slice-2) → c.as_slice-2.result.now ≡ (set c.self.inside.places.items c.into_parts-entry.result.entry (stands_at c.index_mut-place.result.now (stands.Ended (answers.Done c.into_parts-entry.result.outputs))) ++ child_places c.into_parts-entry.result.entry (place_in c.self.inside.places.items c.into_parts-entry.result.entry).root (place_in c.self.inside.places.items c.into_parts-entry.result.entry).subject 1 c.as_slice.result.now)
-listed c = c.as_slice-2.ensures.value ∙ (entered c.self.inside.places.items c.enter_children.new.places.items c.into_parts-entry.result.entry c.index_mut-place.result.now (stands.Ended (answers.Done c.into_parts-entry.result.outputs)) c.as_slice.result.now (end_there c.self.inside c.self.invariant c.into_parts-entry.result.entry (runs-here c.self.inside c.args.self.now c.self.view_is c.args.done c.into_parts-entry.result.entry (ap (λ (l : Loan). l.entry) c.into_parts-entry.ensures.loan) c.requires.running)) c.index_mut-place.ensures.value c.enter_children.ensures.items)
+listed : (c : After-as_slice-2) → c.as_slice-2.result.now ≡ (set c.self.inside.places.items c.into_parts-entry.result.entry (stands_at c.index_mut-place.result.now (stands.Ended (answers.Done c.into_parts-entry.result.outputs))) ++ child_places (siblings_of c.self.inside c.into_parts-entry.result.entry) 1 c.as_slice.result.now)
+listed c = c.as_slice-2.ensures.value ∙ (entered c.self.inside c.into_parts-entry.result.entry c.enter_children.new.places.items c.index_mut-place.result.now (stands.Ended (answers.Done c.into_parts-entry.result.outputs)) c.join.result c.as_slice.result.now (end_there c.self.inside c.self.invariant c.into_parts-entry.result.entry (runs-here c.self.inside c.args.self.now c.self.view_is c.args.done c.into_parts-entry.result.entry (ap (λ (l : Loan). l.entry) c.into_parts-entry.ensures.loan) c.requires.running)) c.index_mut-place.ensures.value
+    (c.join.ensures.value ∙ ap (λ (l : SecurityLevel). join_of l c.index_mut-place.result.now.carried) c.current-level.ensures.value) c.enter_children.ensures.items)
 
 count : (c : After-as_slice-2) → c.len-first.result ≡ length c.self.inside.places.items
 count c = c.len-first.ensures ∙ c.self.inside.places.ok.0
@@ -75,9 +90,9 @@ count c = c.len-first.ensures ∙ c.self.inside.places.ok.0
 longer : (c : After-as_slice-2) → length c.as_slice-2.result.now ≡ length c.self.inside.places.items + length c.as_slice.result.now
 longer c =
     ap length (listed c)
-    ∙ length-append (set c.self.inside.places.items c.into_parts-entry.result.entry (stands_at c.index_mut-place.result.now (stands.Ended (answers.Done c.into_parts-entry.result.outputs)))) (child_places c.into_parts-entry.result.entry (place_in c.self.inside.places.items c.into_parts-entry.result.entry).root (place_in c.self.inside.places.items c.into_parts-entry.result.entry).subject 1 c.as_slice.result.now)
-    ∙ ap (λ (m : ℕ). m + length (child_places c.into_parts-entry.result.entry (place_in c.self.inside.places.items c.into_parts-entry.result.entry).root (place_in c.self.inside.places.items c.into_parts-entry.result.entry).subject 1 c.as_slice.result.now)) (length-set c.self.inside.places.items c.into_parts-entry.result.entry (stands_at c.index_mut-place.result.now (stands.Ended (answers.Done c.into_parts-entry.result.outputs))))
-    ∙ ap (λ (m : ℕ). length c.self.inside.places.items + m) (length-child_places c.into_parts-entry.result.entry (place_in c.self.inside.places.items c.into_parts-entry.result.entry).root (place_in c.self.inside.places.items c.into_parts-entry.result.entry).subject 1 c.as_slice.result.now)
+    ∙ length-append (set c.self.inside.places.items c.into_parts-entry.result.entry (stands_at c.index_mut-place.result.now (stands.Ended (answers.Done c.into_parts-entry.result.outputs)))) (child_places (siblings_of c.self.inside c.into_parts-entry.result.entry) 1 c.as_slice.result.now)
+    ∙ ap (λ (m : ℕ). m + length (child_places (siblings_of c.self.inside c.into_parts-entry.result.entry) 1 c.as_slice.result.now)) (length-set c.self.inside.places.items c.into_parts-entry.result.entry (stands_at c.index_mut-place.result.now (stands.Ended (answers.Done c.into_parts-entry.result.outputs))))
+    ∙ ap (λ (m : ℕ). length c.self.inside.places.items + m) (length-child_places (siblings_of c.self.inside c.into_parts-entry.result.entry) 1 c.as_slice.result.now)
 
 within : (c : After-as_slice-2) → length c.self.inside.places.items + length c.as_slice.result.now ≤ c.self.inside.limit
 within c =
@@ -90,9 +105,9 @@ enter_queues-requires-clause-before c =
     tell-own (length c.self.inside.setup.policy.documents + 1) c.self.inside.limit c.as_slice-2.result.now c.len-first.result c.end.new.self
     (subst (λ (m : ℕ). QueuesTell (length c.self.inside.setup.policy.documents + 1) c.self.inside.limit c.as_slice-2.result.now m c.end.new.self) (sym (count c))
     (subst (λ (l : List Place). QueuesTell (length c.self.inside.setup.policy.documents + 1) c.self.inside.limit l (length c.self.inside.places.items) c.end.new.self) (sym (listed c))
-    (subst (QueuesTell (length c.self.inside.setup.policy.documents + 1) c.self.inside.limit (set c.self.inside.places.items c.into_parts-entry.result.entry (stands_at c.index_mut-place.result.now (stands.Ended (answers.Done c.into_parts-entry.result.outputs))) ++ child_places c.into_parts-entry.result.entry (place_in c.self.inside.places.items c.into_parts-entry.result.entry).root (place_in c.self.inside.places.items c.into_parts-entry.result.entry).subject 1 c.as_slice.result.now) (length c.self.inside.places.items)) (sym c.end.ensures)
+    (subst (QueuesTell (length c.self.inside.setup.policy.documents + 1) c.self.inside.limit (set c.self.inside.places.items c.into_parts-entry.result.entry (stands_at c.index_mut-place.result.now (stands.Ended (answers.Done c.into_parts-entry.result.outputs))) ++ child_places (siblings_of c.self.inside c.into_parts-entry.result.entry) 1 c.as_slice.result.now) (length c.self.inside.places.items)) (sym c.end.ensures)
     (end_tell c.self.inside c.self.invariant c.into_parts-entry.result.entry (runs-here c.self.inside c.args.self.now c.self.view_is c.args.done c.into_parts-entry.result.entry (ap (λ (l : Loan). l.entry) c.into_parts-entry.ensures.loan) c.requires.running) c.index_mut-place.result.now (answers.Done c.into_parts-entry.result.outputs)
-    (child_places c.into_parts-entry.result.entry (place_in c.self.inside.places.items c.into_parts-entry.result.entry).root (place_in c.self.inside.places.items c.into_parts-entry.result.entry).subject 1 c.as_slice.result.now) c.index_mut-place.ensures.value))))
+    (child_places (siblings_of c.self.inside c.into_parts-entry.result.entry) 1 c.as_slice.result.now) c.index_mut-place.ensures.value))))
 
 pub enter_queues-requires-clause-from : goal.enter_queues-requires-clause-from
 enter_queues-requires-clause-from c = omega (arith, count c, longer c)
@@ -133,14 +148,15 @@ shelved c =
     written_items c.self.inside c.take_back.new.shelves
     (omega (arith, ap length e, length-put_back c.self.inside.shelves.items (backs c.into_parts-entry.result.entry (part_of (loan_at (state_of c.self.inside) c.into_parts-entry.result.entry)).accesses (loan_at (state_of c.self.inside) c.into_parts-entry.result.entry).inputs (effects_on (loan_at (state_of c.self.inside) c.into_parts-entry.result.entry))), c.self.inside.shelves.ok.0)) ∙ e
 
-written : (c : goal.After-drop-spawned) → Written c.self.inside (after c) c.into_parts-entry.result.entry (stands_at c.index_mut-place.result.now (stands.Ended (answers.Done c.into_parts-entry.result.outputs))) (child_places c.into_parts-entry.result.entry (place_in c.self.inside.places.items c.into_parts-entry.result.entry).root (place_in c.self.inside.places.items c.into_parts-entry.result.entry).subject 1 c.as_slice.result.now)
+written : (c : goal.After-drop-spawned) → Written c.self.inside (after c) c.into_parts-entry.result.entry (stands_at c.index_mut-place.result.now (stands.Ended (answers.Done c.into_parts-entry.result.outputs))) (child_places (siblings_of c.self.inside c.into_parts-entry.result.entry) 1 c.as_slice.result.now)
 written c = record {
   setup = refl;
   limit = refl;
   weight = refl;
   sessions = refl;
   rooms = refl;
-  places = (entered c.self.inside.places.items c.enter_children.new.places.items c.into_parts-entry.result.entry c.index_mut-place.result.now (stands.Ended (answers.Done c.into_parts-entry.result.outputs)) c.as_slice.result.now (end_there c.self.inside c.self.invariant c.into_parts-entry.result.entry (runs-here c.self.inside c.args.self.now c.self.view_is c.args.done c.into_parts-entry.result.entry (ap (λ (l : Loan). l.entry) c.into_parts-entry.ensures.loan) c.requires.running)) c.index_mut-place.ensures.value c.enter_children.ensures.items);
+  places = (entered c.self.inside c.into_parts-entry.result.entry c.enter_children.new.places.items c.index_mut-place.result.now (stands.Ended (answers.Done c.into_parts-entry.result.outputs)) c.join.result c.as_slice.result.now (end_there c.self.inside c.self.invariant c.into_parts-entry.result.entry (runs-here c.self.inside c.args.self.now c.self.view_is c.args.done c.into_parts-entry.result.entry (ap (λ (l : Loan). l.entry) c.into_parts-entry.ensures.loan) c.requires.running)) c.index_mut-place.ensures.value
+      (c.join.ensures.value ∙ ap (λ (l : SecurityLevel). join_of l c.index_mut-place.result.now.carried) c.current-level.ensures.value) c.enter_children.ensures.items);
   capacity = c.enter_children.ensures.room;
   queued = tell-as (length c.self.inside.setup.policy.documents + 1) c.self.inside.limit c.enter_children.new.places.items (length c.enter_children.new.places.items) c.end.new.self c.enter_queues.new.queues
       (ap (λ (q : Queue). q.cowns) c.end.ensures ∙ c.self.invariant.queued.cowns_are) (ap (λ (q : Queue). q.limit) c.end.ensures ∙ c.self.invariant.queued.limit_is)

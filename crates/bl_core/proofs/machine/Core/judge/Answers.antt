@@ -24,5 +24,5 @@ returns c =
     subst (λ (x : State). MatchOption c.decide.result (is_done (past_at x c.args.n).answer ≡ true) (λ (d : Denial). (past_at x c.args.n).answer ≡ answers.Denied d)) c.self.view_is
     (judged c.self.inside c.self.invariant c.args.n (subst (λ (x : State). MayStart x c.args.n) (sym c.self.view_is) c.requires.may)
     (ap (λ (x : State). is_rule (past_at x c.args.n).task) c.self.view_is ∙ c.requires.behaviour)
-    c.index.result.now c.index.ensures c.in-Some.accesses.now (c.in-Some.ensures.1 ∙ ap (λ (l : List Place). accesses_of (task_in l c.args.n)) c.as_slice.ensures.value)
+    c.index-place.result.now c.index-place.ensures c.in-Some.accesses.now (c.in-Some.ensures.1 ∙ ap (λ (l : List Place). accesses_of (task_in l c.args.n)) c.as_slice.ensures.value)
     c.decide.result c.decide.ensures.first)

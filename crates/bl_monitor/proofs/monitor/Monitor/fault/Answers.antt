@@ -1,5 +1,4 @@
 use Rattle.std.proofs.Common.{◌<◌, ◌∙◌, ap, length, arith}
-use Rattle.std.specs.Arc.{arc_value}
 use Rattle.bl_monitor.specs.Heard.{fault_of}
 use Rattle.bl_monitor.proofs.Coming.{told_fault}
 use Rattle.bl_monitor.proofs.monitor.Monitor.fault.Goals as goal
@@ -7,5 +6,5 @@ use Rattle.bl_monitor.proofs.monitor.Monitor.fault.Goals as goal
 pub returns : goal.returns
 returns c =
     let lt : c.args.n < length c.self.inside.places.items = omega arith in
-    told_fault (arc_value c.self.inside.setup) c.self.inside.policy c.self.inside.contents.items c.self.inside.places.items c.self.invariant c.args.n c.index.result.now lt c.index.ensures
+    told_fault c.self.inside c.self.invariant c.args.n c.index.result.now lt c.index.ensures
     ∙ ap (λ h. fault_of h c.args.n) c.self.view_is
