@@ -2,17 +2,20 @@
 use Rattle.std.proofs.Common.{◌≡◌, ℕ, zero, suc, ◌-◌, ◌<◌, ◌≤◌, Bool, true, false, cond, ◌&&◌, List, length, refl, sym, ◌∙◌, ap, inl, inr, arith, ◌⊎◌, true≢false, get_or}
 use Rattle.std.specs.Prelude.{Some, None, slice_get, slice_index_or}
 use Rattle.std.proofs.lemmas.Option.{slice_get-get_or}
-use Rattle.bl_level.specs.Level.{SecurityLevel}
-use Rattle.bl_policy.specs.Policy.{is_trusted}
+use Rattle.bl_level.specs.Level.{SecurityLevel, join_of}
+use Rattle.bl_policy.specs.Policy.{SecurityPolicy, is_trusted}
 use Rattle.bl_work.specs.Effects.{after, children}
+use Rattle.bl_work.specs.Modes.{declares, observes}
 use Rattle.bl_setup.specs.Setup.{Setup}
+use Rattle.bl_setup.specs.declared.version.Version.{Version}
+use Rattle.bl_setup.specs.declared.version.Version.TheVariants.{One, Two}
 use Rattle.bl_order.specs.Laws.{FollowsItsParent}
-use Rattle.bl_order.specs.Order.{Entry, Line, Child, Task, Runs, Applies, accesses_of, is_rule, is_altered}
-use Rattle.bl_order.specs.Past.{Past, no_entry, changed, is_done, child_task, deeds, judged, fault_of_task}
+use Rattle.bl_order.specs.Order.{Entry, Line, Child, Task, Runs, Applies, accesses_of, is_rule}
+use Rattle.bl_order.specs.Past.{Past, no_entry, changed, is_done, may_alter, leaves, child_task, deeds, judged, fault_of_task}
 use Rattle.bl_flow.specs.Low.{History, AgreeLow, place_in, policy_in, content_in, is_low_place, is_low_document}
 use Rattle.bl_flow.specs.Purge.{is_kept, kept_before, purged}
-use Rattle.bl_flow.specs.Sealed.{IsPossible, IsSealed, LetsNothingDown}
-use Rattle.bl_flow.proofs.Down.{lets_nothing_down}
+use Rattle.bl_flow.specs.Sealed.{IsPossible, IsSealed, LetsNothingDown, NoChildComesDown}
+use Rattle.bl_flow.proofs.Down.{looks-low, alters-low, no-child-down}
 use Rattle.bl_flow.proofs.Kept.{rank-kept, rank-purged, rank-below, of_kept-at, entry-kept}
 use Rattle.bl_flow.proofs.LawsBelow.{LawsBelow}
 use Rattle.bl_flow.proofs.Lists.{or_either, or_left, or_right, or_none, less_or_equal}
@@ -43,20 +46,40 @@ module _ (laws : LawsBelow) (level : SecurityLevel) (h : History) (o : Setup) (p
   contents_left n doc = content_in p doc n
 
   -- what is done lets nothing down
-  nothing-down : (n : ℕ) → n < length h.order → is_done (at n).answer ≡ true → LetsNothingDown level (policy_in h n) (at n).subject (accesses_of (at n).task)
-  nothing-down n lt done = go (is_trusted (policy_in h n) (at n).subject) refl
+  nothing-down : (n : ℕ) → n < length h.order → is_done (at n).answer ≡ true → LetsNothingDown level h n
+  nothing-down n lt done = go (is_trusted q (at n).subject) refl
     where
-      faultless : fault_of_task (policy_in h n) (at n).subject (at n).task ≡ None
-      faultless = done_faultless (h.lost n) (fault_of_task (policy_in h n) (at n).subject (at n).task) (at n).task (deeds (at n).task (contents_at n)) done
+      q : SecurityPolicy
+      q = policy_in h n
 
-      granted : (t : Task) → is_trusted (policy_in h n) (at n).subject ≡ false → fault_of_task (policy_in h n) (at n).subject t ≡ None
-          → LetsNothingDown level (policy_in h n) (at n).subject (accesses_of t)
-      granted (Runs script index) untrusted none = lets_nothing_down laws level (policy_in h n) (at n).subject untrusted (accesses_of (Runs script index)) none
-      granted (Applies rule) untrusted none = record { looks = λ doc low k. absurd (true≢false (sym k)); alters = λ doc k low. absurd (true≢false (sym k)) }
+      faultless : fault_of_task q (at n).subject (at n).carried (at n).task ≡ None
+      faultless = done_faultless (h.lost n) (fault_of_task q (at n).subject (at n).carried (at n).task) (at n).task (deeds (at n).task (contents_at n)) done
 
-      go : (b : Bool) → is_trusted (policy_in h n) (at n).subject ≡ b → LetsNothingDown level (policy_in h n) (at n).subject (accesses_of (at n).task)
+      looks : is_trusted q (at n).subject ≡ false → (t : Task) → fault_of_task q (at n).subject (at n).carried t ≡ None
+          → (doc : ℕ) → low n ≡ true → declares observes (accesses_of t) doc ≡ true → is_low_document level q doc ≡ true
+      looks untrusted (Runs script index) none =
+          looks-low laws.dominance level q (at n).subject (at n).carried untrusted (accesses_of (Runs script index))
+          ((laws.granted q (at n).subject (at n).carried (accesses_of (Runs script index))).0 none)
+      looks untrusted (Applies rule) none = λ doc now k. absurd (true≢false (sym k))
+
+      alters : is_trusted q (at n).subject ≡ false → (t : Task) → fault_of_task q (at n).subject (at n).carried t ≡ None
+          → (doc : ℕ) → may_alter t doc ≡ true → is_low_document level q doc ≡ true → low n ≡ true
+      alters untrusted (Runs script index) none =
+          alters-low laws.dominance level q (at n).subject (at n).carried untrusted (accesses_of (Runs script index))
+          ((laws.granted q (at n).subject (at n).carried (accesses_of (Runs script index))).0 none)
+      alters untrusted (Applies rule) none = λ doc k low_doc. absurd (true≢false (sym k))
+
+      go : (b : Bool) → is_trusted q (at n).subject ≡ b → LetsNothingDown level h n
       go true trusted = sealed.trusted n lt trusted done
-      go false untrusted = granted (at n).task untrusted faultless
+      go false untrusted = record { looks = looks untrusted (at n).task faultless; alters = alters untrusted (at n).task faultless }
+
+  -- no child comes down, whatever the version
+  children-up : NoChildComesDown level h
+  children-up = go h.setup.version refl
+    where
+      go : (v : Version) → h.setup.version ≡ v → NoChildComesDown level h
+      go One one = sealed.children one
+      go Two two = no-child-down laws.dominance level laws.children h possible two
 
   -- a child that is kept has its parent before it, which is kept
   module _ (n parent which : ℕ) (is : slice_get h.order n ≡ Some (Child parent which)) (k : kept n ≡ true) where
@@ -74,7 +97,7 @@ module _ (laws : LawsBelow) (level : SecurityLevel) (h : History) (o : Setup) (p
         go (inl rule) =
             or_left (is_rule (at parent).task) (low parent)
             (sym (ap is_rule follows.task ∙ child_rule (at parent).task (slice_index_or (children (at parent).effects) (which - 1) 0)) ∙ rule)
-        go (inr speaks) = or_right (is_rule (at parent).task) (low parent) (sealed.children n parent which is speaks)
+        go (inr speaks) = or_right (is_rule (at parent).task) (low parent) (children-up n parent which is speaks)
 
   -- up to place n the purged history has the records of those that are kept, the policy, and the low contents
   record IsLeft (n : ℕ) : Type 0 where
@@ -83,9 +106,10 @@ module _ (laws : LawsBelow) (level : SecurityLevel) (h : History) (o : Setup) (p
     pub contents : (doc : ℕ) → is_low_document level (policy_in h n) doc ≡ true → content_in p doc (rank n) ≡ content_in h doc n
 
   module _ (n : ℕ) (lt : n < length h.order) (left : IsLeft n) where
-    -- who speaks at a place that is kept, and what it does, are what they were
+    -- who speaks at a place that is kept, what it carries, and what it does, are what they were
     record IsSameEntry : Type 0 where
       pub subject : (place_in p (rank n)).subject ≡ (at n).subject
+      pub carried : (place_in p (rank n)).carried ≡ (at n).carried
       pub task : (place_in p (rank n)).task ≡ (at n).task
 
     entry-left : kept n ≡ true → IsSameEntry
@@ -94,6 +118,9 @@ module _ (laws : LawsBelow) (level : SecurityLevel) (h : History) (o : Setup) (p
         go : (e : Entry) → slice_get h.order n ≡ Some e → IsSameEntry
         go (Line session ordinal subject w) is = record {
           subject = line-subject p (rank n) session ordinal subject w there ∙ sym (line-subject h n session ordinal subject w is);
+          carried =
+              laws.lines p.setup p.lost p.order (rank n) session ordinal subject w there
+              ∙ sym (laws.lines h.setup h.lost h.order n session ordinal subject w is);
           task = line-task p (rank n) session ordinal subject w there ∙ sym (line-task h n session ordinal subject w is);
         }
           where
@@ -101,6 +128,7 @@ module _ (laws : LawsBelow) (level : SecurityLevel) (h : History) (o : Setup) (p
             there = entry-kept level h n (Line session ordinal subject w) is k
         go (Child parent which) is = record {
           subject = there.subject ∙ ap (λ (q : Past). q.subject) same ∙ sym (follows n parent which is k).subject;
+          carried = carries h.setup.version refl;
           task = there.task ∙ ap (λ (q : Past). child_task q.task (slice_index_or (children q.effects) (which - 1) 0)) same ∙ sym (follows n parent which is k).task;
         }
           where
@@ -115,6 +143,12 @@ module _ (laws : LawsBelow) (level : SecurityLevel) (h : History) (o : Setup) (p
                 laws.children p.setup p.lost p.order (rank n) (rank parent) which
                 (rank-below level h parent n behind (parent-kept n parent which is k)) (entry-kept level h n (Child parent which) is k)
 
+            carries : (v : Version) → h.setup.version ≡ v → (place_in p (rank n)).carried ≡ (at n).carried
+            carries One one = there.carries_nothing (agree.version ∙ one) ∙ sym ((follows n parent which is k).carries_nothing one)
+            carries Two two =
+                there.carried (agree.version ∙ two) ∙ ap (λ (q : Past). join_of q.level q.carried) same
+                ∙ sym ((follows n parent which is k).carried two)
+
     -- a place that is kept does the same on what is left
     deeds-left : kept n ≡ true → is_done (at n).answer ≡ true → deeds (at n).task (contents_at n) ≡ deeds (at n).task (contents_left (rank n))
     deeds-left k done =
@@ -128,18 +162,21 @@ module _ (laws : LawsBelow) (level : SecurityLevel) (h : History) (o : Setup) (p
     -- a place that is kept has its record on what is left
     place-left : kept n ≡ true → place_in p (rank n) ≡ at n
     place-left k =
-        ap (λ b. judged b (policy_in p (rank n)) (deeds (place_in p (rank n)).task (contents_left (rank n))) (place_in p (rank n)).subject (place_in p (rank n)).task)
-        (of_kept-at level h h.lost false n (length h.order) lt k)
-        ∙ ap (λ t. judged (h.lost n) (policy_in p (rank n)) (deeds t (contents_left (rank n))) (place_in p (rank n)).subject t) (entry-left k).task
-        ∙ ap (λ u. judged (h.lost n) (policy_in p (rank n)) (deeds (at n).task (contents_left (rank n))) u (at n).task) (entry-left k).subject
-        ∙ ap (λ q. judged (h.lost n) q (deeds (at n).task (contents_left (rank n))) (at n).subject (at n).task) left.policy
-        ∙ sym (judged-alike (h.lost n) (policy_in h n) (deeds (at n).task (contents_at n)) (deeds (at n).task (contents_left (rank n))) (at n).subject (at n).task (deeds-left k))
-
-    -- a place that is not low alters no low document
-    alters-nothing : low n ≡ false → (doc : ℕ) → is_low_document level (policy_in h n) doc ≡ true → (is_done (at n).answer && is_altered (accesses_of (at n).task) doc) ≡ false
-    alters-nothing high doc low_doc = go (is_done (at n).answer) (is_altered (accesses_of (at n).task) doc) refl refl
+        ap (λ b. judged b (policy_in p (rank n)) (deeds there.task (contents_left (rank n))) there.subject there.carried there.task) (of_kept-at level h h.lost false n (length h.order) lt k)
+        ∙ ap (λ t. judged (h.lost n) (policy_in p (rank n)) (deeds t (contents_left (rank n))) there.subject there.carried t) (entry-left k).task
+        ∙ ap (λ c. judged (h.lost n) (policy_in p (rank n)) (deeds (at n).task (contents_left (rank n))) there.subject c (at n).task) (entry-left k).carried
+        ∙ ap (λ u. judged (h.lost n) (policy_in p (rank n)) (deeds (at n).task (contents_left (rank n))) u (at n).carried (at n).task) (entry-left k).subject
+        ∙ ap (λ q. judged (h.lost n) q (deeds (at n).task (contents_left (rank n))) (at n).subject (at n).carried (at n).task) left.policy
+        ∙ sym (judged-alike (h.lost n) (policy_in h n) (deeds (at n).task (contents_at n)) (deeds (at n).task (contents_left (rank n))) (at n).subject (at n).carried (at n).task (deeds-left k))
       where
-        go : (b c : Bool) → is_done (at n).answer ≡ b → is_altered (accesses_of (at n).task) doc ≡ c → (b && c) ≡ false
+        there : Past
+        there = place_in p (rank n)
+
+    -- a place that is not low leaves each low content
+    alters-nothing : low n ≡ false → (doc : ℕ) → is_low_document level (policy_in h n) doc ≡ true → (is_done (at n).answer && may_alter (at n).task doc) ≡ false
+    alters-nothing high doc low_doc = go (is_done (at n).answer) (may_alter (at n).task doc) refl refl
+      where
+        go : (b c : Bool) → is_done (at n).answer ≡ b → may_alter (at n).task doc ≡ c → (b && c) ≡ false
         go true true done alters = absurd (true≢false (sym ((nothing-down n lt done).alters doc alters low_doc) ∙ high))
         go true false done alters = refl
         go false c done alters = refl
@@ -154,8 +191,8 @@ module _ (laws : LawsBelow) (level : SecurityLevel) (h : History) (o : Setup) (p
           ∙ ap (changed (at n).answer (at n).task (at n).subject) left.policy;
       contents = λ doc low_doc.
           ap (λ r. content_in p doc r) (rank-kept level h n k)
-          ∙ ap (λ (q : Past). cond (is_done q.answer && is_altered (accesses_of q.task) doc) (after (content_in p doc (rank n)) q.effects doc) (content_in p doc (rank n))) (place-left k)
-          ∙ ap (λ c. cond (is_done (at n).answer && is_altered (accesses_of (at n).task) doc) (after c (at n).effects doc) c) (left.contents doc (sealed.documents n doc lt low_doc));
+          ∙ ap (λ (q : Past). leaves q doc (content_in p doc (rank n))) (place-left k)
+          ∙ ap (leaves (at n) doc) (left.contents doc (sealed.documents n doc lt low_doc));
     }
       where
         before : (m : ℕ) → kept m ≡ true → (m < n) ⊎ (m ≡ n) → place_in p (rank m) ≡ at m

@@ -26,11 +26,13 @@ use Rattle.bl_work.specs.declared.answer.Answer.{Answer}
 use Rattle.bl_work.specs.declared.answer.Answer.TheVariants.{Done, RuleDone, Denied, Lost}
 use Rattle.bl_work.specs.declared.work.Work.{Work}
 use Rattle.bl_work.specs.declared.work.Work.TheVariants as work
-use Rattle.bl_setup.specs.Setup.{Setup}
+use Rattle.bl_setup.specs.Setup.{Setup, by_version}
+use Rattle.bl_setup.specs.declared.version.Version.{Version}
+use Rattle.bl_setup.specs.declared.version.Version.TheVariants.{Two}
 use Rattle.bl_order.specs.Headline.{IsReached}
 use Rattle.bl_order.specs.Machine.{State, Event, IsTrail, MayStart, has_ended, is_waiting, phase_at, start, state_after}
 use Rattle.bl_flow.specs.Low.{History, AgreeLow, is_low_document, place_in}
-use Rattle.bl_flow.specs.Sealed.{IsPlain, changes_a_level}
+use Rattle.bl_flow.specs.Sealed.{IsPlain, IsUntrusted, changes_a_level}
 use Rattle.bl_flow.proofs.Lists.{less_or_equal}
 
 -- ---- who and what
@@ -76,18 +78,19 @@ policy ann_trusted bob_trusted bobs_level =
 
 -- the memo and the note have these texts
 abbrev pub with_texts : SecurityPolicy → (memo_text note_text : List ℕ) → Setup
-with_texts p memo_text note_text = record { names = names; policy = p; contents = memo_text ∷ note_text ∷ [] }
+with_texts p memo_text note_text = record { names = names; policy = p; contents = memo_text ∷ note_text ∷ []; version = Two }
 
 -- the memo has this text, and the note `n`
 abbrev pub with_memo : SecurityPolicy → List ℕ → Setup
 with_memo p words = with_texts p words (codes "n")
 
 -- two setups that differ in the memo agree on what is low
-pub memos-agree : (ann_trusted bob_trusted : Bool)
-    → AgreeLow u (with_memo (policy ann_trusted bob_trusted u) (codes "1")) (with_memo (policy ann_trusted bob_trusted u) (codes "2"))
-memos-agree a b = record { policy = refl; contents = same }
+pub memos-agree : (version : Version) (ann_trusted bob_trusted : Bool) (bobs_level : SecurityLevel)
+    → AgreeLow u (by_version version (with_memo (policy ann_trusted bob_trusted bobs_level) (codes "1")))
+    (by_version version (with_memo (policy ann_trusted bob_trusted bobs_level) (codes "2")))
+memos-agree version a b l = record { policy = refl; version = refl; contents = same }
   where
-    same : (doc : ℕ) → is_low_document u (policy a b u) doc ≡ true → slice_index_or (codes "2" ∷ codes "n" ∷ []) doc [] ≡ slice_index_or (codes "1" ∷ codes "n" ∷ []) doc []
+    same : (doc : ℕ) → is_low_document u (policy a b l) doc ≡ true → slice_index_or (codes "2" ∷ codes "n" ∷ []) doc [] ≡ slice_index_or (codes "1" ∷ codes "n" ∷ []) doc []
     same zero low = absurd (true≢false (sym low))
     same (suc doc) low = refl
 
@@ -304,6 +307,36 @@ chooses_is_readable = (
   },
 )
 
+-- `when read memo do spawn when write note do show note; end; end`
+abbrev spawns_show : SpelledBody
+spawns_show = spelled.spawn (to_write note_name) [] (spelled.show note_name spelled.empty) spelled.empty
+
+abbrev pub shows_later : Work
+shows_later = asks (to_read memo_name) [] spawns_show
+
+pub shows_later_is_readable : IsReadable names shows_later
+shows_later_is_readable = (
+  codes "when read memo do spawn when write note do show note; end; end",
+  record {
+    short = lit≤ tt;
+    spelled = grammar.when (to_read memo_name) [] spawns_show;
+    reads = tokens_begin 20 (codes "when read memo do spawn when write note do show note; end; end") refl;
+    means = (
+      record {
+        shallow = lit≤ tt;
+        few = record {
+          whens = lit≤ tt;
+          accesses = All-from_recursion HasFewAccesses ((to_read memo_name ∷ []) ∷ lists_in spawns_show) (lit≤ tt, (lit≤ tt, tt));
+        };
+        known = All-from_recursion (Contains names.documents) (names_of_when (to_read memo_name) [] spawns_show) (is_memo, (is_note, (is_note, tt)));
+        once = All-from_recursion IsOnce (declarations_of_when (to_read memo_name) [] spawns_show) (none_before memo_name, (none_before note_name, tt));
+        declared = All-from_recursion IsDeclared (uses_in (to_read memo_name ∷ []) spawns_show) (refl, tt);
+      },
+      refl,
+    );
+  },
+)
+
 -- ---- rules are read
 
 abbrev u_text : LevelText
@@ -390,10 +423,14 @@ is_untrusted_at h n = not (is_trusted h.setup.policy (place_in h n).subject)
 abbrev levels_stay_at : History → ℕ → Bool
 levels_stay_at h n = not (changes_a_level (place_in h n).task)
 
+-- no trusted subject speaks where the test passes of each place
+pub untrusted_by_test : (h : History) → all_below (is_untrusted_at h) (length h.order) ≡ true → IsUntrusted h
+untrusted_by_test h untrusted n below = not-true (is_trusted h.setup.policy (place_in h n).subject) (each_below (is_untrusted_at h) (length h.order) n below untrusted)
+
 -- a history is plain where both tests pass of each place
 pub plain_by_tests : (h : History) → all_below (is_untrusted_at h) (length h.order) ≡ true → all_below (levels_stay_at h) (length h.order) ≡ true → IsPlain h
 plain_by_tests h untrusted stay = record {
-  untrusted = λ n below. not-true (is_trusted h.setup.policy (place_in h n).subject) (each_below (is_untrusted_at h) (length h.order) n below untrusted);
+  untrusted = untrusted_by_test h untrusted;
   levels_stay = λ n below. not-true (changes_a_level (place_in h n).task) (each_below (levels_stay_at h) (length h.order) n below stay);
 }
 

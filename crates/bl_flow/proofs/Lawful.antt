@@ -1,16 +1,20 @@
 -- What is kept of a history may come about.
-use Rattle.std.proofs.Common.{◌≡◌, ℕ, zero, suc, ◌+◌, ◌-◌, ◌<◌, ◌≤◌, Bool, true, false, length, sym, ◌∙◌, ap, subst, inl, inr, arith, ◌⊎◌, true≢false, get_or}
+use Rattle.std.proofs.Common.{◌≡◌, ℕ, zero, suc, ◌+◌, ◌-◌, ◌<◌, ◌≤◌, Bool, true, false, length, sym, ◌∙◌, ap, subst, inl, inr, arith, ◌⊎◌, true≢false, get_or, refl}
 use Rattle.std.specs.Prelude.{Some, slice_get, slice_index_or}
 use Rattle.std.proofs.lemmas.Option.{get_or_from_slice_get, slice_get-get_or}
-use Rattle.bl_level.specs.Level.{SecurityLevel}
+use Rattle.bl_level.specs.Level.{SecurityLevel, dominates, join_of}
+use Rattle.bl_policy.specs.Policy.{SecurityPolicy, current_of}
 use Rattle.bl_work.specs.Effects.{children}
 use Rattle.bl_work.specs.declared.work.Work.{Work}
 use Rattle.bl_setup.specs.Setup.{Setup}
+use Rattle.bl_setup.specs.declared.version.Version.{Version}
+use Rattle.bl_setup.specs.declared.version.Version.TheVariants.{One, Two}
+use Rattle.bl_order.specs.Laws.{FollowsItsParent}
 use Rattle.bl_order.specs.Legal.{IsLegal, HasPlace, child_count}
 use Rattle.bl_order.specs.Order.{Entry, Line, Child, is_rule}
 use Rattle.bl_order.specs.Past.{Past, no_entry, is_done, fault_of_task, deeds}
 use Rattle.bl_order.specs.Room.{IsBehaviourOrRule}
-use Rattle.bl_flow.specs.Low.{History, AgreeLow, place_in, policy_in, content_in, is_low_subject, is_low_place}
+use Rattle.bl_flow.specs.Low.{History, AgreeLow, place_in, policy_in, content_in, is_low_place}
 use Rattle.bl_flow.specs.Purge.{is_kept, kept_before, renumbered, purged}
 use Rattle.bl_flow.specs.Sealed.{IsPossible, IsSealed}
 use Rattle.bl_flow.proofs.Alone.{parent-behind, parent-kept, places-left}
@@ -88,16 +92,24 @@ module _ (laws : LawsBelow) (level : SecurityLevel) (h : History) (o : Setup) (p
     pub parent-stays : kept q ≡ true
     parent-stays = parent-kept laws level h o possible sealed agree m q which is k
 
+    -- what each child of that parent says of it
+    follows : (n v : ℕ) → slice_get h.order n ≡ Some (Child q v) → FollowsItsParent h.setup h.lost h.order n q v
+    follows n v stands = laws.children h.setup h.lost h.order n q v (possible.legal.placed n q v stands).behind stands
+
     -- no child of that parent is a rule
     behaves : (n v : ℕ) → slice_get h.order n ≡ Some (Child q v) → is_rule (at n).task ≡ false
     behaves n v stands =
-        ap is_rule (laws.children h.setup h.lost h.order n q v (possible.legal.placed n q v stands).behind stands).task
+        ap is_rule (follows n v stands).task
         ∙ child_rule (at q).task (slice_index_or (children (at q).effects) (v - 1) 0)
-        ∙ done_behaves (h.lost q) (fault_of_task (policy_in h q) (at q).subject (at q).task) (at q).task (deeds (at q).task (λ doc. content_in h doc q)) hp.done
+        ∙ done_behaves (h.lost q) (fault_of_task (policy_in h q) (at q).subject (at q).carried (at q).task) (at q).task (deeds (at q).task (λ doc. content_in h doc q)) hp.done
 
-    -- each speaks for the parent's subject
-    speaker : (n v : ℕ) → slice_get h.order n ≡ Some (Child q v) → (at n).subject ≡ (at q).subject
-    speaker n v stands = (laws.children h.setup h.lost h.order n q v (possible.legal.placed n q v stands).behind stands).subject
+    -- all of them carry the same
+    carries : (n m v w : ℕ) → slice_get h.order n ≡ Some (Child q v) → slice_get h.order m ≡ Some (Child q w) → (at n).carried ≡ (at m).carried
+    carries n m v w stands too = go h.setup.version refl
+      where
+        go : (version : Version) → h.setup.version ≡ version → (at n).carried ≡ (at m).carried
+        go One one = (follows n v stands).carries_nothing one ∙ sym ((follows m w too).carries_nothing one)
+        go Two two = (follows n v stands).carried two ∙ sym ((follows m w too).carried two)
 
     -- no rule stands among them
     policy-run : (i : ℕ) → i ≤ count → policy_in h (hp.first + i) ≡ policy_in h hp.first
@@ -119,12 +131,16 @@ module _ (laws : LawsBelow) (level : SecurityLevel) (h : History) (o : Setup) (p
         go (inl rule) = absurd (true≢false (sym rule ∙ behaves m which is))
         go (inr speaks) = speaks
 
-    -- so each child of that parent is kept
+    -- so each child of that parent is low, which runs by the same policy for the same subject
     sibling-kept : (i : ℕ) → i < count → kept (hp.first + i) ≡ true
     sibling-kept i lt =
         or_right (is_rule (at (hp.first + i)).task) (low (hp.first + i))
-        (ap (λ r. is_low_subject level r (at (hp.first + i)).subject) (policy-run i (omega arith) ∙ sym (policy-run (which - 1) (omega (arith, hp.spawned))) ∙ ap (policy_in h) (sym here))
-        ∙ ap (is_low_subject level (policy_in h m)) (speaker (hp.first + i) (suc i) (hp.together i lt) ∙ sym (speaker m which is)) ∙ low-here)
+        (ap (λ r. low_at r (at (hp.first + i)).subject (at (hp.first + i)).carried) (policy-run i (omega arith) ∙ sym (policy-run (which - 1) (omega (arith, hp.spawned))) ∙ ap (policy_in h) (sym here))
+        ∙ ap (λ u. low_at (policy_in h m) u (at (hp.first + i)).carried) ((follows (hp.first + i) (suc i) (hp.together i lt)).subject ∙ sym (follows m which is).subject)
+        ∙ ap (low_at (policy_in h m) (at m).subject) (carries (hp.first + i) m (suc i) which (hp.together i lt) is) ∙ low-here)
+      where
+        low_at : SecurityPolicy → ℕ → SecurityLevel → Bool
+        low_at r u carried = dominates level (join_of (current_of r u) carried)
 
     -- and they stand together on what is left
     rank-run : (i : ℕ) → i ≤ count → rank (hp.first + i) ≡ rank hp.first + i

@@ -1,72 +1,114 @@
--- Where no trusted subject speaks and no rule changes a level, nothing comes down.
-use Rattle.std.proofs.Common.{◌≡◌, ℕ, zero, suc, ◌<◌, ◌≤◌, Bool, true, false, List, length, refl, sym, ◌∙◌, ap, arith, true≢false}
-use Rattle.std.specs.Prelude.{Option, Some, None, slice_index_or}
-use Rattle.bl_level.specs.Level.{SecurityLevel, dominates}
-use Rattle.bl_policy.specs.Policy.{SecurityPolicy, Clearance, nobody, lowest}
-use Rattle.bl_policy.specs.RuleEffect.{rule_fault, rule_makes, unless_failed, after_rule}
+-- Where no trusted subject speaks, no document comes down; and where no rule changes a level either, no child does.
+use Rattle.std.proofs.Common.{◌≡◌, ℕ, zero, suc, ◌<◌, ◌≤◌, Bool, true, false, cond, List, length, refl, sym, ◌∙◌, ap, arith, true≢false, get_or}
+use Rattle.std.specs.Prelude.{Option, Some, None, option_map, slice_index_or}
+use Rattle.bl_level.specs.Level.{SecurityLevel, dominates, join_of}
+use Rattle.bl_policy.specs.Policy.{SecurityPolicy, Clearance, nobody, lowest, is_trusted, is_admin}
+use Rattle.bl_policy.specs.RuleEffect.{rule_fault, rule_makes, refusal, unless_failed, after_rule}
+use Rattle.bl_policy.specs.declared.denial.Clause.TheVariants as failing
 use Rattle.bl_policy.specs.declared.denial.Denial.{Denial}
 use Rattle.bl_policy.specs.declared.rule.Rule.{Rule}
 use Rattle.bl_policy.specs.declared.rule.Rule.TheVariants.{Give, Rescind, Current, Classify}
+use Rattle.bl_setup.specs.declared.version.Version.TheVariants.{One, Two}
 use Rattle.bl_order.specs.Order.{Child, Task, Runs, Applies, is_rule}
+use Rattle.bl_order.specs.Past.{Past, carried_of, earlier, no_entry}
 use Rattle.bl_flow.specs.Low.{History, place_in, policy_in}
-use Rattle.bl_flow.specs.Sealed.{IsPossible, IsSealed, IsPlain, changes_a_level}
-use Rattle.bl_flow.proofs.LawsBelow.{ChildrenFollow, RulesMake}
+use Rattle.bl_flow.specs.Sealed.{IsPossible, IsSealed, IsPlain, IsUntrusted, TrustedLetNothingDown, NoDocumentComesDown, NoChildComesDown, changes_a_level}
+use Rattle.bl_flow.proofs.LawsBelow.{ChildrenFollow, RulesMake, TrustStays}
 use Rattle.bl_flow.proofs.Lists.{got-within}
 
--- the policies have the same subjects and the same levels of documents
-record HasSameLevels (p q : SecurityPolicy) : Type 0 where
-  pub subjects : p.subjects ≡ q.subjects
-  pub documents : p.documents ≡ q.documents
-
--- a rule that changes no level leaves the levels
-levels-rule : (p : SecurityPolicy) (s : ℕ) (rule : Rule) → changes_a_level (Applies rule) ≡ false → HasSameLevels (after_rule p s rule) p
-levels-rule p s rule stays = go (rule_fault p s rule) rule stays
+-- a rule of who is not trusted leaves the documents' levels: `classify` is refused
+documents-rule : (p : SecurityPolicy) (s : ℕ) (rule : Rule) → is_trusted p s ≡ false → (after_rule p s rule).documents ≡ p.documents
+documents-rule p s rule untrusted = go rule (rule_fault p s rule) refl
   where
-    go : (f : Option Denial) (r : Rule) → changes_a_level (Applies r) ≡ false → HasSameLevels (unless_failed f (rule_makes p s r) p) p
-    go (Some d) r k = record { subjects = refl; documents = refl }
-    go None (Give t doc m) k = record { subjects = refl; documents = refl }
-    go None (Rescind t doc m) k = record { subjects = refl; documents = refl }
+    refused : (doc : ℕ) (level : SecurityLevel) (admin trusted : Bool) → trusted ≡ false
+        → option_map (refusal s (Classify doc level)) (cond admin (cond trusted None (Some failing.Trusted)) (Some failing.Admin)) ≡ None → ⊥
+    refused doc level true true t none = absurd (true≢false t)
+    refused doc level true false t none = cc
+    refused doc level false trusted t none = cc
+
+    go : (r : Rule) (f : Option Denial) → rule_fault p s r ≡ f → (unless_failed f (rule_makes p s r) p).documents ≡ p.documents
+    go r (Some d) is = refl
+    go (Give t doc m) None is = refl
+    go (Rescind t doc m) None is = refl
+    go (Current level) None is = refl
+    go (Classify doc level) None is = absurd (refused doc level (is_admin p s) (is_trusted p s) untrusted is)
+
+-- a rule that changes no level leaves what the policy has of its subjects
+subjects-rule : (p : SecurityPolicy) (s : ℕ) (rule : Rule) → changes_a_level (Applies rule) ≡ false → (after_rule p s rule).subjects ≡ p.subjects
+subjects-rule p s rule stays = go (rule_fault p s rule) rule stays
+  where
+    go : (f : Option Denial) (r : Rule) → changes_a_level (Applies r) ≡ false → (unless_failed f (rule_makes p s r) p).subjects ≡ p.subjects
+    go (Some d) r k = refl
+    go None (Give t doc m) k = refl
+    go None (Rescind t doc m) k = refl
     go None (Current level) k = absurd (true≢false k)
     go None (Classify doc level) k = absurd (true≢false k)
 
-module _ (children : ChildrenFollow) (rules : RulesMake) (h : History) (plain : IsPlain h) where
-  -- so does each task of a plain history
-  levels-step : (n : ℕ) → n < length h.order → HasSameLevels (policy_in h (suc n)) (policy_in h n)
-  levels-step n lt = go (place_in h n).task refl (h.lost n) refl (plain.levels_stay n lt)
+module _ (rules : RulesMake) (h : History) where
+  abbrev at : ℕ → Past
+  at = place_in h
+
+  -- what a place's rule leaves of the policy, the place leaves
+  left-by : {X : Type 0} (f : SecurityPolicy → X) (n : ℕ)
+      → ((rule : Rule) → (at n).task ≡ Applies rule → f (after_rule (policy_in h n) (at n).subject rule) ≡ f (policy_in h n))
+      → f (policy_in h (suc n)) ≡ f (policy_in h n)
+  left-by f n by_rule = go (at n).task refl (h.lost n) refl
     where
-      along : (q : SecurityPolicy) → policy_in h (suc n) ≡ q → HasSameLevels q (policy_in h n) → HasSameLevels (policy_in h (suc n)) (policy_in h n)
-      along q is same = record { subjects = ap (λ (r : SecurityPolicy). r.subjects) is ∙ same.subjects; documents = ap (λ (r : SecurityPolicy). r.documents) is ∙ same.documents }
+      go : (t : Task) → (at n).task ≡ t → (b : Bool) → h.lost n ≡ b → f (policy_in h (suc n)) ≡ f (policy_in h n)
+      go (Runs script index) is b gone = ap f ((rules h.setup h.lost h.order n).by_no_behaviour (ap is_rule is))
+      go (Applies rule) is true gone = ap f ((rules h.setup h.lost h.order n).by_none_lost gone)
+      go (Applies rule) is false gone = ap f ((rules h.setup h.lost h.order n).by_a_rule rule is gone) ∙ by_rule rule is
 
-      itself : HasSameLevels (policy_in h n) (policy_in h n)
-      itself = record { subjects = refl; documents = refl }
+  module _ (stays : TrustStays) where
+    -- nobody's trust ever changes
+    trust : (n s : ℕ) → is_trusted (policy_in h n) s ≡ is_trusted h.setup.policy s
+    trust zero s = refl
+    trust (suc n) s = left-by (λ q. is_trusted q s) n (λ rule is. stays (policy_in h n) (at n).subject s rule) ∙ trust n s
 
-      go : (t : Task) → (place_in h n).task ≡ t → (b : Bool) → h.lost n ≡ b → changes_a_level t ≡ false → HasSameLevels (policy_in h (suc n)) (policy_in h n)
-      go (Runs script index) is b gone k = along (policy_in h n) ((rules h.setup h.lost h.order n).by_no_behaviour (ap is_rule is)) itself
-      go (Applies rule) is true gone k = along (policy_in h n) ((rules h.setup h.lost h.order n).by_none_lost gone) itself
-      go (Applies rule) is false gone k =
-          along (after_rule (policy_in h n) (place_in h n).subject rule) ((rules h.setup h.lost h.order n).by_a_rule rule is gone)
-          (levels-rule (policy_in h n) (place_in h n).subject rule k)
+    module _ (untrusted : IsUntrusted h) (level : SecurityLevel) where
+      none-trusted : TrustedLetNothingDown level h
+      none-trusted n lt trusted done = absurd (true≢false (sym trusted ∙ trust n (at n).subject ∙ untrusted n lt))
 
-  -- the levels are the setup's at each place
-  levels : (n : ℕ) → n ≤ length h.order → HasSameLevels (policy_in h n) h.setup.policy
-  levels zero le = record { subjects = refl; documents = refl }
-  levels (suc n) le =
-      let step : HasSameLevels (policy_in h (suc n)) (policy_in h n) = levels-step n le in
-      let deeper : HasSameLevels (policy_in h n) h.setup.policy = levels n (omega arith) in
-      record { subjects = step.subjects ∙ deeper.subjects; documents = step.documents ∙ deeper.documents }
+      none-down : NoDocumentComesDown level h
+      none-down n doc lt low =
+          ap (λ (documents : List SecurityLevel). dominates level (slice_index_or documents doc lowest))
+          (sym (left-by (λ q. q.documents) n (λ rule is. documents-rule (policy_in h n) (at n).subject rule (trust n (at n).subject ∙ untrusted n lt))))
+          ∙ low
 
-  -- and so nothing is low that was not
-  pub plain-sealed : (level : SecurityLevel) → IsPossible h → IsSealed level h
-  plain-sealed level possible = record {
-    trusted = λ n lt trusted done.
-        absurd (true≢false (sym trusted ∙ ap (λ (subjects : List Clearance). (slice_index_or subjects (place_in h n).subject nobody).trusted) (levels n (omega arith)).subjects ∙ plain.untrusted n lt));
-    documents = λ n doc lt low. ap (λ (documents : List SecurityLevel). dominates level (slice_index_or documents doc lowest)) (sym (levels-step n lt).documents) ∙ low;
-    children = λ n parent which is low.
+      pub untrusted-sealed : h.setup.version ≡ Two → IsSealed level h
+      untrusted-sealed two = record { trusted = none-trusted; documents = none-down; children = λ one. absurd (one-or-two (sym one ∙ two)) }
+        where
+          one-or-two : One ≡ Two → ⊥
+          one-or-two same = cc
+
+  module _ (children : ChildrenFollow) (stays : TrustStays) (plain : IsPlain h) (level : SecurityLevel) where
+    -- the current levels are the setup's at each place
+    subjects : (n : ℕ) → n ≤ length h.order → (policy_in h n).subjects ≡ h.setup.policy.subjects
+    subjects zero le = refl
+    subjects (suc n) le =
+        left-by (λ q. q.subjects) n (λ rule is. subjects-rule (policy_in h n) (at n).subject rule (ap changes_a_level (sym is) ∙ plain.levels_stay n (omega (arith, le))))
+        ∙ subjects n (omega (arith, le))
+
+    -- in version 1 a place carries nothing
+    carries : h.setup.version ≡ One → (n : ℕ) → (at n).carried ≡ lowest
+    carries one n = ap (λ v. carried_of v (earlier h.setup h.lost h.order n) (get_or h.order n no_entry)) one
+
+    -- and so a child is low where its parent is
+    none-comes : IsPossible h → h.setup.version ≡ One → NoChildComesDown level h
+    none-comes possible one n parent which is low =
         let behind : parent < n = (possible.legal.placed n parent which is).behind in
         let within : n < length h.order = got-within h.order n (Child parent which) is in
-        ap (λ (subjects : List Clearance). speaks_at subjects (place_in h parent).subject) ((levels parent (omega arith)).subjects ∙ sym (levels n (omega arith)).subjects)
-        ∙ ap (speaks_at (policy_in h n).subjects) (sym (children h.setup h.lost h.order n parent which behind is).subject) ∙ low;
-  }
-    where
-      speaks_at : List Clearance → ℕ → Bool
-      speaks_at subjects s = dominates level (slice_index_or subjects s nobody).current
+        ap (λ q. low_at q (at parent).subject (at parent).carried) (subjects parent (omega (arith, behind, within)) ∙ sym (subjects n (omega (arith, within))))
+        ∙ ap (λ s. low_at (policy_in h n).subjects s (at parent).carried) (sym (children h.setup h.lost h.order n parent which behind is).subject)
+        ∙ ap (low_at (policy_in h n).subjects (at n).subject) (carries one parent ∙ sym (carries one n))
+        ∙ low
+      where
+        low_at : List Clearance → ℕ → SecurityLevel → Bool
+        low_at clearances s carried = dominates level (join_of (slice_index_or clearances s nobody).current carried)
+
+    pub plain-sealed : IsPossible h → IsSealed level h
+    plain-sealed possible = record {
+      trusted = none-trusted stays plain.untrusted level;
+      documents = none-down stays plain.untrusted level;
+      children = none-comes possible;
+    }

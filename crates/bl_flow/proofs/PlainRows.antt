@@ -1,7 +1,7 @@
 -- Plain histories: what is said in two of which the same is kept; and for each premise on the two, a pair that meets all others and
 -- is told otherwise.
 use Rattle.std.proofs.Common.{arith, lit<, lit≤, ap, inr, refl}
-use Rattle.std.specs.Prelude.{◌≡◌, false, List, [], ◌∷◌, Some, codes}
+use Rattle.std.specs.Prelude.{◌≡◌, ℕ, false, List, [], ◌∷◌, Some, codes}
 use Rattle.bl_policy.specs.Matrix.{triple}
 use Rattle.bl_policy.specs.Policy.{without_triple}
 use Rattle.bl_policy.specs.declared.access.Mode.TheVariants.{Read}
@@ -9,14 +9,15 @@ use Rattle.bl_policy.specs.declared.denial.Clause.TheVariants as failing
 use Rattle.bl_policy.specs.declared.denial.Denial.{Denial}
 use Rattle.bl_work.specs.declared.answer.Answer.TheVariants.{Done, Denied}
 use Rattle.bl_setup.specs.Setup.{Setup}
+use Rattle.bl_setup.specs.declared.version.Version.TheVariants.{Two}
 use Rattle.bl_order.specs.Headline.{IsReached}
 use Rattle.bl_order.specs.Machine.{State, Event, Opens, Admits, Starts, Ends, Loses, has_ended}
 use Rattle.bl_order.specs.Order.{Line, Child}
 use Rattle.bl_flow.specs.Flow.{TellTheSame}
 use Rattle.bl_flow.specs.Low.{AgreeLow, history_of, place_in}
 use Rattle.bl_flow.specs.Purge.{KeepTheSame, kept_entries, kept_unnamed, kept_losses}
-use Rattle.bl_flow.specs.Sealed.{IsPlain}
-use Rattle.bl_flow.proofs.Examples.{u, note, ann, bob, policy, with_texts, with_memo, memos-agree, shows_memo, shows_memo_is_readable, shows_note, shows_note_is_readable, sets_note, sets_note_is_readable, chooses, chooses_is_readable, rescinds_note, rescinds_note_is_readable, next_may_start, plain_by_tests, after, reached, first_shown}
+use Rattle.bl_flow.specs.Sealed.{IsPlain, IsUntrusted}
+use Rattle.bl_flow.proofs.Examples.{u, s, note, ann, bob, policy, with_texts, with_memo, memos-agree, shows_memo, shows_memo_is_readable, shows_note, shows_note_is_readable, sets_note, sets_note_is_readable, chooses, chooses_is_readable, comes_to_u, comes_to_u_is_readable, rescinds_note, rescinds_note_is_readable, next_may_start, untrusted_by_test, plain_by_tests, after, reached, first_shown}
 
 -- a trail leads to the state, and its history is plain, so that it is sealed at every level
 record IsReachedAndPlain (x : State) : Type 0 where
@@ -127,10 +128,10 @@ three-holds = record {
 
 -- the setups agree on what is low, and the same is kept of all three: what the law on states supposes is met
 one-two-agree : AgreeLow u one.setup two.setup
-one-two-agree = memos-agree false false
+one-two-agree = memos-agree Two false false u
 
 one-three-agree : AgreeLow u one.setup three.setup
-one-three-agree = memos-agree false false
+one-three-agree = memos-agree Two false false u
 
 one-two-alike : KeepTheSame u (history_of one) (history_of two)
 one-two-alike = record { entries = refl; losses = refl }
@@ -216,7 +217,7 @@ rescinded_later-holds = record {
 }
 
 rescinded-agree : AgreeLow u rescinded.setup rescinded_later.setup
-rescinded-agree = memos-agree false false
+rescinded-agree = memos-agree Two false false u
 
 rescinded-alike : KeepTheSame u (history_of rescinded) (history_of rescinded_later)
 rescinded-alike = record { entries = refl; losses = refl }
@@ -412,10 +413,97 @@ waiting-not_ended : has_ended waiting 0 ≡ false
 waiting-not_ended = refl
 
 waiting-agree : AgreeLow u shown.setup waiting.setup
-waiting-agree = memos-agree false false
+waiting-agree = memos-agree Two false false u
 
 waiting-alike : KeepTheSame u (history_of shown) (history_of waiting)
 waiting-alike = record { entries = refl; losses = refl }
 
 waiting-line : place_in (history_of shown) 0 ≡ place_in (history_of waiting) 0
 waiting-line = refl
+
+-- ---- a subject comes down, in version 2: no trusted subject speaks, so that the histories are sealed, though a rule changes a level.
+-- The child that the memo chose runs at u and carries s, so that it is not low; what bob says afterwards is.
+
+abbrev comes_down_and_shows : List Event
+comes_down_and_shows =
+    Opens bob ∷ Admits 0 1 chooses ∷ Admits 0 2 comes_to_u ∷ Starts 0 ∷ Ends 0 ∷ Admits 0 3 shows_note
+    ∷ Starts 1 ∷ Starts 2 ∷ Ends 2 ∷ Starts 3 ∷ Ends 3 ∷ []
+
+abbrev came_down : List ℕ → State
+came_down words = after (with_memo (policy false false s) words) comes_down_and_shows
+
+came_down-one : IsReached (came_down (codes "1"))
+came_down-one = reached (with_memo (policy false false s) (codes "1")) comes_down_and_shows (
+  (lit< tt, lit< tt),
+  (
+    (lit< tt, chooses_is_readable, lit< tt, lit< tt, lit≤ tt),
+    (
+      (lit< tt, comes_to_u_is_readable, lit< tt, lit< tt, lit≤ tt),
+      (
+        next_may_start _ 0 (lit< tt) refl refl,
+        (
+          refl,
+          (
+            (lit< tt, shows_note_is_readable, lit< tt, lit< tt, lit≤ tt),
+            (next_may_start _ 1 (lit< tt) refl refl, (next_may_start _ 2 (lit< tt) refl refl, (refl, (next_may_start _ 3 (lit< tt) refl refl, (refl, tt))))),
+          ),
+        ),
+      ),
+    ),
+  ),
+)
+
+came_down-two : IsReached (came_down (codes "2"))
+came_down-two = reached (with_memo (policy false false s) (codes "2")) comes_down_and_shows (
+  (lit< tt, lit< tt),
+  (
+    (lit< tt, chooses_is_readable, lit< tt, lit< tt, lit≤ tt),
+    (
+      (lit< tt, comes_to_u_is_readable, lit< tt, lit< tt, lit≤ tt),
+      (
+        next_may_start _ 0 (lit< tt) refl refl,
+        (
+          refl,
+          (
+            (lit< tt, shows_note_is_readable, lit< tt, lit< tt, lit≤ tt),
+            (next_may_start _ 1 (lit< tt) refl refl, (next_may_start _ 2 (lit< tt) refl refl, (refl, (next_may_start _ 3 (lit< tt) refl refl, (refl, tt))))),
+          ),
+        ),
+      ),
+    ),
+  ),
+)
+
+came_down-untrusted-one : IsUntrusted (history_of (came_down (codes "1")))
+came_down-untrusted-one = untrusted_by_test (history_of (came_down (codes "1"))) refl
+
+came_down-untrusted-two : IsUntrusted (history_of (came_down (codes "2")))
+came_down-untrusted-two = untrusted_by_test (history_of (came_down (codes "2"))) refl
+
+came_down-order : (came_down (codes "1")).order ≡ Line 0 1 bob chooses ∷ Line 0 2 bob comes_to_u ∷ Child 0 1 ∷ Line 0 3 bob shows_note ∷ []
+came_down-order = refl
+
+came_down-level : (place_in (history_of (came_down (codes "1"))) 2).level ≡ u
+came_down-level = refl
+
+came_down-carried : (place_in (history_of (came_down (codes "1"))) 2).carried ≡ s
+came_down-carried = refl
+
+came_down-kept : kept_entries u (history_of (came_down (codes "1"))) ≡ Line 0 2 bob comes_to_u ∷ Line 0 3 bob shows_note ∷ []
+came_down-kept = refl
+
+came_down-agree : AgreeLow u (came_down (codes "1")).setup (came_down (codes "2")).setup
+came_down-agree = memos-agree Two false false s
+
+came_down-alike : KeepTheSame u (history_of (came_down (codes "1"))) (history_of (came_down (codes "2")))
+came_down-alike = record { entries = refl; losses = refl }
+
+-- and so it is said: the rule and the line have one record in both
+came_down-rule : place_in (history_of (came_down (codes "1"))) 1 ≡ place_in (history_of (came_down (codes "2"))) 1
+came_down-rule = refl
+
+came_down-line : place_in (history_of (came_down (codes "1"))) 3 ≡ place_in (history_of (came_down (codes "2"))) 3
+came_down-line = refl
+
+came_down-shown : (place_in (history_of (came_down (codes "1"))) 3).answer ≡ Done (codes "n" ∷ [])
+came_down-shown = refl

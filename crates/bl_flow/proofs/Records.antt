@@ -2,7 +2,8 @@
 use Rattle.std.proofs.Common.{◌≡◌, ℕ, Bool, true, false, cond, List, [], refl, sym, ap, true≢false}
 use Rattle.std.specs.Prelude.{Option, Some, None, slice_get}
 use Rattle.std.proofs.lemmas.Option.{get_or_from_slice_get}
-use Rattle.bl_policy.specs.Policy.{SecurityPolicy}
+use Rattle.bl_level.specs.Level.{SecurityLevel}
+use Rattle.bl_policy.specs.Policy.{SecurityPolicy, current_of}
 use Rattle.bl_policy.specs.declared.denial.Denial.{Denial}
 use Rattle.bl_work.specs.Effects.{Effect}
 use Rattle.bl_work.specs.Modes.{KeepsModes, declares, observes}
@@ -15,17 +16,22 @@ use Rattle.bl_flow.specs.Low.{History, place_in}
 use Rattle.bl_flow.proofs.LawsBelow.{LawsBelow}
 
 -- the record of a task that the policy has this against
-abbrev recorded : ℕ → Task → Bool → Option Denial → List Effect → Past
-recorded u t b f es = record { subject = u; task = t; answer = answer_of b f t es; effects = only_if_done (answer_of b f t es) es }
+abbrev recorded : ℕ → SecurityLevel → SecurityLevel → Task → Bool → Option Denial → List Effect → Past
+recorded u l c t b f es =
+    record { subject = u; level = l; carried = c; task = t; answer = answer_of b f t es; effects = only_if_done (answer_of b f t es) es }
 
 -- the record of a task rests on what it would do only where it is done
-pub judged-alike : (b : Bool) (p : SecurityPolicy) (es fs : List Effect) (u : ℕ) (t : Task) → (is_done (judged b p es u t).answer ≡ true → es ≡ fs) → judged b p es u t ≡ judged b p fs u t
-judged-alike b p es fs u t same = go b (fault_of_task p u t) t same
+pub judged-alike : (b : Bool) (p : SecurityPolicy) (es fs : List Effect) (u : ℕ) (c : SecurityLevel) (t : Task)
+    → (is_done (judged b p es u c t).answer ≡ true → es ≡ fs) → judged b p es u c t ≡ judged b p fs u c t
+judged-alike b p es fs u c t same = go b (fault_of_task p u c t) t same
   where
-    go : (c : Bool) (f : Option Denial) (k : Task) → (is_done (answer_of c f k es) ≡ true → es ≡ fs) → recorded u k c f es ≡ recorded u k c f fs
+    at_levels : Task → Bool → Option Denial → List Effect → Past
+    at_levels = recorded u (current_of p u) c
+
+    go : (d : Bool) (f : Option Denial) (k : Task) → (is_done (answer_of d f k es) ≡ true → es ≡ fs) → at_levels k d f es ≡ at_levels k d f fs
     go true f k e = refl
     go false (Some d) k e = refl
-    go false None (Runs script index) e = ap (recorded u (Runs script index) false None) (e refl)
+    go false None (Runs script index) e = ap (at_levels (Runs script index) false None) (e refl)
     go false None (Applies rule) e = refl
 
 -- what is done had nothing held against it

@@ -23,7 +23,7 @@ stands-alone laws level h o possible sealed agree = record {
 
 -- a setup agrees with itself
 agree-itself : (level : SecurityLevel) (s : Setup) → AgreeLow level s s
-agree-itself level s = record { policy = refl; contents = λ doc h. refl }
+agree-itself level s = record { policy = refl; version = refl; contents = λ doc h. refl }
 
 -- the history of entries, of which these are lost
 abbrev of_entries : Setup → List Entry → List Bool → History

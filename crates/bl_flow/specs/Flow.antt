@@ -6,9 +6,9 @@ use Rattle.bl_flow.specs.Low.{History, place_in, policy_in, content_in, is_low_d
 use Rattle.bl_flow.specs.Purge.{is_kept, kept_before, purged}
 use Rattle.bl_flow.specs.Sealed.{IsPossible}
 
--- What is kept of a history is a history of its own, from a setup with any contents of the documents that are not low: it may come
--- about, each place that is kept has the record that it had (its subject, task, answer and effects), and at each place the policy
--- and the content of each low document are what they were.
+-- What is kept of a history is a history of its own, from a setup with any contents of the documents that are not low: it
+-- may come about, each place that is kept has the record that it had (its subject, levels, task, answer and effects), and at
+-- each place the policy and the content of each low document are what they were.
 pub record StandsAlone (level : SecurityLevel) (history : History) (setup : Setup) : Type 0 where
   pub possible : IsPossible (purged level history setup)
   pub places : (n : ℕ) → n < length history.order → IsTrue (is_kept level history n)

@@ -1,7 +1,7 @@
 -- What is low: what a level dominates.
 use Rattle.std.specs.Prelude.{◌≡◌, ℕ, Bool, IsTrue, List, [], slice_index_or}
-use Rattle.bl_level.specs.Level.{SecurityLevel, dominates}
-use Rattle.bl_policy.specs.Policy.{SecurityPolicy, current_of, level_of}
+use Rattle.bl_level.specs.Level.{SecurityLevel, dominates, join_of}
+use Rattle.bl_policy.specs.Policy.{SecurityPolicy, level_of}
 use Rattle.bl_setup.specs.Setup.{Setup}
 use Rattle.bl_order.specs.Machine.{State, is_lost}
 use Rattle.bl_order.specs.Order.{Entry}
@@ -29,20 +29,18 @@ content_in history doc n = content_before history.setup history.lost history.ord
 abbrev pub history_of : State → History
 history_of x = record { setup = x.setup; lost = is_lost x; order = x.order }
 
--- a subject is low where the level dominates its current level
-abbrev pub is_low_subject : SecurityLevel → SecurityPolicy → ℕ → Bool
-is_low_subject level policy subject = dominates level (current_of policy subject)
-
 -- a document is low where the level dominates the document's
 abbrev pub is_low_document : SecurityLevel → SecurityPolicy → ℕ → Bool
 is_low_document level policy doc = dominates level (level_of policy doc)
 
--- a place is low where its subject is, under the policy at the place
+-- a place is low where the level dominates the join of the level at which it runs (Bell and La Padula 1976, current level) and
+-- that which it carries (own choice)
 abbrev pub is_low_place : SecurityLevel → History → ℕ → Bool
-is_low_place level history n = is_low_subject level (policy_in history n) (place_in history n).subject
+is_low_place level history n = dominates level (join_of (place_in history n).level (place_in history n).carried)
 
--- the setups have one policy, and one content of each low document
+-- the setups have one policy, one version by which they are judged, and one content of each low document
 pub record AgreeLow (level : SecurityLevel) (setup other : Setup) : Type 0 where
   pub policy : other.policy ≡ setup.policy
+  pub version : other.version ≡ setup.version
   pub contents : (doc : ℕ) → IsTrue (is_low_document level setup.policy doc)
       → slice_index_or other.contents doc [] ≡ slice_index_or setup.contents doc []
