@@ -1,5 +1,5 @@
 -- What the end of a trail knows of its places says what was said at their starts and ends.
-use Rattle.std.proofs.Common.{◌≡◌, ◌≢◌, ℕ, ◌<◌, ◌≤◌, Bool, true, false, cond, ◌||◌, List, [], ◌∷◌, ◌++◌, length, refl, sym, ◌∙◌, ap, subst, inl, inr, arith, ◌⊎◌, length-append, true≢false}
+use Rattle.std.proofs.Common.{◌≡◌, ◌≢◌, ℕ, ◌<◌, ◌≤◌, Bool, true, false, cond, List, [], ◌∷◌, length, refl, sym, ◌∙◌, ap, subst, inl, inr, arith, ◌⊎◌, length-append, true≢false}
 use Rattle.std.specs.Prelude.{Option, Some, None, codes}
 use Rattle.bl_policy.specs.declared.denial.Denial.{Denial}
 use Rattle.bl_work.specs.Effects.{Effect}
@@ -8,7 +8,7 @@ use Rattle.bl_work.specs.declared.answer.Answer.{Answer}
 use Rattle.bl_work.specs.declared.answer.Answer.TheVariants.{Done, RuleDone, Denied, Lost}
 use Rattle.bl_setup.specs.Setup.{Setup}
 use Rattle.bl_order.specs.Order.{Entry, Line, Task, Runs, Applies}
-use Rattle.bl_order.specs.Past.{answer_of, content_of, deeds, earlier, fault_of_task, is_done, place, policy_of}
+use Rattle.bl_order.specs.Past.{Past, answer_of, content_of, deeds, earlier, fault_of_task, is_done, place, policy_of}
 use Rattle.bl_order.specs.Machine.{State, Event, Opens, Admits, Starts, Ends, Loses, Phase, Waiting, Running, Ended, Gone, IsTrail, MayStart, Needs, change, children_at, has_ended, is_gone, is_lost, is_over, is_running, is_waiting, past_at, phase_at, runs, session_at, state_after, with_phase}
 use Rattle.bl_order.proofs.Present.{lost-answer}
 use Rattle.bl_order.proofs.Sound.{IsSound}
@@ -138,8 +138,9 @@ not_lost false None (Applies rule) es kept h = absurd (cc)
 
 alive : (s : Setup) (l : ℕ → Bool) (A : List Entry) (n : ℕ) → l n ≡ false → (place s l A n).answer ≡ Lost → ⊥
 alive s l A n kept is =
-    not_lost (l n) (fault_of_task (policy_of s (earlier s l A n)) (place s l A n).subject (place s l A n).task) (place s l A n).task
-    (deeds (place s l A n).task (content_of s (earlier s l A n))) kept is
+    let past : Past = place s l A n in
+    not_lost (l n) (fault_of_task (policy_of s (earlier s l A n)) past.subject past.carried past.task) past.task
+    (deeds past.task (content_of s (earlier s l A n))) kept is
 
 -- what ends at its start says its answer
 says : (names : KnownNames) (a : Answer) → is_done a ≡ false → (a ≡ Lost → ⊥) → start_words names a ≡ words_text names (words_later (Some a))

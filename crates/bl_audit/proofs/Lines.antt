@@ -1,6 +1,6 @@
 -- The lines of an order, and those that events admit.
 use Rattle.std.proofs.Common.{◌≡◌, ℕ, zero, suc, ◌+◌, ◌<◌, ◌≤◌, List, [], ◌∷◌, ◌++◌, length, drop, refl, sym, ◌∙◌, ap, arith, append-nil, append_assoc, add-one}
-use Rattle.std.specs.Prelude.{Option, Some, None, option_and_then, slice_get}
+use Rattle.std.specs.Prelude.{Some, None, option_and_then, slice_get}
 use Rattle.bl_work.specs.declared.work.Work.{Work}
 use Rattle.bl_setup.specs.Setup.{Setup}
 use Rattle.bl_order.specs.Order.{Entry, Line, Child}

@@ -1,5 +1,5 @@
 -- What a core tells of answers.
-use Rattle.std.proofs.Common.{◌≡◌, ℕ, ◌<◌, Bool, true, false, cond, length, refl, sym, ◌∙◌, ap, subst, arith, true≢false}
+use Rattle.std.proofs.Common.{◌≡◌, ℕ, ◌<◌, Bool, true, false, cond, length, refl, sym, ◌∙◌, ap, arith, true≢false}
 use Rattle.std.specs.Prelude.{Option, Some, None, Result, Ok, Err, IfOk, IfSome, IsSome, IsTrue, ◌↔◌, option_copied}
 use Rattle.std.specs.Borrow.{Bor}
 use Rattle.bl_policy.specs.declared.denial.Denial.{Denial}

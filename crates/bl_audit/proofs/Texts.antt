@@ -1,5 +1,5 @@
 -- The line of each kind of event.
-use Rattle.std.proofs.Common.{◌≡◌, ℕ, ◌<◌, ◌^◌, List, [], ◌∷◌, ◌++◌, length, refl, sym, ◌∙◌, ap, subst, arith}
+use Rattle.std.proofs.Common.{◌≡◌, ℕ, ◌<◌, ◌^◌, List, [], ◌∷◌, ◌++◌, length, sym, ◌∙◌, ap, subst, arith}
 use Rattle.std.specs.Prelude.{codes, decimal, slice_index_or, true}
 use Rattle.bl_work.specs.declared.answer.Answer.{Answer}
 use Rattle.bl_work.specs.declared.asked.Line.TheVariants as line
@@ -7,15 +7,14 @@ use Rattle.bl_work.specs.declared.work.Work.{Work}
 use Rattle.bl_write.specs.CanonicalLine.{canonical_line}
 use Rattle.bl_setup.specs.Setup.{Setup}
 use Rattle.bl_setup.specs.Agreement.{Agree}
-use Rattle.bl_work.specs.Names.{KnownNames, AreNames}
-use Rattle.bl_order.specs.Machine.{State, Event, Opens, Admits, Starts, Ends, Loses, has_ended, past_at, runs}
+use Rattle.bl_work.specs.Names.{AreNames}
+use Rattle.bl_order.specs.Machine.{State, Event, Opens, Admits, Starts, Ends, Loses, has_ended, past_at}
 use Rattle.bl_order.proofs.Reached.{sound-reached}
 use Rattle.bl_hall.specs.Chronicle.{kept_of}
-use Rattle.bl_hall.specs.declared.event.Event as kept
 use Rattle.bl_hall.specs.declared.event.Event.TheVariants as kept_as
 use Rattle.bl_wire.specs.Replies.{answer_text}
 use Rattle.bl_wire.specs.Watch.{EndState, Puts}
-use Rattle.bl_trail.specs.EventText.{event_text, start_words}
+use Rattle.bl_trail.specs.EventText.{start_words}
 use Rattle.bl_trail.specs.StartWords.{NamesWords, words_text}
 use Rattle.bl_trail.specs.TrueText.{HasNoLf}
 use Rattle.bl_audit.specs.Comes.{Comes, HasLine, lines_from, words_later, works_in}

@@ -1,26 +1,27 @@
 -- A trail, event by event.
-use Rattle.std.proofs.Common.{◌≡◌, ℕ, zero, suc, ◌+◌, ◌<◌, ◌≤◌, ◌^◌, Bool, false, List, [], ◌∷◌, ◌++◌, length, take, drop, get_or, refl, sym, ◌∙◌, ap, subst, arith, append-nil, append_assoc, add-one, take_all}
-use Rattle.std.specs.Prelude.{Option, Result, Ok, Err, OnErr, codes, decimal, map}
+use Rattle.std.proofs.Common.{◌≡◌, ℕ, zero, suc, ◌+◌, ◌<◌, ◌≤◌, List, [], ◌∷◌, ◌++◌, length, take, drop, get_or, refl, sym, ◌∙◌, ap, subst, arith, append-nil, append_assoc, add-one, take_all}
+use Rattle.std.specs.Prelude.{Option, Result, Ok, Err, OnErr, codes, map}
 use Rattle.std.specs.List.{AllByRecursion}
 use Rattle.std.specs.Io.KnownBytes.{Appends}
 use Rattle.std.proofs.KnownBytes.{Appends-nil, Appends-trans}
 use Rattle.std.proofs.lemmas.List.{take-append-drop}
-use Rattle.bl_setup.specs.Setup.{Setup}
+use Rattle.bl_setup.specs.Setup.{by_version}
+use Rattle.bl_setup.specs.declared.version.Version.TheVariants.{Two}
 use Rattle.bl_order.specs.Headline.{IsReached}
 use Rattle.bl_order.specs.Machine.{State, Event, Opens, IsTrail, change, start, state_after}
 use Rattle.bl_order.proofs.Reached.{reached-first, reached-next}
 use Rattle.bl_hall.specs.Chronicle.{Chronicle, HasTrail, kept_of, state_now}
 use Rattle.bl_hall.specs.declared.event.Event as kept
-use Rattle.bl_hall.proofs.Recalling.{same-limit}
+use Rattle.bl_hall.proofs.Recalling.{same-limit, same-setup}
 use Rattle.bl_wire.specs.Watch.{EndState, Puts}
-use Rattle.bl_wire.proofs.PutLaws.{puts-all}
 use Rattle.bl_trail.specs.EventText.{event_text}
-use Rattle.bl_trail.specs.TrueText.{HasNoLf, IsLimit, IsTrueText, event_texts, head_lines, joined, trail_lines}
+use Rattle.bl_trail.specs.TrueText.{HasNoLf, IsLimit, IsTrueText, event_texts, head_lines, joined}
 use Rattle.bl_trail.proofs.Following.{all-append, joined-append}
+use Rattle.bl_trail.proofs.Heading.{version-plain}
 use Rattle.bl_audit.specs.Comes.{Comes, lines_from, works_in}
 use Rattle.bl_audit.specs.Written.{AppendsPart, WroteLine, trail_text}
 use Rattle.bl_audit.proofs.Lines.{lines-of-trail}
-use Rattle.bl_audit.proofs.WithoutLf.{plain-limit, plain-stop, plain-version}
+use Rattle.bl_audit.proofs.WithoutLf.{plain-limit, plain-stop}
 
 -- the event of a place in a trail, and those behind it
 abbrev pub event_at : List Event → ℕ → Event
@@ -145,55 +146,77 @@ module _ (h : Chronicle) where
       go x [] = refl
       go x (e ∷ es) = go (change x e) es ∙ same-limit x e
 
-  whole : trail_text h.setup h.limit h.trail ≡ joined (head_lines h.limit) ++ (joined (event_texts first h.trail) ++ codes "stop\n")
-  whole = joined-append (head_lines h.limit) (event_texts first h.trail ++ codes "stop" ∷ [])
-      ∙ ap (λ l. joined (head_lines h.limit) ++ l) (joined-append (event_texts first h.trail) (codes "stop" ∷ []))
+  pub setup-now : (state_now h).setup ≡ h.setup
+  setup-now = go first h.trail
+    where
+      go : (x : State) (es : List Event) → (state_after x es).setup ≡ x.setup
+      go x [] = refl
+      go x (e ∷ es) = go (change x e) es ∙ same-setup x e
 
-  pub wrote-whole : (a b c d : Option (List ℕ)) → Appends a b (joined (head_lines h.limit)) → Appends b c (joined (event_texts first h.trail)) → Appends c d (codes "stop\n")
-      → Appends a d (trail_text h.setup h.limit h.trail)
-  wrote-whole a b c d p q r =
-      subst (Appends a d) (sym whole)
-      (Appends-trans a b d (joined (head_lines h.limit)) (joined (event_texts first h.trail) ++ codes "stop\n") p (Appends-trans b c d (joined (event_texts first h.trail)) (codes "stop\n") q r))
+  -- ---- by version 2, which a setup that was read has
 
-  -- a first part of the head, of the events, or of the end
-  pub part-head : (a b : Option (List ℕ)) → AppendsPart a b (joined (head_lines h.limit)) → AppendsPart a b (trail_text h.setup h.limit h.trail)
-  part-head a b part = (
-    part.0,
-    part.1 ++ (joined (event_texts first h.trail) ++ codes "stop\n"),
-    part.2,
-    whole ∙ ap (λ l. l ++ (joined (event_texts first h.trail) ++ codes "stop\n")) part.3 ∙ append_assoc part.0 part.1 (joined (event_texts first h.trail) ++ codes "stop\n"),
-  )
+  module _ (two : h.setup.version ≡ Two) where
+    -- a run over a setup of version 2 is judged by it
+    begins : first ≡ start (by_version Two h.setup) h.limit
+    begins = ap (λ v. start (by_version v h.setup) h.limit) two
 
-  pub part-events : (a b c : Option (List ℕ)) → Appends a b (joined (head_lines h.limit)) → AppendsPart b c (joined (event_texts first h.trail)) → AppendsPart a c (trail_text h.setup h.limit h.trail)
-  part-events a b c p part = (
-    joined (head_lines h.limit) ++ part.0,
-    part.1 ++ codes "stop\n",
-    Appends-trans a b c (joined (head_lines h.limit)) part.0 p part.2,
-    whole ∙ ap (λ l. joined (head_lines h.limit) ++ (l ++ codes "stop\n")) part.3 ∙ ap (λ l. joined (head_lines h.limit) ++ l) (append_assoc part.0 part.1 (codes "stop\n"))
-        ∙ sym (append_assoc (joined (head_lines h.limit)) part.0 (part.1 ++ codes "stop\n")),
-  )
+    abbrev head : List ℕ
+    head = joined (head_lines Two h.limit)
 
-  pub part-stop : (a b c d : Option (List ℕ)) → Appends a b (joined (head_lines h.limit)) → Appends b c (joined (event_texts first h.trail)) → AppendsPart c d (codes "stop\n")
-      → AppendsPart a d (trail_text h.setup h.limit h.trail)
-  part-stop a b c d p q part = (
-    joined (head_lines h.limit) ++ (joined (event_texts first h.trail) ++ part.0),
-    part.1,
-    Appends-trans a b d (joined (head_lines h.limit)) (joined (event_texts first h.trail) ++ part.0) p (Appends-trans b c d (joined (event_texts first h.trail)) part.0 q part.2),
-    whole ∙ ap (λ l. joined (head_lines h.limit) ++ (joined (event_texts first h.trail) ++ l)) part.3
-        ∙ ap (λ l. joined (head_lines h.limit) ++ l) (sym (append_assoc (joined (event_texts first h.trail)) part.0 part.1))
-        ∙ sym (append_assoc (joined (head_lines h.limit)) (joined (event_texts first h.trail) ++ part.0) part.1),
-  )
+    whole : trail_text h.setup h.limit h.trail ≡ head ++ (joined (event_texts first h.trail) ++ codes "stop\n")
+    whole = ap (λ x. joined (head_lines Two h.limit ++ (event_texts x h.trail ++ codes "stop" ∷ []))) (sym begins)
+        ∙ joined-append (head_lines Two h.limit) (event_texts first h.trail ++ codes "stop" ∷ [])
+        ∙ ap (λ l. head ++ l) (joined-append (event_texts first h.trail) (codes "stop" ∷ []))
 
-  pub true-text : HasTrail h → AllByRecursion HasNoLf (event_texts first h.trail) → IsLimit h.limit → IsTrueText h.setup (trail_text h.setup h.limit h.trail) (length h.trail)
-  true-text trail plain limit = record {
-    limit = h.limit;
-    is_limit = limit;
-    events = h.trail;
-    steps = trail;
-    plain = (plain-version, (plain-limit h.limit (omega (arith, limit.1)), all-append HasNoLf (event_texts first h.trail) (codes "stop" ∷ []) plain (plain-stop, tt)));
-    is = refl;
-    counted = refl;
-  }
+    pub wrote-whole : (a b c d : Option (List ℕ)) → Appends a b head → Appends b c (joined (event_texts first h.trail)) → Appends c d (codes "stop\n")
+        → Appends a d (trail_text h.setup h.limit h.trail)
+    wrote-whole a b c d p q r =
+        subst (Appends a d) (sym whole)
+        (Appends-trans a b d head (joined (event_texts first h.trail) ++ codes "stop\n") p (Appends-trans b c d (joined (event_texts first h.trail)) (codes "stop\n") q r))
+
+    -- a first part of the head, of the events, or of the end
+    pub part-head : (a b : Option (List ℕ)) → AppendsPart a b head → AppendsPart a b (trail_text h.setup h.limit h.trail)
+    part-head a b part = (
+      part.0,
+      part.1 ++ (joined (event_texts first h.trail) ++ codes "stop\n"),
+      part.2,
+      whole ∙ ap (λ l. l ++ (joined (event_texts first h.trail) ++ codes "stop\n")) part.3 ∙ append_assoc part.0 part.1 (joined (event_texts first h.trail) ++ codes "stop\n"),
+    )
+
+    pub part-events : (a b c : Option (List ℕ)) → Appends a b head → AppendsPart b c (joined (event_texts first h.trail)) → AppendsPart a c (trail_text h.setup h.limit h.trail)
+    part-events a b c p part = (
+      head ++ part.0,
+      part.1 ++ codes "stop\n",
+      Appends-trans a b c head part.0 p part.2,
+      whole ∙ ap (λ l. head ++ (l ++ codes "stop\n")) part.3 ∙ ap (λ l. head ++ l) (append_assoc part.0 part.1 (codes "stop\n"))
+          ∙ sym (append_assoc head part.0 (part.1 ++ codes "stop\n")),
+    )
+
+    pub part-stop : (a b c d : Option (List ℕ)) → Appends a b head → Appends b c (joined (event_texts first h.trail)) → AppendsPart c d (codes "stop\n")
+        → AppendsPart a d (trail_text h.setup h.limit h.trail)
+    part-stop a b c d p q part = (
+      head ++ (joined (event_texts first h.trail) ++ part.0),
+      part.1,
+      Appends-trans a b d head (joined (event_texts first h.trail) ++ part.0) p (Appends-trans b c d (joined (event_texts first h.trail)) part.0 q part.2),
+      whole ∙ ap (λ l. head ++ (joined (event_texts first h.trail) ++ l)) part.3
+          ∙ ap (λ l. head ++ l) (sym (append_assoc (joined (event_texts first h.trail)) part.0 part.1))
+          ∙ sym (append_assoc head (joined (event_texts first h.trail) ++ part.0) part.1),
+    )
+
+    pub true-text : HasTrail h → AllByRecursion HasNoLf (event_texts first h.trail) → IsLimit h.limit → IsTrueText h.setup (trail_text h.setup h.limit h.trail) (length h.trail)
+    true-text trail plain limit = record {
+      version = Two;
+      limit = h.limit;
+      is_limit = limit;
+      events = h.trail;
+      steps = subst (λ x. IsTrail x h.trail) begins trail;
+      plain = (
+        version-plain Two,
+        (plain-limit h.limit (omega (arith, limit.1)), all-append HasNoLf _ (codes "stop" ∷ []) (subst (λ x. AllByRecursion HasNoLf (event_texts x h.trail)) begins plain) (plain-stop, tt)),
+      );
+      is = refl;
+      counted = refl;
+    }
 
 -- what was put is a first part
 pub part-put : (t : List ℕ) (x y : EndState) → Puts t x y → AppendsPart x.bytes y.bytes t

@@ -1,13 +1,12 @@
 -- Texts without an LF.
-use Rattle.std.proofs.Common.{◌≡◌, ◌≢◌, ℕ, zero, suc, ◌+◌, ◌<◌, ◌^◌, Bool, true, false, ◌&&◌, List, [], ◌∷◌, ◌++◌, length, refl, sym, ◌∙◌, ap, subst, arith, true≢false, take, get_or, lit<, append_assoc}
-use Rattle.std.specs.Prelude.{All, IsTrue, IfSome, Option, Some, None, codes, decimal, not, slice_index_or, ◌==◌}
+use Rattle.std.proofs.Common.{◌≡◌, ◌≢◌, ℕ, zero, suc, ◌<◌, ◌^◌, Bool, true, false, ◌&&◌, List, [], ◌∷◌, ◌++◌, length, refl, sym, ◌∙◌, ap, subst, arith, true≢false, take, get_or, lit<}
+use Rattle.std.specs.Prelude.{IsTrue, IfSome, Option, Some, None, codes, decimal, not, slice_index_or, ◌==◌}
 use Rattle.std.specs.List.{AllByRecursion, flat_map, list_all}
-use Rattle.std.proofs.Math.Seq.{take-suc}
 use Rattle.bl_level.specs.Lexing.{is_word_byte}
 use Rattle.bl_level.specs.Name.{IsName}
 use Rattle.bl_policy.specs.Denial.{word_of}
 use Rattle.bl_policy.specs.declared.denial.Clause.{Clause}
-use Rattle.bl_policy.specs.declared.denial.Clause.TheVariants.{Simple, Star, Discretionary, Admin, Trusted, Greatest}
+use Rattle.bl_policy.specs.declared.denial.Clause.TheVariants.{Simple, Star, Discretionary, Carry, Admin, Trusted, Greatest}
 use Rattle.bl_policy.specs.declared.denial.Denial.{Denial}
 use Rattle.bl_work.specs.Content.{is_content_byte}
 use Rattle.bl_work.specs.Names.{KnownNames, AreNames}
@@ -54,6 +53,7 @@ plain-word : (clause : Clause) → HasNoLf (word_of clause)
 plain-word Simple = literal (codes "simple") refl
 plain-word Star = literal (codes "star") refl
 plain-word Discretionary = literal (codes "discretionary") refl
+plain-word Carry = literal (codes "carry") refl
 plain-word Admin = literal (codes "admin") refl
 plain-word Trusted = literal (codes "trusted") refl
 plain-word Greatest = literal (codes "greatest") refl
@@ -120,9 +120,6 @@ plain-loss n lt = plain-append (codes "lost ") _ (literal (codes "lost ") refl) 
 
 pub plain-stop : HasNoLf (codes "stop")
 plain-stop = literal (codes "stop") refl
-
-pub plain-version : HasNoLf (codes "trail 1")
-plain-version = literal (codes "trail 1") refl
 
 pub plain-limit : (limit : ℕ) → limit < 2 ^ 32 → HasNoLf (codes "limit " ++ decimal limit)
 plain-limit limit lt = plain-append (codes "limit ") _ (literal (codes "limit ") refl) (plain-number limit lt)

@@ -2,6 +2,7 @@
 use Rattle.std.specs.Prelude.{◌≡◌, ℕ, Bool, true, false, List, [], ◌∷◌, ◌++◌, Option}
 use Rattle.std.specs.Io.KnownBytes.{Appends}
 use Rattle.bl_setup.specs.Setup.{Setup}
+use Rattle.bl_setup.specs.declared.version.Version.TheVariants.{Two}
 use Rattle.bl_order.specs.Machine.{State, Event}
 use Rattle.bl_trail.specs.EventText.{event_text}
 use Rattle.bl_trail.specs.TrueText.{HasNoLf, joined, trail_lines}
@@ -9,9 +10,9 @@ use Rattle.bl_audit.specs.Comes.{lines_from, works_in}
 use Rattle.bl_audit.specs.declared.event.TrailFault.{TrailFault}
 use Rattle.bl_audit.specs.declared.event.TrailFault.TheVariants.{Write, Memory}
 
--- the text of a trail and a limit
+-- the text of a trail and a limit; own choice: what is written is of version 2
 abbrev pub trail_text : Setup → ℕ → List Event → List ℕ
-trail_text setup limit events = joined (trail_lines setup limit events)
+trail_text setup limit events = joined (trail_lines Two setup limit events)
 
 -- a first part of the text was written
 abbrev pub AppendsPart : Option (List ℕ) → Option (List ℕ) → List ℕ → Type 0

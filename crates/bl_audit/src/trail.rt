@@ -42,8 +42,8 @@ fn put_events<W: Write>(
     Ok(())
 }
 
-/// Writes the trail of a hall as text: the version, the limit, a line for each event, and `stop`. The text is written piece by
-/// piece and handed on at its end; at most one line's work is kept meanwhile.
+/// Writes the trail of a hall as text: the version, which is 2, the limit, a line for each event, and `stop`. The text
+/// is written piece by piece and handed on at its end; at most one line's work is kept meanwhile.
 ///
 /// At a fault a first part of the text was written: `Write` comes only where the writer failed in this call, and `Memory` only
 /// where a growth was refused.
@@ -63,7 +63,8 @@ pub fn write_trail<W: Write>(
     ensures fault { IfErr result (λ fault. writer.new.failed ≡ is_write fault) }
 {
     true_texts_are_accepted();
-    put_head(writer, hall.core().limit());
+    let core = hall.core();
+    put_head(writer, core.setup().version(), core.limit());
     if writer.failed() {
         return Err(TrailFault::Write);
     }

@@ -21,7 +21,7 @@ use std::process::Abort;
 
 /// The trail of one read.
 const READ_ONE: &[u8] =
-    b"trail 1\nlimit 10000\nopen ann\nline 0 1 when read memo do show memo;end\nstart 0 run\nend 0 done \"m1\"\nstop\n";
+    b"trail 2\nlimit 10000\nopen ann\nline 0 1 when read memo do show memo;end\nstart 0 run\nend 0 done \"m1\"\nstop\n";
 
 /// Takes so many bytes, and then fails.
 #[derive(Drop)]

@@ -32,7 +32,7 @@ fn one_turn_through_the_gate(rt: HostRuntime) {
         &rt,
         &hall,
         4,
-        "trail 1\nlimit 10000\nopen ann\nline 0 1 when read memo do show memo;end\nstart 0 run\nend 0 done \"m1\"\nstop\n",
+        "trail 2\nlimit 10000\nopen ann\nline 0 1 when read memo do show memo;end\nstart 0 run\nend 0 done \"m1\"\nstop\n",
     );
     drop(hall);
 }
@@ -61,7 +61,7 @@ fn trail_of_later_child(rt: HostRuntime) {
         &rt,
         &hall,
         9,
-        "trail 1\nlimit 10000\nopen ann\n\
+        "trail 2\nlimit 10000\nopen ann\n\
 line 0 1 when write memo do add memo\"a\";spawn when read memo do show memo;end;end\n\
 line 0 2 when write memo do add memo\"b\";end\n\
 start 0 run\nend 0 done\nstart 1 run\nend 1 done\nstart 2 run\nend 2 done \"m1ab\"\nstop\n",
@@ -93,7 +93,7 @@ fn starts_are_told_as_they_were(rt: HostRuntime) {
         &rt,
         &hall,
         14,
-        "trail 1\nlimit 7\nopen ann\nopen bob\n\
+        "trail 2\nlimit 7\nopen ann\nopen bob\n\
 line 0 1 when write memo do add memo\"!\";end\n\
 line 1 1 when read memo do show memo;end\n\
 line 1 2 current s{nato}\n\
@@ -107,9 +107,38 @@ start 0 run\nend 0 done\nstart 1 denied star bob memo\nstart 2 rule\nstart 4 run
     drop(hall);
 }
 
+/// A child that carries the level at which its parent ran is denied what lies below it, and the trail says so.
+#[test]
+fn trail_of_a_carried_level(rt: HostRuntime) {
+    let mut hall = hall_for(&rt, 10_000, &[1]);
+    admit(&rt, &mut hall, 0, 1, b"current s{nato}");
+    admit(
+        &rt,
+        &mut hall,
+        0,
+        2,
+        b"when read memo do spawn when write note do add note \"x\"; end; end",
+    );
+    admit(&rt, &mut hall, 0, 3, b"current u");
+    run(&rt, &mut hall, 0);
+    run(&rt, &mut hall, 1);
+    run(&rt, &mut hall, 2);
+    run(&rt, &mut hall, 3);
+    assert_trail(
+        &rt,
+        &hall,
+        9,
+        "trail 2\nlimit 10000\nopen bob\nline 0 1 current s{nato}\n\
+line 0 2 when read memo do spawn when write note do add note\"x\";end;end\n\
+line 0 3 current u\nstart 0 rule\nstart 1 run\nend 1 done\nstart 2 rule\n\
+start 3 denied carry bob note\nstop\n",
+    );
+    drop(hall);
+}
+
 #[test]
 fn trail_of_nothing(rt: HostRuntime) {
     let hall = hall_for(&rt, 100_000, &[]);
-    assert_trail(&rt, &hall, 0, "trail 1\nlimit 100000\nstop\n");
+    assert_trail(&rt, &hall, 0, "trail 2\nlimit 100000\nstop\n");
     drop(hall);
 }

@@ -20,7 +20,7 @@ use Rattle.bl_order.specs.Order as orders
 use Rattle.bl_order.specs.Past.{no_entry, task_of, earlier, first_task, child_task}
 use Rattle.bl_queue.specs.Queues.{Queue}
 use Rattle.bl_queue.specs.Entries as queued
-use Rattle.bl_replay.specs.Keeps.{KeepsAt, session_in}
+use Rattle.bl_replay.specs.Keeps.{KeepsAt, session_in, setup_in}
 use Rattle.bl_replay.specs.Kept.{KnowsPlace, entry_in, no_place, phase_in, place_in, queued_as, task_in}
 use Rattle.bl_replay.specs.declared.place.Origin.TheVariants.{Line}
 use Rattle.bl_replay.specs.declared.place.Place.{Place}
@@ -56,7 +56,7 @@ known-cowns s w i cowns is known = subst (λ (m : ℕ). All (λ (a : Access). a.
     less a c q = omega (arith, q)
 
 pub record Admitted (r d : Replayer) (i o subject : ℕ) (w : Work) : Type 0 where
-  pub setup : d.setup ≡ r.setup
+  pub setup : setup_in d ≡ setup_in r
   pub limit : d.limit ≡ r.limit
   pub weight : d.weight ≡ r.weight + weight_of w
   pub marks : d.marks ≡ r.marks

@@ -23,7 +23,7 @@ use Rattle.bl_order.proofs.Trails.{past-ended}
 use Rattle.bl_queue.specs.Queues.{Queue}
 use Rattle.bl_queue.specs.Queues as queues
 use Rattle.bl_queue.specs.Entries as queued
-use Rattle.bl_replay.specs.Keeps.{KeepsAt, session_in}
+use Rattle.bl_replay.specs.Keeps.{KeepsAt, session_in, setup_in}
 use Rattle.bl_replay.specs.Kept.{KnowsPlace, child_places, entry_in, no_place, phase_in, place_in, queued_as, stand_of, task_in}
 use Rattle.bl_replay.specs.declared.place.Origin.TheVariants.{Child}
 use Rattle.bl_replay.specs.declared.place.Place.{Place}
@@ -95,7 +95,7 @@ child-again (works.Behaviour script) i b = refl
 child-again (works.Rule rule) i b = refl
 
 pub record Ended (r d : Replayer) (n : ℕ) (p : Place) (ks : List ℕ) : Type 0 where
-  pub setup : d.setup ≡ r.setup
+  pub setup : setup_in d ≡ setup_in r
   pub limit : d.limit ≡ r.limit
   pub weight : d.weight ≡ r.weight
   pub marks : d.marks ≡ r.marks

@@ -2,13 +2,17 @@
 use Rattle.std.proofs.Common.{◌≡◌, ℕ, zero, suc, ◌<◌, ◌≤◌, Bool, true, false, cond, ◌&&◌, not, List, [], ◌∷◌, length, map, take, get_or, refl, sym, ◌∙◌, ap, inl, inr, arith, ◌⊎◌, true≢false}
 use Rattle.std.specs.Prelude.{◌==◌, Option, Some, None, nat_lt, is_none}
 use Rattle.std.proofs.lemmas.Bool.Decides.{eqb_tells, nat_tests}
+use Rattle.bl_level.specs.Level.{SecurityLevel}
 use Rattle.bl_policy.specs.Policy.{SecurityPolicy}
 use Rattle.bl_policy.specs.FirstFault.{first_fault}
 use Rattle.bl_policy.specs.declared.denial.Denial.{Denial}
 use Rattle.bl_work.specs.Effects.{Effect}
+use Rattle.bl_work.specs.declared.work.Work.{Work}
 use Rattle.bl_setup.specs.Setup.{Setup}
+use Rattle.bl_setup.specs.declared.version.Version.{Version}
+use Rattle.bl_setup.specs.declared.version.Version.TheVariants.{One, Two}
 use Rattle.bl_order.specs.Order.{Entry, Line, Child, unnamed, Task, Runs, Applies, accesses_of, is_rule}
-use Rattle.bl_order.specs.Past.{Past, earlier, place, past_of, no_entry, is_done, subject_of, task_of, policy_of, deeds, content_of, answer_of, fault_of_task}
+use Rattle.bl_order.specs.Past.{Past, earlier, place, past_of, no_entry, is_done, subject_of, carried_of, task_of, policy_of, deeds, content_of, judged, answer_of, fault_of_task}
 use Rattle.bl_order.specs.Machine.{State, past_at, is_lost, has_ended}
 use Rattle.bl_order.specs.AtHand.{IsAtHand, RestsOnEndedPlaces}
 use Rattle.bl_monitor.specs.Heard.{Heard, place_at, heard_policy_at, fault_of}
@@ -19,8 +23,15 @@ use Rattle.bl_replay.specs.Marks.{AreForetold}
 
 -- ---- an order without its sessions and ordinals
 
+carried-unnamed : (v : Version) (h : List Past) (session ordinal subject : ℕ) (work : Work)
+    → carried_of v h (Line 0 0 subject work) ≡ carried_of v h (Line session ordinal subject work)
+carried-unnamed One h session ordinal subject work = refl
+carried-unnamed Two h session ordinal subject work = refl
+
 past-unnamed : (s : Setup) (lost : Bool) (h : List Past) (e : Entry) → past_of s lost h (unnamed e) ≡ past_of s lost h e
-past-unnamed s lost h (Line session ordinal subject work) = refl
+past-unnamed s lost h (Line session ordinal subject work) =
+    ap (λ c. judged lost (policy_of s h) (deeds (task_of h (Line 0 0 subject work)) (content_of s h)) subject c (task_of h (Line 0 0 subject work)))
+    (carried-unnamed s.version h session ordinal subject work)
 past-unnamed s lost h (Child parent which) = refl
 
 get-unnamed : (A : List Entry) (n : ℕ) → get_or (map unnamed A) n no_entry ≡ unnamed (get_or A n no_entry)
@@ -97,12 +108,12 @@ and_false true c h = ap not h
 and_false false c h = refl
 
 -- whether a task would run, by what the policy has against its accesses
-would_run : (f : Option Denial) (t : Task) (es : List Effect) (p : SecurityPolicy) (u : ℕ) → fault_of_task p u t ≡ f
-    → is_done (answer_of false f t es) ≡ (not (is_rule t) && is_none (first_fault p u (accesses_of t)))
-would_run (Some d) (Runs script index) es p u is = ap is_none (sym is)
-would_run None (Runs script index) es p u is = ap is_none (sym is)
-would_run (Some d) (Applies rule) es p u is = refl
-would_run None (Applies rule) es p u is = refl
+would_run : (f : Option Denial) (t : Task) (es : List Effect) (p : SecurityPolicy) (u : ℕ) (c : SecurityLevel) → fault_of_task p u c t ≡ f
+    → is_done (answer_of false f t es) ≡ (not (is_rule t) && is_none (first_fault p u c (accesses_of t)))
+would_run (Some d) (Runs script index) es p u c is = ap is_none (sym is)
+would_run None (Runs script index) es p u c is = ap is_none (sym is)
+would_run (Some d) (Applies rule) es p u c is = refl
+would_run None (Applies rule) es p u c is = refl
 
 module _ (x : State) (rests : RestsOnEndedPlaces x) (marks : ℕ → Bool) (foretold : AreForetold marks x) (h : Heard) (told : IsTold x.setup marks (map unnamed x.order) h)
     (n : ℕ) (within : n < length h.order) (hand : IsAtHand x n) where
@@ -140,19 +151,22 @@ module _ (x : State) (rests : RestsOnEndedPlaces x) (marks : ℕ → Bool) (fore
     pub told-task : (place_at h n).task ≡ (past_at x n).task
     told-task = ap (λ p. p.task) (told-place x.setup marks x.order h told n within) ∙ sym (ap (λ p. p.task) now)
 
-    told-fault : fault_of h n ≡ first_fault (policy_of x.setup before) (subject_of before entry) (accesses_of (task_of before entry))
-    unfolding before entry
+    carried : SecurityLevel
+    carried = carried_of x.setup.version before entry
+
+    told-fault : fault_of h n ≡ first_fault (policy_of x.setup before) (subject_of before entry) carried (accesses_of (task_of before entry))
+    unfolding before entry carried
     told-fault =
-        ap (λ b. cond b (first_fault (heard_policy_at h n) (place_at h n).subject (accesses_of (place_at h n).task)) None) (below n (length h.order) within)
-        ∙ ap (λ (p : Past). first_fault (heard_policy_at h n) p.subject (accesses_of p.task)) (told-place x.setup marks x.order h told n within)
-        ∙ ap (λ (s : Setup). first_fault (policy_of s (earlier h.setup (heard.is_lost h) h.order n)) (subject_of before entry) (accesses_of (task_of before entry))) told.setup_is
-        ∙ ap (λ p. first_fault (policy_of x.setup p) (subject_of before entry) (accesses_of (task_of before entry))) (told-earlier x.setup marks x.order h told n within)
+        ap (λ b. cond b (first_fault (heard_policy_at h n) (place_at h n).subject (place_at h n).carried (accesses_of (place_at h n).task)) None) (below n (length h.order) within)
+        ∙ ap (λ (p : Past). first_fault (heard_policy_at h n) p.subject p.carried (accesses_of p.task)) (told-place x.setup marks x.order h told n within)
+        ∙ ap (λ (s : Setup). first_fault (policy_of s (earlier h.setup (heard.is_lost h) h.order n)) (subject_of before entry) carried (accesses_of (task_of before entry))) told.setup_is
+        ∙ ap (λ p. first_fault (policy_of x.setup p) (subject_of before entry) carried (accesses_of (task_of before entry))) (told-earlier x.setup marks x.order h told n within)
 
     pub runs-now : is_done (past_at x n).answer ≡ (not (is_rule (past_at x n).task) && is_none (fault_of h n))
-    unfolding before entry
+    unfolding before entry carried
     runs-now =
         ap (λ p. is_done p.answer) now
-        ∙ would_run (fault_of_task (policy_of x.setup before) (subject_of before entry) (task_of before entry)) (task_of before entry)
-        (deeds (task_of before entry) (content_of x.setup before)) (policy_of x.setup before) (subject_of before entry) refl
+        ∙ would_run (fault_of_task (policy_of x.setup before) (subject_of before entry) carried (task_of before entry)) (task_of before entry)
+        (deeds (task_of before entry) (content_of x.setup before)) (policy_of x.setup before) (subject_of before entry) carried refl
         ∙ ap (λ f. not (is_rule (task_of before entry)) && is_none f) (sym told-fault)
         ∙ ap (λ (t : Task). not (is_rule t) && is_none (fault_of h n)) (sym (ap (λ p. p.task) now))

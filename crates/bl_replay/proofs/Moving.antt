@@ -10,7 +10,7 @@ use Rattle.bl_order.specs.Machine.{State, Event, Needs, change, past_at, entry_w
 use Rattle.bl_order.specs.Order.{Entry, unnamed}
 use Rattle.bl_monitor.specs.Heard.{Heard}
 use Rattle.bl_replay.specs.Fed.{IsFed}
-use Rattle.bl_replay.specs.Keeps.{KeepsAt, session_in}
+use Rattle.bl_replay.specs.Keeps.{KeepsAt, session_in, setup_in}
 use Rattle.bl_replay.specs.Kept.{KnowsPlace, entry_in, phase_in, place_in, queued_as, task_in}
 use Rattle.bl_replay.specs.Marks.{lost_later}
 use Rattle.bl_replay.specs.declared.replayer.Replayer.{Replayer}
@@ -43,7 +43,7 @@ many-places x r k = sym (length-map x.order unnamed) ∙ ap length k.order ∙ l
 pub record Moved (x : State) (e : Event) (r d : Replayer) : Type 0 where
   pub setup_stays : (change x e).setup ≡ x.setup
   pub limit_stays : (change x e).limit ≡ x.limit
-  pub setup : d.setup ≡ r.setup
+  pub setup : setup_in d ≡ setup_in r
   pub limit : d.limit ≡ r.limit
   pub marks : d.marks ≡ r.marks
   pub monitor : d.monitor ≡ r.monitor

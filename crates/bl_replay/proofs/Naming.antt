@@ -5,7 +5,8 @@ use Rattle.bl_policy.specs.declared.denial.Denial.{Denial}
 use Rattle.bl_work.specs.declared.answer.Answer.{Answer}
 use Rattle.bl_work.specs.declared.answer.Answer.TheVariants as answer
 use Rattle.bl_setup.specs.Agreement.{Agree}
-use Rattle.bl_setup.specs.Setup.{Setup}
+use Rattle.bl_setup.specs.Setup.{Setup, by_version}
+use Rattle.bl_setup.specs.declared.version.Version.{Version}
 use Rattle.bl_order.specs.Known.{KnowsAnswer, KnowsDenial}
 use Rattle.bl_wire.specs.Named.{NamesAnswer, NamesDenial}
 use Rattle.bl_trail.specs.StartWords.{NamesWords}
@@ -30,3 +31,10 @@ pub names-words : (s : Setup) → Agree s → (w : Words) → KnowsWords s w →
 names-words s agree said.Run k = tt
 names-words s agree said.Rule k = tt
 names-words s agree (said.Denied d) k = names-denial s agree d k
+
+-- what is in a setup is in it by whatever version
+pub knows-by : (v : Version) (s : Setup) (o : Option Words) → IfSome o (KnowsWords (by_version v s)) → IfSome o (KnowsWords s)
+knows-by v s None k = k
+knows-by v s (Some said.Run) k = k
+knows-by v s (Some said.Rule) k = k
+knows-by v s (Some (said.Denied d)) k = record { subject = k.subject; object = k.object }

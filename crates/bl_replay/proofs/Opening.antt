@@ -6,7 +6,7 @@ use Rattle.std.proofs.lemmas.List.Elements.{All-push}
 use Rattle.bl_order.specs.Headline.{IsReached}
 use Rattle.bl_order.specs.Machine.{State, Event, Opens, Needs, change}
 use Rattle.bl_order.specs.Machine as machine
-use Rattle.bl_replay.specs.Keeps.{KeepsAt, session_in}
+use Rattle.bl_replay.specs.Keeps.{KeepsAt, session_in, setup_in}
 use Rattle.bl_replay.specs.Kept.{KnowsPlace, entry_in, phase_in, place_in, queued_as, task_in}
 use Rattle.bl_replay.specs.declared.replayer.Replayer.{Replayer}
 use Rattle.bl_replay.specs.declared.replayer.Session.{Session}
@@ -17,7 +17,7 @@ append-nil [] = refl
 append-nil (x ∷ xs) = ap (λ l. x ∷ l) (append-nil xs)
 
 pub record Opened (r d : Replayer) (subject : ℕ) : Type 0 where
-  pub setup : d.setup ≡ r.setup
+  pub setup : setup_in d ≡ setup_in r
   pub limit : d.limit ≡ r.limit
   pub weight : d.weight ≡ r.weight
   pub marks : d.marks ≡ r.marks

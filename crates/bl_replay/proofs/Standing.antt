@@ -8,7 +8,7 @@ use Rattle.bl_order.specs.Machine.{State, Event, Needs, Phase, change, entry_wei
 use Rattle.bl_order.specs.Order.{unnamed}
 use Rattle.bl_queue.specs.Entries as queued
 use Rattle.bl_queue.specs.Queues as queues
-use Rattle.bl_replay.specs.Keeps.{KeepsAt, session_in}
+use Rattle.bl_replay.specs.Keeps.{KeepsAt, session_in, setup_in}
 use Rattle.bl_replay.specs.Kept.{KnowsPlace, entry_by, entry_in, no_place, phase_in, phase_of, place_in, queue_claims, queued_as, stand_of, task_in}
 use Rattle.bl_replay.specs.declared.place.Place.{Place}
 use Rattle.bl_replay.specs.declared.place.Stand.{Stand}
@@ -64,7 +64,7 @@ module _ (P : List Place) (n : ℕ) (p : Place) (s : Stand) (lt : n < length P) 
 
 -- what is kept after
 pub record Stood (r d : Replayer) (n : ℕ) (p : Place) (s : Stand) : Type 0 where
-  pub setup : d.setup ≡ r.setup
+  pub setup : setup_in d ≡ setup_in r
   pub limit : d.limit ≡ r.limit
   pub weight : d.weight ≡ r.weight
   pub marks : d.marks ≡ r.marks

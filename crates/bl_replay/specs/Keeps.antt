@@ -1,6 +1,7 @@
 -- What is kept of the events so far, at the state that they lead to.
 use Rattle.std.specs.Prelude.{◌≡◌, ℕ, ◌+◌, ◌<◌, ◌≤◌, All, List, ◌∷◌, ◌++◌, length, map, sum_by}
 use Rattle.bl_setup.specs.Agreement.{Agree}
+use Rattle.bl_setup.specs.Setup.{Setup, by_version}
 use Rattle.bl_order.specs.Headline.{IsReached}
 use Rattle.bl_order.specs.Machine.{State, Event, Needs, change, past_at, entry_weight}
 use Rattle.bl_order.specs.Machine as machine
@@ -16,11 +17,15 @@ use Rattle.bl_replay.specs.declared.replayer.Session.{Session}
 abbrev pub session_in : Session → machine.Session
 session_in s = record { subject = s.subject; last = s.last }
 
+-- the setup of the run, which is judged by the version that is kept
+abbrev pub setup_in : Replayer → Setup
+setup_in r = by_version r.version r.setup
+
 -- what is kept is that of a state that a trail leads to, and the monitor was told the first entries of its order
 pub record KeepsAt (x : State) (r : Replayer) : Type 0 where
   pub reached : IsReached x
   pub agree : Agree x.setup
-  pub setup : r.setup ≡ x.setup
+  pub setup : setup_in r ≡ x.setup
   pub limit : r.limit ≡ x.limit
   pub low : x.limit ≤ 100000
   pub sessions : x.sessions ≡ map session_in r.sessions.items

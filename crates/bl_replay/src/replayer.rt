@@ -16,6 +16,7 @@ use bl_policy::id::SubjectId;
 use bl_queue::claim::Claim;
 use bl_queue::queues::Queues;
 use bl_setup::setup::Setup;
+use bl_setup::version::Version;
 use bl_trail::ask::{Ask, ask_of};
 use bl_trail::follow::Follows;
 use bl_trail::text::{Words, end_text, line_text, loss_text, open_text, start_text};
@@ -39,6 +40,8 @@ pub struct Session {
 pub struct Replayer {
     pub alloc: Global,
     pub setup: Setup,
+    /// The version by which the run is judged, whatever the setup says by itself.
+    pub version: Version,
     pub limit: u32,
     pub weight: u32,
     pub sessions: Vec<Session>,

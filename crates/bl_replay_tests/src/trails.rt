@@ -40,6 +40,14 @@ fn replay_with_child(rt: HostRuntime) -> Result<(), Fail> {
         &rt,
         &[
             (LATER_CHILD, Accepted(9)),
+            // the child speaks at its parent's level, so it may do by either version what it does
+            (
+                "trail 2\nlimit 10000\nopen ann\n\
+line 0 1 when write memo do add memo\"a\";spawn when read memo do show memo;end;end\n\
+line 0 2 when write memo do add memo\"b\";end\n\
+start 0 run\nend 0 done\nstart 1 run\nend 1 done\nstart 2 run\nend 2 done \"m1ab\"\nstop\n",
+                Accepted(9),
+            ),
             (
                 "trail 1\nlimit 10000\nopen ann\n\
 line 0 1 when write memo do add memo\"a\";spawn when read memo do show memo;end;end\n\
@@ -47,6 +55,66 @@ line 0 2 when write memo do add memo\"b\";end\n\
 start 0 run\nstart 1 run\nstart 1 run\nend 1 done\nstart 2 run\nend 2 done \"m1ab\"\nstop\n",
                 Rejected(7),
             ),
+        ],
+    )
+}
+
+/// bob reads the memo at its level, and its child starts when bob's current level is low again.
+#[test]
+fn replay_by_version(rt: HostRuntime) -> Result<(), Fail> {
+    assert_verdicts(
+        &rt,
+        &[
+            // by version 1 the child carries nothing
+            (
+                "trail 1\nlimit 10000\nopen bob\nline 0 1 current s{nato}\n\
+line 0 2 when read memo do spawn when write note do add note\"x\";end;end\n\
+line 0 3 current u\nstart 0 rule\nstart 1 run\nend 1 done\nstart 2 rule\n\
+start 3 run\nend 3 done\nstop\n",
+                Accepted(10),
+            ),
+            // by version 2 it carries the level at which its parent ran
+            (
+                "trail 2\nlimit 10000\nopen bob\nline 0 1 current s{nato}\n\
+line 0 2 when read memo do spawn when write note do add note\"x\";end;end\n\
+line 0 3 current u\nstart 0 rule\nstart 1 run\nend 1 done\nstart 2 rule\n\
+start 3 run\nend 3 done\nstop\n",
+                Rejected(11),
+            ),
+            (
+                "trail 2\nlimit 10000\nopen bob\nline 0 1 current s{nato}\n\
+line 0 2 when read memo do spawn when write note do add note\"x\";end;end\n\
+line 0 3 current u\nstart 0 rule\nstart 1 run\nend 1 done\nstart 2 rule\n\
+start 3 denied carry bob note\nstop\n",
+                Accepted(9),
+            ),
+            (
+                "trail 1\nlimit 10000\nopen bob\nline 0 1 current s{nato}\n\
+line 0 2 when read memo do spawn when write note do add note\"x\";end;end\n\
+line 0 3 current u\nstart 0 rule\nstart 1 run\nend 1 done\nstart 2 rule\n\
+start 3 denied carry bob note\nstop\n",
+                Rejected(11),
+            ),
+        ],
+    )
+}
+
+/// A first line that names no version is the first line that is not right.
+#[test]
+fn there_are_two_versions(rt: HostRuntime) -> Result<(), Fail> {
+    assert_verdicts(
+        &rt,
+        &[
+            ("trail 1\nlimit 1\nstop\n", Accepted(0)),
+            ("trail 2\nlimit 1\nstop\n", Accepted(0)),
+            ("trail 0\nlimit 1\nstop\n", Rejected(1)),
+            ("trail 3\nlimit 1\nstop\n", Rejected(1)),
+            ("trail 02\nlimit 1\nstop\n", Rejected(1)),
+            ("trail 12\nlimit 1\nstop\n", Rejected(1)),
+            ("trail \nlimit 1\nstop\n", Rejected(1)),
+            ("trail\nlimit 1\nstop\n", Rejected(1)),
+            ("trail 2", Rejected(1)),
+            ("trail 2\n", Rejected(2)),
         ],
     )
 }

@@ -9,12 +9,14 @@ use Rattle.bl_policy.specs.declared.access.Mode.{Mode}
 use Rattle.bl_policy.specs.declared.access.Mode.TheVariants.{Read, Write}
 use Rattle.bl_policy.specs.declared.denial.Clause.{Clause}
 use Rattle.bl_policy.specs.declared.rule.Rule.{Rule}
+use Rattle.bl_policy.specs.declared.rule.Rule.TheVariants.{Current}
 use Rattle.bl_work.specs.Statements.{Statements, Part, Nothing, Show, Add, Spawn}
 use Rattle.bl_work.specs.declared.work.Work.{Work}
 use Rattle.bl_work.specs.declared.work.Work.TheVariants as work
 use Rattle.bl_work.specs.declared.answer.Answer.{Answer}
 use Rattle.bl_work.specs.declared.answer.Answer.TheVariants.{Denied}
 use Rattle.bl_setup.specs.Setup.{Setup}
+use Rattle.bl_setup.specs.declared.version.Version.TheVariants.{Two}
 use Rattle.bl_order.specs.Order.{Entry, Line}
 use Rattle.bl_order.specs.Past.{place}
 use Rattle.bl_order.specs.Machine.{Event, Opens, Admits, Starts, Ends}
@@ -107,7 +109,7 @@ allowed_all =
     root note (modes 5)
 
 abbrev pub base : Setup
-base = record { names = names; policy = allowed_all; contents = m1 ∷ n1 ∷ [] ∷ [] }
+base = record { names = names; policy = allowed_all; contents = m1 ∷ n1 ∷ [] ∷ []; version = Two }
 
 -- base, and behind it `subject dan greatest u current u admin`
 abbrev pub with_dan : Setup
@@ -115,6 +117,7 @@ with_dan = record {
   names = record names { subjects = codes "ann" ∷ codes "bob" ∷ codes "cat" ∷ codes "root" ∷ codes "dan" ∷ [] };
   policy = with_subject allowed_all (record { greatest = u; current = u; trusted = false; admin = true });
   contents = m1 ∷ n1 ∷ [] ∷ [];
+  version = Two;
 }
 
 abbrev pub access : Mode → ℕ → Access
@@ -169,3 +172,15 @@ adds_b = when (access Write memo ∷ []) (Add memo (98 ∷ []) Nothing)
 
 abbrev pub later_child : List Event
 later_child = Opens ann ∷ Admits 0 1 adds_a ∷ Admits 0 2 adds_b ∷ Starts 0 ∷ Ends 0 ∷ Starts 1 ∷ Ends 1 ∷ Starts 2 ∷ Ends 2 ∷ []
+
+-- a line that reads the memo and spawns a child that adds `x` to the note
+abbrev pub reads_then_adds : Work
+reads_then_adds =
+    work.Behaviour (
+    behaves (access Read memo ∷ []) (Spawn 1 Nothing) ∷ behaves (access Write note ∷ []) (Add note (120 ∷ []) Nothing) ∷ [])
+
+-- bob reads the memo at its level, and the child of that line starts when bob's current level is low again
+abbrev pub carried_level : List Event
+carried_level =
+    Opens bob ∷ Admits 0 1 (work.Rule (Current s_nato)) ∷ Admits 0 2 reads_then_adds ∷ Admits 0 3 (work.Rule (Current u)) ∷ Starts 0
+    ∷ Starts 1 ∷ Ends 1 ∷ Starts 2 ∷ Starts 3 ∷ []

@@ -1,7 +1,7 @@
 -- Texts that are put into memory.
 use Rattle.std.proofs.Common.{◌≡◌, ℕ, Bool, false, List, [], ◌++◌, refl, sym, subst, ◌∙◌}
 use Rattle.std.specs.Prelude.{Some}
-use Rattle.bl_wire.specs.Watch.{EndState, Puts}
+use Rattle.bl_wire.specs.Watch.{Puts}
 use Rattle.bl_wire.proofs.PutLaws.{puts-all}
 
 -- all of a text was put into memory that held nothing

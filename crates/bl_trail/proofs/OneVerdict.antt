@@ -48,13 +48,13 @@ some_lf (b ∷ l) a h = some_lf l a h.1
 pub one-verdict : (setup : Setup) (text : List ℕ) (n k : ℕ) → IsTrueText setup text n → FirstWrong setup text k → ⊥
 one-verdict setup text n k true_text wrong = go s.more s.lines s.rest s.plain wrong.wrong
   where
-    s : Splits (trail_lines setup true_text.limit true_text.events) wrong.before wrong.behind
-    s = splits (trail_lines setup true_text.limit true_text.events) wrong.before wrong.behind true_text.plain wrong.whole (sym true_text.is ∙ wrong.split)
+    s : Splits (trail_lines true_text.version setup true_text.limit true_text.events) wrong.before wrong.behind
+    s = splits (trail_lines true_text.version setup true_text.limit true_text.events) wrong.before wrong.behind true_text.plain wrong.whole (sym true_text.is ∙ wrong.split)
 
-    on : (lines more : List (List ℕ)) → trail_lines setup true_text.limit true_text.events ≡ lines ++ more → GoesOn setup lines more
-    on lines more is = record { limit = true_text.limit; is_limit = true_text.is_limit; events = true_text.events; steps = true_text.steps; is = is }
+    on : (lines more : List (List ℕ)) → trail_lines true_text.version setup true_text.limit true_text.events ≡ lines ++ more → GoesOn setup lines more
+    on lines more is = record { version = true_text.version; limit = true_text.limit; is_limit = true_text.is_limit; events = true_text.events; steps = true_text.steps; is = is }
 
-    go : (more : List (List ℕ)) → trail_lines setup true_text.limit true_text.events ≡ wrong.before ++ more → wrong.behind ≡ joined more → AllByRecursion (HasNo 10) more
+    go : (more : List (List ℕ)) → trail_lines true_text.version setup true_text.limit true_text.events ≡ wrong.before ++ more → wrong.behind ≡ joined more → AllByRecursion (HasNo 10) more
         → IsWrong setup wrong.before wrong.behind → ⊥
     go [] lines rest plain (inl t) = t.1 rest (on wrong.before [] lines)
     go (m ∷ more) lines rest plain (inl t) = some_lf m (joined more ++ []) (subst (HasNo 10) (rest ∙ sym (append-nil (joined (m ∷ more))) ∙ regroup m more []) t.0)

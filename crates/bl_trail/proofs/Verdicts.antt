@@ -4,16 +4,19 @@ use Rattle.std.specs.Prelude.{codes, decimal}
 use Rattle.std.specs.List.{AllByRecursion}
 use Rattle.std.proofs.lemmas.Fmt.{decimal_injective}
 use Rattle.bl_setup.specs.Agreement.{Agree}
-use Rattle.bl_setup.specs.Setup.{Setup}
+use Rattle.bl_setup.specs.Setup.{Setup, by_version}
+use Rattle.bl_setup.specs.declared.version.Version.{Version}
+use Rattle.bl_setup.specs.declared.version.Version.TheVariants.{One, Two}
 use Rattle.bl_order.specs.Machine.{State, Event, Opens, Admits, Starts, Ends, Loses, IsTrail, change, state_after, start}
 use Rattle.bl_trail.specs.Asks.{HasNo}
 use Rattle.bl_trail.specs.OneEvent.{Reads, IsSmall, AreSmall}
-use Rattle.bl_trail.specs.TrueText.{IsLimit, event_texts, head_lines, trail_lines, joined, GoesOn, AreRight, IsWrong, IsTrueText, FirstWrong}
+use Rattle.bl_trail.specs.TrueText.{IsLimit, event_texts, head_lines, version_line, trail_lines, joined, GoesOn, AreRight, IsWrong, IsTrueText, FirstWrong}
 use Rattle.bl_trail.specs.Follow.{Followed, IsNoEvent, IsNotNext, IsMore, IsFollowed, IsVerdict}
 use Rattle.bl_trail.specs.declared.verdict.Verdict.{Verdict}
 use Rattle.bl_trail.specs.declared.verdict.Verdict.TheVariants.{Accepted, Rejected}
 use Rattle.bl_trail.proofs.Following.{joined-append, all-append}
-use Rattle.bl_trail.proofs.OneEventLaw.{one_event, not_stop, decimal-has_no}
+use Rattle.bl_trail.proofs.Heading.{version-plain}
+use Rattle.bl_trail.proofs.OneEventLaw.{one_event, not_stop, decimal-has_no, told_apart}
 
 abbrev pub stop : List ℕ
 stop = codes "stop"
@@ -61,23 +64,40 @@ walk x (e ∷ es) (f ∷ fs) tail plain small steps others h =
     (subst (λ d. IsTrail (change x d) fs) same others.1)
     (ap (λ d. event_texts (change x d) fs ++ stop ∷ []) (sym same) ∙ ap (drop 1) h)
 
-module _ (setup : Setup) (limit : ℕ) (is_limit : IsLimit limit) (plain : IsPlain (start setup limit)) (events : List Event)
-    (steps : IsTrail (start setup limit) events) (small : AreSmall (start setup limit) events) where
+-- a setup is one whole by whatever version
+pub agrees-by : (version : Version) (setup : Setup) → Agree setup → Agree (by_version version setup)
+agrees-by version setup agree = record { subjects = agree.subjects; documents = agree.documents; contents = agree.contents }
+
+-- the seventh byte tells the lines of two versions apart
+one_version : (v w : Version) → version_line v ≡ version_line w → v ≡ w
+one_version One One h = refl
+one_version One Two h = absurd (told_apart 49 50 refl (ap (λ l. get_or l 6 0) h))
+one_version Two One h = absurd (told_apart 50 49 refl (ap (λ l. get_or l 6 0) h))
+one_version Two Two h = refl
+
+-- where a run begins that is judged by a version
+abbrev start_by : Version → Setup → ℕ → State
+start_by version setup limit = start (by_version version setup) limit
+
+module _ (version : Version) (setup : Setup) (limit : ℕ) (is_limit : IsLimit limit) (plain : IsPlain (start_by version setup limit)) (events : List Event)
+    (steps : IsTrail (start_by version setup limit) events) (small : AreSmall (start_by version setup limit) events) where
   abbrev pub x0 : State
-  x0 = start setup limit
+  x0 = start_by version setup limit
 
   abbrev pub before : List (List ℕ)
-  before = head_lines limit ++ event_texts x0 events
+  before = head_lines version limit ++ event_texts x0 events
 
   -- a true text that begins with these lines goes on from where they lead
   goes-on : (tail : List (List ℕ)) (lines more : List (List ℕ)) → GoesOn setup lines more → lines ++ more ≡ before ++ tail → Rest (state_after x0 events) tail
   goes-on tail lines more g is =
-      let all : trail_lines setup g.limit g.events ≡ before ++ tail = g.is ∙ is in
+      let all : trail_lines g.version setup g.limit g.events ≡ before ++ tail = g.is ∙ is in
+      let by : g.version ≡ version = one_version g.version version (ap (λ l. get_or l 0 []) all) in
       let low : limit < 2 ^ 64 = omega (arith, is_limit.1) in
       let low2 : g.limit < 2 ^ 64 = omega (arith, g.is_limit.1) in
       let same : g.limit ≡ limit = decimal_injective g.limit limit low2 low (ap (λ l. drop 6 (get_or l 1 [])) all) in
-      walk x0 events g.events tail plain small steps (subst (λ m. IsTrail (start setup m) g.events) same g.steps)
-      (ap (λ m. event_texts (start setup m) g.events ++ stop ∷ []) (sym same) ∙ ap (drop 2) all)
+      let begins : start_by g.version setup g.limit ≡ x0 = ap (λ v. start_by v setup g.limit) by ∙ ap (start_by version setup) same in
+      walk x0 events g.events tail plain small steps (subst (λ x. IsTrail x g.events) begins g.steps)
+      (ap (λ x. event_texts x g.events ++ stop ∷ []) (sym begins) ∙ ap (drop 2) all)
 
   abbrev pub end : State
   end = state_after x0 events
@@ -132,26 +152,26 @@ module _ (setup : Setup) (limit : ℕ) (is_limit : IsLimit limit) (plain : IsPla
       )
 
   right : AreRight setup before
-  right = (stop ∷ [], record { limit = limit; is_limit = is_limit; events = events; steps = steps; is = sym (regroup (head_lines limit) (event_texts x0 events) (stop ∷ [])) })
+  right = (stop ∷ [], record { version = version; limit = limit; is_limit = is_limit; events = events; steps = steps; is = sym (regroup (head_lines version limit) (event_texts x0 events) (stop ∷ [])) })
 
   right-closed : AreRight setup (before ++ stop ∷ [])
-  right-closed = ([], record { limit = limit; is_limit = is_limit; events = events; steps = steps; is = sym (append-nil (before ++ stop ∷ []) ∙ regroup (head_lines limit) (event_texts x0 events) (stop ∷ [])) })
+  right-closed = ([], record { version = version; limit = limit; is_limit = is_limit; events = events; steps = steps; is = sym (append-nil (before ++ stop ∷ []) ∙ regroup (head_lines version limit) (event_texts x0 events) (stop ∷ [])) })
 
   length-texts : (x : State) (es : List Event) → length (event_texts x es) ≡ length es
   length-texts x [] = refl
   length-texts x (e ∷ es) = ap suc (length-texts (change x e) es)
 
-  module _ (text rest : List ℕ) (head : AllByRecursion (HasNo 10) (head_lines limit)) (followed : Followed x0 text rest events) where
-    split : joined (head_lines limit) ++ text ≡ joined before ++ rest
+  module _ (text rest : List ℕ) (head : AllByRecursion (HasNo 10) (head_lines version limit)) (followed : Followed x0 text rest events) where
+    split : joined (head_lines version limit) ++ text ≡ joined before ++ rest
     split =
-        ap (λ t. joined (head_lines limit) ++ t) followed.split
-        ∙ sym (append_assoc (joined (head_lines limit)) (joined (event_texts x0 events)) rest)
-        ∙ ap (λ t. t ++ rest) (sym (joined-append (head_lines limit) (event_texts x0 events)))
+        ap (λ t. joined (head_lines version limit) ++ t) followed.split
+        ∙ sym (append_assoc (joined (head_lines version limit)) (joined (event_texts x0 events)) rest)
+        ∙ ap (λ t. t ++ rest) (sym (joined-append (head_lines version limit) (event_texts x0 events)))
 
     plain-before : AllByRecursion (HasNo 10) before
-    plain-before = all-append (HasNo 10) (head_lines limit) (event_texts x0 events) head followed.plain
+    plain-before = all-append (HasNo 10) (head_lines version limit) (event_texts x0 events) head followed.plain
 
-    pub rejected-next : (number : ℕ) → IsNotNext end rest → number ≡ length events + 3 → FirstWrong setup (joined (head_lines limit) ++ text) number
+    pub rejected-next : (number : ℕ) → IsNotNext end rest → number ≡ length events + 3 → FirstWrong setup (joined (head_lines version limit) ++ text) number
     rejected-next number next is = record {
       before = before;
       behind = rest;
@@ -163,14 +183,14 @@ module _ (setup : Setup) (limit : ℕ) (is_limit : IsLimit limit) (plain : IsPla
     }
 
   -- the events end by a `stop` with this behind it
-  module _ (text rest : List ℕ) (head : AllByRecursion (HasNo 10) (head_lines limit)) (plain_stop : HasNo 10 stop) (followed : Followed x0 text (stop ++ 10 ∷ rest) events) where
-    split-closed : joined (head_lines limit) ++ text ≡ joined (before ++ stop ∷ []) ++ rest
+  module _ (text rest : List ℕ) (head : AllByRecursion (HasNo 10) (head_lines version limit)) (plain_stop : HasNo 10 stop) (followed : Followed x0 text (stop ++ 10 ∷ rest) events) where
+    split-closed : joined (head_lines version limit) ++ text ≡ joined (before ++ stop ∷ []) ++ rest
     split-closed =
         split text (stop ++ 10 ∷ rest) head followed
         ∙ sym (append_assoc (joined before) (joined (stop ∷ [])) rest)
         ∙ ap (λ t. t ++ rest) (sym (joined-append before (stop ∷ [])))
 
-    pub rejected-more : (number : ℕ) → IsMore rest → number ≡ length events + 4 → FirstWrong setup (joined (head_lines limit) ++ text) number
+    pub rejected-more : (number : ℕ) → IsMore rest → number ≡ length events + 4 → FirstWrong setup (joined (head_lines version limit) ++ text) number
     rejected-more number more is = record {
       before = before ++ stop ∷ [];
       behind = rest;
@@ -181,32 +201,36 @@ module _ (setup : Setup) (limit : ℕ) (is_limit : IsLimit limit) (plain : IsPla
       is = omega (arith, is, length-texts x0 events, length-append before (stop ∷ []));
     }
 
-    pub accepted : (count : ℕ) → rest ≡ [] → count ≡ length events → IsTrueText setup (joined (head_lines limit) ++ text) count
+    pub accepted : (count : ℕ) → rest ≡ [] → count ≡ length events → IsTrueText setup (joined (head_lines version limit) ++ text) count
     accepted count none is = record {
+      version = version;
       limit = limit;
       is_limit = is_limit;
       events = events;
       steps = steps;
-      plain = subst (AllByRecursion (HasNo 10)) (regroup (head_lines limit) (event_texts x0 events) (stop ∷ [])) (all-append (HasNo 10) before (stop ∷ []) (plain-before text (stop ++ 10 ∷ rest) head followed) (plain_stop, tt));
+      plain = subst (AllByRecursion (HasNo 10)) (regroup (head_lines version limit) (event_texts x0 events) (stop ∷ [])) (all-append (HasNo 10) before (stop ∷ []) (plain-before text (stop ++ 10 ∷ rest) head followed) (plain_stop, tt));
       counted = is;
       is = split-closed ∙ ap (λ r. joined (before ++ stop ∷ []) ++ r) none ∙ append-nil (joined (before ++ stop ∷ []))
-          ∙ ap joined (regroup (head_lines limit) (event_texts x0 events) (stop ∷ []));
+          ∙ ap joined (regroup (head_lines version limit) (event_texts x0 events) (stop ∷ []));
     }
 
 -- THE VERDICT: where the lines behind the head were followed, the verdict is that of TrueText
-pub verdict-is : (setup : Setup) (limit : ℕ) → IsLimit limit → Reads setup.names → Agree setup
-    → ((events : List Event) → IsTrail (start setup limit) events → AreSmall (start setup limit) events)
-    → AllByRecursion (HasNo 10) (head_lines limit) → HasNo 10 stop → (text : List ℕ) (verdict : Verdict) → IsFollowed (start setup limit) text verdict
-    → IsVerdict setup (joined (head_lines limit) ++ text) verdict
-verdict-is setup limit is_limit reads agree small head plain_stop text (Accepted count) f =
-    accepted setup limit is_limit (reads, agree) f.0 f.1.steps (small f.0 f.1.steps) text [] head plain_stop f.1 count refl f.2
-verdict-is setup limit is_limit reads agree small head plain_stop text (Rejected number) f = go f.2
+pub verdict-is : (version : Version) (setup : Setup) (limit : ℕ) → IsLimit limit → Reads setup.names → Agree setup
+    → ((events : List Event) → IsTrail (start_by version setup limit) events → AreSmall (start_by version setup limit) events)
+    → AllByRecursion (HasNo 10) (head_lines version limit) → HasNo 10 stop → (text : List ℕ) (verdict : Verdict) → IsFollowed (start_by version setup limit) text verdict
+    → IsVerdict setup (joined (head_lines version limit) ++ text) verdict
+verdict-is version setup limit is_limit reads agree small head plain_stop text (Accepted count) f =
+    accepted version setup limit is_limit (reads, agrees-by version setup agree) f.0 f.1.steps (small f.0 f.1.steps) text [] head plain_stop f.1 count refl f.2
+verdict-is version setup limit is_limit reads agree small head plain_stop text (Rejected number) f = go f.2
   where
-    go : ((Followed (start setup limit) text f.1 f.0 × IsNotNext (state_after (start setup limit) f.0) f.1 × (number ≡ length f.0 + 3))
-        ⊎ (Followed (start setup limit) text (stop ++ 10 ∷ f.1) f.0 × IsMore f.1 × (number ≡ length f.0 + 4)))
-        → FirstWrong setup (joined (head_lines limit) ++ text) number
-    go (inl t) = rejected-next setup limit is_limit (reads, agree) f.0 t.0.steps (small f.0 t.0.steps) text f.1 head t.0 number t.1 t.2
-    go (inr t) = rejected-more setup limit is_limit (reads, agree) f.0 t.0.steps (small f.0 t.0.steps) text f.1 head plain_stop t.0 number t.1 t.2
+    plain : IsPlain (start_by version setup limit)
+    plain = (reads, agrees-by version setup agree)
+
+    go : ((Followed (start_by version setup limit) text f.1 f.0 × IsNotNext (state_after (start_by version setup limit) f.0) f.1 × (number ≡ length f.0 + 3))
+        ⊎ (Followed (start_by version setup limit) text (stop ++ 10 ∷ f.1) f.0 × IsMore f.1 × (number ≡ length f.0 + 4)))
+        → FirstWrong setup (joined (head_lines version limit) ++ text) number
+    go (inl t) = rejected-next version setup limit is_limit plain f.0 t.0.steps (small f.0 t.0.steps) text f.1 head t.0 number t.1 t.2
+    go (inr t) = rejected-more version setup limit is_limit plain f.0 t.0.steps (small f.0 t.0.steps) text f.1 head plain_stop t.0 number t.1 t.2
 
 -- the head lines and the closing `stop` have no LF
 no_lf : (n : ℕ) → 10 < n → n ≢ 10
@@ -219,9 +243,5 @@ limit-plain : (limit : ℕ) → limit < 2 ^ 64 → HasNo 10 (codes "limit " ++ d
 limit-plain limit lt =
     (no_lf 108 (lit< tt), (no_lf 105 (lit< tt), (no_lf 109 (lit< tt), (no_lf 105 (lit< tt), (no_lf 116 (lit< tt), (no_lf 32 (lit< tt), decimal-has_no 10 (lit< tt) limit lt))))))
 
-trail-plain : HasNo 10 (codes "trail 1")
-trail-plain =
-    (no_lf 116 (lit< tt), (no_lf 114 (lit< tt), (no_lf 97 (lit< tt), (no_lf 105 (lit< tt), (no_lf 108 (lit< tt), (no_lf 32 (lit< tt), (no_lf 49 (lit< tt), tt)))))))
-
-pub head-plain : (limit : ℕ) → IsLimit limit → AllByRecursion (HasNo 10) (head_lines limit)
-head-plain limit is_limit = (trail-plain, (limit-plain limit (omega (arith, is_limit.1)), tt))
+pub head-plain : (version : Version) (limit : ℕ) → IsLimit limit → AllByRecursion (HasNo 10) (head_lines version limit)
+head-plain version limit is_limit = (version-plain version, (limit-plain limit (omega (arith, is_limit.1)), tt))

@@ -1,7 +1,9 @@
--- TrueText: the text of a trail and a limit, and the first line of a text that is not right.
+-- TrueText: the text of a trail, by its version and its limit, and the first line of a text that is not right.
 use Rattle.std.specs.Prelude.{◌≡◌, ◌≢◌, ◌⊎◌, ℕ, suc, ◌≤◌, List, [], ◌∷◌, ◌++◌, length, codes, decimal}
 use Rattle.std.specs.List.{flat_map, AllByRecursion}
-use Rattle.bl_setup.specs.Setup.{Setup}
+use Rattle.bl_setup.specs.Setup.{Setup, by_version}
+use Rattle.bl_setup.specs.declared.version.Version.{Version}
+use Rattle.bl_setup.specs.declared.version.Version.TheVariants.{One, Two}
 use Rattle.bl_order.specs.Machine.{State, Event, IsTrail, change, start}
 use Rattle.bl_trail.specs.EventText.{event_text}
 
@@ -14,13 +16,19 @@ event_texts x (event ∷ events) = event_text x event ∷ event_texts (change x 
 abbrev pub IsLimit : ℕ → Type 0
 IsLimit limit = (1 ≤ limit) × (limit ≤ 100000)
 
--- own choice: the version and the limit stand first
-abbrev pub head_lines : ℕ → List (List ℕ)
-head_lines limit = codes "trail 1" ∷ (codes "limit " ++ decimal limit) ∷ []
+-- own choice: a trail says by which version its run is judged
+abbrev pub version_line : Version → List ℕ
+version_line One = codes "trail 1"
+version_line Two = codes "trail 2"
 
--- the lines of a trail, without their LF
-abbrev pub trail_lines : Setup → ℕ → List Event → List (List ℕ)
-trail_lines setup limit events = head_lines limit ++ (event_texts (start setup limit) events ++ codes "stop" ∷ [])
+-- own choice: the version and the limit stand first
+abbrev pub head_lines : Version → ℕ → List (List ℕ)
+head_lines version limit = version_line version ∷ (codes "limit " ++ decimal limit) ∷ []
+
+-- the lines of a trail, without their LF: its steps and its answers are those of a run that is judged by the version
+abbrev pub trail_lines : Version → Setup → ℕ → List Event → List (List ℕ)
+trail_lines version setup limit events =
+    head_lines version limit ++ (event_texts (start (by_version version setup) limit) events ++ codes "stop" ∷ [])
 
 -- lines, each with its LF
 abbrev pub joined : List (List ℕ) → List ℕ
@@ -30,23 +38,25 @@ joined lines = flat_map (λ line. line ++ 10 ∷ []) lines
 abbrev pub HasNoLf : List ℕ → Type 0
 HasNoLf = AllByRecursion (λ b. b ≢ 10)
 
--- TrueText: the text is that of a trail of so many events under some limit
+-- TrueText: the text is that of a trail of so many events, of some version and under some limit
 pub record IsTrueText (setup : Setup) (text : List ℕ) (count : ℕ) : Type 0 where
+  pub version : Version
   pub limit : ℕ
   pub is_limit : IsLimit limit
   pub events : List Event
-  pub steps : IsTrail (start setup limit) events
-  pub plain : AllByRecursion HasNoLf (trail_lines setup limit events)
-  pub is : text ≡ joined (trail_lines setup limit events)
+  pub steps : IsTrail (start (by_version version setup) limit) events
+  pub plain : AllByRecursion HasNoLf (trail_lines version setup limit events)
+  pub is : text ≡ joined (trail_lines version setup limit events)
   pub counted : count ≡ length events
 
 -- a true text begins with these lines, and goes on with those
 pub record GoesOn (setup : Setup) (lines : List (List ℕ)) (more : List (List ℕ)) : Type 0 where
+  pub version : Version
   pub limit : ℕ
   pub is_limit : IsLimit limit
   pub events : List Event
-  pub steps : IsTrail (start setup limit) events
-  pub is : trail_lines setup limit events ≡ lines ++ more
+  pub steps : IsTrail (start (by_version version setup) limit) events
+  pub is : trail_lines version setup limit events ≡ lines ++ more
 
 -- by the lines before them alone, these lines are right
 abbrev pub AreRight : Setup → List (List ℕ) → Type 0

@@ -1,12 +1,13 @@
 //! The head of a trail's text: its version and its limit.
-ghost use Rattle.std.specs.Prelude.{◌≡◌, ◌++◌, ◌↔◌, IfOk, IfSome, IsTrue, MatchOption, None, codes, decimal};
-ghost use Rattle.bl_trail.specs.Heads.{IsHead, IsNoLimitLine};
-ghost use Rattle.bl_trail.specs.TrueText.{IsLimit};
+ghost use Rattle.std.specs.Prelude.{◌≡◌, ◌++◌, IfOk, IfSome, None, codes, decimal};
+ghost use Rattle.bl_trail.specs.Heads.{IsHead, IsNoLimitLine, IsNoVersionLine};
+ghost use Rattle.bl_trail.specs.TrueText.{IsLimit, version_line};
 
 use crate::ask::{number, split_word};
 use crate::follow::first_line;
 use crate::text::limit_text;
 use crate::work::same_bytes;
+use bl_setup::version::Version;
 use std::alloc::{AllocError, Global};
 
 /// The greatest limit of a run.
@@ -15,17 +16,26 @@ const MOST_LIMIT: u32 = 100_000;
 /// What stands at the head of a text.
 #[derive(Clone, Copy)]
 pub enum Head<'a> {
-    /// The version and a limit, with what stands behind them.
-    Right(u32, &'a [u8]),
+    /// The version by which the run is judged, its limit, which is 1 to 100,000, and what stands after these two lines.
+    Right {
+        version: Version,
+        limit: u32,
+        rest: &'a [u8],
+    },
     /// The first line that is not right, counted from 1.
     Wrong(u64),
 }
 
-/// Whether the line is the version.
-fn is_version(line: &[u8]) -> bool
-    ensures { IsTrue result ↔ (line.now ≡ codes "trail 1") }
+/// The version that the line names; `None` where it names none.
+fn version_of(line: &[u8]) -> Option<Version>
+    ensures some { IfSome result (λ version. line.now ≡ version_line version) }
+    ensures none { result ≡ None → IsNoVersionLine line.now }
 {
-    line == b"trail 1".as_slice()
+    match line {
+        b"trail 1" => Some(Version::One),
+        b"trail 2" => Some(Version::Two),
+        _ => None,
+    }
 }
 
 /// The limit that the line names, which is 1 to 100,000; `None` where the line is not the text of such a limit.
@@ -53,21 +63,26 @@ fn limit_of(alloc: Global, line: &[u8]) -> Result<Option<u32>, AllocError>
     Ok(Some(limit))
 }
 
-/// The head of a text. An error comes only where a growth is refused.
+/// The head of a text: its first line is `trail 1` or `trail 2`, its second the `limit` line. An error comes only
+/// where a growth is refused.
 pub fn head_of(alloc: Global, text: &[u8]) -> Result<Head<'_>, AllocError>
     ensures { IfOk result (IsHead text.now) }
 {
-    let Some((version, behind)) = first_line(text) else {
+    let Some((first, behind)) = first_line(text) else {
         return Ok(Head::Wrong(1));
     };
-    if !is_version(version) {
+    let Some(version) = version_of(first) else {
         return Ok(Head::Wrong(1));
-    }
-    let Some((line, rest)) = first_line(behind) else {
+    };
+    let Some((second, rest)) = first_line(behind) else {
         return Ok(Head::Wrong(2));
     };
-    match limit_of(alloc, line)? {
-        Some(limit) => Ok(Head::Right(limit, rest)),
-        None => Ok(Head::Wrong(2)),
-    }
+    let Some(limit) = limit_of(alloc, second)? else {
+        return Ok(Head::Wrong(2));
+    };
+    Ok(Head::Right {
+        version,
+        limit,
+        rest,
+    })
 }

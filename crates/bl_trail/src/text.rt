@@ -4,10 +4,11 @@ ghost use Rattle.bl_wire.specs.Named.{NamesAnswer};
 ghost use Rattle.bl_wire.specs.Replies.{answer_text};
 ghost use Rattle.bl_wire.specs.Watch.{Puts, end_state};
 ghost use Rattle.bl_trail.specs.StartWords.{NamesWords, words_text};
-ghost use Rattle.bl_trail.specs.TrueText.{head_lines, joined};
+ghost use Rattle.bl_trail.specs.TrueText.{head_lines, joined, version_line};
 
 use bl_policy::denial::Denial;
 use bl_policy::id::SubjectId;
+use bl_setup::version::Version;
 use bl_wire::put::{put, put_number};
 use bl_wire::watched::Watched;
 use bl_wire::words::put_answer;
@@ -50,11 +51,27 @@ fn put_limit<W: Write>(writer: &mut Watched<W>, limit: u32)
     put_number(writer, limit);
 }
 
-/// Writes the head lines, each with its LF, unless the writer has failed.
-pub fn put_head<W: Write>(writer: &mut Watched<W>, limit: u32)
-    ensures { Puts (joined (head_lines limit)) (end_state W.contents writer.old) (end_state W.contents writer.new) }
+/// Writes the line of a version, unless the writer has failed.
+fn put_version<W: Write>(writer: &mut Watched<W>, version: Version)
+    ensures { Puts (version_line version) (end_state W.contents writer.old) (end_state W.contents writer.new) }
 {
-    put(writer, b"trail 1\n");
+    match version {
+        Version::One => {
+            put(writer, b"trail 1");
+        }
+        Version::Two => {
+            put(writer, b"trail 2");
+        }
+    }
+}
+
+/// Writes the head lines of a version and a limit, each with its LF, unless the writer has failed.
+pub fn put_head<W: Write>(writer: &mut Watched<W>, version: Version, limit: u32)
+    ensures { Puts (joined (head_lines version limit))
+        (end_state W.contents writer.old) (end_state W.contents writer.new) }
+{
+    put_version(writer, version);
+    put(writer, b"\n");
     put_limit(writer, limit);
     put(writer, b"\n");
 }

@@ -1,7 +1,8 @@
 //! What a replay answers.
 ghost use Rattle.std.specs.Prelude.{◌≡◌, ◌++◌, ℕ, List};
 ghost use Rattle.bl_setup.specs.Agreement.{Agree};
-ghost use Rattle.bl_setup.specs.Setup.{Setup};
+ghost use Rattle.bl_setup.specs.Setup.{Setup, by_version};
+ghost use Rattle.bl_setup.specs.declared.version.Version.{Version as AnyVersion};
 ghost use Rattle.bl_order.specs.Machine.{start};
 ghost use Rattle.bl_work.specs.Names.{AreNames};
 ghost use Rattle.bl_trail.specs.Follow.{IsFollowed, IsVerdict};
@@ -35,12 +36,13 @@ pub fn true_texts_are_accepted()
     one_verdict();
 }
 
-/// Where the lines behind the head were followed to their end, the verdict on them is the verdict on the whole text: a line that
-/// is the text of no event that may come next stands in no true text behind the lines before it.
+/// Where the lines after the head were followed to their end, in a run that is judged by the version of the head, the
+/// verdict on them is the verdict on the whole text: a line that is the text of no event that may come next stands in no
+/// true text after the lines before it.
 pub fn what_was_followed_tells_the_verdict()
-    ensures { (setup : Setup) (limit : ℕ) → IsLimit limit → Agree setup → AreNames setup.names
-        → (text : List ℕ) (verdict : AnyVerdict) → IsFollowed (start setup limit) text verdict
-        → IsVerdict setup (joined (head_lines limit) ++ text) verdict }
+    ensures { (setup : Setup) (version : AnyVersion) (limit : ℕ) → IsLimit limit → Agree setup → AreNames setup.names
+        → (text : List ℕ) (verdict : AnyVerdict) → IsFollowed (start (by_version version setup) limit) text verdict
+        → IsVerdict setup (joined (head_lines version limit) ++ text) verdict }
 {
     each_place_has_a_phase();
     steps_lead_on();

@@ -1,5 +1,5 @@
 use Rattle.std.proofs.Common.{◌≡◌, ◌<◌, ◌++◌, ◌∷◌, [], ℕ, List, length, sym, ap, subst, ◌∙◌, codes, decimal, slice_index_or, true≢false}
-use Rattle.std.specs.Prelude.{IfOk, IsSome, Option, option_copied}
+use Rattle.std.specs.Prelude.{IsSome, Option, option_copied}
 use Rattle.std.specs.Borrow.{Bor}
 use Rattle.bl_work.specs.declared.answer.Answer.{Answer}
 use Rattle.bl_work.specs.Names.{KnownNames, AreNames}

@@ -1,4 +1,4 @@
-use Rattle.std.proofs.Common.{subst, sym}
+use Rattle.std.proofs.Common.{subst}
 use Rattle.bl_wire.specs.Named.{NamesAnswer}
 use Rattle.bl_audit.proofs.WithoutLf.{plain-denied, plain-lost, plain-rule_done}
 use Rattle.bl_audit.proofs.plain.answer_is_plain.Goals as goal

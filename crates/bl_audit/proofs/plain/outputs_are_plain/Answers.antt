@@ -1,4 +1,4 @@
-use Rattle.std.proofs.Common.{rules, ◌≡◌, ◌<◌, ℕ, List, length, subst, sym, ap, ◌∙◌, arith, add-one, take, take_all, get_or}
+use Rattle.std.proofs.Common.{◌≡◌, ◌<◌, ℕ, List, length, subst, sym, ap, ◌∙◌, arith, add-one, take, take_all, get_or}
 use Rattle.std.specs.List.{AllByRecursion}
 use Rattle.bl_trail.specs.TrueText.{HasNoLf}
 use Rattle.bl_audit.proofs.WithoutLf.{plain-content, plain-done, plain-more}

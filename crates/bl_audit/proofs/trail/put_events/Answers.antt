@@ -1,6 +1,6 @@
-use Rattle.std.proofs.Common.{◌≡◌, ◌<◌, ℕ, List, length, suc, drop, sym, ap, subst, ◌∙◌}
+use Rattle.std.proofs.Common.{◌≡◌, ◌<◌, length, suc, drop, sym, subst}
 use Rattle.bl_order.specs.Machine.{State}
-use Rattle.bl_hall.specs.Chronicle.{kept_of, state_now}
+use Rattle.bl_hall.specs.Chronicle.{kept_of}
 use Rattle.bl_audit.specs.Comes.{Comes}
 use Rattle.bl_audit.specs.Written.{WroteLine}
 use Rattle.bl_audit.proofs.Trails.{comes, event_at, found, kept-at, on_err, wrote-next, wrote-none, wrote-part}

@@ -1,6 +1,6 @@
-use Rattle.std.proofs.Common.{◌≡◌, ◌++◌, ◌∷◌, [], ℕ, List, sym, ◌∙◌, ap, subst, inl, inr, arith, refl, length-append, true≢false}
+use Rattle.std.proofs.Common.{◌≡◌, ◌++◌, ◌∷◌, [], sym, ◌∙◌, ap, subst, inl, inr, arith, refl, length-append, true≢false}
 use Rattle.std.specs.Prelude.{codes}
-use Rattle.bl_order.specs.Machine.{State, Event, Needs, change, state_after}
+use Rattle.bl_order.specs.Machine.{state_after}
 use Rattle.bl_trail.specs.Follow.{Followed, IsLine, IsTaken}
 use Rattle.bl_trail.proofs.Following.{followed-more, state-more, is_more, line-length, is_empty, not_empty}
 use Rattle.bl_trail.proofs.follow.follow.Goals as goal

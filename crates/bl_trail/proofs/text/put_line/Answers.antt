@@ -1,4 +1,4 @@
-use Rattle.std.proofs.Common.{◌≡◌, List, ℕ, ◌++◌, ◌∷◌, ◌∙◌, codes, decimal, refl, ap, sym, append_assoc}
+use Rattle.std.proofs.Common.{◌≡◌, List, ℕ, ◌++◌, ◌∷◌, ◌∙◌, codes, decimal, ap, sym, append_assoc}
 use Rattle.bl_wire.proofs.PutLaws.{puts-four}
 use Rattle.bl_trail.proofs.text.put_line.Goals as goal
 

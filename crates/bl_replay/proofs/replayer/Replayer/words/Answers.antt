@@ -10,6 +10,7 @@ use Rattle.bl_replay.specs.Words.{AreWords, KnowsWords}
 use Rattle.bl_work.specs.declared.answer.Answer.{Answer}
 use Rattle.bl_replay.specs.declared.mark.Mark.{Mark}
 use Rattle.bl_replay.specs.declared.place.Place.{Place}
+use Rattle.bl_replay.proofs.Naming.{knows-by}
 use Rattle.bl_replay.proofs.Queueing.{told-within}
 use Rattle.bl_replay.proofs.replayer.Replayer.words.Goals as goal
 
@@ -28,6 +29,6 @@ returns-clause-words c x keeps foretold may =
 
 pub returns-clause-known : goal.returns-clause-known
 returns-clause-known c =
-    subst (λ (s : Setup). IfSome c.start_words.result (KnowsWords s)) (sym c.requires.keeps.1.setup)
+    knows-by c.args.self.now.version c.args.self.now.setup c.start_words.result (subst (λ (s : Setup). IfSome c.start_words.result (KnowsWords s)) (sym c.requires.keeps.1.setup)
     (c.start_words.ensures.known c.requires.keeps.0.setup (lost_later c.args.self.now.marks.items) (map entry_in c.args.self.now.places.items)
-    (subst (λ (a : List Answer). IsFed c.requires.keeps.0.setup (lost_later c.args.self.now.marks.items) (map entry_in c.args.self.now.places.items) c.args.self.now.monitor a) (sym c.deref-2.ensures.value) c.requires.keeps.1.fed))
+    (subst (λ (a : List Answer). IsFed c.requires.keeps.0.setup (lost_later c.args.self.now.marks.items) (map entry_in c.args.self.now.places.items) c.args.self.now.monitor a) (sym c.deref-2.ensures.value) c.requires.keeps.1.fed)))
