@@ -13,7 +13,7 @@ use Rattle.clap.proofs.OnLiterals.{clap_on_literals}
 use Rattle.clap.proofs.WalkLemmas.{first_value-rows, one_text-rows}
 use Rattle.clap.specs.Matches.{first_value, found_of, one_text, subcommand_name_of}
 use Rattle.clap.specs.Walk.{Row, first_of, one_of, rows_of}
-use Rattle.bl_run.specs.declared.part.TrailFile.{TrailFile}
+use Rattle.bl_keep.specs.declared.part.TrailFile.{TrailFile}
 use Rattle.bl_command.specs.CommandLine.{server_app}
 use Rattle.bl_command.specs.Words.{HasFlag, HasHosting, HasNoCommand, HasNumber, HasOptions, HasTrail, IsHostingInRange, IsInRange, IsOf, entered_by, faults_of, word_of}
 use Rattle.bl_command.specs.declared.command.Command.{Command}

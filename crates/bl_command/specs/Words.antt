@@ -7,7 +7,7 @@ use Rattle.clap.specs.Kinds.{Kinds}
 use Rattle.clap.specs.Simple.{subcommand_of, subcommand_rows_of}
 use Rattle.clap.specs.Walk.{Row, rows_of}
 use Rattle.clap.specs.declared.parser.matches.ArgMatches.{ArgMatches}
-use Rattle.bl_run.specs.declared.part.TrailFile.{TrailFile}
+use Rattle.bl_keep.specs.declared.part.TrailFile.{TrailFile}
 use Rattle.bl_command.specs.CommandLine.{server_app}
 use Rattle.bl_command.specs.declared.command.Command.{Command}
 use Rattle.bl_command.specs.declared.command.Hosting.{Hosting}

@@ -10,7 +10,7 @@ ghost use Rattle.bl_command.specs.Words.{HasHosting, HasNoCommand, HasNumber, Ha
 ghost use Rattle.bl_command.specs.declared.command.Command.{Command as AnyCommand};
 ghost use Rattle.bl_command.specs.declared.command.Hosting.{Hosting as AnyHosting};
 
-use bl_run::part::TrailFile;
+use bl_keep::part::TrailFile;
 use clap::error::ErrorKind;
 use clap::{Arg, ArgAction, ArgMatches, Command as Parser, Error, value_parser};
 use std::alloc::{AllocError, Global};

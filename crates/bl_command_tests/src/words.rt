@@ -1,6 +1,6 @@
 //! The words of a command line.
 use bl_command::command::{Command, Hosting, read_words, status_of};
-use bl_run::part::TrailFile;
+use bl_keep::part::TrailFile;
 use std::alloc::Global;
 use std::test::Fail;
 

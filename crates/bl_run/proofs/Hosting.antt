@@ -11,8 +11,8 @@ use Rattle.bl_run.specs.declared.fault.ProgramFault.{ProgramFault}
 use Rattle.bl_run.specs.declared.fault.ProgramFault.TheVariants.{CannotReadSetup, Setup, CannotReadTrail, CannotWriteTrail, CannotListen, Read, Write, TooLong, Worker, NoMemory}
 use Rattle.bl_run.specs.Message.{ended_line, fault_line}
 use Rattle.bl_run.specs.declared.serve.Finished.{Finished}
-use Rattle.bl_run.specs.declared.whole.Unkept.{Unkept}
-use Rattle.bl_run.specs.Keeping.{IsUnkept, TellsTrail, left_line, unkept_faults, unkept_text}
+use Rattle.bl_keep.specs.declared.whole.Unkept.{Unkept}
+use Rattle.bl_run.specs.Unkept.{TellsTrail, left_line, unkept_fault, unkept_faults, unkept_text}
 use Rattle.bl_run.specs.Serving.{HasHosted, faults_found, found, hosted_text}
 use Rattle.bl_run.specs.Status.{status_after, status_of}
 
@@ -64,7 +64,6 @@ some_is_some unkept e = cc
 pub untold : (has_one : Bool) (s : ℕ) (finished : Finished) (x y : EndState) → has_one ≡ false → finished.status ≡ s → y ≡ x → TellsTrail has_one s finished x y
 untold has_one s finished x y none' is same = record {
   trail = None;
-  unkept_by = tt;
   unwritten = λ _. refl;
   kept = λ yes' _. absurd (clash has_one yes' none');
   status_is = is;
@@ -72,17 +71,16 @@ untold has_one s finished x y none' is same = record {
 }
 
 -- a trail that was not kept is told
-pub told_trail : (unkept : Unkept) (s : ℕ) (finished : Finished) (x y z : EndState) → IsUnkept unkept.fault
-    → finished.status ≡ status_after s (found true unkept.fault)
-    → Puts (flat_map fault_line (found true unkept.fault)) x y → Puts (left_line unkept.left) y z → TellsTrail true s finished x z
-told_trail unkept s finished x y z by is fault left = record {
+pub told_trail : (unkept : Unkept) (s : ℕ) (finished : Finished) (x y z : EndState)
+    → finished.status ≡ status_after s (found true (unkept_fault unkept.fault))
+    → Puts (flat_map fault_line (found true (unkept_fault unkept.fault))) x y → Puts (left_line unkept.left) y z → TellsTrail true s finished x z
+told_trail unkept s finished x y z is fault left = record {
   trail = Some unkept;
-  unkept_by = by;
   unwritten = λ off. absurd (clash true refl off);
   kept = λ _ none'. absurd (some_is_some unkept none');
   status_is = is;
-  puts = puts-two (unkept_text (Some unkept)) (flat_map fault_line (found true unkept.fault)) (left_line unkept.left) x y z
-      (ap (λ l. l ++ left_line unkept.left) (sym (append-nil (fault_line unkept.fault)))) fault left;
+  puts = puts-two (unkept_text (Some unkept)) (flat_map fault_line (found true (unkept_fault unkept.fault))) (left_line unkept.left) x y z
+      (ap (λ l. l ++ left_line unkept.left) (sym (append-nil (fault_line (unkept_fault unkept.fault))))) fault left;
 }
 
 -- what was found by the end of the threads is told, and then what became of the trail
@@ -95,7 +93,6 @@ hosted whole es memory worker r finished x y z status puts then = record {
   memory = memory;
   worker = worker;
   trail = then.trail;
-  unkept_by = then.unkept_by;
   unwritten = then.unwritten;
   kept = then.kept;
   status_is = then.status_is ∙ ap (λ q. status_after q (unkept_faults then.trail)) status ∙ status-append 0 (faults_found whole memory worker) (unkept_faults then.trail);

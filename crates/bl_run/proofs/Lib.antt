@@ -1,3 +1,3 @@
 pub mod Hosting
-pub mod Keeping
 pub mod Sitting
+pub mod Unkept

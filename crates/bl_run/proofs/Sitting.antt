@@ -11,7 +11,7 @@ use Rattle.bl_wire.proofs.PutLaws.{puts-all, puts-append}
 use Rattle.bl_run.specs.declared.fault.ProgramFault.{ProgramFault}
 use Rattle.bl_run.specs.declared.serve.Finished.{Finished}
 use Rattle.bl_run.specs.AloneKept.{HasEnded, HasSat}
-use Rattle.bl_run.specs.Keeping.{TellsTrail, unkept_faults, unkept_text}
+use Rattle.bl_run.specs.Unkept.{TellsTrail, unkept_faults, unkept_text}
 use Rattle.bl_run.specs.Message.{fault_line}
 use Rattle.bl_run.specs.Status.{status_after}
 use Rattle.bl_run.proofs.Hosting.{status-append}
@@ -32,7 +32,6 @@ sat setup limit begun is fault input output ended has_one begins' r finished x y
   fault = fault;
   ended = ended;
   trail = then.trail;
-  unkept_by = then.unkept_by;
   kept = λ none' untold. then.kept (begins' none') untold;
   status_is = then.status_is ∙ ap (λ q. status_after q (unkept_faults then.trail)) status ∙ status-append 0 (option_to_list fault) (unkept_faults then.trail);
   said = λ fine. puts-all (flat_map fault_line (option_to_list fault) ++ unkept_text then.trail) x z

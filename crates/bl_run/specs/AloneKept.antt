@@ -1,5 +1,5 @@
 -- How a run of the command `alone` ends whose trail is kept.
-use Rattle.std.specs.Prelude.{◌≡◌, ◌⊎◌, ℕ, List, ◌++◌, true, false, Option, Some, None, IfSome, IsSome}
+use Rattle.std.specs.Prelude.{◌≡◌, ◌⊎◌, ℕ, List, ◌++◌, true, false, Option, Some, None, IsSome}
 use Rattle.std.specs.Io.KnownBytes.{Appends, Keeps}
 use Rattle.std.specs.List.{flat_map}
 use Rattle.std.specs.Option.{option_to_list}
@@ -11,9 +11,9 @@ use Rattle.bl_session.specs.Outcome.{IsServed, IsCutShort}
 use Rattle.bl_run.specs.declared.alone.AloneRun.{AloneRun}
 use Rattle.bl_run.specs.declared.fault.ProgramFault.{ProgramFault}
 use Rattle.bl_run.specs.declared.serve.Finished.{Finished}
-use Rattle.bl_run.specs.declared.whole.Unkept.{Unkept}
+use Rattle.bl_keep.specs.declared.whole.Unkept.{Unkept}
 use Rattle.bl_run.specs.Failure.{IsNotBegun, IsOfSession}
-use Rattle.bl_run.specs.Keeping.{IsUnkept, unkept_faults, unkept_text}
+use Rattle.bl_run.specs.Unkept.{IsUnkept, unkept_faults, unkept_text}
 use Rattle.bl_run.specs.Message.{fault_line}
 use Rattle.bl_run.specs.Runs.{HasTold}
 use Rattle.bl_run.specs.Status.{status_after}
@@ -31,7 +31,6 @@ pub record HasSat (setup : List ℕ) (limit : ℕ) (finished : Finished) (input 
   pub fault : Option ProgramFault
   pub ended : HasEnded begun limit fault input output
   pub trail : Option Unkept
-  pub unkept_by : IfSome trail (λ unkept. IsUnkept unkept.fault)
   pub kept : fault ≡ None → trail ≡ None → IsSome finished.kept
   pub status_is : finished.status ≡ status_after 0 (option_to_list fault ++ unkept_faults trail)
   pub said : errors.failed ≡ false → Appends errors.before errors.after (flat_map fault_line (option_to_list fault) ++ unkept_text trail)

@@ -1,7 +1,7 @@
 pub mod Status
 pub mod Failure
 pub mod Message
-pub mod Keeping
+pub mod Unkept
 pub mod Replays
 pub mod Runs
 pub mod Serving

@@ -1,5 +1,5 @@
 -- What a run of the command `serve` tells, and how it ends.
-use Rattle.std.specs.Prelude.{◌≡◌, ◌⊎◌, ℕ, Bool, true, false, not, List, [], ◌∷◌, ◌++◌, Option, None, IfSome, IsSome, codes, take}
+use Rattle.std.specs.Prelude.{◌≡◌, ◌⊎◌, ℕ, Bool, true, false, not, List, [], ◌∷◌, ◌++◌, Option, None, IsSome, codes, take}
 use Rattle.std.specs.List.{flat_map}
 use Rattle.std.specs.Io.KnownBytes.{Appends, Keeps}
 use Rattle.bl_setup.specs.Setup as setups
@@ -10,9 +10,9 @@ use Rattle.bl_wire.specs.Watch.{Use}
 use Rattle.bl_run.specs.declared.fault.ProgramFault.{ProgramFault}
 use Rattle.bl_run.specs.declared.fault.ProgramFault.TheVariants.{Write, Worker, NoMemory}
 use Rattle.bl_run.specs.declared.serve.Finished.{Finished}
-use Rattle.bl_run.specs.declared.whole.Unkept.{Unkept}
+use Rattle.bl_keep.specs.declared.whole.Unkept.{Unkept}
 use Rattle.bl_run.specs.Failure.{IsNotRead}
-use Rattle.bl_run.specs.Keeping.{IsUnkept, unkept_faults, unkept_text}
+use Rattle.bl_run.specs.Unkept.{IsUnkept, unkept_faults, unkept_text}
 use Rattle.bl_run.specs.Message.{ended_line, fault_line}
 use Rattle.bl_run.specs.Runs.{HasTold}
 use Rattle.bl_run.specs.Status.{status_after}
@@ -72,7 +72,6 @@ pub record HasHosted (finished : Finished) (errors : Use) : Type 0 where
   pub memory : Bool
   pub worker : Bool
   pub trail : Option Unkept
-  pub unkept_by : IfSome trail (λ unkept. IsUnkept unkept.fault)
   pub unwritten : whole ≡ false → trail ≡ None
   pub kept : whole ≡ true → trail ≡ None → IsSome finished.kept
   pub status_is : finished.status ≡ status_after 0 (faults_found whole memory worker ++ unkept_faults trail)

@@ -9,16 +9,16 @@ ghost use Rattle.bl_wire.specs.Watch.{Puts, end_state, used};
 ghost use Rattle.bl_session.specs.Outcome.{IsServed};
 ghost use Rattle.bl_run.specs.AloneKept.{HasEnded, HasSat, IsAloneKept};
 ghost use Rattle.bl_run.specs.Failure.{HasFailed};
-ghost use Rattle.bl_run.specs.Keeping.{TellsTrail};
+ghost use Rattle.bl_run.specs.Unkept.{TellsTrail};
 ghost use Rattle.bl_run.specs.Message.{fault_line};
 ghost use Rattle.bl_run.specs.Runs.{IsRun};
 ghost use Rattle.bl_run.specs.Status.{IsEnd, status_after};
 
-use crate::fault::{ProgramFault, of_session, of_setup};
-use crate::keep::keep;
-use crate::part::{PartFile, TrailFile, claim, give_back};
+use crate::fault::{ProgramFault, of_keep, of_session, of_setup};
 use crate::serve::{Finished, end_with, tell_trail};
 use crate::told::tell;
+use bl_keep::keep::keep;
+use bl_keep::part::{PartFile, TrailFile, claim, give_back};
 use bl_session::alone::{Kept, serve_and_keep};
 use bl_setup::reader::read_setup;
 use bl_setup::setup::Setup;
@@ -216,7 +216,7 @@ pub fn alone_kept_on<T: Files, R: BufRead, W: Write, E: Write>(
         }
         Err(fault) => {
             drop(setup);
-            end_with(errors, fault)
+            end_with(errors, of_keep(fault))
         }
     }
 }

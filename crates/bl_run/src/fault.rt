@@ -4,8 +4,10 @@ ghost use Rattle.std.specs.IoError.{error_kind};
 ghost use Rattle.bl_run.specs.Message.{words_of};
 ghost use Rattle.bl_run.specs.Failure.{IsOfSetup, IsOfSession};
 ghost use Rattle.bl_run.specs.Status.{status_of};
+ghost use Rattle.bl_run.specs.Unkept.{unkept_fault};
 ghost use Rattle.bl_wire.specs.declared.fault.SessionFault.TheVariants as failing;
 
+use bl_keep::fault::KeepFault;
 use bl_setup::fault::{SetupFault, SetupFaultKind};
 use bl_wire::fault::SessionFault;
 use std::io::ErrorKind;
@@ -136,6 +138,16 @@ pub fn of_session(fault: SessionFault) -> ProgramFault
         SessionFault::TooLong => ProgramFault::TooLong,
         SessionFault::Memory => ProgramFault::NoMemory,
         SessionFault::Clash => unreachable!(),
+    }
+}
+
+/// What a fault of a trail that is not kept is to the program.
+pub fn of_keep(fault: KeepFault) -> ProgramFault
+    ensures { result ≡ unkept_fault fault }
+{
+    match fault {
+        KeepFault::Unwritable => ProgramFault::CannotWriteTrail,
+        KeepFault::Memory => ProgramFault::NoMemory,
     }
 }
 

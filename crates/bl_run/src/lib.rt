@@ -4,19 +4,11 @@
 //!     told       what a run says on standard error
 //!     alone      one session on an input and an output
 //!     replay     the verdict on a trail
-//!     part       the file that a trail is written to before it has its name
-//!     whole      trails that are written whole, and what is left of others
-//!     named      gives a whole trail its name
-//!     keep       keeps a trail in a file
 //!     serve      sessions over TCP
 #![tactic(auto)]
 
 pub mod alone;
 pub mod fault;
-mod keep;
-pub mod named;
-pub mod part;
 pub mod replay;
 pub mod serve;
 pub mod told;
-pub mod whole;

@@ -4,24 +4,24 @@ ghost use Rattle.std.specs.Io.KnownBytes.{Appends};
 ghost use Rattle.std.specs.List.{flat_map};
 ghost use Rattle.bl_gate.specs.Gates.{Follows};
 ghost use Rattle.bl_wire.specs.Watch.{Puts, end_state, used};
-ghost use Rattle.bl_run.specs.Keeping.{IsUnkept, TellsTrail};
+ghost use Rattle.bl_run.specs.Unkept.{TellsTrail};
 ghost use Rattle.bl_run.specs.Message.{ended_line, fault_line};
 ghost use Rattle.bl_run.specs.Runs.{HasTold};
 ghost use Rattle.bl_run.specs.Serving.{HasHosted, IsNewGate, IsPrepared, IsServe, IsUnannounced, IsUnprepared, faults_found, found, hosted_text, listening};
 ghost use Rattle.bl_run.specs.Status.{IsEnd, status_after};
 
-use crate::fault::{ProgramFault, of_setup};
-use crate::keep::keep;
-use crate::named::Kept;
-use crate::part::{PartFile, TrailFile, claim, give_back};
+use crate::fault::{ProgramFault, of_keep, of_setup};
 use crate::told::{tell, tell_ended, tell_left};
-use crate::whole::Unkept;
 use bl_gate::gate::Gate;
 use bl_gate::pass::Pass;
 use bl_hall::hall::Hall;
 use bl_host::ended::Ended;
 use bl_host::host::{Hosted, Site, host};
 use bl_host::options::Options;
+use bl_keep::keep::keep;
+use bl_keep::named::Kept;
+use bl_keep::part::{PartFile, TrailFile, claim, give_back};
+use bl_keep::whole::Unkept;
 use bl_setup::reader::read_setup;
 use bl_setup::setup::Setup;
 use bl_wire::put::put_out;
@@ -89,7 +89,10 @@ fn announce<T: Files, W: Write>(
     ensures handed_on { OnOk result (writer.new.unflushed ≡ false) }
     ensures err { IfErr result (λ fault. IsUnannounced trail.now.claims fault (used W.contents writer.old writer.new)) }
 {
-    let claimed = claim(rt, alloc, trail)?;
+    let claimed = match claim(rt, alloc, trail) {
+        Ok(claimed) => claimed,
+        Err(fault) => return Err(of_keep(fault)),
+    };
     if put_out(writer, b"listening\n") {
         Ok(claimed)
     } else {
@@ -193,7 +196,6 @@ fn keep_closed<T: Files>(
 ) -> Result<Kept, Unkept>
     requires gate { pass.gate ≡ gate.id }
     requires all { pass.parts ≡ 64 }
-    ensures err { IfErr result (λ unkept. IsUnkept unkept.fault) }
 {
     let hall = gate.close(pass);
     let kept = keep(rt, alloc, &hall, claimed, trail);
@@ -223,7 +225,6 @@ pub(crate) fn tell_trail<E: Write>(
     status: u8,
     kept: Result<Kept, Unkept>,
 ) -> Finished
-    requires { IfErr kept (λ unkept. IsUnkept unkept.fault) }
     ensures trail { TellsTrail true status result (end_state E.contents errors.old) (end_state E.contents errors.new) }
     ensures done { result.status ≡ 0 → IsSome result.kept }
     ensures range { IsEnd status → IsEnd result.status }
@@ -234,7 +235,7 @@ pub(crate) fn tell_trail<E: Write>(
             kept: Some(kept),
         },
         Err(unkept) => {
-            let status = tell_found(errors, status, true, &unkept.fault);
+            let status = tell_found(errors, status, true, &of_keep(unkept.fault));
             tell_left(errors, &unkept.left);
             Finished { status, kept: None }
         }

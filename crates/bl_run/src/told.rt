@@ -1,13 +1,13 @@
 //! What a run says on standard error. Nothing of it needs memory, and once standard error has failed nothing more is said.
 ghost use Rattle.std.specs.Prelude.{◌≡◌, ◌⊎◌};
 ghost use Rattle.bl_wire.specs.Watch.{Puts, end_state, used};
-ghost use Rattle.bl_run.specs.Keeping.{left_line, left_words as words_left};
+ghost use Rattle.bl_run.specs.Unkept.{left_line, left_words as words_left};
 ghost use Rattle.bl_run.specs.Message.{ended_line, ended_words as words_for, fault_line, message_of};
 ghost use Rattle.bl_run.specs.Runs.{HasTold};
 
 use crate::fault::ProgramFault;
-use crate::whole::Left;
 use bl_host::ended::{Ended, Why};
+use bl_keep::whole::Left;
 use bl_wire::fault::SessionFault;
 use bl_wire::put::{put, put_number, put_out};
 use bl_wire::watched::Watched;

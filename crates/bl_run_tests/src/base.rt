@@ -1,6 +1,6 @@
 //! A run of `serve` with clients beside it.
 use bl_host::options::Options;
-use bl_run::part::TrailFile;
+use bl_keep::part::TrailFile;
 use bl_run::serve::{Ground, ServeRun, serve_on};
 use bl_wire::watched::Watched;
 use bl_worker::pause::Pause;

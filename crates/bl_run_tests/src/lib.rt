@@ -1,4 +1,4 @@
-//! The tests of `bl_run` and `bl_host`: sessions over TCP.
+//! The tests of `bl_run`, `bl_keep` and `bl_host`: sessions over TCP, and trail files.
 //!
 //!     base        a run of `serve` with clients beside it
 //!     overlaps    two sessions that run side by side

@@ -1,8 +1,8 @@
 //! Trail files: under which name a trail stands at the end of a run, and what stands beside it.
 use super::base::BASE;
 use super::failing::FailingFiles;
+use bl_keep::part::TrailFile;
 use bl_run::alone::{AloneRun, alone_kept_on};
-use bl_run::part::TrailFile;
 use bl_wire::watched::Watched;
 use std::alloc::Global;
 use std::os::unix::fs::{MetadataExt, symlink};
@@ -15,7 +15,7 @@ const LINES: &[u8] = b"hello ann\nwhen read memo do show memo; end\n";
 
 /// Its trail.
 const TRAIL: &[u8] =
-    b"trail 1\nlimit 10000\nopen ann\nline 0 1 when read memo do show memo;end\nstart 0 run\nend 0 done \"m1\"\nstop\n";
+    b"trail 2\nlimit 10000\nopen ann\nline 0 1 when read memo do show memo;end\nstart 0 run\nend 0 done \"m1\"\nstop\n";
 
 /// How a session with a trail ended: its status, what was written and what was said.
 #[derive(Drop)]
@@ -244,6 +244,25 @@ fn a_long_name_is_cut_for_its_part(rt: HostRuntime) -> Result<(), Fail> {
     Ok(())
 }
 
+/// Of a long name in a folder the last component alone is cut, and no character is cut in two.
+#[test]
+fn a_long_name_is_cut_in_its_folder(rt: HostRuntime) -> Result<(), Fail> {
+    let alloc = rt.alloc();
+    let Ok(front) = String::from_utf8(vec![in alloc; b'n'; 249]?) else {
+        return Err(Fail::new("no text"));
+    };
+    let name = format!(in alloc; "long.folder/{front}ééé")?;
+    let part = format!(in alloc; "long.folder/{front}.part")?;
+    let said = format!(in alloc; "cannot write trail\nthe whole trail is in {part}\n")?;
+    let _ = fs::create_dir(&rt, "long.folder");
+    clear(&rt, &[name.as_str(), part.as_str()]);
+    fs::write(&rt, name.as_str(), "other")?;
+    assert!(rt; is_left(&rt, plain(name.as_str()), said.as_bytes(), part.as_str()));
+    clear(&rt, &[name.as_str(), part.as_str()]);
+    fs::remove_dir(&rt, "long.folder")?;
+    Ok(())
+}
+
 /// A file that fails in the middle of a trail: what was written stays, and is told; the name stays free.
 #[test]
 fn a_trail_is_cut_short(rt: HostRuntime) -> Result<(), Fail> {
@@ -259,7 +278,7 @@ fn a_trail_is_cut_short(rt: HostRuntime) -> Result<(), Fail> {
         sat.said.as_slice()
             == b"cannot write trail\nthe trail is cut short in cut.trail.part\n".as_slice()
     );
-    assert!(rt; has(&rt, "cut.trail.part", b"trail 1\nlimit 10000\n"));
+    assert!(rt; has(&rt, "cut.trail.part", b"trail 2\nlimit 10000\n"));
     assert!(rt; is_missing(&rt, "cut.trail"));
     clear(&rt, &names);
     Ok(())

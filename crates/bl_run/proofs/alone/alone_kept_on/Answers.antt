@@ -1,5 +1,6 @@
 use Rattle.std.proofs.Common.{inl, inr}
 use Rattle.std.proofs.KnownBytes.{Keeps-refl}
+use Rattle.bl_run.proofs.Unkept.{is_unkept}
 use Rattle.bl_run.proofs.alone.alone_kept_on.Goals as goal
 
 -- the bytes are no setup
@@ -25,13 +26,13 @@ returns-in-Err-clause-run g c =
 pub returns-in-Err-claim-clause-run : goal.returns-in-Err-claim-clause-run
 returns-in-Err-claim-clause-run g c =
     inr (
-      c.in-Err-claim.fault,
+      c.of_keep.result,
       c.end_with-in-Err-claim.ensures.told,
       inr (record {
         begun = c.in-Ok.setup;
         is = c.in-Ok.ensures.setup;
         asked = c.in-Err-claim.ensures.claims;
-        why = c.in-Err-claim.ensures.err;
+        why = is_unkept c.in-Err-claim.fault c.of_keep.result c.of_keep.ensures;
         unread = Keeps-refl _;
         unwritten = Keeps-refl _;
       }),

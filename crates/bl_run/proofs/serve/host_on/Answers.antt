@@ -1,6 +1,6 @@
 use Rattle.std.proofs.Common.{rules, ◌≡◌, true, refl, sym, subst}
 use Rattle.bl_wire.specs.Watch.{end_state}
-use Rattle.bl_run.specs.Keeping.{TellsTrail}
+use Rattle.bl_run.specs.Unkept.{TellsTrail}
 use Rattle.bl_run.proofs.Hosting.{hosted, untold}
 use Rattle.bl_run.proofs.serve.host_on.Goals as goal
 

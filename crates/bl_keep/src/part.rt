@@ -1,9 +1,10 @@
 //! The file that a trail is written to before it has its name: a new one, beside that name.
-ghost use Rattle.std.specs.Prelude.{◌≡◌, ◌≤◌, ◌+◌, ◌<◌, ◌↔◌, ℕ, IsTrue, IfErr, IfOk, IfSome, codes, length, string_bytes, take, true};
+ghost use Rattle.std.specs.Prelude.{◌≡◌, ◌≤◌, ◌↔◌, ◌⊎◌, IsTrue, IfErr, IfOk, IfSome, codes, drop, is_some, string_bytes, take, true};
 ghost use Rattle.std.specs.Fs.{asks_create_new, asks_write};
-ghost use Rattle.bl_run.specs.Keeping.{IsPartName, IsUnkept};
+ghost use Rattle.std.specs.Str.{IsCharBoundary};
+ghost use Rattle.bl_keep.specs.Keeping.{HasRoom, IsBeside, IsPartName, IsPath, part_suffix};
 
-use crate::fault::{ProgramFault, of_file};
+use crate::fault::{KeepFault, of_file};
 use std::alloc::{AllocError, Global};
 use std::fs::OpenOptions;
 use std::io::{ErrorKind, Read};
@@ -29,8 +30,10 @@ pub struct PartFile<F> {
     pub(crate) file: F,
 }
 
-/// How a trail begins (FORMATS, "Trail").
-const HEAD: &[u8] = b"trail 1\n";
+/// How a trail begins, of version 1 and of version 2 (FORMATS, "Trail").
+const OLD_HEAD: &[u8] = b"trail 1\n";
+
+const HEAD: &[u8] = b"trail 2\n";
 
 /// The most bytes that the last component of a name may have (`NAME_MAX` of POSIX systems).
 const MOST_NAME: usize = 255;
@@ -38,16 +41,23 @@ const MOST_NAME: usize = 255;
 /// How many names are tried beside the one that a trail is to have.
 const MOST_PARTS: u32 = 99;
 
-/// A first part of a name, all of it where its last component leaves room for so many bytes behind it.
-fn with_room(name: &str, room: usize) -> &str
-    requires { room < 255 }
-    ensures short { length name.now + room ≤ 255 → result.now ≡ name.now }
-    ensures front { (n : ℕ) × (result.now ≡ take n name.now) }
+/// Where the last component of a path begins: after its last slash, or at its start.
+fn last_component(path: &str) -> usize
+    ensures boundary { IsCharBoundary path.now result }
+    ensures path { IsPath path.now (take result path.now) (drop result path.now) }
 {
-    let start = match name.rfind('/') {
+    match path.rfind('/') {
         Some(at) => at + 1,
         None => 0,
-    };
+    }
+}
+
+/// The name, with the end of its last component cut off where so many bytes would have no room after it.
+fn with_room(name: &str, room: usize) -> &str
+    requires { room ≤ 255 }
+    ensures { HasRoom name.now room result.now }
+{
+    let start = last_component(name);
     if name.len() - start <= MOST_NAME - room {
         return name;
     }
@@ -55,19 +65,26 @@ fn with_room(name: &str, room: usize) -> &str
     name.split_at(most).0
 }
 
-/// The name of the file that a trail is written to before it has its own name: with `.part` behind it, or `.part.N` from the second on;
-/// where that would be too long, the last component is cut short before it.
+/// What stands after the name: `.part`, or `.part.N` from the second try on.
+fn suffix(alloc: Global, number: u32) -> Result<String, AllocError>
+    ensures { IfOk result (λ suffix. string_bytes suffix ≡ part_suffix number) }
+{
+    if number <= 1 {
+        format!(in alloc; ".part")
+    } else {
+        format!(in alloc; ".part.{number}")
+    }
+}
+
+/// The name of the file that a trail is written to before it has its own name: with `.part` after it, or `.part.N` from the second try on;
+/// where that would be too long, the end of the last component is cut off before it.
 fn part_name(alloc: Global, name: &str, number: u32) -> Result<String, AllocError>
     requires { number ≤ 99 }
     ensures { IfOk result (λ part. IsPartName name.now number (string_bytes part)) }
 {
-    if number <= 1 {
-        let front = with_room(name, 5);
-        format!(in alloc; "{front}.part")
-    } else {
-        let front = with_room(name, 8);
-        format!(in alloc; "{front}.part.{number}")
-    }
+    let suffix = suffix(alloc, number)?;
+    let front = with_room(name, suffix.len());
+    format!(in alloc; "{front}{suffix}")
 }
 
 /// How the file is opened: it is written and made new, which follows no link and takes no name that is there, and nobody but its owner may read
@@ -87,29 +104,31 @@ pub(crate) fn make_part<R: Files>(
     rt: &R,
     alloc: Global,
     name: &str,
-) -> Result<PartFile<R::File>, ProgramFault>
-    ensures err { IfErr result IsUnkept }
+) -> Result<PartFile<R::File>, KeepFault>
+    ensures { IfOk result (λ part. IsBeside name.now (string_bytes part.name)) }
 {
     for number in 1..=MOST_PARTS {
         let Ok(part) = part_name(alloc, name, number) else {
-            return Err(ProgramFault::NoMemory);
+            return Err(KeepFault::Memory);
         };
         match part_options().open(rt, part.as_str()) {
             Ok(file) => return Ok(PartFile { name: part, file }),
             Err(error) if error.kind() == ErrorKind::AlreadyExists => {}
-            Err(error) => return Err(of_file(&error, ProgramFault::CannotWriteTrail)),
+            Err(error) => return Err(of_file(&error)),
         }
     }
-    Err(ProgramFault::CannotWriteTrail)
+    Err(KeepFault::Unwritable)
 }
 
-/// Whether the bytes that a reader gives begin as a trail does.
+/// Whether the bytes that a reader gives begin as a trail of some version does.
 fn begins_as_trail<F: Read + Drop>(alloc: Global, file: F) -> io::Result<bool>
-    ensures { IfOk result (λ is. IfSome (F.remaining file) (λ all. IsTrue is ↔ (take 8 all ≡ codes "trail 1\n"))) }
+    ensures { IfOk result (λ is. IfSome (F.remaining file) (λ all. IsTrue is
+        ↔ ((take 8 all ≡ codes "trail 1\n") ⊎ (take 8 all ≡ codes "trail 2\n")))) }
 {
     let mut bytes = Vec::new(alloc);
     file.take(8).read_to_end(&mut bytes)?;
-    Ok(bytes.as_slice() == HEAD)
+    let head = bytes.as_slice();
+    Ok(head == OLD_HEAD || head == HEAD)
 }
 
 /// Whether a plain file stands under this name that begins as a trail does. No link is followed.
@@ -135,19 +154,23 @@ fn is_free<R: Files>(rt: &R, alloc: Global, trail: &TrailFile<'_>) -> bool {
 }
 
 /// Makes the file of a trail that claims its name; nothing where it does not. The name has to be free now.
-pub(crate) fn claim<R: Files>(
+///
+/// `Unwritable` comes where something stands under the name, but for a trail that may be replaced, where the name is empty, and where no file
+/// can be made beside it; `Memory` comes where a growth was refused. No file is made then.
+pub fn claim<R: Files>(
     rt: &R,
     alloc: Global,
     trail: &TrailFile<'_>,
-) -> Result<Option<PartFile<R::File>>, ProgramFault>
-    ensures err { IfErr result IsUnkept }
+) -> Result<Option<PartFile<R::File>>, KeepFault>
     ensures claims { IfErr result (λ _. trail.now.claims ≡ true) }
+    ensures made { IfOk result (λ claimed. IsTrue (is_some claimed) ↔ (trail.now.claims ≡ true)) }
+    ensures name { IfOk result (λ claimed. IfSome claimed (λ part. IsBeside trail.now.name.now (string_bytes part.name))) }
 {
     if !trail.claims {
         return Ok(None);
     }
     if !is_free(rt, alloc, trail) {
-        return Err(ProgramFault::CannotWriteTrail);
+        return Err(KeepFault::Unwritable);
     }
     match make_part(rt, alloc, trail.name) {
         Ok(part) => Ok(Some(part)),
@@ -155,8 +178,8 @@ pub(crate) fn claim<R: Files>(
     }
 }
 
-/// Removes a file that was claimed, and in which nothing was written.
-pub(crate) fn give_back<R: Files>(rt: &R, claimed: Option<PartFile<R::File>>) {
+/// Removes a file that was claimed, and in which nothing was written. Where it cannot be removed, it stays.
+pub fn give_back<R: Files>(rt: &R, claimed: Option<PartFile<R::File>>) {
     if let Some(part) = claimed {
         let _removed = fs::remove_file(rt, part.name.as_str());
     }

@@ -1,8 +1,7 @@
 //! Gives a whole trail its name.
-ghost use Rattle.std.specs.Prelude.{IfErr};
-ghost use Rattle.bl_run.specs.Keeping.{IsUnkept};
+ghost use Rattle.std.specs.Prelude.{◌≡◌, IfErr, Some, true};
 
-use crate::fault::{ProgramFault, of_file};
+use crate::fault::of_file;
 use crate::part::{TrailFile, is_trail};
 use crate::whole::{Unkept, Whole};
 use std::alloc::Global;
@@ -17,14 +16,14 @@ pub struct Kept {
 
 /// Gives a whole trail its name in place of what stands there.
 fn take_place<F: Drop, R: Files>(rt: &R, whole: Whole<F>, name: &str) -> Result<Kept, Unkept>
-    ensures err { IfErr result (λ unkept. IsUnkept unkept.fault) }
+    ensures { IfErr result (λ unkept. unkept.left ≡ Some (record { name = whole.name; whole = true })) }
 {
     match fs::rename(rt, whole.name(), name) {
         Ok(()) => {
             whole.end();
             Ok(Kept { _has_name: () })
         }
-        Err(error) => Err(whole.leave(of_file(&error, ProgramFault::CannotWriteTrail))),
+        Err(error) => Err(whole.leave(of_file(&error))),
     }
 }
 
@@ -36,7 +35,7 @@ pub(crate) fn take_name<F: Drop, R: Files>(
     whole: Whole<F>,
     trail: &TrailFile<'_>,
 ) -> Result<Kept, Unkept>
-    ensures err { IfErr result (λ unkept. IsUnkept unkept.fault) }
+    ensures { IfErr result (λ unkept. unkept.left ≡ Some (record { name = whole.name; whole = true })) }
 {
     match fs::hard_link(rt, whole.name(), trail.name) {
         Ok(()) => {
@@ -47,6 +46,6 @@ pub(crate) fn take_name<F: Drop, R: Files>(
         Err(_) if trail.replaces && is_trail(rt, alloc, trail.name) => {
             take_place(rt, whole, trail.name)
         }
-        Err(error) => Err(whole.leave(of_file(&error, ProgramFault::CannotWriteTrail))),
+        Err(error) => Err(whole.leave(of_file(&error))),
     }
 }

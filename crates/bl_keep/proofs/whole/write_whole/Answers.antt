@@ -3,8 +3,8 @@ use Rattle.std.specs.Prelude.{IfSome, OnOk}
 use Rattle.std.specs.Io.Buffered.{writer_contents}
 use Rattle.std.specs.Io.KnownBytes.{Appends, Keeps}
 use Rattle.bl_audit.specs.Written.{trail_text}
-use Rattle.bl_run.proofs.Keeping.{wrote_file}
-use Rattle.bl_run.proofs.whole.write_whole.Goals as goal
+use Rattle.bl_keep.proofs.Keeping.{wrote_file}
+use Rattle.bl_keep.proofs.whole.write_whole.Goals as goal
 
 -- the file began with nothing kept back, the trail was written, and what was kept back went to the file
 pub returns-in-Ok-Some-clause-text : goal.returns-in-Ok-Some-clause-text

@@ -1,10 +1,9 @@
 //! Trails that are written whole, and what is left of those that are not kept.
-ghost use Rattle.std.specs.Prelude.{◌≡◌, IfErr, IfOk, None};
+ghost use Rattle.std.specs.Prelude.{◌≡◌, IfErr, IfOk, Some, false, string_bytes, true};
 ghost use Rattle.std.specs.Io.KnownBytes.{Appends};
 ghost use Rattle.bl_audit.specs.Written.{trail_text};
-ghost use Rattle.bl_run.specs.Keeping.{IsUnkept};
 
-use crate::fault::ProgramFault;
+use crate::fault::KeepFault;
 use crate::part::PartFile;
 use bl_audit::trail::{TrailFault, write_trail};
 use bl_hall::hall::Hall;
@@ -25,7 +24,7 @@ pub struct Left {
 /// Why a trail was not kept, and what is left of it; nothing where no file could be made for it.
 #[derive(Debug, PartialEq, Eq, Drop)]
 pub struct Unkept {
-    pub fault: ProgramFault,
+    pub fault: KeepFault,
     pub left: Option<Left>,
 }
 
@@ -38,7 +37,9 @@ pub(crate) struct Whole<F> {
 
 impl<F: Drop> Whole<F> {
     /// The name of the file.
-    pub(crate) fn name(&self) -> &str {
+    pub(crate) fn name(&self) -> &str
+        ensures { result.now ≡ string_bytes self.now.name }
+    {
         self.name.as_str()
     }
 
@@ -48,8 +49,9 @@ impl<F: Drop> Whole<F> {
     }
 
     /// The trail was not kept for this fault, and is left in its file.
-    pub(crate) fn leave(self, fault: ProgramFault) -> Unkept
-        ensures { result.fault ≡ fault }
+    pub(crate) fn leave(self, fault: KeepFault) -> Unkept
+        ensures fault { result.fault ≡ fault }
+        ensures left { result.left ≡ Some (record { name = self.name; whole = true }) }
     {
         let Whole { name, file: _ } = self;
         let whole = true;
@@ -61,8 +63,9 @@ impl<F: Drop> Whole<F> {
 }
 
 /// The trail was not kept for this fault, and a first part of it is left in the file of this name.
-fn cut_short(name: String, fault: ProgramFault) -> Unkept
-    ensures { result.fault ≡ fault }
+fn cut_short(name: String, fault: KeepFault) -> Unkept
+    ensures fault { result.fault ≡ fault }
+    ensures left { result.left ≡ Some (record { name = name; whole = false }) }
 {
     let whole = false;
     Unkept {
@@ -71,15 +74,14 @@ fn cut_short(name: String, fault: ProgramFault) -> Unkept
     }
 }
 
-/// What a fault of the trail's writer is to the program.
-fn of_trail(fault: TrailFault) -> ProgramFault
-    ensures write { fault ≡ TrailFault.Write → result ≡ ProgramFault.CannotWriteTrail }
-    ensures memory { fault ≡ TrailFault.Memory → result ≡ ProgramFault.NoMemory }
-    ensures unkept { IsUnkept result }
+/// What a fault of the trail's writer is to the trail that is kept.
+fn of_trail(fault: TrailFault) -> KeepFault
+    ensures write { fault ≡ TrailFault.Write → result ≡ KeepFault.Unwritable }
+    ensures memory { fault ≡ TrailFault.Memory → result ≡ KeepFault.Memory }
 {
     match fault {
-        TrailFault::Write => ProgramFault::CannotWriteTrail,
-        TrailFault::Memory => ProgramFault::NoMemory,
+        TrailFault::Write => KeepFault::Unwritable,
+        TrailFault::Memory => KeepFault::Memory,
     }
 }
 
@@ -90,18 +92,19 @@ pub(crate) fn write_whole<F: Write + Drop>(
     part: PartFile<F>,
 ) -> Result<Whole<F>, Unkept>
     ensures text { IfOk result (λ whole. Appends (F.contents part.file) (F.contents whole.file) (trail_text hall.now.setup hall.now.limit hall.now.trail)) }
-    ensures err { IfErr result (λ unkept. IsUnkept unkept.fault) }
+    ensures name { IfOk result (λ whole. whole.name ≡ part.name) }
+    ensures left { IfErr result (λ unkept. unkept.left ≡ Some (record { name = part.name; whole = false })) }
 {
     let PartFile { name, file } = part;
     let Ok(writer) = BufWriter::new(alloc, file) else {
-        return Err(cut_short(name, ProgramFault::NoMemory));
+        return Err(cut_short(name, KeepFault::Memory));
     };
     let mut writer = Watched::new(writer);
     let written = write_trail(alloc, hall, &mut writer);
     let rest = hand_on_rest(writer);
     match (written, rest) {
         (Ok(()), Some(file)) => Ok(Whole { name, file }),
-        (Ok(()), None) => Err(cut_short(name, ProgramFault::CannotWriteTrail)),
+        (Ok(()), None) => Err(cut_short(name, KeepFault::Unwritable)),
         (Err(fault), _) => Err(cut_short(name, of_trail(fault))),
     }
 }

@@ -1,6 +1,6 @@
 //! Keeps a trail in a file.
 ghost use Rattle.std.specs.Prelude.{IfErr};
-ghost use Rattle.bl_run.specs.Keeping.{IsUnkept};
+ghost use Rattle.bl_keep.specs.Keeping.{IsLeftIn};
 
 use crate::named::{Kept, take_name};
 use crate::part::{PartFile, TrailFile, make_part};
@@ -11,15 +11,18 @@ use std::rt::Files;
 
 /// Keeps the trail of a hall in a file. It is written to the file that was claimed, or to a new one beside its name, and takes its name once it is
 /// whole. What stands under the name stays, but for a trail where that may be replaced. Where the trail is not kept, nothing that was written is
-/// removed. What a file has no clause can say.
-pub(crate) fn keep<R: Files>(
+/// removed, and what is left says where it is. What a file has no clause can say.
+///
+/// The fault is `Unwritable` where no file could be made beside the name, where its file could not be written, and where the trail could not have
+/// its name; it is `Memory` where a growth was refused.
+pub fn keep<R: Files>(
     rt: &R,
     alloc: Global,
     hall: &Hall,
     claimed: Option<PartFile<R::File>>,
     trail: &TrailFile<'_>,
 ) -> Result<Kept, Unkept>
-    ensures err { IfErr result (λ unkept. IsUnkept unkept.fault) }
+    ensures left { IfErr result (λ unkept. IsLeftIn trail.now.name.now claimed unkept.left) }
 {
     let part = match claimed {
         Some(part) => part,
