@@ -6,6 +6,7 @@
 //!     decisions    which property is named where an access is denied
 //!     contents     what a behaviour shows and leaves
 //!     children     when children enter, and the order of their labels
+//!     carried      what children carry
 //!     rules        rules among the lines of a session
 //!     refusals     why a line is refused
 //!     blocks       the replies of each block
@@ -19,6 +20,8 @@
 mod base;
 #[cfg(test)]
 mod blocks;
+#[cfg(test)]
+mod carried;
 #[cfg(test)]
 mod children;
 #[cfg(test)]
