@@ -7,9 +7,9 @@ use Rattle.bl_policy.specs.declared.access.Mode.{Mode}
 use Rattle.bl_policy.specs.declared.access.Mode.TheVariants.{Read, Append, Write}
 use Rattle.bl_policy.specs.declared.access.ModeSet.{ModeSet}
 use Rattle.bl_policy.specs.Mode.{place_of, has_mode}
-use Rattle.bl_policy.specs.Matrix.{Matrix, Triple, triple, no_triple, is_in, take_out, put_modes}
+use Rattle.bl_policy.specs.Matrix.{Matrix, Triple, triple, no_triple, is_in, take_out, without_document, put_modes}
 use Rattle.bl_policy.specs.Cells.{matrix_from, matrix_of}
-use Rattle.bl_policy.proofs.Triples.{is_at, three, same_triple, is_in-put_modes, is_in-take_out, same_members_set}
+use Rattle.bl_policy.proofs.Triples.{is_at, three, same_triple, is_in-put_modes, is_in-take_out, is_in-without_document, one_number, two_numbers, same_members_set}
 
 abbrev pub no_mode : ModeSet
 no_mode = record { 0 = 0 }
@@ -192,3 +192,35 @@ matrix_of-lost cells s o cell m h within loses =
     same_members_set (matrix_of (set cells (s * 1024 + o) cell)) (take_out (matrix_of cells) (triple s o m))
     (λ t. in_cells-lost cells s o cell m t h within loses (cases_lt t.document 1024) (cases_eq (t.subject * 1024 + t.document) (s * 1024 + o))
     ∙ sym (is_in-take_out (matrix_of cells) (triple s o m) t))
+
+-- ---- emptying a column
+
+-- no cell of document o has a mode, and those of the other documents have the modes that they had
+pub record Empties (o : ℕ) (old new : List ModeSet) : Type 0 where
+  pub emptied : (s : ℕ) → get_or new (s * 1024 + o) no_mode ≡ no_mode
+  pub others : (s u : ℕ) → u < 1024 → u ≢ o → get_or new (s * 1024 + u) no_mode ≡ get_or old (s * 1024 + u) no_mode
+
+is_in-emptied : (old new : List ModeSet) (o : ℕ) (t : Triple) → Empties o old new → (t.document < 1024) ⊎ (1024 ≤ t.document) → (t.document ≡ o) ⊎ (t.document ≢ o)
+    → is_in (matrix_of new) t ≡ (not (t.document == o) && is_in (matrix_of old) t)
+is_in-emptied old new o t empties (inr past_last) place =
+    is_in-matrix_from 0 new t
+    ∙ outside 0 new t past_last
+    ∙ sym (and-false (not (t.document == o)))
+    ∙ ap (λ b. not (t.document == o) && b) (sym (is_in-matrix_from 0 old t ∙ outside 0 old t past_last))
+is_in-emptied old new o t empties (inl column) (inl at) =
+    is_in-matrix_of new t.subject t.document t.mode column
+    ∙ ap (λ c. has_mode c t.mode) (ap (λ u. get_or new (t.subject * 1024 + u) no_mode) at ∙ empties.emptied t.subject)
+    ∙ no_mode-none t.mode
+    ∙ sym (ap (λ b. not b && is_in (matrix_of old) t) (one_number t.document o at))
+is_in-emptied old new o t empties (inl column) (inr apart) =
+    is_in-matrix_of new t.subject t.document t.mode column
+    ∙ ap (λ c. has_mode c t.mode) (empties.others t.subject t.document column apart)
+    ∙ sym (is_in-matrix_of old t.subject t.document t.mode column)
+    ∙ sym (ap (λ b. not b && is_in (matrix_of old) t) (two_numbers t.document o apart))
+
+-- cells of which a column is emptied stand for the set without the triples of its document
+pub matrix_of-emptied : (old new : List ModeSet) (o : ℕ) → Empties o old new → matrix_of new ≡ without_document (matrix_of old) o
+matrix_of-emptied old new o empties =
+    same_members_set (matrix_of new) (without_document (matrix_of old) o)
+    (λ t. is_in-emptied old new o t empties (cases_lt t.document 1024) (cases_eq t.document o)
+    ∙ sym (is_in-without_document (matrix_of old) o t))

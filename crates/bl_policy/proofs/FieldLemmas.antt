@@ -1,9 +1,10 @@
 -- What is true of the fields of a policy, and what a write of a cell makes of them.
-use Rattle.std.proofs.Common.{All, ◌≡◌, ℕ, ◌+◌, ◌*◌, ◌<◌, not, ◌&&◌, ◌||◌, ◌==◌, sym, ◌∙◌, ap, subst, arith, refl, zero, suc, List, [], ◌∷◌, ◌++◌, replicate, length, map, get_or, set, take, length-set, Bool, true, ◌-◌, ◌≤◌}
+use Rattle.std.proofs.Common.{All, ◌≡◌, ◌≢◌, ◌⊎◌, inl, inr, ℕ, ◌+◌, ◌*◌, ◌/◌, ◌%◌, ◌<◌, not, ◌&&◌, ◌||◌, ◌==◌, sym, ◌∙◌, ap, subst, arith, refl, zero, suc, List, [], ◌∷◌, ◌++◌, replicate, length, map, get_or, set, take, length-set, Bool, true, ◌-◌, ◌≤◌}
 use Rattle.std.specs.Prelude.{bit_and, bit_or}
 use Rattle.std.specs.Vec.{with_item, with_items, vec_capacity}
 use Rattle.std.specs.Prelude.{Vec, if◌then◌else◌}
-use Rattle.std.proofs.lemmas.List.{get_or_default, get_or-map, get_or-set_same, get_or_push, map-set, map-append, length-map, length-append, length-replicate, length_push, take_all, with_items_is}
+use Rattle.std.proofs.lemmas.Bool.{cases_eq, cases_lt}
+use Rattle.std.proofs.lemmas.List.{get_or_default, get_or_past, get_or-map, get_or-set_same, get_or_push, map-set, map-append, length-map, length-append, length-replicate, length_push, take_all, with_items_is}
 use Rattle.std.proofs.lemmas.List.Elements.{All-set, All-map, All-push, All-append, All-replicate}
 use Rattle.bitflags.specs.Sets.{without}
 use Rattle.bl_level.specs.Level.{SecurityLevel, Dominates}
@@ -14,12 +15,12 @@ use Rattle.bl_policy.specs.declared.policy.cell.Cell.{Cell}
 use Rattle.bl_policy.specs.declared.policy.Policy.TheInside.{Inside}
 use Rattle.bl_policy.specs.Mode.{place_of, flag_of, has_mode}
 use Rattle.bl_policy.specs.Matrix.{triple, take_out, put_modes}
-use Rattle.bl_policy.specs.Cells.{clearance_from, modes_of, matrix_of, clause_of, failed_in, no_cell, cell_at, IsCellOf, HaveFirstFailed, HasMendedRow, HasMendedColumn}
+use Rattle.bl_policy.specs.Cells.{clearance_from, modes_of, matrix_of, clause_of, failed_in, no_cell, cell_at, IsCellOf, HaveFirstFailed, HasMendedRow, HasMendedColumn, HasEmptiedColumn}
 use Rattle.bl_policy.specs.FirstFault.{property_fault}
-use Rattle.bl_policy.specs.Policy.{SecurityPolicy, Clearance, nobody, lowest, clearance_of, level_of, with_subject, with_modes, without_triple, with_current, allows, CurrentBelowGreatest}
+use Rattle.bl_policy.specs.Policy.{SecurityPolicy, Clearance, nobody, lowest, clearance_of, level_of, with_subject, with_modes, without_triple, without_cells, with_current, allows, CurrentBelowGreatest}
 use Rattle.bl_policy.specs.Fields.{policy_of, IsSound}
-use Rattle.bl_policy.proofs.CellLemmas.{no_mode, is_in-matrix_of, matrix_of-set, matrix_of-lost, matrix_from-more}
-use Rattle.bl_policy.proofs.FirstFailed.{refused, fault-read, first_failed-set, first_failed-append, first_failed-row, first_failed-column, others-set, others-push}
+use Rattle.bl_policy.proofs.CellLemmas.{no_mode, is_in-matrix_of, matrix_of-set, matrix_of-lost, matrix_from-more, Empties, matrix_of-emptied}
+use Rattle.bl_policy.proofs.FirstFailed.{refused, fault-read, first_failed-set, first_failed-append, first_failed-row, first_failed-trusted, first_failed-column, first_failed-emptied, others-set, others-push, modes-at}
 use Rattle.bl_policy.proofs.ModeLemmas.{has_mode-or, has_mode-without}
 
 -- a position of a subject and one of a document
@@ -80,14 +81,16 @@ pub record Writes (p : Inside) (s o place : ℕ) (old new : Cell) : Type 0 where
 
 -- the fields stay sound
 pub IsSound-written : (p : Inside) → IsSound p → (s o place : ℕ) (old new : Cell) → Writes p s o place old new → new.modes.0 < 8
-    → IsSound (record { subjects = p.subjects; documents = p.documents; cells = with_item p.cells place new })
+    → IsSound (record p { cells = with_item p.cells place new })
 IsSound-written p sound s o place old new writes small =
     record {
       subject_room = sound.subject_room;
       document_room = sound.document_room;
+      presence_room = sound.presence_room;
       cell_room = sound.cell_room;
       subject_limit = sound.subject_limit;
       document_limit = sound.document_limit;
+      presence_count = sound.presence_count;
       cell_count = length-set p.cells.items place new ∙ sound.cell_count;
       modes_only = subst (All (λ modes. modes.0 < 8)) (sym (map-set (λ (c : Cell). c.modes) p.cells.items place new)) (All-set (λ modes. modes.0 < 8) (modes_of p.cells.items) place new.modes small sound.modes_only);
       dominated = sound.dominated;
@@ -97,7 +100,7 @@ IsSound-written p sound s o place old new writes small =
 
 -- the modes are added to those of the cell
 pub policy_of-added : (p : Inside) → IsSound p → (s o place : ℕ) (old new : Cell) (modes : ModeSet) → Writes p s o place old new → new.modes ≡ record { 0 = bit_or old.modes.0 (bit_and modes.0 7) }
-    → policy_of (record { subjects = p.subjects; documents = p.documents; cells = with_item p.cells place new }) ≡ with_modes (policy_of p) s o modes
+    → policy_of (record p { cells = with_item p.cells place new }) ≡ with_modes (policy_of p) s o modes
 policy_of-added p sound s o place old new modes writes added =
     let within : s * 1024 + o < length (modes_of p.cells.items) = omega (arith, place_within p sound s o writes.are, length-map p.cells.items (λ (c : Cell). c.modes)) in
     let had : old.modes ≡ get_or (modes_of p.cells.items) (s * 1024 + o) no_mode = modes-read p sound s o place old writes.are writes.at writes.was in
@@ -106,11 +109,11 @@ policy_of-added p sound s o place old new modes writes added =
     ∙ ap (λ k. matrix_of (set (modes_of p.cells.items) k new.modes)) writes.at
     ∙ matrix_of-set (modes_of p.cells.items) s o new.modes modes (column_within p sound s o writes.are) within
     (λ m. ap (λ c. has_mode c m) added ∙ has_mode-or old.modes.0 modes.0 m ∙ ap (λ c. has_mode c m || has_mode modes m) had) in
-    λ i. record { subjects = (policy_of p).subjects; documents = (policy_of p).documents; matrix = matrices i }
+    λ i. record (policy_of p) { matrix = matrices i }
 
 -- a mode is taken out of those of the cell
 pub policy_of-taken : (p : Inside) → IsSound p → (s o place : ℕ) (old new : Cell) (m : Mode) → Writes p s o place old new → new.modes ≡ record { 0 = without 8 old.modes.0 (flag_of m) }
-    → policy_of (record { subjects = p.subjects; documents = p.documents; cells = with_item p.cells place new }) ≡ without_triple (policy_of p) (triple s o m)
+    → policy_of (record p { cells = with_item p.cells place new }) ≡ without_triple (policy_of p) (triple s o m)
 policy_of-taken p sound s o place old new m writes taken =
     let within : s * 1024 + o < length (modes_of p.cells.items) = omega (arith, place_within p sound s o writes.are, length-map p.cells.items (λ (c : Cell). c.modes)) in
     let had : old.modes ≡ get_or (modes_of p.cells.items) (s * 1024 + o) no_mode = modes-read p sound s o place old writes.are writes.at writes.was in
@@ -119,7 +122,7 @@ policy_of-taken p sound s o place old new m writes taken =
     ∙ ap (λ k. matrix_of (set (modes_of p.cells.items) k new.modes)) writes.at
     ∙ matrix_of-lost (modes_of p.cells.items) s o new.modes m (column_within p sound s o writes.are) within
     (λ n. ap (λ c. has_mode c n) taken ∙ has_mode-without old.modes.0 m n ∙ ap (λ c. not (place_of m == place_of n) && has_mode c n) had) in
-    λ i. record { subjects = (policy_of p).subjects; documents = (policy_of p).documents; matrix = matrices i }
+    λ i. record (policy_of p) { matrix = matrices i }
 
 -- ---- rules
 
@@ -140,18 +143,24 @@ level-read p o place read there at was = was ∙ ap (λ k. get_or p.documents.it
 pub length-modes : (cells others : List Cell) → modes_of cells ≡ modes_of others → length cells ≡ length others
 length-modes cells others e = sym (length-map cells (λ (c : Cell). c.modes)) ∙ ap length e ∙ length-map others (λ (c : Cell). c.modes)
 
--- cells with the same modes are written back whole
+-- cells that are as many are written back whole
+whole_again : {Z : Type 0} (v : Vec Cell Z) (cells : List Cell) → length cells ≡ length v.items → (with_items v cells).items ≡ cells
+whole_again v cells e = with_items_is v cells (e ∙ sym v.ok.0)
+
+-- so are cells with the same modes
 pub written_back : {Z : Type 0} (v : Vec Cell Z) (cells : List Cell) → modes_of cells ≡ modes_of v.items → (with_items v cells).items ≡ cells
-written_back v cells e = with_items_is v cells (length-modes cells v.items e ∙ sym v.ok.0)
+written_back v cells e = whole_again v cells (length-modes cells v.items e)
 
 -- of fields whose cells have other modes than before, or of which the subjects or the documents are others: what is asked of them
 pub record Mends (p q : Inside) (cells mended : List Cell) : Type 0 where
   pub subject_room : vec_capacity p.subjects ≤ vec_capacity q.subjects
   pub document_room : vec_capacity p.documents ≤ vec_capacity q.documents
+  pub presence_room : vec_capacity p.present ≤ vec_capacity q.present
   pub cell_room : vec_capacity p.cells ≤ vec_capacity q.cells
   pub same : modes_of mended ≡ modes_of cells
   pub small : All (λ modes. modes.0 < 8) (modes_of cells)
   pub is : q.cells.items ≡ mended
+  pub presence_count : length q.present.items ≡ length q.documents.items
 
 sound-mended : (p q : Inside) (cells mended : List Cell) → IsSound p → Mends p q cells mended → length q.subjects.items ≤ 256 → length q.documents.items ≤ 1024 → length cells ≡ length q.subjects.items * 1024
     → All (λ (s : Subject). Dominates s.greatest s.current) q.subjects.items → HaveFirstFailed (map clearance_from q.subjects.items) q.documents.items mended → IsSound q
@@ -159,29 +168,50 @@ sound-mended p q cells mended sound mends subjects documents count dominated hav
     record {
       subject_room = omega (arith, sound.subject_room, mends.subject_room);
       document_room = omega (arith, sound.document_room, mends.document_room);
+      presence_room = omega (arith, sound.presence_room, mends.presence_room);
       cell_room = omega (arith, sound.cell_room, mends.cell_room);
       subject_limit = subjects;
       document_limit = documents;
+      presence_count = mends.presence_count;
       cell_count = ap length mends.is ∙ length-modes mended cells mends.same ∙ count;
       modes_only = subst (All (λ modes. modes.0 < 8)) (sym (ap modes_of mends.is ∙ mends.same)) mends.small;
       dominated = dominated;
       first_failed = subst (HaveFirstFailed (map clearance_from q.subjects.items) q.documents.items) (sym mends.is) have;
     }
 
--- one subject is another, and its row is mended
-pub IsSound-moved : (p q : Inside) (row : ℕ) (new : Subject) (mended : List Cell) → IsSound p → Mends p q p.cells.items mended → q.subjects.items ≡ set p.subjects.items row new → q.documents.items ≡ p.documents.items
-    → row < length p.subjects.items → Dominates new.greatest new.current → HasMendedRow (row * 1024) (clearance_from new) p.documents.items p.cells.items mended → IsSound q
-IsSound-moved p q row new mended sound mends moved stay within below has =
+-- a row that is mended for what its subject is now
+pub row-mended_for : (p : Inside) → IsSound p → (row : ℕ) (new : Subject) (mended : List Cell) → row < length p.subjects.items
+    → HasMendedRow (row * 1024) (clearance_from new) p.documents.items p.cells.items mended → HaveFirstFailed (set (map clearance_from p.subjects.items) row (clearance_from new)) p.documents.items mended
+row-mended_for p sound row new mended within has =
     let old = map clearance_from p.subjects.items in
     let there : row < length old = omega (arith, within, length-map p.subjects.items clearance_from) in
+    first_failed-row old (set old row (clearance_from new)) p.documents.items p.cells.items mended row sound.document_limit (others-set nobody old row (clearance_from new))
+    (subst (λ (c : Clearance). HasMendedRow (row * 1024) c p.documents.items p.cells.items mended) (sym (get_or-set_same old row (clearance_from new) nobody there)) has) sound.first_failed
+
+-- the row of a trusted subject is as it has to be, whatever its current level is
+pub row-trusted : (p : Inside) → IsSound p → (row : ℕ) (old new : Subject) → row < length p.subjects.items → clearance_from old ≡ get_or (map clearance_from p.subjects.items) row nobody
+    → old.trusted ≡ true → new.trusted ≡ true → new.greatest ≡ old.greatest → HaveFirstFailed (set (map clearance_from p.subjects.items) row (clearance_from new)) p.documents.items p.cells.items
+row-trusted p sound row old new within was old_trusted new_trusted greatest =
+    let subjects = map clearance_from p.subjects.items in
+    let there : row < length subjects = omega (arith, within, length-map p.subjects.items clearance_from) in
+    let is : get_or (set subjects row (clearance_from new)) row nobody ≡ clearance_from new = get_or-set_same subjects row (clearance_from new) nobody there in
+    first_failed-trusted subjects (set subjects row (clearance_from new)) p.documents.items p.cells.items row (others-set nobody subjects row (clearance_from new)) there
+    (ap (λ (c : Clearance). c.trusted) (sym was) ∙ old_trusted)
+    (ap (λ (c : Clearance). c.trusted) is ∙ new_trusted)
+    (ap (λ (c : Clearance). c.greatest) is ∙ greatest ∙ ap (λ (c : Clearance). c.greatest) was)
+    sound.first_failed
+
+-- one subject is another, and its row is as it has to be
+pub IsSound-moved : (p q : Inside) (row : ℕ) (new : Subject) (mended : List Cell) → IsSound p → Mends p q p.cells.items mended → q.subjects.items ≡ set p.subjects.items row new → q.documents.items ≡ p.documents.items
+    → Dominates new.greatest new.current → HaveFirstFailed (set (map clearance_from p.subjects.items) row (clearance_from new)) p.documents.items mended → IsSound q
+IsSound-moved p q row new mended sound mends moved stay below have =
+    let old = map clearance_from p.subjects.items in
     let clearances : map clearance_from q.subjects.items ≡ set old row (clearance_from new) = ap (map clearance_from) moved ∙ map-set clearance_from p.subjects.items row new in
     let many : length q.subjects.items ≡ length p.subjects.items = ap length moved ∙ length-set p.subjects.items row new in
     sound-mended p q p.cells.items mended sound mends (omega (arith, many, sound.subject_limit)) (omega (arith, ap length stay, sound.document_limit)) (sound.cell_count ∙ ap (λ n. n * 1024) (sym many))
     (subst (All (λ (s : Subject). Dominates s.greatest s.current)) (sym moved) (All-set (λ (s : Subject). Dominates s.greatest s.current) p.subjects.items row new below sound.dominated))
     (subst (λ (cs : List Clearance). HaveFirstFailed cs q.documents.items mended) (sym clearances)
-    (subst (λ (ls : List SecurityLevel). HaveFirstFailed (set old row (clearance_from new)) ls mended) (sym stay)
-    (first_failed-row old (set old row (clearance_from new)) p.documents.items p.cells.items mended row sound.document_limit (others-set nobody old row (clearance_from new))
-    (subst (λ (c : Clearance). HasMendedRow (row * 1024) c p.documents.items p.cells.items mended) (sym (get_or-set_same old row (clearance_from new) nobody there)) has) sound.first_failed)))
+    (subst (λ (ls : List SecurityLevel). HaveFirstFailed (set old row (clearance_from new)) ls mended) (sym stay) have))
 
 -- one document has another level, and its column is mended
 pub IsSound-classified : (p q : Inside) (column : ℕ) (level : SecurityLevel) (mended : List Cell) → IsSound p → Mends p q p.cells.items mended → q.subjects.items ≡ p.subjects.items → q.documents.items ≡ set p.documents.items column level
@@ -243,10 +273,10 @@ resized-row old new ok n count value e done at more blank =
     ∙ ap (λ v. old ++ replicate 1024 v) blank
 
 -- the policy then has one more subject
-pub policy_of-subject : (p q : Inside) (new : Subject) → q.subjects.items ≡ p.subjects.items ++ new ∷ [] → q.documents.items ≡ p.documents.items → modes_of q.cells.items ≡ modes_of (with_row p.cells.items)
+pub policy_of-subject : (p q : Inside) (new : Subject) → q.subjects.items ≡ p.subjects.items ++ new ∷ [] → q.documents.items ≡ p.documents.items → q.present.items ≡ p.present.items → modes_of q.cells.items ≡ modes_of (with_row p.cells.items)
     → policy_of q ≡ with_subject (policy_of p) (clearance_from new)
-policy_of-subject p q new more stay same =
-    λ i. record { subjects = (ap (map clearance_from) more ∙ map-append clearance_from p.subjects.items (new ∷ [])) i; documents = stay i; matrix = matrix-with_row p.cells.items q.cells.items same i }
+policy_of-subject p q new more stay still same =
+    λ i. record { subjects = (ap (map clearance_from) more ∙ map-append clearance_from p.subjects.items (new ∷ [])) i; documents = stay i; present = still i; matrix = matrix-with_row p.cells.items q.cells.items same i }
 
 -- one more subject is there, and its row is mended
 pub IsSound-subject : (p q : Inside) (new : Subject) (mended : List Cell) → IsSound p → Mends p q (with_row p.cells.items) mended → q.subjects.items ≡ p.subjects.items ++ new ∷ [] → q.documents.items ≡ p.documents.items
@@ -275,14 +305,78 @@ pub record Moves (p : Inside) (s place : ℕ) (old : Subject) (level : SecurityL
 
 -- the policy then has that current level
 pub policy_of-moved : (p q : Inside) (s place : ℕ) (old : Subject) (level : SecurityLevel) (new : Subject) → Moves p s place old level new
-    → q.subjects.items ≡ set p.subjects.items place new → q.documents.items ≡ p.documents.items → modes_of q.cells.items ≡ modes_of p.cells.items → policy_of q ≡ with_current (policy_of p) s level
-policy_of-moved p q s place old level new moves moved stay same =
+    → q.subjects.items ≡ set p.subjects.items place new → q.documents.items ≡ p.documents.items → q.present.items ≡ p.present.items → modes_of q.cells.items ≡ modes_of p.cells.items → policy_of q ≡ with_current (policy_of p) s level
+policy_of-moved p q s place old level new moves moved stay still same =
     let had : clearance_from old ≡ clearance_of (policy_of p) s = clearance-read p s place old moves.known moves.at moves.was in
     let changed : set (map clearance_from p.subjects.items) place (clearance_from new) ≡ set (map clearance_from p.subjects.items) s (record (clearance_of (policy_of p) s) { current = level }) =
     ap (λ k. set (map clearance_from p.subjects.items) k (clearance_from new)) moves.at
     ∙ ap (λ c. set (map clearance_from p.subjects.items) s c) (moves.is ∙ ap (λ (c : Clearance). record c { current = level }) had) in
-    λ i. record { subjects = (ap (map clearance_from) moved ∙ map-set clearance_from p.subjects.items place new ∙ changed) i; documents = stay i; matrix = matrix_of (same i) }
+    λ i. record { subjects = (ap (map clearance_from) moved ∙ map-set clearance_from p.subjects.items place new ∙ changed) i; documents = stay i; present = still i; matrix = matrix_of (same i) }
+
+-- ---- a column that is emptied
+
+-- what an emptied column makes of the modes of the cells
+empties : (p : Inside) → IsSound p → (column : ℕ) (level : SecurityLevel) (emptied : List Cell) → HasEmptiedColumn column (map clearance_from p.subjects.items) level p.cells.items emptied
+    → Empties column (modes_of p.cells.items) (modes_of emptied)
+empties p sound column level emptied has =
+    record {
+      emptied = λ s. modes-at emptied (s * 1024 + column) ∙ no_modes s (cases_lt s (length (map clearance_from p.subjects.items)));
+      others = λ s u last apart. modes-at emptied (s * 1024 + u) ∙ ap (λ (c : Cell). c.modes) (has.others s u last apart) ∙ sym (modes-at p.cells.items (s * 1024 + u));
+    }
+  where
+    no_modes : (s : ℕ) → (s < length (map clearance_from p.subjects.items)) ⊎ (length (map clearance_from p.subjects.items) ≤ s) → (cell_at emptied (s * 1024 + column)).modes ≡ no_mode
+    no_modes s (inl known) = ap (λ (c : Cell). c.modes) (has.emptied s known)
+    no_modes s (inr past) =
+        let behind : length emptied ≤ s * 1024 + column = omega (arith, past, has.as_many, sound.cell_count, length-map p.subjects.items clearance_from) in
+        ap (λ (c : Cell). c.modes) (get_or_past emptied (s * 1024 + column) no_cell behind)
+
+-- the modes of each cell stay three at most
+small-emptied : (column : ℕ) (old new : List ModeSet) → Empties column old new → length new ≡ length old → All (λ modes. modes.0 < 8) old → All (λ modes. modes.0 < 8) new
+small-emptied column old new empties as_many small k d within =
+    subst (λ (modes : ModeSet). modes.0 < 8) (get_or_default new k no_mode d within) (go (cases_eq (k % 1024) column))
+  where
+    place : k / 1024 * 1024 + k % 1024 ≡ k
+    place = omega arith
+
+    go : (k % 1024 ≡ column) ⊎ (k % 1024 ≢ column) → (get_or new k no_mode).0 < 8
+    go (inl at) =
+        let blank : get_or new k no_mode ≡ no_mode = ap (λ j. get_or new j no_mode) (sym place ∙ ap (λ u. k / 1024 * 1024 + u) at) ∙ empties.emptied (k / 1024) in
+        subst (λ (modes : ModeSet). modes.0 < 8) (sym blank) (omega arith)
+    go (inr apart) =
+        let last : k % 1024 < 1024 = omega arith in
+        let stays : get_or new k no_mode ≡ get_or old k no_mode =
+        ap (λ j. get_or new j no_mode) (sym place) ∙ empties.others (k / 1024) (k % 1024) last apart ∙ ap (λ j. get_or old j no_mode) place in
+        subst (λ (modes : ModeSet). modes.0 < 8) (sym stays) (small k no_mode (omega (arith, within, as_many)))
+
+-- the fields stay sound
+pub IsSound-emptied : (p : Inside) → IsSound p → (column : ℕ) (emptied : List Cell) → HasEmptiedColumn column (map clearance_from p.subjects.items) (get_or p.documents.items column lowest) p.cells.items emptied
+    → IsSound (record p { cells = with_items p.cells emptied })
+IsSound-emptied p sound column emptied has =
+    let whole : (with_items p.cells emptied).items ≡ emptied = whole_again p.cells emptied has.as_many in
+    let as_many : length (modes_of emptied) ≡ length (modes_of p.cells.items) = length-map emptied (λ (c : Cell). c.modes) ∙ has.as_many ∙ sym (length-map p.cells.items (λ (c : Cell). c.modes)) in
+    record {
+      subject_room = sound.subject_room;
+      document_room = sound.document_room;
+      presence_room = sound.presence_room;
+      cell_room = sound.cell_room;
+      subject_limit = sound.subject_limit;
+      document_limit = sound.document_limit;
+      presence_count = sound.presence_count;
+      cell_count = ap length whole ∙ has.as_many ∙ sound.cell_count;
+      modes_only = subst (λ (cells : List Cell). All (λ modes. modes.0 < 8) (modes_of cells)) (sym whole)
+          (small-emptied column (modes_of p.cells.items) (modes_of emptied) (empties p sound column (get_or p.documents.items column lowest) emptied has) as_many sound.modes_only);
+      dominated = sound.dominated;
+      first_failed = subst (HaveFirstFailed (map clearance_from p.subjects.items) p.documents.items) (sym whole)
+          (first_failed-emptied (map clearance_from p.subjects.items) p.documents.items p.cells.items emptied column sound.document_limit has sound.first_failed);
+    }
+
+-- the matrix then has no triple of the document
+pub policy_of-emptied : (p : Inside) → IsSound p → (column : ℕ) (level : SecurityLevel) (emptied : List Cell) → HasEmptiedColumn column (map clearance_from p.subjects.items) level p.cells.items emptied
+    → policy_of (record p { cells = with_items p.cells emptied }) ≡ without_cells (policy_of p) column
+policy_of-emptied p sound column level emptied has =
+    let whole : (with_items p.cells emptied).items ≡ emptied = whole_again p.cells emptied has.as_many in
+    λ i. record (policy_of p) { matrix = (ap (λ cells. matrix_of (modes_of cells)) whole ∙ matrix_of-emptied (modes_of p.cells.items) (modes_of emptied) column (empties p sound column level emptied has)) i }
 
 -- each greatest level dominates the current one
-pub below-of_sound : (p : Inside) → IsSound p → CurrentBelowGreatest (policy_of p)
-below-of_sound p sound = All-map (λ (c : Clearance). Dominates c.greatest c.current) clearance_from p.subjects.items sound.dominated
+pub below-of_sound : (p : Inside) (policy : SecurityPolicy) → policy_of p ≡ policy → IsSound p → CurrentBelowGreatest policy
+below-of_sound p policy is sound = subst CurrentBelowGreatest is (All-map (λ (c : Clearance). Dominates c.greatest c.current) clearance_from p.subjects.items sound.dominated)

@@ -1,5 +1,5 @@
 -- Cells that have the first property that fails: what they say of an access, and that they have it after each change.
-use Rattle.std.proofs.Common.{◌≡◌, ◌≢◌, ◌⊎◌, inl, inr, ℕ, ◌+◌, ◌*◌, ◌<◌, ◌≤◌, Bool, true, false, refl, sym, ◌∙◌, ap, subst, arith, List, [], ◌∷◌, ◌++◌, length, get_or, set, length-set, Option, Some, None}
+use Rattle.std.proofs.Common.{◌≡◌, ◌≢◌, ◌⊎◌, inl, inr, ℕ, ◌+◌, ◌*◌, ◌<◌, ◌≤◌, Bool, true, false, ◌||◌, refl, sym, ◌∙◌, ap, subst, arith, List, [], ◌∷◌, ◌++◌, length, get_or, set, length-set, Option, Some, None}
 use Rattle.std.specs.Prelude.{if◌then◌else◌}
 use Rattle.std.proofs.Math.ListN.{get_or-map}
 use Rattle.std.proofs.Math.Seq.{map-set_same}
@@ -16,9 +16,9 @@ use Rattle.bl_policy.specs.declared.policy.cell.Cell.{Cell}
 use Rattle.bl_policy.specs.declared.policy.cell.Failed.TheVariants.{Nothing, Simple, Star, Discretionary}
 use Rattle.bl_policy.specs.Mode.{has_mode}
 use Rattle.bl_policy.specs.Policy.{SecurityPolicy, Clearance, nobody, lowest, clearance_of, level_of, allows}
-use Rattle.bl_policy.specs.Properties.{is_simple, is_star}
+use Rattle.bl_policy.specs.Properties.{observes, flows, is_simple, is_star}
 use Rattle.bl_policy.specs.FirstFault.{denied, property_fault}
-use Rattle.bl_policy.specs.Cells.{modes_of, clause_of, failed_in, failed_property, cell_of, no_cell, cell_at, IsCellOf, HaveFirstFailed, HasMendedRow, HasMendedColumn}
+use Rattle.bl_policy.specs.Cells.{modes_of, clause_of, failed_in, first_failed, failed_property, cell_of, no_cell, cell_at, IsCellOf, HaveFirstFailed, HasMendedRow, HasMendedColumn, HasEmptiedColumn}
 
 -- ---- what a cell says of an access
 
@@ -108,6 +108,42 @@ first_failed-row old new ls cells mended s few others row have t u known last = 
         subst (λ (c : Clearance). IsCellOf c (get_or ls u lowest) (cell_at mended (t * 1024 + u))) (sym was.1)
         (subst (λ (c : Cell). IsCellOf (get_or old t nobody) (get_or ls u lowest) c) (sym (row.others (t * 1024 + u) aside)) (have t u was.0 last))
 
+-- the cell of a trusted subject of this greatest level: the star property does not bind it
+abbrev cell_of_trusted : SecurityLevel → SecurityLevel → ModeSet → Cell
+cell_of_trusted greatest level modes =
+    record {
+      modes = modes;
+      read = first_failed (observes greatest level Read) true (has_mode modes Read);
+      append = first_failed (observes greatest level Append) true (has_mode modes Append);
+      write = first_failed (observes greatest level Write) true (has_mode modes Write);
+    }
+
+trusted_is : (c : Clearance) (level : SecurityLevel) (modes : ModeSet) → c.trusted ≡ true → cell_of c level modes ≡ cell_of_trusted c.greatest level modes
+trusted_is c level modes e = λ i. record {
+  modes = modes;
+  read = first_failed (observes c.greatest level Read) (e i || flows c.current level Read) (has_mode modes Read);
+  append = first_failed (observes c.greatest level Append) (e i || flows c.current level Append) (has_mode modes Append);
+  write = first_failed (observes c.greatest level Write) (e i || flows c.current level Write) (has_mode modes Write);
+}
+
+-- the cells of a trusted subject whose current level changes are as they have to be
+pub first_failed-trusted : (old new : List Clearance) (ls : List SecurityLevel) (cells : List Cell) (s : ℕ) → AreOthers nobody s old new → s < length old
+    → (get_or old s nobody).trusted ≡ true → (get_or new s nobody).trusted ≡ true → (get_or new s nobody).greatest ≡ (get_or old s nobody).greatest → HaveFirstFailed old ls cells → HaveFirstFailed new ls cells
+first_failed-trusted old new ls cells s others there was is greatest have t u known last = go (cases_eq t s)
+  where
+    go : (t ≡ s) ⊎ (t ≢ s) → IsCellOf (get_or new t nobody) (get_or ls u lowest) (cell_at cells (t * 1024 + u))
+    go (inl at) =
+        let level = get_or ls u lowest in
+        let modes = (cell_at cells (s * 1024 + u)).modes in
+        subst (λ (j : ℕ). IsCellOf (get_or new j nobody) level (cell_at cells (j * 1024 + u))) (sym at)
+        (have s u there last
+        ∙ trusted_is (get_or old s nobody) level modes was
+        ∙ ap (λ g. cell_of_trusted g level modes) (sym greatest)
+        ∙ sym (trusted_is (get_or new s nobody) level modes is))
+    go (inr apart) =
+        let was_there = others t known apart in
+        subst (λ (c : Clearance). IsCellOf c (get_or ls u lowest) (cell_at cells (t * 1024 + u))) (sym was_there.1) (have t u was_there.0 last)
+
 -- a column is mended for what the level of its document is now
 pub first_failed-column : (cs : List Clearance) (old new : List SecurityLevel) (cells mended : List Cell) (o : ℕ) → length new ≤ 1024 → AreOthers lowest o old new
     → HasMendedColumn o cs (get_or new o lowest) cells mended → HaveFirstFailed cs old cells → HaveFirstFailed cs new mended
@@ -123,6 +159,19 @@ first_failed-column cs old new cells mended o few others column have t u known l
         subst (λ (l : SecurityLevel). IsCellOf (get_or cs t nobody) l (cell_at mended (t * 1024 + u))) (sym was.1)
         (subst (λ (c : Cell). IsCellOf (get_or cs t nobody) (get_or old u lowest) c) (sym (column.others t u within apart)) (have t u known was.0))
 
+-- a column is emptied
+pub first_failed-emptied : (cs : List Clearance) (ls : List SecurityLevel) (cells emptied : List Cell) (o : ℕ) → length ls ≤ 1024
+    → HasEmptiedColumn o cs (get_or ls o lowest) cells emptied → HaveFirstFailed cs ls cells → HaveFirstFailed cs ls emptied
+first_failed-emptied cs ls cells emptied o few column have t u known last = go (cases_eq u o)
+  where
+    go : (u ≡ o) ⊎ (u ≢ o) → IsCellOf (get_or cs t nobody) (get_or ls u lowest) (cell_at emptied (t * 1024 + u))
+    go (inl at) =
+        subst (λ (j : ℕ). IsCellOf (get_or cs t nobody) (get_or ls j lowest) (cell_at emptied (t * 1024 + j))) (sym at)
+        (is_cell-made (get_or cs t nobody) (get_or ls o lowest) (record { 0 = 0 }) (cell_at emptied (t * 1024 + o)) (column.emptied t known))
+    go (inr apart) =
+        let within : u < 1024 = omega (arith, last, few) in
+        subst (λ (c : Cell). IsCellOf (get_or cs t nobody) (get_or ls u lowest) c) (sym (column.others t u within apart)) (have t u known last)
+
 -- ---- which others are there
 
 pub others-set : {X : Type 0} (none : X) (xs : List X) (i : ℕ) (x : X) → AreOthers none i xs (set xs i x)
@@ -137,12 +186,13 @@ others-push none xs x j within apart =
 
 -- ---- one more cell of a row or a column is mended
 
+-- the modes of the cell at a place
+pub modes-at : (cells : List Cell) (k : ℕ) → get_or (modes_of cells) k (record { 0 = 0 }) ≡ (cell_at cells k).modes
+modes-at cells k = get_or-map (λ (c : Cell). c.modes) cells k no_cell
+
 -- cells with the same modes have them at each place
-pub modes_at : (cells others : List Cell) (k : ℕ) → modes_of cells ≡ modes_of others → (cell_at cells k).modes ≡ (cell_at others k).modes
-modes_at cells others k e =
-    sym (get_or-map (λ (c : Cell). c.modes) cells k no_cell)
-    ∙ ap (λ modes. get_or modes k (record { 0 = 0 })) e
-    ∙ get_or-map (λ (c : Cell). c.modes) others k no_cell
+pub same_modes-at : (cells others : List Cell) (k : ℕ) → modes_of cells ≡ modes_of others → (cell_at cells k).modes ≡ (cell_at others k).modes
+same_modes-at cells others k e = sym (modes-at cells k) ∙ ap (λ modes. get_or modes k (record { 0 = 0 })) e ∙ modes-at others k
 
 -- the modes stay
 pub modes-mended : (cells others : List Cell) (k : ℕ) (subject : Clearance) (level : SecurityLevel) (d cell : Cell) → modes_of cells ≡ modes_of others → cell ≡ cell_of subject level (get_or cells k d).modes → modes_of (set cells k cell) ≡ modes_of others
@@ -154,7 +204,7 @@ at-mended cells others k subject level d cell within same is =
     get_or-set_same cells k cell no_cell within
     ∙ is
     ∙ ap (λ (c : Cell). cell_of subject level c.modes) (get_or_default cells k d no_cell within)
-    ∙ ap (cell_of subject level) (modes_at cells others k same)
+    ∙ ap (cell_of subject level) (same_modes-at cells others k same)
 
 pub row-mended : (first i : ℕ) (subject : Clearance) (levels : List SecurityLevel) (cells others : List Cell) (level : SecurityLevel) (d cell : Cell) → first + i < length cells → modes_of cells ≡ modes_of others
     → level ≡ get_or levels i lowest → cell ≡ cell_of subject level (get_or cells (first + i) d).modes
@@ -200,3 +250,18 @@ pub column-others : (column i : ℕ) (cells others : List Cell) (cell : Cell) �
 column-others column i cells others cell last stay s o h apart =
     let aside : s * 1024 + o ≢ i * 1024 + column = omega (arith, h, last, apart) in
     get_or-set_other cells (i * 1024 + column) (s * 1024 + o) cell no_cell aside ∙ stay s o h apart
+
+pub column-emptied : (column i : ℕ) (subjects : List Clearance) (cells : List Cell) (subject : Clearance) (level : SecurityLevel) (cell : Cell) → i * 1024 + column < length cells
+    → subject ≡ get_or subjects i nobody → cell ≡ cell_of subject level (record { 0 = 0 })
+    → ((s : ℕ) → s < i → cell_at cells (s * 1024 + column) ≡ cell_of (get_or subjects s nobody) level (record { 0 = 0 }))
+    → (s : ℕ) → s < i + 1 → cell_at (set cells (i * 1024 + column) cell) (s * 1024 + column) ≡ cell_of (get_or subjects s nobody) level (record { 0 = 0 })
+column-emptied column i subjects cells subject level cell within for is before s h = go (cases_eq s i)
+  where
+    go : (s ≡ i) ⊎ (s ≢ i) → cell_at (set cells (i * 1024 + column) cell) (s * 1024 + column) ≡ cell_of (get_or subjects s nobody) level (record { 0 = 0 })
+    go (inl at) =
+        subst (λ (j : ℕ). cell_at (set cells (i * 1024 + column) cell) (j * 1024 + column) ≡ cell_of (get_or subjects j nobody) level (record { 0 = 0 })) (sym at)
+        (get_or-set_same cells (i * 1024 + column) cell no_cell within ∙ is ∙ ap (λ c. cell_of c level (record { 0 = 0 })) for)
+    go (inr apart) =
+        let aside : s * 1024 + column ≢ i * 1024 + column = omega (arith, apart) in
+        let earlier : s < i = omega (arith, apart, h) in
+        get_or-set_other cells (i * 1024 + column) (s * 1024 + column) cell no_cell aside ∙ before s earlier

@@ -53,6 +53,7 @@ base = record {
   subjects = person (level 2 1) (level 2 1) false false ∷ person (level 2 1) (level 0 0) false false
       ∷ person (level 2 2) (level 2 2) false false ∷ person (level 3 3) (level 0 0) true true ∷ [];
   documents = level 2 1 ∷ level 0 0 ∷ level 3 3 ∷ [];
+  present = true ∷ true ∷ true ∷ [];
   matrix = with_all (triple ann memo Read ∷ triple ann memo Write ∷ triple ann note Read ∷ triple ann note Write ∷ triple ann log Read ∷ triple ann log Append
       ∷ triple bob memo Read ∷ triple bob memo Write ∷ triple bob memo Append ∷ triple bob note Read ∷ triple bob note Write
       ∷ triple cat memo Read ∷ triple root note Read ∷ triple root note Write ∷ []);

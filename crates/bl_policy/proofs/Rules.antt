@@ -9,9 +9,9 @@ use Rattle.bl_policy.specs.declared.denial.Clause.{Clause}
 use Rattle.bl_policy.specs.declared.denial.Clause.TheVariants as failing
 use Rattle.bl_policy.specs.declared.denial.Denial.{Denial}
 use Rattle.bl_policy.specs.declared.rule.Rule.{Rule}
-use Rattle.bl_policy.specs.declared.rule.Rule.TheVariants.{Give, Rescind, Current, Classify}
+use Rattle.bl_policy.specs.declared.rule.Rule.TheVariants.{Give, Rescind, Current, Classify, Create, Delete}
 use Rattle.bl_policy.specs.Matrix.{Triple, Matrix, is_in, put_in, take_out}
-use Rattle.bl_policy.specs.Policy.{SecurityPolicy, Clearance, nobody, clearance_of, greatest_of, is_trusted, is_admin, CurrentBelowGreatest}
+use Rattle.bl_policy.specs.Policy.{SecurityPolicy, Clearance, nobody, clearance_of, greatest_of, is_trusted, is_admin, is_present, CurrentBelowGreatest}
 use Rattle.bl_policy.specs.RuleEffect.{Permits, refusal, failed_condition, rule_fault, rule_makes, unless_failed, after_rule, FailsCondition, IsRuleFault}
 use Rattle.bl_policy.proofs.Properties.{Means}
 use Rattle.bl_policy.proofs.Triples.{same_triple, one-of_same, is_in-put_in, is_in-take_out, same_members_set}
@@ -31,70 +31,110 @@ one : (b : Bool) (clause named : Clause) → (if b then None else Some clause) �
 one true clause named e = absurd (cc)
 one false clause named e = (refl, some_is clause named e)
 
-named_fails : (speaker : Clearance) (rule : Rule) (clause named : Clause) → clause ≡ named → FailsCondition clause speaker rule → FailsCondition named speaker rule
-named_fails speaker rule clause named e h = subst (λ c. FailsCondition c speaker rule) e h
+named_fails : (p : SecurityPolicy) (s : ℕ) (rule : Rule) (clause named : Clause) → clause ≡ named → FailsCondition clause p s rule → FailsCondition named p s rule
+named_fails p s rule clause named e h = subst (λ c. FailsCondition c p s rule) e h
+
+-- two conditions: the first fails and is the one named, or it holds and the second is at fault
+first_or_later : (b : Bool) (later : Option Clause) (clause named : Clause) → (if b then later else Some clause) ≡ Some named
+    → ((b ≡ true) × (later ≡ Some named)) ⊎ ((b ≡ false) × (clause ≡ named))
+first_or_later true later clause named e = inl (refl, e)
+first_or_later false later clause named e = inr (refl, some_is clause named e)
+
+-- a condition that is to be false
+false-of_none : (b : Bool) (clause : Clause) → (if b then Some clause else None) ≡ None → ¬ IsTrue b
+false-of_none true clause e = absurd (cc)
+false-of_none false clause e = λ h. true≢false (sym h)
+
+false-of_not : (b : Bool) → ¬ IsTrue b → b ≡ false
+false-of_not true never = absurd (never refl)
+false-of_not false never = refl
+
+true-of_some : (b : Bool) (clause named : Clause) → (if b then Some clause else None) ≡ Some named → (b ≡ true) × (clause ≡ named)
+true-of_some true clause named e = (refl, some_is clause named e)
+true-of_some false clause named e = absurd (cc)
 
 -- what a permitted rule makes keeps each current level below the greatest one
-pub below-makes : (p : SecurityPolicy) (s : ℕ) (rule : Rule) → Permits (clearance_of p s) rule → CurrentBelowGreatest p → CurrentBelowGreatest (rule_makes p s rule)
+pub below-makes : (p : SecurityPolicy) (s : ℕ) (rule : Rule) → Permits p s rule → CurrentBelowGreatest p → CurrentBelowGreatest (rule_makes p s rule)
 below-makes p s (Give t o m) permits below = below
 below-makes p s (Rescind t o m) permits below = below
 below-makes p s (Current level) permits below = All-set (λ (c : Clearance). Dominates c.greatest c.current) p.subjects s (record (clearance_of p s) { current = level }) permits below
 below-makes p s (Classify o level) permits below = below
+below-makes p s (Create o) permits below = below
+below-makes p s (Delete o) permits below = below
 
 module _ (means : Means) where
-  pub permits-of_none : (speaker : Clearance) (rule : Rule) → failed_condition speaker rule ≡ None → Permits speaker rule
-  permits-of_none speaker (Give t o m) e = (met speaker.admin None failing.Admin e).0
-  permits-of_none speaker (Rescind t o m) e = (met speaker.admin None failing.Admin e).0
-  permits-of_none speaker (Current level) e = (means speaker.greatest level).0 (met (dominates speaker.greatest level) None failing.Greatest e).0
-  permits-of_none speaker (Classify o level) e =
-      let asked = met speaker.admin (if speaker.trusted then None else Some failing.Trusted) failing.Admin e in
-      (asked.0, (met speaker.trusted None failing.Trusted asked.1).0)
+  pub permits-of_none : (p : SecurityPolicy) (s : ℕ) (rule : Rule) → failed_condition p s rule ≡ None → Permits p s rule
+  permits-of_none p s (Give t o m) e = (met (is_admin p s) None failing.Admin e).0
+  permits-of_none p s (Rescind t o m) e = (met (is_admin p s) None failing.Admin e).0
+  permits-of_none p s (Current level) e = (means (greatest_of p s) level).0 (met (dominates (greatest_of p s) level) None failing.Greatest e).0
+  permits-of_none p s (Classify o level) e =
+      let asked = met (is_admin p s) (if is_trusted p s then None else Some failing.Trusted) failing.Admin e in
+      (asked.0, (met (is_trusted p s) None failing.Trusted asked.1).0)
+  permits-of_none p s (Create o) e =
+      let asked = met (is_admin p s) (if is_present p o then Some failing.Present else None) failing.Admin e in
+      (asked.0, false-of_none (is_present p o) failing.Present asked.1)
+  permits-of_none p s (Delete o) e =
+      let asked = met (is_admin p s) (if is_present p o then None else Some failing.Absent) failing.Admin e in
+      (asked.0, (met (is_present p o) None failing.Absent asked.1).0)
 
-  pub none-of_permits : (speaker : Clearance) (rule : Rule) → Permits speaker rule → failed_condition speaker rule ≡ None
-  none-of_permits speaker (Give t o m) h = ap (λ b. if b then None else Some failing.Admin) h
-  none-of_permits speaker (Rescind t o m) h = ap (λ b. if b then None else Some failing.Admin) h
-  none-of_permits speaker (Current level) h = ap (λ b. if b then None else Some failing.Greatest) ((means speaker.greatest level).1 h)
-  none-of_permits speaker (Classify o level) h = λ i. if h.0 i then (if h.1 i then None else Some failing.Trusted) else Some failing.Admin
+  pub none-of_permits : (p : SecurityPolicy) (s : ℕ) (rule : Rule) → Permits p s rule → failed_condition p s rule ≡ None
+  none-of_permits p s (Give t o m) h = ap (λ b. if b then None else Some failing.Admin) h
+  none-of_permits p s (Rescind t o m) h = ap (λ b. if b then None else Some failing.Admin) h
+  none-of_permits p s (Current level) h = ap (λ b. if b then None else Some failing.Greatest) ((means (greatest_of p s) level).1 h)
+  none-of_permits p s (Classify o level) h = λ i. if h.0 i then (if h.1 i then None else Some failing.Trusted) else Some failing.Admin
+  none-of_permits p s (Create o) h = λ i. if h.0 i then (if false-of_not (is_present p o) h.1 i then Some failing.Present else None) else Some failing.Admin
+  none-of_permits p s (Delete o) h = λ i. if h.0 i then (if h.1 i then None else Some failing.Absent) else Some failing.Admin
 
-  two : (speaker : Clearance) (o : ℕ) (level : _) (a b : Bool) (named : Clause) → speaker.admin ≡ a → speaker.trusted ≡ b
-      → (if a then (if b then None else Some failing.Trusted) else Some failing.Admin) ≡ Some named → FailsCondition named speaker (Classify o level)
-  two speaker o level true true named admin trusted e = absurd (cc)
-  two speaker o level true false named admin trusted e = named_fails speaker (Classify o level) failing.Trusted named (some_is failing.Trusted named e) (admin, not_met speaker.trusted trusted)
-  two speaker o level false b named admin trusted e = named_fails speaker (Classify o level) failing.Admin named (some_is failing.Admin named e) (not_met speaker.admin admin)
-
-  pub fails-of_some : (speaker : Clearance) (rule : Rule) (named : Clause) → failed_condition speaker rule ≡ Some named → FailsCondition named speaker rule
-  fails-of_some speaker (Give t o m) named e =
-      let told = one speaker.admin failing.Admin named e in
-      named_fails speaker (Give t o m) failing.Admin named told.1 (not_met speaker.admin told.0)
-  fails-of_some speaker (Rescind t o m) named e =
-      let told = one speaker.admin failing.Admin named e in
-      named_fails speaker (Rescind t o m) failing.Admin named told.1 (not_met speaker.admin told.0)
-  fails-of_some speaker (Current level) named e =
-      let told = one (dominates speaker.greatest level) failing.Greatest named e in
-      named_fails speaker (Current level) failing.Greatest named told.1 (λ h. not_met (dominates speaker.greatest level) told.0 ((means speaker.greatest level).1 h))
-  fails-of_some speaker (Classify o level) named e = two speaker o level speaker.admin speaker.trusted named refl refl e
+  pub fails-of_some : (p : SecurityPolicy) (s : ℕ) (rule : Rule) (named : Clause) → failed_condition p s rule ≡ Some named → FailsCondition named p s rule
+  fails-of_some p s (Give t o m) named e =
+      let told = one (is_admin p s) failing.Admin named e in
+      named_fails p s (Give t o m) failing.Admin named told.1 (not_met (is_admin p s) told.0)
+  fails-of_some p s (Rescind t o m) named e =
+      let told = one (is_admin p s) failing.Admin named e in
+      named_fails p s (Rescind t o m) failing.Admin named told.1 (not_met (is_admin p s) told.0)
+  fails-of_some p s (Current level) named e =
+      let told = one (dominates (greatest_of p s) level) failing.Greatest named e in
+      named_fails p s (Current level) failing.Greatest named told.1 (λ h. not_met (dominates (greatest_of p s) level) told.0 ((means (greatest_of p s) level).1 h))
+  fails-of_some p s (Classify o level) named e =
+      elim (first_or_later (is_admin p s) (if is_trusted p s then None else Some failing.Trusted) failing.Admin named e) [
+        | inl more ↦ let told = one (is_trusted p s) failing.Trusted named more.1 in
+            named_fails p s (Classify o level) failing.Trusted named told.1 (more.0, not_met (is_trusted p s) told.0)
+        | inr told ↦ named_fails p s (Classify o level) failing.Admin named told.1 (not_met (is_admin p s) told.0)
+      ]
+  fails-of_some p s (Create o) named e =
+      elim (first_or_later (is_admin p s) (if is_present p o then Some failing.Present else None) failing.Admin named e) [
+        | inl more ↦ let told = true-of_some (is_present p o) failing.Present named more.1 in
+            named_fails p s (Create o) failing.Present named told.1 (more.0, told.0)
+        | inr told ↦ named_fails p s (Create o) failing.Admin named told.1 (not_met (is_admin p s) told.0)
+      ]
+  fails-of_some p s (Delete o) named e =
+      elim (first_or_later (is_admin p s) (if is_present p o then None else Some failing.Absent) failing.Admin named e) [
+        | inl more ↦ let told = one (is_present p o) failing.Absent named more.1 in
+            named_fails p s (Delete o) failing.Absent named told.1 (more.0, not_met (is_present p o) told.0)
+        | inr told ↦ named_fails p s (Delete o) failing.Admin named told.1 (not_met (is_admin p s) told.0)
+      ]
 
   no_refusal : (s : ℕ) (rule : Rule) (x : Option Clause) → option_map (refusal s rule) x ≡ None → x ≡ None
   no_refusal s rule None e = refl
   no_refusal s rule (Some clause) e = absurd (cc)
 
   -- nothing fails just where the rule is permitted
-  pub none-permits : (p : SecurityPolicy) (s : ℕ) (rule : Rule) → (rule_fault p s rule ≡ None) ↔ Permits (clearance_of p s) rule
+  pub none-permits : (p : SecurityPolicy) (s : ℕ) (rule : Rule) → (rule_fault p s rule ≡ None) ↔ Permits p s rule
   none-permits p s rule = (
-    (λ e. permits-of_none (clearance_of p s) rule (no_refusal s rule (failed_condition (clearance_of p s) rule) e)),
-    (λ h. ap (λ x. option_map (refusal s rule) x) (none-of_permits (clearance_of p s) rule h)),
+    (λ e. permits-of_none p s rule (no_refusal s rule (failed_condition p s rule) e)),
+    (λ h. ap (λ x. option_map (refusal s rule) x) (none-of_permits p s rule h)),
   )
 
-  refusal_is : (p : SecurityPolicy) (s : ℕ) (rule : Rule) (denial : Denial) (x : Option Clause) → failed_condition (clearance_of p s) rule ≡ x
+  refusal_is : (p : SecurityPolicy) (s : ℕ) (rule : Rule) (denial : Denial) (x : Option Clause) → failed_condition p s rule ≡ x
       → option_map (refusal s rule) x ≡ Some denial → IsRuleFault p s rule denial
   refusal_is p s rule denial None is e = absurd (cc)
   refusal_is p s rule denial (Some clause) is e =
       subst (λ d. IsRuleFault p s rule d) (some_is (refusal s rule clause) denial e)
-      (record { fails = fails-of_some (clearance_of p s) rule clause is; subject = refl; object = refl })
+      (record { fails = fails-of_some p s rule clause is; subject = refl; object = refl })
 
   -- a refusal is that of the first condition that fails
   pub some-fails : (p : SecurityPolicy) (s : ℕ) (rule : Rule) (denial : Denial) → rule_fault p s rule ≡ Some denial → IsRuleFault p s rule denial
-  some-fails p s rule denial e = refusal_is p s rule denial (failed_condition (clearance_of p s) rule) refl e
+  some-fails p s rule denial e = refusal_is p s rule denial (failed_condition p s rule) refl e
 
   kept_below : (p : SecurityPolicy) (s : ℕ) (rule : Rule) (x : Option Denial) → rule_fault p s rule ≡ x → CurrentBelowGreatest p → CurrentBelowGreatest (unless_failed x (rule_makes p s rule) p)
   kept_below p s rule (Some denial) is below = below
@@ -114,6 +154,8 @@ as_many-makes p s (Give t o m) = record { subjects = refl; documents = refl }
 as_many-makes p s (Rescind t o m) = record { subjects = refl; documents = refl }
 as_many-makes p s (Current level) = record { subjects = length-set p.subjects s (record (clearance_of p s) { current = level }); documents = refl }
 as_many-makes p s (Classify o level) = record { subjects = refl; documents = length-set p.documents o level }
+as_many-makes p s (Create o) = record { subjects = refl; documents = refl }
+as_many-makes p s (Delete o) = record { subjects = refl; documents = refl }
 
 as_many-unless : (p : SecurityPolicy) (s : ℕ) (rule : Rule) (x : Option Denial) → AsMany p (unless_failed x (rule_makes p s rule) p)
 as_many-unless p s rule None = as_many-makes p s rule
@@ -158,6 +200,8 @@ same_rights-makes p s u (Give t o m) = same_rights (clearance_of p u)
 same_rights-makes p s u (Rescind t o m) = same_rights (clearance_of p u)
 same_rights-makes p s u (Current level) = same_rights-moved p.subjects s u level (cases_eq u s) (cases_lt s (length p.subjects))
 same_rights-makes p s u (Classify o level) = same_rights (clearance_of p u)
+same_rights-makes p s u (Create o) = same_rights (clearance_of p u)
+same_rights-makes p s u (Delete o) = same_rights (clearance_of p u)
 
 -- no rule changes a greatest level, who is trusted or who is an administrator
 pub same_rights-after : (p : SecurityPolicy) (s u : ℕ) (rule : Rule) → SameRights (clearance_of p u) (clearance_of (after_rule p s rule) u)
@@ -179,10 +223,6 @@ in_already m u t false is has = is_in-put_in m u t ∙ ap (λ b. b || is_in m t)
 -- to put in a triple that is there changes nothing
 pub put_in-there : (m : Matrix) (u : Triple) → IsTrue (is_in m u) → put_in m u ≡ m
 put_in-there m u has = same_members_set (put_in m u) m (λ t. in_already m u t (same_triple t u) refl has)
-
-false-of_not : (b : Bool) → ¬ IsTrue b → b ≡ false
-false-of_not true never = absurd (never refl)
-false-of_not false never = refl
 
 out_already : (m : Matrix) (u t : Triple) (b : Bool) → same_triple u t ≡ b → ¬ IsTrue (is_in m u) → is_in (take_out m u) t ≡ is_in m t
 out_already m u t true is lacks =

@@ -10,7 +10,7 @@ use Rattle.bl_policy.specs.declared.access.Mode.{Mode}
 use Rattle.bl_policy.specs.declared.access.Mode.TheVariants.{Read, Append, Write}
 use Rattle.bl_policy.specs.declared.access.ModeSet.{ModeSet}
 use Rattle.bl_policy.specs.Mode.{place_of, has_mode}
-use Rattle.bl_policy.specs.Matrix.{Triple, triple, triple_cmp, triple_cmp_total, Matrix, is_in, put_in, take_out, put_where, put_modes}
+use Rattle.bl_policy.specs.Matrix.{Triple, triple, triple_cmp, triple_cmp_total, Matrix, is_in, put_in, take_out, without_document, put_where, put_modes}
 use Rattle.bl_policy.specs.Codes.{same_triples, mode_at, mode_at-place_of}
 
 -- the two triples are one
@@ -62,6 +62,12 @@ is_in-take_out m u t =
     ap is_some (find-where_key triple_cmp (λ v. not (eq_by_cmp triple_cmp u v)) t (λ v e. ap (λ w. not (eq_by_cmp triple_cmp u w)) (sym (tied-one t v e))) m.triples)
     ∙ and-none (not (eq_by_cmp triple_cmp u t)) (find triple_cmp t m.triples)
     ∙ ap (λ b. not b && is_in m t) (tied-same u t)
+
+-- what is in the set without document o: what was in it, but o's
+pub is_in-without_document : (m : Matrix) (o : ℕ) (t : Triple) → is_in (without_document m o) t ≡ (not (t.document == o) && is_in m t)
+is_in-without_document m o t =
+    ap is_some (find-where_key triple_cmp (λ v. not (v.document == o)) t (λ v e. ap (λ w. not (w.document == o)) (sym (tied-one t v e))) m.triples)
+    ∙ and-none (not (t.document == o)) (find triple_cmp t m.triples)
 
 marked : Bool → Option (Unit {0})
 marked b = cond b (Some tt) None
@@ -163,4 +169,17 @@ in-take_out m u t = (
   (λ h. let parts = and_not_cases (same_triple u t) (is_in m t) (sym (is_in-take_out m u t) ∙ h) in
       ((λ e. true≢false (sym (same-of_one u t (sym e)) ∙ parts.0)), parts.1)),
   (λ h. is_in-take_out m u t ∙ (λ i. not (false-of_not (same_triple u t) (λ e. h.0 (sym (one-of_same u t e))) i) && h.1 i)),
+)
+
+pub one_number : (a b : ℕ) → a ≡ b → (a == b) ≡ true
+one_number a b e = grind (arith, nat_tests)
+
+pub two_numbers : (a b : ℕ) → a ≢ b → (a == b) ≡ false
+two_numbers a b apart = grind (arith, nat_tests)
+
+pub in-without_document : (m : Matrix) (o : ℕ) (t : Triple) → IsTrue (is_in (without_document m o) t) ↔ ((t.document ≢ o) × IsTrue (is_in m t))
+in-without_document m o t = (
+  (λ h. let parts = and_not_cases (t.document == o) (is_in m t) (sym (is_in-without_document m o t) ∙ h) in
+      ((λ e. true≢false (sym (one_number t.document o e) ∙ parts.0)), parts.1)),
+  (λ h. is_in-without_document m o t ∙ (λ i. not (two_numbers t.document o h.0 i) && h.1 i)),
 )

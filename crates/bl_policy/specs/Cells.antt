@@ -97,3 +97,10 @@ pub record HasMendedColumn (column : ℕ) (subjects : List Clearance) (level : S
   pub mended : (s : ℕ) → s < length subjects
       → cell_at new (s * most_documents + column) ≡ cell_of (slice_index_or subjects s nobody) level (cell_at old (s * most_documents + column)).modes
   pub others : (s o : ℕ) → o < most_documents → o ≢ column → cell_at new (s * most_documents + o) ≡ cell_at old (s * most_documents + o)
+
+-- the cells of these subjects and a document of this level have no modes, and no other has changed
+pub record HasEmptiedColumn (column : ℕ) (subjects : List Clearance) (level : SecurityLevel) (old new : List Cell) : Type 0 where
+  pub emptied : (s : ℕ) → s < length subjects
+      → cell_at new (s * most_documents + column) ≡ cell_of (slice_index_or subjects s nobody) level (record { 0 = 0 })
+  pub others : (s o : ℕ) → o < most_documents → o ≢ column → cell_at new (s * most_documents + o) ≡ cell_at old (s * most_documents + o)
+  pub as_many : length new ≡ length old

@@ -9,7 +9,7 @@ use Rattle.std.specs.FinMap.Entries.{is_sorted}
 use Rattle.bl_policy.specs.declared.access.Mode.{Mode}
 use Rattle.bl_policy.specs.declared.access.Mode.TheVariants.{Read, Append, Write}
 use Rattle.bl_policy.specs.declared.rule.Rule.{Rule}
-use Rattle.bl_policy.specs.declared.rule.Rule.TheVariants.{Give, Rescind, Current, Classify}
+use Rattle.bl_policy.specs.declared.rule.Rule.TheVariants.{Give, Rescind, Current, Classify, Create, Delete}
 use Rattle.bl_policy.specs.Mode.{place_of}
 use Rattle.bl_policy.specs.Matrix.{Triple, Matrix, triple_cmp}
 
@@ -50,19 +50,25 @@ stored_rule (Give subject doc mode) = (0, (subject, (doc, (place_of mode, (0, 0)
 stored_rule (Rescind subject doc mode) = (1, (subject, (doc, (place_of mode, (0, 0)))))
 stored_rule (Current level) = (2, (0, (0, (0, (level.rank, level.categories)))))
 stored_rule (Classify doc level) = (3, (0, (doc, (0, (level.rank, level.categories)))))
+stored_rule (Create doc) = (4, (0, (doc, (0, (0, 0)))))
+stored_rule (Delete doc) = (5, (0, (doc, (0, (0, 0)))))
 
 abbrev rule_from : StoredRule → Rule
 rule_from t =
     if t.0 == 0 then Give t.1.0 t.1.1.0 (mode_at t.1.1.1.0)
     else (if t.0 == 1 then Rescind t.1.0 t.1.1.0 (mode_at t.1.1.1.0)
     else (if t.0 == 2 then Current (record { rank = t.1.1.1.1.0; categories = t.1.1.1.1.1 })
-    else Classify t.1.1.0 (record { rank = t.1.1.1.1.0; categories = t.1.1.1.1.1 })))
+    else (if t.0 == 3 then Classify t.1.1.0 (record { rank = t.1.1.1.1.0; categories = t.1.1.1.1.1 })
+    else (if t.0 == 4 then Create t.1.1.0
+    else Delete t.1.1.0))))
 
 pub rule_again : (r : Rule) → rule_from (stored_rule r) ≡ r
 rule_again (Give subject doc mode) = ap (Give subject doc) (mode_at-place_of mode)
 rule_again (Rescind subject doc mode) = ap (Rescind subject doc) (mode_at-place_of mode)
 rule_again (Current level) = refl
 rule_again (Classify doc level) = refl
+rule_again (Create doc) = refl
+rule_again (Delete doc) = refl
 
 abbrev pub rule_code : Coded Rule
 rule_code =

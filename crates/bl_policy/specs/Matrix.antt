@@ -1,5 +1,5 @@
 -- The access matrix of Bell and La Padula 1976, as a finite set of triples.
-use Rattle.std.specs.Prelude.{ℕ, Bool, not, T, List, [], is_some, if◌then◌else◌}
+use Rattle.std.specs.Prelude.{ℕ, Bool, not, ◌==◌, T, List, [], is_some, if◌then◌else◌}
 use Rattle.std.specs.Ordering.{nat_cmp, on, then_cmp, eq_by_cmp}
 use Rattle.std.specs.declared.cmp.Ordering.{Ordering}
 use Rattle.std.specs.FinMap.Entries.{put, find, where_key, is_sorted, is_sorted-put, is_sorted-where_key}
@@ -50,6 +50,14 @@ take_out matrix t =
     record {
       triples = where_key triple_cmp (λ u. not (eq_by_cmp triple_cmp t u)) matrix.triples;
       in_order = is_sorted-where_key triple_cmp (λ u. not (eq_by_cmp triple_cmp t u)) matrix.triples matrix.in_order;
+    }
+
+-- the set without the triples of this document
+abbrev pub without_document : Matrix → ℕ → Matrix
+without_document matrix o =
+    record {
+      triples = where_key triple_cmp (λ t. not (t.document == o)) matrix.triples;
+      in_order = is_sorted-where_key triple_cmp (λ t. not (t.document == o)) matrix.triples matrix.in_order;
     }
 
 -- the set with this triple, where the test holds

@@ -1,8 +1,8 @@
-use Rattle.std.specs.Prelude.{ℕ, Bool, false, List, [], ◌∷◌, ◌++◌, slice_index_or, slice_set, All}
+use Rattle.std.specs.Prelude.{ℕ, Bool, true, false, List, [], ◌∷◌, ◌++◌, slice_index_or, slice_set, All}
 use Rattle.bl_level.specs.Level.{SecurityLevel, Dominates}
 use Rattle.bl_policy.specs.declared.access.Mode.{Mode}
 use Rattle.bl_policy.specs.declared.access.ModeSet.{ModeSet}
-use Rattle.bl_policy.specs.Matrix.{Matrix, Triple, triple, is_in, put_in, take_out, put_modes, no_triple}
+use Rattle.bl_policy.specs.Matrix.{Matrix, Triple, triple, is_in, put_in, take_out, put_modes, without_document, no_triple}
 
 -- what a policy has of one subject: its levels, and whether it is in the sets of trusted subjects and of administrators
 pub record Clearance : Type 0 where
@@ -11,10 +11,12 @@ pub record Clearance : Type 0 where
   pub trusted : Bool
   pub admin : Bool
 
--- the finite maps from subjects and from documents, by position, and the matrix
+-- the finite maps from subjects and from documents, by position, the set of the documents that are present, as a truth value for each
+-- document, and the matrix
 pub record SecurityPolicy : Type 0 where
   pub subjects : List Clearance
   pub documents : List SecurityLevel
+  pub present : List Bool
   pub matrix : Matrix
 
 -- own choice: what stands for the level of a document that is not there
@@ -27,7 +29,7 @@ nobody = record { greatest = lowest; current = lowest; trusted = false; admin = 
 
 -- the policy with no subject, no document and no triple
 abbrev pub no_policy : SecurityPolicy
-no_policy = record { subjects = []; documents = []; matrix = no_triple }
+no_policy = record { subjects = []; documents = []; present = []; matrix = no_triple }
 
 -- what the policy has of subject s
 abbrev pub clearance_of : SecurityPolicy → ℕ → Clearance
@@ -45,6 +47,10 @@ current_of p s = (clearance_of p s).current
 abbrev pub level_of : SecurityPolicy → ℕ → SecurityLevel
 level_of p o = slice_index_or p.documents o lowest
 
+-- document o is present: it has not been reserved alone, nor deleted
+abbrev pub is_present : SecurityPolicy → ℕ → Bool
+is_present p o = slice_index_or p.present o false
+
 -- subject s is trusted
 abbrev pub is_trusted : SecurityPolicy → ℕ → Bool
 is_trusted p s = (clearance_of p s).trusted
@@ -61,9 +67,17 @@ allows p s o m = is_in p.matrix (triple s o m)
 abbrev pub with_subject : SecurityPolicy → Clearance → SecurityPolicy
 with_subject p clearance = record p { subjects = p.subjects ++ clearance ∷ [] }
 
--- the policy with one more document
+-- the policy with one more document, which is present or not
+abbrev pub with_declared : SecurityPolicy → SecurityLevel → Bool → SecurityPolicy
+with_declared p level there = record p { documents = p.documents ++ level ∷ []; present = p.present ++ there ∷ [] }
+
+-- the policy with one more document, which is present
 abbrev pub with_document : SecurityPolicy → SecurityLevel → SecurityPolicy
-with_document p level = record p { documents = p.documents ++ level ∷ [] }
+with_document p level = with_declared p level true
+
+-- the policy with one more document, which is not present
+abbrev pub with_reserved : SecurityPolicy → SecurityLevel → SecurityPolicy
+with_reserved p level = with_declared p level false
 
 -- the policy whose matrix also has the triples of subject s, document o and these modes
 abbrev pub with_modes : SecurityPolicy → ℕ → ℕ → ModeSet → SecurityPolicy
@@ -84,6 +98,14 @@ with_current p s level = record p { subjects = slice_set p.subjects s (record (c
 -- the policy in which this is the level of document o
 abbrev pub with_level : SecurityPolicy → ℕ → SecurityLevel → SecurityPolicy
 with_level p o level = record p { documents = slice_set p.documents o level }
+
+-- the policy in which document o is present or not
+abbrev pub with_presence : SecurityPolicy → ℕ → Bool → SecurityPolicy
+with_presence p o there = record p { present = slice_set p.present o there }
+
+-- the policy in whose matrix each cell of document o is empty
+abbrev pub without_cells : SecurityPolicy → ℕ → SecurityPolicy
+without_cells p o = record p { matrix = without_document p.matrix o }
 
 -- the greatest level of every subject dominates its current one (Bell and La Padula 1976)
 abbrev pub CurrentBelowGreatest : SecurityPolicy → Type 0

@@ -4,7 +4,7 @@ use Rattle.std.specs.Prelude.{◌≡◌, ◌⊎◌, ℕ, Bool, true, ◌&&◌, �
 use Rattle.bl_level.specs.Level.{SecurityLevel, dominates, Dominates}
 use Rattle.bl_policy.specs.declared.access.Mode.{Mode}
 use Rattle.bl_policy.specs.declared.access.Mode.TheVariants.{Read, Append, Write}
-use Rattle.bl_policy.specs.Policy.{SecurityPolicy, greatest_of, current_of, level_of, is_trusted, allows}
+use Rattle.bl_policy.specs.Policy.{SecurityPolicy, greatest_of, current_of, level_of, is_present, is_trusted, allows}
 
 -- what is observed is dominated by the greatest level
 abbrev pub Observes : SecurityLevel → SecurityLevel → Mode → Type 0
@@ -41,14 +41,19 @@ MayCarry carried level Write = Dominates level carried
 abbrev pub Carry : SecurityPolicy → ℕ → SecurityLevel → ℕ → Mode → Type 0
 Carry p s carried o m = IsTrue (is_trusted p s) ⊎ MayCarry carried (level_of p o) m
 
+-- own choice: only a document that is present is used
+abbrev pub IsPresent : SecurityPolicy → ℕ → Type 0
+IsPresent p o = IsTrue (is_present p o)
+
 -- the three of Bell and La Padula 1976
 pub record IsSecure (p : SecurityPolicy) (s o : ℕ) (m : Mode) : Type 0 where
   pub simple : Simple p s o m
   pub star : Star p s o m
   pub discretionary : Discretionary p s o m
 
--- the access is granted to who carries this level: it has the three properties, and the carry property
+-- the access is granted to who carries this level: its document is present, and it has the three properties and the carry property
 pub record IsGranted (p : SecurityPolicy) (s : ℕ) (carried : SecurityLevel) (o : ℕ) (m : Mode) : Type 0 where
+  pub present : IsPresent p o
   pub secure : IsSecure p s o m
   pub carry : Carry p s carried o m
 

@@ -7,6 +7,8 @@ use crate::id::{DocId, SubjectId};
 /// The property that an access fails, or the condition that a rule fails.
 #[derive(Clone, Copy, PartialEq, Eq, Debug)]
 pub enum Clause {
+    /// The document is not present: of an access, and of a rule that deletes it.
+    Absent,
     /// The simple-security property: the subject's greatest level does not dominate the document's.
     Simple,
     /// The star property: the access would observe from above the subject's current level, or alter below it.
@@ -21,6 +23,8 @@ pub enum Clause {
     Trusted,
     /// The speaker's greatest level does not dominate the current level that the rule asks for.
     Greatest,
+    /// The document that the rule creates is present.
+    Present,
 }
 
 impl Clause {
@@ -29,6 +33,7 @@ impl Clause {
         ensures { result.now ≡ word_of self }
     {
         match self {
+            Clause::Absent => "absent",
             Clause::Simple => "simple",
             Clause::Star => "star",
             Clause::Discretionary => "discretionary",
@@ -36,6 +41,7 @@ impl Clause {
             Clause::Admin => "admin",
             Clause::Trusted => "trusted",
             Clause::Greatest => "greatest",
+            Clause::Present => "present",
         }
     }
 }

@@ -6,8 +6,8 @@ ghost use Rattle.bl_level.specs.Level.{SecurityLevel};
 ghost use Rattle.bl_policy.specs.declared.access.Mode.{Mode};
 ghost use Rattle.bl_policy.specs.declared.access.Access.{Access};
 ghost use Rattle.bl_policy.specs.declared.denial.Denial.{Denial};
-ghost use Rattle.bl_policy.specs.Matrix.{Triple, Matrix, no_triple, is_in, put_in, take_out};
-ghost use Rattle.bl_policy.specs.Policy.{SecurityPolicy, lowest, clearance_of, greatest_of, is_trusted, is_admin, allows, CurrentBelowGreatest};
+ghost use Rattle.bl_policy.specs.Matrix.{Triple, Matrix, no_triple, is_in, put_in, take_out, without_document};
+ghost use Rattle.bl_policy.specs.Policy.{SecurityPolicy, lowest, greatest_of, is_trusted, is_admin, allows, CurrentBelowGreatest};
 ghost use Rattle.bl_policy.specs.Properties.{Simple, Star, Discretionary, Carry, IsGranted, is_simple, is_star, is_discretionary, is_carry};
 ghost use Rattle.bl_policy.specs.FirstFault.{first_fault, IsFirstFault};
 ghost use Rattle.bl_policy.specs.declared.rule.Rule.{Rule};
@@ -22,6 +22,8 @@ pub fn matrix_is_a_set()
     ensures none { (t : Triple) → ¬ IsTrue (is_in no_triple t) }
     ensures put_in { (matrix : Matrix) (u t : Triple) → IsTrue (is_in (put_in matrix u) t) ↔ ((t ≡ u) ⊎ IsTrue (is_in matrix t)) }
     ensures take_out { (matrix : Matrix) (u t : Triple) → IsTrue (is_in (take_out matrix u) t) ↔ ((t ≢ u) × IsTrue (is_in matrix t)) }
+    ensures without_document { (matrix : Matrix) (o : ℕ) (t : Triple) →
+        IsTrue (is_in (without_document matrix o) t) ↔ ((t.document ≢ o) × IsTrue (is_in matrix t)) }
     ensures same { (a b : Matrix) → ((t : Triple) → is_in a t ≡ is_in b t) → a ≡ b }
 {}
 
@@ -37,7 +39,7 @@ pub fn tests_are_the_properties()
 }
 
 /// The first fault is none just where each access is granted, and else it is that of the first access that
-/// is not, with the first property that this access fails.
+/// is not, with what this access fails first.
 pub fn first_fault_is_the_first()
     ensures none { (p : SecurityPolicy) (s : ℕ) (carried : SecurityLevel) (accesses : List Access) →
         (first_fault p s carried accesses ≡ None) ↔ All (λ access. IsGranted p s carried access.doc access.mode) accesses }
@@ -47,14 +49,14 @@ pub fn first_fault_is_the_first()
     dominates_means_dominance();
 }
 
-/// Every level dominates the lowest one, so who carries that is judged by the three properties alone.
+/// Every level dominates the lowest one, so who carries that is not bound by it.
 pub fn the_lowest_level_binds_nobody()
     ensures { (p : SecurityPolicy) (s o : ℕ) (m : Mode) → Carry p s lowest o m }
 {}
 
 /// A rule is refused just where its speaker fails a condition, and the refusal names the first that fails.
 pub fn rule_fault_is_the_first()
-    ensures none { (p : SecurityPolicy) (s : ℕ) (rule : Rule) → (rule_fault p s rule ≡ None) ↔ Permits (clearance_of p s) rule }
+    ensures none { (p : SecurityPolicy) (s : ℕ) (rule : Rule) → (rule_fault p s rule ≡ None) ↔ Permits p s rule }
     ensures some { (p : SecurityPolicy) (s : ℕ) (rule : Rule) (denial : Denial) → rule_fault p s rule ≡ Some denial → IsRuleFault p s rule denial }
 {
     dominates_means_dominance();

@@ -10,7 +10,7 @@ ghost use Rattle.bl_policy.specs.Mode.{has_mode};
 ghost use Rattle.bl_policy.specs.declared.access.Mode.{Mode};
 ghost use Rattle.bl_policy.specs.Properties.{Carry, IsGranted, IsSecure, is_carry};
 ghost use Rattle.bl_policy.specs.FirstFault.{fault_of, first_fault, property_fault};
-ghost use Rattle.bl_policy.specs.Policy.{no_policy, greatest_of, current_of, level_of, is_trusted, is_admin, allows, with_subject, with_document, with_modes};
+ghost use Rattle.bl_policy.specs.Policy.{no_policy, greatest_of, current_of, level_of, is_present, is_trusted, is_admin, allows, with_subject, with_declared, with_document, with_reserved, with_modes};
 
 use crate::access::{Access, ModeSet};
 use crate::denial::{Clause, Denial};
@@ -54,6 +54,7 @@ struct Subject {
 pub struct Policy {
     subjects: Vec<Subject>,
     documents: Vec<Level>,
+    present: Vec<bool>,
     cells: Vec<Cell>,
 }
 
@@ -99,6 +100,7 @@ impl Policy {
         Ok(Policy {
             subjects: Vec::with_capacity(alloc, MOST_SUBJECTS)?,
             documents: Vec::with_capacity(alloc, MOST_DOCUMENTS)?,
+            present: Vec::with_capacity(alloc, MOST_DOCUMENTS)?,
             cells: Vec::with_capacity(alloc, MOST_CELLS)?,
         })
     }
@@ -111,6 +113,7 @@ impl Policy {
         Ok(Policy {
             subjects: with_room(alloc, MOST_SUBJECTS, &self.subjects)?,
             documents: with_room(alloc, MOST_DOCUMENTS, &self.documents)?,
+            present: with_room(alloc, MOST_DOCUMENTS, &self.present)?,
             cells: with_room(alloc, MOST_CELLS, &self.cells)?,
         })
     }
@@ -153,10 +156,31 @@ impl Policy {
         Ok(SubjectId::new(position))
     }
 
-    /// Adds a document, and answers its position, which is the number of documents before. `TooMany` where
-    /// there are 1,024 documents; then the policy is unchanged.
+    /// Adds a document that is present, and answers its position, which is the number of documents before. `TooMany`
+    /// where there are 1,024 documents; then the policy is unchanged.
     pub fn add_document(&mut self, level: Level) -> Result<DocId, AddFault>
         ensures ok { IfOk result (λ id. (id ≡ length self.old.documents) × (self.new ≡ with_document self.old level)) }
+        ensures too_many { (result ≡ Err AddFault.TooMany) ↔ (most_documents ≤ length self.old.documents) }
+        ensures too_many_alone { result ≢ Err AddFault.CurrentAboveGreatest }
+        ensures err { OnErr result (self.new ≡ self.old) }
+    {
+        self.declare(level, true)
+    }
+
+    /// Adds a document that is not present yet, and answers its position, which is the number of documents before. It may
+    /// be created later, and may be named before. `TooMany` where there are 1,024 documents; then the policy is unchanged.
+    pub fn add_reserved(&mut self, level: Level) -> Result<DocId, AddFault>
+        ensures ok { IfOk result (λ id. (id ≡ length self.old.documents) × (self.new ≡ with_reserved self.old level)) }
+        ensures too_many { (result ≡ Err AddFault.TooMany) ↔ (most_documents ≤ length self.old.documents) }
+        ensures too_many_alone { result ≢ Err AddFault.CurrentAboveGreatest }
+        ensures err { OnErr result (self.new ≡ self.old) }
+    {
+        self.declare(level, false)
+    }
+
+    /// Adds a document, which is present or not.
+    fn declare(&mut self, level: Level, present: bool) -> Result<DocId, AddFault>
+        ensures ok { IfOk result (λ id. (id ≡ length self.old.documents) × (self.new ≡ with_declared self.old level present)) }
         ensures too_many { (result ≡ Err AddFault.TooMany) ↔ (most_documents ≤ length self.old.documents) }
         ensures too_many_alone { result ≢ Err AddFault.CurrentAboveGreatest }
         ensures err { OnErr result (self.new ≡ self.old) }
@@ -167,6 +191,7 @@ impl Policy {
         let position = self.documents.len();
         mend_column(&mut self.cells, position, &self.subjects, &level);
         self.documents.push_reserved(level);
+        self.present.push_reserved(present);
         Ok(DocId::new(position as u16))
     }
 
@@ -213,13 +238,20 @@ impl Policy {
             || may_carry(carried, &self.level(access.doc), access.mode)
     }
 
-    /// What the access fails first: one of the three properties, and then carry.
+    /// What the access fails first: its document is absent, or one of the three properties, and then carry.
     fn fault(&self, subject: SubjectId, carried: &Level, access: &Access) -> Option<Denial>
         requires known { subject < length self.now.subjects }
         requires there { access.now.doc < length self.now.documents }
         ensures first { result ≡ fault_of self.now subject carried.now access.now }
         ensures granted { IfNone result (IsGranted self.now subject carried.now access.now.doc access.now.mode) }
     {
+        if !self.is_present(access.doc) {
+            return Some(Denial {
+                clause: Clause::Absent,
+                subject,
+                object: Some(access.doc),
+            });
+        }
         let failed = self.property_fault(subject, access);
         if failed.is_some() || self.has_carry(subject, carried, access) {
             return failed;
@@ -231,9 +263,9 @@ impl Policy {
         })
     }
 
-    /// The first access, in the order given, that fails a property, with the first that it fails in the
-    /// order simple-security, star, discretionary (Bell and La Padula 1976, the three properties), carry. None
-    /// where every access meets all of them. The level is that which the behaviour carries: a trusted subject
+    /// The first access, in the order given, that is not granted, with what it fails first: its document is absent, or
+    /// the first property in the order simple-security, star, discretionary (Bell and La Padula 1976, the three
+    /// properties), carry. None where every access is granted. The level is that which the behaviour carries: a trusted subject
     /// apart, it may append to and write only documents whose level dominates it. Who carries the lowest level
     /// is bound by the three properties alone.
     pub fn decide(&self, subject: SubjectId, carried: &Level, accesses: &[Access]) -> Option<Denial>
@@ -292,6 +324,14 @@ impl Policy {
         ensures { result ≡ level_of self.now doc }
     {
         self.documents[doc.position() as usize]
+    }
+
+    /// Whether a document is present: declared so or created, and not deleted since.
+    pub fn is_present(&self, doc: DocId) -> bool
+        requires { doc < length self.now.documents }
+        ensures { result ≡ is_present self.now doc }
+    {
+        self.present[doc.position() as usize]
     }
 
     /// The modes in which the matrix has this subject and document.

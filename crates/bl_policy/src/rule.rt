@@ -30,6 +30,14 @@ pub enum Rule {
         doc: DocId,
         level: Level,
     },
+    /// Makes the document present, which has to be absent. It needs an administrator.
+    Create {
+        doc: DocId,
+    },
+    /// Makes the document absent, which has to be present, and empties each cell of it. It needs an administrator.
+    Delete {
+        doc: DocId,
+    },
 }
 
 impl Rule {
@@ -38,9 +46,11 @@ impl Rule {
         ensures { result ≡ document_of self.now }
     {
         match self {
-            Rule::Give { doc, .. } | Rule::Rescind { doc, .. } | Rule::Classify { doc, .. } => {
-                Some(*doc)
-            }
+            Rule::Give { doc, .. }
+            | Rule::Rescind { doc, .. }
+            | Rule::Classify { doc, .. }
+            | Rule::Create { doc }
+            | Rule::Delete { doc } => Some(*doc),
             Rule::Current { .. } => None,
         }
     }
@@ -55,7 +65,9 @@ impl Rule {
                 (subject.position() as usize) < subjects && (doc.position() as usize) < documents
             }
             Rule::Current { .. } => true,
-            Rule::Classify { doc, .. } => (doc.position() as usize) < documents,
+            Rule::Classify { doc, .. } | Rule::Create { doc } | Rule::Delete { doc } => {
+                (doc.position() as usize) < documents
+            }
         }
     }
 }

@@ -199,12 +199,15 @@ fn limits(rt: HostRuntime) -> Result<(), Fail> {
 #[test]
 fn words(rt: HostRuntime) {
     let words = [
+        (Clause::Absent, "absent"),
         (Clause::Simple, "simple"),
         (Clause::Star, "star"),
         (Clause::Discretionary, "discretionary"),
+        (Clause::Carry, "carry"),
         (Clause::Admin, "admin"),
         (Clause::Trusted, "trusted"),
         (Clause::Greatest, "greatest"),
+        (Clause::Present, "present"),
     ];
     for (clause, word) in words {
         assert_eq!(rt; clause.word(), word);

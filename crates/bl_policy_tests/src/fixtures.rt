@@ -129,6 +129,21 @@ pub fn apply_each(rt: &impl Abort, policy: &mut Policy, steps: &[Step]) {
     }
 }
 
+/// Applies each rule, which its speaker may ask for, and asserts what is decided behind it on one access of a subject.
+pub fn follow(
+    rt: &impl Abort,
+    policy: &mut Policy,
+    subject: SubjectId,
+    mode: Mode,
+    doc: DocId,
+    steps: &[(SubjectId, Rule, Option<Denial>)],
+) {
+    for (speaker, rule, decision) in steps {
+        apply_each(rt, policy, &[(*speaker, *rule, None)]);
+        decide_each(rt, policy, &[(subject, mode, doc, *decision)]);
+    }
+}
+
 /// What the matrix has of a subject and a document.
 pub type Cell = (SubjectId, DocId, ModeSet);
 
@@ -143,12 +158,42 @@ pub fn has_current(rt: &impl Abort, policy: &Policy, subject: SubjectId, level: 
     assert_eq!(rt; policy.current(subject), level);
 }
 
+pub fn has_level(rt: &impl Abort, policy: &Policy, doc: DocId, level: Level) {
+    assert!(rt; (doc.position() as usize) < policy.documents());
+    assert_eq!(rt; policy.level(doc), level);
+}
+
+/// Whether each of these documents is present.
+pub fn have_presence(rt: &impl Abort, policy: &Policy, documents: &[(DocId, bool)]) {
+    for (doc, present) in documents {
+        assert!(rt; (doc.position() as usize) < policy.documents());
+        assert_eq!(rt;
+            policy.is_present(*doc),
+            *present,
+            "document {}",
+            doc.position()
+        );
+    }
+}
+
 pub fn give(subject: SubjectId, doc: DocId, mode: Mode) -> Rule {
     Rule::Give { subject, doc, mode }
 }
 
 pub fn rescind(subject: SubjectId, doc: DocId, mode: Mode) -> Rule {
     Rule::Rescind { subject, doc, mode }
+}
+
+pub fn classify(doc: DocId, level: Level) -> Rule {
+    Rule::Classify { doc, level }
+}
+
+pub fn create(doc: DocId) -> Rule {
+    Rule::Create { doc }
+}
+
+pub fn delete(doc: DocId) -> Rule {
+    Rule::Delete { doc }
 }
 
 /// The refusal of an access, or of a rule with a document.

@@ -1,20 +1,14 @@
 //! Rules over the base policy, and what it decides after each of them.
 use crate::fixtures::{
-    Base, NATO, apply_each, decide_each, denied, fill_base, give, has_current, have_cells, level,
-    rescind,
+    Base, NATO, apply_each, classify, decide_each, denied, fill_base, follow, give, has_current,
+    have_cells, level, rescind,
 };
-use bl_level::level::Level;
 use bl_policy::access::{Mode, ModeSet};
 use bl_policy::denial::{Clause, Denial};
-use bl_policy::id::{DocId, SubjectId};
 use bl_policy::policy::Policy;
 use bl_policy::rule::Rule;
 use std::process::Abort;
 use std::test::Fail;
-
-fn classify(doc: DocId, level: Level) -> Rule {
-    Rule::Classify { doc, level }
-}
 
 #[test]
 fn rules_and_their_checks(rt: HostRuntime) -> Result<(), Fail> {
@@ -47,21 +41,6 @@ fn rules_and_their_checks(rt: HostRuntime) -> Result<(), Fail> {
         &[(ann, Mode::Write, memo, denied(Clause::Star, ann, memo))],
     );
     Ok(())
-}
-
-/// Applies each rule, which its speaker may ask for, and asserts what is decided behind it on one access of a subject.
-fn follow(
-    rt: &impl Abort,
-    policy: &mut Policy,
-    subject: SubjectId,
-    mode: Mode,
-    doc: DocId,
-    steps: &[(SubjectId, Rule, Option<Denial>)],
-) {
-    for (speaker, rule, decision) in steps {
-        apply_each(rt, policy, &[(*speaker, *rule, None)]);
-        decide_each(rt, policy, &[(subject, mode, doc, *decision)]);
-    }
 }
 
 #[test]

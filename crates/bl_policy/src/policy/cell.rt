@@ -2,11 +2,9 @@
 // first property that each mode fails (Bell and La Padula 1976, the three properties; own choice: their order).
 //
 // A decision reads cells and asks nothing else. So what changes a level or the matrix mends each cell that it touches.
-ghost use Rattle.std.specs.Prelude.{◌≡◌, ◌↔◌, ◌+◌, ◌*◌, ◌<◌, ◌≤◌, IsTrue, length, map};
-ghost use Rattle.bl_policy.specs.declared.access.Mode.{Mode};
-ghost use Rattle.bl_policy.specs.Cells.{modes_of, failed_in, no_cell, cell_of, first_failed, failed_property, clause_of, clearance_from, HasMendedRow, HasMendedColumn};
+ghost use Rattle.std.specs.Prelude.{◌≡◌, ◌+◌, ◌*◌, ◌≤◌, ◌<◌, length, map};
+ghost use Rattle.bl_policy.specs.Cells.{modes_of, failed_in, no_cell, cell_of, first_failed, clause_of, clearance_from, HasMendedRow, HasMendedColumn, HasEmptiedColumn};
 ghost use Rattle.bl_policy.specs.Limits.{most_subjects, most_documents};
-ghost use Rattle.bl_policy.specs.Properties.{observes, Observes, flows, Flows};
 
 use super::{MOST_DOCUMENTS, Subject};
 use crate::access::{Mode, ModeSet};
@@ -72,29 +70,6 @@ impl Cell {
     }
 }
 
-/// Whether the greatest level dominates what an access observes.
-fn may_observe(greatest: &Level, level: &Level, mode: Mode) -> bool
-    ensures test { result ≡ observes greatest.now level.now mode }
-    ensures property { IsTrue result ↔ Observes greatest.now level.now mode }
-{
-    match mode {
-        Mode::Read | Mode::Write => greatest.dominates(level),
-        Mode::Append => true,
-    }
-}
-
-/// Whether an access keeps to the current level: it observes nothing from above and alters nothing below.
-fn may_flow(current: &Level, level: &Level, mode: Mode) -> bool
-    ensures test { result ≡ flows current.now level.now mode }
-    ensures property { IsTrue result ↔ Flows current.now level.now mode }
-{
-    match mode {
-        Mode::Read => current.dominates(level),
-        Mode::Append => level.dominates(current),
-        Mode::Write => *current == *level,
-    }
-}
-
 /// The first property that does not hold: simple security, then the star property, then the discretionary one.
 fn first_failed(simple: bool, star: bool, discretionary: bool) -> Failed
     ensures { result ≡ first_failed simple star discretionary }
@@ -111,26 +86,19 @@ fn first_failed(simple: bool, star: bool, discretionary: bool) -> Failed
 }
 
 impl Subject {
-    /// The first property that an access in this mode fails at a document of this level, where the matrix has these
-    /// modes.
-    fn failed_property(&self, level: &Level, modes: ModeSet, mode: Mode) -> Failed
-        ensures { result ≡ failed_property (clearance_from self.now) level.now modes mode }
-    {
-        let simple = may_observe(&self.greatest, level, mode);
-        let star = self.trusted || may_flow(&self.current, level, mode);
-        let discretionary = modes.contains(ModeSet::from(mode));
-        first_failed(simple, star, discretionary)
-    }
-
-    /// The cell of this subject and a document of this level, where the matrix has these modes.
+    /// The cell of this subject and a document of this level, where the matrix has these modes. Levels that dominate each
+    /// other are one, so the star property holds of a write where it holds of a read and of an append.
     pub(super) fn cell(&self, level: &Level, modes: ModeSet) -> Cell
         ensures { result ≡ cell_of (clearance_from self.now) level.now modes }
     {
+        let observes = self.greatest.dominates(level);
+        let reads = self.trusted || self.current.dominates(level);
+        let alters = self.trusted || level.dominates(&self.current);
         Cell {
             modes,
-            read: self.failed_property(level, modes, Mode::Read),
-            append: self.failed_property(level, modes, Mode::Append),
-            write: self.failed_property(level, modes, Mode::Write),
+            read: first_failed(observes, reads, modes.contains(ModeSet::READ)),
+            append: first_failed(true, alters, modes.contains(ModeSet::APPEND)),
+            write: first_failed(observes, reads && alters, modes.contains(ModeSet::WRITE)),
         }
     }
 }
@@ -145,6 +113,18 @@ pub(super) fn mend_row(cells: &mut [Cell], first: usize, subject: &Subject, leve
     for (column, level) in levels.iter().enumerate() {
         let modes = cells[first + column].modes;
         cells[first + column] = subject.cell(level, modes);
+    }
+}
+
+/// Empties the cells of these subjects and one document, which has this level: they have no modes. All other cells stay.
+pub(super) fn empty_column(cells: &mut [Cell], column: usize, subjects: &[Subject], level: &Level)
+    requires column { column < most_documents }
+    requires rows { length subjects.now ≤ most_subjects }
+    requires within { length subjects.now * most_documents ≤ length cells.old }
+    ensures emptied { HasEmptiedColumn column (map clearance_from subjects.now) level.now cells.old cells.new }
+{
+    for (row, subject) in subjects.iter().enumerate() {
+        cells[row * MOST_DOCUMENTS + column] = subject.cell(level, ModeSet::empty());
     }
 }
 

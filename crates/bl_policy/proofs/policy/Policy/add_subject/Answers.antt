@@ -33,10 +33,12 @@ invariant_of-self c =
     (record {
       subject_room = omega (arith, c.push_reserved.ensures.capacity);
       document_room = omega arith;
+      presence_room = omega arith;
       cell_room = omega (arith, c.resize.ensures.capacity);
       same = same c ∙ ap modes_of (resized c);
       small = small-with_row p.cells.items c.self.invariant.modes_only;
       is = written_back c.resize.new.self c.mend_row.new.cells (same c);
+      presence_count = c.self.invariant.presence_count;
     })
     c.push_reserved.ensures.items refl room below has
 
@@ -46,5 +48,5 @@ returns-clause-ok c =
     let new : Subject = record { greatest = c.args.greatest; current = c.args.current; trusted = c.args.trusted; admin = c.args.admin } in
     let many : length (map clearance_from p.subjects.items) ≡ length c.args.self.now.subjects = ap (λ (q : SecurityPolicy). length q.subjects) c.self.view_is in (
       omega (arith, c.new.ensures, c.len-position.ensures, p.subjects.ok.0, length-map p.subjects.items clearance_from, many),
-      rw (← c.self.view_is) (policy_of-subject p (record p { subjects = c.push_reserved.new.self; cells = with_items c.resize.new.self c.mend_row.new.cells }) new c.push_reserved.ensures.items refl (ap modes_of (written_back c.resize.new.self c.mend_row.new.cells (same c)) ∙ same c ∙ ap modes_of (resized c))),
+      rw (← c.self.view_is) (policy_of-subject p (record p { subjects = c.push_reserved.new.self; cells = with_items c.resize.new.self c.mend_row.new.cells }) new c.push_reserved.ensures.items refl refl (ap modes_of (written_back c.resize.new.self c.mend_row.new.cells (same c)) ∙ same c ∙ ap modes_of (resized c))),
     )

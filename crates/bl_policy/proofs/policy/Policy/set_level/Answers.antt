@@ -1,4 +1,4 @@
-use Rattle.std.proofs.Common.{◌≡◌, ◌<◌, refl, sym, subst, ap, ◌∙◌, arith, length, map, List}
+use Rattle.std.proofs.Common.{◌≡◌, ◌<◌, refl, sym, subst, ap, ◌∙◌, arith, length, map, List, length-set}
 use Rattle.bl_policy.specs.declared.policy.Subject.{Subject}
 use Rattle.bl_policy.specs.declared.policy.cell.Cell.{Cell}
 use Rattle.bl_policy.specs.Policy.{SecurityPolicy}
@@ -17,5 +17,5 @@ invariant_of-self c =
     subst (λ (ss : List Subject). HasMendedColumn column (map clearance_from ss) c.args.level p.cells.items c.mend_column.new.cells) c.deref.ensures.value
     (subst (λ (cells : List Cell). HasMendedColumn column (map clearance_from c.deref.result.now) c.args.level cells c.mend_column.new.cells) c.deref_mut.ensures.value c.mend_column.ensures.mended) in
     IsSound-classified p _ column c.args.level c.mend_column.new.cells c.self.invariant
-    (record { subject_room = omega arith; document_room = omega arith; cell_room = omega arith; same = same; small = c.self.invariant.modes_only; is = written_back p.cells c.mend_column.new.cells same })
+    (record { subject_room = omega arith; document_room = omega arith; presence_room = omega arith; cell_room = omega arith; same = same; small = c.self.invariant.modes_only; is = written_back p.cells c.mend_column.new.cells same; presence_count = c.self.invariant.presence_count ∙ sym (length-set p.documents.items column c.args.level) })
     refl refl within has
