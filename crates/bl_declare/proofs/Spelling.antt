@@ -4,14 +4,14 @@ use Rattle.std.proofs.lemmas.List.{append-nil}
 use denote.Enum.Bare.{sameb, same_true}
 use Rattle.bl_name.specs.contracts.token.Keyword.{the_type}
 use Rattle.bl_name.specs.declared.token.Keyword.{Keyword}
-use Rattle.bl_name.specs.declared.token.Keyword.TheVariants.{Ranks, Categories, Subject, Greatest, Current, Trusted, Admin, Document, Allow}
+use Rattle.bl_name.specs.declared.token.Keyword.TheVariants.{Ranks, Categories, Subject, Greatest, Current, Trusted, Admin, Document, Reserve, Allow}
 use Rattle.bl_name.specs.declared.token.Sign.TheVariants.{Comma, Semicolon, Open, Close}
 use Rattle.bl_level.specs.Token.{Tok, reserved, name, text, sign}
 use Rattle.bl_level.specs.LevelText.{LevelText, spell_level, spell_more, spell_categories}
 use Rattle.bl_policy.specs.declared.access.Mode.{Mode}
 use Rattle.bl_policy.specs.declared.access.Mode.TheVariants.{Read, Append, Write}
-use Rattle.bl_declare.specs.Declaration.{Declaration, SubjectText, ranks, categories, subject, document, allow, letter_of, spell_names, spell_modes, spell_flag, spell_subject, spell_declaration}
-use Rattle.bl_declare.specs.Reading.{Onward, ended, name_then, text_then, key_then, flag_then, names_then, mode_then, modes_then, more_then, categories_then, level_then, mode_of, with_mode, declaration_at, behind_word, subject_then, document_then, allow_then, ranks_then, categories_line_then}
+use Rattle.bl_declare.specs.Declaration.{Declaration, SubjectText, DocumentText, ranks, categories, subject, document, allow, letter_of, spell_names, spell_modes, spell_flag, spell_subject, spell_document, spell_declaration}
+use Rattle.bl_declare.specs.Reading.{Onward, ended, name_then, text_then, key_then, flag_then, names_then, mode_then, modes_then, more_then, categories_then, level_then, mode_of, with_mode, declaration_at, behind_word, subject_then, document_then, reserve_then, allow_then, ranks_then, categories_line_then}
 use Rattle.bl_declare.specs.Parsing.{IsNotAt}
 use Rattle.bl_work.proofs.Theory.{letter_is}
 use Rattle.bl_declare.proofs.Parts.{name_passes, text_passes, key_passes, categories_none, ended_at}
@@ -191,6 +191,14 @@ document_spelled ts d e =
     ap (λ y. reserved Document ∷ y) (n.split ∙ ap (λ y. name n.value ∷ y) (l.split ∙ ap (λ y. spell_level l.value ++ y) (t.split ∙ ap (λ y. text t.value ∷ y) x.0)))
     ∙ ap spell_declaration x.1
 
+reserve_spelled : (ts : List Tok) (d : Declaration) → reserve_then ts ≡ Some d → reserved Reserve ∷ ts ≡ spell_declaration d
+reserve_spelled ts d e =
+    let n = name_splits _ ts d e in
+    let l = level_splits _ n.rest d n.goes_on in
+    let x = ended_splits _ d l.rest l.goes_on in
+    ap (λ y. reserved Reserve ∷ y) (n.split ∙ ap (λ y. name n.value ∷ y) (l.split ∙ ap (λ y. spell_level l.value ++ y) x.0))
+    ∙ ap spell_declaration x.1
+
 allow_spelled : (ts : List Tok) (d : Declaration) → allow_then ts ≡ Some d → reserved Allow ∷ ts ≡ spell_declaration d
 allow_spelled ts d e =
     let s = name_splits _ ts d e in
@@ -222,6 +230,7 @@ word_spelled Ranks ts d e = ranks_spelled ts d e
 word_spelled Categories ts d e = categories_spelled ts d e
 word_spelled Subject ts d e = subject_spelled ts d e
 word_spelled Document ts d e = document_spelled ts d e
+word_spelled Reserve ts d e = reserve_spelled ts d e
 word_spelled Allow ts d e = allow_spelled ts d e
 word_spelled _ ts d e = absurd (cc)
 
@@ -289,13 +298,16 @@ read_subject s =
     ∙ level_pass _ s.current (spell_flag Trusted s.trusted ++ spell_flag Admin s.admin) (flags_not_open s.trusted s.admin)
     ∙ flags_pass (λ t a. subject (record { name = s.name; greatest = s.greatest; current = s.current; trusted = t; admin = a })) s.trusted s.admin
 
+read_content : (n : List ℕ) (l : LevelText) (content : Option (List ℕ)) → let d : DocumentText = record { name = n; level = l; content = content } in declaration_at (spell_document d) ≡ Some (document d)
+read_content n l (Some x) = name_passes _ n _ _ refl ∙ level_pass _ l (text x ∷ []) (λ e. cc) ∙ text_passes _ x _ _ refl ∙ ended_at _ _ refl
+read_content n l None = name_passes _ n _ _ refl ∙ level_pass _ l [] tt ∙ ended_at _ _ refl
+
 -- a spelled declaration is read as itself
 pub spelled_is_read : (d : Declaration) → declaration_at (spell_declaration d) ≡ Some d
 spelled_is_read (ranks lowest higher) = name_passes _ lowest _ _ refl ∙ names_pass _ higher ∙ ended_at _ _ refl
 spelled_is_read (categories names) = names_pass _ names ∙ ended_at _ _ refl
 spelled_is_read (subject s) = read_subject s
-spelled_is_read (document d) =
-    name_passes _ d.name _ _ refl ∙ level_pass _ d.level (text d.content ∷ []) (λ e. cc) ∙ text_passes _ d.content _ _ refl ∙ ended_at _ _ refl
+spelled_is_read (document d) = read_content d.name d.level d.content
 spelled_is_read (allow a) =
     name_passes _ a.subject _ _ refl ∙ name_passes _ a.document _ _ refl ∙ mode_pass _ a.mode _ ∙ modes_pass _ a.modes ∙ ended_at _ _ refl
 

@@ -1,7 +1,7 @@
 -- The declarations of a setup file, and how each is spelled in tokens.
-use Rattle.std.specs.Prelude.{ℕ, Bool, true, false, List, [], ◌∷◌, ◌++◌, map}
+use Rattle.std.specs.Prelude.{ℕ, Bool, true, false, List, [], ◌∷◌, ◌++◌, map, Option, Some, None, unwrap_or}
 use Rattle.bl_name.specs.declared.token.Keyword.{Keyword}
-use Rattle.bl_name.specs.declared.token.Keyword.TheVariants.{Ranks, Categories, Subject, Greatest, Current, Trusted, Admin, Document, Allow}
+use Rattle.bl_name.specs.declared.token.Keyword.TheVariants.{Ranks, Categories, Subject, Greatest, Current, Trusted, Admin, Document, Reserve, Allow}
 use Rattle.bl_level.specs.Token.{Tok, reserved, name, text}
 use Rattle.bl_level.specs.LevelText.{LevelText, spell_level}
 use Rattle.bl_policy.specs.declared.access.Mode.{Mode}
@@ -15,11 +15,15 @@ pub record SubjectText : Type 0 where
   pub trusted : Bool
   pub admin : Bool
 
--- a document's name, the text of its level, and its content
+-- a document's name, the text of its level, and its content, which a document that is not present has not
 pub record DocumentText : Type 0 where
   pub name : List ℕ
   pub level : LevelText
-  pub content : List ℕ
+  pub content : Option (List ℕ)
+
+-- what the document contains: where it is not present, nothing
+abbrev pub content_of : DocumentText → List ℕ
+content_of d = unwrap_or d.content []
 
 -- the names of a subject and a document, and the modes that are added to their cell: at least one
 pub record AllowText : Type 0 where
@@ -53,9 +57,19 @@ spell_subject s =
     reserved Subject ∷ name s.name ∷ reserved Greatest ∷ (spell_level s.greatest
     ++ reserved Current ∷ (spell_level s.current ++ (spell_flag Trusted s.trusted ++ spell_flag Admin s.admin)))
 
--- `document NAME LEVEL "CONTENT"`
+-- the word of a document that has a content, and of one that has none
+abbrev pub document_word : Option (List ℕ) → Keyword
+document_word (Some content) = Document
+document_word None = Reserve
+
+-- a content, where there is one
+abbrev pub spell_content : Option (List ℕ) → List Tok
+spell_content (Some content) = text content ∷ []
+spell_content None = []
+
+-- `document NAME LEVEL "CONTENT"`, or `reserve NAME LEVEL`
 abbrev pub spell_document : DocumentText → List Tok
-spell_document d = reserved Document ∷ name d.name ∷ (spell_level d.level ++ text d.content ∷ [])
+spell_document d = reserved (document_word d.content) ∷ name d.name ∷ (spell_level d.level ++ spell_content d.content)
 
 -- `allow SUBJECT DOCUMENT LETTER { LETTER }`
 abbrev pub spell_allow : AllowText → List Tok

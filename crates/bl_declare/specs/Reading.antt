@@ -4,7 +4,7 @@ use Rattle.std.specs.Prelude.{ℕ, Bool, true, false, if◌then◌else◌, List,
 use denote.Enum.Bare.{sameb}
 use Rattle.bl_name.specs.contracts.token.Keyword.{the_type}
 use Rattle.bl_name.specs.declared.token.Keyword.{Keyword}
-use Rattle.bl_name.specs.declared.token.Keyword.TheVariants.{Ranks, Categories, Subject, Greatest, Current, Trusted, Admin, Document, Allow}
+use Rattle.bl_name.specs.declared.token.Keyword.TheVariants.{Ranks, Categories, Subject, Greatest, Current, Trusted, Admin, Document, Reserve, Allow}
 use Rattle.bl_name.specs.declared.token.Sign.TheVariants.{Comma, Open, Close}
 use Rattle.bl_level.specs.Token.{Tok, reserved, name, text, sign}
 use Rattle.bl_level.specs.LevelText.{LevelText}
@@ -81,7 +81,10 @@ subject_then =
     ended (subject (record { name = n; greatest = g; current = c; trusted = t; admin = a })))))))))
 
 abbrev pub document_then : Onward
-document_then = name_then (λ n. level_then (λ l. text_then (λ x. ended (document (record { name = n; level = l; content = x })))))
+document_then = name_then (λ n. level_then (λ l. text_then (λ x. ended (document (record { name = n; level = l; content = Some x })))))
+
+abbrev pub reserve_then : Onward
+reserve_then = name_then (λ n. level_then (λ l. ended (document (record { name = n; level = l; content = None }))))
 
 abbrev pub allow_then : Onward
 allow_then =
@@ -100,6 +103,7 @@ behind_word Ranks ts = ranks_then ts
 behind_word Categories ts = categories_line_then ts
 behind_word Subject ts = subject_then ts
 behind_word Document ts = document_then ts
+behind_word Reserve ts = reserve_then ts
 behind_word Allow ts = allow_then ts
 behind_word _ ts = None
 

@@ -1,5 +1,5 @@
 -- The declaration that a value of the code stands for.
-use Rattle.std.specs.Prelude.{ℕ, List, map}
+use Rattle.std.specs.Prelude.{ℕ, List, map, option_map}
 use Rattle.std.specs.Borrow.{Bor}
 use Rattle.bl_level.specs.LevelText.{LevelText}
 use Rattle.bl_declare.specs.declared.declaration.LevelWords.{LevelWords}
@@ -20,7 +20,7 @@ abbrev pub subject_text : SubjectWords → SubjectText
 subject_text s = record { name = s.name.now; greatest = level_text s.greatest; current = level_text s.current; trusted = s.trusted; admin = s.admin }
 
 abbrev pub document_text : DocumentWords → DocumentText
-document_text d = record { name = d.name.now; level = level_text d.level; content = d.content.now }
+document_text d = record { name = d.name.now; level = level_text d.level; content = option_map (λ x. x.now) d.content }
 
 abbrev pub allow_text : AllowWords → AllowText
 allow_text a = record { subject = a.subject.now; document = a.document.now; mode = a.mode; modes = a.modes.items }

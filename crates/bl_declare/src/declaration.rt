@@ -19,12 +19,12 @@ pub struct SubjectWords<'a> {
     pub admin: bool,
 }
 
-/// A document with its level and its content.
+/// A document with its level and its content. A document that is not present has no content.
 #[derive(Drop)]
 pub struct DocumentWords<'a> {
     pub name: &'a [u8],
     pub level: LevelWords<'a>,
-    pub content: &'a [u8],
+    pub content: Option<&'a [u8]>,
 }
 
 /// Modes that are added to a cell of the matrix: one, and any others.

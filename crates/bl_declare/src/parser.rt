@@ -230,7 +230,22 @@ impl<'t, 'a> Cursor<'t, 'a> {
         Ok(Words::Document(DocumentWords {
             name,
             level,
-            content,
+            content: Some(content),
+        }))
+    }
+
+    /// A document that is not present, behind its first word.
+    fn reserve(&mut self, alloc: Global) -> Result<Words<'a>, SetupFaultKind>
+        ensures { MatchResult result (λ w. read.reserve_then (left self.old) ≡ Some (declaration_of w))
+            (λ e. OfSyntax e (read.reserve_then (left self.old) ≡ None)) }
+    {
+        let name = self.name()?;
+        let level = self.level(alloc)?;
+        self.end()?;
+        Ok(Words::Document(DocumentWords {
+            name,
+            level,
+            content: None,
         }))
     }
 
@@ -297,6 +312,7 @@ impl<'t, 'a> Cursor<'t, 'a> {
             Keyword::Categories => self.categories_line(alloc),
             Keyword::Subject => self.subject(alloc),
             Keyword::Document => self.document(alloc),
+            Keyword::Reserve => self.reserve(alloc),
             Keyword::Allow => self.allow(alloc),
             _ => Err(SetupFaultKind::Syntax),
         }

@@ -24,7 +24,7 @@ use Rattle.bl_read.specs.declared.rules.Role.TheVariants.{Subject, Document, Ran
 use Rattle.bl_work.specs.Names.{KnownNames}
 use Rattle.bl_read.specs.RuleFaults.{mentioned, category_mention, right_mentions, mentions_in_level, mentions_in, categories_in, IsKnown, IsFaultOfRule}
 use Rattle.bl_work.specs.RuleMeaning.{MeansRule}
-use Rattle.bl_work.specs.SpelledRules.{SpelledRule, give, rescind, current, classify}
+use Rattle.bl_work.specs.SpelledRules.{SpelledRule, give, rescind, current, classify, create, delete}
 use Rattle.bl_read.proofs.RuleNames.{categories_known, categories_held, not_distinct, one_repeated, none_repeated, none_distinct}
 use Rattle.bl_work.proofs.WhenFaults.{one_named, none_named}
 
@@ -61,6 +61,16 @@ one_rule names (classify o text) (asked.Classify d l) (asked.Classify d' l') p q
     λ i. asked.Classify (y i) (z i)
 one_rule names (classify o text) (asked.Classify d l) _ p q = absurd q
 one_rule names (classify o text) _ _ p q = absurd p
+one_rule names (create o) (asked.Create d) (asked.Create d') p q =
+    let y : d ≡ d' = cc (p, q) in
+    ap asked.Create y
+one_rule names (create o) (asked.Create d) _ p q = absurd q
+one_rule names (create o) _ _ p q = absurd p
+one_rule names (delete o) (asked.Delete d) (asked.Delete d') p q =
+    let y : d ≡ d' = cc (p, q) in
+    ap asked.Delete y
+one_rule names (delete o) (asked.Delete d) _ p q = absurd q
+one_rule names (delete o) _ _ p q = absurd p
 
 -- ---- what each name of a rule without fault is
 
@@ -112,6 +122,9 @@ level_known names text l m =
     All-cons (IsKnown names) (record { role = Rank; word = text.rank }) (map category_mention text.categories) (placed text.rank names.scheme.ranks l.rank m.rank)
     (categories_known names text.categories m.known)
 
+document_known : (names : KnownNames) (o : List ℕ) (d : ℕ) → place_of o names.documents ≡ Some d → All (IsKnown names) (record { role = Document; word = o } ∷ [])
+document_known names o d p = All-cons (IsKnown names) (record { role = Document; word = o }) [] (placed o names.documents d p) (All-nil (IsKnown names))
+
 known_of : (names : KnownNames) (r : SpelledRule) (a : Rule) → MeansRule names r a → All (IsKnown names) (mentions_in r)
 known_of names (give s o m) (asked.Give t d k) p = right_known names s o t d p.0 p.1
 known_of names (give s o m) _ p = absurd p
@@ -122,6 +135,10 @@ known_of names (current text) _ p = absurd p
 known_of names (classify o text) (asked.Classify d l) p =
     All-cons (IsKnown names) (record { role = Document; word = o }) (mentions_in_level text) (placed o names.documents d p.0) (level_known names text l p.1)
 known_of names (classify o text) _ p = absurd p
+known_of names (create o) (asked.Create d) p = document_known names o d p
+known_of names (create o) _ p = absurd p
+known_of names (delete o) (asked.Delete d) p = document_known names o d p
+known_of names (delete o) _ p = absurd p
 
 once_of : (names : KnownNames) (r : SpelledRule) (a : Rule) → MeansRule names r a → AreDistinct (categories_in r)
 once_of names (give s o m) a p = none_distinct
@@ -130,6 +147,8 @@ once_of names (current text) (asked.Current l) p = p.distinct
 once_of names (current text) _ p = absurd p
 once_of names (classify o text) (asked.Classify d l) p = p.1.distinct
 once_of names (classify o text) _ p = absurd p
+once_of names (create o) a p = none_distinct
+once_of names (delete o) a p = none_distinct
 
 pub meant_no_fault : (names : KnownNames) (r : SpelledRule) (a : Rule) (fault : LineFault) → MeansRule names r a → IsFaultOfRule names r fault → ⊥
 meant_no_fault names r a (Unknown n) m f = none_named (IsKnown names) mentioned (mentions_in r) n (known_of names r a m) f

@@ -15,7 +15,7 @@ use Rattle.bl_work.specs.Names.{KnownNames}
 use Rattle.bl_syntax.specs.RawRules.{raw_names, raw_rule}
 use Rattle.bl_syntax.specs.declared.raw.RawRule.{RawRule}
 use Rattle.bl_read.specs.RuleFaults.{Mention, mentioned, category_mention, right_mentions, mentions_in_level, mentions_in, categories_in, IsKnown}
-use Rattle.bl_work.specs.SpelledRules.{SpelledRule, give, rescind, current, classify, spell_rule}
+use Rattle.bl_work.specs.SpelledRules.{SpelledRule, give, rescind, current, classify, create, delete, spell_rule}
 use Rattle.bl_check.proofs.Firsts.{Finds}
 use Rattle.bl_check.proofs.Passes.{IsAdditive}
 
@@ -151,18 +151,25 @@ right_names subject document s o =
     All-cons IsNamed (record { role = Subject; word = subject }) (record { role = Document; word = document } ∷ []) s
     (All-cons IsNamed (record { role = Document; word = document }) [] o (All-nil IsNamed))
 
+document_names : (document : List ℕ) → IsName document → All IsNamed (record { role = Document; word = document } ∷ [])
+document_names document o = All-cons IsNamed (record { role = Document; word = document }) [] o (All-nil IsNamed)
+
 pub rule_names : (r : SpelledRule) → AreProper (spell_rule r) → All (λ mention. IsName (mentioned mention)) (mentions_in r)
 rule_names (give subject document m) (x, (s, (o, more))) = right_names subject document s o
 rule_names (rescind subject document m) (x, (s, (o, more))) = right_names subject document s o
 rule_names (current level) (x, more) = level_names level more
 rule_names (classify document level) (x, (o, more)) =
     All-cons IsNamed (record { role = Document; word = document }) (mentions_in_level level) o (level_names level more)
+rule_names (create document) (x, (o, more)) = document_names document o
+rule_names (delete document) (x, (o, more)) = document_names document o
 
 pub categories_names : (r : SpelledRule) → AreProper (spell_rule r) → All IsName (categories_in r)
 categories_names (give subject document m) proper = All-nil IsName
 categories_names (rescind subject document m) proper = All-nil IsName
 categories_names (current level) (x, (rank, more)) = category_names level.categories more
 categories_names (classify document level) (x, (o, (rank, more))) = category_names level.categories more
+categories_names (create document) proper = All-nil IsName
+categories_names (delete document) proper = All-nil IsName
 
 -- a category that stands a second time has a name
 pub repeated_named : (xs : List (List ℕ)) (n : List ℕ) → All IsName xs → IsFirstRepeated xs n → IsName n

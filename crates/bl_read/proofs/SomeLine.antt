@@ -22,7 +22,7 @@ use Rattle.bl_work.specs.Meaning.{script_of}
 use Rattle.bl_work.specs.Names.{KnownNames}
 use Rattle.bl_work.specs.RuleMeaning.{MeansRule}
 use Rattle.bl_work.specs.Spelled.{SpelledAccess, SpelledBody}
-use Rattle.bl_work.specs.SpelledRules.{SpelledRule, give, rescind, current, classify}
+use Rattle.bl_work.specs.SpelledRules.{SpelledRule, give, rescind, current, classify, create, delete}
 use Rattle.bl_work.specs.WhenFaults.{IsShallow, AreFew, names_of_when, IsOnce, declarations_of_when, IsDeclared, uses_in}
 use Rattle.bl_work.specs.declared.asked.Line.{Line}
 use Rattle.bl_work.specs.declared.asked.Line.TheVariants as line
@@ -110,6 +110,12 @@ rule_meant names (classify o text) known once =
     let l = level_meant names.scheme text (level_there names text rest)
     (categories_held names text.categories (All-tail (IsKnown names) (record { role = Rank; word = text.rank }) (map category_mention text.categories) rest)) once in
     (asked.Classify d.0 l.0, (d.1, l.1))
+rule_meant names (create o) known once =
+    let d = place_some o names.documents (All-head (IsKnown names) (record { role = Document; word = o }) [] known) in
+    (asked.Create d.0, d.1)
+rule_meant names (delete o) known once =
+    let d = place_some o names.documents (All-head (IsKnown names) (record { role = Document; word = o }) [] known) in
+    (asked.Delete d.0, d.1)
 
 module _ (names : KnownNames) (bytes : List ℕ) (short : length bytes ≤ most_line_bytes) (asks : (l : Line) → LineOf names bytes l → ⊥)
     (faults : (fault : LineFault) → IsLineFault names bytes fault → fault ≢ Memory → ⊥) where

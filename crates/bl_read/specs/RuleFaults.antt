@@ -8,7 +8,7 @@ use Rattle.bl_read.specs.declared.rules.Role.{Role}
 use Rattle.bl_read.specs.declared.rules.Role.TheVariants.{Subject, Document, Rank, Category}
 use Rattle.bl_work.specs.First.{IsNameOfFirst}
 use Rattle.bl_work.specs.Names.{KnownNames}
-use Rattle.bl_work.specs.SpelledRules.{SpelledRule, give, rescind, current, classify}
+use Rattle.bl_work.specs.SpelledRules.{SpelledRule, give, rescind, current, classify, create, delete}
 
 -- a name in a rule, with what its place asks it to be
 pub record Mention : Type 0 where
@@ -36,6 +36,8 @@ mentions_in (give subject document mode) = right_mentions subject document
 mentions_in (rescind subject document mode) = right_mentions subject document
 mentions_in (current level) = mentions_in_level level
 mentions_in (classify document level) = record { role = Document; word = document } ∷ mentions_in_level level
+mentions_in (create document) = record { role = Document; word = document } ∷ []
+mentions_in (delete document) = record { role = Document; word = document } ∷ []
 
 -- the categories of the level in a rule, from the left
 abbrev pub categories_in : SpelledRule → List (List ℕ)
@@ -43,6 +45,8 @@ categories_in (give subject document mode) = []
 categories_in (rescind subject document mode) = []
 categories_in (current level) = level.categories
 categories_in (classify document level) = level.categories
+categories_in (create document) = []
+categories_in (delete document) = []
 
 -- the names of the server that are so
 abbrev pub known_as : KnownNames → Role → List (List ℕ)

@@ -70,6 +70,8 @@ fn check_rule_known<'a>(names: &Names, rule: &RawRule<'a>) -> Result<(), &'a [u8
             check_known(names, Role::Document, document)?;
             check_level_known(names, level)
         }
+        RawRule::Create(document) => check_known(names, Role::Document, document),
+        RawRule::Delete(document) => check_known(names, Role::Document, document),
     }
 }
 
@@ -137,6 +139,7 @@ fn check_rule_once<'a>(rule: &RawRule<'a>) -> Result<(), &'a [u8]>
 {
     match rule {
         RawRule::Give(_) | RawRule::Rescind(_) => Ok(()),
+        RawRule::Create(_) | RawRule::Delete(_) => Ok(()),
         RawRule::Current(level) => check_once(&level.categories),
         RawRule::Classify { level, .. } => check_once(&level.categories),
     }
@@ -191,6 +194,14 @@ fn rule_of(names: &Names, rule: &RawRule<'_>) -> Option<Rule>
             let doc = names.document(document)?;
             let level = level_of(names, level)?;
             Some(Rule::Classify { doc, level })
+        }
+        RawRule::Create(document) => {
+            let doc = names.document(document)?;
+            Some(Rule::Create { doc })
+        }
+        RawRule::Delete(document) => {
+            let doc = names.document(document)?;
+            Some(Rule::Delete { doc })
         }
     }
 }

@@ -166,3 +166,15 @@ pub fn classify(doc: u16, rank: u8, categories: u32) -> Result<Rule, Fail> {
     let level = level(rank, categories)?;
     Ok(Rule::Classify { doc, level })
 }
+
+/// A rule that creates the document of this place.
+pub fn create(doc: u16) -> Rule {
+    let doc = DocId::new(doc);
+    Rule::Create { doc }
+}
+
+/// A rule that deletes the document of this place.
+pub fn delete(doc: u16) -> Rule {
+    let doc = DocId::new(doc);
+    Rule::Delete { doc }
+}

@@ -1,5 +1,5 @@
 //! The texts of rules, and which rules have one.
-use super::fixtures::{base_names, classify, current, give, is_known_by};
+use super::fixtures::{base_names, classify, create, current, delete, give, is_known_by};
 use super::write::is_written;
 use bl_policy::access::Mode;
 use bl_policy::rule::Rule;
@@ -47,12 +47,29 @@ fn writes_a_level(rt: HostRuntime) -> Result<(), Fail> {
     Ok(())
 }
 
+#[test]
+fn writes_what_creates_and_deletes(rt: HostRuntime) -> Result<(), Fail> {
+    assert!(rt; is_written(rt.alloc(), b" create\tmemo ", b"create memo")?);
+    assert!(rt; is_written(rt.alloc(), b"delete  log", b"delete log")?);
+    Ok(())
+}
+
 /// There are four subjects and three documents.
 #[test]
 fn knows_rights_whose_names_are_there(rt: HostRuntime) -> Result<(), Fail> {
     assert!(rt; is_known(rt.alloc(), give(3, 2, Mode::Write))?);
     assert!(rt; !is_known(rt.alloc(), give(4, 2, Mode::Write))?);
     assert!(rt; !is_known(rt.alloc(), give(3, 3, Mode::Write))?);
+    Ok(())
+}
+
+/// There are three documents.
+#[test]
+fn knows_documents_that_come_and_go(rt: HostRuntime) -> Result<(), Fail> {
+    assert!(rt; is_known(rt.alloc(), create(2))?);
+    assert!(rt; !is_known(rt.alloc(), create(3))?);
+    assert!(rt; is_known(rt.alloc(), delete(2))?);
+    assert!(rt; !is_known(rt.alloc(), delete(3))?);
     Ok(())
 }
 

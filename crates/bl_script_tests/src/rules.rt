@@ -1,5 +1,7 @@
 //! What the lines of rules ask, and what is wrong with them.
-use super::fixtures::{assert_places, classify, current, fault_of, give, named, read, rescind};
+use super::fixtures::{
+    assert_places, classify, create, current, delete, fault_of, give, named, read, rescind,
+};
 use bl_level::name::Name;
 use bl_policy::access::Mode;
 use bl_policy::rule::Rule;
@@ -74,6 +76,35 @@ fn reads_rules_with_blanks(rt: HostRuntime) -> Result<(), Fail> {
 }
 
 #[test]
+fn reads_what_creates_and_deletes(rt: HostRuntime) -> Result<(), Fail> {
+    let lines = [
+        (b"create memo".as_slice(), create(0)),
+        (b"delete memo", delete(0)),
+        (b"\tcreate  note ", create(1)),
+        (b"delete\tlog", delete(2)),
+    ];
+    assert_rules(&rt, rt.alloc(), &lines)
+}
+
+/// By the line's end, by a reserved word or a text for a name, by what stands behind the line, and by a word of setups alone.
+#[test]
+fn places_a_fault_where_a_document_comes_or_goes(rt: HostRuntime) -> Result<(), Fail> {
+    let lines = [
+        (b"create".as_slice(), 6),
+        (b"delete ", 7),
+        (b"create delete", 7),
+        (b"delete reserve", 7),
+        (b"create \"memo\"", 7),
+        (b"create memo note", 12),
+        (b"delete memo u", 12),
+        (b"delete memo;", 11),
+        (b"give ann create r", 9),
+        (b"reserve memo u", 0),
+    ];
+    assert_places(&rt, rt.alloc(), &lines)
+}
+
+#[test]
 fn places_a_fault_in_a_rule(rt: HostRuntime) -> Result<(), Fail> {
     // By what is no letter, by a reserved word for a letter, by the line's end, and by what stands behind the line.
     let lines = [
@@ -105,6 +136,8 @@ fn tells_the_first_unknown_name_of_a_rule(rt: HostRuntime) -> Result<(), Fail> {
         (b"give zed zip r".as_slice(), b"zed".as_slice()),
         (b"give ann ann r", b"ann"),
         (b"classify memo nato{s}", b"nato"),
+        (b"create zed", b"zed"),
+        (b"delete ann", b"ann"),
         (b"current s{nato,nato,zed}", b"zed"),
     ];
     for (line, name) in lines {

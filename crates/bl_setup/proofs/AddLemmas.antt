@@ -1,6 +1,7 @@
 -- What a declaration adds, and that it adds nothing else.
-use Rattle.std.proofs.Common.{◌≡◌, ◌↔◌, ℕ, ◌<◌, ◌≤◌, Bool, true, false, List, Option, Result, Ok, Err, refl, sym, ◌∙◌, arith}
-use Rattle.std.specs.Prelude.{IsSome, is_some}
+use Rattle.std.proofs.Common.{◌≡◌, ◌↔◌, ℕ, ◌<◌, ◌≤◌, Bool, true, false, List, [], Option, Some, None, unwrap_or, Result, Ok, Err, refl, sym, ap, ◌∙◌, arith}
+use Rattle.std.specs.Borrow.{Bor}
+use Rattle.std.specs.Prelude.{IsSome, is_some, option_map}
 use Rattle.bl_level.specs.Level.{SecurityLevel, Dominates, dominates}
 use Rattle.bl_level.proofs.Dominance.{dominates-sets}
 use Rattle.bl_policy.specs.declared.policy.AddFault.{AddFault}
@@ -35,3 +36,12 @@ pub no_fault : {I : Type 0} (f : AddFault) (n : ℕ) → n < 1024
     → ((◌≡◌ {A = Result I AddFault} (Err f) (Err add.CurrentAboveGreatest)) → ⊥) → ⊥
 no_fault add.TooMany n room many above = let h : 1024 ≤ n = many.0 refl in absurd (omega arith)
 no_fault add.CurrentAboveGreatest n room many above = above refl
+
+-- the content of a line, where it has one
+pub content_now : (content : Option (Bor (List ℕ))) (other found : Bor (List ℕ)) → found ≡ unwrap_or content other → other.now ≡ [] → found.now ≡ unwrap_or (option_map (λ x. x.now) content) []
+content_now (Some x) other found is none = ap (λ x. x.now) is
+content_now None other found is none = ap (λ x. x.now) is ∙ none
+
+pub some_now : (content : Option (Bor (List ℕ))) → is_some content ≡ is_some (option_map (λ x. x.now) content)
+some_now (Some x) = refl
+some_now None = refl

@@ -1,12 +1,13 @@
 -- What declarations add, in whole lists.
 use Rattle.std.proofs.Common.{◌≡◌, ℕ, List, [], ◌∷◌, ◌++◌, map, refl, sym, ap, subst, ◌∙◌, append_assoc}
+use Rattle.std.specs.Prelude.{is_some}
 use Rattle.std.proofs.lemmas.List.{append-nil}
 use Rattle.bl_level.specs.Level.{SecurityLevel}
 use Rattle.bl_level.specs.Scheme.{SchemeNames}
 use Rattle.bl_policy.specs.Policy.{Clearance}
 use Rattle.bl_setup.specs.Setup.{Setup}
 use Rattle.bl_setup.specs.Agreement.{of_scheme}
-use Rattle.bl_declare.specs.Declaration.{Declaration, SubjectText, DocumentText, AllowText, ranks, categories, subject, document, allow}
+use Rattle.bl_declare.specs.Declaration.{Declaration, SubjectText, DocumentText, content_of, AllowText, ranks, categories, subject, document, allow}
 use Rattle.bl_setup.specs.Grammar.{AddsSubject, AddsDocument, AddsModes, Leads, IsSetup}
 use Rattle.bl_setup.proofs.RightsLemmas.{rights_are_named}
 use Rattle.bl_setup.specs.WholeLists.{subjects_of, documents_of, HaveClearances, HaveLevels, IsDeclared}
@@ -16,7 +17,8 @@ record Added (before : Setup) (ds : List Declaration) (after : Setup) : Type 0 w
   pub scheme : after.names.scheme ≡ before.names.scheme
   pub subjects : after.names.subjects ≡ before.names.subjects ++ map (λ s. s.name) (subjects_of ds)
   pub documents : after.names.documents ≡ before.names.documents ++ map (λ d. d.name) (documents_of ds)
-  pub contents : after.contents ≡ before.contents ++ map (λ d. d.content) (documents_of ds)
+  pub contents : after.contents ≡ before.contents ++ map content_of (documents_of ds)
+  pub present : after.policy.present ≡ before.policy.present ++ map (λ d. is_some d.content) (documents_of ds)
   pub clearances : List Clearance
   pub subjects_grown : after.policy.subjects ≡ before.policy.subjects ++ clearances
   pub have_clearances : HaveClearances before.names.scheme (subjects_of ds) clearances
@@ -39,6 +41,7 @@ added_subject before s ds next after a r =
       subjects = one_more after.names.subjects next.names.subjects before.names.subjects _ s.name (ap (λ x. x.names.subjects) a.is) r.subjects;
       documents = same_front after.names.documents next.names.documents before.names.documents _ (ap (λ x. x.names.documents) a.is) r.documents;
       contents = same_front after.contents next.contents before.contents _ (ap (λ x. x.contents) a.is) r.contents;
+      present = same_front after.policy.present next.policy.present before.policy.present _ (ap (λ x. x.policy.present) a.is) r.present;
       clearances = clearance ∷ r.clearances;
       subjects_grown = one_more after.policy.subjects next.policy.subjects before.policy.subjects r.clearances clearance (ap (λ x. x.policy.subjects) a.is) r.subjects_grown;
       have_clearances = (
@@ -60,7 +63,8 @@ added_document before d ds next after a r =
       scheme = r.scheme ∙ scheme;
       subjects = same_front after.names.subjects next.names.subjects before.names.subjects _ (ap (λ x. x.names.subjects) a.is) r.subjects;
       documents = one_more after.names.documents next.names.documents before.names.documents _ d.name (ap (λ x. x.names.documents) a.is) r.documents;
-      contents = one_more after.contents next.contents before.contents _ d.content (ap (λ x. x.contents) a.is) r.contents;
+      contents = one_more after.contents next.contents before.contents _ (content_of d) (ap (λ x. x.contents) a.is) r.contents;
+      present = one_more after.policy.present next.policy.present before.policy.present _ (is_some d.content) (ap (λ x. x.policy.present) a.is) r.present;
       clearances = r.clearances;
       subjects_grown = same_front after.policy.subjects next.policy.subjects before.policy.subjects r.clearances (ap (λ x. x.policy.subjects) a.is) r.subjects_grown;
       have_clearances = subst (λ x. HaveClearances x (subjects_of ds) r.clearances) scheme r.have_clearances;
@@ -77,6 +81,7 @@ added_modes before m ds next after a r =
       subjects = same_front after.names.subjects next.names.subjects before.names.subjects _ (ap (λ x. x.names.subjects) a.is) r.subjects;
       documents = same_front after.names.documents next.names.documents before.names.documents _ (ap (λ x. x.names.documents) a.is) r.documents;
       contents = same_front after.contents next.contents before.contents _ (ap (λ x. x.contents) a.is) r.contents;
+      present = same_front after.policy.present next.policy.present before.policy.present _ (ap (λ x. x.policy.present) a.is) r.present;
       clearances = r.clearances;
       subjects_grown = same_front after.policy.subjects next.policy.subjects before.policy.subjects r.clearances (ap (λ x. x.policy.subjects) a.is) r.subjects_grown;
       have_clearances = subst (λ x. HaveClearances x (subjects_of ds) r.clearances) scheme r.have_clearances;
@@ -92,6 +97,7 @@ added [] before after e =
       subjects = ap (λ x. x.names.subjects) e ∙ sym (append-nil before.names.subjects);
       documents = ap (λ x. x.names.documents) e ∙ sym (append-nil before.names.documents);
       contents = ap (λ x. x.contents) e ∙ sym (append-nil before.contents);
+      present = ap (λ x. x.policy.present) e ∙ sym (append-nil before.policy.present);
       clearances = [];
       subjects_grown = ap (λ x. x.policy.subjects) e ∙ sym (append-nil before.policy.subjects);
       have_clearances = refl;
@@ -116,6 +122,7 @@ setup_is_declared bytes setup s =
       subjects = a.subjects;
       documents = a.documents;
       contents = a.contents;
+      present = a.present;
       clearances = subst (λ x. HaveClearances x (subjects_of s.declarations) setup.policy.subjects) (sym a.scheme)
           (subst (HaveClearances scheme (subjects_of s.declarations)) (sym a.subjects_grown) a.have_clearances);
       levels = subst (λ x. HaveLevels x (documents_of s.declarations) setup.policy.documents) (sym a.scheme)

@@ -2,6 +2,7 @@ pub mod CutLemmas
 pub mod MeaningLemmas
 pub mod ModeLemmas
 pub mod AddLemmas
+pub mod Agreeing
 pub mod WholeLemmas
 pub mod HeadLemmas
 pub mod FileLemmas

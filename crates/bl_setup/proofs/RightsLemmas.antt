@@ -14,8 +14,8 @@ use Rattle.bl_policy.proofs.Triples.{is_at, is_in-put_modes}
 use Rattle.bl_level.specs.Scheme.{SchemeNames}
 use Rattle.bl_setup.specs.Agreement.{of_scheme}
 use Rattle.bl_setup.specs.Setup.{Setup}
-use Rattle.bl_declare.specs.Declaration.{Declaration, SubjectText, DocumentText, AllowText, ranks, categories, subject, document, allow}
-use Rattle.bl_setup.specs.Grammar.{AddsSubject, AddsDocument, AddsModes, Leads}
+use Rattle.bl_declare.specs.Declaration.{Declaration, AllowText, ranks, categories, subject, document, allow}
+use Rattle.bl_setup.specs.Grammar.{AddsModes, Leads}
 use Rattle.bl_setup.specs.WholeLists.{rights_of, IsNamed}
 
 -- the first that passes is the first with more behind it

@@ -1,6 +1,6 @@
 -- A text that is no setup has a first fault: its lines lead to a setup, or one of them is at fault.
 use Rattle.std.proofs.Common.{◌≡◌, ◌≢◌, ℕ, suc, ◌<◌, ◌≤◌, Bool, true, false, List, [], ◌∷◌, ◌++◌, length, refl, sym, ap, subst, ◌⊎◌, inl, inr, arith, append_assoc, append-nil}
-use Rattle.std.specs.Prelude.{All, Contains}
+use Rattle.std.specs.Prelude.{All, Contains, is_some}
 use Rattle.std.specs.Int.RustNames.{bit_or}
 use Rattle.std.proofs.lemmas.List.Elements.{All-cons, All-nil, Contains-get_or}
 use Rattle.std.proofs.lemmas.List.Quantifiers.{all_pairs_push}
@@ -16,7 +16,7 @@ use Rattle.bl_policy.specs.declared.access.ModeSet.{ModeSet}
 use Rattle.bl_policy.specs.Mode.{flag_of}
 use Rattle.bl_work.proofs.MeantLevels.{level_meant, place_some}
 use Rattle.bl_setup.specs.Agreement.{of_scheme}
-use Rattle.bl_declare.specs.Declaration.{Declaration, SubjectText, DocumentText, AllowText, ranks, categories, subject, document, allow, spell_declaration}
+use Rattle.bl_declare.specs.Declaration.{Declaration, SubjectText, DocumentText, content_of, AllowText, ranks, categories, subject, document, allow, spell_declaration}
 use Rattle.bl_setup.specs.FirstSetupFault.{SoFar, nothing, ranked, declared, IsDue, Declares, Passes, LeadTo, Question, IsSo, kind_of, AllHold, FirstFails, asked, asked_of_names, asked_of_categories, asked_of_level, IsTooMuch, IsAbove, LineFault, FaultNext, FirstSetupFault}
 use Rattle.bl_setup.specs.Grammar.{IsSetup, AddsSubject, AddsDocument, AddsModes}
 use Rattle.bl_setup.specs.Heads.{AreRanks}
@@ -25,7 +25,7 @@ use Rattle.bl_setup.specs.Setup.{Setup}
 use Rattle.bl_declare.specs.declared.fault.SetupFault.{SetupFault}
 use Rattle.bl_declare.specs.declared.fault.SetupFaultKind.{SetupFaultKind}
 use Rattle.bl_declare.specs.declared.fault.SetupFaultKind.TheVariants.{Syntax, CurrentAboveGreatest, TooMany}
-use Rattle.bl_policy.specs.Policy.{with_subject, with_document, with_modes}
+use Rattle.bl_policy.specs.Policy.{with_subject, with_declared, with_modes}
 use Rattle.bl_setup.proofs.FirstLemmas.{IsRight}
 use Rattle.bl_setup.proofs.HeadLemmas.{names_proper}
 use Rattle.bl_setup.proofs.LedLemmas.{led_is_setup}
@@ -169,12 +169,12 @@ document_declares b line d spelled r k =
     let room : suc (length b.names.documents) ≤ 1024 = most_from 1024 (suc (length b.names.documents)) (λ many. r.few (inl many)) in
     let next : Setup = record b {
       names = record b.names { documents = b.names.documents ++ d.name ∷ [] };
-      policy = with_document b.policy level.0;
-      contents = b.contents ++ d.content ∷ [];
+      policy = with_declared b.policy level.0 (is_some d.content);
+      contents = b.contents ++ content_of d ∷ [];
     } in
     let adds : AddsDocument b d next = record {
       room = omega (arith, room);
-      short = most_from 65536 (length d.content) (λ long. r.few (inr long));
+      short = most_from 65536 (length (content_of d)) (λ long. r.few (inr long));
       is_new = r.hold.0;
       level = level.0;
       means = level.1;

@@ -1,12 +1,13 @@
 -- A file is one setup at most, and reading it line by line finds it.
-use Rattle.std.proofs.Common.{◌≡◌, ℕ, List, [], ◌∷◌, ◌++◌, Some, refl, sym, subst, ◌∙◌, inl, inr}
+use Rattle.std.proofs.Common.{◌≡◌, ℕ, List, [], ◌∷◌, ◌++◌, Option, Some, None, unwrap_or, refl, sym, subst, ◌∙◌, inl, inr}
+use Rattle.std.specs.Prelude.{is_some}
 use Rattle.bl_level.specs.Lexing.{Begins}
 use Rattle.bl_level.specs.Token.{Tok, text}
 use Rattle.bl_level.specs.Name.{AreProper, IsProper}
 use Rattle.bl_level.specs.LevelText.{spell_level}
-use Rattle.bl_policy.specs.Policy.{with_modes}
+use Rattle.bl_policy.specs.Policy.{with_declared, with_modes}
 use Rattle.bl_setup.specs.Setup.{Setup}
-use Rattle.bl_declare.specs.Declaration.{Declaration, SubjectText, DocumentText, AllowText, ranks, categories, subject, document, allow, spell_declaration, spell_document}
+use Rattle.bl_declare.specs.Declaration.{Declaration, SubjectText, DocumentText, content_of, AllowText, ranks, categories, subject, document, allow, spell_declaration, spell_content, spell_document}
 use Rattle.bl_setup.specs.Grammar.{Adds, AddsSubject, AddsDocument, AddsModes, LineAdds, Leads, Spells}
 use Rattle.bl_setup.specs.Heads.{Remain}
 use Rattle.bl_declare.specs.declared.fault.SetupFaultKind.{SetupFaultKind}
@@ -30,8 +31,8 @@ one_document b d x y p q =
     let l = one_level b.names.scheme d.level p.level q.level p.means q.means in
     p.is ∙ (λ i. record b {
       names = record b.names { documents = b.names.documents ++ d.name ∷ [] };
-      policy = record b.policy { documents = b.policy.documents ++ l i ∷ [] };
-      contents = b.contents ++ d.content ∷ [];
+      policy = with_declared b.policy (l i) (is_some d.content);
+      contents = b.contents ++ content_of d ∷ [];
     }) ∙ sym q.is
 
 one_modes : (b : Setup) (a : AllowText) (x y : Setup) → AddsModes b a x → AddsModes b a y → x ≡ y
@@ -102,9 +103,13 @@ proper_behind : (xs ys : List Tok) → AreProper (xs ++ ys) → AreProper ys
 proper_behind [] ys p = p
 proper_behind (x ∷ xs) ys p = proper_behind xs ys p.1
 
+proper_inside : (content : Option (List ℕ)) → AreProper (spell_content content) → IsProper (text (unwrap_or content []))
+proper_inside (Some x) p = p.0
+proper_inside None p = refl
+
 -- the content of a document that is spelled is of content bytes
-pub content_proper : (d : DocumentText) → AreProper (spell_document d) → IsProper (text d.content)
-content_proper d p = (proper_behind (spell_level d.level) (text d.content ∷ []) p.1.1).0
+pub content_proper : (d : DocumentText) → AreProper (spell_document d) → IsProper (text (content_of d))
+content_proper d p = proper_inside d.content (proper_behind (spell_level d.level) (spell_content d.content) p.1.1)
 
 pub unless : {P Q : Type 0} {e : SetupFaultKind} → (P → Q) → UnlessMemory e P → UnlessMemory e Q
 unless f (inl m) = inl m

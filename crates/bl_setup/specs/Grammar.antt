@@ -1,5 +1,5 @@
 -- Which setup the text of a setup file is: a relation between the bytes and the setup.
-use Rattle.std.specs.Prelude.{◌≡◌, ◌↔◌, ℕ, ◌<◌, ◌≤◌, List, [], ◌∷◌, ◌++◌, length, Some, IsTrue, Contains}
+use Rattle.std.specs.Prelude.{◌≡◌, ◌↔◌, ℕ, ◌<◌, ◌≤◌, List, [], ◌∷◌, ◌++◌, length, Some, is_some, IsTrue, Contains}
 use Rattle.bl_level.specs.Level.{SecurityLevel, Dominates}
 use Rattle.bl_level.specs.Table.{place_of}
 use Rattle.bl_level.specs.Scheme.{IsScheme}
@@ -8,9 +8,9 @@ use Rattle.bl_level.specs.Lexing.{Begins}
 use Rattle.bl_policy.specs.declared.access.Mode.{Mode}
 use Rattle.bl_policy.specs.declared.access.ModeSet.{ModeSet}
 use Rattle.bl_policy.specs.Mode.{has_mode}
-use Rattle.bl_policy.specs.Policy.{with_subject, with_document, with_modes}
+use Rattle.bl_policy.specs.Policy.{with_subject, with_declared, with_modes}
 use Rattle.bl_setup.specs.Lines.{lines_read}
-use Rattle.bl_declare.specs.Declaration.{Declaration, SubjectText, DocumentText, AllowText, ranks, categories, subject, document, allow, spell_declaration}
+use Rattle.bl_declare.specs.Declaration.{Declaration, SubjectText, DocumentText, content_of, AllowText, ranks, categories, subject, document, allow, spell_declaration}
 use Rattle.bl_setup.specs.Setup.{Setup}
 use Rattle.bl_setup.specs.Agreement.{of_scheme}
 use Rattle.bl_policy.specs.Limits.{most_subjects, most_documents}
@@ -36,17 +36,17 @@ pub record AddsSubject (before : Setup) (s : SubjectText) (after : Setup) : Type
   }
 
 -- The document's name is new, and there is room for it; its text means a level; its content is not too long; and it
--- stands behind the documents that were declared before.
+-- stands behind the documents that were declared before, present where it has a content.
 pub record AddsDocument (before : Setup) (d : DocumentText) (after : Setup) : Type 0 where
   pub room : length before.names.documents < most_documents
-  pub short : length d.content ≤ most_bytes
+  pub short : length (content_of d) ≤ most_bytes
   pub is_new : Contains before.names.documents d.name → ⊥
   pub level : SecurityLevel
   pub means : Means before.names.scheme d.level level
   pub is : after ≡ record before {
     names = record before.names { documents = before.names.documents ++ d.name ∷ [] };
-    policy = with_document before.policy level;
-    contents = before.contents ++ d.content ∷ [];
+    policy = with_declared before.policy level (is_some d.content);
+    contents = before.contents ++ content_of d ∷ [];
   }
 
 -- The subject and the document were declared before, and the modes that the line names, and no others, are added to their cell.

@@ -1,5 +1,5 @@
 -- A setup as a whole: what its text declares, in whole lists.
-use Rattle.std.specs.Prelude.{◌≡◌, ◌↔◌, ℕ, List, [], ◌∷◌, map, Some, IsTrue, Contains}
+use Rattle.std.specs.Prelude.{◌≡◌, ◌↔◌, ℕ, List, [], ◌∷◌, map, Some, is_some, IsTrue, Contains}
 use Rattle.bl_level.specs.Level.{SecurityLevel, Dominates}
 use Rattle.bl_level.specs.Scheme.{SchemeNames}
 use Rattle.bl_level.specs.LevelText.{Means}
@@ -8,7 +8,7 @@ use Rattle.bl_policy.specs.declared.access.Mode.{Mode}
 use Rattle.bl_policy.specs.Policy.{Clearance, allows}
 use Rattle.bl_work.specs.Names.{KnownNames}
 use Rattle.bl_setup.specs.Setup.{Setup}
-use Rattle.bl_declare.specs.Declaration.{Declaration, SubjectText, DocumentText, AllowText, ranks, categories, subject, document, allow}
+use Rattle.bl_declare.specs.Declaration.{Declaration, SubjectText, DocumentText, content_of, AllowText, ranks, categories, subject, document, allow}
 use Rattle.bl_setup.specs.Grammar.{Spells}
 use Rattle.bl_setup.specs.Lines.{lines_read}
 
@@ -66,13 +66,15 @@ pub record IsNamed (names : KnownNames) (lines : List AllowText) (subject docume
   pub mode_is : Contains (line.mode ∷ line.modes) mode
 
 -- The setup is what the declarations of its text say: its subjects and documents are those declared, in order, with the
--- levels and contents of their lines, and a subject may use a document in a mode where some `allow` line names the three.
+-- levels and contents of their lines; a document is present where its line has a content; and a subject may use a document
+-- in a mode where some `allow` line names the three.
 pub record IsDeclared (bytes : List ℕ) (setup : Setup) : Type 0 where
   pub declarations : List Declaration
   pub spelled : Spells (lines_read bytes) declarations
   pub subjects : setup.names.subjects ≡ map (λ s. s.name) (subjects_of declarations)
   pub documents : setup.names.documents ≡ map (λ d. d.name) (documents_of declarations)
-  pub contents : setup.contents ≡ map (λ d. d.content) (documents_of declarations)
+  pub contents : setup.contents ≡ map content_of (documents_of declarations)
+  pub present : setup.policy.present ≡ map (λ d. is_some d.content) (documents_of declarations)
   pub clearances : HaveClearances setup.names.scheme (subjects_of declarations) setup.policy.subjects
   pub levels : HaveLevels setup.names.scheme (documents_of declarations) setup.policy.documents
   pub rights : (s d : ℕ) (mode : Mode) → IsTrue (allows setup.policy s d mode) ↔ IsNamed setup.names (rights_of declarations) s d mode

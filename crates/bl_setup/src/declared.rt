@@ -8,7 +8,7 @@ ghost use Rattle.bl_setup.specs.WholeLists.{IsDeclared};
 ghost use Rattle.bl_declare.specs.declared.fault.SetupFault as faults;
 
 /// A setup's subjects and documents are those that its text declares, in order, with the levels and the contents of their
-/// lines.
+/// lines, and a document whose line has no content is not present.
 pub fn a_setup_is_declared()
     ensures { (bytes : List ℕ) (setup : setups.Setup) → IsSetup bytes setup → IsDeclared bytes setup }
 {}

@@ -1,12 +1,14 @@
 //! A setup while it is read: what the lines so far declare.
-ghost use Rattle.std.specs.Prelude.{◌≡◌, ◌↔◌, ◌∷◌, ℕ, List, IsTrue, Contains, MatchResult, OnOk, IfOk, IfErr};
+ghost use Rattle.std.specs.Prelude.{◌≡◌, ◌↔◌, ◌≤◌, ◌∷◌, ℕ, List, length, IsTrue, Contains, MatchResult, OnOk, OnErr, IfOk, IfErr};
 ghost use Rattle.std.specs.List.{list_all};
 ghost use Rattle.bl_level.specs.Name.{IsName, AreProper};
 ghost use Rattle.bl_level.specs.LevelText.{Means};
 ghost use Rattle.bl_policy.specs.declared.access.Mode.{Mode};
+ghost use Rattle.bl_policy.specs.Limits.{most_documents};
 ghost use Rattle.bl_policy.specs.Mode.{has_mode};
+ghost use Rattle.bl_policy.specs.Policy.{with_declared};
 ghost use Rattle.bl_work.specs.Content.{is_content_byte};
-ghost use Rattle.bl_declare.specs.Declaration.{spell_declaration};
+ghost use Rattle.bl_declare.specs.Declaration.{content_of, spell_declaration};
 ghost use Rattle.bl_setup.specs.Grammar.{Adds, AddsSubject, AddsDocument, AddsModes, LineAdds};
 ghost use Rattle.bl_declare.specs.Faults.{UnlessMemory};
 ghost use Rattle.bl_setup.specs.FirstSetupFault as first;
@@ -25,7 +27,8 @@ use bl_level::level::Level;
 use bl_level::name::Name;
 use bl_level::scheme::Scheme;
 use bl_policy::access::{Mode, ModeSet};
-use bl_policy::policy::{MOST_DOCUMENTS, MOST_SUBJECTS, Policy};
+use bl_policy::id::DocId;
+use bl_policy::policy::{AddFault, MOST_DOCUMENTS, MOST_SUBJECTS, Policy};
 use bl_work::document::{Document, MOST_BYTES};
 use bl_work::names::Names;
 use std::alloc::{AllocError, Global};
@@ -55,6 +58,18 @@ fn set_of(mode: Mode, modes: &[Mode]) -> ModeSet
         set.insert(ModeSet::from(*mode));
     }
     set
+}
+
+/// Adds a document of this level, which is present or not.
+fn declare(policy: &mut Policy, level: Level, present: bool) -> Result<DocId, AddFault>
+    ensures ok { IfOk result (λ _. policy.new ≡ with_declared policy.old level present) }
+    ensures too_many { OnErr result (most_documents ≤ length policy.old.documents) }
+{
+    if present {
+        policy.add_document(level)
+    } else {
+        policy.add_reserved(level)
+    }
 }
 
 impl Draft {
@@ -95,14 +110,14 @@ impl Draft {
         Ok(())
     }
 
-    /// Adds a document.
+    /// Adds a document, which is present where it has a content.
     fn add_document(
         &mut self,
         alloc: Global,
         document: &DocumentWords<'_>,
     ) -> Result<(), SetupFaultKind>
         requires name { IsName document.now.name.now }
-        requires plain { IsTrue (list_all is_content_byte document.now.content.now) }
+        requires plain { IsTrue (list_all is_content_byte (content_of (document_text document.now))) }
         requires agree { Agree (setup_of self.old) }
         ensures ok { OnOk result (AddsDocument (setup_of self.old) (document_text document.now) (setup_of self.new)) }
         ensures agree { OnOk result (Agree (setup_of self.new)) }
@@ -111,15 +126,16 @@ impl Draft {
         if self.names.documents() >= MOST_DOCUMENTS {
             return Err(SetupFaultKind::TooMany);
         }
-        if document.content.len() > MOST_BYTES {
+        let content = document.content.unwrap_or(b"");
+        if content.len() > MOST_BYTES {
             return Err(SetupFaultKind::TooMany);
         }
         if self.names.document(document.name).is_some() {
             return Err(SetupFaultKind::Repeated);
         }
         let level = level_of(self.names.scheme(), &document.level)?;
-        self.policy.add_document(level)?;
-        self.contents.push(Document::new(alloc, document.content)?)?;
+        declare(&mut self.policy, level, document.content.is_some())?;
+        self.contents.push(Document::new(alloc, content)?)?;
         self.names.add_document(Name::new(document.name).unwrap())?;
         Ok(())
     }

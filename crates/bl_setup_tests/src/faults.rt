@@ -184,3 +184,139 @@ fn order_within_a_line(rt: HostRuntime) -> Result<(), Fail> {
     assert_eq!(rt; fault_of(rt.alloc(), &[FRONT, twice])?, None);
     Ok(())
 }
+
+#[test]
+fn reserve_faults(rt: HostRuntime) -> Result<(), Fail> {
+    let rows: [Row<'_>; 3] = [
+        (
+            &[FRONT, BOB, BACK, b"reserve memo u\n"],
+            17,
+            SetupFaultKind::Repeated,
+        ),
+        (
+            &[FRONT, BOB, BACK, b"reserve draft z\n"],
+            17,
+            SetupFaultKind::Unknown,
+        ),
+        // Words are asked from the left.
+        (
+            &[FRONT, BOB, BACK, b"reserve memo z\n"],
+            17,
+            SetupFaultKind::Repeated,
+        ),
+    ];
+    assert_eq!(rt; right_rows(rt.alloc(), &rows)?, rows.len());
+    Ok(())
+}
+
+/// A name stands once among `document` and `reserve` lines, in whichever order.
+#[test]
+fn reserves_a_name_once(rt: HostRuntime) -> Result<(), Fail> {
+    let rows: [Row<'_>; 3] = [
+        (
+            &[FRONT, b"document d u \"\"\nreserve d u\n"],
+            5,
+            SetupFaultKind::Repeated,
+        ),
+        (
+            &[FRONT, b"reserve d u\ndocument d u \"\"\n"],
+            5,
+            SetupFaultKind::Repeated,
+        ),
+        (
+            &[FRONT, b"reserve d u\nreserve d s\n"],
+            5,
+            SetupFaultKind::Repeated,
+        ),
+    ];
+    assert_eq!(rt; right_rows(rt.alloc(), &rows)?, rows.len());
+    // A subject may have the name.
+    assert_eq!(rt; fault_of(rt.alloc(), &[FRONT, b"reserve ann u\n"])?, None);
+    Ok(())
+}
+
+/// A `reserve` line has a level and no text, and a `document` line has both.
+#[test]
+fn reserves_without_a_text(rt: HostRuntime) -> Result<(), Fail> {
+    let rows: [Row<'_>; 6] = [
+        (&[FRONT, b"reserve d u \"\"\n"], 4, SetupFaultKind::Syntax),
+        (&[FRONT, b"reserve d u \"d1\"\n"], 4, SetupFaultKind::Syntax),
+        (&[FRONT, b"reserve d\n"], 4, SetupFaultKind::Syntax),
+        (&[FRONT, b"reserve create u\n"], 4, SetupFaultKind::Syntax),
+        (&[FRONT, b"document d u\n"], 4, SetupFaultKind::Syntax),
+        (
+            &[b"ranks u\nreserve d u\ncategories\n"],
+            2,
+            SetupFaultKind::Syntax,
+        ),
+    ];
+    assert_eq!(rt; right_rows(rt.alloc(), &rows)?, rows.len());
+    Ok(())
+}
+
+/// A reserved document's level is read as any other, and `allow` may name it on a later line.
+#[test]
+fn reserves_at_a_level(rt: HostRuntime) -> Result<(), Fail> {
+    let rows: [Row<'_>; 3] = [
+        (&[FRONT, b"reserve d s{zed}\n"], 4, SetupFaultKind::Unknown),
+        (
+            &[FRONT, b"reserve d s{nato,nato}\n"],
+            4,
+            SetupFaultKind::Repeated,
+        ),
+        (
+            &[FRONT, b"allow ann d r\nreserve d u\n"],
+            4,
+            SetupFaultKind::Unknown,
+        ),
+    ];
+    assert_eq!(rt; right_rows(rt.alloc(), &rows)?, rows.len());
+    let allowed: &[u8] = b"reserve d u\nallow ann d r\n";
+    assert_eq!(rt; fault_of(rt.alloc(), &[FRONT, allowed])?, None);
+    Ok(())
+}
+
+/// The name `d` with this number of four digits.
+fn numbered_name(number: u16) -> [u8; 5] {
+    let digit = |unit: u16| b'0' + (number / unit % 10) as u8;
+    [b'd', digit(1000), digit(100), digit(10), digit(1)]
+}
+
+/// The first fault of a file with 1,024 documents, of which every second one is reserved, and this line behind them.
+fn fault_of_many(alloc: Global, behind: &[u8]) -> Result<Option<SetupFault>, AllocError> {
+    let mut text = Vec::new(alloc);
+    add_parts(&mut text, &[FRONT])?;
+    for number in 0..1_024 {
+        let name = numbered_name(number);
+        if number % 2 == 0 {
+            add_parts(&mut text, &[b"document ", name.as_slice(), b" u \"\"\n"])?;
+        } else {
+            add_parts(&mut text, &[b"reserve ", name.as_slice(), b" u\n"])?;
+        }
+    }
+    text.extend_from_slice(behind)?;
+    Ok(first_fault(alloc, text.as_slice()))
+}
+
+/// Reserved documents count among the 1,024, and what is too much is told before a word at fault.
+#[test]
+fn reserved_documents_count(rt: HostRuntime) -> Result<(), Fail> {
+    let fault = SetupFault {
+        line: 1_028,
+        kind: SetupFaultKind::TooMany,
+    };
+    assert_eq!(rt; fault_of_many(rt.alloc(), b"")?, None);
+    assert_eq!(rt;
+        fault_of_many(rt.alloc(), b"reserve draft u\n")?,
+        Some(fault)
+    );
+    assert_eq!(rt;
+        fault_of_many(rt.alloc(), b"document draft u \"\"\n")?,
+        Some(fault)
+    );
+    assert_eq!(rt;
+        fault_of_many(rt.alloc(), b"reserve d0000 z\n")?,
+        Some(fault)
+    );
+    Ok(())
+}

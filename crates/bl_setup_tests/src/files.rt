@@ -29,3 +29,11 @@ pub(super) fn base_setup_of(alloc: Global) -> Result<Setup, Fail> {
     add_parts(&mut text, &[FRONT, BOB, BACK])?;
     Ok(read_setup(alloc, text.as_slice())?)
 }
+
+/// The same setup with two reserved documents behind it, and a right to one of them.
+pub(super) fn reserving_setup_of(alloc: Global) -> Result<Setup, Fail> {
+    let mut text = Vec::new(alloc);
+    let reserved: &[u8] = b"reserve draft u\nreserve top t\nallow ann draft r\n";
+    add_parts(&mut text, &[FRONT, BOB, BACK, reserved])?;
+    Ok(read_setup(alloc, text.as_slice())?)
+}

@@ -1,5 +1,5 @@
 //! Whole files, and what is read of them.
-use super::files::base_setup_of;
+use super::files::{base_setup_of, reserving_setup_of};
 use bitflags::Flags;
 use bl_level::level::Level;
 use bl_setup::reader::read_setup;
@@ -56,6 +56,17 @@ fn has_content(setup: &Setup, name: &[u8], content: &[u8]) -> bool {
         Some(document) => {
             let place = usize::from(document.position());
             setup.contents()[place].bytes() == content
+        }
+        None => false,
+    }
+}
+
+/// Whether a document is there by its name, with this level, and present or not.
+fn is_document(setup: &Setup, name: &[u8], level: (u8, u32), present: bool) -> bool {
+    match setup.names().document(name) {
+        Some(document) => {
+            let policy = setup.policy();
+            is_level(policy.level(document), level) && policy.is_present(document) == present
         }
         None => false,
     }
@@ -159,5 +170,29 @@ fn line_ends_and_skipped_lines(rt: HostRuntime) -> Result<(), Fail> {
     let setup = read_setup(rt.alloc(), text.as_slice())?;
     check_line_ends_and_skipped_lines(&rt, &setup);
     drop(setup);
+    Ok(())
+}
+
+fn check_reserved(rt: &impl Abort, setup: &Setup) {
+    assert!(rt; has_counts(setup, 4, 5));
+    assert!(rt;
+        is_document(setup, b"memo", (2, 1), true) && is_document(setup, b"log", (3, 3), true)
+    );
+    assert!(rt; is_document(setup, b"draft", (0, 0), false));
+    assert!(rt; is_document(setup, b"top", (3, 0), false));
+    assert!(rt; has_content(setup, b"draft", b"") && has_content(setup, b"top", b""));
+    assert!(rt; are_cells(setup, &[(b"ann", b"draft", 1), (b"ann", b"top", 0)]));
+}
+
+/// A reserved document is declared, empty and not present, in a copy too.
+#[test]
+fn reserved_documents(rt: HostRuntime) -> Result<(), Fail> {
+    let setup = reserving_setup_of(rt.alloc())?;
+    check_reserved(&rt, &setup);
+    let copy = setup.copy();
+    drop(setup);
+    let copy = copy?;
+    check_reserved(&rt, &copy);
+    drop(copy);
     Ok(())
 }

@@ -5,7 +5,7 @@ use Rattle.std.proofs.lemmas.Result.{err_from_is_err_and}
 use Rattle.bl_name.specs.declared.token.Sign.TheVariants.{Open}
 use Rattle.bl_level.specs.Token.{Tok, sign}
 use Rattle.bl_level.specs.Lexing.{Front, nothing, token, broken}
-use Rattle.bl_work.specs.SpelledRules.{SpelledRule, give, rescind, current, classify}
+use Rattle.bl_work.specs.SpelledRules.{SpelledRule, give, rescind, current, classify, create, delete}
 use Rattle.bl_work.specs.Grammar.{SpelledLine, hello, wait, when, rule, spell}
 use Rattle.bl_work.specs.Fault.{ReadsAs, FirstTokenAtFault, SyntaxFault}
 use Rattle.bl_work.specs.Machine.{a_line, rest_of_level, step}
@@ -40,6 +40,8 @@ rule_refuses (give subject document m) t rest over = refl
 rule_refuses (rescind subject document m) t rest over = refl
 rule_refuses (current level) t rest over = level_refuses level.categories t rest over
 rule_refuses (classify document level) t rest over = level_refuses level.categories t rest over
+rule_refuses (create document) t rest over = refl
+rule_refuses (delete document) t rest over = refl
 
 line_refuses : (l : SpelledLine) (t : Tok) (rest : List Tok) → LineEnds l (t ∷ rest) → step (behind_line l ++ []) t ≡ None
 line_refuses (hello n) t rest over = refl

@@ -5,7 +5,7 @@ use Rattle.std.proofs.lemmas.Result.{err_from_is_err_and}
 use denote.Enum.Bare.{true_same}
 use Rattle.bl_name.specs.contracts.token.Keyword as keyword
 use Rattle.bl_name.specs.declared.token.Keyword.{Keyword}
-use Rattle.bl_name.specs.declared.token.Keyword.TheVariants.{Hello, Give, Rescind, Current, Classify, When, End, Else, Then}
+use Rattle.bl_name.specs.declared.token.Keyword.TheVariants.{Hello, Give, Rescind, Current, Classify, Create, Delete, When, End, Else, Then}
 use Rattle.bl_name.specs.declared.token.Sign.TheVariants.{Comma, Semicolon, Close}
 use Rattle.bl_level.specs.Token.{Tok, reserved, name, text, sign}
 use Rattle.bl_policy.specs.declared.access.Mode.{Mode}
@@ -213,6 +213,12 @@ behind_current want rest tokens e split f = faults_behind (a_line ∷ want) (lev
 
 pub behind_classify : (want : List Due) (rest tokens : List Tok) (e : Stop) → tokens ≡ reserved Classify ∷ rest → Faults (a_name ∷ level_due want) rest e → Faults (a_line ∷ want) tokens e
 behind_classify want rest tokens e split f = faults_behind (a_line ∷ want) (a_name ∷ level_due want) (reserved Classify ∷ []) rest tokens e split (λ due more. refl) f
+
+pub behind_create : (want : List Due) (rest tokens : List Tok) (e : Stop) → tokens ≡ reserved Create ∷ rest → Faults (a_name ∷ want) rest e → Faults (a_line ∷ want) tokens e
+behind_create want rest tokens e split f = faults_behind (a_line ∷ want) (a_name ∷ want) (reserved Create ∷ []) rest tokens e split (λ due more. refl) f
+
+pub behind_delete : (want : List Due) (rest tokens : List Tok) (e : Stop) → tokens ≡ reserved Delete ∷ rest → Faults (a_name ∷ want) rest e → Faults (a_line ∷ want) tokens e
+behind_delete want rest tokens e split f = faults_behind (a_line ∷ want) (a_name ∷ want) (reserved Delete ∷ []) rest tokens e split (λ due more. refl) f
 
 -- where no comma stands, a fault at the closing brace of a level
 no_more_category : (t : Tok) (due : List Due) → t ≢ sign Comma → category_due t due ≡ sign_due Close t due

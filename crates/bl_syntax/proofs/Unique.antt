@@ -2,7 +2,7 @@
 use Rattle.std.proofs.Common.{◌≡◌, ℕ, List, [], ◌∷◌, ◌++◌, Some, refl, sym, ap, subst, ◌∙◌, append_assoc}
 use Rattle.std.proofs.lemmas.List.{append-nil}
 use Rattle.bl_name.specs.declared.token.Keyword.{Keyword}
-use Rattle.bl_name.specs.declared.token.Keyword.TheVariants.{Hello, Wait, Give, Rescind, Current, Classify, When, Do, End, Else}
+use Rattle.bl_name.specs.declared.token.Keyword.TheVariants.{Hello, Wait, Give, Rescind, Current, Classify, Create, Delete, When, Do, End, Else}
 use Rattle.bl_level.specs.LevelText.{LevelText, spell_categories, spell_level}
 use Rattle.bl_level.specs.LevelText as of_level
 use Rattle.bl_name.specs.declared.token.Sign.TheVariants.{Comma, Semicolon}
@@ -13,7 +13,7 @@ use Rattle.bl_policy.specs.declared.access.Mode.TheVariants.{Read, Append, Write
 use Rattle.bl_work.specs.declared.script.Condition.{Condition}
 use Rattle.bl_work.specs.declared.script.Condition.TheVariants.{Is, Has}
 use Rattle.bl_work.specs.Spelled.{SpelledAccess, SpelledBody, empty, show, say, add, set, copy, pour, if_then, if_else, spawn, mode_word, asks_word, spell_access, spell_more, spell_body}
-use Rattle.bl_work.specs.SpelledRules.{SpelledRule, letter_of, give, rescind, current, classify, spell_rule}
+use Rattle.bl_work.specs.SpelledRules.{SpelledRule, letter_of, give, rescind, current, classify, create, delete, spell_rule}
 use Rattle.bl_work.specs.Grammar.{SpelledLine, hello, wait, when, rule, spell}
 use Rattle.bl_work.specs.Fault.{Blocks, FirstTokenAtFault}
 use Rattle.bl_work.specs.Machine.{mode_of}
@@ -280,6 +280,8 @@ BeginsRule Give = Unit {0}
 BeginsRule Rescind = Unit {0}
 BeginsRule Current = Unit {0}
 BeginsRule Classify = Unit {0}
+BeginsRule Create = Unit {0}
+BeginsRule Delete = Unit {0}
 BeginsRule _ = ⊥
 
 -- tokens spell one rule
@@ -298,6 +300,8 @@ same_rule (classify o a) (classify p b) e =
     let q : o ≡ p = cc in
     let s = same_level a b (same_behind (name o) (name p) _ _ f) in
     λ i. classify (q i) (s i)
+same_rule (create o) (create p) e = let q : o ≡ p = cc in ap create q
+same_rule (delete o) (delete p) e = let q : o ≡ p = cc in ap delete q
 same_rule _ _ e = absurd (cc)
 
 -- no other line begins as a rule
@@ -306,6 +310,8 @@ is_no_rule (give a o m) k ts e = let p : Give ≡ k = cc in subst BeginsRule p t
 is_no_rule (rescind a o m) k ts e = let p : Rescind ≡ k = cc in subst BeginsRule p tt
 is_no_rule (current l) k ts e = let p : Current ≡ k = cc in subst BeginsRule p tt
 is_no_rule (classify o l) k ts e = let p : Classify ≡ k = cc in subst BeginsRule p tt
+is_no_rule (create o) k ts e = let p : Create ≡ k = cc in subst BeginsRule p tt
+is_no_rule (delete o) k ts e = let p : Delete ≡ k = cc in subst BeginsRule p tt
 
 pub same_line : (l m : SpelledLine) → spell l ≡ spell m → l ≡ m
 same_line (hello n) (hello k) e = cc

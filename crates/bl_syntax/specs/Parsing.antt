@@ -1,7 +1,7 @@
 -- What each part of the parser answers.
 use Rattle.std.specs.Prelude.{◌≡◌, ◌≢◌, ℕ, List, [], ◌∷◌, ◌++◌, map, Result, Ok, Err, None}
 use Rattle.bl_name.specs.declared.token.Keyword.{Keyword}
-use Rattle.bl_name.specs.declared.token.Keyword.TheVariants.{Hello, Wait, Give, Rescind, Current, Classify, When, Do, End, Show, Say, Add, Set, Copy, Pour, To, If, Then, Else, Spawn}
+use Rattle.bl_name.specs.declared.token.Keyword.TheVariants.{Hello, Wait, Give, Rescind, Current, Classify, Create, Delete, When, Do, End, Show, Say, Add, Set, Copy, Pour, To, If, Then, Else, Spawn}
 use Rattle.bl_name.specs.declared.token.Sign.TheVariants.{Open}
 use Rattle.bl_level.specs.Token.{Tok, reserved, name, text, sign}
 use Rattle.bl_level.specs.Lexing.{Front}
@@ -17,7 +17,7 @@ use Rattle.bl_syntax.specs.declared.raw.RawStatement.{RawStatement}
 use Rattle.bl_syntax.specs.declared.raw.RawStatement.TheVariants as raw
 use Rattle.bl_work.specs.Fault.{FirstTokenAtFault, SyntaxFault}
 use Rattle.bl_work.specs.Grammar.{SpelledLine, hello, wait, when, rule}
-use Rattle.bl_work.specs.SpelledRules.{SpelledRule, give, rescind, current, classify}
+use Rattle.bl_work.specs.SpelledRules.{SpelledRule, give, rescind, current, classify, create, delete}
 use Rattle.bl_work.specs.Machine.{Due, Stops, statement_due, if_due, when_due, word, a_name, a_text, a_body, rest_of_if}
 use Rattle.bl_syntax.specs.RawBodies.{raw_access}
 use Rattle.bl_work.specs.Spelled.{asks_word, spell_access, spell_more, spell_body}
@@ -70,6 +70,8 @@ RuleEnds (give subject document mode) ts = Unit {0}
 RuleEnds (rescind subject document mode) ts = Unit {0}
 RuleEnds (current level) ts = LevelEnds level.categories ts
 RuleEnds (classify document level) ts = LevelEnds level.categories ts
+RuleEnds (create document) ts = Unit {0}
+RuleEnds (delete document) ts = Unit {0}
 
 abbrev pub LineEnds : SpelledLine → List Tok → Type 0
 LineEnds (hello subject) ts = Unit {0}
@@ -85,6 +87,8 @@ first_word first.Give = Give
 first_word first.Rescind = Rescind
 first_word first.Current = Current
 first_word first.Classify = Classify
+first_word first.Create = Create
+first_word first.Delete = Delete
 
 abbrev pub start_word : Start → Keyword
 start_word start.Show = Show

@@ -40,6 +40,8 @@ enum First {
     Rescind,
     Current,
     Classify,
+    Create,
+    Delete,
 }
 
 /// The word that begins a statement.
@@ -299,6 +301,8 @@ impl<'a> Cursor<'a> {
             Front::Token(Token::Reserved(Keyword::Rescind), more) => (First::Rescind, more),
             Front::Token(Token::Reserved(Keyword::Current), more) => (First::Current, more),
             Front::Token(Token::Reserved(Keyword::Classify), more) => (First::Classify, more),
+            Front::Token(Token::Reserved(Keyword::Create), more) => (First::Create, more),
+            Front::Token(Token::Reserved(Keyword::Delete), more) => (First::Delete, more),
             _ => return self.stop(),
         };
         self.advance(more);
@@ -531,6 +535,8 @@ impl<'a> Cursor<'a> {
                 let level = self.level(alloc)?;
                 Ok(RawLine::Rule(RawRule::Classify { document, level }))
             }
+            First::Create => Ok(RawLine::Rule(RawRule::Create(self.name()?))),
+            First::Delete => Ok(RawLine::Rule(RawRule::Delete(self.name()?))),
         }
     }
 }

@@ -145,6 +145,10 @@ pub enum RawRule<'a> {
         document: &'a [u8],
         level: RawLevel<'a>,
     },
+    /// `create NAME`.
+    Create(&'a [u8]),
+    /// `delete NAME`.
+    Delete(&'a [u8]),
 }
 
 /// A line, which borrows its names and texts from the bytes that it was read in.

@@ -18,7 +18,7 @@ use Rattle.bl_work.specs.KnownLine.{IsKnownDocument, DeclaresKnown, AreKnown, Is
 use Rattle.bl_work.specs.LineGrammar.{Means, LineOf}
 use Rattle.bl_work.specs.Meaning.{whens, document_of, access_of, numbered, spawned_from, script_of}
 use Rattle.bl_work.specs.RuleMeaning.{MeansRule}
-use Rattle.bl_work.specs.SpelledRules.{SpelledRule, give, rescind, current, classify}
+use Rattle.bl_work.specs.SpelledRules.{SpelledRule, give, rescind, current, classify, create, delete}
 use Rattle.bl_work.specs.WhenFaults.{documents_in, names_in, IsFaultless}
 use Rattle.bl_work.proofs.Behaviours.{all_left, all_right, has_place}
 use Rattle.bl_work.proofs.Widths.{place_within}
@@ -90,6 +90,10 @@ module _ (names : KnownNames) where
   rule_known (current text) _ means = absurd means
   rule_known (classify o text) (asked.Classify d l) means = place_within names.documents o d means.0
   rule_known (classify o text) _ means = absurd means
+  rule_known (create o) (asked.Create d) means = place_within names.documents o d means
+  rule_known (create o) _ means = absurd means
+  rule_known (delete o) (asked.Delete d) means = place_within names.documents o d means
+  rule_known (delete o) _ means = absurd means
 
   -- what a spelled line asks
   means_known : (spelled : SpelledLine) (asked : Line) → Means names spelled asked → IsKnownLine names asked

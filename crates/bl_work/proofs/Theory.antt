@@ -19,7 +19,7 @@ use Rattle.bl_policy.specs.declared.access.Mode.TheVariants as mode
 use Rattle.bl_work.specs.declared.script.Condition.{Condition}
 use Rattle.bl_work.specs.declared.script.Condition.TheVariants as asks
 use Rattle.bl_work.specs.Spelled.{SpelledAccess, SpelledBody, empty, show, say, add, set, copy, pour, if_then, if_else, spawn, mode_word, asks_word, spell_access, spell_more, spell_body}
-use Rattle.bl_work.specs.SpelledRules.{SpelledRule, letter_of, give, rescind, current, classify}
+use Rattle.bl_work.specs.SpelledRules.{SpelledRule, letter_of, give, rescind, current, classify, create, delete}
 use Rattle.bl_work.specs.Grammar.{SpelledLine, hello, wait, when, rule, spell, CanGoOn}
 use Rattle.bl_work.specs.Fault.{Blocks, FirstTokenAtFault}
 use Rattle.bl_work.specs.Machine.{Due, word, a_sign, a_name, a_text, a_mode, is_or_has, more_accesses, a_body, rest_of_if, a_letter, rest_of_level, rest_of_categories, a_line, access_due, when_due, if_due, level_due, cell_due, statement_due, body_due, more_due, rest_due, mode_due, asks_due, mode_of, letter_taken, letter_due, categories_due, category_due, step, run, ends, Refuses, Stops, word_due, sign_due, name_due, text_due, line_due}
@@ -125,6 +125,8 @@ behind_rule (give subject document m) = []
 behind_rule (rescind subject document m) = []
 behind_rule (current level) = behind_level level.categories
 behind_rule (classify document level) = behind_level level.categories
+behind_rule (create document) = []
+behind_rule (delete document) = []
 
 abbrev pub behind_line : SpelledLine → List Due
 behind_line (hello n) = []
@@ -137,6 +139,8 @@ run_rule (give subject document m) due = run_letter m due []
 run_rule (rescind subject document m) due = run_letter m due []
 run_rule (current level) due = ap (run (Some (level_due due))) (sym (append-nil (spell_level level))) ∙ run_level level due []
 run_rule (classify document level) due = ap (run (Some (level_due due))) (sym (append-nil (spell_level level))) ∙ run_level level due []
+run_rule (create document) due = refl
+run_rule (delete document) due = refl
 
 pub run_line : (l : SpelledLine) (due : List Due) → run (Some (a_line ∷ due)) (spell l) ≡ Some (behind_line l ++ due)
 run_line (rule r) due = run_rule r due
@@ -443,6 +447,12 @@ derives_classify : (due : List Due) (ts : List Tok) → Derives (a_name ∷ leve
 derives_classify due ts (o, m1, e1, (n, m2, e2, (categories, more, e3, d))) =
     (rule (classify o (record { rank = n; categories = categories })), more, cc, d)
 
+derives_create : (due : List Due) (ts : List Tok) → Derives (a_name ∷ due) ts → Derives (a_line ∷ due) (reserved Create ∷ ts)
+derives_create due ts (o, more, e, d) = (rule (create o), more, ap (λ x. reserved Create ∷ x) e, d)
+
+derives_delete : (due : List Due) (ts : List Tok) → Derives (a_name ∷ due) ts → Derives (a_line ∷ due) (reserved Delete ∷ ts)
+derives_delete due ts (o, more, e, d) = (rule (delete o), more, ap (λ x. reserved Delete ∷ x) e, d)
+
 line_step : (due : List Due) (t : Tok) (next : List Due) → line_due t due ≡ Some next → (ts : List Tok) → Derives next ts → Derives (a_line ∷ due) (t ∷ ts)
 line_step due (reserved Hello) next e ts d = let q : next ≡ (a_name ∷ due) = cc in derives_hello due ts (rw q at d)
 line_step due (reserved Wait) next e ts d = let q : next ≡ due = cc in (wait, ts, refl, rw q at d)
@@ -451,6 +461,8 @@ line_step due (reserved Give) next e ts d = let q : next ≡ cell_due due = cc i
 line_step due (reserved Rescind) next e ts d = let q : next ≡ cell_due due = cc in derives_rescind due ts (rw q at d)
 line_step due (reserved Current) next e ts d = let q : next ≡ level_due due = cc in derives_current due ts (rw q at d)
 line_step due (reserved Classify) next e ts d = let q : next ≡ (a_name ∷ level_due due) = cc in derives_classify due ts (rw q at d)
+line_step due (reserved Create) next e ts d = let q : next ≡ (a_name ∷ due) = cc in derives_create due ts (rw q at d)
+line_step due (reserved Delete) next e ts d = let q : next ≡ (a_name ∷ due) = cc in derives_delete due ts (rw q at d)
 line_step due _ next e ts d = absurd (cc)
 
 pub derives_step : (due : List Due) (t : Tok) (next : List Due) → step due t ≡ Some next → (ts : List Tok) → Derives next ts → Derives due (t ∷ ts)
@@ -497,6 +509,8 @@ rule_over (give subject document m) = refl
 rule_over (rescind subject document m) = refl
 rule_over (current level) = level_over level.categories
 rule_over (classify document level) = level_over level.categories
+rule_over (create document) = refl
+rule_over (delete document) = refl
 
 line_over : (l : SpelledLine) → ends (behind_line l ++ []) ≡ true
 line_over (hello n) = refl

@@ -4,7 +4,7 @@ use denote.Enum.Bare.{sameb}
 use Rattle.bl_name.specs.contracts.token.Keyword as keyword
 use Rattle.bl_name.specs.contracts.token.Sign as a_mark
 use Rattle.bl_name.specs.declared.token.Keyword.{Keyword}
-use Rattle.bl_name.specs.declared.token.Keyword.TheVariants.{Hello, Wait, Give, Rescind, Current, Classify, When, Read, Append, Write, Do, End, Show, Say, Add, Set, Copy, Pour, To, If, Is, Has, Then, Else, Spawn}
+use Rattle.bl_name.specs.declared.token.Keyword.TheVariants.{Hello, Wait, Give, Rescind, Current, Classify, Create, Delete, When, Read, Append, Write, Do, End, Show, Say, Add, Set, Copy, Pour, To, If, Is, Has, Then, Else, Spawn}
 use Rattle.bl_name.specs.declared.token.Sign.{Sign}
 use Rattle.bl_name.specs.declared.token.Sign.TheVariants.{Comma, Semicolon, Open, Close}
 use Rattle.bl_level.specs.Token.{Tok, reserved, name, text, sign}
@@ -129,6 +129,8 @@ line_due (reserved Give) due = Some (cell_due due)
 line_due (reserved Rescind) due = Some (cell_due due)
 line_due (reserved Current) due = Some (level_due due)
 line_due (reserved Classify) due = Some (a_name ∷ level_due due)
+line_due (reserved Create) due = Some (a_name ∷ due)
+line_due (reserved Delete) due = Some (a_name ∷ due)
 line_due _ due = None
 
 -- what is due behind a token, where it may come

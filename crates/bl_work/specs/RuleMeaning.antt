@@ -5,7 +5,7 @@ use Rattle.bl_level.specs.Table.{place_of}
 use Rattle.bl_policy.specs.declared.rule.Rule.{Rule}
 use Rattle.bl_policy.specs.declared.rule.Rule.TheVariants as asked
 use Rattle.bl_work.specs.Names.{KnownNames}
-use Rattle.bl_work.specs.SpelledRules.{SpelledRule, give, rescind, current, classify}
+use Rattle.bl_work.specs.SpelledRules.{SpelledRule, give, rescind, current, classify, create, delete}
 
 -- By these names: subjects and documents go by their places, and a level is what its text means in the scheme.
 abbrev pub MeansRule : KnownNames → SpelledRule → Rule → Type 0
@@ -16,4 +16,6 @@ MeansRule names (rescind subject document mode) (asked.Rescind t o m) =
 MeansRule names (current level) (asked.Current l) = of_level.Means names.scheme level l
 MeansRule names (classify document level) (asked.Classify o l) =
     (place_of document names.documents ≡ Some o) × of_level.Means names.scheme level l
+MeansRule names (create document) (asked.Create o) = place_of document names.documents ≡ Some o
+MeansRule names (delete document) (asked.Delete o) = place_of document names.documents ≡ Some o
 MeansRule names _ _ = ⊥

@@ -76,6 +76,8 @@ module _ (names : KnownNames) where
   tidy_rule (rule_of.Rescind subject doc mode) = tt
   tidy_rule (rule_of.Current level) = (level, refl)
   tidy_rule (rule_of.Classify doc level) = (level, refl)
+  tidy_rule (rule_of.Create doc) = tt
+  tidy_rule (rule_of.Delete doc) = tt
 
   -- a line as it is read back has no `else` before a body of no statements
   tidy_line : (asked : Line) → IsTidyLine names.scheme (unread_line names asked)

@@ -23,7 +23,7 @@ use Rattle.bl_write.specs.Known.{IsKnownRule, canonical_rule}
 use Rattle.bl_work.specs.LineGrammar.{most_line_bytes, Means, LineOf}
 use Rattle.bl_work.specs.Names.{KnownNames, AreNames}
 use Rattle.bl_work.specs.RuleMeaning.{MeansRule}
-use Rattle.bl_work.specs.SpelledRules.{SpelledRule, give, rescind, current, classify, letter_of, spell_rule}
+use Rattle.bl_work.specs.SpelledRules.{SpelledRule, give, rescind, current, classify, create, delete, letter_of, spell_rule}
 use Rattle.bl_write.specs.There.{IsRuleThere}
 use Rattle.bl_write.specs.Unread.{unread_rule}
 use Rattle.bl_work.proofs.Widths.{name_is, place_within, held, level_shorter}
@@ -66,6 +66,8 @@ module _ (proper : ReadTokensAreProper) (names : KnownNames) (table : AreNames n
       (tt, (table_name names.subjects t table.subjects there.ids.0, (table_name names.documents o table.documents there.ids.1, (letter_name m, tt))))
   rule_proper (asked.Current l) there = (tt, level_proper l there.level)
   rule_proper (asked.Classify o l) there = (tt, (table_name names.documents o table.documents there.ids, level_proper l there.level))
+  rule_proper (asked.Create o) there = (tt, (table_name names.documents o table.documents there.ids, tt))
+  rule_proper (asked.Delete o) there = (tt, (table_name names.documents o table.documents there.ids, tt))
 
 module _ (names : KnownNames) (table : AreNames names) where
   -- a rule that is there is what its spelling asks
@@ -76,6 +78,8 @@ module _ (names : KnownNames) (table : AreNames names) where
       (place_is names.subjects t [] table.subjects.distinct there.ids.0, place_is names.documents o [] table.documents.distinct there.ids.1, refl)
   rule_means (asked.Current l) there = text_means names.scheme l table.scheme there.level
   rule_means (asked.Classify o l) there = (place_is names.documents o [] table.documents.distinct there.ids, text_means names.scheme l table.scheme there.level)
+  rule_means (asked.Create o) there = place_is names.documents o [] table.documents.distinct there.ids
+  rule_means (asked.Delete o) there = place_is names.documents o [] table.documents.distinct there.ids
 
 pub rule_reads_again : CanonicalReadsAgain → ReadTokensAreProper → (names : KnownNames) (r : Rule) → AreNames names → IsKnownRule names r
     → LineOf names (canonical_rule names r) (line.Work (work.Rule r))
@@ -134,6 +138,16 @@ module _ (names : KnownNames) (table : AreNames names) where
         (longer_end (32 ∷ []) (canonical (spell_level (text_of names.scheme l))) (canonical (spell_level text)) (level_shorter names.scheme text l means.1 table.scheme))));
   }
   of_spelled (classify o text) _ means = absurd means
+  of_spelled (create o) (asked.Create d) means = record {
+    there = record { ids = place_within names.documents o d means; level = tt };
+    shorter = same_length _ _ (ap (λ n. canonical (spell_rule (create n))) (sym (name_is names.documents o d means)));
+  }
+  of_spelled (create o) _ means = absurd means
+  of_spelled (delete o) (asked.Delete d) means = record {
+    there = record { ids = place_within names.documents o d means; level = tt };
+    shorter = same_length _ _ (ap (λ n. canonical (spell_rule (delete n))) (sym (name_is names.documents o d means)));
+  }
+  of_spelled (delete o) _ means = absurd means
 
 -- what is known of the rule of a line: it is there, and its canonical text is no longer than the bytes
 record IsOfLine (names : KnownNames) (bytes : List ℕ) (r : Rule) : Type 0 where

@@ -10,7 +10,7 @@ use Rattle.bl_work.specs.Grammar.{SpelledLine, hello, wait, when, rule, spell}
 use Rattle.bl_work.specs.LineGrammar.{Means}
 use Rattle.bl_work.specs.Names.{KnownNames}
 use Rattle.bl_work.specs.Spelled.{SpelledBody, empty, show, say, add, set, copy, pour, if_then, if_else, spawn}
-use Rattle.bl_work.specs.SpelledRules.{SpelledRule, give, rescind, current, classify}
+use Rattle.bl_work.specs.SpelledRules.{SpelledRule, give, rescind, current, classify, create, delete}
 use Rattle.bl_write.specs.Unread.{unread_line}
 
 -- no `else` stands before a body of no statements
@@ -36,6 +36,8 @@ IsTidyRule scheme (give subject document mode) = Unit {0}
 IsTidyRule scheme (rescind subject document mode) = Unit {0}
 IsTidyRule scheme (current level) = IsInOrder scheme level
 IsTidyRule scheme (classify document level) = IsInOrder scheme level
+IsTidyRule scheme (create document) = Unit {0}
+IsTidyRule scheme (delete document) = Unit {0}
 
 abbrev pub IsTidyLine : SchemeNames → SpelledLine → Type 0
 IsTidyLine scheme (hello subject) = Unit {0}

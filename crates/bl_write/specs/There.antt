@@ -36,6 +36,8 @@ HasHeldLevel scheme (asked.Give subject doc mode) = Unit {0}
 HasHeldLevel scheme (asked.Rescind subject doc mode) = Unit {0}
 HasHeldLevel scheme (asked.Current level) = HoldsLevel scheme level
 HasHeldLevel scheme (asked.Classify doc level) = HoldsLevel scheme level
+HasHeldLevel scheme (asked.Create doc) = Unit {0}
+HasHeldLevel scheme (asked.Delete doc) = Unit {0}
 
 -- the subject and the document of a rule are among the names, and its level is the scheme's
 pub record IsRuleThere (names : KnownNames) (rule : asked_rule.Rule) : Type 0 where

@@ -14,7 +14,7 @@ use Rattle.bl_work.specs.declared.script.Condition.{Condition}
 use Rattle.bl_work.specs.declared.work.Work.TheVariants.{Behaviour, Rule}
 use Rattle.bl_work.specs.Grammar.{SpelledLine, hello, wait, when, rule}
 use Rattle.bl_work.specs.Spelled.{SpelledAccess, SpelledBody, empty, show, say, add, set, copy, pour, if_then, if_else, spawn, spell_body, spell_when}
-use Rattle.bl_work.specs.SpelledRules.{SpelledRule, give, rescind, current, classify}
+use Rattle.bl_work.specs.SpelledRules.{SpelledRule, give, rescind, current, classify, create, delete}
 use Rattle.bl_work.specs.Statements.{Statements, Nothing, Show, Say, Add, Set, Copy, Pour, If, Spawn, Part}
 
 -- a `when` with all that stands in it
@@ -93,6 +93,8 @@ module _ (names : KnownNames) where
   unread_rule (asked.Rescind subject doc mode) = rescind (subject_at subject) (name_at doc) mode
   unread_rule (asked.Current level) = current (text_of names.scheme level)
   unread_rule (asked.Classify doc level) = classify (name_at doc) (text_of names.scheme level)
+  unread_rule (asked.Create doc) = create (name_at doc)
+  unread_rule (asked.Delete doc) = delete (name_at doc)
 
   -- the line, as it is spelled
   abbrev pub unread_line : Line → SpelledLine

@@ -149,6 +149,7 @@ fn has_held_level(scheme: &Scheme, rule: &Rule) -> bool
 {
     match rule {
         Rule::Give { .. } | Rule::Rescind { .. } => true,
+        Rule::Create { .. } | Rule::Delete { .. } => true,
         Rule::Current { level } | Rule::Classify { level, .. } => scheme.holds(level),
     }
 }

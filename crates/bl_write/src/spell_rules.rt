@@ -97,5 +97,13 @@ pub(crate) fn put_rule<S: Sink>(sink: &mut S, names: &Names, rule: Rule) -> Resu
             put_all(sink, &[Token::Reserved(Keyword::Classify), document])?;
             put_level(sink, names.scheme(), &level)
         }
+        Rule::Create { doc } => {
+            let document = Token::Name(name_of(names, doc));
+            put_all(sink, &[Token::Reserved(Keyword::Create), document])
+        }
+        Rule::Delete { doc } => {
+            let document = Token::Name(name_of(names, doc));
+            put_all(sink, &[Token::Reserved(Keyword::Delete), document])
+        }
     }
 }

@@ -27,3 +27,9 @@ returns-in_ok-check_known-in-Classify c =
     in_rule c.args.names.now _ _ _ c.in-Classify.is
     (finds_behind (IsKnown c.args.names.now) mentioned (record { role = Document; word = c.in-Classify.document.now } ∷ []) (mentions_in_level (raw_level c.in-Classify.level)) _
     c.in_ok-check_known-in-Classify.ensures c.check_level_known-in-Classify.ensures)
+
+pub returns-in-Create : goal.returns-in-Create
+returns-in-Create c = in_rule c.args.names.now _ _ _ c.in-Create.is c.check_known-in-Create.ensures
+
+pub returns-in-Delete : goal.returns-in-Delete
+returns-in-Delete c = in_rule c.args.names.now _ _ _ c.in-Delete.is c.check_known-in-Delete.ensures

@@ -3,6 +3,7 @@ use Rattle.bl_declare.specs.Words.{subject_text}
 use Rattle.bl_setup.specs.Draft.{setup_of}
 use Rattle.bl_declare.proofs.Parts.{exits}
 use Rattle.bl_setup.proofs.AddLemmas.{same_setup, not_there, above_from_not, ok_not_err}
+use Rattle.bl_setup.proofs.Agreeing.{agree_subject}
 use Rattle.bl_setup.proofs.DraftFaults.{same_scheme, subject_greatest, subject_current, subject_above}
 use Rattle.bl_setup.proofs.draft.Draft.add_subject.Goals as goal
 
@@ -41,3 +42,6 @@ returns-clause-ok c =
       dominates = above_from_not _ _ (λ d. ok_not_err (c.in_ok-add_subject.ensures.above.1 (omega arith, d)));
       is = same_setup (rw name at c.in_ok-add_subject-2.ensures.ok.1) h.1 refl;
     }
+
+pub returns-clause-agree : goal.returns-clause-agree
+returns-clause-agree c = agree_subject (setup_of c.args.self.now) (subject_text c.args.subject.now) _ c.requires.agree (returns-clause-ok c)

@@ -1,6 +1,6 @@
 use Rattle.std.proofs.Common.{◌∷◌, []}
 use Rattle.bl_work.specs.Machine.{a_name}
-use Rattle.bl_syntax.proofs.Faults.{exits, behind_hello, behind_when, behind_give, behind_rescind, behind_current, behind_classify, behind_name, first_due}
+use Rattle.bl_syntax.proofs.Faults.{exits, behind_hello, behind_when, behind_give, behind_rescind, behind_current, behind_classify, behind_create, behind_delete, behind_name, first_due}
 use Rattle.bl_syntax.proofs.parse.Cursor.line.Goals as goal
 
 pub returns-in_err-name-in-Hello-clause-gives : goal.returns-in_err-name-in-Hello-clause-gives
@@ -32,3 +32,11 @@ pub returns-in_err-level-in-Classify-clause-gives : goal.returns-in_err-level-in
 returns-in_err-level-in-Classify-clause-gives c =
     exits _ _ _ _ _ c.from_residual-in_err-level-in-Classify.ensures.1
     (behind_classify _ _ _ _ (rw c.in-Classify.is at c.in_ok-first.ensures.gives) (behind_name _ _ _ _ _ c.in_ok-document-in-Classify.ensures.gives c.in_err-level-in-Classify.ensures.gives))
+
+pub returns-in_err-name-in-Create-clause-gives : goal.returns-in_err-name-in-Create-clause-gives
+returns-in_err-name-in-Create-clause-gives c =
+    exits _ _ _ _ _ c.from_residual-in_err-name-in-Create.ensures.1 (behind_create _ _ _ _ (rw c.in-Create.is at c.in_ok-first.ensures.gives) c.in_err-name-in-Create.ensures.gives)
+
+pub returns-in_err-name-in-Delete-clause-gives : goal.returns-in_err-name-in-Delete-clause-gives
+returns-in_err-name-in-Delete-clause-gives c =
+    exits _ _ _ _ _ c.from_residual-in_err-name-in-Delete.ensures.1 (behind_delete _ _ _ _ (rw c.in-Delete.is at c.in_ok-first.ensures.gives) c.in_err-name-in-Delete.ensures.gives)
