@@ -1,7 +1,7 @@
 -- The base setup of the examples, and the lines that they speak of.
 use Rattle.std.specs.Prelude.{ℕ, suc, Bool, true, false, List, [], ◌∷◌, Some, codes}
 use Rattle.bl_level.specs.Level.{SecurityLevel}
-use Rattle.bl_policy.specs.Policy.{SecurityPolicy, Clearance, no_policy, with_subject, with_document, with_modes}
+use Rattle.bl_policy.specs.Policy.{SecurityPolicy, Clearance, no_policy, with_subject, with_document, with_reserved, with_modes}
 use Rattle.bl_policy.specs.declared.access.ModeSet.{ModeSet}
 use Rattle.bl_work.specs.Names.{KnownNames}
 use Rattle.bl_policy.specs.declared.access.Access.{Access}
@@ -115,6 +115,22 @@ with_dan = record {
   names = record names { subjects = codes "ann" ∷ codes "bob" ∷ codes "cat" ∷ codes "root" ∷ codes "dan" ∷ [] };
   policy = with_subject allowed_all (record { greatest = u; current = u; trusted = false; admin = true });
   contents = m1 ∷ n1 ∷ [] ∷ [];
+  version = Two;
+}
+
+-- of the setup with two reserved documents
+abbrev pub draft : ℕ
+draft = 3
+
+abbrev pub top : ℕ
+top = 4
+
+-- base, and behind it `reserve draft u` and `reserve top t`
+abbrev pub with_reserves : Setup
+with_reserves = record {
+  names = record names { documents = codes "memo" ∷ codes "note" ∷ codes "log" ∷ codes "draft" ∷ codes "top" ∷ [] };
+  policy = with_reserved (with_reserved allowed_all u) t;
+  contents = m1 ∷ n1 ∷ [] ∷ [] ∷ [] ∷ [];
   version = Two;
 }
 

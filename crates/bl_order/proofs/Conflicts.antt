@@ -5,6 +5,7 @@ use Rattle.std.specs.List.{list_any}
 use Rattle.std.proofs.lemmas.Bool.Decides.{nat_tests}
 use Rattle.bl_policy.specs.declared.access.Access.{Access}
 use Rattle.bl_work.specs.Modes.{alters}
+use Rattle.bl_order.specs.Past.{may_alter}
 use Rattle.bl_order.specs.Order.{Task, Runs, Applies, OfPolicy, OfDocument, is_rule, claims_of, excludes, conflict, is_altered, is_declared, accesses_of}
 
 pub or_left : (a b : Bool) → a ≡ true → (a || b) ≡ true
@@ -86,3 +87,18 @@ pub conflicts_with_rule : (t u : Task) → is_rule u ≡ true → conflict t u �
 conflicts_with_rule t (Runs script index) h = absurd (true≢false (sym h))
 conflicts_with_rule (Runs script index) (Applies rule) h = refl
 conflicts_with_rule (Applies other) (Applies rule) h = refl
+
+-- what is to alter a document conflicts with a later task that declares it
+pub alters_then_declares : (t u : Task) (o : ℕ) → may_alter t o ≡ true → is_declared (accesses_of u) o ≡ true → conflict t u ≡ true
+alters_then_declares (Runs script index) u o h k = conflict_where_altered (Runs script index) u o h k
+alters_then_declares (Applies rule) u o h k = rule_conflicts (Applies rule) u refl
+
+-- and with an earlier one
+pub declares_then_alters : (t u : Task) (o : ℕ) → is_declared (accesses_of t) o ≡ true → may_alter u o ≡ true → conflict t u ≡ true
+declares_then_alters t (Runs script index) o h k = conflict_where_declared t (Runs script index) o h k
+declares_then_alters t (Applies rule) o h k = conflicts_with_rule t (Applies rule) refl
+
+-- two tasks that are to alter one document conflict
+pub both_alter : (t u : Task) (o : ℕ) → may_alter t o ≡ true → may_alter u o ≡ true → conflict t u ≡ true
+both_alter t (Runs script index) o h k = alters_then_declares t (Runs script index) o h (altered_is_declared (accesses_of (Runs script index)) o k)
+both_alter t (Applies rule) o h k = conflicts_with_rule t (Applies rule) refl

@@ -1,18 +1,19 @@
-use Rattle.std.proofs.Common.{◌≡◌, ℕ, zero, suc, ◌<◌, ◌≤◌, Bool, true, false, cond, ◌&&◌, List, [], length, refl, sym, ◌∙◌, ap, subst, inl, inr, arith, ◌⊎◌, get_or}
+use Rattle.std.proofs.Common.{◌≡◌, ℕ, zero, suc, ◌<◌, ◌≤◌, Bool, true, false, cond, List, [], length, refl, sym, ◌∙◌, ap, subst, inl, inr, arith, ◌⊎◌, get_or}
 use mathlib.Core.Path.{fun_ext}
 use Rattle.std.specs.Prelude.{◌-◌, slice_index_or}
-use Rattle.bl_work.specs.Effects.{effects_of, children, after}
+use Rattle.bl_work.specs.Effects.{effects_of, children}
 use Rattle.bl_level.specs.Level.{SecurityLevel, join_of}
 use Rattle.bl_setup.specs.Setup.{Setup}
 use Rattle.bl_setup.specs.declared.version.Version.{Version}
 use Rattle.bl_setup.specs.declared.version.Version.TheVariants.{One, Two}
-use Rattle.bl_order.specs.Order.{Entry, Line, Child, Task, conflict, is_altered, is_declared, accesses_of, body_of}
-use Rattle.bl_order.specs.Past.{Past, earlier, place, no_entry, at_place, policy_of, content_of, changed, is_done, subject_of, carried_of, task_of, child_task, deeds, judged}
+use Rattle.bl_order.specs.Order.{Entry, Line, Child, Task, conflict, is_declared, accesses_of, body_of}
+use Rattle.bl_order.specs.Past.{Past, earlier, place, no_entry, at_place, policy_of, content_of, changed, may_alter, leaves, subject_of, carried_of, task_of, child_task, deeds, judged}
 use Rattle.bl_order.proofs.Sound.{HasParent, HaveParents}
 use Rattle.bl_order.proofs.Places.{made, at_place-earlier, less_or_equal}
 use Rattle.bl_order.specs.Order.{is_rule}
-use Rattle.bl_order.proofs.Conflicts.{rule_conflicts, conflict_where_altered}
-use Rattle.bl_order.proofs.StateLaws.{changed-skips, policy-made, content-made, and_false}
+use Rattle.bl_order.proofs.Conflicts.{rule_conflicts, alters_then_declares}
+use Rattle.bl_order.proofs.Leaving.{leaves-skips}
+use Rattle.bl_order.proofs.StateLaws.{changed-skips, policy-made, content-made}
 
 -- what a task does rests on the contents of the documents that it is_declared
 deeds-same : (t : Task) (c d : ℕ → List ℕ) → ((o : ℕ) → is_declared (accesses_of t) o ≡ true → c o ≡ d o) → deeds t c ≡ deeds t d
@@ -76,9 +77,9 @@ module _ (s : Setup) (A : List Entry) (l m : ℕ → Bool) (ended : ℕ → Bool
     content-same : ended n ≡ true → (o : ℕ) → is_declared (accesses_of (place s l A n).task) o ≡ true → content_of s (earlier s l A n) o ≡ content_of s (earlier s m A n) o
     content-same over o d =
         content-made s (earlier s l A n) o
-        ∙ made-alike (λ p c. cond (is_done p.answer && is_altered (accesses_of p.task) o) (after c p.effects o) c) (content_of s [] o) (λ t. is_altered (accesses_of t) o)
-        (λ p c i. ap (λ b. cond b (after c p.effects o) c) (and_false (is_done p.answer) (is_altered (accesses_of p.task) o) i)) n alike
-        (λ k lt r. orderly k n lt within over (conflict_where_altered (place s l A k).task (place s l A n).task o r d))
+        ∙ made-alike (λ p c. leaves p o c) (content_of s [] o) (λ t. may_alter t o)
+        (λ p c i. leaves-skips p o c i) n alike
+        (λ k lt r. orderly k n lt within over (alters_then_declares (place s l A k).task (place s l A n).task o r d))
         ∙ sym (content-made s (earlier s m A n) o)
 
     alike-next : IsAlike (ended n) (place s l A n) (place s m A n)

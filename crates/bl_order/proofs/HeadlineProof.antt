@@ -4,12 +4,13 @@ use Rattle.std.proofs.lemmas.List.Elements.{All-from_recursion}
 use Rattle.std.specs.List.{AllByRecursion}
 use Rattle.bl_level.specs.Level.{SecurityLevel}
 use Rattle.bl_policy.specs.Policy.{SecurityPolicy}
-use Rattle.bl_policy.specs.Properties.{IsSecure}
+use Rattle.bl_policy.specs.Properties.{IsPresent, IsSecure}
 use Rattle.bl_policy.specs.declared.access.Access.{Access}
 use Rattle.bl_policy.specs.declared.denial.Denial.{Denial}
 use Rattle.bl_work.specs.Effects.{Effect}
-use Rattle.bl_order.specs.Order.{Task, Runs, Applies, accesses_of, is_altered}
-use Rattle.bl_order.specs.Past.{is_done, fault_of_task, answer_of}
+use Rattle.bl_setup.specs.Setup.{Setup}
+use Rattle.bl_order.specs.Order.{Entry, Task, Runs, Applies, accesses_of}
+use Rattle.bl_order.specs.Past.{place, policy_before, is_done, fault_of_task, answer_of, may_alter}
 use Rattle.bl_order.specs.Machine.{State, Phase, Waiting, Running, Ended, Gone, is_waiting, is_running, is_over, phase_at, is_lost, has_ended, runs, past_at, MayStart, start, Hold, held, held_below}
 use Rattle.bl_order.specs.Now.{policy_at, policy_now, IsFirstToAlter}
 use Rattle.bl_order.proofs.Sound.{IsSound}
@@ -18,7 +19,7 @@ use Rattle.bl_order.proofs.AtHandLaws.{closed-sound}
 use Rattle.bl_order.proofs.Conflicts.{or_left}
 use Rattle.bl_order.proofs.StateLaws.{policy_now-open, content_now-open, content_now-first}
 use Rattle.bl_order.proofs.Steps.{waiting_is_not_over, running_is_not_over}
-use Rattle.bl_order.proofs.Secure.{secure-all}
+use Rattle.bl_order.proofs.Secure.{secure-all, present-all}
 use Rattle.bl_order.proofs.Lawful.{IsLawful, lawful-trail, lawful-start}
 use Rattle.bl_order.proofs.Reached.{sound-reached}
 use Rattle.bl_order.proofs.Trails.{sound-start, past-begun}
@@ -36,6 +37,17 @@ secure-task p s carried (Applies rule) h = tt
 pub secure-at : (x : State) (n : ℕ) → is_done (past_at x n).answer ≡ true
     → AllByRecursion (λ (a : Access). IsSecure (policy_at x n) (past_at x n).subject a.doc a.mode) (accesses_of (past_at x n).task)
 secure-at x n d = (secure-task (policy_at x n) (past_at x n).subject (past_at x n).carried (past_at x n).task (done-no_fault (is_lost x n) _ (past_at x n).task _ d))
+
+present-task : (p : SecurityPolicy) (s : ℕ) (carried : SecurityLevel) (t : Task) → fault_of_task p s carried t ≡ None → AllByRecursion (λ a. IsPresent p a.doc) (accesses_of t)
+present-task p s carried (Runs z i) h = present-all p s carried (accesses_of (Runs z i)) h
+present-task p s carried (Applies rule) h = tt
+
+-- and each document that it declares is present there
+pub present-at : (setup : Setup) (lost : ℕ → Bool) (order : List Entry) (n : ℕ) → is_done (place setup lost order n).answer ≡ true
+    → AllByRecursion (λ (a : Access). IsPresent (policy_before setup lost order n) a.doc) (accesses_of (place setup lost order n).task)
+present-at setup lost order n d =
+    present-task (policy_before setup lost order n) (place setup lost order n).subject (place setup lost order n).carried (place setup lost order n).task
+    (done-no_fault (lost n) _ (place setup lost order n).task _ d)
 
 -- the first place that has not ended
 all_or_first : (f : ℕ → Bool) (n : ℕ) → ((m : ℕ) → m < n → f m ≡ true) ⊎ ((m : ℕ) × (m < n) × (f m ≡ false) × ((k : ℕ) → k < m → f k ≡ true))
@@ -104,6 +116,14 @@ secure-held x sound running =
     All-from_recursion _ _ (all-held (λ h. IsSecure (policy_now x) h.subject h.doc h.mode) x (length x.order)
     (λ n lt r. subst (λ p. AllByRecursion (λ (a : Access). IsSecure p (past_at x n).subject a.doc a.mode) (accesses_of (past_at x n).task)) (sym (running n lt r)) (secure-at x n (sound.allowed n lt r))))
 
+-- and of documents that are present
+pub present-held : (x : State) → IsSound x → ((n : ℕ) → n < length x.order → IsTrue (runs x n) → policy_now x ≡ policy_at x n)
+    → All (λ (h : Hold). IsPresent (policy_now x) h.doc) (held x)
+present-held x sound running =
+    All-from_recursion _ _ (all-held (λ h. IsPresent (policy_now x) h.doc) x (length x.order)
+    (λ n lt r. subst (λ p. AllByRecursion (λ (a : Access). IsPresent p a.doc) (accesses_of (past_at x n).task)) (sym (running n lt r))
+    (present-at x.setup (is_lost x) x.order n (sound.allowed n lt r))))
+
 -- ---- the first place that is still to alter a document
 
 idle_altered : (a e : Bool) → (e || cond a false true) ≡ true → a ≡ true → e ≡ true
@@ -119,7 +139,7 @@ open_altered false false h = absurd (true≢false h)
 module _ (x : State) (doc : ℕ) where
   -- the place has ended, or does not alter the document
   is_idle : ℕ → Bool
-  is_idle k = has_ended x k || cond (is_altered (accesses_of (past_at x k).task) doc) false true
+  is_idle k = has_ended x k || cond (may_alter (past_at x k).task doc) false true
 
   pub first-there : (m : ℕ) × IsFirstToAlter x doc m
   unfolding is_idle

@@ -3,6 +3,7 @@ mod Rows
 pub mod Conflicts
 pub mod Places
 pub mod Sound
+pub mod Leaving
 pub mod StateLaws
 pub mod Frame
 pub mod Steps
@@ -24,3 +25,4 @@ pub mod ReadableLines
 pub mod KnownAnswers
 pub mod TheHeadlineProof
 pub mod LineageProof
+pub mod Absent

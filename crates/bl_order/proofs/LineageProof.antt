@@ -1,17 +1,18 @@
 -- What an untrusted subject's place may alter dominates what its lineage may look at.
-use Rattle.std.proofs.Common.{◌≡◌, ℕ, zero, suc, ◌<◌, ◌≤◌, Bool, true, false, cond, ◌&&◌, ◌||◌, List, [], ◌∷◌, length, refl, sym, ◌∙◌, ap, subst, inl, inr, arith, ◌⊎◌, true≢false, eqb-true}
-use Rattle.std.specs.Prelude.{◌↔◌, ◌==◌, All, IsTrue, Option, Some, None, slice_get}
+use Rattle.std.proofs.Common.{◌≡◌, ℕ, suc, Bool, true, false, cond, ◌&&◌, ◌||◌, List, [], ◌∷◌, refl, sym, ◌∙◌, ap, subst, inl, inr, arith, ◌⊎◌, true≢false, eqb-true}
+use Rattle.std.specs.Prelude.{◌↔◌, ◌==◌, All, IsTrue, Option, Some, None}
 use Rattle.std.specs.List.{list_any}
 use Rattle.bl_level.specs.Level.{SecurityLevel, Dominates, join_of}
 use Rattle.bl_level.proofs.Dominance.{join-above_first, join-above_second}
 use Rattle.bl_policy.specs.FirstFault.{first_fault}
 use Rattle.bl_policy.specs.Mode.{is_exclusive}
-use Rattle.bl_policy.specs.Policy.{SecurityPolicy, current_of, level_of, is_trusted}
+use Rattle.bl_policy.specs.Policy.{SecurityPolicy, level_of, is_trusted}
 use Rattle.bl_policy.specs.Properties.{Flows, MayCarry, IsGranted}
 use Rattle.bl_policy.specs.RuleEffect.{after_rule}
 use Rattle.bl_policy.specs.declared.access.Access.{Access}
 use Rattle.bl_policy.specs.declared.access.Mode.{Mode}
 use Rattle.bl_policy.specs.declared.access.Mode.TheVariants.{Read, Append, Write}
+use Rattle.bl_policy.specs.declared.denial.Denial.{Denial}
 use Rattle.bl_policy.specs.declared.rule.Rule.{Rule}
 use Rattle.bl_work.specs.Effects.{Effect}
 use Rattle.bl_work.specs.Modes.{observes}
@@ -23,8 +24,8 @@ use Rattle.bl_order.specs.Legal.{IsLegal}
 use Rattle.bl_order.specs.Lineage.{IsInLineage, Itself, Above, AltersAbove, KeepsItsLineage}
 use Rattle.bl_order.specs.Machine.{State, past_at, is_lost}
 use Rattle.bl_order.specs.Now.{policy_at}
-use Rattle.bl_order.specs.Order.{Entry, Child, Task, Runs, Applies, accesses_of}
-use Rattle.bl_order.specs.Past.{Past, earlier, place, policy_of, changed, is_done, was_lost, fault_of_task}
+use Rattle.bl_order.specs.Order.{Task, Runs, Applies, accesses_of, is_altered}
+use Rattle.bl_order.specs.Past.{Past, earlier, policy_of, changed, is_done, was_lost, fault_of_task, answer_of, may_alter}
 use Rattle.bl_order.proofs.HeadlineProof.{done-no_fault, holds-reached}
 use Rattle.bl_order.proofs.PlaceLaws.{subject-child, carried-child}
 
@@ -89,6 +90,14 @@ one_of test P (a ∷ rest) doc each h = go ((a.doc == doc) && test a.mode) refl 
     go false e later = later (or_later ((a.doc == doc) && test a.mode) _ e h)
 
 -- ---- places
+
+-- what a place that ran is to alter it declares append or write
+pub alters-done : (b : Bool) (f : Option Denial) (t : Task) (es : List Effect) (o : ℕ) → is_done (answer_of b f t es) ≡ true → may_alter t o ≡ true
+    → is_altered (accesses_of t) o ≡ true
+alters-done b f (Runs script index) es o h k = k
+alters-done true f (Applies rule) es o h k = absurd (true≢false (sym h))
+alters-done false (Some denial) (Applies rule) es o h k = absurd (true≢false (sym h))
+alters-done false None (Applies rule) es o h k = absurd (true≢false (sym h))
 
 module _ (laws : PolicyLaws) where
   granted-task : (p : SecurityPolicy) (s : ℕ) (carried : SecurityLevel) (t : Task) → fault_of_task p s carried t ≡ None
@@ -164,7 +173,8 @@ module _ (laws : PolicyLaws) where
           (looked (past_at x m).level (level_of (policy_at x m) found.0.doc) found.0.mode found.2 (bound (is_trusted (policy_at x m) (past_at x m).subject) free found.3.secure.star))
 
       found : (a : Access) × (a.doc ≡ o) × (is_exclusive a.mode ≡ true) × IsGranted (policy_at x n) (past_at x n).subject (past_at x n).carried a.doc a.mode
-      found = one_of is_exclusive (λ (a : Access). IsGranted (policy_at x n) (past_at x n).subject (past_at x n).carried a.doc a.mode) (accesses_of (past_at x n).task) o (granted x n done) alters
+      found = one_of is_exclusive (λ (a : Access). IsGranted (policy_at x n) (past_at x n).subject (past_at x n).carried a.doc a.mode) (accesses_of (past_at x n).task) o (granted x n done)
+          (alters-done (is_lost x n) (fault_of_task (policy_at x n) (past_at x n).subject (past_at x n).carried (past_at x n).task) (past_at x n).task _ o done alters)
 
       go : (m ≡ n) ⊎ Dominates (past_at x n).carried (past_at x m).level → Dominates (level_of (policy_at x n) o) (past_at x m).level
       go (inl same) =

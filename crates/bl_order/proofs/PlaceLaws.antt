@@ -2,22 +2,23 @@
 use Rattle.std.proofs.Common.{◌≡◌, ℕ, zero, suc, ◌-◌, ◌<◌, ◌≤◌, Bool, true, false, cond, ◌&&◌, ◌||◌, not, List, [], ◌∷◌, length, map, refl, sym, ◌∙◌, ap, inl, inr, arith, ◌⊎◌, true≢false, get_or, eqb-true}
 use Rattle.std.specs.Prelude.{◌==◌, Option, Some, None, slice_get, slice_index_or, nat_lt}
 use Rattle.bl_level.specs.Level.{SecurityLevel, join_of}
-use Rattle.bl_policy.specs.Policy.{SecurityPolicy, current_of, lowest}
+use Rattle.bl_policy.specs.Policy.{SecurityPolicy, lowest}
 use Rattle.bl_policy.specs.RuleEffect.{rule_fault, rule_makes, unless_failed, after_rule}
 use Rattle.bl_policy.specs.declared.denial.Denial.{Denial}
 use Rattle.bl_policy.specs.declared.rule.Rule.{Rule}
-use Rattle.bl_work.specs.Effects.{Effect, after, children}
+use Rattle.bl_work.specs.Effects.{Effect, children}
 use Rattle.bl_work.specs.declared.answer.Answer.TheVariants.{RuleDone, Denied, Lost}
 use Rattle.bl_setup.specs.Setup.{Setup}
 use Rattle.bl_setup.specs.declared.version.Version.{Version}
 use Rattle.bl_setup.specs.declared.version.Version.TheVariants.{One, Two}
 use Rattle.bl_work.specs.declared.work.Work.{Work}
-use Rattle.bl_order.specs.Order.{Entry, Child, Task, Runs, Applies, is_rule, conflict, is_altered, accesses_of, Line, unnamed}
-use Rattle.bl_order.specs.Past.{Past, earlier, place, past_of, no_entry, policy_of, content_of, is_done, at_place, subject_of, carried_of, task_of, child_task, deeds, judged, answer_of, was_lost, fault_of_task, changed}
-use Rattle.bl_order.specs.Laws.{IsAnswered, IsClosed, KeepsAnswers, lost_too, RulesMakeThePolicy, fault_at}
+use Rattle.bl_order.specs.Order.{Entry, Child, Task, Runs, Applies, is_rule, conflict, Line, unnamed}
+use Rattle.bl_order.specs.Past.{Past, earlier, place, past_of, no_entry, policy_of, content_of, leaves, at_place, subject_of, carried_of, task_of, child_task, deeds, judged, answer_of, was_lost, fault_of_task, changed}
+use Rattle.bl_order.specs.Laws.{IsAnswered, IsClosed, KeepsAnswers, LooksBack, lost_too, RulesMakeThePolicy, fault_at, wrote_or_deleted}
 use Rattle.bl_order.specs.Machine.{State, past_at, has_ended, phase_at, MayStart, may_start, is_clear, is_waiting}
 use Rattle.std.proofs.lemmas.Bool.Decides.{nat_tests}
 use Rattle.bl_order.proofs.Places.{at_place-earlier, less_or_equal, place-grown}
+use Rattle.bl_order.proofs.Leaving.{leaves-untouched, leaves-wrote, leaves-deleted}
 use Rattle.bl_order.proofs.StateLaws.{changed-skips}
 use Rattle.bl_order.proofs.Sound.{HasParent}
 use Rattle.bl_order.proofs.Frame.{place-alike}
@@ -86,27 +87,34 @@ place-unnamed setup lost order n =
 -- ---- looking back
 
 module _ (setup : Setup) (lost : ℕ → Bool) (order : List Entry) (doc : ℕ) where
-  pub content-first : (n : ℕ) → ((k : ℕ) → k < n → (is_done (place setup lost order k).answer && is_altered (accesses_of (place setup lost order k).task) doc) ≡ false)
+  pub content-first : (n : ℕ) → ((k : ℕ) → k < n → wrote_or_deleted setup lost order doc k ≡ false)
       → content_of setup (earlier setup lost order n) doc ≡ slice_index_or setup.contents doc []
   content-first zero none = refl
   content-first (suc n) none =
-      ap (λ b. cond b (after (content_of setup (earlier setup lost order n) doc) (place setup lost order n).effects doc) (content_of setup (earlier setup lost order n) doc)) (none n (omega arith))
+      leaves-untouched (place setup lost order n) doc (content_of setup (earlier setup lost order n) doc) (none n (omega arith))
       ∙ content-first n (λ k lt. none k (omega arith))
 
-  pub content-last : (m n : ℕ) → m < n → (is_done (place setup lost order m).answer && is_altered (accesses_of (place setup lost order m).task) doc) ≡ true
-      → ((k : ℕ) → m < k → k < n → (is_done (place setup lost order k).answer && is_altered (accesses_of (place setup lost order k).task) doc) ≡ false)
-      → content_of setup (earlier setup lost order n) doc ≡ after (content_of setup (earlier setup lost order m) doc) (place setup lost order m).effects doc
-  content-last m zero lt here none = absurd (omega arith)
-  content-last m (suc n) lt here none = go (less_or_equal m n lt) (λ below. content-last m n below here (λ k above under. none k above (omega arith)))
+  -- what a place left stands until another writes the document or deletes it
+  content-left : (m n : ℕ) → m < n → ((k : ℕ) → m < k → k < n → wrote_or_deleted setup lost order doc k ≡ false)
+      → content_of setup (earlier setup lost order n) doc ≡ leaves (place setup lost order m) doc (content_of setup (earlier setup lost order m) doc)
+  content-left m zero lt none = absurd (omega arith)
+  content-left m (suc n) lt none = go (less_or_equal m n lt) (λ below. content-left m n below (λ k above under. none k above (omega arith)))
     where
-      go : (m < n) ⊎ (m ≡ n) → (m < n → content_of setup (earlier setup lost order n) doc ≡ after (content_of setup (earlier setup lost order m) doc) (place setup lost order m).effects doc)
-          → content_of setup (earlier setup lost order (suc n)) doc ≡ after (content_of setup (earlier setup lost order m) doc) (place setup lost order m).effects doc
+      go : (m < n) ⊎ (m ≡ n) → (m < n → content_of setup (earlier setup lost order n) doc ≡ leaves (place setup lost order m) doc (content_of setup (earlier setup lost order m) doc))
+          → content_of setup (earlier setup lost order (suc n)) doc ≡ leaves (place setup lost order m) doc (content_of setup (earlier setup lost order m) doc)
       go (inl below) deeper =
-          ap (λ b. cond b (after (content_of setup (earlier setup lost order n) doc) (place setup lost order n).effects doc) (content_of setup (earlier setup lost order n) doc)) (none n below (omega arith))
+          leaves-untouched (place setup lost order n) doc (content_of setup (earlier setup lost order n) doc) (none n below (omega arith))
           ∙ deeper below
-      go (inr same) deeper =
-          ap (λ k. cond (is_done (place setup lost order k).answer && is_altered (accesses_of (place setup lost order k).task) doc) (after (content_of setup (earlier setup lost order k) doc) (place setup lost order k).effects doc) (content_of setup (earlier setup lost order k) doc)) (sym same)
-          ∙ ap (λ b. cond b (after (content_of setup (earlier setup lost order m) doc) (place setup lost order m).effects doc) (content_of setup (earlier setup lost order m) doc)) here
+      go (inr same) deeper = ap (λ k. leaves (place setup lost order k) doc (content_of setup (earlier setup lost order k) doc)) (sym same)
+
+  pub looks-back : (n : ℕ) → LooksBack setup lost order doc n
+  looks-back n = record {
+    untouched = content-first n;
+    last_wrote = λ m lt here none.
+        content-left m n lt none ∙ leaves-wrote (place setup lost order m) doc (content_of setup (earlier setup lost order m) doc) here;
+    last_deleted = λ m lt here none.
+        content-left m n lt none ∙ leaves-deleted (place setup lost order m) doc (content_of setup (earlier setup lost order m) doc) here;
+  }
 
 -- ---- rules
 

@@ -3,22 +3,23 @@ use Rattle.std.proofs.Common.{◌≡◌, ◌≢◌, ℕ, zero, suc, ◌<◌, ◌
 use Rattle.std.specs.Prelude.{IsTrue, Option, Some, None}
 use Rattle.bl_policy.specs.Policy.{SecurityPolicy}
 use Rattle.bl_policy.specs.declared.denial.Denial.{Denial}
-use Rattle.bl_work.specs.Effects.{Effect, after}
+use Rattle.bl_work.specs.Effects.{Effect}
 use Rattle.bl_order.specs.Machine.{session_at}
 use Rattle.bl_setup.specs.Setup.{Setup}
-use Rattle.bl_order.specs.Order.{Entry, Line, Task, Runs, Applies, conflict, is_altered, accesses_of}
-use Rattle.bl_order.specs.Past.{Past, earlier, place, policy_of, content_of, changed, is_done, answer_of, judged, deeds}
+use Rattle.bl_order.specs.Order.{Entry, Line, Task, Runs, Applies, conflict}
+use Rattle.bl_order.specs.Past.{Past, earlier, place, policy_of, content_of, changed, is_done, is_rule_done, may_alter, left_by, leaves, has_deleted, answer_of, judged, deeds}
 use Rattle.bl_work.specs.declared.work.Work.{Work}
 use Rattle.std.proofs.Common.{length-append}
 use Rattle.bl_work.specs.declared.answer.Answer.{Answer}
-use Rattle.bl_work.specs.declared.answer.Answer.TheVariants.{Lost}
+use Rattle.bl_work.specs.declared.answer.Answer.TheVariants.{Done, RuleDone, Denied, Lost}
 use Rattle.bl_order.specs.Machine.{State, Phase, is_over, is_gone, phase_at, is_lost, has_ended, runs, past_at, MayStart, Starts, Ends, Admits, change, with_phase, Gone, Ended, Running}
 use Rattle.bl_order.specs.Now.{ended_before, ended_places, policy_now, content_now}
 use Rattle.bl_order.proofs.Sound.{IsSound, has_begun}
 use Rattle.bl_order.specs.Headline.{IsReached, MovesOn}
 use Rattle.bl_order.proofs.Places.{made, less_or_equal}
 use Rattle.bl_order.specs.Order.{is_rule}
-use Rattle.bl_order.proofs.Conflicts.{or_left, or_right, rule_conflicts, conflict_where_altered, altered_is_declared}
+use Rattle.bl_order.proofs.Conflicts.{or_left, or_right, rule_conflicts, both_alter}
+use Rattle.bl_order.proofs.Leaving.{leaves-skips, left_by-done, leaves-lost}
 use Rattle.bl_order.proofs.StateLaws.{changed-skips, policy-made, content-made, and_false, not_ended_after}
 use Rattle.bl_order.proofs.Steps.{Moves, running_is_not_over, waiting_is_not_over, other, begun_within, equal_self}
 use Rattle.bl_order.proofs.Reached.{sound-reached}
@@ -160,9 +161,6 @@ lost_idle q false v e = refl
 both_rules : (t u : Task) → is_rule t ≡ true → is_rule u ≡ true → conflict t u ≡ true
 both_rules t u h k = rule_conflicts t u h
 
-both_alter : (o : ℕ) (t u : Task) → is_altered (accesses_of t) o ≡ true → is_altered (accesses_of u) o ≡ true → conflict t u ≡ true
-both_alter o t u h k = conflict_where_altered t u o h (altered_is_declared (accesses_of u) o k)
-
 -- ---- the policy now, after an event
 
 policy_now-made : (x : State) → policy_now x ≡ made (λ p y. changed p.answer p.task p.subject y) x.setup.policy (ended_places x)
@@ -179,19 +177,19 @@ policy_now-started x k sound may =
 
 -- ---- a content, after an event
 
-content_now-made : (x : State) (o : ℕ) → content_now x o ≡ made (λ p c. cond (is_done p.answer && is_altered (accesses_of p.task) o) (after c p.effects o) c) (content_of x.setup [] o) (ended_places x)
+content_now-made : (x : State) (o : ℕ) → content_now x o ≡ made (λ p c. leaves p o c) (content_of x.setup [] o) (ended_places x)
 content_now-made x o = content-made x.setup (ended_places x) o
 
--- an end changes it by the place's effects, where it is_declared the document append or write
+-- an end changes it to what the place leaves
 pub content_now-ended : (x : State) (k o : ℕ) → IsSound x → (r : runs x k ≡ true) → content_now (change x (Ends k)) o
-    ≡ cond (is_done (past_at x k).answer && is_altered (accesses_of (past_at x k).task) o) (after (content_now x o) (past_at x k).effects o) (content_now x o)
+    ≡ leaves (past_at x k) o (content_now x o)
 content_now-ended x k o sound r =
     content_now-made (change x (Ends k)) o
-    ∙ now-moved (λ p c. cond (is_done p.answer && is_altered (accesses_of p.task) o) (after c p.effects o) c) (content_of x.setup [] o) (λ t. is_altered (accesses_of t) o)
-    (λ p c h. ap (λ b. cond b (after c p.effects o) c) (and_false (is_done p.answer) (is_altered (accesses_of p.task) o) h)) (both_alter o)
-    x (change x (Ends k)) k Ended (λ c. cond (is_done (past_at x k).answer && is_altered (accesses_of (past_at x k).task) o) (after c (past_at x k).effects o) c) sound (moves-end x sound k r) (acts_at (λ p c. cond (is_done p.answer && is_altered (accesses_of p.task) o) (after c p.effects o) c) x (change x (Ends k)) k Ended (moves-end x sound k r) (past-ended x sound k r k (within x sound k r)))
-    (λ c h. ap (λ b. cond b (after c (past_at x k).effects o) c) (and_false (is_done (past_at x k).answer) (is_altered (accesses_of (past_at x k).task) o) h))
-    ∙ ap (λ c. cond (is_done (past_at x k).answer && is_altered (accesses_of (past_at x k).task) o) (after c (past_at x k).effects o) c) (sym (content_now-made x o))
+    ∙ now-moved (λ p c. leaves p o c) (content_of x.setup [] o) (λ t. may_alter t o)
+    (λ p c h. leaves-skips p o c h) (λ t v h k. both_alter t v o h k)
+    x (change x (Ends k)) k Ended (leaves (past_at x k) o) sound (moves-end x sound k r) (acts_at (λ p c. leaves p o c) x (change x (Ends k)) k Ended (moves-end x sound k r) (past-ended x sound k r k (within x sound k r)))
+    (λ c h. leaves-skips (past_at x k) o c h)
+    ∙ ap (leaves (past_at x k) o) (sym (content_now-made x o))
 
 -- a loss changes neither
 pub policy_now-lost : (x : State) (k : ℕ) → IsSound x → (m : Moves x (with_phase x k Gone) k Gone) → policy_now (with_phase x k Gone) ≡ policy_now x
@@ -201,21 +199,26 @@ policy_now-lost x k sound m =
     x (with_phase x k Gone) k Gone (λ v. v) sound m (λ v. lost_idle (past_at (with_phase x k Gone) k) (has_ended (with_phase x k Gone) k) v (lost-answer x.setup (is_lost (with_phase x k Gone)) x.order k (ap is_gone (m.phases k ∙ ap (λ b. cond b Gone (phase_at x k)) (equal_self k))))) (λ v h. refl)
     ∙ sym (policy_now-made x)
 
--- a start changes no content
-content_idle : (b c : Bool) (w v : List ℕ) → cond (is_over (cond b Running Ended)) (cond (b && c) w v) v ≡ v
-content_idle true c w v = refl
-content_idle false c w v = refl
+-- a start empties the content of a document that its place deletes, and changes no other
+starts-leaving : (a : Answer) (b : Bool) (es : List Effect) (o : ℕ) (v : List ℕ)
+    → cond (is_over (cond (is_done a) Running Ended)) (cond b (left_by a es o v) v) v ≡ cond (is_rule_done a && b) [] v
+starts-leaving (Done shown) b es o v = refl
+starts-leaving RuleDone b es o v = refl
+starts-leaving (Denied denial) true es o v = refl
+starts-leaving (Denied denial) false es o v = refl
+starts-leaving Lost true es o v = refl
+starts-leaving Lost false es o v = refl
 
-pub content_now-started : (x : State) (k o : ℕ) → IsSound x → MayStart x k → content_now (change x (Starts k)) o ≡ content_now x o
+pub content_now-started : (x : State) (k o : ℕ) → IsSound x → MayStart x k → content_now (change x (Starts k)) o ≡ cond (has_deleted (past_at x k) o) [] (content_now x o)
 content_now-started x k o sound may =
     content_now-made (change x (Starts k)) o
-    ∙ now-moved (λ p c. cond (is_done p.answer && is_altered (accesses_of p.task) o) (after c p.effects o) c) (content_of x.setup [] o) (λ t. is_altered (accesses_of t) o)
-    (λ p c h. ap (λ b. cond b (after c p.effects o) c) (and_false (is_done p.answer) (is_altered (accesses_of p.task) o) h)) (both_alter o)
-    x (change x (Starts k)) k _ (λ c. c) sound (moves-start x sound k may)
-    (λ v. acts_at (λ p c. cond (is_done p.answer && is_altered (accesses_of p.task) o) (after c p.effects o) c) x (change x (Starts k)) k _ (moves-start x sound k may) (past-started x sound k may k) v
-    ∙ content_idle (is_done (past_at x k).answer) (is_altered (accesses_of (past_at x k).task) o) (after v (past_at x k).effects o) v)
-    (λ c h. refl)
-    ∙ sym (content_now-made x o)
+    ∙ now-moved (λ p c. leaves p o c) (content_of x.setup [] o) (λ t. may_alter t o)
+    (λ p c h. leaves-skips p o c h) (λ t v h k. both_alter t v o h k)
+    x (change x (Starts k)) k _ (λ c. cond (has_deleted (past_at x k) o) [] c) sound (moves-start x sound k may)
+    (λ v. acts_at (λ p c. leaves p o c) x (change x (Starts k)) k _ (moves-start x sound k may) (past-started x sound k may k) v
+    ∙ starts-leaving (past_at x k).answer (may_alter (past_at x k).task o) (past_at x k).effects o v)
+    (λ c h. ap (λ b. cond b [] c) (and_false (is_rule_done (past_at x k).answer) (may_alter (past_at x k).task o) h))
+    ∙ ap (λ c. cond (has_deleted (past_at x k) o) [] c) (sym (content_now-made x o))
 
 -- an end changes no policy, for what has run is no rule
 done_idle : (a : Answer) (t : Task) (s : ℕ) (v : SecurityPolicy) → (is_rule t ≡ true → is_done a ≡ false) → is_done a ≡ true → changed a t s v ≡ v
@@ -254,7 +257,7 @@ policy_now-admitted x i o w sound =
 pub content_now-admitted : (x : State) (i o : ℕ) (w : Work) (d : ℕ) → IsSound x → content_now (change x (Admits i o w)) d ≡ content_now x d
 content_now-admitted x i o w d sound =
     content_now-made (change x (Admits i o w)) d
-    ∙ now-admitted (λ p c. cond (is_done p.answer && is_altered (accesses_of p.task) d) (after c p.effects d) c) (content_of x.setup [] d) x sound i o w
+    ∙ now-admitted (λ p c. leaves p d c) (content_of x.setup [] d) x sound i o w
     ∙ sym (content_now-made x d)
 
 -- ---- a loss, from what it needs
@@ -266,25 +269,21 @@ moves-gone x k sound (inr may) =
     moves-lost x sound k may.there (waiting_is_not_over (phase_at x k) may.waits) (inr may.clear)
 
 -- what is lost changes no content
-lost_keeps : (q : Past) (b : Bool) (o : ℕ) (v : List ℕ) → q.answer ≡ Lost → cond b (cond (is_done q.answer && is_altered (accesses_of q.task) o) (after v q.effects o) v) v ≡ v
-lost_keeps q true o v e = ap (λ a. cond (is_done a && is_altered (accesses_of q.task) o) (after v q.effects o) v) e
+lost_keeps : (q : Past) (b : Bool) (o : ℕ) (v : List ℕ) → q.answer ≡ Lost → cond b (leaves q o v) v ≡ v
+lost_keeps q true o v e = leaves-lost q o v e
 lost_keeps q false o v e = refl
 
 content_now-lost : (x : State) (k o : ℕ) → IsSound x → (m : Moves x (with_phase x k Gone) k Gone) → content_now (with_phase x k Gone) o ≡ content_now x o
 content_now-lost x k o sound m =
     content_now-made (with_phase x k Gone) o
-    ∙ now-moved (λ p c. cond (is_done p.answer && is_altered (accesses_of p.task) o) (after c p.effects o) c) (content_of x.setup [] o) (λ t. is_altered (accesses_of t) o)
-    (λ p c h. ap (λ b. cond b (after c p.effects o) c) (and_false (is_done p.answer) (is_altered (accesses_of p.task) o) h)) (both_alter o)
+    ∙ now-moved (λ p c. leaves p o c) (content_of x.setup [] o) (λ t. may_alter t o)
+    (λ p c h. leaves-skips p o c h) (λ t v h k. both_alter t v o h k)
     x (with_phase x k Gone) k Gone (λ c. c) sound m
     (λ v. lost_keeps (past_at (with_phase x k Gone) k) (has_ended (with_phase x k Gone) k) o v (lost-answer x.setup (is_lost (with_phase x k Gone)) x.order k (ap is_gone (m.phases k ∙ ap (λ b. cond b Gone (phase_at x k)) (equal_self k)))))
     (λ c h. refl)
     ∙ sym (content_now-made x o)
 
 -- ---- all of them
-
-when_done : (b c : Bool) (v w : List ℕ) → b ≡ true → cond (b && c) v w ≡ cond c v w
-when_done true c v w h = refl
-when_done false c v w h = absurd (true≢false (sym h))
 
 pub moves_on-sound : (x : State) → IsSound x → MovesOn x
 moves_on-sound x sound = record {
@@ -293,8 +292,8 @@ moves_on-sound x sound = record {
   end_policy = λ n r. policy_now-ended x n sound r;
   end_content = λ n doc r.
       content_now-ended x n doc sound r
-      ∙ when_done (is_done (past_at x n).answer) (is_altered (accesses_of (past_at x n).task) doc) (after (content_now x doc) (past_at x n).effects doc) (content_now x doc)
-      (sound.allowed n (within x sound n r) r);
+      ∙ ap (λ c. cond (may_alter (past_at x n).task doc) c (content_now x doc))
+      (left_by-done (past_at x n).answer (past_at x n).effects doc (content_now x doc) (sound.allowed n (within x sound n r) r));
   loss_policy = λ n needs. policy_now-lost x n sound (moves-gone x n sound needs);
   loss_content = λ n doc needs. content_now-lost x n doc sound (moves-gone x n sound needs);
   line_policy = λ session ordinal work needs. policy_now-admitted x session ordinal work sound;

@@ -5,8 +5,8 @@ use Rattle.std.proofs.lemmas.List.Elements.{All-from_recursion}
 use Rattle.bl_level.specs.Lexing.{Front, nothing, token, broken, front, past_blanks, Begins}
 use Rattle.bl_level.specs.Token.{Tok}
 use Rattle.bl_policy.specs.declared.access.Mode.TheVariants.{Read, Append, Write}
-use Rattle.bl_policy.specs.declared.denial.Clause.TheVariants.{Simple, Star, Discretionary, Admin, Trusted, Greatest}
-use Rattle.bl_policy.specs.declared.rule.Rule.TheVariants.{Give, Rescind, Current, Classify}
+use Rattle.bl_policy.specs.declared.denial.Clause.TheVariants.{Absent, Simple, Star, Discretionary, Admin, Trusted, Greatest, Present}
+use Rattle.bl_policy.specs.declared.rule.Rule.TheVariants.{Give, Rescind, Current, Classify, Create, Delete}
 use Rattle.bl_policy.specs.Policy.{allows}
 use Rattle.bl_work.specs.declared.script.Condition.TheVariants.{Is, Has}
 use Rattle.bl_work.specs.Content.{added}
@@ -28,7 +28,7 @@ use Rattle.bl_order.specs.Machine.{State, Event, IsTrail, Opens, Admits, Starts,
 use Rattle.bl_order.specs.Now.{content_now}
 use Rattle.bl_order.specs.Room.{all_to_come}
 use Rattle.bl_order.proofs.PlaceLaws.{may_start-is}
-use Rattle.bl_order.proofs.Base.{base, names, with_dan, ann, bob, cat, root, dan, memo, note, log, u, c, s, t, s_nato, m1, n1, access, behaves, when, reads, lines, asks, rules, answer_at, denied_for}
+use Rattle.bl_order.proofs.Base.{base, names, with_dan, with_reserves, ann, bob, cat, root, dan, memo, note, log, draft, top, u, c, s, t, s_nato, m1, n1, access, behaves, when, reads, lines, asks, rules, answer_at, denied_for}
 
 -- ---- decisions on accesses
 
@@ -132,6 +132,45 @@ chooses =
 choose-and-pour : answer_at (lines ann (chooses ∷ [])) 0 ≡ Done ((m1 ++ n1) ∷ (121 ∷ 101 ∷ 115 ∷ []) ∷ [])
 unfolding added chooses
 choose-and-pour = refl
+
+-- ---- documents that come and go
+
+writes_and_deletes : List Entry
+writes_and_deletes =
+    asks ann (when (access Write memo ∷ []) (Add memo (97 ∷ []) Nothing)) ∷ rules root (Delete memo) ∷ rules root (Create memo)
+    ∷ rules root (Give ann memo Read) ∷ asks ann (reads memo) ∷ []
+
+delete-empties-content : map (answer_at writes_and_deletes) (0 ∷ 1 ∷ 2 ∷ 3 ∷ 4 ∷ []) ≡ Done [] ∷ RuleDone ∷ RuleDone ∷ RuleDone ∷ Done ([] ∷ []) ∷ []
+unfolding added writes_and_deletes
+delete-empties-content = refl
+
+-- the same, where the rule is lost
+lost-delete-changes-nothing :
+    map (λ n. (place base (λ k. k == 1) writes_and_deletes n).answer) (0 ∷ 1 ∷ 2 ∷ 3 ∷ 4 ∷ [])
+    ≡ Done [] ∷ Lost ∷ denied_for Present root memo ∷ RuleDone ∷ Done ((m1 ++ 97 ∷ []) ∷ []) ∷ []
+unfolding added writes_and_deletes
+lost-delete-changes-nothing = refl
+
+-- what each of the places of root is answered, where two documents are reserved
+root_is_told : List Entry → List ℕ → List Answer
+root_is_told order = map (λ n. (place with_reserves (λ k. false) order n).answer)
+
+create-use-delete :
+    root_is_told
+    (rules root (Create draft) ∷ rules root (Create draft) ∷ rules root (Give root draft Write)
+    ∷ asks root (when (access Write draft ∷ []) (Set draft (100 ∷ []) (Show draft Nothing))) ∷ rules root (Delete draft) ∷ asks root (reads draft)
+    ∷ rules root (Create draft) ∷ asks root (when (access Write draft ∷ []) Nothing) ∷ rules root (Give root draft Read) ∷ asks root (reads draft)
+    ∷ rules root (Delete top) ∷ [])
+    (0 ∷ 1 ∷ 2 ∷ 3 ∷ 4 ∷ 5 ∷ 6 ∷ 7 ∷ 8 ∷ 9 ∷ 10 ∷ [])
+    ≡ RuleDone ∷ denied_for Present root draft ∷ RuleDone ∷ Done ((100 ∷ []) ∷ []) ∷ RuleDone ∷ denied_for Absent root draft ∷ RuleDone
+    ∷ denied_for Discretionary root draft ∷ RuleDone ∷ Done ([] ∷ []) ∷ denied_for Absent root top ∷ []
+unfolding root_is_told
+create-use-delete = refl
+
+absent-named-first :
+    map (λ n. (place with_reserves (λ k. false) (asks ann (reads top) ∷ rules ann (Delete memo) ∷ []) n).answer) (0 ∷ 1 ∷ [])
+    ≡ denied_for Absent ann top ∷ denied_for Admin ann memo ∷ []
+absent-named-first = refl
 
 -- ---- children, and who may start
 

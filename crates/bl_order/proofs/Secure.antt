@@ -1,13 +1,13 @@
--- Accesses that nothing is held against have the three properties.
+-- Accesses that nothing is held against have the three properties, and are of documents that are present.
 use Rattle.std.proofs.Common.{◌≡◌, ℕ, Bool, true, false, cond, ◌&&◌, ◌||◌, List, [], ◌∷◌, refl, inl, inr, arith, ◌⊎◌}
 use Rattle.std.specs.Prelude.{◌==◌, IsTrue, Option, Some, None}
 use Rattle.std.specs.List.{AllByRecursion}
 use Rattle.std.proofs.lemmas.Bool.Decides.{nat_tests}
 use Rattle.bl_level.specs.Level.{SecurityLevel}
 use Rattle.bl_level.proofs.Dominance.{dominates-sets}
-use Rattle.bl_policy.specs.Policy.{SecurityPolicy, greatest_of, current_of, level_of, is_trusted}
-use Rattle.bl_policy.specs.Properties.{observes, Observes, flows, Flows, is_simple, is_star, is_discretionary, IsSecure}
-use Rattle.bl_policy.specs.FirstFault.{first_fault, property_fault, carry_fault, fault_of, fault_or, denied}
+use Rattle.bl_policy.specs.Policy.{SecurityPolicy, greatest_of, current_of, level_of, is_present, is_trusted}
+use Rattle.bl_policy.specs.Properties.{observes, Observes, flows, Flows, is_simple, is_star, is_discretionary, IsPresent, IsSecure}
+use Rattle.bl_policy.specs.FirstFault.{first_fault, absence, property_fault, carry_fault, fault_of, fault_or, denied}
 use Rattle.bl_policy.specs.declared.access.Access.{Access}
 use Rattle.bl_policy.specs.declared.access.Mode.{Mode}
 use Rattle.bl_policy.specs.declared.access.Mode.TheVariants.{Read, Append, Write}
@@ -57,5 +57,22 @@ pub secure-all : (p : SecurityPolicy) (s : ℕ) (carried : SecurityLevel) (acces
 secure-all p s carried [] h = tt
 secure-all p s carried (a ∷ rest) h =
     let none : (fault_of p s carried a ≡ None) × (first_fault p s carried rest ≡ None) = fault_or-none (fault_of p s carried a) (first_fault p s carried rest) h in
-    let here : (property_fault p s a ≡ None) × (carry_fault p s carried a ≡ None) = fault_or-none (property_fault p s a) (carry_fault p s carried a) none.0 in
-    (secure-access p s a here.0, secure-all p s carried rest none.1)
+    let here : (absence p s a ≡ None) × (fault_or (property_fault p s a) (carry_fault p s carried a) ≡ None) = fault_or-none (absence p s a) (fault_or (property_fault p s a) (carry_fault p s carried a)) none.0 in
+    let kept : (property_fault p s a ≡ None) × (carry_fault p s carried a ≡ None) = fault_or-none (property_fault p s a) (carry_fault p s carried a) here.1 in
+    (secure-access p s a kept.0, secure-all p s carried rest none.1)
+
+present-access : (p : SecurityPolicy) (s : ℕ) (a : Access) → absence p s a ≡ None → IsPresent p a.doc
+present-access p s a h = go (is_present p a.doc) refl h
+  where
+    go : (b : Bool) → is_present p a.doc ≡ b → cond b None (denied failing.Absent s a.doc) ≡ None → IsPresent p a.doc
+    go true i e = i
+    go false i e = absurd (cc)
+
+-- and its document is present
+pub present-all : (p : SecurityPolicy) (s : ℕ) (carried : SecurityLevel) (accesses : List Access) → first_fault p s carried accesses ≡ None
+    → AllByRecursion (λ (a : Access). IsPresent p a.doc) accesses
+present-all p s carried [] h = tt
+present-all p s carried (a ∷ rest) h =
+    let none : (fault_of p s carried a ≡ None) × (first_fault p s carried rest ≡ None) = fault_or-none (fault_of p s carried a) (first_fault p s carried rest) h in
+    let here : (absence p s a ≡ None) × (fault_or (property_fault p s a) (carry_fault p s carried a) ≡ None) = fault_or-none (absence p s a) (fault_or (property_fault p s a) (carry_fault p s carried a)) none.0 in
+    (present-access p s a here.0, present-all p s carried rest none.1)

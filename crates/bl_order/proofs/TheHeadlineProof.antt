@@ -1,5 +1,5 @@
 -- The headline, of each state that a trail leads to.
-use Rattle.std.proofs.Common.{◌≡◌, ℕ, suc, ◌<◌, ◌≤◌, Bool, true, false, cond, leb, List, length, take, drop, take-append-drop, length-take-le, refl, sym, ◌∙◌, ap, inl, inr, arith, subst, ◌++◌, ◌⊎◌, true≢false}
+use Rattle.std.proofs.Common.{◌≡◌, ℕ, suc, ◌<◌, ◌≤◌, Bool, true, false, cond, ◌&&◌, leb, List, [], length, take, drop, take-append-drop, length-take-le, refl, sym, ◌∙◌, ap, inl, inr, arith, subst, ◌⊎◌, true≢false}
 use Rattle.std.specs.Prelude.{◌↔◌, All, IsTrue, Option, Some, None}
 use Rattle.std.proofs.lemmas.Bool.{leb-true, leb-false}
 use Rattle.bl_level.specs.Level.{SecurityLevel}
@@ -17,13 +17,13 @@ use Rattle.bl_setup.specs.Setup.{Setup}
 use Rattle.bl_order.specs.AtHand.{IsAtHand}
 use Rattle.bl_order.specs.Headline.{IsReached}
 use Rattle.bl_order.specs.Machine.{State, Event, Opens, Admits, Starts, Ends, Loses, Phase, Waiting, Running, Ended, Gone, MayStart, Needs, IsTrail, start, state_after, change, with_phase, phase_at, past_at, is_lost, has_ended, runs, is_waiting, is_running, is_over, is_gone}
-use Rattle.bl_order.specs.Now.{policy_at}
+use Rattle.bl_order.specs.Now.{policy_at, content_now}
 use Rattle.bl_order.specs.Order.{Entry, Task, Runs, Applies, accesses_of, is_rule}
-use Rattle.bl_order.specs.Past.{place, changed, is_done, answer_of, fault_of_task, deeds, content_of, earlier}
+use Rattle.bl_order.specs.Past.{place, changed, is_done, is_rule_done, may_alter, answer_of, fault_of_task, deeds, content_of, earlier}
 use Rattle.bl_order.specs.TheHeadline.{IsAllowedAt, IsFirstFaultOf, told_alone, AgreeUpTo, IsTheHeadline, IsTheHeadlineThroughout}
 use Rattle.bl_order.proofs.AtHandLaws.{rests_on_ended_places}
 use Rattle.bl_order.proofs.Conflicts.{or_left}
-use Rattle.bl_order.proofs.HeadlineProof.{done-no_fault, holds-reached, secure-held}
+use Rattle.bl_order.proofs.HeadlineProof.{done-no_fault, holds-reached, secure-held, present-held}
 use Rattle.bl_order.proofs.PlaceLaws.{place-lost, place-unnamed}
 use Rattle.bl_order.proofs.Places.{place-grown}
 use Rattle.bl_order.proofs.Present.{moves_on-reached}
@@ -186,13 +186,14 @@ headline-reached laws x r =
             ∙ idle_policy (policy_at x n) (past_at x n).subject (past_at x n).carried (past_at x n).task (past_at x n).answer denial h
             (denied_fault (is_lost x n) (fault_there x n) (past_at x n).task (would x n) denial h)
             ∙ sym (holds.at_ready n may);
-        contents = λ doc. moves.start_content n doc may;
+        contents = λ doc. moves.start_content n doc may ∙ ap (λ a. cond (is_rule_done a && may_alter (past_at x n).task doc) [] (content_now x doc)) h;
         order = refl;
       };
       told_as_alone = λ n lt hand lost agree. alone x r n lt hand lost agree;
       ended_stays = λ event needs n over. stays_ended x event sound needs n over;
       said_stays = λ event needs n lt over. past-step x event sound needs n lt over;
       secure = secure-held x sound holds.at_running;
+      present = present-held x sound holds.at_running;
     }
 
 pub headline-throughout : FaultLaws → (setup : Setup) (limit : ℕ) (events : List Event) → IsTrail (start setup limit) events → IsTheHeadlineThroughout setup limit events

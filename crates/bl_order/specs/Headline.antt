@@ -1,10 +1,10 @@
 -- What a trail leads to, and what holds of every such state.
-use Rattle.std.specs.Prelude.{◌≡◌, ℕ, ◌<◌, ◌≤◌, false, IsTrue, ◌⊎◌, List, length, if◌then◌else◌}
+use Rattle.std.specs.Prelude.{◌≡◌, ℕ, ◌<◌, ◌≤◌, false, IsTrue, ◌⊎◌, List, [], length, if◌then◌else◌}
 use Rattle.bl_work.specs.declared.work.Work.{Work}
 use Rattle.bl_work.specs.Effects.{after}
 use Rattle.bl_setup.specs.Setup.{Setup}
 use Rattle.bl_order.specs.Order.{accesses_of, is_declared}
-use Rattle.bl_order.specs.Past.{changed, may_alter}
+use Rattle.bl_order.specs.Past.{changed, may_alter, has_deleted}
 use Rattle.bl_order.specs.Machine.{State, Event, Opens, Admits, Starts, Ends, Loses, past_at, is_lost, has_ended, runs, MayStart, Needs, IsTrail, change, start, state_after}
 use Rattle.bl_order.specs.Now.{policy_at, policy_now, content_at, content_now, IsFirstToAlter}
 use Rattle.bl_order.specs.Laws.{IsClosed}
@@ -45,10 +45,10 @@ pub record Holds (x : State) : Type 0 where
 
 -- how the policy and the contents now move with each event
 pub record MovesOn (x : State) : Type 0 where
-  -- a start changes the policy as its place's answer says, and no content
+  -- a start changes the policy as its place's answer says, and no content but that of a document that its place deletes
   pub start_policy : (n : ℕ) → MayStart x n
       → policy_now (change x (Starts n)) ≡ changed (past_at x n).answer (past_at x n).task (past_at x n).subject (policy_now x)
-  pub start_content : (n doc : ℕ) → MayStart x n → content_now (change x (Starts n)) doc ≡ content_now x doc
+  pub start_content : (n doc : ℕ) → MayStart x n → content_now (change x (Starts n)) doc ≡ (if has_deleted (past_at x n) doc then [] else content_now x doc)
   -- an end changes no policy, and by the place's effects each document that it declares append or write
   pub end_policy : (n : ℕ) → IsTrue (runs x n) → policy_now (change x (Ends n)) ≡ policy_now x
   pub end_content : (n doc : ℕ) → IsTrue (runs x n)

@@ -1,8 +1,10 @@
 -- What is said of places, in the words of their answers, contents and children.
-use Rattle.std.specs.Prelude.{◌≡◌, ℕ, suc, ◌-◌, ◌<◌, ◌≤◌, Bool, true, false, ◌&&◌, ◌||◌, ◌==◌, List, [], ◌++◌, length, slice_index_or, Option, Some, None, slice_get}
+use Rattle.std.specs.Prelude.{◌≡◌, ℕ, suc, ◌-◌, ◌<◌, ◌≤◌, Bool, true, false, ◌&&◌, ◌||◌, ◌==◌, List, [], ◌++◌, length, slice_index_or, Option, Some, None, slice_get, All}
 use Rattle.bl_level.specs.Level.{join_of}
 use Rattle.bl_policy.specs.Policy.{current_of, lowest}
+use Rattle.bl_policy.specs.Properties.{IsPresent}
 use Rattle.bl_policy.specs.RuleEffect.{rule_makes, after_rule}
+use Rattle.bl_policy.specs.declared.access.Access.{Access}
 use Rattle.bl_policy.specs.declared.denial.Denial.{Denial}
 use Rattle.bl_policy.specs.declared.rule.Rule.{Rule}
 use Rattle.bl_work.specs.Effects.{after, children}
@@ -10,8 +12,8 @@ use Rattle.bl_work.specs.declared.answer.Answer.TheVariants.{RuleDone, Denied, L
 use Rattle.bl_work.specs.declared.work.Work.{Work}
 use Rattle.bl_setup.specs.Setup.{Setup}
 use Rattle.bl_setup.specs.declared.version.Version.TheVariants.{One, Two}
-use Rattle.bl_order.specs.Order.{Entry, Task, Applies, is_rule, conflict, Line, Child}
-use Rattle.bl_order.specs.Past.{place, policy_before, content_before, is_done, may_alter, child_task, deeds, fault_of_task, granted}
+use Rattle.bl_order.specs.Order.{Entry, Task, Applies, accesses_of, is_rule, conflict, Line, Child}
+use Rattle.bl_order.specs.Past.{place, policy_before, content_before, is_done, may_alter, has_deleted, child_task, deeds, fault_of_task, granted}
 
 -- the places of an order keep their records where more entries come
 abbrev pub KeepsPlaces : Setup → (ℕ → Bool) → List Entry → List Entry → Type 0
@@ -33,6 +35,10 @@ module _ (setup : Setup) (lost : ℕ → Bool) (order : List Entry) where
   abbrev pub wrote : ℕ → ℕ → Bool
   wrote doc n = is_done (place setup lost order n).answer && may_alter (place setup lost order n).task doc
 
+  -- the place wrote the document, or deleted it
+  abbrev pub wrote_or_deleted : ℕ → ℕ → Bool
+  wrote_or_deleted doc n = wrote doc n || has_deleted (place setup lost order n) doc
+
 -- A lost place answers so; another is denied with what the policy at its place has against it, or granted where that is
 -- nothing. What ran did its deeds on the contents at its place, and what did not run did nothing.
 pub record IsAnswered (setup : Setup) (lost : ℕ → Bool) (order : List Entry) (n : ℕ) : Type 0 where
@@ -46,14 +52,18 @@ pub record IsAnswered (setup : Setup) (lost : ℕ → Bool) (order : List Entry)
       → (place setup lost order n).effects ≡ deeds (place setup lost order n).task (λ doc. content_before setup lost order doc n)
   pub nothing_done : is_done (place setup lost order n).answer ≡ false → (place setup lost order n).effects ≡ []
 
--- The content at a place is the setup's where no place before it wrote the document; otherwise the last place that did has
--- changed what stood there at its own place.
+-- The content at a place is the setup's where no place before it wrote the document or deleted it. Otherwise the last place that did so has
+-- changed what stood there at its own place, where it wrote, and left nothing, where it deleted.
 pub record LooksBack (setup : Setup) (lost : ℕ → Bool) (order : List Entry) (doc n : ℕ) : Type 0 where
-  pub untouched : ((k : ℕ) → k < n → wrote setup lost order doc k ≡ false)
+  pub untouched : ((k : ℕ) → k < n → wrote_or_deleted setup lost order doc k ≡ false)
       → content_before setup lost order doc n ≡ slice_index_or setup.contents doc []
-  pub last : (m : ℕ) → m < n → wrote setup lost order doc m ≡ true → ((k : ℕ) → m < k → k < n → wrote setup lost order doc k ≡ false)
+  pub last_wrote : (m : ℕ) → m < n → wrote setup lost order doc m ≡ true
+      → ((k : ℕ) → m < k → k < n → wrote_or_deleted setup lost order doc k ≡ false)
       → content_before setup lost order doc n
       ≡ after (content_before setup lost order doc m) (place setup lost order m).effects doc
+  pub last_deleted : (m : ℕ) → m < n → has_deleted (place setup lost order m) doc ≡ true
+      → ((k : ℕ) → m < k → k < n → wrote_or_deleted setup lost order doc k ≡ false)
+      → content_before setup lost order doc n ≡ []
 
 -- How the policy goes on from place to place: a rule changes it as rules do, one that is done makes its change, and what is
 -- refused, lost or no rule changes nothing.
@@ -77,6 +87,16 @@ RulesStandAlone = (rule task : Task) → is_rule rule ≡ true → (conflict rul
 abbrev pub LeavesThePolicy : Setup → (ℕ → Bool) → List Entry → ℕ → Type 0
 LeavesThePolicy setup lost order n =
     ((k : ℕ) → k < n → is_rule (place setup lost order k).task ≡ false) → policy_before setup lost order n ≡ setup.policy
+
+-- a document that is not present at a place is empty there
+abbrev pub AbsentIsEmpty : Setup → (ℕ → Bool) → List Entry → ℕ → ℕ → Type 0
+AbsentIsEmpty setup lost order doc n = ¬ IsPresent (policy_before setup lost order n) doc → content_before setup lost order doc n ≡ []
+
+-- where a place runs, each document that it declares is present there
+abbrev pub UsesPresent : Setup → (ℕ → Bool) → List Entry → ℕ → Type 0
+UsesPresent setup lost order n =
+    is_done (place setup lost order n).answer ≡ true
+    → All (λ (a : Access). IsPresent (policy_before setup lost order n) a.doc) (accesses_of (place setup lost order n).task)
 
 -- A child speaks for its parent's subject, runs the behaviour that its parent's spawn of its number named, and carries the level at which its
 -- parent ran with what that carried; in version 1 it carries nothing.

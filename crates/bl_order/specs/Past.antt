@@ -7,6 +7,8 @@ use Rattle.bl_policy.specs.FirstFault.{first_fault}
 use Rattle.bl_policy.specs.RuleEffect.{rule_fault, after_rule}
 use Rattle.bl_policy.specs.declared.access.Access.{Access}
 use Rattle.bl_policy.specs.declared.denial.Denial.{Denial}
+use Rattle.bl_policy.specs.declared.rule.Rule.{Rule}
+use Rattle.bl_policy.specs.declared.rule.Rule.TheVariants.{Give, Rescind, Current, Classify, Create, Delete}
 use Rattle.bl_work.specs.Effects.{Effect, effects_of, after, outputs, children}
 use Rattle.bl_work.specs.declared.work.Work.{Work}
 use Rattle.bl_work.specs.declared.work.Work.TheVariants as work
@@ -43,6 +45,13 @@ is_done RuleDone = false
 is_done (Denied denial) = false
 is_done Lost = false
 
+-- whether a rule made its change
+abbrev pub is_rule_done : Answer → Bool
+is_rule_done (Done shown) = false
+is_rule_done RuleDone = true
+is_rule_done (Denied denial) = false
+is_rule_done Lost = false
+
 -- whether a place is answered as lost
 abbrev pub was_lost : Answer → Bool
 was_lost (Done shown) = false
@@ -61,13 +70,35 @@ abbrev pub policy_of : Setup → List Past → SecurityPolicy
 policy_of setup [] = setup.policy
 policy_of setup (past ∷ earlier) = changed past.answer past.task past.subject (policy_of setup earlier)
 
--- whether a task is to alter a document: it declares the document append or write
-abbrev pub may_alter : Task → ℕ → Bool
-may_alter task doc = is_altered (accesses_of task) doc
+-- whether a rule deletes the document
+abbrev pub deletes : Rule → ℕ → Bool
+deletes (Give subject doc mode) o = false
+deletes (Rescind subject doc mode) o = false
+deletes (Current level) o = false
+deletes (Classify doc level) o = false
+deletes (Create doc) o = false
+deletes (Delete doc) o = doc == o
 
--- what a place leaves of a content: where it ran and declares the document append or write, the content as its effects change it
+-- whether a task is to alter a document: a behaviour that declares the document append or write, or a rule that deletes it
+abbrev pub may_alter : Task → ℕ → Bool
+may_alter (Runs script index) doc = is_altered (accesses_of (Runs script index)) doc
+may_alter (Applies rule) doc = deletes rule doc
+
+-- what an answer leaves of a content that its task is to alter: a behaviour that ran leaves it as its effects change it, a deletion that is
+-- done leaves it empty, and what is denied or lost leaves it as it was
+abbrev pub left_by : Answer → List Effect → ℕ → List ℕ → List ℕ
+left_by (Done shown) effects doc content = after content effects doc
+left_by RuleDone effects doc content = []
+left_by (Denied denial) effects doc content = content
+left_by Lost effects doc content = content
+
+-- what a place leaves of a content
 abbrev pub leaves : Past → ℕ → List ℕ → List ℕ
-leaves past doc content = if is_done past.answer && may_alter past.task doc then after content past.effects doc else content
+leaves past doc content = if may_alter past.task doc then left_by past.answer past.effects doc content else content
+
+-- whether a place deleted the document: it is a rule that does, and it is done
+abbrev pub has_deleted : Past → ℕ → Bool
+has_deleted past doc = is_rule_done past.answer && may_alter past.task doc
 
 -- The content that these records make: the setup's, changed in order by what each of these places leaves of it.
 abbrev pub content_of : Setup → List Past → ℕ → List ℕ

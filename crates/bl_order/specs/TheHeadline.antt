@@ -1,9 +1,9 @@
--- The headline, of a state that a trail leads to: one field for each phrase of its sentence.
+-- The headline, of a state that a trail leads to: one field for each phrase of its sentence, and beside them that what is held is present.
 use Rattle.std.specs.Prelude.{◌≡◌, ◌↔◌, ◌⊎◌, ℕ, suc, ◌<◌, ◌≤◌, Bool, false, IsTrue, length, map, take, All, List, ◌++◌}
 use Rattle.bl_level.specs.Level.{SecurityLevel}
 use Rattle.bl_policy.specs.FirstFault.{IsFirstFault}
 use Rattle.bl_policy.specs.Policy.{SecurityPolicy}
-use Rattle.bl_policy.specs.Properties.{IsSecure, IsGranted}
+use Rattle.bl_policy.specs.Properties.{IsPresent, IsSecure, IsGranted}
 use Rattle.bl_policy.specs.RuleEffect.{IsRuleFault}
 use Rattle.bl_policy.specs.declared.access.Access.{Access}
 use Rattle.bl_policy.specs.declared.denial.Denial.{Denial}
@@ -68,6 +68,8 @@ pub record IsTheHeadline (x : State) : Type 0 where
       → past_at (change x event) n ≡ past_at x n
   -- each access that is held has the three properties, under the policy now
   pub secure : All (λ (h : Hold). IsSecure (policy_now x) h.subject h.doc h.mode) (held x)
+  -- and is of a document that is present
+  pub present : All (λ (h : Hold). IsPresent (policy_now x) h.doc) (held x)
 
 -- at every moment of a run: of the state that each first part of its events leads to
 abbrev pub IsTheHeadlineThroughout : Setup → ℕ → List Event → Type 0

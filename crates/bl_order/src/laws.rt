@@ -1,13 +1,15 @@
 //! What holds of the admission order and of the machine over it, whoever runs it.
-ghost use Rattle.std.specs.Prelude.{◌≡◌, ◌↔◌, ℕ, ◌+◌, ◌<◌, ◌≤◌, All, Bool, IsTrue, List, length, map, slice_get, Some};
+ghost use Rattle.std.specs.Prelude.{◌≡◌, ◌↔◌, ℕ, ◌+◌, ◌<◌, ◌≤◌, All, Bool, IsTrue, List, [], length, map, slice_get, Some};
+ghost use Rattle.bl_policy.specs.Properties.{IsPresent};
 ghost use Rattle.bl_order.specs.AtHand.{ParentsHaveEnded, RestsOnEndedPlaces};
 ghost use Rattle.bl_order.specs.Claims.{AreFewAndApart, numbered_claims, numbers_conflict};
 ghost use Rattle.bl_order.specs.Known.{IsAsked, KnowsWork};
 ghost use Rattle.bl_order.specs.Headline.{Holds, IsReached, MovesOn};
-ghost use Rattle.bl_order.specs.Laws.{FollowsItsParent, IsAnswered, IsClosed, KeepsAnswers, KeepsPlaces, LeavesThePolicy, LineCarriesNothing, LooksBack, RestsOnEnded, RestsOnLossesBefore, RulesMakeThePolicy, RulesStandAlone, RunsAtItsLevel};
+ghost use Rattle.bl_order.specs.Laws.{AbsentIsEmpty, FollowsItsParent, IsAnswered, IsClosed, KeepsAnswers, KeepsPlaces, LeavesThePolicy, LineCarriesNothing, LooksBack, RestsOnEnded, RestsOnLossesBefore, RulesMakeThePolicy, RulesStandAlone, RunsAtItsLevel, UsesPresent};
 ghost use Rattle.bl_order.specs.Lineage.{KeepsItsLineage};
 ghost use Rattle.bl_order.specs.Machine.{Event, IsTrail, MayStart, Needs, State, change, children_at, may_start, past_at, runs, start};
 ghost use Rattle.bl_order.specs.Order.{Child, Entry, Task, accesses_of, conflict, unnamed};
+ghost use Rattle.bl_order.specs.Now.{content_now, policy_now};
 ghost use Rattle.bl_order.specs.Past.{place};
 ghost use Rattle.bl_order.specs.Room.{HasRoom, IsBehaviourOrRule};
 ghost use Rattle.bl_order.specs.TheHeadline.{IsTheHeadline, IsTheHeadlineThroughout};
@@ -49,10 +51,24 @@ pub fn answers_keep_their_frame()
         IsClosed setup lost order ended → KeepsAnswers setup order ended lost }
 {}
 
-/// The content at a place is what the last place before it that wrote the document left there.
+/// The content at a place is what the last place before it that wrote the document, or deleted it, left there.
 pub fn contents_look_back()
     ensures { (setup : Setup) (lost : ℕ → Bool) (order : List Entry) (doc n : ℕ) →
         LooksBack setup lost order doc n }
+{}
+
+/// A document that is not present at a place is empty there, and one that is not present now is empty now.
+pub fn absent_documents_are_empty()
+    ensures places { (setup : Setup) (lost : ℕ → Bool) (order : List Entry) (doc n : ℕ) → Agree setup →
+        AbsentIsEmpty setup lost order doc n }
+    ensures now { (x : State) (doc : ℕ) → IsReached x → Agree x.setup →
+        ¬ IsPresent (policy_now x) doc → content_now x doc ≡ [] }
+{}
+
+/// Where a behaviour runs, each document that it declares is present.
+pub fn used_documents_are_present()
+    ensures { (setup : Setup) (lost : ℕ → Bool) (order : List Entry) (n : ℕ) →
+        UsesPresent setup lost order n }
 {}
 
 /// The policy goes on from place to place by the rules that are not lost, each as rules change a policy.
