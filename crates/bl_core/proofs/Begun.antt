@@ -1,11 +1,9 @@
 -- A core in which nothing has happened yet.
-use Rattle.std.proofs.Common.{◌≡◌, ℕ, ◌+◌, ◌<◌, ◌≤◌, [], length, get_or, ap, sym, ◌∙◌, subst, arith, true≢false}
+use Rattle.std.proofs.Common.{◌≡◌, ℕ, ◌<◌, [], length, get_or, ap, sym, ◌∙◌, subst, arith, true≢false}
 use Rattle.std.specs.Prelude.{map}
-use Rattle.std.specs.Vec.{vec_capacity}
 use Rattle.std.proofs.lemmas.List.{length-map, get_or-map}
 use Rattle.bl_policy.specs.Policy.{SecurityPolicy}
-use Rattle.bl_setup.specs.Agreement.{Agree}
-use Rattle.bl_order.specs.Machine.{State, start, most_sessions}
+use Rattle.bl_order.specs.Machine.{State, start}
 use Rattle.bl_order.proofs.Reached.{reached-first}
 use Rattle.bl_place.specs.Places.{entry_of, phase_of}
 use Rattle.bl_place.specs.Shelves.{new_shelf, shelf_in}

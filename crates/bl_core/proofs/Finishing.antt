@@ -13,8 +13,8 @@ use Rattle.bl_grant.specs.Loaned.{Back}
 use Rattle.bl_eval.specs.Loan.{backs, part_of, effects_on}
 use Rattle.bl_order.specs.Headline.{IsReached}
 use Rattle.bl_order.specs.Room.{IsBehaviourOrRule}
-use Rattle.bl_order.specs.Order.{Runs, accesses_of, is_altered, is_rule}
-use Rattle.bl_order.specs.Past.{Past, is_done}
+use Rattle.bl_order.specs.Order.{Task, Runs, Applies, accesses_of, is_altered, is_rule}
+use Rattle.bl_order.specs.Past.{Past, is_done, may_alter}
 use Rattle.bl_order.specs.Machine.{State, Ended, Gone, Ends, Loses, change, with_phase, past_at, runs, is_over, is_gone, is_lost, phase_at, children_at}
 use Rattle.bl_order.specs.Now.{content_at, content_now}
 use Rattle.bl_order.proofs.Sound.{IsSound}
@@ -58,6 +58,11 @@ behaviour-runs x n done = go (is_rule (past_at x n).task) refl
     go : (b : Bool) → is_rule (past_at x n).task ≡ b → b ≡ false
     go false e = refl
     go true e = absurd (true≢false (sym done ∙ rule_never_runs x n e))
+
+-- a behaviour is to alter what it declares so
+alters-behaviour : (t : Task) → is_rule t ≡ false → (o : ℕ) → may_alter t o ≡ is_altered (accesses_of t) o
+alters-behaviour (Runs script index) h o = refl
+alters-behaviour (Applies rule) h o = absurd (true≢false h)
 
 module _ (c : Inside) (k : Keeps c) (n : ℕ) (r : runs (state_of c) n ≡ true) where
   sound : IsSound (state_of c)
@@ -161,6 +166,8 @@ module _ (c : Inside) (k : Keeps c) (n : ℕ) (r : runs (state_of c) n ≡ true)
         (ap length shelves ∙ length-put_back c.shelves.items (backs n (part_of (loan_at (state_of c) n)).accesses (loan_at (state_of c) n).inputs (effects_on (loan_at (state_of c) n))))
         (λ o lt. ap (λ (h : List Shelf). shelf_in h o) shelves ∙ back-read (effects_on (loan_at (state_of c) n)) o lt)
         (λ o lt. (moves_on-reached (state_of c) k.reached).end_content n o r
+        ∙ ap (λ (b : Bool). cond b (after (content_now (state_of c) o) (past_at (state_of c) n).effects o) (content_now (state_of c) o))
+        (alters-behaviour (past_at (state_of c) n).task (behaviour-runs (state_of c) n done) o)
         ∙ ap (λ (es : List Effect). cond (is_altered (accesses_of (past_at (state_of c) n).task) o) (after (content_now (state_of c) o) es o) (content_now (state_of c) o)) both.1)
         k.shelved
 

@@ -3,10 +3,10 @@ use Rattle.std.proofs.Common.{◌≡◌, ℕ, List, [], true, ap, sym, ◌∙◌
 use Rattle.bl_work.specs.Effects.{children, outputs}
 use Rattle.bl_order.specs.Machine.{State, runs}
 use Rattle.bl_grant.specs.Loaned.{Loaned, back_of}
-use Rattle.bl_grant.specs.Loans.{lent_of}
+use Rattle.bl_grant.specs.Loans.{lent_of, loans}
 use Rattle.std.specs.Prelude.{map}
 use Rattle.bl_eval.specs.Loan.{Loan, AreFor, backs, part_of, effects_on}
-use Rattle.bl_core.specs.Answers.{loan_at}
+use Rattle.bl_core.specs.Answers.{grants_at, loan_at}
 use Rattle.bl_core.specs.View.{state_of}
 use Rattle.bl_core.specs.declared.machine.Core.TheInside.{Inside}
 use Rattle.bl_core.proofs.Backs.{backs-unchanged}
@@ -30,11 +30,17 @@ module _ (c : Inside) (x : State) (is : state_of c ≡ x) (loan : Loan) (n : ℕ
   pub children-here : loan ≡ loan_at x loan.entry → children (effects_on loan) ≡ children (effects_on (loan_at (state_of c) n))
   children-here e = ap (λ (l : Loan). children (effects_on l)) (lent-here e)
 
-  -- grants as they were lent give back what was lent
-  pub unrun-here : (g : List Loaned) → loan ≡ loan_at x loan.entry → loan.inputs ≡ lent_of g → AreFor n (part_of loan).accesses g
-      → map back_of g ≡ backs n (part_of (loan_at (state_of c) n)).accesses (loan_at (state_of c) n).inputs []
-  unrun-here g e inputs for =
-      ap (map back_of) for.lent
-      ∙ backs-unchanged n (part_of loan).accesses (lent_of g)
-      ∙ ap (λ (cs : List (List ℕ)). backs n (part_of loan).accesses cs []) (sym inputs)
-      ∙ ap (λ (l : Loan). backs n (part_of l).accesses l.inputs []) (lent-here e)
+-- the grants of what a place was lent are those of the place
+pub grants-here : (x : State) (loan : Loan) (n : ℕ) → loan.entry ≡ n → (g : List Loaned) → loan ≡ loan_at x loan.entry → loan.inputs ≡ lent_of g
+    → AreFor n (part_of loan).accesses g → g ≡ grants_at x n
+grants-here x loan n entry g e inputs for =
+    for.lent
+    ∙ ap (λ (cs : List (List ℕ)). loans n (part_of loan).accesses cs) (sym inputs)
+    ∙ ap (λ (l : Loan). loans n (part_of l).accesses l.inputs) (e ∙ ap (loan_at x) entry)
+
+-- the grants that a place is lent give back what was lent
+pub backs-granted : (c : Inside) (x : State) → state_of c ≡ x → (n : ℕ) (g : List Loaned) → g ≡ grants_at x n
+    → map back_of g ≡ backs n (part_of (loan_at (state_of c) n)).accesses (loan_at (state_of c) n).inputs []
+backs-granted c x is n g e =
+    ap (map back_of) (e ∙ ap (λ (y : State). grants_at y n) (sym is))
+    ∙ backs-unchanged n (part_of (loan_at (state_of c) n)).accesses (loan_at (state_of c) n).inputs

@@ -8,6 +8,7 @@ pub mod Ending
 pub mod Written
 pub mod Starting
 pub mod Closing
+pub mod Started
 pub mod Reading
 pub mod Lending
 pub mod Running

@@ -1,11 +1,13 @@
 -- What the calls that only look read off the fields.
-use Rattle.std.proofs.Common.{◌≡◌, ℕ, ◌<◌, true, [], length, get_or, ap, sym, ◌∙◌, subst, arith}
-use Rattle.std.specs.Prelude.{All}
+use Rattle.std.proofs.Common.{◌≡◌, ℕ, ◌<◌, ◌⊎◌, inl, inr, true, false, [], length, get_or, ap, sym, ◌∙◌, subst, arith, true≢false}
+use Rattle.std.specs.Prelude.{◌==◌, All}
+use Rattle.std.proofs.lemmas.Bool.Decides.{eqb_tells}
 use Rattle.std.proofs.lemmas.List.{get_or_read}
 use Rattle.std.proofs.lemmas.List.Elements.{All-get_or}
 use Rattle.bl_policy.specs.RuleEffect.{IsRuleOf, HasIdsBelow}
 use Rattle.bl_policy.specs.declared.access.Access.{Access}
 use Rattle.bl_policy.specs.declared.rule.Rule.{Rule}
+use Rattle.bl_policy.specs.declared.rule.Rule.TheVariants as rules
 use Rattle.bl_work.specs.Statements.{Part, no_part}
 use Rattle.bl_work.specs.declared.answer.Answer.{Answer}
 use Rattle.bl_work.specs.declared.work.Work.{Work}
@@ -13,7 +15,7 @@ use Rattle.bl_work.specs.declared.work.Work.TheVariants as works
 use Rattle.bl_setup.specs.Setup.{Setup}
 use Rattle.bl_order.specs.Known.{KnowsWork}
 use Rattle.bl_order.specs.Order.{Applies, accesses_of}
-use Rattle.bl_order.specs.Past.{first_task, child_task}
+use Rattle.bl_order.specs.Past.{first_task, child_task, deletes}
 use Rattle.bl_order.specs.Machine.{MayStart, past_at}
 use Rattle.bl_order.specs.Now.{IsFirstToAlter, content_at}
 use Rattle.bl_order.proofs.HeadlineProof.{holds-reached}
@@ -33,6 +35,19 @@ pub accesses-known : (setup : Setup) (w : Work) (i : ℕ) → KnowsWork setup w 
 accesses-known setup (works.Behaviour script) i knows lt =
     All-get_or (λ (part : Part). All (λ (a : Access). a.doc < length setup.policy.documents) part.accesses) script i no_part lt knows
 accesses-known setup (works.Rule rule) i knows lt = λ j d l. absurd (omega (arith, l))
+
+-- the document that a rule deletes is one that it names
+deleted_below : (subjects documents : ℕ) (rule : Rule) (doc : ℕ) → HasIdsBelow subjects documents rule → deletes rule doc ≡ true → doc < documents
+deleted_below subjects documents (rules.Give s o m) doc ids del = absurd (true≢false (sym del))
+deleted_below subjects documents (rules.Rescind s o m) doc ids del = absurd (true≢false (sym del))
+deleted_below subjects documents (rules.Current level) doc ids del = absurd (true≢false (sym del))
+deleted_below subjects documents (rules.Classify o level) doc ids del = absurd (true≢false (sym del))
+deleted_below subjects documents (rules.Create o) doc ids del = absurd (true≢false (sym del))
+deleted_below subjects documents (rules.Delete o) doc ids del = go (eqb_tells o doc)
+  where
+    go : (((o == doc) ≡ true) × (o ≡ doc)) ⊎ (((o == doc) ≡ false) × (o ≡ doc → ⊥)) → doc < documents
+    go (inl q) = subst (λ (j : ℕ). j < documents) q.1 ids
+    go (inr q) = absurd (true≢false (sym del ∙ q.0))
 
 module _ (c : Inside) (k : Keeps c) where
   -- there are as many shelves as documents
@@ -70,6 +85,13 @@ module _ (c : Inside) (k : Keeps c) where
       go : (w : Work) (i : ℕ) → KnowsWork c.setup w → child_task (first_task w) i ≡ Applies rule → IsRuleOf c.setup.policy rule
       go (works.Behaviour script) i knows e = absurd (cc)
       go (works.Rule r) i knows e = subst (IsRuleOf c.setup.policy) (same_rule r rule e) knows
+
+  -- the document that a rule deletes has a shelf
+  pub shelves-deleted : (n : ℕ) (rule : Rule) → n < length c.places.items → (past_at (state_of c) n).task ≡ Applies rule → (doc : ℕ) → deletes rule doc ≡ true
+      → doc < length c.shelves.items
+  shelves-deleted n rule lt is doc del =
+      let below : doc < length c.policy.documents = deleted_below (length c.policy.subjects) (length c.policy.documents) rule doc (rule-of n rule lt is) del in
+      omega (arith, below, k.documents, shelves-documents)
 
   -- a shelf has the content at the first place that is still to alter its document
   pub content-first : (place doc n : ℕ) (s : Shelf) → place ≡ doc → doc < length c.setup.contents → s ≡ get_or c.shelves.items place s → IsFirstToAlter (state_of c) doc n

@@ -1,15 +1,16 @@
 -- A behaviour that may start runs.
-use Rattle.std.proofs.Common.{◌≡◌, ℕ, ◌+◌, false, true, cond, Bool, List, [], length, get_or, set, refl, ap, sym, ◌∙◌, subst, arith}
+use Rattle.std.proofs.Common.{◌≡◌, ℕ, ◌+◌, false, true, cond, ◌&&◌, Bool, List, [], length, get_or, set, refl, ap, sym, ◌∙◌, subst, arith}
 use Rattle.std.specs.Vec.{with_item, with_items}
 use Rattle.bl_policy.specs.declared.access.Access.{Access}
 use Rattle.bl_work.specs.declared.answer.Answer.{Answer}
 use Rattle.bl_order.specs.Order.{accesses_of, is_rule}
-use Rattle.bl_order.specs.Past.{is_done, changed}
+use Rattle.bl_order.specs.Past.{is_done, changed, may_alter}
 use Rattle.bl_order.specs.Machine.{Running, Ended, MayStart, Starts, change, past_at, phase_at, is_running}
+use Rattle.bl_order.specs.Now.{content_now}
 use Rattle.bl_order.proofs.Reached.{sound-reached}
 use Rattle.bl_order.proofs.StateLaws.{changed-skips}
 use Rattle.bl_order.proofs.Trails.{moves-start}
-use Rattle.bl_order.proofs.Present.{content_now-started}
+use Rattle.bl_order.proofs.Present.{moves_on-reached}
 use Rattle.bl_place.specs.Places.{place_in, phase_of, task_in}
 use Rattle.bl_place.specs.Shelves.{marked}
 use Rattle.bl_place.specs.Queueing.{QueuesTell}
@@ -24,7 +25,7 @@ use Rattle.bl_core.specs.declared.machine.Core.TheInside.{Inside}
 use Rattle.bl_core.proofs.Grown.{Same}
 use Rattle.bl_core.proofs.Written.{Written, append_nil, stands_at, same-read}
 use Rattle.bl_core.proofs.Queueing.{tell-set}
-use Rattle.bl_core.proofs.Starting.{there-may, state-started, kept-started, waiting_is_not_running}
+use Rattle.bl_core.proofs.Starting.{there-may, state-started, kept-started, runs-no_rule, waiting_is_not_running}
 use Rattle.bl_core.proofs.Shelving.{shelved-marked, length-marked}
 use Rattle.bl_core.proofs.Lending.{written_items}
 
@@ -63,13 +64,19 @@ module _ (c : Inside) (k : Keeps c) (n : ℕ) (s : Place) (may : MayStart (state
   policy : c.policy ≡ changed (past_at (state_of c) n).answer (past_at (state_of c) n).task (past_at (state_of c) n).subject c.policy
   policy = sym (changed-skips (past_at (state_of c) n).answer (past_at (state_of c) n).task (past_at (state_of c) n).subject c.policy behaviour)
 
+  -- no content changes
+  content : (o : ℕ) → content_now (change (state_of c) (Starts n)) o ≡ content_now (state_of c) o
+  content o =
+      (moves_on-reached (state_of c) k.reached).start_content n o may
+      ∙ ap (λ (b : Bool). cond (b && may_alter (past_at (state_of c) n).task o) [] (content_now (state_of c) o)) (runs-no_rule (past_at (state_of c) n).answer done)
+
   shelved : AreShelved (change (state_of c) (Starts n)) (with_items c.shelves h).items
   shelved =
       subst (AreShelved (change (state_of c) (Starts n))) (sym lent_items)
       (shelved-marked (state_of c) (change (state_of c) (Starts n)) n (cond (is_done (past_at (state_of c) n).answer) Running Ended) (sound-reached (state_of c) k.reached)
       (moves-start (state_of c) (sound-reached (state_of c) k.reached) n may) (waiting_is_not_running (phase_at (state_of c) n) may.waits)
       (ap (λ (b : Bool). is_running (cond b Running Ended)) done) xs (for ∙ ap accesses_of (sym (k.told n (there-may c n may)).task))
-      c.shelves.items (λ o. content_now-started (state_of c) n o (sound-reached (state_of c) k.reached) may) k.shelved)
+      c.shelves.items content k.shelved)
 
   pub run-state : state_of (running c n s q h) ≡ change (state_of c) (Starts n)
   run-state =

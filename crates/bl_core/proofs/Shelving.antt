@@ -10,7 +10,7 @@ use Rattle.bl_order.specs.Now.{content_now}
 use Rattle.bl_order.proofs.Sound.{IsSound}
 use Rattle.bl_order.proofs.Steps.{Moves, equal_self, not_equal}
 use Rattle.bl_order.proofs.Trails.{within}
-use Rattle.bl_place.specs.Shelves.{new_shelf, shelf_in, content_in, mark_one, marked}
+use Rattle.bl_place.specs.Shelves.{AreEmptied, emptied, new_shelf, shelf_in, content_in, mark_one, marked}
 use Rattle.bl_core.specs.Keeps.{IsAway, AreShelved}
 use Rattle.bl_place.specs.declared.shelf.Shelf.{Shelf}
 use Rattle.bl_core.proofs.Grown.{equal_or_not}
@@ -100,16 +100,30 @@ module _ (x y : State) (n : ℕ) (p : Phase) (sound : IsSound x) (moves : Moves 
     runs_same m (inl e) = ap (runs y) e ∙ runs_it ∙ idle ∙ sym was ∙ ap (runs x) (sym e)
     runs_same m (inr ne) = runs_other m ne
 
-    pub shelved-idle : (h : List Shelf) → ((o : ℕ) → content_now y o ≡ content_now x o) → AreShelved x h → AreShelved y h
-    shelved-idle h same s = record {
-      contents = λ o lt. s.contents o lt ∙ sym (same o);
+    pub shelved-emptied : (these : ℕ → Bool) (h h' : List Shelf) → AreEmptied these h h' → ((o : ℕ) → content_now y o ≡ cond (these o) [] (content_now x o)) → AreShelved x h → AreShelved y h'
+    shelved-emptied these h h' e now s = record {
+      contents = λ o lt. contents o (here o lt) (these o) (e.each o) (now o);
       away = λ o lt is.
-          let q : IsAway x o = s.away o lt is in
+          let q : IsAway x o = s.away o (here o lt) (sym (lent o (these o) (e.each o)) ∙ is) in
           (q.0, runs_same q.0 (equal_or_not q.0 n) ∙ q.1, altered-same q.0 o (within x sound q.0 q.1) ∙ q.2);
       home = λ o lt is m r.
           let r' : runs x m ≡ true = sym (runs_same m (equal_or_not m n)) ∙ r in
-          altered-same m o (within x sound m r') ∙ s.home o lt is m r';
+          altered-same m o (within x sound m r') ∙ s.home o (here o lt) (sym (lent o (these o) (e.each o)) ∙ is) m r';
     }
+      where
+        here : (o : ℕ) → o < length h' → o < length h
+        here o lt = omega (arith, lt, e.as_many)
+
+        contents : (o : ℕ) → o < length h → (b : Bool) → shelf_in h' o ≡ cond b (emptied (shelf_in h o)) (shelf_in h o) → content_now y o ≡ cond b [] (content_now x o) → content_in h' o ≡ content_now y o
+        contents o lt true i f = ap (λ (v : Shelf). v.content) i ∙ sym f
+        contents o lt false i f = ap (λ (v : Shelf). v.content) i ∙ s.contents o lt ∙ sym f
+
+        lent : (o : ℕ) (b : Bool) → shelf_in h' o ≡ cond b (emptied (shelf_in h o)) (shelf_in h o) → (shelf_in h' o).lent ≡ (shelf_in h o).lent
+        lent o true i = ap (λ (v : Shelf). v.lent) i
+        lent o false i = ap (λ (v : Shelf). v.lent) i
+
+    pub shelved-idle : (h : List Shelf) → ((o : ℕ) → content_now y o ≡ content_now x o) → AreShelved x h → AreShelved y h
+    shelved-idle h same s = shelved-emptied (λ o. false) h h (record { as_many = refl; each = λ o. refl }) same s
 
   -- a place that did not run runs: what it alters is lent
   module _ (was : runs x n ≡ false) (running : is_running p ≡ true) (xs : List Access) (are : xs ≡ accesses_of (past_at x n).task) where

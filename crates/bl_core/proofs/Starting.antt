@@ -9,7 +9,7 @@ use Rattle.bl_work.specs.Effects.{Effect}
 use Rattle.bl_work.specs.declared.answer.Answer.{Answer}
 use Rattle.bl_work.specs.declared.answer.Answer.TheVariants as answers
 use Rattle.bl_order.specs.Order.{Task, Runs, Applies, is_rule}
-use Rattle.bl_order.specs.Past.{Past, is_done, changed, fault_of_task, answer_of}
+use Rattle.bl_order.specs.Past.{Past, is_done, is_rule_done, has_deleted, changed, fault_of_task, answer_of}
 use Rattle.bl_order.specs.Machine.{Phase, Waiting, Running, Ended, Gone, MayStart, Starts, Loses, change, with_phase, past_at, is_lost, is_running, is_waiting, is_gone, phase_at}
 use Rattle.bl_order.specs.Now.{policy_at}
 use Rattle.bl_order.proofs.Sound.{IsSound}
@@ -17,19 +17,21 @@ use Rattle.bl_order.proofs.Reached.{sound-reached}
 use Rattle.bl_order.proofs.HeadlineProof.{holds-reached}
 use Rattle.bl_order.proofs.Steps.{Moves, equal_self, waiting_is_not_over}
 use Rattle.bl_order.proofs.Trails.{moves-start, moves-lost, past-started}
-use Rattle.bl_order.proofs.Present.{policy_now-started, policy_now-lost, content_now-started, moves_on-reached, lost-answer}
+use Rattle.bl_order.proofs.Present.{policy_now-started, policy_now-lost, moves_on-reached, lost-answer}
 use Rattle.bl_place.specs.Places.{place_in, phase_of}
+use Rattle.bl_place.specs.Shelves.{AreEmptied}
 use Rattle.bl_core.specs.View.{state_of}
 use Rattle.bl_core.specs.Weights.{ruled}
 use Rattle.bl_core.specs.Keeps.{Keeps, AreShelved}
 use Rattle.bl_place.specs.declared.place.Place.{Place}
 use Rattle.bl_place.specs.declared.place.Stand.TheVariants as stands
+use Rattle.bl_place.specs.declared.shelf.Shelf.{Shelf}
 use Rattle.bl_core.specs.declared.machine.Core.TheInside.{Inside}
 use Rattle.bl_core.proofs.Grown.{Same}
 use Rattle.bl_core.proofs.Views.{length-order}
 use Rattle.bl_core.proofs.Moved.{kept-moved}
 use Rattle.bl_core.proofs.Written.{Written, append_nil, state-written, moved-written}
-use Rattle.bl_core.proofs.Shelving.{shelved-idle}
+use Rattle.bl_core.proofs.Shelving.{shelved-emptied, shelved-idle}
 
 pub waiting_is_not_running : (p : Phase) → is_waiting p ≡ true → is_running p ≡ false
 waiting_is_not_running Waiting h = refl
@@ -76,12 +78,13 @@ module _ (c d : Inside) (n : ℕ) (t : Place) (w : Written c d n t []) (k : Keep
         subjects documents as_many shelved refl)
 
   -- what a start that does not run leaves on the shelves
-  pub shelved-ended : is_done (past_at (state_of c) n).answer ≡ false → AreShelved (change (state_of c) (Starts n)) c.shelves.items
-  shelved-ended not_done =
-      shelved-idle (state_of c) (change (state_of c) (Starts n)) n (cond (is_done (past_at (state_of c) n).answer) Running Ended) sound
+  pub shelved-ended : (h : List Shelf) → is_done (past_at (state_of c) n).answer ≡ false → AreEmptied (has_deleted (past_at (state_of c) n)) c.shelves.items h
+      → AreShelved (change (state_of c) (Starts n)) h
+  shelved-ended h not_done emptied =
+      shelved-emptied (state_of c) (change (state_of c) (Starts n)) n (cond (is_done (past_at (state_of c) n).answer) Running Ended) sound
       (moves-start (state_of c) sound n may) (waiting_is_not_running (phase_at (state_of c) n) may.waits)
-      (ap (λ (b : Bool). is_running (cond b Running Ended)) not_done) c.shelves.items
-      (λ o. content_now-started (state_of c) n o sound may) k.shelved
+      (ap (λ (b : Bool). is_running (cond b Running Ended)) not_done) (has_deleted (past_at (state_of c) n)) c.shelves.items h emptied
+      (λ o. (moves_on-reached (state_of c) k.reached).start_content n o may) k.shelved
 
   -- ---- it is lost
   module _ (lost : t.stand ≡ stands.Ended answers.Lost) (policy : d.policy ≡ c.policy) (shelves : d.shelves.items ≡ c.shelves.items) where
@@ -169,3 +172,10 @@ ruled-ends None = refl
 pub changed-ruled : (f : Option Denial) (rule : Rule) (s : ℕ) (p : SecurityPolicy) → changed (ruled f) (Applies rule) s p ≡ after_rule p s rule
 changed-ruled (Some denial) rule s p = refl
 changed-ruled None rule s p = refl
+
+-- what runs is no rule that is done
+pub runs-no_rule : (a : Answer) → is_done a ≡ true → is_rule_done a ≡ false
+runs-no_rule (answers.Done outputs) h = refl
+runs-no_rule answers.RuleDone h = absurd (true≢false (sym h))
+runs-no_rule (answers.Denied denial) h = refl
+runs-no_rule answers.Lost h = refl

@@ -9,7 +9,9 @@ use Rattle.bl_order.specs.Order.{Task, Runs, Applies, accesses_of}
 use Rattle.bl_order.specs.Past.{is_done}
 use Rattle.bl_order.specs.Machine.{State, past_at, runs, session_at, entry_weight, weight_of, most_sessions}
 use Rattle.bl_order.specs.Now.{content_at}
-use Rattle.bl_eval.specs.Loan.{Loan}
+use Rattle.bl_grant.specs.Loaned.{Loaned}
+use Rattle.bl_grant.specs.Loans.{loans}
+use Rattle.bl_eval.specs.Loan.{Loan, part_of}
 use Rattle.bl_core.specs.declared.machine.Started.{Started}
 use Rattle.bl_core.specs.declared.machine.Started.TheVariants.{Denied, RuleDone, Run}
 use Rattle.bl_core.specs.declared.refusal.Cause.{Cause}
@@ -39,6 +41,10 @@ loan_of n task contents = record {
 -- what a place is lent: the contents of what it declares, in declared order, each as it is at the place
 abbrev pub loan_at : State → ℕ → Loan
 loan_at x n = loan_of n (past_at x n).task (λ doc. content_at x doc n)
+
+-- the grants that a place is lent, one for each access that it declares
+abbrev pub grants_at : State → ℕ → List Loaned
+grants_at x n = let loan = loan_at x n in loans n (part_of loan).accesses loan.inputs
 
 -- this was lent to a running place
 abbrev pub IsLentBy : State → Loan → Type 0

@@ -1,5 +1,7 @@
 //! The core and its calls.
-ghost use Rattle.std.specs.Prelude.{◌≡◌};
+ghost use Rattle.std.specs.Prelude.{◌≡◌, ◌<◌, ◌&&◌, ℕ, IsTrue, length};
+ghost use Rattle.bl_order.specs.Past.{deletes, is_rule_done};
+ghost use Rattle.bl_place.specs.Shelves.{AreEmptied};
 ghost use Rattle.bl_core.specs.Weights.{IsWeighed, ruled};
 
 use crate::beginning::{Beginning, MOST_SESSIONS};
@@ -10,6 +12,7 @@ use crate::refusal::{Cause, NotReady, OpenRefused, Refused, StartFault, Starved}
 use crate::session::{Session, SessionNo};
 use bl_eval::lent::{Done, DoneParts, Lent, Unrun, UnrunParts};
 use bl_grant::grants::Grants;
+use bl_grant::withdrawn::Withdrawn;
 use bl_level::level::Level;
 use bl_order::laws::{
     each_state_holds, headline, lineage, lines_are_readable, read_lines_are_in_the_setup,
@@ -18,7 +21,9 @@ use bl_order::laws::{
 use bl_place::place::{
     Descent, Place, Siblings, Stand, declared, enter_children, enter_queues, work_at,
 };
-use bl_place::shelf::{Shelf, contents_of, is_done_of, is_unrun_of, mark, take_back};
+use bl_place::shelf::{
+    Shelf, contents_of, empty_deleted, is_done_of, is_unrun_of, mark, take_back,
+};
 use bl_policy::denial::Denial;
 use bl_policy::id::{DocId, SubjectId};
 use bl_policy::policy::Policy;
@@ -100,6 +105,16 @@ fn ruled(denial: &Option<Denial>) -> Answer
     }
 }
 
+/// Empties the content of the document that a rule deletes, where the policy had nothing against it. It takes no memory.
+fn delete_content(shelves: &mut [Shelf], rule: &Rule, denial: &Option<Denial>)
+    requires { (doc : ℕ) → IsTrue (deletes rule.now doc) → doc < length shelves.old }
+    ensures { AreEmptied (λ doc. is_rule_done (ruled denial.now) && deletes rule.now doc) shelves.old shelves.new }
+{
+    if denial.is_none() {
+        empty_deleted(shelves, rule);
+    }
+}
+
 impl Core {
     ghost use Rattle.std.specs.Prelude.{◌≡◌, ◌<◌, ◌≤◌, ◌↔◌, ℕ, Bool, true, false, IsTrue, IsSome, IsNone, IsOk, length, IfOk, OnErr, OnOk, IfErr, IfSome, IfNone, MatchResult, MatchOption, Some, None, Ok, Err, option_map, option_and_then, slice_get, map, All};
     ghost use Rattle.bl_policy.specs.Properties.{IsSecure};
@@ -115,7 +130,7 @@ impl Core {
     ghost use Rattle.bl_order.specs.Order.{Applies, accesses_of, is_altered, is_rule};
     ghost use Rattle.bl_order.specs.Past.{is_done};
     ghost use Rattle.bl_order.specs.TheHeadline.{IsTheHeadline};
-    ghost use Rattle.bl_core.specs.Answers.{IsCause, IsLentBy, IsNotOpened, IsStarted, IsStarvedBy, loan_at};
+    ghost use Rattle.bl_core.specs.Answers.{IsCause, IsLentBy, IsNotOpened, IsStarted, IsStarvedBy, grants_at, loan_at};
     ghost use Rattle.bl_core.specs.Origins.{origin_of, work_asked};
 
     /// A core of an empty order over this setup, for lines that weigh no more than the limit, which is 1 to 100,000. An error comes
@@ -263,7 +278,7 @@ impl Core {
         }
     }
 
-    /// Applies the rule of a place that may start.
+    /// Applies the rule of a place that may start: to the policy, and where it deletes a document to its content.
     fn apply(&mut self, n: u32, rule: &Rule) -> Started
         requires may { MayStart self.old n }
         requires rule { (past_at self.old n).task ≡ Applies rule.now }
@@ -272,6 +287,7 @@ impl Core {
     {
         let subject = self.places[n as usize].subject;
         let denial = self.policy.apply(subject, rule);
+        delete_content(self.shelves.as_mut_slice(), rule, &denial);
         self.queues.end(n);
         let place = &mut self.places[n as usize];
         place.stand = Stand::Ended(ruled(&denial));
@@ -361,9 +377,10 @@ impl Core {
         }
     }
 
-    /// Starts an entry. A rule or a denied behaviour ends at once; another behaviour runs, and is lent the contents of what it
-    /// declares, in declared order. `NotReady` comes where the entry may not start, and `Memory` where a growth was refused. Where an
-    /// untrusted subject's entry runs, what it may alter dominates all that it and those above it may look at.
+    /// Starts an entry. A rule or a denied behaviour ends at once, and a document that is deleted is empty from then on; another
+    /// behaviour runs, and is lent the contents of what it declares, in declared order. `NotReady` comes where the entry may not start,
+    /// and `Memory` where a growth was refused. Where an untrusted subject's entry runs, what it may alter dominates all that it and
+    /// those above it may look at.
     pub fn start(&mut self, n: u32) -> Result<Started, StartFault>
         ensures ok { IfOk result (λ begun. IsStarted self.old n begun × (self.new ≡ change self.old (Starts n))) }
         ensures err { OnErr result (self.new ≡ self.old) }
@@ -421,6 +438,18 @@ impl Core {
         enter_queues(&mut self.queues, self.places.as_slice(), first);
     }
 
+    /// Ends a running entry as lost, with the grants that it was lent: nothing that it was lent has changed.
+    fn lose_granted(&mut self, entry: u32, grants: Withdrawn)
+        requires running { IsTrue (runs self.old entry) }
+        requires lent { grants ≡ grants_at self.old entry }
+        ensures { self.new ≡ change self.old (Loses entry) }
+    {
+        take_back(self.shelves.as_mut_slice(), grants.close());
+        self.queues.end(entry);
+        let place = &mut self.places[entry as usize];
+        place.stand = Stand::Ended(Answer::Lost);
+    }
+
     /// Ends a running entry as lost, with what it was lent: nothing that it was lent has changed.
     pub fn lose_lent(&mut self, unrun: Unrun)
         requires running { IsTrue (runs self.old unrun.entry) }
@@ -433,10 +462,24 @@ impl Core {
             index: _,
             grants,
         } = unrun.into_parts();
-        take_back(self.shelves.as_mut_slice(), grants.close());
-        self.queues.end(entry);
-        let place = &mut self.places[entry as usize];
-        place.stand = Stand::Ended(Answer::Lost);
+        self.lose_granted(entry, grants);
+    }
+
+    /// Ends a running entry as lost, with what it was lent, which nobody has tried. It is for whoever follows a trail in which the
+    /// entry was lost. A worker cannot lose so what it never tried: no gate has this call, and no `Unrun` is made of a `Lent` but by
+    /// `eval`.
+    pub fn lose_running(&mut self, lent: Lent)
+        requires running { IsTrue (runs self.old lent.entry) }
+        requires lent { lent ≡ loan_at self.old lent.entry }
+        ensures { self.new ≡ change self.old (Loses lent.entry) }
+    {
+        let UnrunParts {
+            entry,
+            script: _,
+            index: _,
+            grants,
+        } = lent.into_parts();
+        self.lose_granted(entry, grants);
     }
 
     /// Whether an entry runs.
@@ -527,14 +570,14 @@ impl Core {
         Ok(())
     }
 
-    /// Ends a place that may start as lost.
-    fn lose_waiting(&mut self, n: u32)
+    /// Ends an entry as lost that may start, whether or not it was refused memory. It is for whoever follows a trail in which the
+    /// entry was lost. A worker cannot lose so what it never tried: no gate has this call.
+    pub fn lose_untried(&mut self, n: u32)
         requires { MayStart self.old n }
         ensures { self.new ≡ change self.old (Loses n) }
     {
         self.queues.end(n);
-        let place = &mut self.places[n as usize];
-        place.stand = Stand::Ended(Answer::Lost);
+        self.places[n as usize].stand = Stand::Ended(Answer::Lost);
     }
 
     /// Ends an entry as lost that was refused memory at its start. `NotReady` comes where the entry may not start.
@@ -546,7 +589,7 @@ impl Core {
         if !self.is_ready(starved.entry()) {
             return Err(NotReady);
         }
-        self.lose_waiting(starved.entry());
+        self.lose_untried(starved.entry());
         Ok(())
     }
 

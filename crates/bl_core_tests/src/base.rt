@@ -216,6 +216,19 @@ pub(super) fn run_all<R: AllocGlobal + Abort>(rt: &R, core: &mut Core, lines: &[
     }
 }
 
+/// Admits lines, and runs so many entries by rising place: the lines, and then those that they spawned.
+pub(super) fn run_entries<R: AllocGlobal + Abort>(
+    rt: &R,
+    core: &mut Core,
+    lines: &[Said<'_>],
+    entries: u32,
+) {
+    admit_all(rt, core, lines);
+    for n in 0..entries {
+        run(rt, core, n);
+    }
+}
+
 /// Whether an entry may not start, as its start says.
 pub(super) fn is_not_ready(rt: &impl Abort, core: &mut Core, n: u32) -> bool {
     match core.start(n) {

@@ -1,11 +1,9 @@
 //! What a behaviour carries: nothing goes below the levels at which its parents ran.
 use super::base::{
-    BOB, NOTE, ROOT, Said, admit_all, base_core, has, is_denied, is_done, is_made, run,
+    BOB, NOTE, ROOT, Said, base_core, has, is_denied, is_done, is_made, run_entries,
 };
 use bl_core::machine::Core;
 use bl_policy::denial::Clause;
-use std::alloc::AllocGlobal;
-use std::process::Abort;
 
 /// The ranks of the base setup, and its categories as sets.
 const U: u8 = 0;
@@ -17,14 +15,6 @@ const T: u8 = 3;
 const NATO: u32 = 1;
 
 const NATO_AND_CRYPTO: u32 = 3;
-
-/// Admits lines, and runs so many entries by rising place: the lines, and then those that they spawned.
-fn run_entries<R: AllocGlobal + Abort>(rt: &R, core: &mut Core, lines: &[Said<'_>], entries: u32) {
-    admit_all(rt, core, lines);
-    for n in 0..entries {
-        run(rt, core, n);
-    }
-}
 
 /// Whether an entry is there, and carries the level of this rank with these categories.
 fn carries(core: &Core, n: u32, rank: u8, categories: u32) -> bool {

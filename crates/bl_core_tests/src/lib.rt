@@ -3,9 +3,11 @@
 //!     base         a core over the base setup, and what the tests ask of it
 //!     examples     what is allowed, denied and changed, entry after entry
 //!     carried      what a behaviour carries from its parents
+//!     presence     documents that come and go
 //!     starts       which entries may start
 //!     refusals     what a core refuses: sessions, names, and what it did not lend
 //!     memory       what is left where a growth is refused
+//!     losses       what is lost though nobody tried it
 //!     orders       one list of entries in many orders, each answer compared with the monitor's
 #![tactic(auto)]
 
@@ -16,9 +18,13 @@ mod carried;
 #[cfg(test)]
 mod examples;
 #[cfg(test)]
+mod losses;
+#[cfg(test)]
 mod memory;
 #[cfg(test)]
 mod orders;
+#[cfg(test)]
+mod presence;
 #[cfg(test)]
 mod refusals;
 #[cfg(test)]

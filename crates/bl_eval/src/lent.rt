@@ -108,7 +108,7 @@ pub struct DoneParts {
     pub returned: Vec<Returned>,
 }
 
-/// The parts of an `Unrun`.
+/// The parts of an `Unrun`, or of a `Lent` that is not to run.
 pub struct UnrunParts {
     /// The number of the entry.
     pub entry: u32,
@@ -158,6 +158,27 @@ impl Lent {
         ensures { result ≡ self.now.entry }
     {
         self.entry
+    }
+
+    /// Gives the parts, with the grants as they were lent, of a behaviour that is not to run. Nobody makes an `Unrun` of them: that
+    /// comes of `eval` alone, so whoever hands one over has tried the behaviour.
+    pub fn into_parts(self) -> UnrunParts
+        ensures loan { self ≡ record { entry = result.entry; script = result.script; index = result.index; inputs = lent_of result.grants } }
+        ensures there { result.index < length result.script }
+        ensures grants { AreFor result.entry (part_of self).accesses result.grants }
+    {
+        let Lent {
+            entry,
+            script,
+            index,
+            grants,
+        } = self;
+        UnrunParts {
+            entry,
+            script,
+            index,
+            grants: grants.withdraw(),
+        }
     }
 }
 

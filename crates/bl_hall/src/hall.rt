@@ -8,7 +8,7 @@ use bl_core::foreign::{Foreign, ForeignUnrun};
 use bl_core::machine::{Core, Started};
 use bl_core::refusal::{NotReady, OpenRefused, Refused, StartFault, Starved};
 use bl_core::session::SessionNo;
-use bl_eval::lent::{Done, Unrun};
+use bl_eval::lent::{Done, Lent, Unrun};
 use bl_order::laws::{headline, may_start_is_tested, the_order_has_room};
 use bl_policy::id::SubjectId;
 use bl_setup::setup::Setup;
@@ -216,6 +216,35 @@ impl Hall {
         Ok(())
     }
 
+    /// Ends a running entry as lost, with what it was lent, which nobody has tried. It is for whoever follows a trail in which the
+    /// entry was lost. A worker cannot lose so what it never tried: no gate has this call, and no `Unrun` is made of a `Lent` but by
+    /// `eval`.
+    pub fn lose_running(&mut self, lent: Lent)
+        requires running { IsTrue (runs (state_now self.old) lent.entry) }
+        requires lent { lent ≡ loan_at (state_now self.old) lent.entry }
+        ensures change { self.new ≡ with_event self.old (Loses lent.entry) }
+        ensures continues { Continues self.old self.new }
+    {
+        the_order_has_room();
+        let n = lent.entry();
+        self.core.lose_running(lent);
+        count_end(&self.links, &mut self.tallies, n);
+        self.events.push_reserved(Event::Lost(n));
+    }
+
+    /// Ends an entry as lost that may start, whether or not it was refused memory. It is for whoever follows a trail in which the
+    /// entry was lost. A worker cannot lose so what it never tried: no gate has this call.
+    pub fn lose_untried(&mut self, n: u32)
+        requires { MayStart (state_now self.old) n }
+        ensures change { self.new ≡ with_event self.old (Loses n) }
+        ensures continues { Continues self.old self.new }
+    {
+        the_order_has_room();
+        self.core.lose_untried(n);
+        count_end(&self.links, &mut self.tallies, n);
+        self.events.push_reserved(Event::Lost(n));
+    }
+
     /// Ends an entry as lost that was refused memory at its start. `NotReady` comes where the entry may not start.
     pub fn lose_ready(&mut self, starved: Starved) -> Result<(), NotReady>
         ensures ok { OnOk result (self.new ≡ with_event self.old (Loses starved)) }
@@ -223,16 +252,11 @@ impl Hall {
         ensures ready { IsOk result ↔ MayStart (state_now self.old) starved }
         ensures continues { Continues self.old self.new }
     {
-        the_order_has_room();
-        let n = starved.entry();
-        match self.core.lose_ready(starved) {
-            Ok(()) => {
-                count_end(&self.links, &mut self.tallies, n);
-                self.events.push_reserved(Event::Lost(n));
-                Ok(())
-            }
-            Err(fault) => Err(fault),
+        if !self.core.is_ready(starved.entry()) {
+            return Err(NotReady);
         }
+        self.lose_untried(starved.entry());
+        Ok(())
     }
 
     /// The places of all entries of a session whose line's ordinal is above `after`, in numeric order of their labels; `Ok(None)`

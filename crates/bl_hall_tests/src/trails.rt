@@ -52,3 +52,16 @@ fn refusals_leave_the_trail(rt: HostRuntime) {
     assert!(rt; hall.trail().len() == 2 && hall.ready().is_none());
     drop(hall);
 }
+
+/// An entry that may start is lost though nobody tried it.
+#[test]
+fn lost_before_it_starts(rt: HostRuntime) {
+    let mut hall = base_hall(&rt);
+    admit(&rt, &mut hall, 0, 1, SHOW_MEMO);
+    if let Some(n) = hall.ready() {
+        hall.lose_untried(n);
+    }
+    assert!(rt; hall.trail().last() == Some(&Event::Lost(0)));
+    assert!(rt; hall.ready().is_none());
+    drop(hall);
+}

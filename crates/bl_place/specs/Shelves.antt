@@ -1,5 +1,5 @@
--- The shelves: what is lent, and what comes back.
-use Rattle.std.specs.Prelude.{ℕ, true, false, if◌then◌else◌, List, [], ◌∷◌, map, slice_index_or, slice_set}
+-- The shelves: what is lent, what comes back, and what is emptied.
+use Rattle.std.specs.Prelude.{◌≡◌, ℕ, Bool, true, false, if◌then◌else◌, List, [], ◌∷◌, length, map, slice_index_or, slice_set}
 use Rattle.bl_policy.specs.Mode.{is_exclusive}
 use Rattle.bl_policy.specs.declared.access.Access.{Access}
 use Rattle.bl_grant.specs.Loaned.{Back}
@@ -35,3 +35,12 @@ put_one shelves b = if is_exclusive b.access.mode then slice_set shelves b.acces
 abbrev pub put_back : List Shelf → List Back → List Shelf
 put_back shelves [] = shelves
 put_back shelves (b ∷ rest) = put_one (put_back shelves rest) b
+
+-- the shelf with an empty content
+abbrev pub emptied : Shelf → Shelf
+emptied shelf = record { content = []; lent = shelf.lent }
+
+-- the contents of the documents that pass a test are empty, and all else is as it was
+pub record AreEmptied (these : ℕ → Bool) (shelves after : List Shelf) : Type 0 where
+  pub as_many : length after ≡ length shelves
+  pub each : (doc : ℕ) → shelf_in after doc ≡ (if these doc then emptied (shelf_in shelves doc) else shelf_in shelves doc)

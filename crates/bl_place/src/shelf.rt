@@ -2,16 +2,18 @@
 //!
 //! A content stays on its shelf while it is lent. Nobody else alters it then, so it is what was lent, and what comes back takes its
 //! place.
-ghost use Rattle.std.specs.Prelude.{◌≡◌, ◌<◌, ◌↔◌, length, map, slice_index_or, All, IfOk, IsTrue};
+ghost use Rattle.std.specs.Prelude.{◌≡◌, ◌<◌, ◌↔◌, ℕ, length, map, slice_index_or, All, IfOk, IsTrue};
 ghost use Rattle.bl_policy.specs.declared.access.Access.{Access};
 ghost use Rattle.bl_work.specs.Statements.{no_part};
 ghost use Rattle.bl_grant.specs.Loaned.{Back};
-ghost use Rattle.bl_place.specs.Shelves.{content_in, contents_in, marked, new_shelf, put_back};
+ghost use Rattle.bl_order.specs.Past.{deletes};
+ghost use Rattle.bl_place.specs.Shelves.{AreEmptied, content_in, contents_in, marked, new_shelf, put_back};
 
 use crate::place::is_exclusive;
 use bl_eval::lent::{Done, Unrun};
 use bl_grant::grant::Returned;
 use bl_policy::access::Access;
+use bl_policy::rule::Rule;
 use bl_work::document::Document;
 use bl_work::script::Script;
 use std::alloc::{AllocError, Global};
@@ -126,4 +128,16 @@ pub fn take_back(shelves: &mut [Shelf], returned: Vec<Returned>)
         }
     }
     returned.destroy_empty();
+}
+
+/// Empties the content of the document that a rule deletes; any other rule leaves each as it is. Other owners of that content keep
+/// what they have, and its bytes stand behind the empty content until an addition writes over them. It takes no memory.
+pub fn empty_deleted(shelves: &mut [Shelf], rule: &Rule)
+    requires { (doc : ℕ) → IsTrue (deletes rule.now doc) → doc < length shelves.old }
+    ensures { AreEmptied (deletes rule.now) shelves.old shelves.new }
+{
+    if let Rule::Delete { doc } = rule {
+        let shelf = &mut shelves[doc.position() as usize];
+        shelf.content.truncate(0);
+    }
 }

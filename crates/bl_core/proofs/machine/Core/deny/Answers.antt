@@ -16,12 +16,12 @@ invariant_of-self c =
     closed-kept c.self.inside c.self.invariant c.args.n c.index_mut-place.result.now (answers.Denied c.args.denial.now)
     (subst (λ (x : State). MayStart x c.args.n) (sym c.self.view_is) c.requires.may) c.index_mut-place.ensures.value c.end.new.self c.self.inside.policy c.end.ensures
     (ap (λ (x : State). (past_at x c.args.n).answer) c.self.view_is ∙ c.requires.denied) refl refl (sym (changed-skips (past_at (state_of c.self.inside) c.args.n).answer (past_at (state_of c.self.inside) c.args.n).task (past_at (state_of c.self.inside) c.args.n).subject c.self.inside.policy
-    (ap (λ (x : State). is_rule (past_at x c.args.n).task) c.self.view_is ∙ c.requires.behaviour))) refl refl
+    (ap (λ (x : State). is_rule (past_at x c.args.n).task) c.self.view_is ∙ c.requires.behaviour))) refl refl refl
 
 pub returns : goal.returns
 returns c =
     closed-state c.self.inside c.self.invariant c.args.n c.index_mut-place.result.now (answers.Denied c.args.denial.now)
     (subst (λ (x : State). MayStart x c.args.n) (sym c.self.view_is) c.requires.may) c.index_mut-place.ensures.value c.end.new.self c.self.inside.policy c.end.ensures
     (ap (λ (x : State). (past_at x c.args.n).answer) c.self.view_is ∙ c.requires.denied) refl refl (sym (changed-skips (past_at (state_of c.self.inside) c.args.n).answer (past_at (state_of c.self.inside) c.args.n).task (past_at (state_of c.self.inside) c.args.n).subject c.self.inside.policy
-    (ap (λ (x : State). is_rule (past_at x c.args.n).task) c.self.view_is ∙ c.requires.behaviour))) refl refl
+    (ap (λ (x : State). is_rule (past_at x c.args.n).task) c.self.view_is ∙ c.requires.behaviour))) refl refl refl
     ∙ ap (λ (x : State). change x (Starts c.args.n)) c.self.view_is
