@@ -156,7 +156,13 @@ module _ (setup : Setup) (places : List Place) (p : Place) where
 
 -- a setup of another version is as much one whole
 pub agree_of_version : (v : Version) (setup : Setup) → Agree setup → Agree (by_version v setup)
-agree_of_version v setup agree = record { subjects = agree.subjects; documents = agree.documents; contents = agree.contents }
+agree_of_version v setup agree = record {
+  subjects = agree.subjects;
+  documents = agree.documents;
+  presence = agree.presence;
+  contents = agree.contents;
+  absent = agree.absent;
+}
 
 -- before the first entry all is as the setup has it
 pub first_sound : (setup : Setup) (policy : SecurityPolicy) (contents : List (List ℕ)) → Agree setup → policy ≡ setup.policy → contents ≡ setup.contents

@@ -42,8 +42,8 @@ abbrev pub effects_on : List (List ℕ) → Part → List Effect
 effects_on contents part = effects_of (lent part.accesses (content_listed contents)) part.body
 
 -- the content of a document once the behaviour ran on these contents
-abbrev pub left_by : List (List ℕ) → Part → ℕ → List ℕ
-left_by contents part doc =
+abbrev pub content_once_run : List (List ℕ) → Part → ℕ → List ℕ
+content_once_run contents part doc =
     if is_altered part.accesses doc then after (content_listed contents doc) (effects_on contents part) doc else content_listed contents doc
 
 -- the behaviour ran on these contents

@@ -1,12 +1,12 @@
 //! What an entry is answered, and what it changes.
-ghost use Rattle.std.specs.Prelude.{◌≡◌, ◌<◌, ℕ, List, length, slice_index_or, IfOk, OnOk, OnErr};
+ghost use Rattle.std.specs.Prelude.{◌≡◌, ◌<◌, length, slice_index_or, IfOk, OnOk, OnErr};
 ghost use Rattle.bl_policy.specs.Policy.{current_of};
 ghost use Rattle.bl_policy.specs.RuleEffect.{IsRuleOf};
 ghost use Rattle.bl_work.specs.Statements.{no_part};
 ghost use Rattle.bl_order.specs.Order.{Runs, Applies};
 ghost use Rattle.bl_order.specs.Past.{changed};
 ghost use Rattle.bl_order.specs.Known.{AreBelow};
-ghost use Rattle.bl_monitor.specs.Judging.{KnowsEntry, IsJudged, IsDone, IsIdle, Leaves, carried_by_children, case_of, left_by, content_behind, record_of};
+ghost use Rattle.bl_monitor.specs.Judging.{KnowsEntry, IsJudged, IsDone, IsIdle, Leaves, carried_by_children, case_of, content_once_run, content_behind, record_of};
 ghost use Rattle.bl_monitor.specs.Places.{task_of};
 
 use crate::place::Admitted;
@@ -52,7 +52,7 @@ fn done(
     requires index { index < length script.now }
     requires documents { AreBelow (length contents.old) script.now }
     ensures done { IfOk result (IsDone contents.old (slice_index_or script.now index no_part)) }
-    ensures left { OnOk result (Leaves contents.old (left_by contents.old (slice_index_or script.now index no_part)) contents.new) }
+    ensures left { OnOk result (Leaves contents.old (content_once_run contents.old (slice_index_or script.now index no_part)) contents.new) }
     ensures err { OnErr result (contents.new ≡ contents.old) }
 {
     let mut running = Run::new(alloc);
@@ -111,25 +111,31 @@ fn behaviour(
     }
 }
 
-/// What comes of a rule, which changes the policy unless it is lost or fails its condition.
-fn apply(policy: &mut Policy, admitted: &Admitted, rule: &Rule) -> Judged
+/// What comes of a rule, which changes the policy unless it is lost or fails its condition. A deletion that is done also
+/// empties the content of its document. It takes no memory.
+fn apply(policy: &mut Policy, contents: &mut [Document], admitted: &Admitted, rule: &Rule) -> Judged
     requires subject { admitted.now.subject < length policy.old.subjects }
     requires ids { IsRuleOf policy.old rule.now }
-    ensures judged { (contents : List (List ℕ)) →
-        IsJudged policy.old contents (case_of admitted.now (Applies rule.now)) result }
+    requires as_many { length policy.old.documents ≡ length contents.old }
+    ensures judged { IsJudged policy.old contents.old (case_of admitted.now (Applies rule.now)) result }
     ensures policy { policy.new ≡ changed result.answer (Applies rule.now) admitted.now.subject policy.old }
+    ensures left { Leaves contents.old
+        (content_behind contents.old (record_of policy.old contents.old (case_of admitted.now (Applies rule.now)))) contents.new }
 {
     if admitted.lost {
         return idle(Answer::Lost, None);
     }
-    match policy.apply(admitted.subject, rule) {
-        Some(denial) => idle(Answer::Denied(denial), None),
-        None => idle(Answer::RuleDone, None),
+    if let Some(denial) = policy.apply(admitted.subject, rule) {
+        return idle(Answer::Denied(denial), None);
     }
+    if let Rule::Delete { doc } = *rule {
+        contents[doc.position() as usize].truncate(0);
+    }
+    idle(Answer::RuleDone, None)
 }
 
 /// What comes of an entry under this policy and these contents. A rule changes the policy, and a behaviour that is done the
-/// contents; after an error both are as they were.
+/// contents, which a deletion that is done changes too; after an error both are as they were.
 pub(crate) fn judge(
     alloc: Global,
     policy: &mut Policy,
@@ -146,6 +152,6 @@ pub(crate) fn judge(
 {
     match &admitted.work {
         Work::Behaviour(script) => behaviour(alloc, policy, contents, admitted, script),
-        Work::Rule(rule) => Ok(apply(policy, admitted, rule)),
+        Work::Rule(rule) => Ok(apply(policy, contents, admitted, rule)),
     }
 }

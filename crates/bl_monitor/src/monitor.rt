@@ -266,8 +266,8 @@ impl Monitor {
         }
     }
 
-    /// What the policy had against the accesses of an entry at its place, lost or not: the first that failed a property.
-    /// `None` where none did, for a rule, and for a number that is no entry's.
+    /// What the policy had against the accesses of an entry at its place, lost or not: the first that was not granted, with what
+    /// it failed first. `None` where each was granted, for a rule, and for a number that is no entry's.
     pub fn fault(&self, n: u32) -> Option<Denial>
         ensures { result ≡ fault_of self.now n }
     {

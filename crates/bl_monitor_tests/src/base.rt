@@ -192,7 +192,7 @@ pub(super) fn child_is_denied(
 }
 
 /// Whether this is the denial.
-fn is_denial(answer: &Answer, denial: Denial) -> bool {
+pub(super) fn is_denial(answer: &Answer, denial: Denial) -> bool {
     match answer {
         Answer::Denied(found) => *found == denial,
         Answer::Done(_) | Answer::RuleDone | Answer::Lost => false,

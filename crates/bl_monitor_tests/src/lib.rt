@@ -4,6 +4,7 @@
 //!     entries    lines and children, read from the lines of a session
 //!     rules      rules among the entries
 //!     carried    levels that children carry
+//!     presence   documents that come and go
 #![tactic(auto)]
 
 #[cfg(test)]
@@ -12,5 +13,7 @@ mod base;
 mod carried;
 #[cfg(test)]
 mod entries;
+#[cfg(test)]
+mod presence;
 #[cfg(test)]
 mod rules;
