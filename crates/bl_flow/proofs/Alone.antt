@@ -1,10 +1,10 @@
 -- What is kept of a history has its records, its policy and its low contents.
-use Rattle.std.proofs.Common.{◌≡◌, ℕ, zero, suc, ◌-◌, ◌<◌, ◌≤◌, Bool, true, false, cond, ◌&&◌, List, length, refl, sym, ◌∙◌, ap, inl, inr, arith, ◌⊎◌, true≢false, get_or}
+use Rattle.std.proofs.Common.{◌≡◌, ℕ, zero, suc, ◌-◌, ◌<◌, ◌≤◌, Bool, true, false, ◌&&◌, List, length, refl, sym, ◌∙◌, ap, inl, inr, arith, ◌⊎◌, true≢false, get_or}
 use Rattle.std.specs.Prelude.{Some, None, slice_get, slice_index_or}
 use Rattle.std.proofs.lemmas.Option.{slice_get-get_or}
 use Rattle.bl_level.specs.Level.{SecurityLevel, join_of}
 use Rattle.bl_policy.specs.Policy.{SecurityPolicy, is_trusted}
-use Rattle.bl_work.specs.Effects.{after, children}
+use Rattle.bl_work.specs.Effects.{children}
 use Rattle.bl_work.specs.Modes.{declares, observes}
 use Rattle.bl_setup.specs.Setup.{Setup}
 use Rattle.bl_setup.specs.declared.version.Version.{Version}
@@ -19,7 +19,7 @@ use Rattle.bl_flow.proofs.Down.{looks-low, alters-low, no-child-down}
 use Rattle.bl_flow.proofs.Kept.{rank-kept, rank-purged, rank-below, of_kept-at, entry-kept}
 use Rattle.bl_flow.proofs.LawsBelow.{LawsBelow}
 use Rattle.bl_flow.proofs.Lists.{or_either, or_left, or_right, or_none, less_or_equal}
-use Rattle.bl_flow.proofs.Records.{judged-alike, done_faultless, child_rule, line-task, line-subject, deeds-alike}
+use Rattle.bl_flow.proofs.Records.{judged-alike, done_faultless, done_behaves, behaviour_answered, leaves-unwritten, child_rule, line-task, line-subject, deeds-alike}
 
 module _ (laws : LawsBelow) (level : SecurityLevel) (h : History) (o : Setup) (possible : IsPossible h) (sealed : IsSealed level h) (agree : AgreeLow level h.setup o) where
   abbrev low : ℕ → Bool
@@ -55,6 +55,9 @@ module _ (laws : LawsBelow) (level : SecurityLevel) (h : History) (o : Setup) (p
       faultless : fault_of_task q (at n).subject (at n).carried (at n).task ≡ None
       faultless = done_faultless (h.lost n) (fault_of_task q (at n).subject (at n).carried (at n).task) (at n).task (deeds (at n).task (contents_at n)) done
 
+      behaves : is_rule (at n).task ≡ false
+      behaves = done_behaves (h.lost n) (fault_of_task q (at n).subject (at n).carried (at n).task) (at n).task (deeds (at n).task (contents_at n)) done
+
       looks : is_trusted q (at n).subject ≡ false → (t : Task) → fault_of_task q (at n).subject (at n).carried t ≡ None
           → (doc : ℕ) → low n ≡ true → declares observes (accesses_of t) doc ≡ true → is_low_document level q doc ≡ true
       looks untrusted (Runs script index) none =
@@ -62,16 +65,16 @@ module _ (laws : LawsBelow) (level : SecurityLevel) (h : History) (o : Setup) (p
           ((laws.granted q (at n).subject (at n).carried (accesses_of (Runs script index))).0 none)
       looks untrusted (Applies rule) none = λ doc now k. absurd (true≢false (sym k))
 
-      alters : is_trusted q (at n).subject ≡ false → (t : Task) → fault_of_task q (at n).subject (at n).carried t ≡ None
+      alters : is_trusted q (at n).subject ≡ false → (t : Task) → is_rule t ≡ false → fault_of_task q (at n).subject (at n).carried t ≡ None
           → (doc : ℕ) → may_alter t doc ≡ true → is_low_document level q doc ≡ true → low n ≡ true
-      alters untrusted (Runs script index) none =
+      alters untrusted (Runs script index) behaves none =
           alters-low laws.dominance level q (at n).subject (at n).carried untrusted (accesses_of (Runs script index))
           ((laws.granted q (at n).subject (at n).carried (accesses_of (Runs script index))).0 none)
-      alters untrusted (Applies rule) none = λ doc k low_doc. absurd (true≢false (sym k))
+      alters untrusted (Applies rule) behaves none = λ doc k low_doc. absurd (true≢false behaves)
 
       go : (b : Bool) → is_trusted q (at n).subject ≡ b → LetsNothingDown level h n
       go true trusted = sealed.trusted n lt trusted done
-      go false untrusted = record { looks = looks untrusted (at n).task faultless; alters = alters untrusted (at n).task faultless }
+      go false untrusted = record { looks = looks untrusted (at n).task faultless; alters = alters untrusted (at n).task behaves faultless }
 
   -- no child comes down, whatever the version
   children-up : NoChildComesDown level h
@@ -172,9 +175,11 @@ module _ (laws : LawsBelow) (level : SecurityLevel) (h : History) (o : Setup) (p
         there : Past
         there = place_in p (rank n)
 
-    -- a place that is not low leaves each low content
-    alters-nothing : low n ≡ false → (doc : ℕ) → is_low_document level (policy_in h n) doc ≡ true → (is_done (at n).answer && may_alter (at n).task doc) ≡ false
-    alters-nothing high doc low_doc = go (is_done (at n).answer) (may_alter (at n).task doc) refl refl
+    -- a behaviour's place that is not low leaves each low content
+    alters-nothing : is_rule (at n).task ≡ false → low n ≡ false → (doc : ℕ) → is_low_document level (policy_in h n) doc ≡ true → leaves (at n) doc (content_in h doc n) ≡ content_in h doc n
+    alters-nothing behaves high doc low_doc = leaves-unwritten (at n) doc (content_in h doc n)
+        (behaviour_answered (h.lost n) (fault_of_task (policy_in h n) (at n).subject (at n).carried (at n).task) (at n).task (deeds (at n).task (contents_at n)) behaves)
+        (go (is_done (at n).answer) (may_alter (at n).task doc) refl refl)
       where
         go : (b c : Bool) → is_done (at n).answer ≡ b → may_alter (at n).task doc ≡ c → (b && c) ≡ false
         go true true done alters = absurd (true≢false (sym ((nothing-down n lt done).alters doc alters low_doc) ∙ high))
@@ -210,7 +215,7 @@ module _ (laws : LawsBelow) (level : SecurityLevel) (h : History) (o : Setup) (p
       contents = λ doc low_doc.
           ap (λ r. content_in p doc r) (rank-purged level h n k)
           ∙ left.contents doc (sealed.documents n doc lt low_doc)
-          ∙ sym (ap (λ b. cond b (after (content_in h doc n) (at n).effects doc) (content_in h doc n)) (alters-nothing none.1 doc (sealed.documents n doc lt low_doc)));
+          ∙ sym (alters-nothing none.0 none.1 doc (sealed.documents n doc lt low_doc));
     }
       where
         none : (is_rule (at n).task ≡ false) × (low n ≡ false)

@@ -7,7 +7,7 @@ use Rattle.bl_policy.specs.RuleEffect.{rule_fault, rule_makes, refusal, unless_f
 use Rattle.bl_policy.specs.declared.denial.Clause.TheVariants as failing
 use Rattle.bl_policy.specs.declared.denial.Denial.{Denial}
 use Rattle.bl_policy.specs.declared.rule.Rule.{Rule}
-use Rattle.bl_policy.specs.declared.rule.Rule.TheVariants.{Give, Rescind, Current, Classify}
+use Rattle.bl_policy.specs.declared.rule.Rule.TheVariants.{Give, Rescind, Current, Classify, Create, Delete}
 use Rattle.bl_setup.specs.declared.version.Version.TheVariants.{One, Two}
 use Rattle.bl_order.specs.Order.{Child, Task, Runs, Applies, is_rule}
 use Rattle.bl_order.specs.Past.{Past, carried_of, earlier, no_entry}
@@ -32,6 +32,8 @@ documents-rule p s rule untrusted = go rule (rule_fault p s rule) refl
     go (Rescind t doc m) None is = refl
     go (Current level) None is = refl
     go (Classify doc level) None is = absurd (refused doc level (is_admin p s) (is_trusted p s) untrusted is)
+    go (Create doc) None is = refl
+    go (Delete doc) None is = refl
 
 -- a rule that changes no level leaves what the policy has of its subjects
 subjects-rule : (p : SecurityPolicy) (s : ℕ) (rule : Rule) → changes_a_level (Applies rule) ≡ false → (after_rule p s rule).subjects ≡ p.subjects
@@ -43,6 +45,8 @@ subjects-rule p s rule stays = go (rule_fault p s rule) rule stays
     go None (Rescind t doc m) k = refl
     go None (Current level) k = absurd (true≢false k)
     go None (Classify doc level) k = absurd (true≢false k)
+    go None (Create doc) k = refl
+    go None (Delete doc) k = refl
 
 module _ (rules : RulesMake) (h : History) where
   abbrev at : ℕ → Past

@@ -1,5 +1,5 @@
 -- What the record of one place rests on.
-use Rattle.std.proofs.Common.{◌≡◌, ℕ, Bool, true, false, cond, List, [], refl, sym, ap, true≢false}
+use Rattle.std.proofs.Common.{◌≡◌, ℕ, Bool, true, false, cond, ◌&&◌, List, [], refl, sym, ap, true≢false}
 use Rattle.std.specs.Prelude.{Option, Some, None, slice_get}
 use Rattle.std.proofs.lemmas.Option.{get_or_from_slice_get}
 use Rattle.bl_level.specs.Level.{SecurityLevel}
@@ -8,9 +8,11 @@ use Rattle.bl_policy.specs.declared.denial.Denial.{Denial}
 use Rattle.bl_work.specs.Effects.{Effect}
 use Rattle.bl_work.specs.Modes.{KeepsModes, declares, observes}
 use Rattle.bl_work.specs.Statements.{no_part}
+use Rattle.bl_work.specs.declared.answer.Answer.{Answer}
+use Rattle.bl_work.specs.declared.answer.Answer.TheVariants.{Done, RuleDone, Denied, Lost}
 use Rattle.bl_work.specs.declared.work.Work.{Work}
 use Rattle.bl_order.specs.Order.{Line, Task, Runs, Applies, accesses_of, body_of, is_rule, is_declared}
-use Rattle.bl_order.specs.Past.{Past, earlier, no_entry, is_done, subject_of, task_of, first_task, child_task, deeds, lent, judged, answer_of, only_if_done, fault_of_task}
+use Rattle.bl_order.specs.Past.{Past, earlier, no_entry, is_done, is_rule_done, may_alter, left_by, leaves, subject_of, task_of, first_task, child_task, deeds, lent, judged, answer_of, only_if_done, fault_of_task}
 use Rattle.bl_order.specs.Room.{IsBehaviourOrRule}
 use Rattle.bl_flow.specs.Low.{History, place_in}
 use Rattle.bl_flow.proofs.LawsBelow.{LawsBelow}
@@ -46,6 +48,24 @@ done_behaves b f (Runs script index) es h = refl
 done_behaves true f (Applies rule) es h = absurd (true≢false (sym h))
 done_behaves false (Some d) (Applies rule) es h = absurd (true≢false (sym h))
 done_behaves false None (Applies rule) es h = absurd (true≢false (sym h))
+
+-- a behaviour is not answered as a rule
+pub behaviour_answered : (b : Bool) (f : Option Denial) (t : Task) (es : List Effect) → is_rule t ≡ false → is_rule_done (answer_of b f t es) ≡ false
+behaviour_answered b f (Applies rule) es h = absurd (true≢false h)
+behaviour_answered true f (Runs script index) es h = refl
+behaviour_answered false (Some d) (Runs script index) es h = refl
+behaviour_answered false None (Runs script index) es h = refl
+
+-- what is no rule and does not write a document leaves its content
+pub leaves-unwritten : (q : Past) (doc : ℕ) (c : List ℕ) → is_rule_done q.answer ≡ false → (is_done q.answer && may_alter q.task doc) ≡ false → leaves q doc c ≡ c
+leaves-unwritten q doc c behaves unwritten = go q.answer (may_alter q.task doc) behaves unwritten
+  where
+    go : (a : Answer) (b : Bool) → is_rule_done a ≡ false → (is_done a && b) ≡ false → cond b (left_by a q.effects doc c) c ≡ c
+    go a false h k = refl
+    go (Done shown) true h k = absurd (true≢false k)
+    go RuleDone true h k = absurd (true≢false h)
+    go (Denied denial) true h k = refl
+    go Lost true h k = refl
 
 -- a child is a rule just where its parent is
 pub child_rule : (t : Task) (behaviour : ℕ) → is_rule (child_task t behaviour) ≡ is_rule t

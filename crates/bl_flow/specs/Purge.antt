@@ -7,7 +7,7 @@ use Rattle.bl_order.specs.Past.{no_entry}
 use Rattle.bl_flow.specs.Low.{History, place_in, is_low_place}
 
 module _ (level : SecurityLevel) (history : History) where
-  -- low places are kept, and so are all rules (own choice: the policy is known to everyone)
+  -- low places are kept, and so are all rules (own choice: the policy is known to everyone, and with it which documents are present)
   abbrev pub is_kept : ℕ → Bool
   is_kept n = is_rule (place_in history n).task || is_low_place level history n
 

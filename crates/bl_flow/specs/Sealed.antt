@@ -2,7 +2,7 @@
 use Rattle.std.specs.Prelude.{◌≡◌, ℕ, suc, ◌<◌, Bool, true, false, IsTrue, length, slice_get, Some}
 use Rattle.bl_level.specs.Level.{SecurityLevel}
 use Rattle.bl_policy.specs.Policy.{is_trusted}
-use Rattle.bl_policy.specs.declared.rule.Rule.TheVariants.{Give, Rescind, Current, Classify}
+use Rattle.bl_policy.specs.declared.rule.Rule.TheVariants.{Give, Rescind, Current, Classify, Create, Delete}
 use Rattle.bl_work.specs.Modes.{declares, observes}
 use Rattle.bl_setup.specs.declared.version.Version.TheVariants.{One}
 use Rattle.bl_order.specs.Legal.{IsLegal}
@@ -61,6 +61,8 @@ changes_a_level (Applies (Give subject doc mode)) = false
 changes_a_level (Applies (Rescind subject doc mode)) = false
 changes_a_level (Applies (Current level)) = true
 changes_a_level (Applies (Classify doc level)) = true
+changes_a_level (Applies (Create doc)) = false
+changes_a_level (Applies (Delete doc)) = false
 
 -- a history is plain where no trusted subject speaks, and no rule changes a level
 pub record IsPlain (history : History) : Type 0 where
