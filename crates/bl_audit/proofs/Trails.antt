@@ -16,7 +16,7 @@ use Rattle.bl_hall.proofs.Recalling.{same-limit, same-setup}
 use Rattle.bl_wire.specs.Watch.{EndState, Puts}
 use Rattle.bl_trail.specs.EventText.{event_text}
 use Rattle.bl_trail.specs.TrueText.{HasNoLf, IsLimit, IsTrueText, event_texts, head_lines, joined}
-use Rattle.bl_trail.proofs.Following.{all-append, joined-append}
+use Rattle.bl_trail.proofs.Following.{all-append, joined-append, two-has-all}
 use Rattle.bl_trail.proofs.Heading.{version-plain}
 use Rattle.bl_audit.specs.Comes.{Comes, lines_from, works_in}
 use Rattle.bl_audit.specs.Written.{AppendsPart, WroteLine, trail_text}
@@ -206,10 +206,12 @@ module _ (h : Chronicle) where
     pub true-text : HasTrail h → AllByRecursion HasNoLf (event_texts first h.trail) → IsLimit h.limit → IsTrueText h.setup (trail_text h.setup h.limit h.trail) (length h.trail)
     true-text trail plain limit = record {
       version = Two;
+      has_setup = tt;
       limit = h.limit;
       is_limit = limit;
       events = h.trail;
       steps = subst (λ x. IsTrail x h.trail) begins trail;
+      has_events = two-has-all h.trail;
       plain = (
         version-plain Two,
         (plain-limit h.limit (omega (arith, limit.1)), all-append HasNoLf _ (codes "stop" ∷ []) (subst (λ x. AllByRecursion HasNoLf (event_texts x h.trail)) begins plain) (plain-stop, tt)),

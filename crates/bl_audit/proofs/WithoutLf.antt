@@ -6,7 +6,7 @@ use Rattle.bl_level.specs.Lexing.{is_word_byte}
 use Rattle.bl_level.specs.Name.{IsName}
 use Rattle.bl_policy.specs.Denial.{word_of}
 use Rattle.bl_policy.specs.declared.denial.Clause.{Clause}
-use Rattle.bl_policy.specs.declared.denial.Clause.TheVariants.{Simple, Star, Discretionary, Carry, Admin, Trusted, Greatest}
+use Rattle.bl_policy.specs.declared.denial.Clause.TheVariants.{Absent, Simple, Star, Discretionary, Carry, Admin, Trusted, Greatest, Present}
 use Rattle.bl_policy.specs.declared.denial.Denial.{Denial}
 use Rattle.bl_work.specs.Content.{is_content_byte}
 use Rattle.bl_work.specs.Names.{KnownNames, AreNames}
@@ -50,6 +50,7 @@ plain-number n lt = decimal-has_no 10 (lit< tt) n (omega (arith, lt))
 -- ---- answers
 
 plain-word : (clause : Clause) → HasNoLf (word_of clause)
+plain-word Absent = literal (codes "absent") refl
 plain-word Simple = literal (codes "simple") refl
 plain-word Star = literal (codes "star") refl
 plain-word Discretionary = literal (codes "discretionary") refl
@@ -57,6 +58,7 @@ plain-word Carry = literal (codes "carry") refl
 plain-word Admin = literal (codes "admin") refl
 plain-word Trusted = literal (codes "trusted") refl
 plain-word Greatest = literal (codes "greatest") refl
+plain-word Present = literal (codes "present") refl
 
 module _ (names : KnownNames) (are : AreNames names) where
   pub plain-subject : (s : ℕ) → s < length names.subjects → HasNoLf (slice_index_or names.subjects s [])

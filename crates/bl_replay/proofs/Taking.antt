@@ -86,6 +86,7 @@ module _ (room : (x : State) → IsReached x → length x.order ≤ x.limit) (x 
       let seen = foreseen line rest e plain replays come.needs come.text in (
         e,
         come.needs,
+        come.has,
         come.text,
         record {
           keeps = come.keeps;

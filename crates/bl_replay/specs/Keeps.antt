@@ -7,6 +7,7 @@ use Rattle.bl_order.specs.Machine.{State, Event, Needs, change, past_at, entry_w
 use Rattle.bl_order.specs.Machine as machine
 use Rattle.bl_order.specs.Order.{unnamed}
 use Rattle.bl_trail.specs.EventText.{event_text}
+use Rattle.bl_trail.specs.Versions.{HasEvent}
 use Rattle.bl_replay.specs.Fed.{IsFed}
 use Rattle.bl_replay.specs.Findings.{AreFindings}
 use Rattle.bl_replay.specs.Kept.{KnowsPlace, entry_in, phase_in, place_in, queued_as, task_in}
@@ -50,12 +51,13 @@ pub record Replays (r : Replayer) (x : State) (text : List ℕ) : Type 0 where
 abbrev pub IsReady : Replayer → List ℕ → Type 0
 IsReady r line = (x : State) × (rest : List ℕ) × Replays r x (line ++ 10 ∷ rest)
 
--- the event has come: the line is its text
+-- the event has come, which the version has: the line is its text
 pub record HasCome (x : State) (event : Event) (line : List ℕ) (r : Replayer) : Type 0 where
   pub needs : Needs x event
+  pub has : HasEvent x.setup.version event
   pub text : line ≡ event_text x event
   pub keeps : KeepsAt (change x event) r
 
 -- the event does not come with this line
 abbrev pub DoesNotCome : State → Event → List ℕ → Type 0
-DoesNotCome x event line = Needs x event → line ≡ event_text x event → ⊥
+DoesNotCome x event line = Needs x event → HasEvent x.setup.version event → line ≡ event_text x event → ⊥

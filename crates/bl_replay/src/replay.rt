@@ -57,7 +57,8 @@ fn begin(
 
 /// Replays the text of a trail over the setup that it began with, by the version that its first line names. `Accepted`
 /// comes exactly where the text is true, with the number of its events; otherwise `Rejected` names the first line that
-/// is not right after the lines before it, counted from 1. An error comes only where a growth is refused.
+/// is not right after the lines before it, counted from 1. Version 1 has no rule that creates or deletes a document, and
+/// no setup in which one is absent. An error comes only where a growth is refused.
 pub fn replay(alloc: Global, setup: &Setup, text: &[u8]) -> Result<Verdict, AllocError>
     ensures { IfOk result (IsVerdict setup.now text.now) }
 {
@@ -65,7 +66,7 @@ pub fn replay(alloc: Global, setup: &Setup, text: &[u8]) -> Result<Verdict, Allo
     // asked for the proof alone: the setup is one whole, and its names are a server's
     let _names = setup.names();
     let _subjects = setup.names().subjects();
-    match head_of(alloc, text)? {
+    match head_of(alloc, setup, text)? {
         Head::Wrong(line) => Ok(Verdict::Rejected(line)),
         Head::Right {
             version,

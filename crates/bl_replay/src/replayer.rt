@@ -20,6 +20,7 @@ use bl_setup::version::Version;
 use bl_trail::ask::{Ask, ask_of};
 use bl_trail::follow::Follows;
 use bl_trail::text::{Words, end_text, line_text, loss_text, open_text, start_text};
+use bl_trail::version::has_work;
 use bl_trail::work::{same_bytes, work_of};
 use bl_work::answer::Answer;
 use bl_work::work::Work;
@@ -154,7 +155,7 @@ impl Replayer {
         Ok(())
     }
 
-    /// Takes the line of a session whose work has this text.
+    /// Takes the line of a session whose work has this text. The version has to have the work.
     fn line(
         &mut self,
         session: u32,
@@ -171,6 +172,9 @@ impl Replayer {
         let Some(work) = work_of(self.alloc, self.setup.names(), text)? else {
             return Ok(false);
         };
+        if !has_work(self.version, &work) {
+            return Ok(false);
+        }
         if !self.may_admit(session, ordinal, &work) {
             return Ok(false);
         }

@@ -25,6 +25,17 @@ allow bob note r w\n\
 allow cat memo r\n\
 allow root note r w\n";
 
+/// Two further lines.
+const RESERVED: &str = "reserve draft u\nreserve top t\n";
+
+/// The base setup with two documents that are not there yet.
+fn reserved(alloc: Global) -> Result<Setup, Fail> {
+    let mut text = Vec::new(alloc);
+    text.extend_from_slice(BASE.as_bytes())?;
+    text.extend_from_slice(RESERVED.as_bytes())?;
+    Ok(read_setup(alloc, &text)?)
+}
+
 /// The base setup; none where a growth is refused.
 pub fn base_or_none(alloc: Global) -> Option<Setup> {
     read_setup(alloc, BASE.as_bytes()).ok()
@@ -60,6 +71,17 @@ pub fn assert_verdicts<R: AllocGlobal + Abort>(
     cases: &[(&str, Verdict)],
 ) -> Result<(), Fail> {
     let setup = read_setup(rt.alloc(), BASE.as_bytes())?;
+    let passed = assert_each(rt, &setup, cases);
+    drop(setup);
+    passed
+}
+
+/// Asserts the verdicts on several texts over the base setup with two documents that are not there yet.
+pub fn assert_verdicts_over_reserved<R: AllocGlobal + Abort>(
+    rt: &R,
+    cases: &[(&str, Verdict)],
+) -> Result<(), Fail> {
+    let setup = reserved(rt.alloc())?;
     let passed = assert_each(rt, &setup, cases);
     drop(setup);
     passed

@@ -1,7 +1,7 @@
 -- The base setup of the examples, and the lines that they speak of.
 use Rattle.std.specs.Prelude.{ℕ, suc, Bool, true, false, List, [], ◌∷◌, Some, codes}
 use Rattle.bl_level.specs.Level.{SecurityLevel}
-use Rattle.bl_policy.specs.Policy.{SecurityPolicy, Clearance, no_policy, with_subject, with_document, with_modes}
+use Rattle.bl_policy.specs.Policy.{SecurityPolicy, Clearance, no_policy, with_subject, with_document, with_reserved, with_modes}
 use Rattle.bl_policy.specs.declared.access.ModeSet.{ModeSet}
 use Rattle.bl_work.specs.Names.{KnownNames}
 use Rattle.bl_policy.specs.declared.access.Access.{Access}
@@ -9,7 +9,7 @@ use Rattle.bl_policy.specs.declared.access.Mode.{Mode}
 use Rattle.bl_policy.specs.declared.access.Mode.TheVariants.{Read, Write}
 use Rattle.bl_policy.specs.declared.denial.Clause.{Clause}
 use Rattle.bl_policy.specs.declared.rule.Rule.{Rule}
-use Rattle.bl_policy.specs.declared.rule.Rule.TheVariants.{Current}
+use Rattle.bl_policy.specs.declared.rule.Rule.TheVariants.{Current, Create, Delete}
 use Rattle.bl_work.specs.Statements.{Statements, Part, Nothing, Show, Add, Spawn}
 use Rattle.bl_work.specs.declared.work.Work.{Work}
 use Rattle.bl_work.specs.declared.work.Work.TheVariants as work
@@ -46,6 +46,13 @@ note = 1
 
 abbrev pub log : ℕ
 log = 2
+
+-- of the setup with two reserved documents
+abbrev pub draft : ℕ
+draft = 3
+
+abbrev pub top : ℕ
+top = 4
 
 -- ranks u, c, s, t from 0; the categories nato and crypto have the bits 1 and 2
 abbrev pub u : SecurityLevel
@@ -120,6 +127,15 @@ with_dan = record {
   version = Two;
 }
 
+-- base, and behind it `reserve draft u` and `reserve top t`
+abbrev pub with_reserves : Setup
+with_reserves = record {
+  names = record names { documents = codes "memo" ∷ codes "note" ∷ codes "log" ∷ codes "draft" ∷ codes "top" ∷ [] };
+  policy = with_reserved (with_reserved allowed_all u) t;
+  contents = m1 ∷ n1 ∷ [] ∷ [] ∷ [] ∷ [];
+  version = Two;
+}
+
 abbrev pub access : Mode → ℕ → Access
 access mode doc = record { mode = mode; doc = doc }
 
@@ -184,3 +200,9 @@ abbrev pub carried_level : List Event
 carried_level =
     Opens bob ∷ Admits 0 1 (work.Rule (Current s_nato)) ∷ Admits 0 2 reads_then_adds ∷ Admits 0 3 (work.Rule (Current u)) ∷ Starts 0
     ∷ Starts 1 ∷ Ends 1 ∷ Starts 2 ∷ Starts 3 ∷ []
+
+-- root creates a document twice, deletes it and reads it
+abbrev pub comes_and_goes : List Event
+comes_and_goes =
+    Opens root ∷ Admits 0 1 (work.Rule (Create draft)) ∷ Admits 0 2 (work.Rule (Create draft)) ∷ Admits 0 3 (work.Rule (Delete draft))
+    ∷ Admits 0 4 (reads draft) ∷ Starts 0 ∷ Starts 1 ∷ Starts 2 ∷ Starts 3 ∷ []

@@ -8,20 +8,21 @@ use Rattle.bl_trail.specs.Asks.{HasNo, behind}
 use Rattle.bl_trail.specs.Follow.{IsLine}
 use Rattle.bl_trail.specs.Heads.{IsNoLimitLine, IsNoVersionLine}
 use Rattle.bl_trail.specs.TrueText.{AreAll, FirstWrong, GoesOn, IsWrong, head_lines, joined, trail_lines, version_line}
+use Rattle.bl_trail.specs.Versions.{HasSetup}
 
 -- a run of no event
 empty-run : (setup : Setup) → GoesOn setup [] (trail_lines Two setup 1 [])
-empty-run setup = record { version = Two; limit = 1; is_limit = (lit≤ tt, lit≤ tt); events = []; steps = tt; is = refl }
+empty-run setup = record { version = Two; has_setup = tt; limit = 1; is_limit = (lit≤ tt, lit≤ tt); events = []; steps = tt; has_events = tt; is = refl }
 
 first-of : (setup : Setup) (line : List ℕ) (more : List (List ℕ)) (g : GoesOn setup (line ∷ []) more) → version_line g.version ≡ line
 first-of setup line more g = ap (λ l. get_or l 0 []) g.is
 
--- the text has no first line, or one that names no version
-abbrev HasNoVersion : List ℕ → Type 0
-HasNoVersion text = HasNo 10 text ⊎ ((line : List ℕ) × (rest : List ℕ) × IsLine text line rest × IsNoVersionLine line)
+-- the text has no first line, or one that names no version that has the setup
+abbrev HasNoVersion : Setup → List ℕ → Type 0
+HasNoVersion setup text = HasNo 10 text ⊎ ((line : List ℕ) × (rest : List ℕ) × IsLine text line rest × IsNoVersionLine setup line)
 
--- a text that does not begin with a version
-pub no-version : (setup : Setup) (text : List ℕ) → HasNoVersion text → FirstWrong setup text 1
+-- a text that does not begin with a version that has the setup
+pub no-version : (setup : Setup) (text : List ℕ) → HasNoVersion setup text → FirstWrong setup text 1
 no-version setup text how = record {
   before = [];
   behind = text;
@@ -32,12 +33,12 @@ no-version setup text how = record {
   is = refl;
 }
   where
-    wrong : HasNoVersion text → IsWrong setup [] text
+    wrong : HasNoVersion setup text → IsWrong setup [] text
     wrong (inl none) = inl (none, λ empty all. no-lines all)
       where
         no-lines : AreAll setup [] → ⊥
         no-lines all = absurd (omega (arith, ap length all.is))
-    wrong (inr t) = inr (t.0, t.1, t.2.plain, t.2.split, λ right. t.3 right.1.version (sym (first-of setup t.0 right.0 right.1)))
+    wrong (inr t) = inr (t.0, t.1, t.2.plain, t.2.split, λ right. t.3 right.1.version right.1.has_setup (sym (first-of setup t.0 right.0 right.1)))
 
 second-of : (setup : Setup) (first line : List ℕ) (more : List (List ℕ)) (g : GoesOn setup (first ∷ line ∷ []) more) → codes "limit " ++ decimal g.limit ≡ line
 second-of setup first line more g = ap (λ l. get_or l 1 []) g.is
@@ -75,14 +76,14 @@ two-lines version limit text behind rest a b =
     ∙ sym (append_assoc (first ++ 10 ∷ []) (joined (second ∷ [])) rest)
 
 -- a text whose second line is not the text of a limit
-pub no-limit : (setup : Setup) (version : Version) (text behind : List ℕ) → text ≡ version_line version ++ 10 ∷ behind
+pub no-limit : (setup : Setup) (version : Version) (text behind : List ℕ) → HasSetup version setup → text ≡ version_line version ++ 10 ∷ behind
     → (HasNo 10 behind ⊎ ((line : List ℕ) × (rest : List ℕ) × IsLine behind line rest × IsNoLimitLine line)) → FirstWrong setup text 2
-no-limit setup version text behind is how = record {
+no-limit setup version text behind has is how = record {
   before = version_line version ∷ [];
   behind = behind;
   whole = (version-plain version, tt);
   split = is ∙ one-line (version_line version) behind;
-  right = ((codes "limit " ++ decimal 1) ∷ codes "stop" ∷ [], record { version = version; limit = 1; is_limit = (lit≤ tt, lit≤ tt); events = []; steps = tt; is = refl });
+  right = ((codes "limit " ++ decimal 1) ∷ codes "stop" ∷ [], record { version = version; has_setup = has; limit = 1; is_limit = (lit≤ tt, lit≤ tt); events = []; steps = tt; has_events = tt; is = refl });
   wrong = wrong how;
   is = refl;
 }

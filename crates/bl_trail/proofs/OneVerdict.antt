@@ -52,7 +52,7 @@ one-verdict setup text n k true_text wrong = go s.more s.lines s.rest s.plain wr
     s = splits (trail_lines true_text.version setup true_text.limit true_text.events) wrong.before wrong.behind true_text.plain wrong.whole (sym true_text.is ∙ wrong.split)
 
     on : (lines more : List (List ℕ)) → trail_lines true_text.version setup true_text.limit true_text.events ≡ lines ++ more → GoesOn setup lines more
-    on lines more is = record { version = true_text.version; limit = true_text.limit; is_limit = true_text.is_limit; events = true_text.events; steps = true_text.steps; is = is }
+    on lines more is = record { version = true_text.version; has_setup = true_text.has_setup; limit = true_text.limit; is_limit = true_text.is_limit; events = true_text.events; steps = true_text.steps; has_events = true_text.has_events; is = is }
 
     go : (more : List (List ℕ)) → trail_lines true_text.version setup true_text.limit true_text.events ≡ wrong.before ++ more → wrong.behind ≡ joined more → AllByRecursion (HasNo 10) more
         → IsWrong setup wrong.before wrong.behind → ⊥

@@ -1,11 +1,13 @@
 -- The worked examples, computed from the definitions alone.
 use Rattle.std.specs.Prelude.{◌≡◌, List, ℕ, [], ◌∷◌, ◌++◌, codes, refl}
 use Rattle.std.specs.Fmt.{digits}
+use Rattle.std.proofs.Common.{sym, true≢false, lit<}
 use Rattle.bl_work.specs.Content.{added}
 use Rattle.bl_setup.specs.declared.version.Version.TheVariants.{One, Two}
 use Rattle.bl_order.specs.Machine.{Opens, Admits, Starts, Ends, Loses}
 use Rattle.bl_trail.specs.TrueText.{trail_lines}
-use Rattle.bl_trail.proofs.Base.{base, read_one, later_child, carried_level, ann, memo, reads}
+use Rattle.bl_trail.specs.Versions.{HasSetup, HasEvents}
+use Rattle.bl_trail.proofs.Base.{base, with_reserves, read_one, later_child, carried_level, comes_and_goes, ann, memo, draft, reads}
 
 trail-of-read-one :
     trail_lines One base 10000 read_one
@@ -58,3 +60,19 @@ carried-level-by-two :
     ≡ codes "trail 2" ∷ (up_to_the_child ++ codes "start 3 denied carry bob note" ∷ codes "stop" ∷ [])
 unfolding digits added up_to_the_child
 carried-level-by-two = refl
+
+-- a document that is created, is there, is deleted, and is absent
+comes-and-goes :
+    trail_lines Two with_reserves 10000 comes_and_goes
+    ≡ codes "trail 2" ∷ codes "limit 10000" ∷ codes "open root" ∷ codes "line 0 1 create draft" ∷ codes "line 0 2 create draft"
+    ∷ codes "line 0 3 delete draft" ∷ codes "line 0 4 when read draft do show draft;end" ∷ codes "start 0 rule"
+    ∷ codes "start 1 denied present root draft" ∷ codes "start 2 rule" ∷ codes "start 3 denied absent root draft" ∷ codes "stop" ∷ []
+unfolding digits
+comes-and-goes = refl
+
+-- version 1 has neither such lines nor a setup with reserved documents
+no-such-line : HasEvents One comes_and_goes → ⊥
+no-such-line has = has.1.0
+
+no-such-setup : HasSetup One with_reserves → ⊥
+no-such-setup has = true≢false (sym (has draft (lit< tt)))

@@ -7,26 +7,20 @@ use Rattle.bl_setup.specs.Agreement.{Agree}
 use Rattle.bl_setup.specs.Setup.{Setup, by_version}
 use Rattle.bl_setup.specs.declared.version.Version.{Version}
 use Rattle.bl_setup.specs.declared.version.Version.TheVariants.{One, Two}
-use Rattle.bl_order.specs.Machine.{State, Event, Opens, Admits, Starts, Ends, Loses, IsTrail, change, state_after, start}
+use Rattle.bl_order.specs.Machine.{State, Event, IsTrail, change, state_after, start}
 use Rattle.bl_trail.specs.Asks.{HasNo}
 use Rattle.bl_trail.specs.OneEvent.{Reads, IsSmall, AreSmall}
 use Rattle.bl_trail.specs.TrueText.{IsLimit, event_texts, head_lines, version_line, trail_lines, joined, GoesOn, AreRight, IsWrong, IsTrueText, FirstWrong}
 use Rattle.bl_trail.specs.Follow.{Followed, IsNoEvent, IsNotNext, IsMore, IsFollowed, IsVerdict}
+use Rattle.bl_trail.specs.Versions.{HasSetup, HasEvent, HasEvents}
 use Rattle.bl_trail.specs.declared.verdict.Verdict.{Verdict}
 use Rattle.bl_trail.specs.declared.verdict.Verdict.TheVariants.{Accepted, Rejected}
-use Rattle.bl_trail.proofs.Following.{joined-append, all-append}
+use Rattle.bl_trail.proofs.Following.{joined-append, all-append, setup-kept, setup-end}
 use Rattle.bl_trail.proofs.Heading.{version-plain}
 use Rattle.bl_trail.proofs.OneEventLaw.{one_event, not_stop, decimal-has_no, told_apart}
 
 abbrev pub stop : List ℕ
 stop = codes "stop"
-
-setup-kept : (x : State) (e : Event) → x.setup ≡ (change x e).setup
-setup-kept x (Opens s) = refl
-setup-kept x (Admits i k w) = refl
-setup-kept x (Starts n) = refl
-setup-kept x (Ends n) = refl
-setup-kept x (Loses n) = refl
 
 -- what is known of a state whose events have one text each
 abbrev IsPlain : State → Type 0
@@ -48,25 +42,27 @@ plain-end x [] p = p
 plain-end x (e ∷ es) p = plain-end (change x e) es (plain-kept x e p)
 
 -- events that go on behind others, up to a `stop`
-pub record Rest (y : State) (tail : List (List ℕ)) : Type 0 where
+pub record Rest (version : Version) (y : State) (tail : List (List ℕ)) : Type 0 where
   pub events : List Event
   pub steps : IsTrail y events
+  pub has : HasEvents version events
   pub texts : event_texts y events ++ stop ∷ [] ≡ tail
 
 -- of two trails that begin with the same lines, the second goes on from where the first leads
-walk : (x : State) (es fs : List Event) (tail : List (List ℕ)) → IsPlain x → AreSmall x es → IsTrail x es → IsTrail x fs
-    → event_texts x fs ++ stop ∷ [] ≡ event_texts x es ++ tail → Rest (state_after x es) tail
-walk x [] fs tail plain small steps others h = record { events = fs; steps = others; texts = h }
-walk x (e ∷ es) [] tail plain small steps others h = absurd (not_stop x plain.0 plain.1 small.0 e (sym (ap (λ l. get_or l 0 []) h)))
-walk x (e ∷ es) (f ∷ fs) tail plain small steps others h =
+walk : (version : Version) (x : State) (es fs : List Event) (tail : List (List ℕ)) → IsPlain x → AreSmall x es → IsTrail x es → IsTrail x fs → HasEvents version fs
+    → event_texts x fs ++ stop ∷ [] ≡ event_texts x es ++ tail → Rest version (state_after x es) tail
+walk version x [] fs tail plain small steps others has h = record { events = fs; steps = others; has = has; texts = h }
+walk version x (e ∷ es) [] tail plain small steps others has h = absurd (not_stop x plain.0 plain.1 small.0 e (sym (ap (λ l. get_or l 0 []) h)))
+walk version x (e ∷ es) (f ∷ fs) tail plain small steps others has h =
     let same : f ≡ e = one_event x plain.0 plain.1 small.0 f e others.0 steps.0 (ap (λ l. get_or l 0 []) h) in
-    walk (change x e) es fs tail (plain-kept x e plain) small.1 steps.1
-    (subst (λ d. IsTrail (change x d) fs) same others.1)
+    walk version (change x e) es fs tail (plain-kept x e plain) small.1 steps.1
+    (subst (λ d. IsTrail (change x d) fs) same others.1) has.1
     (ap (λ d. event_texts (change x d) fs ++ stop ∷ []) (sym same) ∙ ap (drop 1) h)
 
 -- a setup is one whole by whatever version
 pub agrees-by : (version : Version) (setup : Setup) → Agree setup → Agree (by_version version setup)
-agrees-by version setup agree = record { subjects = agree.subjects; documents = agree.documents; contents = agree.contents }
+agrees-by version setup agree =
+    record { subjects = agree.subjects; documents = agree.documents; presence = agree.presence; contents = agree.contents; absent = agree.absent }
 
 -- the seventh byte tells the lines of two versions apart
 one_version : (v w : Version) → version_line v ≡ version_line w → v ≡ w
@@ -79,8 +75,8 @@ one_version Two Two h = refl
 abbrev start_by : Version → Setup → ℕ → State
 start_by version setup limit = start (by_version version setup) limit
 
-module _ (version : Version) (setup : Setup) (limit : ℕ) (is_limit : IsLimit limit) (plain : IsPlain (start_by version setup limit)) (events : List Event)
-    (steps : IsTrail (start_by version setup limit) events) (small : AreSmall (start_by version setup limit) events) where
+module _ (version : Version) (setup : Setup) (has_setup : HasSetup version setup) (limit : ℕ) (is_limit : IsLimit limit) (plain : IsPlain (start_by version setup limit)) (events : List Event)
+    (steps : IsTrail (start_by version setup limit) events) (has : HasEvents version events) (small : AreSmall (start_by version setup limit) events) where
   abbrev pub x0 : State
   x0 = start_by version setup limit
 
@@ -88,7 +84,7 @@ module _ (version : Version) (setup : Setup) (limit : ℕ) (is_limit : IsLimit l
   before = head_lines version limit ++ event_texts x0 events
 
   -- a true text that begins with these lines goes on from where they lead
-  goes-on : (tail : List (List ℕ)) (lines more : List (List ℕ)) → GoesOn setup lines more → lines ++ more ≡ before ++ tail → Rest (state_after x0 events) tail
+  goes-on : (tail : List (List ℕ)) (lines more : List (List ℕ)) → GoesOn setup lines more → lines ++ more ≡ before ++ tail → Rest version (state_after x0 events) tail
   goes-on tail lines more g is =
       let all : trail_lines g.version setup g.limit g.events ≡ before ++ tail = g.is ∙ is in
       let by : g.version ≡ version = one_version g.version version (ap (λ l. get_or l 0 []) all) in
@@ -96,28 +92,29 @@ module _ (version : Version) (setup : Setup) (limit : ℕ) (is_limit : IsLimit l
       let low2 : g.limit < 2 ^ 64 = omega (arith, g.is_limit.1) in
       let same : g.limit ≡ limit = decimal_injective g.limit limit low2 low (ap (λ l. drop 6 (get_or l 1 [])) all) in
       let begins : start_by g.version setup g.limit ≡ x0 = ap (λ v. start_by v setup g.limit) by ∙ ap (start_by version setup) same in
-      walk x0 events g.events tail plain small steps (subst (λ x. IsTrail x g.events) begins g.steps)
+      walk version x0 events g.events tail plain small steps (subst (λ x. IsTrail x g.events) begins g.steps)
+      (subst (λ v. HasEvents v g.events) by g.has_events)
       (ap (λ x. event_texts x g.events ++ stop ∷ []) (sym begins) ∙ ap (drop 2) all)
 
   abbrev pub end : State
   end = state_after x0 events
 
   -- what is not next is wrong behind them
-  no_event : (line : List ℕ) (more : List (List ℕ)) → line ≢ stop → IsNoEvent end line → Rest (state_after x0 events) (line ∷ more) → ⊥
-  no_event line more other none r = go r.events r.steps r.texts
+  no_event : (line : List ℕ) (more : List (List ℕ)) → line ≢ stop → IsNoEvent end line → Rest version (state_after x0 events) (line ∷ more) → ⊥
+  no_event line more other none r = go r.events r.steps r.has r.texts
     where
-      go : (gs : List Event) → IsTrail (state_after x0 events) gs → event_texts (state_after x0 events) gs ++ stop ∷ [] ≡ line ∷ more → ⊥
-      go [] s h = other (sym (ap (λ l. get_or l 0 []) h))
-      go (g ∷ gs) s h = none g s.0 (sym (ap (λ l. get_or l 0 []) h))
+      go : (gs : List Event) → IsTrail (state_after x0 events) gs → HasEvents version gs → event_texts (state_after x0 events) gs ++ stop ∷ [] ≡ line ∷ more → ⊥
+      go [] s has h = other (sym (ap (λ l. get_or l 0 []) h))
+      go (g ∷ gs) s has h = none g s.0 (subst (λ (k : Setup). HasEvent k.version g) (setup-end x0 events) has.0) (sym (ap (λ l. get_or l 0 []) h))
 
-  no_end : Rest (state_after x0 events) [] → ⊥
+  no_end : Rest version (state_after x0 events) [] → ⊥
   no_end r = go r.events r.texts
     where
       go : (gs : List Event) → event_texts (state_after x0 events) gs ++ stop ∷ [] ≡ [] → ⊥
       go [] h = absurd (omega (arith, ap length h))
       go (g ∷ gs) h = absurd (omega (arith, ap length h))
 
-  no_more : (line : List ℕ) (more : List (List ℕ)) → Rest (state_after x0 events) (stop ∷ line ∷ more) → ⊥
+  no_more : (line : List ℕ) (more : List (List ℕ)) → Rest version (state_after x0 events) (stop ∷ line ∷ more) → ⊥
   no_more line more r = go r.events r.texts
     where
       e : IsPlain (state_after x0 events)
@@ -152,10 +149,10 @@ module _ (version : Version) (setup : Setup) (limit : ℕ) (is_limit : IsLimit l
       )
 
   right : AreRight setup before
-  right = (stop ∷ [], record { version = version; limit = limit; is_limit = is_limit; events = events; steps = steps; is = sym (regroup (head_lines version limit) (event_texts x0 events) (stop ∷ [])) })
+  right = (stop ∷ [], record { version = version; has_setup = has_setup; limit = limit; is_limit = is_limit; events = events; steps = steps; has_events = has; is = sym (regroup (head_lines version limit) (event_texts x0 events) (stop ∷ [])) })
 
   right-closed : AreRight setup (before ++ stop ∷ [])
-  right-closed = ([], record { version = version; limit = limit; is_limit = is_limit; events = events; steps = steps; is = sym (append-nil (before ++ stop ∷ []) ∙ regroup (head_lines version limit) (event_texts x0 events) (stop ∷ [])) })
+  right-closed = ([], record { version = version; has_setup = has_setup; limit = limit; is_limit = is_limit; events = events; steps = steps; has_events = has; is = sym (append-nil (before ++ stop ∷ []) ∙ regroup (head_lines version limit) (event_texts x0 events) (stop ∷ [])) })
 
   length-texts : (x : State) (es : List Event) → length (event_texts x es) ≡ length es
   length-texts x [] = refl
@@ -204,10 +201,12 @@ module _ (version : Version) (setup : Setup) (limit : ℕ) (is_limit : IsLimit l
     pub accepted : (count : ℕ) → rest ≡ [] → count ≡ length events → IsTrueText setup (joined (head_lines version limit) ++ text) count
     accepted count none is = record {
       version = version;
+      has_setup = has_setup;
       limit = limit;
       is_limit = is_limit;
       events = events;
       steps = steps;
+      has_events = has;
       plain = subst (AllByRecursion (HasNo 10)) (regroup (head_lines version limit) (event_texts x0 events) (stop ∷ [])) (all-append (HasNo 10) before (stop ∷ []) (plain-before text (stop ++ 10 ∷ rest) head followed) (plain_stop, tt));
       counted = is;
       is = split-closed ∙ ap (λ r. joined (before ++ stop ∷ []) ++ r) none ∙ append-nil (joined (before ++ stop ∷ []))
@@ -215,13 +214,13 @@ module _ (version : Version) (setup : Setup) (limit : ℕ) (is_limit : IsLimit l
     }
 
 -- THE VERDICT: where the lines behind the head were followed, the verdict is that of TrueText
-pub verdict-is : (version : Version) (setup : Setup) (limit : ℕ) → IsLimit limit → Reads setup.names → Agree setup
+pub verdict-is : (version : Version) (setup : Setup) (limit : ℕ) → HasSetup version setup → IsLimit limit → Reads setup.names → Agree setup
     → ((events : List Event) → IsTrail (start_by version setup limit) events → AreSmall (start_by version setup limit) events)
     → AllByRecursion (HasNo 10) (head_lines version limit) → HasNo 10 stop → (text : List ℕ) (verdict : Verdict) → IsFollowed (start_by version setup limit) text verdict
     → IsVerdict setup (joined (head_lines version limit) ++ text) verdict
-verdict-is version setup limit is_limit reads agree small head plain_stop text (Accepted count) f =
-    accepted version setup limit is_limit (reads, agrees-by version setup agree) f.0 f.1.steps (small f.0 f.1.steps) text [] head plain_stop f.1 count refl f.2
-verdict-is version setup limit is_limit reads agree small head plain_stop text (Rejected number) f = go f.2
+verdict-is version setup limit has_setup is_limit reads agree small head plain_stop text (Accepted count) f =
+    accepted version setup has_setup limit is_limit (reads, agrees-by version setup agree) f.0 f.1.steps f.1.has (small f.0 f.1.steps) text [] head plain_stop f.1 count refl f.2
+verdict-is version setup limit has_setup is_limit reads agree small head plain_stop text (Rejected number) f = go f.2
   where
     plain : IsPlain (start_by version setup limit)
     plain = (reads, agrees-by version setup agree)
@@ -229,8 +228,8 @@ verdict-is version setup limit is_limit reads agree small head plain_stop text (
     go : ((Followed (start_by version setup limit) text f.1 f.0 × IsNotNext (state_after (start_by version setup limit) f.0) f.1 × (number ≡ length f.0 + 3))
         ⊎ (Followed (start_by version setup limit) text (stop ++ 10 ∷ f.1) f.0 × IsMore f.1 × (number ≡ length f.0 + 4)))
         → FirstWrong setup (joined (head_lines version limit) ++ text) number
-    go (inl t) = rejected-next version setup limit is_limit plain f.0 t.0.steps (small f.0 t.0.steps) text f.1 head t.0 number t.1 t.2
-    go (inr t) = rejected-more version setup limit is_limit plain f.0 t.0.steps (small f.0 t.0.steps) text f.1 head plain_stop t.0 number t.1 t.2
+    go (inl t) = rejected-next version setup has_setup limit is_limit plain f.0 t.0.steps t.0.has (small f.0 t.0.steps) text f.1 head t.0 number t.1 t.2
+    go (inr t) = rejected-more version setup has_setup limit is_limit plain f.0 t.0.steps t.0.has (small f.0 t.0.steps) text f.1 head plain_stop t.0 number t.1 t.2
 
 -- the head lines and the closing `stop` have no LF
 no_lf : (n : ℕ) → 10 < n → n ≢ 10

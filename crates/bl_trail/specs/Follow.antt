@@ -6,20 +6,22 @@ use Rattle.bl_trail.specs.Asks.{HasNo}
 use Rattle.bl_trail.specs.EventText.{event_text}
 use Rattle.bl_setup.specs.Setup.{Setup}
 use Rattle.bl_trail.specs.TrueText.{event_texts, joined, IsTrueText, FirstWrong}
+use Rattle.bl_trail.specs.Versions.{HasEvent, HasEvents}
 use Rattle.bl_trail.specs.declared.verdict.Verdict.{Verdict}
 use Rattle.bl_trail.specs.declared.verdict.Verdict.TheVariants.{Accepted, Rejected}
 
--- the line is the text of no event that may come next
+-- the line is the text of no event that the version has and that may come next
 abbrev pub IsNoEvent : State → List ℕ → Type 0
-IsNoEvent x line = (event : Event) → Needs x event → line ≡ event_text x event → ⊥
+IsNoEvent x line = (event : Event) → Needs x event → HasEvent x.setup.version event → line ≡ event_text x event → ⊥
 
--- the line is the text of an event that may come next, and this is so of the state that it leads to
+-- the line is the text of an event that the version has and that may come next, and this is so of the state that it leads to
 abbrev pub IsTaken : State → List ℕ → (State → Type 0) → Type 0
-IsTaken x line next = (event : Event) × Needs x event × (line ≡ event_text x event) × next (change x event)
+IsTaken x line next = (event : Event) × Needs x event × HasEvent x.setup.version event × (line ≡ event_text x event) × next (change x event)
 
--- the text is that of these events, and then something else
+-- the text is that of these events, which the version has, and then something else
 pub record Followed (x : State) (text rest : List ℕ) (events : List Event) : Type 0 where
   pub steps : IsTrail x events
+  pub has : HasEvents x.setup.version events
   pub plain : AllByRecursion (HasNo 10) (event_texts x events)
   pub split : text ≡ joined (event_texts x events) ++ rest
 

@@ -7,3 +7,4 @@ pub mod Follow
 pub mod WorkText
 pub mod Heads
 pub mod StartWords
+pub mod Versions

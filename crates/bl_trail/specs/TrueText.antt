@@ -6,6 +6,7 @@ use Rattle.bl_setup.specs.declared.version.Version.{Version}
 use Rattle.bl_setup.specs.declared.version.Version.TheVariants.{One, Two}
 use Rattle.bl_order.specs.Machine.{State, Event, IsTrail, change, start}
 use Rattle.bl_trail.specs.EventText.{event_text}
+use Rattle.bl_trail.specs.Versions.{HasSetup, HasEvents}
 
 -- the texts of events, each by the state that it finds
 abbrev pub event_texts : State → List Event → List (List ℕ)
@@ -38,13 +39,15 @@ joined lines = flat_map (λ line. line ++ 10 ∷ []) lines
 abbrev pub HasNoLf : List ℕ → Type 0
 HasNoLf = AllByRecursion (λ b. b ≢ 10)
 
--- TrueText: the text is that of a trail of so many events, of some version and under some limit
+-- TrueText: the text is that of a trail of so many events, of some version that has them and the setup, and under some limit
 pub record IsTrueText (setup : Setup) (text : List ℕ) (count : ℕ) : Type 0 where
   pub version : Version
+  pub has_setup : HasSetup version setup
   pub limit : ℕ
   pub is_limit : IsLimit limit
   pub events : List Event
   pub steps : IsTrail (start (by_version version setup) limit) events
+  pub has_events : HasEvents version events
   pub plain : AllByRecursion HasNoLf (trail_lines version setup limit events)
   pub is : text ≡ joined (trail_lines version setup limit events)
   pub counted : count ≡ length events
@@ -52,10 +55,12 @@ pub record IsTrueText (setup : Setup) (text : List ℕ) (count : ℕ) : Type 0 w
 -- a true text begins with these lines, and goes on with those
 pub record GoesOn (setup : Setup) (lines : List (List ℕ)) (more : List (List ℕ)) : Type 0 where
   pub version : Version
+  pub has_setup : HasSetup version setup
   pub limit : ℕ
   pub is_limit : IsLimit limit
   pub events : List Event
   pub steps : IsTrail (start (by_version version setup) limit) events
+  pub has_events : HasEvents version events
   pub is : trail_lines version setup limit events ≡ lines ++ more
 
 -- by the lines before them alone, these lines are right

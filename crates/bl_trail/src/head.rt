@@ -1,12 +1,15 @@
-//! The head of a trail's text: its version and its limit.
+//! The head of a trail's text: its version, which has to have the setup, and its limit.
 ghost use Rattle.std.specs.Prelude.{◌≡◌, ◌++◌, IfOk, IfSome, None, codes, decimal};
 ghost use Rattle.bl_trail.specs.Heads.{IsHead, IsNoLimitLine, IsNoVersionLine};
 ghost use Rattle.bl_trail.specs.TrueText.{IsLimit, version_line};
+ghost use Rattle.bl_trail.specs.Versions.{HasSetup};
 
 use crate::ask::{number, split_word};
 use crate::follow::first_line;
 use crate::text::limit_text;
+use crate::version::has_setup;
 use crate::work::same_bytes;
+use bl_setup::setup::Setup;
 use bl_setup::version::Version;
 use std::alloc::{AllocError, Global};
 
@@ -26,16 +29,20 @@ pub enum Head<'a> {
     Wrong(u64),
 }
 
-/// The version that the line names; `None` where it names none.
-fn version_of(line: &[u8]) -> Option<Version>
-    ensures some { IfSome result (λ version. line.now ≡ version_line version) }
-    ensures none { result ≡ None → IsNoVersionLine line.now }
+/// The version that the line names; `None` where it names none that has the setup.
+fn version_of(setup: &Setup, line: &[u8]) -> Option<Version>
+    ensures some { IfSome result (λ version. HasSetup version setup.now × (line.now ≡ version_line version)) }
+    ensures none { result ≡ None → IsNoVersionLine setup.now line.now }
 {
-    match line {
-        b"trail 1" => Some(Version::One),
-        b"trail 2" => Some(Version::Two),
-        _ => None,
+    let version = match line {
+        b"trail 1" => Version::One,
+        b"trail 2" => Version::Two,
+        _ => return None,
+    };
+    if !has_setup(version, setup) {
+        return None;
     }
+    Some(version)
 }
 
 /// The limit that the line names, which is 1 to 100,000; `None` where the line is not the text of such a limit.
@@ -63,15 +70,15 @@ fn limit_of(alloc: Global, line: &[u8]) -> Result<Option<u32>, AllocError>
     Ok(Some(limit))
 }
 
-/// The head of a text: its first line is `trail 1` or `trail 2`, its second the `limit` line. An error comes only
-/// where a growth is refused.
-pub fn head_of(alloc: Global, text: &[u8]) -> Result<Head<'_>, AllocError>
-    ensures { IfOk result (IsHead text.now) }
+/// The head of the text of a trail over the setup: its first line is `trail 2`, or `trail 1` where every document of the
+/// setup is present, its second the `limit` line. An error comes only where a growth is refused.
+pub fn head_of<'a>(alloc: Global, setup: &Setup, text: &'a [u8]) -> Result<Head<'a>, AllocError>
+    ensures { IfOk result (IsHead setup.now text.now) }
 {
     let Some((first, behind)) = first_line(text) else {
         return Ok(Head::Wrong(1));
     };
-    let Some(version) = version_of(first) else {
+    let Some(version) = version_of(setup, first) else {
         return Ok(Head::Wrong(1));
     };
     let Some((second, rest)) = first_line(behind) else {

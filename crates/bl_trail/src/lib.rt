@@ -5,6 +5,7 @@
 //!     ask        which event a line would be
 //!     work       the work whose canonical text a line has
 //!     head       the version and the limit
+//!     version    which setups and works the versions have
 //!     text       the texts of events, and what a start says
 //!
 //! The definitions stand in specs/: EventText and TrueText say what a true text is.
@@ -15,4 +16,5 @@ pub mod follow;
 pub mod head;
 pub mod text;
 pub mod verdict;
+pub mod version;
 pub mod work;

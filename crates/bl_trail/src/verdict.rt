@@ -7,6 +7,7 @@ ghost use Rattle.bl_order.specs.Machine.{start};
 ghost use Rattle.bl_work.specs.Names.{AreNames};
 ghost use Rattle.bl_trail.specs.Follow.{IsFollowed, IsVerdict};
 ghost use Rattle.bl_trail.specs.TrueText.{FirstWrong, IsLimit, IsTrueText, head_lines, joined};
+ghost use Rattle.bl_trail.specs.Versions.{HasSetup};
 ghost use Rattle.bl_trail.specs.declared.verdict.Verdict.{Verdict as AnyVerdict};
 ghost use Rattle.bl_trail.specs.declared.verdict.Verdict.TheVariants.{Accepted};
 
@@ -38,9 +39,9 @@ pub fn true_texts_are_accepted()
 
 /// Where the lines after the head were followed to their end, in a run that is judged by the version of the head, the
 /// verdict on them is the verdict on the whole text: a line that is the text of no event that may come next stands in no
-/// true text after the lines before it.
+/// true text after the lines before it. The version has to have the setup.
 pub fn what_was_followed_tells_the_verdict()
-    ensures { (setup : Setup) (version : AnyVersion) (limit : ℕ) → IsLimit limit → Agree setup → AreNames setup.names
+    ensures { (setup : Setup) (version : AnyVersion) (limit : ℕ) → HasSetup version setup → IsLimit limit → Agree setup → AreNames setup.names
         → (text : List ℕ) (verdict : AnyVerdict) → IsFollowed (start (by_version version setup) limit) text verdict
         → IsVerdict setup (joined (head_lines version limit) ++ text) verdict }
 {

@@ -5,6 +5,7 @@ use Rattle.bl_order.specs.Machine.{start}
 use Rattle.bl_trail.specs.Follow.{IsVerdict}
 use Rattle.bl_trail.specs.TrueText.{IsLimit, head_lines, joined}
 use Rattle.bl_trail.specs.Heads.{IsHead}
+use Rattle.bl_trail.specs.Versions.{HasSetup}
 use Rattle.bl_replay.specs.Marks.{lost_later}
 use Rattle.bl_replay.proofs.Taking.{if-ok}
 use Rattle.bl_replay.proofs.replay.replay.Goals as goal
@@ -21,15 +22,16 @@ follow-verdict-requires c = (
 )
 
 pub returns-in-Wrong : goal.returns-in-Wrong
-returns-in-Wrong c = subst (IsHead c.args.text.now) c.in-Wrong.is c.in_ok-line.ensures c.args.setup.now
+returns-in-Wrong c = subst (IsHead c.args.setup.now c.args.text.now) c.in-Wrong.is c.in_ok-line.ensures
 
 pub returns-in_ok-replayer-in-Right : goal.returns-in_ok-replayer-in-Right
 returns-in_ok-replayer-in-Right c =
-    let head : IsLimit c.in-Right.limit × (c.args.text.now ≡ joined (head_lines c.in-Right.version c.in-Right.limit) ++ c.in-Right.rest.now) =
-    subst (IsHead c.args.text.now) c.in-Right.is c.in_ok-line.ensures in
+    let head : HasSetup c.in-Right.version c.args.setup.now × IsLimit c.in-Right.limit
+    × (c.args.text.now ≡ joined (head_lines c.in-Right.version c.in-Right.limit) ++ c.in-Right.rest.now) =
+    subst (IsHead c.args.setup.now c.args.text.now) c.in-Right.is c.in_ok-line.ensures in
     if-ok c.follow-verdict.result _ _ c.follow-verdict.ensures
-    (λ verdict followed. subst (λ (t : List ℕ). IsVerdict c.args.setup.now t verdict) (sym head.1)
-    (c.what_was_followed_tells_the_verdict.ensures c.args.setup.now c.in-Right.version c.in-Right.limit head.0 c.names-names.ensures.agree
+    (λ verdict followed. subst (λ (t : List ℕ). IsVerdict c.args.setup.now t verdict) (sym head.2)
+    (c.what_was_followed_tells_the_verdict.ensures c.args.setup.now c.in-Right.version c.in-Right.limit head.0 head.1 c.names-names.ensures.agree
     (subst AreNames c.names.ensures.value c.subjects-subjects.ensures.names) c.in-Right.rest.now verdict
     (followed (start (by_version c.in-Right.version c.args.setup.now) c.in-Right.limit) (record {
       keeps = c.in_ok-replayer-in-Right.ensures.keeps;

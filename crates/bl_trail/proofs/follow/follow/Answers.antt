@@ -7,7 +7,7 @@ use Rattle.bl_trail.proofs.follow.follow.Goals as goal
 
 pub lines-init : goal.lines-init
 lines-init g c = record {
-  goes = λ x stands. ([], record { steps = tt; plain = tt; split = refl }, stands, refl);
+  goes = λ x stands. ([], record { steps = tt; has = tt; plain = tt; split = refl }, stands, refl);
   within = omega arith;
 }
 
@@ -63,8 +63,8 @@ lines-preserved g c = record {
       let right : IsTaken (state_after x inv.0) c.in-Some.line.now (λ y. g.M.Follows.stands c.take.new.self y c.in-Some.behind.now) =
       c.in_ok-take.ensures.right c.if-not-branch.false (state_after x inv.0) c.in-Some.behind.now (subst (g.M.Follows.stands c.lines.machine (state_after x inv.0)) cut.split inv.2) in (
         inv.0 ++ right.0 ∷ [],
-        followed-more x c.args.text.now c.lines.rest.now c.in-Some.line.now c.in-Some.behind.now inv.0 right.0 inv.1 cut right.1 right.2,
-        subst (λ y. g.M.Follows.stands c.take.new.self y c.in-Some.behind.now) (sym (state-more x inv.0 right.0)) right.3,
+        followed-more x c.args.text.now c.lines.rest.now c.in-Some.line.now c.in-Some.behind.now inv.0 right.0 inv.1 cut right.1 right.2 right.3,
+        subst (λ y. g.M.Follows.stands c.take.new.self y c.in-Some.behind.now) (sym (state-more x inv.0 right.0)) right.4,
         omega (arith, inv.3, length-append inv.0 (right.0 ∷ [])),
       );
   within = omega (arith, c.lines.invariant.within, line-length c.lines.rest.now c.in-Some.line.now c.in-Some.behind.now c.in-Some.ensures);

@@ -34,16 +34,16 @@ finish-requires c =
     (c.requires.ready.0, c.in_ok-feed_to.ensures.keeps c.requires.ready.0 c.requires.ready.2.keeps, (c.is_running.ensures c.requires.ready.0 c.requires.ready.2.keeps).0 c.if-not-is_running.false)
 
 pub returns-then-not-is_running-clause-wrong : goal.returns-then-not-is_running-clause-wrong
-returns-then-not-is_running-clause-wrong c is x rest replays needs text =
+returns-then-not-is_running-clause-wrong c is x rest replays needs has text =
     true≢false (sym ((c.is_running.ensures x replays.keeps).1 needs) ∙ c.if-not-is_running.true)
 
 pub returns-then-is_lost_later-clause-wrong : goal.returns-then-is_lost_later-clause-wrong
-returns-then-is_lost_later-clause-wrong c is x rest replays needs text =
+returns-then-is_lost_later-clause-wrong c is x rest replays needs has text =
     true≢false (sym c.if-is_lost_later.true ∙ c.is_lost_later.ensures ∙ ap (λ l. lost_later l c.args.n) c.deref.ensures.value
     ∙ ends-open c.the_order_has_room.ensures.order x c.args.self.now c.args.line.now rest c.args.n c.requires.plain replays needs text)
 
 pub returns-then-not-same_bytes-clause-wrong : goal.returns-then-not-same_bytes-clause-wrong
-returns-then-not-same_bytes-clause-wrong c is x rest replays needs text =
+returns-then-not-same_bytes-clause-wrong c is x rest replays needs has text =
     let keeps : KeepsAt x c.feed_to.new.self = c.in_ok-feed_to.ensures.keeps x replays.keeps in
     let foretold : AreForetold (lost_later c.feed_to.new.self.marks.items) x =
     subst (λ m. AreForetold (lost_later m.items) x) (sym c.in_ok-feed_to.ensures.marks) (told-before c.the_order_has_room.ensures.order x c.args.self.now _ replays) in
@@ -72,6 +72,7 @@ returns-clause-right c is x rest replays =
     ∙ ap (λ (a : Answer). codes "end " ++ (decimal c.args.n ++ answer_text x.setup.names a)) said in
     record {
       needs = running;
+      has = tt;
       text = c.same_bytes.ensures.0 c.if-not-same_bytes.false ∙ c.deref-2.ensures.value ∙ c.in_ok-text.ensures ∙ whole;
       keeps = c.in_ok-finish.ensures.keeps x keeps foretold running open_yet c.in_ok-feed_to.ensures.told;
     }

@@ -7,6 +7,7 @@ drop_place-requires c = (c.requires.0, c.requires.2.keeps, (c.may_lose.ensures c
 pub returns-clause-right : goal.returns-clause-right
 returns-clause-right c is x keeps = record {
   needs = (c.may_lose.ensures x keeps).0 c.if-not-may_lose.false;
+  has = tt;
   text = c.same_bytes.ensures.0 c.if-not-same_bytes.false ∙ c.deref.ensures.value ∙ c.in_ok-text.ensures;
   keeps = c.drop_place.ensures.keeps x keeps ((c.may_lose.ensures x keeps).0 c.if-not-may_lose.false);
 }

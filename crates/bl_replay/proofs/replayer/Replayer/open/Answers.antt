@@ -6,7 +6,7 @@ use Rattle.bl_work.proofs.Widths.{name_is}
 use Rattle.bl_replay.proofs.replayer.Replayer.open.Goals as goal
 
 pub returns-then-not-same_bytes-clause-wrong : goal.returns-then-not-same_bytes-clause-wrong
-returns-then-not-same_bytes-clause-wrong c is x keeps subject named needs text =
+returns-then-not-same_bytes-clause-wrong c is x keeps subject named needs has text =
     true≢false (sym (c.same_bytes.ensures.1
     (text
     ∙ ap (λ (n : List ℕ). codes "open " ++ n) (sym named ∙ name_is c.args.self.now.setup.names.subjects c.args.name.now c.in-Some.subject

@@ -28,11 +28,11 @@ begin-requires c =
     (c.requires.ready.0, c.in_ok-feed_to.ensures.keeps c.requires.ready.0 c.requires.ready.2.keeps, (c.is_ready.ensures c.requires.ready.0 c.requires.ready.2.keeps).0 c.if-not-is_ready.false)
 
 pub returns-then-not-is_ready-clause-wrong : goal.returns-then-not-is_ready-clause-wrong
-returns-then-not-is_ready-clause-wrong c is x rest replays needs text =
+returns-then-not-is_ready-clause-wrong c is x rest replays needs has text =
     true≢false (sym ((c.is_ready.ensures x replays.keeps).1 needs) ∙ c.if-not-is_ready.true)
 
 pub returns-in_default-clause-wrong : goal.returns-in_default-clause-wrong
-returns-in_default-clause-wrong c is x rest replays needs text =
+returns-in_default-clause-wrong c is x rest replays needs has text =
     let keeps : KeepsAt x c.feed_to.new.self = c.in_ok-feed_to.ensures.keeps x replays.keeps in
     let foretold : AreForetold (lost_later c.feed_to.new.self.marks.items) x =
     subst (λ m. AreForetold (lost_later m.items) x) (sym c.in_ok-feed_to.ensures.marks) (told-before c.the_order_has_room.ensures.order x c.args.self.now _ replays) in
@@ -41,7 +41,7 @@ returns-in_default-clause-wrong c is x rest replays needs text =
     true≢false (sym (runs-later c.the_order_has_room.ensures.order x c.args.self.now c.args.line.now rest c.args.n c.requires.plain replays needs text later) ∙ none.1)
 
 pub returns-then-not-same_bytes-clause-wrong : goal.returns-then-not-same_bytes-clause-wrong
-returns-then-not-same_bytes-clause-wrong c is x rest replays needs text =
+returns-then-not-same_bytes-clause-wrong c is x rest replays needs has text =
     let keeps : KeepsAt x c.feed_to.new.self = c.in_ok-feed_to.ensures.keeps x replays.keeps in
     let foretold : AreForetold (lost_later c.feed_to.new.self.marks.items) x =
     subst (λ m. AreForetold (lost_later m.items) x) (sym c.in_ok-feed_to.ensures.marks) (told-before c.the_order_has_room.ensures.order x c.args.self.now _ replays) in
@@ -63,6 +63,7 @@ returns-clause-right c is x rest replays =
     ∙ ap (λ t. codes "start " ++ (decimal c.args.n ++ t)) (sym (says-words x.setup.names (past_at x c.args.n).answer c.in-Some.words said)) in
     record {
       needs = may;
+      has = tt;
       text = c.same_bytes.ensures.0 c.if-not-same_bytes.false ∙ c.deref.ensures.value ∙ c.in_ok-text.ensures ∙ whole;
       keeps = c.begin.ensures.keeps x keeps may (runs-words (past_at x c.args.n).answer c.in-Some.words said ∙ sym c.runs.ensures);
     }
