@@ -1,8 +1,13 @@
 """Trails by their definition (docs/MODEL.md, docs/FORMATS.md): an independent checker of their text, and random true ones.
 
-Nothing here runs or reads the server's code. The state that a line finds is all events before it; who may start is asked of
-each pair of entries, and what is answered is worked out from the setup on, for the losses so far.
+    python3 bench/trails.py
+
+compares the verdicts that are stored in examples/trails with those of this checker. Nothing here runs or reads the server's
+code. The state that a line finds is all events before it; who may start is asked of each pair of entries, and what is answered
+is worked out from the setup on, for the losses so far.
 """
+import os
+import sys
 from collections import namedtuple
 
 RESERVED = set(
@@ -14,15 +19,17 @@ MOST_LINE = 8192
 
 Level = namedtuple("Level", "rank categories")
 Subject = namedtuple("Subject", "name greatest current trusted admin")
-Document = namedtuple("Document", "name level content")
+Document = namedtuple("Document", "name level content present")
 Setup = namedtuple("Setup", "ranks categories subjects documents matrix")
-# a policy is what rules change: current levels, levels of documents, the matrix
-Policy = namedtuple("Policy", "current levels matrix")
+# a policy is what rules change: current levels, levels of documents, which of them are present, the matrix
+Policy = namedtuple("Policy", "current levels present matrix")
 When = namedtuple("When", "accesses body")
 Rule = namedtuple("Rule", "kind subject document mode level")
-Entry = namedtuple("Entry", "subject work")
-Past = namedtuple("Past", "answer effects")
-State = namedtuple("State", "limit sessions order lost running ended weight")
+# the parent is the place of a child's, and None of a line
+Entry = namedtuple("Entry", "subject work parent")
+# what is said of a place: its answer, what it did, the level at which it ran and the one that it carried
+Past = namedtuple("Past", "answer effects level carried")
+State = namedtuple("State", "version limit sessions order lost running ended weight")
 
 
 class Wrong(Exception):
@@ -146,7 +153,8 @@ class Reader:
             return Rule(kind, subject, self.document(), self.mode(), None)
         if kind == "current":
             return Rule(kind, None, None, None, self.level())
-        return Rule(kind, None, self.document(), None, self.level())
+        document = self.document()
+        return Rule(kind, None, document, None, self.level() if kind == "classify" else None)
 
     def when(self, depth):
         self.whens += 1
@@ -228,7 +236,7 @@ def read_work(setup, text):
     kind = reader.next()
     if kind == "when":
         work = reader.when(1)
-    elif kind in ("give", "rescind", "current", "classify"):
+    elif kind in ("give", "rescind", "current", "classify", "create", "delete"):
         work = reader.rule(kind)
     else:
         raise Wrong
@@ -286,7 +294,8 @@ def canonical(setup, work):
     elif work.kind == "current":
         parts += level_tokens(setup, work.level)
     else:
-        parts += [setup.documents[work.document].name] + level_tokens(setup, work.level)
+        parts.append(setup.documents[work.document].name)
+        parts += level_tokens(setup, work.level) if work.kind == "classify" else []
     return spaced(parts)
 
 
@@ -331,7 +340,10 @@ def read_setup(text):
         elif kind == "document":
             name = reader.next()
             level = reader.level()
-            setup.documents.append(Document(name, level, reader.text()))
+            setup.documents.append(Document(name, level, reader.text(), True))
+        elif kind == "reserve":
+            name = reader.next()
+            setup.documents.append(Document(name, reader.level(), "", False))
         else:
             subject = reader.among([s.name for s in setup.subjects])
             document = reader.document()
@@ -341,22 +353,31 @@ def read_setup(text):
 
 
 def first_policy(setup):
-    return Policy([s.current for s in setup.subjects], [d.level for d in setup.documents], set(setup.matrix))
+    present = {place for place, document in enumerate(setup.documents) if document.present}
+    return Policy([s.current for s in setup.subjects], [d.level for d in setup.documents], present, set(setup.matrix))
 
 
 # ---- decisions (Bell and La Padula)
+
+LOWEST = Level(0, frozenset())
 
 
 def dominates(a, b):
     return a.rank >= b.rank and a.categories >= b.categories
 
 
-def first_fault(setup, policy, subject, accesses):
-    """The first access that fails a property, with the first that it fails."""
+def join(a, b):
+    """The least level that dominates both."""
+    return Level(max(a.rank, b.rank), a.categories | b.categories)
+
+
+def first_fault(setup, policy, subject, carried, accesses):
+    """The first access that is not granted to who carries this level, with what it fails first."""
     who = setup.subjects[subject]
     for mode, document in accesses:
         level = policy.levels[document]
         current = policy.current[subject]
+        present = document in policy.present
         simple = mode == "append" or dominates(who.greatest, level)
         star = (
             who.trusted
@@ -364,7 +385,10 @@ def first_fault(setup, policy, subject, accesses):
             or (mode == "append" and dominates(level, current))
             or (mode == "write" and current == level)
         )
-        for holds, clause in ((simple, "simple"), (star, "star"), ((subject, document, mode) in policy.matrix, "discretionary")):
+        discretionary = (subject, document, mode) in policy.matrix
+        carry = who.trusted or mode == "read" or dominates(level, carried)
+        in_order = {"absent": present, "simple": simple, "star": star, "discretionary": discretionary, "carry": carry}
+        for clause, holds in in_order.items():
             if not holds:
                 return (clause, subject, document)
     return None
@@ -372,24 +396,38 @@ def first_fault(setup, policy, subject, accesses):
 
 def rule_effect(setup, policy, subject, rule):
     """The condition that fails, or None and the new policy."""
-    who = setup.subjects[subject]
-    current, levels, matrix = list(policy.current), list(policy.levels), set(policy.matrix)
+    who, document = setup.subjects[subject], rule.document
     if rule.kind == "current":
         if not dominates(who.greatest, rule.level):
             return ("greatest", subject, None), policy
+    elif not who.admin:
+        return ("admin", subject, document), policy
+    elif rule.kind == "classify" and not who.trusted:
+        return ("trusted", subject, document), policy
+    elif rule.kind == "create" and document in policy.present:
+        return ("present", subject, document), policy
+    elif rule.kind == "delete" and document not in policy.present:
+        return ("absent", subject, document), policy
+    return None, rule_makes(policy, subject, rule)
+
+
+def rule_makes(policy, subject, rule):
+    """The policy after a rule that its speaker may ask for."""
+    current, levels, present, matrix = list(policy.current), list(policy.levels), set(policy.present), set(policy.matrix)
+    if rule.kind == "current":
         current[subject] = rule.level
-        return None, Policy(current, levels, matrix)
-    if not who.admin:
-        return ("admin", subject, rule.document), policy
-    if rule.kind == "classify":
-        if not who.trusted:
-            return ("trusted", subject, rule.document), policy
+    elif rule.kind == "classify":
         levels[rule.document] = rule.level
     elif rule.kind == "give":
         matrix.add((rule.subject, rule.document, rule.mode))
-    else:
+    elif rule.kind == "rescind":
         matrix.discard((rule.subject, rule.document, rule.mode))
-    return None, Policy(current, levels, matrix)
+    elif rule.kind == "create":
+        present.add(rule.document)
+    else:
+        present.discard(rule.document)
+        matrix = {(who, document, mode) for who, document, mode in matrix if document != rule.document}
+    return Policy(current, levels, present, matrix)
 
 
 # ---- effects
@@ -436,21 +474,31 @@ def effects_of(body, contents, effects=()):
 # ---- answers
 
 
-def pasts(setup, order, lost, upto):
-    """What is answered at each place below `upto`, and what it did there, where just these places are lost."""
+def carried_by(state, entry, found):
+    """The level that an entry carries, by what is said of the places before it."""
+    if entry.parent is None or state.version == 1:
+        return LOWEST
+    return join(found[entry.parent].level, found[entry.parent].carried)
+
+
+def pasts(setup, state, upto):
+    """What is said of each place below `upto`, where just those of the state are lost."""
     policy = first_policy(setup)
     contents = [d.content for d in setup.documents]
     found = []
     for n in range(upto):
-        entry = order[n]
+        entry = state.order[n]
         effects = []
-        if n in lost:
+        level, carried = policy.current[entry.subject], carried_by(state, entry, found)
+        if n in state.lost:
             answer = ("lost",)
         elif isinstance(entry.work, Rule):
             fault, policy = rule_effect(setup, policy, entry.subject, entry.work)
             answer = ("denied",) + fault if fault else ("rule",)
+            if entry.work.kind == "delete" and not fault:
+                contents[entry.work.document] = ""
         else:
-            fault = first_fault(setup, policy, entry.subject, entry.work.accesses)
+            fault = first_fault(setup, policy, entry.subject, carried, entry.work.accesses)
             if fault:
                 answer = ("denied",) + fault
             else:
@@ -459,7 +507,7 @@ def pasts(setup, order, lost, upto):
                 for mode, document in entry.work.accesses:
                     if mode != "read":
                         contents[document] = after(contents[document], effects, document)
-        found.append(Past(answer, effects))
+        found.append(Past(answer, effects, level, carried))
     return found
 
 
@@ -493,8 +541,8 @@ def may_start(state, n):
     return all(m in state.ended or not conflict(state.order[m].work, state.order[n].work) for m in range(n))
 
 
-def first_state(limit):
-    return State(limit, (), (), frozenset(), frozenset(), frozenset(), 0)
+def first_state(version, limit):
+    return State(version, limit, (), (), frozenset(), frozenset(), frozenset(), 0)
 
 
 def opened(setup, state, name):
@@ -507,18 +555,20 @@ def opened(setup, state, name):
 def admitted(setup, state, session, ordinal, work):
     if not session < len(state.sessions):
         raise Wrong
+    if state.version == 1 and isinstance(work, Rule) and work.kind in ("create", "delete"):
+        raise Wrong
     subject, last = state.sessions[session]
     if not last < ordinal <= 4294967295 or state.weight + weight(work) > state.limit:
         raise Wrong
     sessions = state.sessions[:session] + ((subject, ordinal),) + state.sessions[session + 1 :]
-    return state._replace(sessions=sessions, order=state.order + (Entry(subject, work),), weight=state.weight + weight(work))
+    return state._replace(sessions=sessions, order=state.order + (Entry(subject, work, None),), weight=state.weight + weight(work))
 
 
 def started(setup, state, n):
     """What is said at the start of a place, and the state after it."""
     if not may_start(state, n):
         raise Wrong
-    answer = pasts(setup, state.order, state.lost, n + 1)[n].answer
+    answer = pasts(setup, state, n + 1)[n].answer
     if answer[0] == "done":
         return answer, state._replace(running=state.running | {n})
     return answer, state._replace(ended=state.ended | {n})
@@ -528,8 +578,8 @@ def ended(setup, state, n):
     """What is said at the end of a place, and the state after it."""
     if n not in state.running:
         raise Wrong
-    past = pasts(setup, state.order, state.lost, n + 1)[n]
-    children = tuple(Entry(state.order[n].subject, e[1]) for e in past.effects if e[0] == "child")
+    past = pasts(setup, state, n + 1)[n]
+    children = tuple(Entry(state.order[n].subject, e[1], n) for e in past.effects if e[0] == "child")
     return past.answer, state._replace(running=state.running - {n}, ended=state.ended | {n}, order=state.order + children)
 
 
@@ -576,14 +626,18 @@ def event(setup, state, line):
     raise Wrong
 
 
-def head(state, line):
-    """What is known after a head line: None before the version, 0 behind it, and then a state."""
-    if state is None and line == b"trail 1":
-        return 0
-    if state == 0 and line.startswith(b"limit "):
+VERSIONS = {b"trail 1": 1, b"trail 2": 2}
+
+
+def head(setup, known, line):
+    """What is known after a head line, before which None is known, or the version: the version, or then a state. Version 1 knows no absent document."""
+    if known is None:
+        if line in VERSIONS and (line == b"trail 2" or all(d.present for d in setup.documents)):
+            return VERSIONS[line]
+    elif line.startswith(b"limit "):
         limit = number(line[6:].decode("latin-1"))
         if 1 <= limit <= 100000:
-            return first_state(limit)
+            return first_state(known, limit)
     raise Wrong
 
 
@@ -592,8 +646,8 @@ CLOSED = "closed"
 
 def step(setup, known, line):
     """What is known after one line more: the head so far, a state, or that the trail is closed."""
-    if known is None or known == 0:
-        return head(known, line)
+    if known is None or known in VERSIONS.values():
+        return head(setup, known, line)
     if known == CLOSED:
         raise Wrong
     return CLOSED if line == b"stop" else event(setup, known, line)
@@ -657,19 +711,42 @@ def random_when_in(rng, modes, depth):
     return When(accesses, random_body(rng, dict((d, m) for m, d in accesses), depth, rng.randint(0, 2)))
 
 
-def random_rule(rng, setup):
-    kind = rng.choice(["give", "rescind", "current", "classify"])
+# the rules of each version; a delete empties each cell of its document, so more is given and created than taken away
+KINDS = {
+    1: "give rescind current classify".split(),
+    2: "give give give rescind current current current classify create create create delete".split(),
+}
+
+
+def random_rule(rng, setup, version):
+    kind = rng.choice(KINDS[version])
     level = rng.choice([d.level for d in setup.documents] + [s.current for s in setup.subjects])
     subject, document = rng.randrange(len(setup.subjects)), rng.randrange(len(setup.documents))
     if kind in ("give", "rescind"):
         return Rule(kind, subject, document, rng.choice(["read", "append", "write"]), None)
+    if kind in ("create", "delete"):
+        return Rule(kind, None, document, None, None)
     return Rule(kind, None, document if kind == "classify" else None, None, level)
 
 
-def random_trail(rng, setup, events, limit=10000):
-    """A true trail of so many events, as its lines."""
-    state = first_state(limit)
-    lines = ["trail 1", f"limit {limit}"]
+def random_work(rng, setup, state, subject):
+    """What a line asks. In version 2 many lines spawn, and their subject often comes down behind them, so that children carry levels."""
+    if rng.random() < 0.15 * state.version:
+        return random_rule(rng, setup, state.version)
+    when = random_when(rng, setup, 1)
+    if state.version == 1 or rng.random() < 0.5:
+        return when
+    last = state.order[-1] if state.order else None
+    if last and last.subject == subject and weight(last.work) > 1:
+        return Rule("current", None, None, None, LOWEST)
+    modes = dict((d, m) for m, d in when.accesses)
+    return when._replace(body=when.body + (("spawn", random_when_in(rng, modes, 2)),))
+
+
+def random_trail(rng, setup, events, version=2, limit=10000):
+    """A true trail of so many events, as its lines. One of version 1 wants a setup in which each document is present."""
+    state = first_state(version, limit)
+    lines = [f"trail {version}", f"limit {limit}"]
     while len(lines) < events + 2:
         line, state = random_event(rng, setup, state)
         lines.append(line)
@@ -689,7 +766,7 @@ def random_event(rng, setup, state):
     if way == "line":
         session = rng.randrange(len(state.sessions))
         ordinal = state.sessions[session][1] + rng.choice([1, 1, 1, 2, 7])
-        work = random_rule(rng, setup) if rng.random() < 0.15 else random_when(rng, setup, 1)
+        work = random_work(rng, setup, state, state.sessions[session][0])
         return f"line {session} {ordinal} {canonical(setup, work)}", admitted(setup, state, session, ordinal, work)
     if way == "start":
         n = rng.choice(ready)
@@ -700,3 +777,33 @@ def random_event(rng, setup, state):
         answer, state = ended(setup, state, n)
         return f"end {n} {end_text(answer)}", state
     return f"lost {n}", lost(setup, state, n)
+
+
+# ---- the stored trails
+
+
+def read(path):
+    with open(path, "rb") as file:
+        return file.read()
+
+
+def main():
+    """Each trail of examples/trails over its setup: that of its folder's name, or the base setup."""
+    top = os.path.join(os.path.dirname(os.path.dirname(os.path.abspath(__file__))), "examples")
+    trails, differ = 0, 0
+    for folder, _, names in os.walk(os.path.join(top, "trails")):
+        over = os.path.basename(folder)
+        setup = read_setup(read(os.path.join(top, "setups", ("base" if over == "trails" else over) + ".txt")))
+        for name in sorted(name.removesuffix(".trail") for name in names if name.endswith(".trail")):
+            said = verdict(setup, read(os.path.join(folder, name + ".trail")))
+            wanted = read(os.path.join(folder, name + ".verdict")).decode().strip()
+            trails += 1
+            if said != wanted:
+                differ += 1
+                print(f"{os.path.join(folder, name)}.trail: stored is {wanted}, and it is {said}")
+    print(f"trails: {trails} stored, {differ} verdicts differ")
+    sys.exit(1 if differ or not trails else 0)
+
+
+if __name__ == "__main__":
+    main()

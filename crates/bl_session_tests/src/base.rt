@@ -31,6 +31,9 @@ allow bob note r w\n\
 allow cat memo r\n\
 allow root note r w\n";
 
+/// Two further lines.
+const RESERVED: &str = "reserve draft u\nreserve top t\n";
+
 /// The bytes of some texts, one behind the other.
 pub fn joined(alloc: Global, texts: &[&str]) -> Result<Vec<u8>, AllocError> {
     let mut bytes = Vec::new(alloc);
@@ -49,6 +52,12 @@ pub fn setup_with(alloc: Global, note: &str) -> Result<Setup, Fail> {
 /// The base setup.
 pub fn base(alloc: Global) -> Result<Setup, Fail> {
     setup_with(alloc, "n1")
+}
+
+/// The base setup, with two documents that are not there yet.
+pub fn reserved(alloc: Global) -> Result<Setup, Fail> {
+    let text = joined(alloc, [BEFORE_NOTE, "n1", BEHIND_NOTE, RESERVED].as_slice())?;
+    Ok(read_setup(alloc, &text)?)
 }
 
 /// The base setup; none where a growth is refused.
@@ -87,6 +96,16 @@ pub fn assert_said_under<R: AllocGlobal + Abort>(
     output: &str,
 ) -> Result<(), Fail> {
     assert_served(rt, base(rt.alloc())?, limit, input, output)?;
+    Ok(())
+}
+
+/// Asserts what is written to this input over the base setup with two documents that are not there yet.
+pub fn assert_said_over_reserved<R: AllocGlobal + Abort>(
+    rt: &R,
+    input: &str,
+    output: &str,
+) -> Result<(), Fail> {
+    assert_served(rt, reserved(rt.alloc())?, 10_000, input.as_bytes(), output)?;
     Ok(())
 }
 

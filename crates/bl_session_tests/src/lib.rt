@@ -8,6 +8,7 @@
 //!     children     when children enter, and the order of their labels
 //!     carried      what children carry
 //!     rules        rules among the lines of a session
+//!     presence     documents that come and go
 //!     refusals     why a line is refused
 //!     blocks       the replies of each block
 //!     limits       long input
@@ -38,6 +39,8 @@ mod greetings;
 mod limits;
 #[cfg(test)]
 mod memory;
+#[cfg(test)]
+mod presence;
 #[cfg(test)]
 mod refusals;
 #[cfg(test)]
