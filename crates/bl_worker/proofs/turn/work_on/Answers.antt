@@ -46,3 +46,9 @@ returns-in-Ok-Run-clause-lines g c =
 
 pub returns-in-Err-NotReady-clause-lines : goal.returns-in-Err-NotReady-clause-lines
 returns-in-Err-NotReady-clause-lines g c = admits_itself c.args.pass.now c.start.new.pass c.in-Err-NotReady.ensures.err.0
+
+pub returns-in-Ok-Denied-clause-lines : goal.returns-in-Ok-Denied-clause-lines
+returns-in-Ok-Denied-clause-lines g c = admits_start c.args.pass.now c.start.new.pass c.args.n _ c.in-Ok-Denied.ensures.ok
+
+pub returns-in-Ok-RuleDone-clause-lines : goal.returns-in-Ok-RuleDone-clause-lines
+returns-in-Ok-RuleDone-clause-lines g c = admits_start c.args.pass.now c.start.new.pass c.args.n _ c.in-Ok-RuleDone.ensures.ok
