@@ -77,7 +77,7 @@ const MORE: &str = "Exit status:\n  \
     0  done; lines that are refused or denied do not change it\n  \
     1  the trail was rejected\n  \
     2  bad arguments\n  \
-    3  a fault of a file, of the port, of the input or output, or of a worker\n  \
+    3  a fault of a file, of the port, or of the input or output\n  \
     4  out of memory, or a thread could not be started\n\n\
     `alone` reads its session from standard input and writes its replies to standard output.\n\
     The repository's docs/FORMATS.md describes the lines of a session, the setup file and the trail.";

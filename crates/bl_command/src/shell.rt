@@ -262,7 +262,7 @@ where
 }
 
 /// A run of the program. The result is its status: 0 where all was done, or help or the version was asked for, 1 for a trail
-/// that was rejected, 2 for bad arguments, 3 for a fault of the setup, of a file, of the port, of the session or of a worker, and 4 for want of memory.
+/// that was rejected, 2 for bad arguments, 3 for a fault of the setup, of a file, of the port or of the session, and 4 for want of memory.
 pub fn run<
     R: AllocGlobal
         + Env

@@ -1,3 +1,6 @@
+pub mod Passing
+pub mod Lending
+pub mod Halls
 pub mod Setups
 pub mod Starts
 pub mod Totals
@@ -6,6 +9,7 @@ pub mod Parts
 pub mod Steps
 pub mod Hands
 pub mod Turned
+pub mod Holding
 pub mod Results
 pub mod Following
 pub mod Crossing

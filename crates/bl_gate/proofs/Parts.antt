@@ -1,5 +1,5 @@
 -- What a change of one view does to the parts of the rule.
-use Rattle.std.proofs.Common.{◌≡◌, ◌≢◌, ℕ, zero, suc, ◌+◌, ◌<◌, ◌≤◌, ◌⊎◌, inl, inr, ⊎_elim, List, [], ◌∷◌, ◌++◌, length, eqb, set, Option, Some, None, Bool, true, false, true≢false, refl, sym, ap, ◌∙◌, subst, arith}
+use Rattle.std.proofs.Common.{◌≡◌, ◌≢◌, ℕ, zero, suc, ◌+◌, ◌<◌, ◌≤◌, ◌⊎◌, inl, inr, ⊎_elim, List, [], ◌∷◌, length, eqb, set, Option, Some, Bool, true, false, true≢false, refl, sym, ap, ◌∙◌, subst, arith}
 use mathlib.Core.Logic.{dite}
 use Rattle.std.proofs.lemmas.Bool.Decides.{nat_tests}
 use mathlib.Core.Option.{some, none, some-injective, some-ne-none}
@@ -7,14 +7,15 @@ use mathlib.Core.Option as Found
 use native.Mathlib.Decide.{ℕ_discrete}
 use lib.ListN.{get_elem?}
 use Rattle.atomic_table.proofs.Lists.{at_set, set_else}
-use Rattle.bl_order.specs.Machine.{Event}
+use Rattle.std.specs.Prelude.{slice_get}
+use Rattle.bl_order.specs.Machine.{Event, Starts, Ends, Loses}
 use Rattle.bl_hall.specs.Chronicle.{Chronicle, HasTrail}
 use Rattle.bl_gate.specs.Counts.{one_if, within, times, total, StartsWith}
 use Rattle.bl_gate.specs.Gates.{hall_with}
-use Rattle.bl_gate.specs.Views.{View, nobody}
-use Rattle.bl_gate.specs.Turns.{has_ticket, Queue, NoneInsideBut, Inside, Slot, Trails}
-use Rattle.bl_gate.proofs.Totals.{total_set, one_of, two_of, within_le, within_some}
-use Rattle.bl_gate.proofs.Trails.{begins_more}
+use Rattle.bl_gate.specs.Views.{View, nobody, brings}
+use Rattle.bl_gate.specs.Turns.{has_ticket, Queue, NoneInsideBut, Slot, Trails, AreTold, EndsAt, EndsItsOwn, NoEndBehind}
+use Rattle.bl_gate.proofs.Totals.{total_set, one_of, two_of, some_of, within_in, within_le, within_some}
+use Rattle.bl_gate.proofs.Trails.{begins_more, begins_length, get_sooner, got_within}
 
 pub at_here : (l : List View) (i : ℕ) (v w : View) → get_elem? l i ≡ some v → get_elem? (set l i w) i ≡ some w
 at_here [] i v w e = absurd (some-ne-none v (sym e))
@@ -122,16 +123,52 @@ whole_same t vs id v w at e h = dite (ℕ_discrete h.0 id)
     (λ is. (id, w, at_here vs id v w at, e ∙ (ap (λ (u : View). u.seen) (same_view vs id h.0 v h.1 (sym is) at h.2) ∙ h.3)))
     (λ no. (h.0, h.1, set_else vs id h.0 w no ∙ h.2, h.3))
 
-pub trails_set : (base : Chronicle) (t t' : List Event) (vs : List View) (id : ℕ) (v w : View) → get_elem? vs id ≡ some v → Trails base t vs → StartsWith t' t → StartsWith t' w.seen → StartsWith w.seen w.told → w.base ≡ base
+-- an end that stands in a longer trail, inside the shorter, stands in that
+pub ends_at_sooner : (t t' : List Event) (p n : ℕ) → StartsWith t' t → p < length t → EndsAt t' p n → EndsAt t p n
+ends_at_sooner t t' p n more lt (inl e) = inl (sym (get_sooner t' t p more lt) ∙ e)
+ends_at_sooner t t' p n more lt (inr e) = inr (sym (get_sooner t' t p more lt) ∙ e)
+
+pub end_within : (t : List Event) (p n : ℕ) → EndsAt t p n → p < length t
+end_within t p n (inl e) = got_within t p (Ends n) e
+end_within t p n (inr e) = got_within t p (Loses n) e
+
+-- whoever ends its own in a trail does so in a longer one
+pub ends_later : (t t' : List Event) (own : List ℕ) → StartsWith t' t → ((p : ℕ) → 1 ≤ times p own → p < length t) → EndsItsOwn t own → EndsItsOwn t' own
+ends_later t t' own more inside h n p q o at before there =
+    let lt = inside p o in h n p q o (ends_at_sooner t t' p n more lt at) before (sym (get_sooner t' t q more (omega arith)) ∙ there)
+
+-- nobody else has ended what a view has started
+pub no_end : (base : Chronicle) (trail : List Event) (vs : List View) (id : ℕ) (v : View) → get_elem? vs id ≡ some v → Trails base trail vs → NoEndBehind (brings v) trail
+no_end base trail vs id v at r n q s o there le e =
+    let inside : q < length v.seen = r.mine id v at q o in
+    let l : s < length trail = end_within trail s n e in
+    let h = one_of (λ (u : View). times q u.own) vs id v at in
+    let k = r.owned q in
+    let first = within_some (length base.trail) (length trail) q (omega arith) in
+    let one : total (λ (u : View). times s u.own) vs ≡ 1 = r.owned s ∙ within_in (length base.trail) (length trail) s (let f = first.0 in omega arith) l in
+    let who = some_of (λ (u : View). times s u.own) vs (omega arith) in
+    let b = begins_length trail v.seen (r.seen id v at) in
+    let starts : slice_get trail q ≡ Some (Starts n) = get_sooner trail v.seen q (r.seen id v at) inside ∙ there in
+    let also : 1 ≤ times q (who.1).own = r.starters who.0 who.1 who.2 n s q who.3 e (omega arith) starts in
+    dite (ℕ_discrete who.0 id)
+    (λ is. let same : who.1 ≡ v = same_view vs who.0 id who.1 v is who.2 at in
+    let mine : 1 ≤ times s v.own = subst (λ (u : View). 1 ≤ times s u.own) same who.3 in
+    let m = r.mine id v at s mine in omega arith)
+    (λ no. let two = two_of (λ (u : View). times q u.own) vs who.0 id who.1 v no who.2 at in
+    let w = within_le (length base.trail) (length trail) q in omega arith)
+
+pub trails_set : (base : Chronicle) (t t' : List Event) (vs : List View) (id : ℕ) (v w : View) → get_elem? vs id ≡ some v → Trails base t vs → StartsWith t' t → StartsWith t' w.seen → AreTold w.base w.seen w.met → w.base ≡ base
     → Whole t' (set vs id w) → HasTrail (hall_with base t') → ((p : ℕ) → 1 ≤ times p w.own → p < length w.seen)
-    → ((p : ℕ) → times p w.own + within (length base.trail) (length t) p ≡ times p v.own + within (length base.trail) (length t') p) → Trails base t' (set vs id w)
-trails_set base t t' vs id v w at r more seen told based whole legal mine own = record {
+    → ((p : ℕ) → times p w.own + within (length base.trail) (length t) p ≡ times p v.own + within (length base.trail) (length t') p) → EndsItsOwn t' w.own → Trails base t' (set vs id w)
+trails_set base t t' vs id v w at r more seen told based whole legal mine own ends = record {
   begins = begins_more t' t base.trail more r.begins;
   legal = legal;
   seen = set_all (λ j u. StartsWith t' u.seen) vs id w seen (λ j u _ e. begins_more t' t u.seen more (r.seen j u e));
-  told = set_all (λ j u. StartsWith u.seen u.told) vs id w told (λ j u _ e. r.told j u e);
+  told = set_all (λ j u. AreTold u.base u.seen u.met) vs id w told (λ j u _ e. r.told j u e);
   based = set_all (λ j u. 0 < u.parts → u.base ≡ base) vs id w (λ _. based) (λ j u _ e. r.based j u e);
   whole = whole;
   mine = set_all (λ j u. (p : ℕ) → 1 ≤ times p u.own → p < length u.seen) vs id w mine (λ j u _ e. r.mine j u e);
   owned = λ p. let h = total_set (λ (u : View). times p u.own) vs id v w at in let k = r.owned p in let o = own p in omega arith;
+  starters = set_all (λ j u. EndsItsOwn t' u.own) vs id w ends
+      (λ j u _ e. ends_later t t' u.own more (λ p o. let l = r.mine j u e p o in let b = begins_length t u.seen (r.seen j u e) in omega arith) (r.starters j u e));
 }

@@ -7,3 +7,8 @@ module _ {T E : Type 0} where
       → MatchResult r P Q → MatchResult r P' Q' → MatchResult r P'' Q''
   both (Ok x) f g a b = f x refl a b
   both (Err e) f g a b = g e refl a b
+
+  -- what holds either way holds
+  pub always : {G : Type 0} (r : Result T E) → MatchResult r (λ _. G) (λ _. G) → G
+  always (Ok x) g = g
+  always (Err e) g = g

@@ -1,5 +1,5 @@
 -- Each step of a gate keeps the rule.
-use Rattle.std.proofs.Common.{◌≡◌, ◌≢◌, ℕ, zero, suc, ◌+◌, ◌-◌, ◌%◌, ◌^◌, ◌<◌, ◌≤◌, ◌⊎◌, inl, inr, ⊎_elim, List, [], ◌∷◌, ◌++◌, length, eqb, set, get_or, Option, Some, None, Bool, true, false, true≢false, cond, refl, sym, ap, ◌∙◌, subst, arith, append_assoc, append-nil, length-append}
+use Rattle.std.proofs.Common.{◌≡◌, ◌≢◌, ℕ, zero, suc, ◌+◌, ◌-◌, ◌%◌, ◌^◌, ◌<◌, ◌≤◌, ◌⊎◌, inl, inr, ⊎_elim, List, [], ◌∷◌, ◌++◌, length, eqb, set, get_or, Option, Some, Bool, true, false, true≢false, cond, refl, sym, ap, ◌∙◌, subst, arith, append-nil, length-append}
 use mathlib.Core.Logic.{dite}
 use Rattle.std.proofs.Math.Nat.{mod-eq_of_lt}
 use Rattle.std.proofs.lemmas.Bool.Decides.{nat_tests}
@@ -8,17 +8,18 @@ use mathlib.Core.Option as Found
 use native.Mathlib.Decide.{ℕ_discrete}
 use lib.ListN.{get_elem?}
 use prog.Atomic.{either}
-use Rattle.atomic_table.specs.Table.{State, Me, Act, step, keeps, takes, gives, stepped, Valid, homes_after, carried_after, Allows, Splits, Joins, opening, Final, Seen}
-use Rattle.atomic_table.proofs.Lists.{at_longer, at_set, at_snoc, set_else, set_again, exchanged}
-use Rattle.bl_order.specs.Machine.{Event}
+use Rattle.atomic_table.specs.Table.{State, Act, step, keeps, takes, gives, Valid, homes_after, carried_after, Allows, Splits, Joins, opening, Final, Seen}
+use Rattle.atomic_table.proofs.Lists.{at_longer, at_snoc, set_else, set_again, exchanged}
+use Rattle.bl_order.specs.Machine.{Event, Ends, Loses}
 use Rattle.bl_hall.specs.Chronicle.{Chronicle, HasTrail, Continues, with_event}
 use Rattle.bl_gate.specs.Counts.{one_if, within, times, total, StartsWith}
 use Rattle.bl_gate.specs.Gates.{hall_with}
-use Rattle.bl_gate.specs.Views.{View, opener, nobody, drew, entered, gained, went, longer, shorter, joined, heard, stays, branch, IsIdle, HasTurn}
-use Rattle.bl_gate.specs.Turns.{has_ticket, Queue, NoneInsideBut, Inside, Slot, Trails, Kept, Sat, Told, Draws, Comes, Looks, Passes, Hears, in_hand}
-use Rattle.bl_gate.proofs.Totals.{total_set, total_snoc, one_of, two_of, within_in, within_out, within_le, within_some, within_more, within_less, within_none, times-append}
-use Rattle.bl_gate.proofs.Trails.{begins_itself, begins_any, begins_more, begins_push, begins_longer, begins_whole, begins_length, Ranked, ranked}
-use Rattle.bl_gate.proofs.Parts.{at_here, set_all, same_view, queue_set, queue_same, served_below, slot_idle, slot_home, Holder, slot_out, Whole, whole_same, trails_set}
+use Rattle.bl_gate.specs.Views.{View, Brought, opener, nobody, brings, drew, entered, gained, went, joined, heard, stays, branch, IsIdle}
+use Rattle.bl_gate.specs.Turns.{EndsAt, EndsItsOwn, EndsWhatItStarted, NoEndBehind, AreTold, has_ticket, Queue, Slot, Trails, Kept, Sat, Draws, Looks, Passes, Hears, in_hand}
+use Rattle.bl_gate.proofs.Totals.{total_set, total_snoc, one_of, two_of, within_le, within_more, within_less, within_none, times-append}
+use Rattle.bl_gate.proofs.Trails.{get_later, get_sooner, begins_itself, begins_any, begins_whole, begins_length, ranked}
+use Rattle.bl_gate.proofs.Halls.{legal_front}
+use Rattle.bl_gate.proofs.Parts.{at_here, set_all, same_view, queue_set, queue_same, served_below, slot_idle, slot_home, slot_out, Whole, whole_same, trails_set, no_end, ends_at_sooner}
 
 abbrev S : Type 0
 S = State (Option Chronicle) View
@@ -62,7 +63,7 @@ draws base slots id old m idle room s k wide at small =
             refl idle.3;
         slot = slot_idle k.served (hall_with base k.trail) s.homes s.views id v w at idle.1 idle.1 k.slot;
         trails = trails_set base k.trail k.trail s.views id v w at r (begins_itself k.trail) (r.seen id v at) (r.told id v at) (r.based id v at idle.3)
-            (whole_same k.trail s.views id v w at refl r.whole) r.legal (r.mine id v at) (λ p. refl);
+            (whole_same k.trail s.views id v w at refl r.whole) r.legal (r.mine id v at) (λ p. refl) (r.starters id v at);
       },
       (refl, (λ _. refl), (λ no. absurd (no hit))),
     ))
@@ -121,11 +122,15 @@ looks base slots id t m mine out some_part empty s k wide at small =
             others = λ j u n e. home.1 j u (sym (set_else s.views id j w n) ∙ e);
           },
         );
-        trails = trails_set base k.trail k.trail s.views id v w at r (begins_itself k.trail) (begins_itself k.trail) (begins_any k.trail) is_base
+        trails = trails_set base k.trail k.trail s.views id v w at r (begins_itself k.trail) (begins_itself k.trail) tt is_base
             (id, w, at_here s.views id v w at, refl) r.legal
-            (λ p o. let l = r.mine id v at p o in let b = begins_length k.trail v.seen (r.seen id v at) in omega arith) (λ p. refl);
+            (λ p o. let l = r.mine id v at p o in let b = begins_length k.trail v.seen (r.seen id v at) in omega arith) (λ p. refl) (r.starters id v at);
       },
-      ((λ _. (k.trail, r.seen id v at, subst (λ (b : Chronicle). HasTrail (hall_with b k.trail)) back r.legal, refl, (λ i. (0, Some (hall_with (back i) k.trail)) ∷ empty i))), (λ no. absurd (no turn))),
+      (
+        (λ _.
+            (k.trail, r.seen id v at, subst (λ (b : Chronicle). HasTrail (hall_with b k.trail)) back r.legal, refl, (λ i. (0, Some (hall_with (back i) k.trail)) ∷ empty i), no_end base k.trail s.views id v at r)),
+        (λ no. absurd (no turn)),
+      ),
     ))
     (λ miss. (
       v,
@@ -200,11 +205,28 @@ mine_next own before after next p mine o =
     gained_at : (b a p : ℕ) → b ≤ a → 1 ≤ times p (gained b a) → p < a
     gained_at b a p l o = by b a p (eqb b a) refl l o
 
+at_end : (b a p : ℕ) (c : Bool) → eqb b a ≡ c → 1 ≤ times p (cond c [] (b ∷ [])) → p ≡ b
+at_end b a p true e o = absurd (omega arith)
+at_end b a p false e o = grind (arith, nat_tests)
+
+-- who ends what it started, at one position more, ends its own
+ends_next : (v : View) (t : List Event) → IsNext v.seen t → ((p : ℕ) → 1 ≤ times p v.own → p < length v.seen) → EndsItsOwn v.seen v.own → EndsWhatItStarted v t
+    → EndsItsOwn t (v.own ++ gained (length v.seen) (length t))
+ends_next v t next mine old starts n p q o at before there =
+    let a = times-append p v.own (gained (length v.seen) (length t)) in
+    let b = times-append q v.own (gained (length v.seen) (length t)) in
+    let more = next_starts v.seen t next in
+    dite (ℕ_discrete (times p v.own) 0)
+    (λ z. let is : p ≡ length v.seen = at_end (length v.seen) (length t) p (eqb (length v.seen) (length t)) refl (omega arith) in
+    let h : 1 ≤ times q v.own = starts n q (subst (λ (k : ℕ). EndsAt t k n) is at) (sym (get_sooner t v.seen q more (omega arith)) ∙ there) in omega arith)
+    (λ no. let lt : p < length v.seen = mine p (omega arith) in
+    let h : 1 ≤ times q v.own = old n p q (omega arith) (ends_at_sooner v.seen t p n more lt at) before (sym (get_sooner t v.seen q more (omega arith)) ∙ there) in omega arith)
+
 -- who is inside puts the hall back, as it was or with one event more, and the next ticket is served
-pub passes : (base : Chronicle) (slots id : ℕ) (m : Sat) (hall : Chronicle) → m.1 ≡ (0, Some hall) ∷ [] → m.0.inside ≡ true → 0 < m.0.parts → m.0.told ≡ []
-    → Continues (hall_with m.0.base m.0.seen) hall
+pub passes : (base : Chronicle) (slots id : ℕ) (m : Sat) (hall : Chronicle) → m.1 ≡ (0, Some hall) ∷ [] → m.0.inside ≡ true → 0 < m.0.parts → m.0.met ≡ []
+    → Continues (hall_with m.0.base m.0.seen) hall → EndsWhatItStarted m.0 hall.trail
     → Allows (Kept base) slots id m 1 (λ n. (n + 1) % 2 ^ 64) (Passes (step slots 1 1 0 none) m)
-passes base slots id m hall hand is some_part untold continues s k wide at small =
+passes base slots id m hall hand is some_part untold continues starts s k wide at small =
     let f : ℕ → ℕ = λ n. (n + 1) % 2 ^ 64 in
     let P : List ℕ → Type 0 = λ ws. (w : View) × (a : A) × Valid s.homes m.1 a
     × Kept base (at_words (set ws 1 (f (get_or ws 1 0))) (homes_after s.homes m.1 a) (set s.views id w))
@@ -237,11 +259,12 @@ passes base slots id m hall hand is some_part untold continues s k wide at small
             (λ x. let z : has_ticket x v.ticket ≡ one_if (eqb k.served x) = ap (has_ticket x) hold.turn in let h = within_less k.served k.drawn x below in omega arith)
             refl some_part;
         slot = inl (put, set_all (λ j u. u.inside ≡ false) s.views id w refl (λ j u n e. hold.others j u n e));
-        trails = trails_set base k.trail t s.views id v w at r more (begins_itself t) (subst (StartsWith t) (sym untold) (begins_any t)) is_base
+        trails = trails_set base k.trail t s.views id v w at r more (begins_itself t) (subst (AreTold v.base t) (sym untold) tt) is_base
             (id, w, at_here s.views id v w at, refl) (subst HasTrail whole continues.trail)
             (λ p o. mine_next v.own v.seen t next p (r.mine id v at) o)
             (λ p. let h = gains v.own (length base.trail) (length v.seen) (length t) p first (next_length v.seen t next) in
-            let e : within (length base.trail) (length k.trail) p ≡ within (length base.trail) (length v.seen) p = ap (λ (l : List Event). within (length base.trail) (length l) p) trail_is in omega arith);
+            let e : within (length base.trail) (length k.trail) p ≡ within (length base.trail) (length v.seen) p = ap (λ (l : List Event). within (length base.trail) (length l) p) trail_is in omega arith)
+            (ends_next v t next (r.mine id v at) (subst (λ (l : List Event). EndsItsOwn l v.own) trail_is (r.starters id v at)) starts);
       },
       (ap (λ (c : List (ℕ × Option Chronicle)). went v (hand_of c)) (sym hand), refl),
     ) in
@@ -271,14 +294,15 @@ hears base slots id m out some_part s k wide at small =
         words = refl;
         queue = queue_same k.drawn k.served s.views id v w at q refl refl some_part;
         slot = slot_idle k.served (hall_with base k.trail) s.homes s.views id v w at out out k.slot;
-        trails = trails_set base k.trail k.trail s.views id v w at r (begins_itself k.trail) (r.seen id v at) (begins_any v.seen) (r.based id v at some_part)
-            (whole_same k.trail s.views id v w at refl r.whole) r.legal (r.mine id v at) (λ p. refl);
+        trails = trails_set base k.trail k.trail s.views id v w at r (begins_itself k.trail) (r.seen id v at) tt (r.based id v at some_part)
+            (whole_same k.trail s.views id v w at refl r.whole) r.legal (r.mine id v at) (λ p. refl) (r.starters id v at);
       },
       (
         refl,
         r.told id v at,
         (λ p. let h = one_of (λ (u : View). times p u.own) s.views id v at in let e = r.owned p in let l = within_le (length base.trail) (length k.trail) p in omega arith),
         (let h = one_of (λ (u : View). u.parts) s.views id v at in let e = q.parts in omega arith),
+        legal_front v.base k.trail v.seen (r.seen id v at) (subst (λ (b : Chronicle). HasTrail (hall_with b k.trail)) (sym (r.based id v at some_part)) r.legal),
       ),
     ) in
     subst P (sym k.words) done
@@ -311,12 +335,13 @@ splits base id v idle parts s k at =
       trails = record {
         begins = r.begins;
         seen = grown (λ j x. StartsWith k.trail x.seen) vs u (set_all (λ j x. StartsWith k.trail x.seen) s.views id w (r.seen id v at) (λ j x _ e. r.seen j x e)) (λ j. r.seen id v at);
-        told = grown (λ j x. StartsWith x.seen x.told) vs u (set_all (λ j x. StartsWith x.seen x.told) s.views id w (r.told id v at) (λ j x _ e. r.told j x e)) (λ j. begins_any v.seen);
+        told = grown (λ j x. AreTold x.base x.seen x.met) vs u (set_all (λ j x. AreTold x.base x.seen x.met) s.views id w (r.told id v at) (λ j x _ e. r.told j x e)) (λ j. tt);
         based = grown (λ j x. 0 < x.parts → x.base ≡ base) vs u (set_all (λ j x. 0 < x.parts → x.base ≡ base) s.views id w (λ _. is_base) (λ j x _ e. r.based j x e)) (λ j _. is_base);
         legal = r.legal;
         mine = grown (λ j x. (p : ℕ) → 1 ≤ times p x.own → p < length x.seen) vs u (set_all (λ j x. (p : ℕ) → 1 ≤ times p x.own → p < length x.seen) s.views id w (r.mine id v at) (λ j x _ e. r.mine j x e)) (λ j p o. absurd (omega arith));
         whole = (whole.0, whole.1, at_longer vs (u ∷ []) whole.0 whole.1 whole.2, whole.3);
         owned = λ p. let h = total_set (λ (x : View). times p x.own) s.views id v w at in let j = total_snoc (λ (x : View). times p x.own) vs u in let e = r.owned p in omega arith;
+        starters = grown (λ j x. EndsItsOwn k.trail x.own) vs u (set_all (λ j x. EndsItsOwn k.trail x.own) s.views id w (r.starters id v at) (λ j x _ e. r.starters j x e)) (λ j n p q z. absurd (omega arith));
       };
     }
   where
@@ -337,6 +362,11 @@ splits base id v idle parts s k at =
         others = λ j x n e. grown (λ y z. y ≢ i.seat → z.inside ≡ false) vs u (λ y z p m. i.others y z m p) (λ y _. out) j x e n;
       },
     )
+
+-- what does not end behind what was seen in a trail does not end there in a beginning of it
+no_end_sooner : (t s : List Event) (b : Brought) → StartsWith t s → NoEndBehind b t → NoEndBehind b s
+no_end_sooner t s b more ends n q r o there le (inl e) = ends n q r o there le (inl (get_later t s r (Ends n) more e))
+no_end_sooner t s b more ends n q r o there le (inr e) = ends n q r o there le (inr (get_later t s r (Loses n) more e))
 
 -- a pass takes in another
 pub joins : (base : Chronicle) (id : ℕ) (v : View) (other : ℕ) (u : View) → IsIdle v → IsIdle u → Joins (Kept base) id v other u (joined v u) nobody
@@ -368,7 +398,14 @@ joins base id v other u idle idle' s k at apart there =
       trails = record {
         begins = r.begins;
         seen = both (λ j x. StartsWith k.trail x.seen) rank.greater (begins_any k.trail) r.seen;
-        told = both (λ j x. StartsWith x.seen x.told) rank.lesser (begins_any []) r.told;
+        told = both (λ j x. AreTold x.base x.seen x.met) (
+          record { of_hall = refl; seen = rank.first; no_end = no_end_sooner k.trail w.seen (brings v) rank.greater (no_end base k.trail s.views id v at r) },
+          (
+            record { of_hall = r.based other u was idle'.3 ∙ sym is_base; seen = rank.second; no_end = no_end_sooner k.trail w.seen (brings u) rank.greater (no_end base k.trail s.views other u was r) },
+            tt,
+          ),
+        )
+            tt r.told;
         based = both (λ j x. 0 < x.parts → x.base ≡ base) (λ _. is_base) (λ z. absurd (omega arith)) r.based;
         legal = r.legal;
         mine = both (λ j x. (p : ℕ) → 1 ≤ times p x.own → p < length x.seen)
@@ -378,6 +415,12 @@ joins base id v other u idle idle' s k at apart there =
         whole = whole_joined s.views id other v u w k.trail at was apart rank.greater rank.first rank.second r.whole;
         owned = λ p. let h = total_set (λ (x : View). times p x.own) s.views id v w at in let j = total_set (λ (x : View). times p x.own) vs other u nobody there in let e = r.owned p in
             let a = times-append p v.own u.own in omega arith;
+        starters = both (λ j x. EndsItsOwn k.trail x.own)
+            (λ n p q z e before there. let a = times-append p v.own u.own in let b = times-append q v.own u.own in
+            dite (ℕ_discrete (times p v.own) 0)
+            (λ no_own. let h = r.starters other u was n p q (omega arith) e before there in omega arith)
+            (λ own_it. let h = r.starters id v at n p q (omega arith) e before there in omega arith))
+            (λ n p q z. absurd (omega arith)) r.starters;
       };
     }
   where
@@ -413,12 +456,13 @@ opens base legal = record {
   trails = record {
     begins = begins_itself base.trail;
     seen = λ i v e. subst (λ (x : View). StartsWith base.trail x.seen) (alone i v e) (begins_itself base.trail);
-    told = λ i v e. subst (λ (x : View). StartsWith x.seen x.told) (alone i v e) (begins_any base.trail);
+    told = λ i v e. subst (λ (x : View). AreTold x.base x.seen x.met) (alone i v e) tt;
     based = λ i v e _. sym (ap (λ (x : View). x.base) (alone i v e));
     legal = legal;
     mine = λ i v e p o. absurd (let h = ap (λ (x : View). times p x.own) (alone i v e) in omega arith);
     whole = (0, opener base, refl, refl);
     owned = λ p. let h = within_none (length base.trail) p in omega arith;
+    starters = λ i v e n p q o. absurd (let h = ap (λ (x : View). times p x.own) (alone i v e) in omega arith);
   };
 }
   where

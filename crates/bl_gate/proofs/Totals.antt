@@ -1,7 +1,9 @@
 -- Sums over all views, after one view changes.
-use Rattle.std.proofs.Common.{◌≡◌, ◌≢◌, ℕ, zero, suc, ◌+◌, ◌<◌, ◌≤◌, ◌⊎◌, inl, inr, List, [], ◌∷◌, ◌++◌, eqb, set, refl, sym, ap, ◌∙◌, arith}
+use Rattle.std.proofs.Common.{◌≡◌, ◌≢◌, ℕ, zero, suc, ◌+◌, ◌<◌, ◌≤◌, ◌⊎◌, inl, inr, List, [], ◌∷◌, ◌++◌, eqb, set, refl, sym, ap, arith}
 use Rattle.std.proofs.lemmas.Bool.Decides.{nat_tests}
 use mathlib.Core.Option.{some, some-injective, some-ne-none}
+use mathlib.Core.Logic.{dite}
+use native.Mathlib.Decide.{ℕ_discrete}
 use lib.ListN.{get_elem?}
 use Rattle.bl_gate.specs.Counts.{one_if, within, times, total}
 
@@ -26,6 +28,13 @@ module _ {A : Type 0} (f : A → ℕ) where
   two_of (x ∷ xs) zero (suc j) v w n e d = let h : f x ≡ f v = ap f (some-injective x v e) in let k = one_of xs j w d in omega arith
   two_of (x ∷ xs) (suc i) zero v w n e d = let h : f x ≡ f w = ap f (some-injective x w d) in let k = one_of xs i v e in omega arith
   two_of (x ∷ xs) (suc i) (suc j) v w n e d = let h = two_of xs i j v w (λ s. n (ap suc s)) e d in omega arith
+
+-- some element has its share of a sum that is not nothing
+pub some_of : {A : Type 0} (f : A → ℕ) (l : List A) → 1 ≤ total f l → (i : ℕ) × (v : A) × (get_elem? l i ≡ some v) × (1 ≤ f v)
+some_of f [] h = absurd (omega arith)
+some_of f (x ∷ xs) h = dite (ℕ_discrete (f x) 0)
+    (λ z. let d = some_of f xs (omega arith) in (suc d.0, d.1, d.2, d.3))
+    (λ no. (0, x, refl, omega arith))
 
 pub within_in : (a b x : ℕ) → a ≤ x → x < b → within a b x ≡ 1
 within_in a b x p q = grind (arith, nat_tests)

@@ -5,8 +5,9 @@ use Rattle.atomic_table.specs.Seated.{TableId}
 use Rattle.bl_order.specs.Machine.{State, Event}
 use Rattle.bl_hall.specs.Chronicle.{Chronicle, Continues, HasTrail, state_now, with_event}
 use Rattle.bl_gate.specs.Counts.{StartsWith}
-use Rattle.bl_gate.specs.Gates.{PassView, Calls, Follows, hall_seen, hall_with, state_seen}
-use Rattle.bl_gate.specs.Views.{View, drew, entered, gained, went}
+use Rattle.bl_gate.specs.Gates.{PassView, Calls, Follows, hall_seen, hall_with}
+use Rattle.bl_gate.specs.Views.{View, Brought, brings, drew, entered, gained, went}
+use Rattle.bl_gate.specs.Turns.{NoEndBehind}
 use Rattle.bl_gate.proofs.Trails.{begins_more}
 use Rattle.bl_gate.proofs.Steps.{continues_base, continues_starts}
 
@@ -14,20 +15,27 @@ use Rattle.bl_gate.proofs.Steps.{continues_base, continues_starts}
 abbrev pub pass_of : TableId → View → ℕ → PassView
 pass_of id v parts = record { gate = id; base = v.base; seen = v.seen; own = v.own; parts = parts }
 
--- A turn: the hall was taken with a trail that begins with all that was seen, and put back as it then was or with one event more.
+-- what a pass would bring where two meet
+abbrev pub brought_by : PassView → Brought
+brought_by p = record { base = p.base; seen = p.seen; own = p.own }
+
+-- A turn: the hall was taken with a trail that begins with all that was seen, and in which nobody else has ended what was started, and put
+-- back as it then was or with one event more.
 pub record Turned (before : PassView) (taken put : Chronicle) (after : PassView) : Type 0 where
   pub taken_is : taken ≡ hall_with before.base taken.trail
   pub from : StartsWith taken.trail before.seen
+  pub no_end : NoEndBehind (brought_by before) taken.trail
   pub continues : Continues taken put
   pub after_is : after ≡ record { gate = before.gate; base = before.base; seen = put.trail; own = before.own ++ gained (length taken.trail) (length put.trail); parts = before.parts }
 
 pub turned : (p : PassView) (z z' z'' : TableId) (v v' v'' : View) (parts t : ℕ) (taken put : Chronicle) → pass_of z v parts ≡ p → z' ≡ z → z'' ≡ z'
-    → taken ≡ hall_with v.base taken.trail → StartsWith taken.trail v.seen → v' ≡ entered (drew v t) taken.trail → Continues taken put → v'' ≡ went v' put.trail
+    → taken ≡ hall_with v.base taken.trail → StartsWith taken.trail v.seen → NoEndBehind (brings v) taken.trail → v' ≡ entered (drew v t) taken.trail → Continues taken put → v'' ≡ went v' put.trail
     → Turned p taken put (pass_of z'' v'' parts)
-turned p z z' z'' v v' v'' parts t taken put is gate gate' taken_is from came continues gone =
+turned p z z' z'' v v' v'' parts t taken put is gate gate' taken_is from none came continues gone =
     subst (λ (q : PassView). Turned q taken put (pass_of z'' v'' parts)) is (record {
       taken_is = taken_is;
       from = from;
+      no_end = none;
       continues = continues;
       after_is = (λ i. pass_of ((gate' ∙ gate) i) ((gone ∙ ap (λ (u : View). went u put.trail) came) i) parts);
     })
@@ -94,11 +102,11 @@ module _ (p : PassView) (taken put : Chronicle) (q : PassView) (turn : Turned p 
 
 -- the same, where a call was made on what the box lent
 pub turned_lent : (p : PassView) (z z' z'' : TableId) (v v' v'' : View) (parts t : ℕ) (taken lent put : Chronicle) → pass_of z v parts ≡ p → z' ≡ z → z'' ≡ z'
-    → taken ≡ hall_with v.base taken.trail → StartsWith taken.trail v.seen → v' ≡ entered (drew v t) taken.trail → lent ≡ taken → Continues lent put → v'' ≡ went v' put.trail
+    → taken ≡ hall_with v.base taken.trail → StartsWith taken.trail v.seen → NoEndBehind (brings v) taken.trail → v' ≡ entered (drew v t) taken.trail → lent ≡ taken → Continues lent put → v'' ≡ went v' put.trail
     → Turned p lent put (pass_of z'' v'' parts)
-turned_lent p z z' z'' v v' v'' parts t taken lent put is gate gate' taken_is from came same continues gone =
+turned_lent p z z' z'' v v' v'' parts t taken lent put is gate gate' taken_is from none came same continues gone =
     subst (λ (h : Chronicle). Turned p h put (pass_of z'' v'' parts)) (sym same)
-    (turned p z z' z'' v v' v'' parts t taken put is gate gate' taken_is from came (subst (λ (h : Chronicle). Continues h put) same continues) gone)
+    (turned p z z' z'' v v' v'' parts t taken put is gate gate' taken_is from none came (subst (λ (h : Chronicle). Continues h put) same continues) gone)
 
 -- and where what the box lent was only read
 pub turned_read : (p q : PassView) (taken lent : Chronicle) → lent ≡ taken → Turned p taken taken q → Turned p lent lent q

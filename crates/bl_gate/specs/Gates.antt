@@ -1,14 +1,16 @@
 -- What callers see of a gate and of the passes that it gives. All of it is our own choice.
-use Rattle.std.specs.Prelude.{◌≡◌, ℕ, List, [], ◌∷◌, ◌++◌, length}
+use Rattle.std.specs.Prelude.{◌≡◌, ◌≢◌, ℕ, ◌≤◌, IsTrue, List, [], ◌∷◌, ◌++◌, length, slice_get, Some}
 use Rattle.atomic_table.specs.Seated.{TableId}
 use Rattle.bl_policy.specs.Policy.{no_policy}
 use Rattle.bl_work.specs.Names.{KnownNames}
 use Rattle.bl_setup.specs.declared.version.Version.TheVariants.{Two}
-use Rattle.bl_order.specs.Machine.{State, Event}
+use Rattle.bl_order.specs.Machine.{State, Event, Starts, runs}
+use Rattle.bl_eval.specs.Loan.{Loan}
+use Rattle.bl_core.specs.Answers.{loan_at}
 use Rattle.bl_core.specs.declared.machine.Started.{Started}
 use Rattle.bl_core.specs.declared.machine.Started.TheVariants.{Denied, RuleDone, Run}
 use Rattle.bl_hall.specs.Chronicle.{Chronicle, state_now}
-use Rattle.bl_gate.specs.Counts.{StartsWith}
+use Rattle.bl_gate.specs.Counts.{StartsWith, times}
 
 -- which gate one is: its table's own name
 abbrev pub GateId : Type 0
@@ -73,3 +75,30 @@ abbrev pub IsOf : ℕ → Started → Type 0
 IsOf n (Denied denial) = Unit {0}
 IsOf n RuleDone = Unit {0}
 IsOf n (Run lent) = lent.entry ≡ n
+
+-- An entry is in a pass's hand: the pass owns a position at which it has seen the entry start, and the entry runs in the state that the
+-- pass has seen.
+pub record InHand (pass : PassView) (n : ℕ) : Type 0 where
+  pub position : ℕ
+  pub own : 1 ≤ times position pass.own
+  pub start : slice_get pass.seen position ≡ Some (Starts n)
+  pub running : IsTrue (runs (state_seen pass) n)
+
+-- a loan's entry is in a pass's hand, and the loan is what its place is lent in the state that the pass has seen
+pub record HasLoanInHand (pass : PassView) (loan : Loan) : Type 0 where
+  pub entry : InHand pass loan.entry
+  pub lent : loan ≡ loan_at (state_seen pass) loan.entry
+
+-- what a pass had in hand it has still, with its loan
+abbrev pub KeepsInHand : PassView → PassView → Type 0
+KeepsInHand before after = (loan : Loan) → HasLoanInHand before loan → HasLoanInHand after loan
+
+-- the same but for one entry
+abbrev pub KeepsInHandBut : ℕ → PassView → PassView → Type 0
+KeepsInHandBut n before after = (loan : Loan) → loan.entry ≢ n → HasLoanInHand before loan → HasLoanInHand after loan
+
+-- what a start lets run is in the pass's hand
+abbrev pub GivesInHand : PassView → Started → Type 0
+GivesInHand pass (Denied denial) = Unit {0}
+GivesInHand pass RuleDone = Unit {0}
+GivesInHand pass (Run lent) = HasLoanInHand pass lent

@@ -4,12 +4,18 @@ use Rattle.bl_order.specs.Machine.{Event}
 use Rattle.bl_hall.specs.Chronicle.{Chronicle}
 use Rattle.bl_gate.specs.Gates.{no_hall}
 
--- The hall that the gate was given; the trail that was seen; what another seat had seen, until a look tells that `seen` begins with
--- it; the positions of one's own calls; the ticket; whether the hall is in one's hands; and the parts of the right to close.
+-- what a seat brings where two meet: the hall that the gate was given, the trail that it had seen, and the positions of its own calls
+pub record Brought : Type 0 where
+  pub base : Chronicle
+  pub seen : List Event
+  pub own : List ℕ
+
+-- The hall that the gate was given; the trail that was seen; what two brought that met, until a look tells what follows from it; the
+-- positions of one's own calls; the ticket; whether the hall is in one's hands; and the parts of the right to close.
 pub record View : Type 0 where
   pub base : Chronicle
   pub seen : List Event
-  pub told : List Event
+  pub met : List Brought
   pub own : List ℕ
   pub ticket : Option ℕ
   pub inside : Bool
@@ -17,11 +23,11 @@ pub record View : Type 0 where
 
 -- the first seat
 abbrev pub opener : Chronicle → View
-opener base = record { base = base; seen = base.trail; told = []; own = []; ticket = None; inside = false; parts = 64 }
+opener base = record { base = base; seen = base.trail; met = []; own = []; ticket = None; inside = false; parts = 64 }
 
 -- a seat that went into another
 abbrev pub nobody : View
-nobody = record { base = no_hall; seen = []; told = []; own = []; ticket = None; inside = false; parts = 0 }
+nobody = record { base = no_hall; seen = []; met = []; own = []; ticket = None; inside = false; parts = 0 }
 
 -- a ticket was drawn
 abbrev pub drew : View → ℕ → View
@@ -29,7 +35,7 @@ drew v ticket = record v { ticket = Some ticket }
 
 -- the hall was taken, with this trail
 abbrev pub entered : View → List Event → View
-entered v trail = record v { seen = trail; told = []; inside = true }
+entered v trail = record v { seen = trail; met = []; inside = true }
 
 -- the position that a longer trail has more
 abbrev pub gained : ℕ → ℕ → List ℕ
@@ -42,35 +48,35 @@ went v trail = record v { seen = trail; own = v.own ++ gained (length v.seen) (l
 abbrev pub longer : List Event → List Event → List Event
 longer xs ys = cond (nat_le (length xs) (length ys)) ys xs
 
-abbrev pub shorter : List Event → List Event → List Event
-shorter xs ys = cond (nat_le (length xs) (length ys)) xs ys
+abbrev pub brings : View → Brought
+brings v = record { base = v.base; seen = v.seen; own = v.own }
 
 -- a seat took in another
 abbrev pub joined : View → View → View
 joined v w = record v {
   seen = longer v.seen w.seen;
-  told = shorter v.seen w.seen;
+  met = brings v ∷ brings w ∷ [];
   own = v.own ++ w.own;
   ticket = None;
   inside = false;
   parts = v.parts + w.parts;
 }
 
--- what was told is known to be seen
+-- a look has told what follows from what was brought
 abbrev pub heard : View → View
-heard v = record v { told = [] }
+heard v = record v { met = [] }
 
 -- a part went to a seat of its own, which has seen the same and owns nothing
 abbrev pub stays : View → View
 stays v = record v { parts = v.parts - 1 }
 
 abbrev pub branch : View → View
-branch v = record v { told = []; own = []; ticket = None; inside = false; parts = 1 }
+branch v = record v { met = []; own = []; ticket = None; inside = false; parts = 1 }
 
 -- a seat between two calls
 abbrev pub IsIdle : View → Type 0
-IsIdle v = (v.ticket ≡ None) × (v.inside ≡ false) × (v.told ≡ []) × (0 < v.parts)
+IsIdle v = (v.ticket ≡ None) × (v.inside ≡ false) × (v.met ≡ []) × (0 < v.parts)
 
 -- a seat whose turn it is: it has the hall in its hands
 abbrev pub HasTurn : View → Type 0
-HasTurn v = (v.inside ≡ true) × (v.told ≡ []) × (0 < v.parts)
+HasTurn v = (v.inside ≡ true) × (v.met ≡ []) × (0 < v.parts)

@@ -5,14 +5,14 @@ ghost use Rattle.bl_core.specs.Answers.{IsCause, IsLentBy, IsNotOpened, IsStarte
 ghost use Rattle.bl_hall.specs.Chronicle.{Continues, HasTrail};
 ghost use Rattle.bl_hall.specs.Told.{AreAnswers, IsUnanswered, Waits, reply_of};
 ghost use Rattle.bl_gate.specs.Counts.{StartsWith, times, within};
-ghost use Rattle.bl_gate.specs.Gates.{Calls, Follows, IsOf, hall_seen, hall_with, state_seen};
-ghost use Rattle.bl_gate.specs.Views.{IsIdle, HasTurn, drew, entered, went};
+ghost use Rattle.bl_gate.specs.Gates.{Calls, Follows, GivesInHand, HasLoanInHand, InHand, IsOf, KeepsInHand, KeepsInHandBut, hall_seen, hall_with, state_seen};
+ghost use Rattle.bl_gate.specs.Turns.{EndsWhatItStarted, NoEndBehind};
+ghost use Rattle.bl_gate.specs.Views.{IsIdle, HasTurn, brings, drew, entered, went};
 
 use crate::boxed::BoxedHall;
 use crate::pass::{PARTS, Pass, Place};
 use crate::rule::{Both, Draw, Hear, InTurn, Look, OnePart, PassOn, View};
 use atomic_table::{Refused as NoTable, Table};
-use bl_core::foreign::{Foreign, ForeignUnrun};
 use bl_core::machine::Started;
 use bl_core::refusal::{NotReady, OpenRefused, Refused, StartFault, Starved};
 use bl_core::session::SessionNo;
@@ -34,7 +34,8 @@ const NAP_MICROS: u64 = 50;
 
 /// A hall that many threads call, each with a pass of its own, in the order of their tickets: a call draws a ticket, waits until it is
 /// served, makes one call of the hall, and has the next ticket served. So all calls stand in one trail, and a pass knows what it has
-/// seen of it and which positions are its own.
+/// seen of it and which positions are its own. An entry that a pass has started, and that runs, is in its hand until it ends it itself: no
+/// other pass can.
 ///
 /// The calls that take a runtime may wait for another thread, and what is said of them holds if they return. They wait in the lobby, one
 /// after another, so that who draws a ticket is served at once; nothing that is proved rests on the lobby.
@@ -65,7 +66,7 @@ pub struct NoGate {
 
 impl Gate {
     /// A gate round a hall, and the pass with all its parts, which has seen the hall's trail and owns nothing. An error comes only
-    /// where a growth is refused, and hands the hall back.
+    /// where a growth is refused, and hands the hall back. What runs in the hall already is in no pass's hand, and ends only after `close`.
     #[tactic(auto, using(crate::proofs::Setups::names_stay))]
     pub fn new(hall: Hall) -> Result<(Gate, Pass), NoGate>
         ensures gate { IfOk result (λ made. made.1.gate ≡ made.0.id) }
@@ -176,6 +177,7 @@ impl Gate {
         ensures seen { StartsWith result.trail seat.old.me.0.seen }
         ensures turn { (t : ℕ) × (seat.new.me.0 ≡ entered (drew seat.old.me.0 t) result.trail) }
         ensures hands { seat.new.me.1 ≡ (0, None) ∷ [] }
+        ensures no_end { NoEndBehind (brings seat.old.me.0) result.trail }
     {
         let ticket = self.draw(rt, seat);
         let shared = &self.table.shared;
@@ -195,6 +197,7 @@ impl Gate {
         requires gate { seat.old.table_id ≡ self.now.id }
         requires turn { HasTurn seat.old.me.0 × (seat.old.me.1 ≡ (0, None) ∷ []) }
         requires next { Continues (hall_with seat.old.me.0.base seat.old.me.0.seen) hall }
+        requires starts { EndsWhatItStarted seat.old.me.0 hall.trail }
         ensures gate { seat.new.table_id ≡ seat.old.table_id }
         ensures went { seat.new.me ≡ (went seat.old.me.0 hall.trail, []) }
     {
@@ -214,6 +217,7 @@ impl Gate {
         requires gate { pass.old.gate ≡ self.now.id }
         ensures follows { Follows pass.old pass.new }
         ensures trail { HasTrail (hall_seen pass.new) }
+        ensures in_hand { KeepsInHand pass.old pass.new }
         ensures ok { IfOk result (λ session. Calls pass.old (Opens subject) (λ x. session ≡ length x.sessions) pass.new) }
         ensures err { IfErr result (λ refused. (pass.new.own ≡ pass.old.own) × IsNotOpened (state_seen pass.new) subject refused) }
     {
@@ -237,6 +241,7 @@ impl Gate {
         requires gate { pass.old.gate ≡ self.now.id }
         ensures follows { Follows pass.old pass.new }
         ensures trail { HasTrail (hall_seen pass.new) }
+        ensures in_hand { KeepsInHand pass.old pass.new }
         ensures ok { IfOk result (λ n. Calls pass.old (Admits session ordinal work) (λ x. n ≡ length x.order) pass.new) }
         ensures err { IfErr result (λ refused. (pass.new.own ≡ pass.old.own) × IsCause (state_seen pass.new) session ordinal work refused.cause) }
         ensures back { IfErr result (λ refused. refused.work ≡ work) }
@@ -255,9 +260,11 @@ impl Gate {
         requires gate { pass.old.gate ≡ self.now.id }
         ensures follows { Follows pass.old pass.new }
         ensures trail { HasTrail (hall_seen pass.new) }
+        ensures in_hand { KeepsInHand pass.old pass.new }
         ensures ok { IfOk result (λ begun. Calls pass.old (Starts n) (λ x. IsStarted x n begun) pass.new) }
         ensures err { IfErr result (λ fault. (pass.new.own ≡ pass.old.own) × ((fault ≡ StartFault.NotReady) ↔ ¬ MayStart (state_seen pass.new) n)) }
         ensures entry { IfOk result (IsOf n) }
+        ensures gives { IfOk result (GivesInHand pass.new) }
         ensures starved { IfErr result (IsStarvedBy n) }
     {
         let _alone = self.come_in(rt);
@@ -267,38 +274,36 @@ impl Gate {
         answer
     }
 
-    /// Ends a running entry with what was done of what it was lent, as the hall does at that point of the trail. A refusal comes
-    /// exactly where that was not lent to a running entry there; it adds nothing and hands it back.
-    pub fn finish<R: Wait>(&self, rt: &R, pass: &mut Pass, done: Done) -> Result<(), Foreign>
+    /// Ends an entry that the pass has in hand with what was done of what it was lent, as the hall does at that point of the trail. Nobody
+    /// else has ended it by then, so it is not refused. It takes no memory.
+    pub fn finish<R: Wait>(&self, rt: &R, pass: &mut Pass, done: Done)
         requires gate { pass.old.gate ≡ self.now.id }
+        requires held { HasLoanInHand pass.old done }
         ensures follows { Follows pass.old pass.new }
         ensures trail { HasTrail (hall_seen pass.new) }
-        ensures ok { OnOk result (Calls pass.old (Ends done.entry) (λ x. IsLentBy x done) pass.new) }
-        ensures err { OnErr result ((pass.new.own ≡ pass.old.own) × (¬ IsLentBy (state_seen pass.new) done)) }
-        ensures back { IfErr result (λ foreign. foreign ≡ done) }
+        ensures in_hand { KeepsInHandBut done.entry pass.old pass.new }
+        ensures calls { Calls pass.old (Ends done.entry) (λ x. IsLentBy x done) pass.new }
     {
         let _alone = self.come_in(rt);
         let mut hall = self.enter(rt, &mut pass.seat);
-        let answer = hall.inner.finish(done);
+        hall.inner.finish_lent(done);
         self.leave(&mut pass.seat, hall);
-        answer
     }
 
-    /// Ends a running entry as lost, with what it was lent, as the hall does at that point of the trail. A refusal comes exactly where
-    /// that was not lent to a running entry there; it adds nothing and hands it back.
-    pub fn lose<R: Wait>(&self, rt: &R, pass: &mut Pass, unrun: Unrun) -> Result<(), ForeignUnrun>
+    /// Ends an entry that the pass has in hand as lost, with what it was lent, as the hall does at that point of the trail. Nobody else
+    /// has ended it by then, so it is not refused. It takes no memory.
+    pub fn lose<R: Wait>(&self, rt: &R, pass: &mut Pass, unrun: Unrun)
         requires gate { pass.old.gate ≡ self.now.id }
+        requires held { HasLoanInHand pass.old unrun }
         ensures follows { Follows pass.old pass.new }
         ensures trail { HasTrail (hall_seen pass.new) }
-        ensures ok { OnOk result (Calls pass.old (Loses unrun.entry) (λ x. IsLentBy x unrun) pass.new) }
-        ensures err { OnErr result ((pass.new.own ≡ pass.old.own) × (¬ IsLentBy (state_seen pass.new) unrun)) }
-        ensures back { IfErr result (λ foreign. foreign ≡ unrun) }
+        ensures in_hand { KeepsInHandBut unrun.entry pass.old pass.new }
+        ensures calls { Calls pass.old (Loses unrun.entry) (λ x. IsLentBy x unrun) pass.new }
     {
         let _alone = self.come_in(rt);
         let mut hall = self.enter(rt, &mut pass.seat);
-        let answer = hall.inner.lose(unrun);
+        hall.inner.lose_lent(unrun);
         self.leave(&mut pass.seat, hall);
-        answer
     }
 
     /// Ends an entry as lost that was refused memory at its start, as the hall does at that point of the trail. `NotReady` comes where
@@ -312,6 +317,7 @@ impl Gate {
         requires gate { pass.old.gate ≡ self.now.id }
         ensures follows { Follows pass.old pass.new }
         ensures trail { HasTrail (hall_seen pass.new) }
+        ensures in_hand { KeepsInHand pass.old pass.new }
         ensures ok { OnOk result (Calls pass.old (Loses starved) (λ x. MayStart x starved) pass.new) }
         ensures err { OnErr result ((pass.new.own ≡ pass.old.own) × (¬ MayStart (state_seen pass.new) starved)) }
     {
@@ -327,6 +333,7 @@ impl Gate {
         requires gate { pass.old.gate ≡ self.now.id }
         ensures follows { Follows pass.old pass.new }
         ensures trail { HasTrail (hall_seen pass.new) }
+        ensures in_hand { KeepsInHand pass.old pass.new }
         ensures own { pass.new.own ≡ pass.old.own }
         ensures some { IfSome result (λ n. MayStart (state_seen pass.new) n) }
         ensures none { IsNone result → (n : ℕ) → ¬ MayStart (state_seen pass.new) n }
@@ -351,6 +358,7 @@ impl Gate {
         requires gate { pass.old.gate ≡ self.now.id }
         ensures follows { Follows pass.old pass.new }
         ensures trail { HasTrail (hall_seen pass.new) }
+        ensures in_hand { KeepsInHand pass.old pass.new }
         ensures own { pass.new.own ≡ pass.old.own }
         ensures open { IfOk result (λ _. session < length (state_seen pass.new).sessions) }
         ensures waits { IfOk result (λ found. IsNone found → Waits (state_seen pass.new) session) }
@@ -371,6 +379,7 @@ impl Gate {
         ensures gate { (pass.new.gate ≡ self.now.id) × (result.gate ≡ self.now.id) }
         ensures parts { (pass.new.parts + 1 ≡ pass.old.parts) × (result.parts ≡ 1) }
         ensures old { (pass.new.base ≡ pass.old.base) × (pass.new.seen ≡ pass.old.seen) × (pass.new.own ≡ pass.old.own) }
+        ensures in_hand { KeepsInHand pass.old pass.new }
         ensures new { (result.base ≡ pass.old.base) × (result.seen ≡ pass.old.seen) × (result.own ≡ []) }
     {
         let seat = self.table.shared.split_seat::<OnePart>(&mut pass.seat);
@@ -379,7 +388,7 @@ impl Gate {
     }
 
     /// Takes in another pass of the same gate, with all its parts. The pass has then seen what each had seen, and owns the positions
-    /// of both; no position is owned twice.
+    /// of both; no position is owned twice. What either had in hand it has, and no entry was in both hands.
     pub fn meet(&self, pass: &mut Pass, other: Pass)
         requires gate { (pass.old.gate ≡ self.now.id) × (other.gate ≡ self.now.id) }
         ensures gate { pass.new.gate ≡ self.now.id }
@@ -388,6 +397,8 @@ impl Gate {
         ensures seen { StartsWith pass.new.seen pass.old.seen × StartsWith pass.new.seen other.seen }
         ensures own { pass.new.own ≡ pass.old.own ++ other.own }
         ensures apart { (p : ℕ) → times p pass.new.own ≤ 1 }
+        ensures in_hand { KeepsInHand pass.old pass.new × KeepsInHand other pass.new }
+        ensures hands { (n : ℕ) → InHand pass.old n → InHand other n → ⊥ }
     {
         let Pass { seat, parts } = other;
         self.table.shared.join_seat::<Both>(&mut pass.seat, seat);

@@ -1,8 +1,11 @@
 //! A gate over the base setup, and what the tests ask of it.
 ghost use Rattle.std.specs.Prelude.{◌≡◌, Ok};
-ghost use Rattle.bl_gate.specs.Gates.{Follows};
+ghost use Rattle.bl_gate.specs.Gates.{Follows, HasLoanInHand, KeepsInHand};
 
+use bl_core::machine::Started;
 use bl_core::session::SessionNo;
+use bl_eval::evaluate::eval;
+use bl_eval::lent::{Done, Lent};
 use bl_gate::gate::Gate;
 use bl_gate::pass::Pass;
 use bl_hall::hall::Hall;
@@ -61,6 +64,24 @@ fn show_memo<R: AllocGlobal + Abort>(rt: &R, gate: &Gate) -> Work {
     }
 }
 
+/// Admits a line of a session that shows memo, and gives its place.
+pub(super) fn admit<R: AllocGlobal + Abort + Wait>(
+    rt: &R,
+    gate: &Gate,
+    pass: &mut Pass,
+    session: SessionNo,
+    ordinal: u32,
+) -> u32
+    requires { pass.old.gate ≡ gate.now.id }
+    ensures { Follows pass.old pass.new }
+{
+    let work = show_memo(rt, gate);
+    match gate.line(rt, pass, session, ordinal, work) {
+        Ok(place) => place,
+        Err(_refused) => panic!(rt; "refused"),
+    }
+}
+
 /// Opens a session of `ann` and admits a line that shows memo, by one pass; gives the session and the line's place.
 pub(super) fn ask<R: AllocGlobal + Abort + Wait>(
     rt: &R,
@@ -71,11 +92,45 @@ pub(super) fn ask<R: AllocGlobal + Abort + Wait>(
     ensures { Follows pass.old pass.new }
 {
     let session = right(rt, gate.open(rt, pass, SubjectId::new(ANN)));
-    let work = show_memo(rt, gate);
-    match gate.line(rt, pass, session, 1, work) {
-        Ok(place) => (session, place),
-        Err(_refused) => panic!(rt; "refused"),
+    let place = admit(rt, gate, pass, session, 1);
+    (session, place)
+}
+
+/// What is lent where an entry runs.
+fn lent_of(rt: &impl Abort, begun: Started) -> Lent
+    ensures { begun ≡ Started.Run result }
+{
+    match begun {
+        Started::Run(lent) => lent,
+        Started::Denied(_) | Started::RuleDone => panic!(rt; "it does not run"),
     }
+}
+
+/// What is done with what was lent.
+fn done_of<R: AllocGlobal + Abort>(rt: &R, lent: Lent) -> Done
+    ensures { result ≡ lent }
+{
+    match eval(rt.alloc(), lent) {
+        Ok(done) => done,
+        Err(_unrun) => panic!(rt; "no memory"),
+    }
+}
+
+/// Starts an entry, which runs, and does what it does. The pass has it in hand, and what it had before.
+pub(super) fn begin<R: AllocGlobal + Abort + Wait>(
+    rt: &R,
+    gate: &Gate,
+    pass: &mut Pass,
+    n: u32,
+) -> Done
+    requires { pass.old.gate ≡ gate.now.id }
+    ensures follows { Follows pass.old pass.new }
+    ensures in_hand { KeepsInHand pass.old pass.new }
+    ensures held { HasLoanInHand pass.new result }
+    ensures entry { result.entry ≡ n }
+{
+    let begun = right(rt, gate.start(rt, pass, n));
+    done_of(rt, lent_of(rt, begun))
 }
 
 /// Whether these replies are one, to the first line, and it shows `m1`.

@@ -4,10 +4,13 @@
 //!     writes      what one pass finds of its own calls
 //!     turns       one turn through the gate
 //!     overlaps    two behaviours that run side by side
+//!     orders      entries that end in another order than they started
 #![tactic(auto)]
 
 #[cfg(test)]
 mod base;
+#[cfg(test)]
+mod orders;
 #[cfg(test)]
 mod overlaps;
 #[cfg(test)]

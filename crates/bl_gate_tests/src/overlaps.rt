@@ -46,7 +46,7 @@ fn work<R: Wait>(rt: &R, alloc: Global, gate: &Gate, mut pass: Pass, hold: &Hold
     requires { pass.gate ≡ gate.now.id }
     ensures { (result.gate ≡ pass.gate) × (result.parts ≡ pass.parts) }
 {
-    let _ = run_worker(rt, alloc, gate, &mut pass, hold, &hold.bell);
+    run_worker(rt, alloc, gate, &mut pass, hold, &hold.bell);
     pass
 }
 

@@ -27,7 +27,7 @@ fn one_turn_through_the_gate(rt: HostRuntime) {
     let (session, place) = ask(&rt, &gate, &mut pass);
     assert!(rt; session.number() == 0 && place == 0);
     let turn = work_once(&rt, rt.alloc(), &gate, &mut other, &NoPause);
-    assert!(rt; turn == Ok(Turn::Done(0)));
+    assert!(rt; turn == Turn::Done(0));
     assert!(rt; is_answered(&rt, &gate, &mut pass, session));
     gate.meet(&mut pass, other);
     assert!(rt; pass.parts() == 64);
@@ -41,7 +41,7 @@ fn one_turn_through_the_gate(rt: HostRuntime) {
 fn an_idle_turn(rt: HostRuntime) {
     let (gate, mut pass) = base_gate(&rt);
     let turn = work_once(&rt, rt.alloc(), &gate, &mut pass, &NoPause);
-    assert!(rt; turn == Ok(Turn::Idle));
+    assert!(rt; turn == Turn::Idle);
     let hall = gate.close(pass);
     assert!(rt; hall.trail().is_empty());
     drop(hall);

@@ -28,25 +28,21 @@ pub struct Site<'a, P, T> {
 }
 
 /// What is left after all sessions: the pass; those that ended early, in the order in which that was told; whether each thread was
-/// started, so that all parts of the pass are back; whether something could not be told for want of memory; and whether a worker
-/// failed.
+/// started, so that all parts of the pass are back; and whether something could not be told for want of memory.
 #[derive(Drop)]
 pub struct Hosted {
     pub pass: Pass,
     pub ended: Vec<Ended>,
     pub whole: bool,
     pub memory: bool,
-    pub worker: bool,
 }
 
-/// What is left after the threads: the pass, whether each was started, whether each session that ended early was told, and whether no
-/// worker failed.
+/// What is left after the threads: the pass, whether each was started, and whether each session that ended early was told.
 #[derive(Drop)]
 struct Crews {
     pass: Pass,
     whole: bool,
     told: bool,
-    worked: bool,
 }
 
 /// Starts the workers and then the session threads, and waits for them: for the sessions first, then closes the bell.
@@ -75,13 +71,8 @@ fn run_crews<'s, E, P: Pause + Sync, T: Threads + Wait + Sync>(
         );
     let told = join_crew(post.rt, post.gate, &mut pass, sessions);
     post.bell.close(post.rt);
-    let worked = join_crew(post.rt, post.gate, &mut pass, workers);
-    Crews {
-        pass,
-        whole,
-        told,
-        worked,
-    }
+    let _ = join_crew(post.rt, post.gate, &mut pass, workers);
+    Crews { pass, whole, told }
 }
 
 /// Starts the threads in a scope of their own, and waits for them.
@@ -151,7 +142,6 @@ pub fn host<P: Pause + Sync, T: Threads + Wait + Sync>(
             ended,
             whole: false,
             memory: false,
-            worker: false,
         };
     };
     let bell = Bell::new();
@@ -162,6 +152,5 @@ pub fn host<P: Pause + Sync, T: Threads + Wait + Sync>(
         ended,
         whole: crews.whole,
         memory: !crews.told || !heard,
-        worker: !crews.worked,
     }
 }

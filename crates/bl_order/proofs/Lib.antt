@@ -26,3 +26,4 @@ pub mod KnownAnswers
 pub mod TheHeadlineProof
 pub mod LineageProof
 pub mod Absent
+pub mod Running

@@ -262,7 +262,7 @@ content_now-admitted x i o w d sound =
 
 -- ---- a loss, from what it needs
 
-moves-gone : (x : State) (k : ℕ) (sound : IsSound x) → (IsTrue (runs x k) ⊎ MayStart x k) → Moves x (with_phase x k Gone) k Gone
+pub moves-gone : (x : State) (k : ℕ) (sound : IsSound x) → (IsTrue (runs x k) ⊎ MayStart x k) → Moves x (with_phase x k Gone) k Gone
 moves-gone x k sound (inl running) =
     moves-lost x sound k (within x sound k running) (running_is_not_over (phase_at x k) running) (inl (or_left (runs x k) (has_ended x k) running))
 moves-gone x k sound (inr may) =

@@ -13,3 +13,4 @@ pub mod Lineage
 pub mod Known
 pub mod Codes
 pub mod TheHeadline
+pub mod Running

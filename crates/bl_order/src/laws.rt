@@ -7,11 +7,12 @@ ghost use Rattle.bl_order.specs.Known.{IsAsked, KnowsWork};
 ghost use Rattle.bl_order.specs.Headline.{Holds, IsReached, MovesOn};
 ghost use Rattle.bl_order.specs.Laws.{AbsentIsEmpty, FollowsItsParent, IsAnswered, IsClosed, KeepsAnswers, KeepsPlaces, LeavesThePolicy, LineCarriesNothing, LooksBack, RestsOnEnded, RestsOnLossesBefore, RulesMakeThePolicy, RulesStandAlone, RunsAtItsLevel, UsesPresent};
 ghost use Rattle.bl_order.specs.Lineage.{KeepsItsLineage};
-ghost use Rattle.bl_order.specs.Machine.{Event, IsTrail, MayStart, Needs, State, change, children_at, may_start, past_at, runs, start};
+ghost use Rattle.bl_order.specs.Machine.{Ends, Event, IsTrail, Loses, MayStart, Needs, State, change, children_at, may_start, past_at, runs, start};
 ghost use Rattle.bl_order.specs.Order.{Child, Entry, Task, accesses_of, conflict, unnamed};
 ghost use Rattle.bl_order.specs.Now.{content_now, policy_now};
 ghost use Rattle.bl_order.specs.Past.{place};
 ghost use Rattle.bl_order.specs.Room.{HasRoom, IsBehaviourOrRule};
+ghost use Rattle.bl_order.specs.Running.{GoesOn};
 ghost use Rattle.bl_order.specs.TheHeadline.{IsTheHeadline, IsTheHeadlineThroughout};
 ghost use Rattle.bl_setup.specs.Agreement.{Agree};
 ghost use Rattle.bl_setup.specs.Setup.{Setup};
@@ -141,6 +142,13 @@ pub fn each_state_holds()
 /// The policy and the contents now move with each event, and the rest of the machine leaves them alone.
 pub fn events_move_the_present()
     ensures { (x : State) → IsReached x → MovesOn x }
+{}
+
+/// What runs goes on: an event that does not end a running place leaves it running, with what is said of it and the content at it of
+/// each document that it declares.
+pub fn what_runs_goes_on()
+    ensures { (x : State) (event : Event) (n : ℕ) → IsReached x → Needs x event → IsTrue (runs x n) →
+        (event ≡ Ends n → ⊥) → (event ≡ Loses n → ⊥) → GoesOn x (change x event) n }
 {}
 
 /// A trail leads to the start, and where one leads to a state, one leads on with each event that may come next.

@@ -18,6 +18,7 @@
 //!     Laws        what the laws say of places
 //!     AtHand      what is said of a place while others have not ended
 //!     Lineage     what may have come to a place from those above it
+//!     Running     what goes on where a place runs
 #![tactic(auto)]
 
 pub mod laws;

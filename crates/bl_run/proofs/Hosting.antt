@@ -8,7 +8,7 @@ use Rattle.bl_host.specs.declared.ended.Ended.{Ended}
 use Rattle.bl_wire.specs.Watch.{EndState, Puts}
 use Rattle.bl_wire.proofs.PutLaws.{puts-all, puts-append, puts-nil, puts-two}
 use Rattle.bl_run.specs.declared.fault.ProgramFault.{ProgramFault}
-use Rattle.bl_run.specs.declared.fault.ProgramFault.TheVariants.{CannotReadSetup, Setup, CannotReadTrail, CannotWriteTrail, CannotListen, Read, Write, TooLong, Worker, NoMemory}
+use Rattle.bl_run.specs.declared.fault.ProgramFault.TheVariants.{CannotReadSetup, Setup, CannotReadTrail, CannotWriteTrail, CannotListen, Read, Write, TooLong, NoMemory}
 use Rattle.bl_run.specs.Message.{ended_line, fault_line}
 use Rattle.bl_run.specs.declared.serve.Finished.{Finished}
 use Rattle.bl_keep.specs.declared.whole.Unkept.{Unkept}
@@ -37,7 +37,6 @@ told-stays CannotListen later = stays 2 later
 told-stays Read later = stays 2 later
 told-stays Write later = stays 2 later
 told-stays TooLong later = stays 2 later
-told-stays Worker later = stays 2 later
 told-stays NoMemory later = stays 3 later
 
 pub status-append : (s : ℕ) (a b : List ProgramFault) → status_after (status_after s a) b ≡ status_after s (a ++ b)
@@ -45,14 +44,13 @@ status-append s [] b = refl
 status-append zero (fault ∷ a) b = told-stays fault b
 status-append (suc n) (fault ∷ a) b = stays n b
 
--- three steps of a status, as one
-pub status-three : (whole memory worker : Bool) (r s t : ℕ) → r ≡ status_after 0 (found (not whole) NoMemory) → s ≡ status_after r (found memory NoMemory)
-    → t ≡ status_after s (found worker Worker) → t ≡ status_after 0 (faults_found whole memory worker)
-status-three whole memory worker r s t one two three =
+-- two steps of a status, as one
+pub status-two : (whole memory : Bool) (r s : ℕ) → r ≡ status_after 0 (found (not whole) NoMemory) → s ≡ status_after r (found memory NoMemory)
+    → s ≡ status_after 0 (faults_found whole memory)
+status-two whole memory r s one two =
     let a = found (not whole) NoMemory in
     let b = found memory NoMemory in
-    let d = found worker Worker in
-    three ∙ ap (λ q. status_after q d) two ∙ status-append r b d ∙ ap (λ q. status_after q (b ++ d)) one ∙ status-append 0 a (b ++ d)
+    two ∙ ap (λ q. status_after q b) one ∙ status-append 0 a b
 
 clash : (b : Bool) → b ≡ true → b ≡ false → ⊥
 clash b yes' no' = cc
@@ -84,18 +82,17 @@ told_trail unkept s finished x y z is fault left = record {
 }
 
 -- what was found by the end of the threads is told, and then what became of the trail
-pub hosted : (whole : Bool) (es : List Ended) (memory worker : Bool) (r : ℕ) (finished : Finished) (x y z : EndState)
-    → r ≡ status_after 0 (faults_found whole memory worker) → Puts (hosted_text whole es memory worker) x y
+pub hosted : (whole : Bool) (es : List Ended) (memory : Bool) (r : ℕ) (finished : Finished) (x y z : EndState)
+    → r ≡ status_after 0 (faults_found whole memory) → Puts (hosted_text whole es memory) x y
     → TellsTrail whole r finished y z → HasHosted finished (record { before = x.bytes; after = z.bytes; failed = z.failed })
-hosted whole es memory worker r finished x y z status puts then = record {
+hosted whole es memory r finished x y z status puts then = record {
   whole = whole;
   ended = es;
   memory = memory;
-  worker = worker;
   trail = then.trail;
   unwritten = then.unwritten;
   kept = then.kept;
-  status_is = then.status_is ∙ ap (λ q. status_after q (unkept_faults then.trail)) status ∙ status-append 0 (faults_found whole memory worker) (unkept_faults then.trail);
-  said = λ fine. puts-all (hosted_text whole es memory worker ++ unkept_text then.trail) x z
-      (puts-append (hosted_text whole es memory worker) (unkept_text then.trail) x y z puts then.puts) fine;
+  status_is = then.status_is ∙ ap (λ q. status_after q (unkept_faults then.trail)) status ∙ status-append 0 (faults_found whole memory) (unkept_faults then.trail);
+  said = λ fine. puts-all (hosted_text whole es memory ++ unkept_text then.trail) x z
+      (puts-append (hosted_text whole es memory) (unkept_text then.trail) x y z puts then.puts) fine;
 }

@@ -13,7 +13,7 @@ use Rattle.bl_wire.specs.Watch.{Use}
 use Rattle.bl_wire.specs.declared.fault.SessionFault.{SessionFault}
 use Rattle.bl_wire.specs.declared.fault.SessionFault.TheVariants as failing
 use Rattle.bl_run.specs.declared.fault.ProgramFault.{ProgramFault}
-use Rattle.bl_run.specs.declared.fault.ProgramFault.TheVariants.{CannotReadSetup, Setup, CannotReadTrail, CannotWriteTrail, CannotListen, Read, Write, TooLong, Worker, NoMemory}
+use Rattle.bl_run.specs.declared.fault.ProgramFault.TheVariants.{CannotReadSetup, Setup, CannotReadTrail, CannotWriteTrail, CannotListen, Read, Write, TooLong, NoMemory}
 
 -- the words for a kind of fault; want of memory has none, and is told without a line
 abbrev pub kind_words : SetupFaultKind → List ℕ
@@ -34,7 +34,6 @@ IsOfSetup of CannotListen = ⊥
 IsOfSetup of Read = ⊥
 IsOfSetup of Write = ⊥
 IsOfSetup of TooLong = ⊥
-IsOfSetup of Worker = ⊥
 IsOfSetup of NoMemory = of.kind ≡ kinds.Memory
 
 -- Each fault of a session is told as what it is; nobody else speaks for a session with one worker.

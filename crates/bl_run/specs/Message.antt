@@ -5,7 +5,7 @@ use Rattle.bl_host.specs.declared.ended.Ended.{Ended}
 use Rattle.bl_host.specs.declared.ended.Why.{Why}
 use Rattle.bl_host.specs.declared.ended.Why.TheVariants.{Accept, Session}
 use Rattle.bl_run.specs.declared.fault.ProgramFault.{ProgramFault}
-use Rattle.bl_run.specs.declared.fault.ProgramFault.TheVariants.{CannotReadSetup, Setup, CannotReadTrail, CannotWriteTrail, CannotListen, Read, Write, TooLong, Worker, NoMemory}
+use Rattle.bl_run.specs.declared.fault.ProgramFault.TheVariants.{CannotReadSetup, Setup, CannotReadTrail, CannotWriteTrail, CannotListen, Read, Write, TooLong, NoMemory}
 
 -- own choice: the words for each fault; of a setup those for what is wrong with its line
 abbrev pub words_of : ProgramFault → List ℕ
@@ -17,7 +17,6 @@ words_of CannotListen = codes "cannot listen"
 words_of Read = codes "read fault"
 words_of Write = codes "write fault"
 words_of TooLong = codes "too long"
-words_of Worker = codes "worker fault"
 words_of NoMemory = codes "no memory"
 
 -- what is said: of a fault of the setup its line too
@@ -30,7 +29,6 @@ message_of CannotListen = words_of CannotListen
 message_of Read = words_of Read
 message_of Write = words_of Write
 message_of TooLong = words_of TooLong
-message_of Worker = words_of Worker
 message_of NoMemory = words_of NoMemory
 
 -- what is said of a fault, on a line of its own

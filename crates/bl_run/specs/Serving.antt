@@ -8,7 +8,7 @@ use Rattle.bl_gate.specs.Gates.{GateView, PassView}
 use Rattle.bl_host.specs.declared.ended.Ended.{Ended}
 use Rattle.bl_wire.specs.Watch.{Use}
 use Rattle.bl_run.specs.declared.fault.ProgramFault.{ProgramFault}
-use Rattle.bl_run.specs.declared.fault.ProgramFault.TheVariants.{Write, Worker, NoMemory}
+use Rattle.bl_run.specs.declared.fault.ProgramFault.TheVariants.{Write, NoMemory}
 use Rattle.bl_run.specs.declared.serve.Finished.{Finished}
 use Rattle.bl_keep.specs.declared.whole.Unkept.{Unkept}
 use Rattle.bl_run.specs.Failure.{IsNotRead}
@@ -54,15 +54,14 @@ abbrev pub found : Bool → ProgramFault → List ProgramFault
 found true fault = fault ∷ []
 found false fault = []
 
--- the faults that were found by the end of the threads, in order: a thread was not started, a session's fault was not told, a worker failed
-abbrev pub faults_found : Bool → Bool → Bool → List ProgramFault
-faults_found whole memory worker = found (not whole) NoMemory ++ (found memory NoMemory ++ found worker Worker)
+-- the faults that were found by the end of the threads, in order: a thread was not started, a session's fault was not told
+abbrev pub faults_found : Bool → Bool → List ProgramFault
+faults_found whole memory = found (not whole) NoMemory ++ found memory NoMemory
 
 -- what is told of them, and of the sessions that ended early
-abbrev pub hosted_text : Bool → List Ended → Bool → Bool → List ℕ
-hosted_text whole ended memory worker =
-    flat_map fault_line (found (not whole) NoMemory)
-    ++ (flat_map ended_line ended ++ (flat_map fault_line (found memory NoMemory) ++ flat_map fault_line (found worker Worker)))
+abbrev pub hosted_text : Bool → List Ended → Bool → List ℕ
+hosted_text whole ended memory =
+    flat_map fault_line (found (not whole) NoMemory) ++ (flat_map ended_line ended ++ flat_map fault_line (found memory NoMemory))
 
 -- A run that listened. What was found is told in its order, the trail's fault last, and the first fault gives the status. No trail is
 -- written where a thread was not started; else it is kept, or that it is not is told.
@@ -70,12 +69,11 @@ pub record HasHosted (finished : Finished) (errors : Use) : Type 0 where
   pub whole : Bool
   pub ended : List Ended
   pub memory : Bool
-  pub worker : Bool
   pub trail : Option Unkept
   pub unwritten : whole ≡ false → trail ≡ None
   pub kept : whole ≡ true → trail ≡ None → IsSome finished.kept
-  pub status_is : finished.status ≡ status_after 0 (faults_found whole memory worker ++ unkept_faults trail)
-  pub said : errors.failed ≡ false → Appends errors.before errors.after (hosted_text whole ended memory worker ++ unkept_text trail)
+  pub status_is : finished.status ≡ status_after 0 (faults_found whole memory ++ unkept_faults trail)
+  pub said : errors.failed ≡ false → Appends errors.before errors.after (hosted_text whole ended memory ++ unkept_text trail)
 
 -- the setup is one, `listening` was told, and then sessions were served
 pub record HasListened (setup : List ℕ) (finished : Finished) (output errors : Use) : Type 0 where

@@ -3,7 +3,7 @@ use Rattle.std.specs.Prelude.{◌≡◌, ◌⊎◌, ℕ, zero, suc, List, [], �
 use Rattle.bl_trail.specs.declared.verdict.Verdict.{Verdict}
 use Rattle.bl_trail.specs.declared.verdict.Verdict.TheVariants.{Accepted, Rejected}
 use Rattle.bl_run.specs.declared.fault.ProgramFault.{ProgramFault}
-use Rattle.bl_run.specs.declared.fault.ProgramFault.TheVariants.{CannotReadSetup, Setup, CannotReadTrail, CannotWriteTrail, CannotListen, Read, Write, TooLong, Worker, NoMemory}
+use Rattle.bl_run.specs.declared.fault.ProgramFault.TheVariants.{CannotReadSetup, Setup, CannotReadTrail, CannotWriteTrail, CannotListen, Read, Write, TooLong, NoMemory}
 
 -- 4 for want of memory, and 3 for anything else
 abbrev pub status_of : ProgramFault → ℕ
@@ -15,7 +15,6 @@ status_of CannotListen = 3
 status_of Read = 3
 status_of Write = 3
 status_of TooLong = 3
-status_of Worker = 3
 status_of NoMemory = 4
 
 -- done, a fault, or want of memory

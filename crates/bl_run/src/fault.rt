@@ -38,8 +38,6 @@ pub enum ProgramFault {
     Write,
     /// The session's input has more bytes than a session may read.
     TooLong,
-    /// A worker failed.
-    Worker,
     /// A growth was refused.
     NoMemory,
 }
@@ -60,7 +58,6 @@ impl fmt::Display for ProgramFault {
             | ProgramFault::Read
             | ProgramFault::Write
             | ProgramFault::TooLong
-            | ProgramFault::Worker
             | ProgramFault::NoMemory => {
                 let words = self.words();
                 write!(f, "{words}")
@@ -83,7 +80,6 @@ impl ProgramFault {
             ProgramFault::Read => "read fault",
             ProgramFault::Write => "write fault",
             ProgramFault::TooLong => "too long",
-            ProgramFault::Worker => "worker fault",
             ProgramFault::NoMemory => "no memory",
         }
     }
@@ -102,8 +98,7 @@ impl ProgramFault {
             | ProgramFault::CannotListen
             | ProgramFault::Read
             | ProgramFault::Write
-            | ProgramFault::TooLong
-            | ProgramFault::Worker => 3,
+            | ProgramFault::TooLong => 3,
         }
     }
 }

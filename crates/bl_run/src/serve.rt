@@ -165,24 +165,17 @@ fn tell_sessions<E: Write>(errors: &mut Watched<E>, ended: &[Ended])
     }
 }
 
-/// Tells what was found by the end of the threads, in this order: that one was not started, the sessions that ended early, that there
-/// was no memory to tell one, and that a worker failed. The result is the status by that.
-fn tell_hosted<E: Write>(
-    errors: &mut Watched<E>,
-    whole: bool,
-    ended: &[Ended],
-    memory: bool,
-    worker: bool,
-) -> u8
-    ensures puts { Puts (hosted_text whole ended.now memory worker) (end_state E.contents errors.old) (end_state E.contents errors.new) }
-    ensures status { result ≡ status_after 0 (faults_found whole memory worker) }
+/// Tells what was found by the end of the threads, in this order: that one was not started, the sessions that ended early, and that
+/// there was no memory to tell one. The result is the status by that.
+fn tell_hosted<E: Write>(errors: &mut Watched<E>, whole: bool, ended: &[Ended], memory: bool) -> u8
+    ensures puts { Puts (hosted_text whole ended.now memory) (end_state E.contents errors.old) (end_state E.contents errors.new) }
+    ensures status { result ≡ status_after 0 (faults_found whole memory) }
     ensures rises { whole ≡ false → 0 < result }
     ensures range { IsEnd result }
 {
     let status = tell_found(errors, 0, !whole, &ProgramFault::NoMemory);
     tell_sessions(errors, ended);
-    let status = tell_found(errors, status, memory, &ProgramFault::NoMemory);
-    tell_found(errors, status, worker, &ProgramFault::Worker)
+    tell_found(errors, status, memory, &ProgramFault::NoMemory)
 }
 
 /// Closes the gate, and keeps the trail.
@@ -273,9 +266,8 @@ fn host_on<P: Pause + Sync, T: Threads + Wait + Files + Sync, E: Write>(
         ended,
         whole,
         memory,
-        worker,
     } = host(&site, listener, pass, run.options);
-    let status = tell_hosted(errors, whole, ended.as_slice(), memory, worker);
+    let status = tell_hosted(errors, whole, ended.as_slice(), memory);
     drop(ended);
     if !whole {
         give_back(ground.rt, claimed);
@@ -290,7 +282,7 @@ fn host_on<P: Pause + Sync, T: Threads + Wait + Files + Sync, E: Write>(
 /// Sessions over TCP at a listener, after the setup of these bytes: the command `serve`.
 ///
 /// `listening` is told on `writer` before the first session is served. The status of the run is 0 where all was done and the trail was kept, 3 for a
-/// fault of the setup, of the output, of a worker or of the trail file, and 4 for want of memory. A session that ends early is told and
+/// fault of the setup, of the output or of the trail file, and 4 for want of memory. A session that ends early is told and
 /// changes no status. Where several faults were found all are told, and the first gives the status.
 pub fn serve_on<P: Pause + Sync, T: Threads + Wait + Files + Sync, W: Write, E: Write>(
     ground: &Ground<'_, P, T>,

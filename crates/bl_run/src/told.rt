@@ -31,7 +31,6 @@ fn say<E: Write>(errors: &mut Watched<E>, fault: &ProgramFault)
         | ProgramFault::Read
         | ProgramFault::Write
         | ProgramFault::TooLong
-        | ProgramFault::Worker
         | ProgramFault::NoMemory => {
             put(errors, fault.words().as_bytes());
         }

@@ -6,7 +6,7 @@ use Rattle.bl_work.specs.declared.work.Work.{Work}
 use Rattle.bl_order.specs.Machine.{Event, Opens, Admits, Starts, Ends, Loses}
 use Rattle.bl_gate.specs.Counts.{times}
 use Rattle.bl_gate.proofs.Totals.{times-append}
-use Rattle.bl_worker.proofs.Settling.{get_later}
+use Rattle.bl_gate.proofs.Trails.{get_later}
 use Rattle.bl_session.specs.Transcripts.{admitted}
 use Rattle.bl_serve.specs.Courses.{StandAt}
 

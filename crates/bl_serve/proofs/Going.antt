@@ -17,10 +17,11 @@ use Rattle.bl_hall.specs.declared.reply.Reply as owned
 use Rattle.bl_gate.specs.Counts.{times}
 use Rattle.bl_gate.specs.Gates.{PassView, Calls, Follows, hall_seen, hall_with, state_seen}
 use Rattle.bl_gate.proofs.Totals.{times-append}
-use Rattle.bl_gate.proofs.Trails.{begins_length, begins_more}
+use Rattle.bl_gate.proofs.Trails.{begins_length, begins_more, get_later, get_sooner}
 use Rattle.bl_worker.specs.Turns.{AdmitsNoLine}
-use Rattle.bl_worker.proofs.Passing.{after_parts, trail_front, trail_back}
-use Rattle.bl_worker.proofs.Settling.{call_inside, call_there, get_later, get_sooner, one_place, sound_at}
+use Rattle.bl_gate.proofs.Passing.{after_parts, trail_front, trail_back}
+use Rattle.bl_worker.proofs.Settling.{call_inside, call_there, one_place}
+use Rattle.bl_gate.proofs.Halls.{sound_at}
 use Rattle.bl_wire.specs.Replies.{line_or_full, line_text}
 use Rattle.bl_engine.specs.Requests as request
 use Rattle.bl_engine.specs.Requests.{Request, SameUpTo}

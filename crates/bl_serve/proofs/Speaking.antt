@@ -11,10 +11,9 @@ use Rattle.bl_hall.specs.Chronicle.{Chronicle, HasTrail, state_now}
 use Rattle.bl_gate.specs.Counts.{StartsWith, times, total, within}
 use Rattle.bl_gate.specs.Gates.{PassView, hall_seen, hall_with}
 use Rattle.bl_gate.proofs.Totals.{one_of, two_of, within_in, within_le, within_some}
-use Rattle.bl_gate.proofs.Trails.{begins_longer, begins_more}
+use Rattle.bl_gate.proofs.Trails.{begins_longer, begins_more, get_later, get_sooner}
 use Rattle.bl_worker.specs.Turns.{AdmitsNoLine}
-use Rattle.bl_worker.proofs.Passing.{after_parts, trail_front}
-use Rattle.bl_worker.proofs.Settling.{get_later, get_sooner}
+use Rattle.bl_gate.proofs.Passing.{after_parts, trail_front}
 use Rattle.bl_session.proofs.TranscriptLaws.{sessions_kept}
 use Rattle.bl_serve.specs.Courses.{HasOpened, IsOpenedAt, SpeaksAlone, SpeaksForItsOwn, StandAt}
 use Rattle.bl_serve.specs.Speakers.{HasMet, IsShare, IsSharedOut}

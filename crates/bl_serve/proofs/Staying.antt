@@ -17,7 +17,7 @@ use Rattle.bl_engine.specs.Requests.{SameUpTo}
 use Rattle.bl_session.specs.Pages.{ordinal_of}
 use Rattle.bl_session.specs.Transcripts.{admitted}
 use Rattle.bl_session.proofs.OrderLaws.{tag-grown, tag-last, tag-child, longer, join, first_kept}
-use Rattle.bl_worker.proofs.Passing.{passes_step}
+use Rattle.bl_gate.proofs.Passing.{passes_step}
 use Rattle.bl_serve.specs.Courses.{IsOverUpTo}
 use Rattle.bl_serve.proofs.Opened.{last_or_before}
 

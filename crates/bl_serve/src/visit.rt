@@ -22,7 +22,7 @@ use bl_wire::watched::Watched;
 use bl_work::work::Work;
 use bl_worker::bell::Bell;
 use bl_worker::pause::Pause;
-use bl_worker::turn::{Turn, WorkFault, work_on, work_once};
+use bl_worker::turn::{Turn, work_on, work_once};
 use std::alloc::{AllocError, Global};
 use std::io::Write;
 use std::snapshot::Snapshot;
@@ -87,32 +87,29 @@ impl<'a, P: Pause, T: Wait> Visitor<'a, P, T> {
     }
 
     /// Tells those who wait for an entry to end of a turn that ended one, and says whether something was ready.
-    fn tell(&self, turn: Result<Turn, WorkFault>) -> Result<bool, AllocError> {
+    fn tell(&self, turn: Turn) -> bool {
         match turn {
-            Ok(Turn::Idle) => Ok(false),
-            Ok(Turn::Missed(_)) => Ok(true),
-            Ok(Turn::Denied(_) | Turn::Done(_) | Turn::Lost(_)) => {
+            Turn::Idle => false,
+            Turn::Missed(_) => true,
+            Turn::Denied(_) | Turn::Done(_) | Turn::Lost(_) => {
                 self.bell.ring_end(self.rt);
-                Ok(true)
+                true
             }
-            // a gate refuses nothing that it lent
-            Err(_) => Err(AllocError),
         }
     }
 
     /// Takes a turn with each of these entries that may start.
-    fn run(&self, pass: &mut Pass, entries: &[u32]) -> Result<(), AllocError>
+    fn run(&self, pass: &mut Pass, entries: &[u32])
         requires { pass.old.gate ≡ self.now.gate.now.id }
         ensures { KeepsQuiet pass.old pass.new }
     {
         let mut count = 0usize;
         for n in entries {
             let turn = work_on(self.rt, self.alloc, self.gate, pass, self.pause, *n);
-            self.tell(turn)?;
+            let _ = self.tell(turn);
             count = count.saturating_add(1);
             self.call_workers(count);
         }
-        Ok(())
     }
 
     /// The replies to the session's lines above an ordinal. It takes turns until they are there, and waits at the bell for an entry to
@@ -134,7 +131,7 @@ impl<'a, P: Pause, T: Wait> Visitor<'a, P, T> {
                 Ok(Some(replies)) => return Ok(replies),
                 Ok(None) => {
                     let turn = work_once(self.rt, self.alloc, self.gate, pass, self.pause);
-                    if !self.tell(turn)? {
+                    if !self.tell(turn) {
                         self.bell.wait_end(self.rt, seen);
                     }
                 }
@@ -212,7 +209,7 @@ impl<'a, P: Pause, T: Wait> Behind for Visitor<'a, P, T> {
             return Err(AllocError);
         };
         replies_go_by_lines();
-        self.run(&mut state.pass, &state.asked)?;
+        self.run(&mut state.pass, &state.asked);
         let mut replies = self.hear(&mut state.pass, session, after)?;
         if !are_told(self.gate.names(), after, ordinal, &replies) {
             return Err(AllocError);

@@ -5,10 +5,10 @@ use Rattle.bl_work.specs.declared.work.Work.{Work}
 use Rattle.bl_order.specs.Machine.{State, Event, Opens, Admits, Starts, Ends, Loses}
 use Rattle.bl_gate.specs.Counts.{times}
 use Rattle.bl_gate.specs.Gates.{PassView, Calls, Follows}
-use Rattle.bl_gate.proofs.Trails.{begins_length}
+use Rattle.bl_gate.proofs.Trails.{begins_length, get_sooner}
 use Rattle.bl_gate.proofs.Totals.{times-append}
 use Rattle.bl_worker.specs.Turns.{AdmitsNoLine}
-use Rattle.bl_worker.proofs.Settling.{call_inside, call_there, get_sooner, one_place}
+use Rattle.bl_worker.proofs.Settling.{call_inside, call_there, one_place}
 
 abbrev is_line : Event → Bool
 is_line (Opens u) = false

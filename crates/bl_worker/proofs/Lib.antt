@@ -1,4 +1,3 @@
-pub mod Passing
 pub mod Settling
 pub mod Working
 pub mod Admitting

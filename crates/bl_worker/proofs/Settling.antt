@@ -1,25 +1,18 @@
 -- Passes that have settled what they started.
-use Rattle.std.proofs.Common.{◌≡◌, ℕ, zero, suc, ◌<◌, ◌≤◌, ◌⊎◌, inl, inr, List, [], ◌∷◌, ◌++◌, length, Some, true, refl, sym, ap, ◌∙◌, subst, arith, append_assoc, append-nil, length-append}
+use Rattle.std.proofs.Common.{◌≡◌, ℕ, ◌<◌, ◌≤◌, ◌⊎◌, inl, inr, List, [], ◌∷◌, ◌++◌, length, Some, true, sym, ap, ◌∙◌, subst, arith, append_assoc, append-nil, length-append}
 use Rattle.std.specs.Prelude.{IsTrue, slice_get}
 use Rattle.std.proofs.lemmas.Bool.Decides.{nat_tests}
 use Rattle.bl_order.specs.Machine.{State, Event, Opens, Admits, Starts, Ends, Loses, Needs, IsTrail, change, has_ended, start, state_after}
 use Rattle.bl_order.proofs.Sound.{IsSound}
-use Rattle.bl_order.proofs.Reached.{sound-reached}
 use Rattle.bl_hall.specs.Chronicle.{Chronicle, HasTrail, state_now}
-use Rattle.bl_hall.proofs.Trails.{reached-now, state-next}
+use Rattle.bl_hall.proofs.Trails.{state-next}
 use Rattle.bl_gate.specs.Counts.{times, StartsWith}
 use Rattle.bl_gate.specs.Gates.{PassView, Calls, Follows, hall_seen, hall_with, state_seen}
-use Rattle.bl_gate.proofs.Trails.{begins_length}
+use Rattle.bl_gate.proofs.Halls.{sound_at}
+use Rattle.bl_gate.proofs.Trails.{begins_length, get_later, get_last, get_sooner}
 use Rattle.bl_gate.proofs.Totals.{times-append}
 use Rattle.bl_worker.specs.Turns.{Settles}
-use Rattle.bl_worker.proofs.Passing.{Passes, passes_trail, after_parts, trail_front, trail_back}
-
--- a hall's trail up to some point is a trail
-pub legal_front : (h : Chronicle) (t s : List Event) → StartsWith t s → HasTrail (hall_with h t) → HasTrail (hall_with h s)
-legal_front h t s (rest, e) legal = trail_front (start h.setup h.limit) s rest (subst (IsTrail (start h.setup h.limit)) e legal)
-
-pub sound_at : (h : Chronicle) → HasTrail h → IsSound (state_now h)
-sound_at h legal = sound-reached (state_now h) (reached-now h legal)
+use Rattle.bl_gate.proofs.Passing.{Passes, passes_trail, after_parts, trail_front, trail_back}
 
 -- what holds from one point of a hall's trail to a later one
 passes_on : (h : Chronicle) (t s : List Event) → StartsWith t s → HasTrail (hall_with h t) → Passes (state_now (hall_with h s)) (state_now (hall_with h t))
@@ -58,26 +51,6 @@ happened p q event Answered call follows legal =
     }
 
 -- ---- what stands where
-
-pub get_later : (t s : List Event) (p : ℕ) (e : Event) → StartsWith t s → slice_get s p ≡ Some e → slice_get t p ≡ Some e
-get_later t s p e (rest, is) there = ap (λ (l : List Event). slice_get l p) is ∙ longer s rest p e there
-  where
-    longer : (xs ys : List Event) (p : ℕ) (e : Event) → slice_get xs p ≡ Some e → slice_get (xs ++ ys) p ≡ Some e
-    longer [] ys p e h = absurd (cc)
-    longer (x ∷ xs) ys zero e h = h
-    longer (x ∷ xs) ys (suc p) e h = longer xs ys p e h
-
-pub get_sooner : (t s : List Event) (p : ℕ) → StartsWith t s → p < length s → slice_get t p ≡ slice_get s p
-get_sooner t s p (rest, is) lt = ap (λ (l : List Event). slice_get l p) is ∙ front s rest p lt
-  where
-    front : (xs ys : List Event) (p : ℕ) → p < length xs → slice_get (xs ++ ys) p ≡ slice_get xs p
-    front [] ys p lt = absurd (omega arith)
-    front (x ∷ xs) ys zero lt = refl
-    front (x ∷ xs) ys (suc p) lt = front xs ys p (omega arith)
-
-get_last : (xs : List Event) (e : Event) → slice_get (xs ++ e ∷ []) (length xs) ≡ Some e
-get_last [] e = refl
-get_last (x ∷ xs) e = get_last xs e
 
 pub one_place : (p k : ℕ) → 1 ≤ times p (k ∷ []) → p ≡ k
 one_place p k h = grind (arith, nat_tests)

@@ -17,7 +17,7 @@ use Rattle.bl_gate.specs.Gates.{PassView, Calls, Follows, hall_seen, state_seen}
 use Rattle.bl_worker.specs.declared.turn.Turn.{Turn}
 use Rattle.bl_worker.specs.declared.turn.Turn.TheVariants.{Idle, Missed, Denied, Done, Lost}
 use Rattle.bl_worker.specs.Turns.{Closes, HasEndedAs, HasRun, HasWorked, IsDenied, IsDoneOrRuleDone, IsLost, IsTurnOf, Settles, WasTaken, has_begun}
-use Rattle.bl_worker.proofs.Passing.{lost_moves}
+use Rattle.bl_gate.proofs.Passing.{lost_moves}
 use Rattle.bl_worker.proofs.Settling.{happened, of_start, passes_later, settles_call, settles_calls}
 
 -- where a place is after a move

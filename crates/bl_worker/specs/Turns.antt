@@ -8,8 +8,6 @@ use Rattle.bl_gate.specs.Counts.{times}
 use Rattle.bl_gate.specs.Gates.{PassView, Calls, state_seen}
 use Rattle.bl_worker.specs.declared.turn.Turn.{Turn}
 use Rattle.bl_worker.specs.declared.turn.Turn.TheVariants.{Idle, Missed, Denied, Done, Lost}
-use Rattle.bl_worker.specs.declared.turn.WorkFault.{WorkFault}
-use Rattle.bl_worker.specs.declared.turn.WorkFault.TheVariants.{Foreign}
 
 -- it was a turn of this entry
 abbrev pub IsTurnOf : ℕ → Turn → Type 0
@@ -18,10 +16,6 @@ IsTurnOf n (Missed m) = m ≡ n
 IsTurnOf n (Denied m) = m ≡ n
 IsTurnOf n (Done m) = m ≡ n
 IsTurnOf n (Lost m) = m ≡ n
-
--- it is a fault of this entry
-abbrev pub IsFaultOf : ℕ → WorkFault → Type 0
-IsFaultOf n (Foreign m) = m ≡ n
 
 -- the kinds of answers that turns name
 abbrev pub IsDenied : Answer → Type 0

@@ -1,8 +1,8 @@
 //! One turn: an entry starts and ends.
-ghost use Rattle.std.specs.Prelude.{◌≡◌, IfOk, IfErr, OnOk};
+ghost use Rattle.std.specs.Prelude.{◌≡◌};
 ghost use Rattle.bl_hall.specs.Chronicle.{HasTrail};
-ghost use Rattle.bl_gate.specs.Gates.{Follows, hall_seen};
-ghost use Rattle.bl_worker.specs.Turns.{AdmitsNoLine, Closes, HasRun, HasWorked, IsTurnOf, IsFaultOf, Settles, WasTaken};
+ghost use Rattle.bl_gate.specs.Gates.{Follows, HasLoanInHand, hall_seen};
+ghost use Rattle.bl_worker.specs.Turns.{AdmitsNoLine, Closes, HasRun, HasWorked, IsTurnOf, Settles, WasTaken};
 
 use crate::pause::Pause;
 use bl_core::machine::Started;
@@ -29,53 +29,36 @@ pub enum Turn {
     Lost(u32),
 }
 
-/// Why a thread can take no more turns.
-#[derive(Clone, Copy, Debug, PartialEq, Eq)]
-pub enum WorkFault {
-    /// What was done of this entry, or left undone, was refused as not lent to it.
-    Foreign(u32),
-}
-
 /// Ends an entry that ran.
-fn finish<R: Wait>(rt: &R, gate: &Gate, pass: &mut Pass, done: Done) -> Result<Turn, WorkFault>
-    requires { pass.old.gate ≡ gate.now.id }
+fn finish<R: Wait>(rt: &R, gate: &Gate, pass: &mut Pass, done: Done) -> Turn
+    requires gate { pass.old.gate ≡ gate.now.id }
+    requires held { HasLoanInHand pass.old done }
     ensures follows { Follows pass.old pass.new }
     ensures trail { HasTrail (hall_seen pass.new) }
     ensures lines { AdmitsNoLine pass.old pass.new }
-    ensures turn { IfOk result (IsTurnOf done.entry) }
-    ensures ran { IfOk result (HasRun pass.new) }
-    ensures closes { OnOk result (Closes done.entry pass.old pass.new) }
-    ensures fault { IfErr result (IsFaultOf done.entry) }
+    ensures turn { IsTurnOf done.entry result }
+    ensures ran { HasRun pass.new result }
+    ensures closes { Closes done.entry pass.old pass.new }
 {
     let n = done.entry();
-    match gate.finish(rt, pass, done) {
-        Ok(()) => Ok(Turn::Done(n)),
-        Err(foreign) => {
-            foreign.bury();
-            Err(WorkFault::Foreign(n))
-        }
-    }
+    gate.finish(rt, pass, done);
+    Turn::Done(n)
 }
 
 /// Ends an entry that could not be run as lost.
-fn lose<R: Wait>(rt: &R, gate: &Gate, pass: &mut Pass, unrun: Unrun) -> Result<Turn, WorkFault>
-    requires { pass.old.gate ≡ gate.now.id }
+fn lose<R: Wait>(rt: &R, gate: &Gate, pass: &mut Pass, unrun: Unrun) -> Turn
+    requires gate { pass.old.gate ≡ gate.now.id }
+    requires held { HasLoanInHand pass.old unrun }
     ensures follows { Follows pass.old pass.new }
     ensures trail { HasTrail (hall_seen pass.new) }
     ensures lines { AdmitsNoLine pass.old pass.new }
-    ensures turn { IfOk result (IsTurnOf unrun.entry) }
-    ensures ran { IfOk result (HasRun pass.new) }
-    ensures closes { OnOk result (Closes unrun.entry pass.old pass.new) }
-    ensures fault { IfErr result (IsFaultOf unrun.entry) }
+    ensures turn { IsTurnOf unrun.entry result }
+    ensures ran { HasRun pass.new result }
+    ensures closes { Closes unrun.entry pass.old pass.new }
 {
     let n = unrun.entry();
-    match gate.lose(rt, pass, unrun) {
-        Ok(()) => Ok(Turn::Lost(n)),
-        Err(foreign) => {
-            foreign.bury();
-            Err(WorkFault::Foreign(n))
-        }
-    }
+    gate.lose(rt, pass, unrun);
+    Turn::Lost(n)
 }
 
 /// Ends an entry that could not be started as lost.
@@ -95,7 +78,7 @@ fn lose_ready<R: Wait>(rt: &R, gate: &Gate, pass: &mut Pass, starved: Starved) -
     }
 }
 
-/// Runs a behaviour with the gate free, and ends its entry.
+/// Runs a behaviour with the gate free, and ends its entry, which the pass has in hand all the while.
 fn run<P: Pause, R: Wait>(
     rt: &R,
     alloc: Global,
@@ -103,15 +86,15 @@ fn run<P: Pause, R: Wait>(
     pass: &mut Pass,
     pause: &P,
     lent: Lent,
-) -> Result<Turn, WorkFault>
-    requires { pass.old.gate ≡ gate.now.id }
+) -> Turn
+    requires gate { pass.old.gate ≡ gate.now.id }
+    requires held { HasLoanInHand pass.old lent }
     ensures follows { Follows pass.old pass.new }
     ensures trail { HasTrail (hall_seen pass.new) }
     ensures lines { AdmitsNoLine pass.old pass.new }
-    ensures turn { IfOk result (IsTurnOf lent.entry) }
-    ensures ran { IfOk result (HasRun pass.new) }
-    ensures closes { OnOk result (Closes lent.entry pass.old pass.new) }
-    ensures fault { IfErr result (IsFaultOf lent.entry) }
+    ensures turn { IsTurnOf lent.entry result }
+    ensures ran { HasRun pass.new result }
+    ensures closes { Closes lent.entry pass.old pass.new }
 {
     pause.between(lent.entry());
     match eval(alloc, lent) {
@@ -121,8 +104,8 @@ fn run<P: Pause, R: Wait>(
 }
 
 /// One turn with the entry `n`: it starts, and where it runs it is evaluated with the gate free, and ends. `Missed` comes where it
-/// may not start, and `Lost` only after want of memory. Where it returns a turn, the entry was missed or has ended, with an answer of
-/// the kind that the turn names. A fault comes only where the gate refused what was done of the entry.
+/// may not start, and `Lost` only after want of memory. The entry was missed or has ended, with an answer of the kind that the turn
+/// names.
 pub fn work_on<P: Pause, R: Wait>(
     rt: &R,
     alloc: Global,
@@ -130,44 +113,43 @@ pub fn work_on<P: Pause, R: Wait>(
     pass: &mut Pass,
     pause: &P,
     n: u32,
-) -> Result<Turn, WorkFault>
+) -> Turn
     requires gate { pass.old.gate ≡ gate.now.id }
     ensures follows { Follows pass.old pass.new }
     ensures trail { HasTrail (hall_seen pass.new) }
     ensures lines { AdmitsNoLine pass.old pass.new }
-    ensures turn { IfOk result (IsTurnOf n) }
-    ensures worked { IfOk result (HasWorked pass.old pass.new) }
-    ensures settles { OnOk result (Settles pass.old pass.new) }
-    ensures fault { IfErr result (IsFaultOf n) }
+    ensures turn { IsTurnOf n result }
+    ensures worked { HasWorked pass.old pass.new result }
+    ensures settles { Settles pass.old pass.new }
 {
     match gate.start(rt, pass, n) {
-        Ok(Started::Denied(_)) => Ok(Turn::Denied(n)),
-        Ok(Started::RuleDone) => Ok(Turn::Done(n)),
+        Ok(Started::Denied(_)) => Turn::Denied(n),
+        Ok(Started::RuleDone) => Turn::Done(n),
         Ok(Started::Run(lent)) => run(rt, alloc, gate, pass, pause, lent),
-        Err(StartFault::NotReady) => Ok(Turn::Missed(n)),
-        Err(StartFault::Memory(starved)) => Ok(lose_ready(rt, gate, pass, starved)),
+        Err(StartFault::NotReady) => Turn::Missed(n),
+        Err(StartFault::Memory(starved)) => lose_ready(rt, gate, pass, starved),
     }
 }
 
 /// One turn with an entry that is ready, as `work_on` takes it; `Idle` where none is. An entry that was missed had not begun where
-/// the turn began, and another has begun it. Where it returns a turn, every entry that it started has ended.
+/// the turn began, and another has begun it. Every entry that the turn started has ended.
 pub fn work_once<P: Pause, R: Wait>(
     rt: &R,
     alloc: Global,
     gate: &Gate,
     pass: &mut Pass,
     pause: &P,
-) -> Result<Turn, WorkFault>
+) -> Turn
     requires gate { pass.old.gate ≡ gate.now.id }
     ensures follows { Follows pass.old pass.new }
     ensures trail { HasTrail (hall_seen pass.new) }
     ensures lines { AdmitsNoLine pass.old pass.new }
-    ensures worked { IfOk result (HasWorked pass.old pass.new) }
-    ensures taken { IfOk result (WasTaken pass.old pass.new) }
-    ensures settles { OnOk result (Settles pass.old pass.new) }
+    ensures worked { HasWorked pass.old pass.new result }
+    ensures taken { WasTaken pass.old pass.new result }
+    ensures settles { Settles pass.old pass.new }
 {
     match gate.ready(rt, pass) {
         Some(n) => work_on(rt, alloc, gate, pass, pause, n),
-        None => Ok(Turn::Idle),
+        None => Turn::Idle,
     }
 }

@@ -1,11 +1,11 @@
 //! A worker, turn by turn.
-ghost use Rattle.std.specs.Prelude.{◌≡◌, OnOk};
+ghost use Rattle.std.specs.Prelude.{◌≡◌};
 ghost use Rattle.bl_gate.specs.Gates.{Follows};
 ghost use Rattle.bl_worker.specs.Turns.{AdmitsNoLine, Settles};
 
 use crate::bell::Bell;
 use crate::pause::Pause;
-use crate::turn::{Turn, WorkFault, work_once};
+use crate::turn::{Turn, work_once};
 use bl_gate::gate::Gate;
 use bl_gate::pass::Pass;
 use crossbeam_utils::Backoff;
@@ -28,7 +28,7 @@ fn rest<R: Wait>(rt: &R, bell: &Bell, backoff: &Backoff, seen: u64) -> bool {
 }
 
 /// Takes turns until the bell is closed and nothing is ready, and rings after each turn that ended an entry. While there is nothing to
-/// do it sleeps at the bell, until workers are called. Where it returns without a fault, every entry that it started has ended.
+/// do it sleeps at the bell, until workers are called. When it returns, every entry that it started has ended.
 #[tactic(auto, using(crate::proofs::Settling::settles_itself, crate::proofs::Settling::settles_then))]
 pub fn run_worker<P: Pause, R: Wait>(
     rt: &R,
@@ -37,17 +37,17 @@ pub fn run_worker<P: Pause, R: Wait>(
     pass: &mut Pass,
     pause: &P,
     bell: &Bell,
-) -> Result<(), WorkFault>
+)
     requires gate { pass.old.gate ≡ gate.now.id }
     ensures follows { Follows pass.old pass.new }
     ensures lines { AdmitsNoLine pass.old pass.new }
-    ensures settles { OnOk result (Settles pass.old pass.new) }
+    ensures settles { Settles pass.old pass.new }
 {
     let backoff = Backoff::new();
     let mut closed = false;
     for _ in rt.forever() {
         let seen = bell.calls();
-        match work_once(rt, alloc, gate, pass, pause)? {
+        match work_once(rt, alloc, gate, pass, pause) {
             Turn::Idle if closed => break,
             Turn::Idle => closed = rest(rt, bell, &backoff, seen),
             Turn::Missed(_) => backoff.snooze(),
@@ -57,5 +57,4 @@ pub fn run_worker<P: Pause, R: Wait>(
             }
         }
     }
-    Ok(())
 }

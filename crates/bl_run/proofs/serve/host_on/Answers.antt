@@ -10,7 +10,7 @@ returns-then-not-whole-clause-run g c =
     let h = c.host-pass.result in
     let E = g.E.Write.contents in
     let told = end_state E c.tell_hosted-status.new.errors in
-    hosted h.whole c.as_slice.result.now h.memory h.worker c.tell_hosted-status.result _ (end_state E c.args.errors.now) told told
+    hosted h.whole c.as_slice.result.now h.memory c.tell_hosted-status.result _ (end_state E c.args.errors.now) told told
     c.tell_hosted-status.ensures.status c.tell_hosted-status.ensures.puts
     (untold h.whole c.tell_hosted-status.result _ told told c.if-not-whole.true refl refl)
 
@@ -23,7 +23,7 @@ returns g c =
     let end = end_state E c.tell_trail.new.errors in
     let whole : h.whole ≡ true = search rules in
     record {
-      run = hosted h.whole c.as_slice.result.now h.memory h.worker c.tell_hosted-status.result c.tell_trail.result (end_state E c.args.errors.now) told end
+      run = hosted h.whole c.as_slice.result.now h.memory c.tell_hosted-status.result c.tell_trail.result (end_state E c.args.errors.now) told end
           c.tell_hosted-status.ensures.status c.tell_hosted-status.ensures.puts
           (subst (λ b. TellsTrail b c.tell_hosted-status.result c.tell_trail.result told end) (sym whole) c.tell_trail.ensures.trail);
       kept = c.tell_trail.ensures.done;

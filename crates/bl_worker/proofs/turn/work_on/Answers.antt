@@ -1,5 +1,4 @@
 use Rattle.std.proofs.Common.{rules, ◌≡◌, ℕ, subst}
-use Rattle.bl_gate.proofs.Results.{both}
 use Rattle.bl_worker.specs.Turns.{Closes, IsDenied, IsDoneOrRuleDone}
 use Rattle.bl_worker.proofs.Admitting.{admits_itself, admits_start, admits_then}
 use Rattle.bl_worker.proofs.Settling.{settles_itself}
@@ -31,11 +30,8 @@ returns-in-Ok-RuleDone-clause-settles g c =
 pub returns-in-Ok-Run-clause-settles : goal.returns-in-Ok-Run-clause-settles
 returns-in-Ok-Run-clause-settles g c =
     let of : c.in-Ok-Run.lent.entry ≡ c.args.n = search rules in
-    both c.run.result
-    (λ _ _ closes _.
     settles_run c.args.pass.now c.start.new.pass c.run.new.pass c.args.n _ c.in-Ok-Run.ensures.ok c.run.ensures.follows
-    (subst (λ (n : ℕ). Closes n c.start.new.pass c.run.new.pass) of closes))
-    (λ _ _ _ _. tt) c.run.ensures.closes c.run.ensures.closes
+    (subst (λ (n : ℕ). Closes n c.start.new.pass c.run.new.pass) of c.run.ensures.closes)
 
 pub returns-in-Err-NotReady-clause-settles : goal.returns-in-Err-NotReady-clause-settles
 returns-in-Err-NotReady-clause-settles g c = settles_itself c.args.pass.now c.start.new.pass c.in-Err-NotReady.ensures.err.0

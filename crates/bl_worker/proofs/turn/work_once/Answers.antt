@@ -1,8 +1,7 @@
-use Rattle.bl_gate.proofs.Results.{both}
 use Rattle.bl_worker.proofs.Working.{was_taken}
 use Rattle.bl_worker.proofs.turn.work_once.Goals as goal
 
 pub returns-in-Some-clause-taken : goal.returns-in-Some-clause-taken
-returns-in-Some-clause-taken g c = both c.work_on.result
-    (λ turn _ of worked. was_taken c.args.pass.now c.ready.new.pass c.work_on.new.pass c.in-Some.n turn c.ready.ensures.follows c.ready.ensures.trail c.work_on.ensures.follows c.work_on.ensures.trail c.in-Some.ensures.some of worked)
-    (λ _ _ _ _. tt) c.work_on.ensures.turn c.work_on.ensures.worked
+returns-in-Some-clause-taken g c =
+    was_taken c.args.pass.now c.ready.new.pass c.work_on.new.pass c.in-Some.n c.work_on.result c.ready.ensures.follows c.ready.ensures.trail c.work_on.ensures.follows c.work_on.ensures.trail c.in-Some.ensures.some
+    c.work_on.ensures.turn c.work_on.ensures.worked

@@ -13,7 +13,7 @@ fetch_add-requires c =
       search rules,
       search rules,
       subst (λ (x : Sat). Allows (Kept c.self.inside.table.shared.key.value) c.self.inside.table.shared.table_id.slots c.exchange.new.seat.id x 1 (λ n. (n + 1) % 2 ^ 64) (Passes (step c.self.inside.table.shared.table_id.slots 1 1 0 none) x)) (sym e)
-          (passes _ _ _ m c.args.hall refl turn.0 turn.2 turn.1 c.requires.next),
+          (passes _ _ _ m c.args.hall refl turn.0 turn.2 turn.1 c.requires.next c.requires.starts),
     )
 
 pub returns-clause-went : goal.returns-clause-went

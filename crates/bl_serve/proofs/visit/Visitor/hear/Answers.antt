@@ -12,17 +12,8 @@ returns-in-Ok-Some-clause-quiet g c =
 pub returns-in-Ok-Some-clause-told : goal.returns-in-Ok-Some-clause-told
 returns-in-Ok-Some-clause-told g c = search rules
 
-pub returns-in_err-tell-in-Ok-None-clause-quiet : goal.returns-in_err-tell-in-Ok-None-clause-quiet
-returns-in_err-tell-in-Ok-None-clause-quiet g c =
-    let heard : KeepsQuiet c.args.pass.now c.answers.new.pass =
-    quiet_then c.args.pass.now c.loop.pass c.answers.new.pass c.loop.invariant.2
-    (quiet_once c.loop.pass c.answers.new.pass c.answers.ensures.follows (admits_itself c.loop.pass c.answers.new.pass c.answers.ensures.own) c.answers.ensures.trail)
-    in
-    quiet_then c.args.pass.now c.answers.new.pass c.work_once-turn.new.pass heard
-    (quiet_once c.answers.new.pass c.work_once-turn.new.pass c.work_once-turn.ensures.follows c.work_once-turn.ensures.lines c.work_once-turn.ensures.trail)
-
-pub loop-preserved-then-not-branch : goal.loop-preserved-then-not-branch
-loop-preserved-then-not-branch g c =
+pub loop-preserved-then-not-tell : goal.loop-preserved-then-not-tell
+loop-preserved-then-not-tell g c =
     let heard : KeepsQuiet c.args.pass.now c.answers.new.pass =
     quiet_then c.args.pass.now c.loop.pass c.answers.new.pass c.loop.invariant.2
     (quiet_once c.loop.pass c.answers.new.pass c.answers.ensures.follows (admits_itself c.loop.pass c.answers.new.pass c.answers.ensures.own) c.answers.ensures.trail)

@@ -1,11 +1,6 @@
 use Rattle.bl_serve.proofs.Quiet.{quiet_once, quiet_then}
 use Rattle.bl_serve.proofs.visit.Visitor.run.Goals as goal
 
-pub returns-in_err-tell : goal.returns-in_err-tell
-returns-in_err-tell g c =
-    quiet_then c.args.pass.now c.loop-n.pass c.work_on-turn.new.pass c.loop-n.invariant
-    (quiet_once c.loop-n.pass c.work_on-turn.new.pass c.work_on-turn.ensures.follows c.work_on-turn.ensures.lines c.work_on-turn.ensures.trail)
-
 pub loop-n-preserved : goal.loop-n-preserved
 loop-n-preserved g c =
     quiet_then c.args.pass.now c.loop-n.pass c.work_on-turn.new.pass c.loop-n.invariant

@@ -9,12 +9,8 @@ use Rattle.bl_serve.proofs.Quiet.{quiet_then}
 use Rattle.bl_serve.proofs.VisitLaws.{text_stays, page_stands}
 use Rattle.bl_serve.proofs.visit.VisitorBehind.settle.Goals as goal
 
-pub returns-in_err-run-clause-err : goal.returns-in_err-run-clause-err
-returns-in_err-run-clause-err g c = on_err c.from_residual.result (λ told came.
-    inl (come_quiet c.args.self.now.gate.now c.args.self.now.first.value c.args.state.now c.in-Some.session c.in-Some.is told came _ c.run.ensures refl refl refl refl))
-
 pub returns-in_err-replies-clause-err : goal.returns-in_err-replies-clause-err
-returns-in_err-replies-clause-err g c = on_err c.from_residual-in_err-replies.result (λ told came.
+returns-in_err-replies-clause-err g c = on_err c.from_residual.result (λ told came.
     inl (come_quiet c.args.self.now.gate.now c.args.self.now.first.value c.args.state.now c.in-Some.session c.in-Some.is told came _
     (quiet_then c.args.state.now.pass c.run.new.pass c.hear.new.pass c.run.ensures c.hear.ensures.quiet) refl refl refl refl))
 
