@@ -56,7 +56,10 @@ pub trait Behind {
     // the replies to the works up to this ordinal stand for good
     ghost settled: { Self → Self.State → ℕ → Type 0 };
 
-    // no call has failed, and the last block ended with this ordinal
+    // nothing was told to it yet
+    ghost fresh: { Self → Self.State → Type 0 };
+
+    // the session is open, no call has failed, and the last block ended with this ordinal
     ghost whole: { Self → Self.State → ℕ → Type 0 };
 
     // what was told brought the state here
@@ -71,7 +74,7 @@ pub trait Behind {
     /// Opens the session for a subject, or finds that there are as many as there may be.
     fn open(&self, state: &mut Self::State, subject: SubjectId) -> Result<Opening, AllocError>
         requires serves { serves self.now subject }
-        requires whole { whole self.now state.old 0 }
+        requires fresh { fresh self.now state.old }
         requires came { came self.now state.old [] }
         requires settled { settled self.now state.old 0 }
         ensures whole { IfOk result (λ opening. opening ≡ Open → whole self.now state.new 0) }

@@ -384,7 +384,7 @@ fn greet<B: Behind, W: Write>(
     requires serves { B.serves behind.now subject }
     requires came { B.came behind.now state.old [] }
     requires settled { B.settled behind.now state.old 0 }
-    requires whole { B.whole behind.now state.old 0 }
+    requires fresh { B.fresh behind.now state.old }
     ensures settled { B.settled behind.now state.new 0 }
     ensures ok { IfOk result (λ opening. opening ≡ Open → Appends (W.contents writer.old.inner) (W.contents writer.new.inner) ok_line) }
     ensures fine { OnOk result (writer.new.failed ≡ false) }
@@ -424,7 +424,7 @@ fn answer_first<R: BufRead, B: Behind, W: Write>(
 ) -> Result<(), SessionFault>
     requires came { B.came behind.now state.old [] }
     requires settled { B.settled behind.now state.old 0 }
-    requires whole { B.whole behind.now state.old 0 }
+    requires fresh { B.fresh behind.now state.old }
     requires small { left.old ≤ 16777216 }
     requires fine { (reader.old.failed ≡ false) × (writer.old.failed ≡ false) }
     requires spoken { is_skip turn ≡ false }
@@ -463,7 +463,7 @@ pub fn converse<R: BufRead, B: Behind, W: Write>(
     requires fine { (reader.old.failed ≡ false) × (writer.old.failed ≡ false) }
     requires came { B.came behind.now state.old [] }
     requires settled { B.settled behind.now state.old 0 }
-    requires whole { B.whole behind.now state.old 0 }
+    requires fresh { B.fresh behind.now state.old }
     requires served { AreServed names.now (B.serves behind.now) (B.takes behind.now) }
     ensures ok { OnOk result (HasEnded names.now (ends (R.remaining reader.old.inner) (R.remaining reader.new.inner) (W.contents writer.old.inner) (W.contents writer.new.inner)) (view B.replies B.settled B.came behind.now state.new) (B.fills behind.now state.new)) }
     ensures fine { OnOk result ((reader.new.failed ≡ false) × (writer.new.failed ≡ false) × (writer.new.unflushed ≡ false)) }

@@ -15,7 +15,7 @@ use Rattle.bl_core.specs.declared.machine.Started.TheVariants.{Denied, RuleDone,
 use Rattle.bl_hall.specs.Chronicle.{Chronicle, HasTrail, state_now, with_event}
 use Rattle.bl_hall.proofs.Trails.{reached-now, state-next}
 use Rattle.bl_gate.specs.Counts.{StartsWith, times}
-use Rattle.bl_gate.specs.Gates.{PassView, Calls, InHand, HasLoanInHand, GivesInHand, KeepsInHand, hall_seen, hall_with, state_seen}
+use Rattle.bl_gate.specs.Gates.{GateId, PassView, Calls, InHand, HasLoanInHand, GivesInHand, KeepsInHand, hall_seen, hall_with, state_seen}
 use Rattle.bl_gate.specs.Views.{View, brings, drew, entered, gained, heard, joined, longer}
 use Rattle.bl_gate.specs.Turns.{AreTold, EndsAt, EndsWhatItStarted, IsTold, NoEndBehind}
 use Rattle.bl_gate.proofs.Passing.{after_parts, trail_front, trail_back}
@@ -117,13 +117,13 @@ back_get (x ∷ xs) ys zero r e = absurd (omega arith)
 back_get (x ∷ xs) ys (suc k) r e = back_get xs ys k r (omega arith)
 
 -- where nothing ends it behind what was seen
-pub held_later : (p q : PassView) → q.base ≡ p.base → StartsWith q.seen p.seen → HasTrail (hall_seen q) → ((k : ℕ) → 1 ≤ times k p.own → 1 ≤ times k q.own)
+pub held_later : (p q : PassView) → q.gate.base ≡ p.gate.base → StartsWith q.seen p.seen → HasTrail (hall_seen q) → ((k : ℕ) → 1 ≤ times k p.own → 1 ≤ times k q.own)
     → (loan : Loan) → ((r : ℕ) → length p.seen ≤ r → EndsAt q.seen r loan.entry → ⊥) → HasLoanInHand p loan → HasLoanInHand q loan
 held_later p q same (rest, more) legal own loan ends held =
     let n : ℕ = loan.entry in
-    let x : State = start p.base.setup p.base.limit in
+    let x : State = start p.gate.base.setup p.gate.base.limit in
     let leads : state_seen q ≡ state_after (state_seen p) rest = (λ i. state_now (hall_with (same i) (more i))) ∙ after_parts x p.seen rest in
-    let whole : IsTrail x (p.seen ++ rest) = subst (λ (l : List Event). HasTrail (hall_with p.base l)) more (subst (λ (b : Chronicle). HasTrail (hall_with b q.seen)) same legal) in
+    let whole : IsTrail x (p.seen ++ rest) = subst (λ (l : List Event). HasTrail (hall_with p.gate.base l)) more (subst (λ (b : Chronicle). HasTrail (hall_with b q.seen)) same legal) in
     let later = lent_later (state_seen p) rest n (reached-now (hall_seen p) (trail_front x p.seen rest whole)) (trail_back x p.seen rest whole)
     (λ r at. ends (length p.seen + r) (omega arith) (behind r at)) held.entry.running in
     record {
@@ -144,7 +144,7 @@ held_later p q same (rest, more) legal own loan ends held =
     behind r (inr e) = inr (there r ∙ e)
 
 -- where the pass has seen and owns the same
-pub held_same : (p q : PassView) → q.base ≡ p.base → q.seen ≡ p.seen → q.own ≡ p.own → (loan : Loan) → HasLoanInHand p loan → HasLoanInHand q loan
+pub held_same : (p q : PassView) → q.gate.base ≡ p.gate.base → q.seen ≡ p.seen → q.own ≡ p.own → (loan : Loan) → HasLoanInHand p loan → HasLoanInHand q loan
 held_same p q base seen own loan held =
     let state : state_seen q ≡ state_seen p = (λ i. state_now (hall_with (base i) (seen i))) in record {
       entry = record {
@@ -157,7 +157,7 @@ held_same p q base seen own loan held =
     }
 
 -- in the hall that was taken what is in hand runs, and is lent what the loan is
-pub taken_lends : (p : PassView) (taken lent : Chronicle) → taken ≡ hall_with p.base taken.trail → HasTrail taken → StartsWith taken.trail p.seen → NoEndBehind (brought_by p) taken.trail → lent ≡ taken
+pub taken_lends : (p : PassView) (taken lent : Chronicle) → taken ≡ hall_with p.gate.base taken.trail → HasTrail taken → StartsWith taken.trail p.seen → NoEndBehind (brought_by p) taken.trail → lent ≡ taken
     → (loan : Loan) → HasLoanInHand p loan → IsLentBy (state_now lent) loan
 taken_lends p taken lent is legal more ends same loan held =
     let q : PassView = record p { seen = taken.trail } in
@@ -174,7 +174,7 @@ module _ (p : PassView) (taken put : Chronicle) (q : PassView) (turn : Turned p 
   -- what the turn does not end is in hand behind it
   pub turned_keeps : (loan : Loan) → AddsNoEnd taken put loan.entry → HasLoanInHand p loan → HasLoanInHand q loan
   turned_keeps loan adds held =
-      held_later p q (turned_follows p taken put q turn).base (turned_follows p taken put q turn).seen (turned_legal p taken put q turn) own loan ends held
+      held_later p q (ap (λ (g : GateId). g.base) (turned_follows p taken put q turn).gate) (turned_follows p taken put q turn).seen (turned_legal p taken put q turn) own loan ends held
     where
       own : (k : ℕ) → 1 ≤ times k p.own → 1 ≤ times k q.own
       own k o =
@@ -197,13 +197,13 @@ module _ (p : PassView) (taken put : Chronicle) (q : PassView) (turn : Turned p 
 
 -- ---- what a start lets run
 
-pub gives_in_hand : (p q : PassView) (n : ℕ) (begun : Started) → Calls p (Starts n) (λ x. IsStarted x n begun) q → q.base ≡ p.base → HasTrail (hall_seen q) → GivesInHand q begun
+pub gives_in_hand : (p q : PassView) (n : ℕ) (begun : Started) → Calls p (Starts n) (λ x. IsStarted x n begun) q → q.gate.base ≡ p.gate.base → HasTrail (hall_seen q) → GivesInHand q begun
 gives_in_hand p q n (Denied denial) call same legal = tt
 gives_in_hand p q n RuleDone call same legal = tt
 gives_in_hand p q n (Run lent) call same legal =
-    let h : Chronicle = hall_with p.base call.trail in
-    let x : State = start p.base.setup p.base.limit in
-    let is : hall_seen q ≡ hall_with p.base (call.trail ++ Starts n ∷ []) = (λ i. hall_with (same i) (call.seen i)) in
+    let h : Chronicle = hall_with p.gate.base call.trail in
+    let x : State = start p.gate.base.setup p.gate.base.limit in
+    let is : hall_seen q ≡ hall_with p.gate.base (call.trail ++ Starts n ∷ []) = (λ i. hall_with (same i) (call.seen i)) in
     let whole : IsTrail x (call.trail ++ Starts n ∷ []) = subst HasTrail is legal in
     let leads : state_seen q ≡ change (state_now h) (Starts n) = ap state_now is ∙ state-next h (Starts n) in
     let may : MayStart (state_now h) n = (trail_back x call.trail (Starts n ∷ []) whole).0 in
@@ -243,7 +243,7 @@ running_is_not_ready x n k running may e = never (phase_at x k) (ap (runs x) (sy
 -- ---- where two meet
 
 -- what is told of what a pass brought
-pub told_keeps : (p q : PassView) → IsTold q.base q.seen (brought_by p) → HasTrail (hall_seen q) → ((k : ℕ) → 1 ≤ times k p.own → 1 ≤ times k q.own) → KeepsInHand p q
+pub told_keeps : (p q : PassView) → IsTold q.gate.base q.seen (brought_by p) → HasTrail (hall_seen q) → ((k : ℕ) → 1 ≤ times k p.own → 1 ≤ times k q.own) → KeepsInHand p q
 told_keeps p q told legal own loan held =
     held_later p q (sym told.of_hall) told.seen legal own loan (λ r le at. told.no_end loan.entry held.entry.position r held.entry.own held.entry.start le at) held
 
@@ -252,7 +252,7 @@ hands_apart : (p o q : PassView) → StartsWith q.seen p.seen → StartsWith q.s
 hands_apart p o q more more' legal apart n a b =
     let here = get_later q.seen p.seen a.position (Starts n) more a.start in
     let there = get_later q.seen o.seen b.position (Starts n) more' b.start in
-    let one : b.position ≡ a.position = starts_once (start q.base.setup q.base.limit) q.seen n b.position a.position (sound-start q.base.setup q.base.limit) legal there here in
+    let one : b.position ≡ a.position = starts_once (start q.gate.base.setup q.gate.base.limit) q.seen n b.position a.position (sound-start q.gate.base.setup q.gate.base.limit) legal there here in
     let twice : 1 ≤ times a.position o.own = subst (λ (k : ℕ). 1 ≤ times k o.own) one b.own in
     let once = a.own in
     let most = apart a.position in absurd (omega arith)

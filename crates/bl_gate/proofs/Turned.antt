@@ -13,20 +13,20 @@ use Rattle.bl_gate.proofs.Steps.{continues_base, continues_starts}
 
 -- the pass of a seat
 abbrev pub pass_of : TableId → View → ℕ → PassView
-pass_of id v parts = record { gate = id; base = v.base; seen = v.seen; own = v.own; parts = parts }
+pass_of id v parts = record { gate = record { table = id; base = v.base }; seen = v.seen; own = v.own; parts = parts }
 
 -- what a pass would bring where two meet
 abbrev pub brought_by : PassView → Brought
-brought_by p = record { base = p.base; seen = p.seen; own = p.own }
+brought_by p = record { base = p.gate.base; seen = p.seen; own = p.own }
 
 -- A turn: the hall was taken with a trail that begins with all that was seen, and in which nobody else has ended what was started, and put
 -- back as it then was or with one event more.
 pub record Turned (before : PassView) (taken put : Chronicle) (after : PassView) : Type 0 where
-  pub taken_is : taken ≡ hall_with before.base taken.trail
+  pub taken_is : taken ≡ hall_with before.gate.base taken.trail
   pub from : StartsWith taken.trail before.seen
   pub no_end : NoEndBehind (brought_by before) taken.trail
   pub continues : Continues taken put
-  pub after_is : after ≡ record { gate = before.gate; base = before.base; seen = put.trail; own = before.own ++ gained (length taken.trail) (length put.trail); parts = before.parts }
+  pub after_is : after ≡ record { gate = before.gate; seen = put.trail; own = before.own ++ gained (length taken.trail) (length put.trail); parts = before.parts }
 
 pub turned : (p : PassView) (z z' z'' : TableId) (v v' v'' : View) (parts t : ℕ) (taken put : Chronicle) → pass_of z v parts ≡ p → z' ≡ z → z'' ≡ z'
     → taken ≡ hall_with v.base taken.trail → StartsWith taken.trail v.seen → NoEndBehind (brings v) taken.trail → v' ≡ entered (drew v t) taken.trail → Continues taken put → v'' ≡ went v' put.trail
@@ -53,7 +53,6 @@ module _ (p : PassView) (taken put : Chronicle) (q : PassView) (turn : Turned p 
   pub turned_follows : Follows p q
   turned_follows = record {
     gate = ap (λ (x : PassView). x.gate) turn.after_is;
-    base = ap (λ (x : PassView). x.base) turn.after_is;
     parts = ap (λ (x : PassView). x.parts) turn.after_is;
     seen = subst (λ (x : PassView). StartsWith x.seen p.seen) (sym turn.after_is) (begins_more put.trail taken.trail p.seen (continues_starts taken put turn.continues) turn.from);
   }

@@ -2,7 +2,6 @@
 use Rattle.std.specs.Prelude.{◌≡◌, ◌≢◌, ℕ, ◌≤◌, IsTrue, List, [], ◌∷◌, ◌++◌, length, slice_get, Some}
 use Rattle.atomic_table.specs.Seated.{TableId}
 use Rattle.bl_policy.specs.Policy.{no_policy}
-use Rattle.bl_work.specs.Names.{KnownNames}
 use Rattle.bl_setup.specs.declared.version.Version.TheVariants.{Two}
 use Rattle.bl_order.specs.Machine.{State, Event, Starts, runs}
 use Rattle.bl_eval.specs.Loan.{Loan}
@@ -12,20 +11,15 @@ use Rattle.bl_core.specs.declared.machine.Started.TheVariants.{Denied, RuleDone,
 use Rattle.bl_hall.specs.Chronicle.{Chronicle, state_now}
 use Rattle.bl_gate.specs.Counts.{StartsWith, times}
 
--- which gate one is: its table's own name
-abbrev pub GateId : Type 0
-GateId = TableId
+-- a gate: its table's own name, and the hall that it was given
+pub record GateId : Type 0 where
+  pub table : TableId
+  pub base : Chronicle
 
--- a gate: which one it is, and the names of its hall's setup
-pub record GateView : Type 0 where
-  pub id : GateId
-  pub names : KnownNames
-
--- A pass: the gate that made it, the hall that the gate was given, the trail that the pass has seen, the positions in it of its own
--- calls, and its parts of the right to close the gate, which are 64 in all.
+-- A pass: the gate that made it, the trail that the pass has seen, the positions in it of its own calls, and its parts of the right
+-- to close the gate, which are 64 in all.
 pub record PassView : Type 0 where
   pub gate : GateId
-  pub base : Chronicle
   pub seen : List Event
   pub own : List ℕ
   pub parts : ℕ
@@ -49,15 +43,14 @@ hall_with base trail = record { setup = base.setup; limit = base.limit; trail = 
 
 -- the hall as a pass has seen it, and its state there
 abbrev pub hall_seen : PassView → Chronicle
-hall_seen pass = hall_with pass.base pass.seen
+hall_seen pass = hall_with pass.gate.base pass.seen
 
 abbrev pub state_seen : PassView → State
 state_seen pass = state_now (hall_seen pass)
 
--- the same pass, later: of the same gate and hall, with the same parts, and it has seen all that it had seen
+-- the same pass, later: of the same gate, with the same parts, and it has seen all that it had seen
 pub record Follows (before after : PassView) : Type 0 where
   pub gate : after.gate ≡ before.gate
-  pub base : after.base ≡ before.base
   pub parts : after.parts ≡ before.parts
   pub seen : StartsWith after.seen before.seen
 
@@ -68,7 +61,7 @@ pub record Calls (before : PassView) (event : Event) (Answered : State → Type 
   pub from : StartsWith trail before.seen
   pub seen : after.seen ≡ trail ++ event ∷ []
   pub own : after.own ≡ before.own ++ length trail ∷ []
-  pub answered : Answered (state_now (hall_with before.base trail))
+  pub answered : Answered (state_now (hall_with before.gate.base trail))
 
 -- what a start lets run is this entry
 abbrev pub IsOf : ℕ → Started → Type 0

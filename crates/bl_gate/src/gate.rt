@@ -1,5 +1,5 @@
 //! The gate, and the calls of the hall through it.
-ghost use Rattle.std.specs.Prelude.{◌≡◌, ◌+◌, ◌-◌, ◌<◌, ◌≤◌, ◌++◌, ◌∷◌, ◌↔◌, [], ℕ, IsTrue, IsSome, IsNone, IsOk, IfOk, IfErr, IfSome, OnOk, OnErr, None, length, map};
+ghost use Rattle.std.specs.Prelude.{◌≡◌, ◌≢◌, ◌⊎◌, ◌+◌, ◌-◌, ◌<◌, ◌≤◌, ◌++◌, ◌∷◌, ◌↔◌, [], ℕ, IsTrue, IsSome, IsNone, IsOk, IfOk, IfErr, IfSome, OnOk, OnErr, None, length, map};
 ghost use Rattle.bl_order.specs.Machine.{Opens, Admits, Starts, Ends, Loses, MayStart};
 ghost use Rattle.bl_core.specs.Answers.{IsCause, IsLentBy, IsNotOpened, IsStarted, IsStarvedBy};
 ghost use Rattle.bl_hall.specs.Chronicle.{Continues, HasTrail};
@@ -49,13 +49,13 @@ pub struct Gate {
 
 impl Model for Gate {
     ghost use Rattle.std.specs.Prelude.{◌≡◌};
-    ghost use Rattle.bl_gate.specs.Gates.{GateView};
+    ghost use Rattle.bl_gate.specs.Gates.{GateId};
 
-    ghost Value = { GateView };
+    ghost Value = { GateId };
 
-    ghost view = { λ gate. record { id = gate.table.shared.table_id; names = gate.names } };
+    ghost view = { λ gate. record { table = gate.table.shared.table_id; base = gate.table.shared.key.value } };
 
-    ghost invariant = { λ gate. (gate.table.shared.table_id.words ≡ 2) × (gate.table.shared.table_id.slots ≡ 1) };
+    ghost invariant = { λ gate. (gate.table.shared.table_id.words ≡ 2) × (gate.table.shared.table_id.slots ≡ 1) × (gate.names ≡ gate.table.shared.key.value.setup.names) };
 }
 
 /// There was no memory for a gate; the hall, as it was given.
@@ -69,10 +69,9 @@ impl Gate {
     /// where a growth is refused, and hands the hall back. What runs in the hall already is in no pass's hand, and ends only after `close`.
     #[tactic(auto, using(crate::proofs::Setups::names_stay))]
     pub fn new(hall: Hall) -> Result<(Gate, Pass), NoGate>
-        ensures gate { IfOk result (λ made. made.1.gate ≡ made.0.id) }
+        ensures gate { IfOk result (λ made. (made.1.gate ≡ made.0) × (made.0.base ≡ hall)) }
         ensures parts { IfOk result (λ made. made.1.parts ≡ 64) }
-        ensures seen { IfOk result (λ made. (made.1.base ≡ hall) × (made.1.seen ≡ hall.trail) × (made.1.own ≡ [])) }
-        ensures names { IfOk result (λ made. made.0.names ≡ hall.setup.names) }
+        ensures seen { IfOk result (λ made. (made.1.seen ≡ hall.trail) × (made.1.own ≡ [])) }
         ensures err { IfErr result (λ refused. refused.hall ≡ hall) }
     {
         let alloc = hall.alloc();
@@ -111,7 +110,7 @@ impl Gate {
 
     /// The names of the hall's setup.
     pub fn names(&self) -> &Names
-        ensures { result.now ≡ self.now.names }
+        ensures { result.now ≡ self.now.base.setup.names }
     {
         &self.names
     }
@@ -134,7 +133,7 @@ impl Gate {
     /// Waits a moment where a word of the table is as it was found: at first it spins, then it yields, and then it sleeps in short
     /// steps.
     fn rest<R: Wait>(&self, rt: &R, backoff: &Backoff, word: usize, found: u64)
-        requires { word < self.now.id.words }
+        requires { word < self.now.table.words }
     {
         if !backoff.is_completed() {
             backoff.snooze();
@@ -145,9 +144,17 @@ impl Gate {
         }
     }
 
-    /// Draws a ticket. After 2^64 - 1 of them it waits for good.
+    /// Waits a moment where no ticket could be drawn: somebody else drew the one that was looked for, so that the count was found to be
+    /// another one, or 2^64 - 1 were drawn, and none is left.
+    fn rest_undrawn<R: Wait>(&self, rt: &R, backoff: &Backoff, drawn: u64, found: u64)
+        requires { (found ≢ drawn) ⊎ (drawn ≡ 18446744073709551615) }
+    {
+        self.rest(rt, backoff, 0, found);
+    }
+
+    /// Draws a ticket. After 2^64 - 1 of them it waits for good, and at no other count: where one is left it tries to have it.
     fn draw<R: Wait>(&self, rt: &R, seat: &mut Place) -> u64
-        requires gate { seat.old.table_id ≡ self.now.id }
+        requires gate { seat.old.table_id ≡ self.now.table }
         requires idle { IsIdle seat.old.me.0 }
         ensures same { (seat.new.table_id ≡ seat.old.table_id) × (seat.new.me.1 ≡ seat.old.me.1) }
         ensures drew { seat.new.me.0 ≡ drew seat.old.me.0 result }
@@ -161,15 +168,17 @@ impl Gate {
                 if found == drawn {
                     return drawn;
                 }
+                self.rest_undrawn(rt, &backoff, drawn, found);
+            } else {
+                self.rest_undrawn(rt, &backoff, drawn, drawn);
             }
-            self.rest(rt, &backoff, 0, drawn);
         }
         unreachable!()
     }
 
     /// Draws a ticket, waits until it is served, and takes the hall.
     fn enter<R: Wait>(&self, rt: &R, seat: &mut Place) -> BoxedHall
-        requires gate { seat.old.table_id ≡ self.now.id }
+        requires gate { seat.old.table_id ≡ self.now.table }
         requires idle { IsIdle seat.old.me.0 × (seat.old.me.1 ≡ []) }
         ensures gate { seat.new.table_id ≡ seat.old.table_id }
         ensures hall { result ≡ hall_with seat.old.me.0.base result.trail }
@@ -194,7 +203,7 @@ impl Gate {
 
     /// Puts the hall back, as it was taken or with one event more, and has the next ticket served.
     fn leave(&self, seat: &mut Place, hall: BoxedHall)
-        requires gate { seat.old.table_id ≡ self.now.id }
+        requires gate { seat.old.table_id ≡ self.now.table }
         requires turn { HasTurn seat.old.me.0 × (seat.old.me.1 ≡ (0, None) ∷ []) }
         requires next { Continues (hall_with seat.old.me.0.base seat.old.me.0.seen) hall }
         requires starts { EndsWhatItStarted seat.old.me.0 hall.trail }
@@ -214,7 +223,7 @@ impl Gate {
         pass: &mut Pass,
         subject: SubjectId,
     ) -> Result<SessionNo, OpenRefused>
-        requires gate { pass.old.gate ≡ self.now.id }
+        requires gate { pass.old.gate ≡ self.now }
         ensures follows { Follows pass.old pass.new }
         ensures trail { HasTrail (hall_seen pass.new) }
         ensures in_hand { KeepsInHand pass.old pass.new }
@@ -238,7 +247,7 @@ impl Gate {
         ordinal: u32,
         work: Work,
     ) -> Result<u32, Refused>
-        requires gate { pass.old.gate ≡ self.now.id }
+        requires gate { pass.old.gate ≡ self.now }
         ensures follows { Follows pass.old pass.new }
         ensures trail { HasTrail (hall_seen pass.new) }
         ensures in_hand { KeepsInHand pass.old pass.new }
@@ -257,7 +266,7 @@ impl Gate {
     /// it may and a growth was refused; neither adds anything.
     #[tactic(auto, using(crate::proofs::Starts::what_runs_is_of))]
     pub fn start<R: Wait>(&self, rt: &R, pass: &mut Pass, n: u32) -> Result<Started, StartFault>
-        requires gate { pass.old.gate ≡ self.now.id }
+        requires gate { pass.old.gate ≡ self.now }
         ensures follows { Follows pass.old pass.new }
         ensures trail { HasTrail (hall_seen pass.new) }
         ensures in_hand { KeepsInHand pass.old pass.new }
@@ -277,7 +286,7 @@ impl Gate {
     /// Ends an entry that the pass has in hand with what was done of what it was lent, as the hall does at that point of the trail. Nobody
     /// else has ended it by then, so it is not refused. It takes no memory.
     pub fn finish<R: Wait>(&self, rt: &R, pass: &mut Pass, done: Done)
-        requires gate { pass.old.gate ≡ self.now.id }
+        requires gate { pass.old.gate ≡ self.now }
         requires held { HasLoanInHand pass.old done }
         ensures follows { Follows pass.old pass.new }
         ensures trail { HasTrail (hall_seen pass.new) }
@@ -293,7 +302,7 @@ impl Gate {
     /// Ends an entry that the pass has in hand as lost, with what it was lent, as the hall does at that point of the trail. Nobody else
     /// has ended it by then, so it is not refused. It takes no memory.
     pub fn lose<R: Wait>(&self, rt: &R, pass: &mut Pass, unrun: Unrun)
-        requires gate { pass.old.gate ≡ self.now.id }
+        requires gate { pass.old.gate ≡ self.now }
         requires held { HasLoanInHand pass.old unrun }
         ensures follows { Follows pass.old pass.new }
         ensures trail { HasTrail (hall_seen pass.new) }
@@ -314,7 +323,7 @@ impl Gate {
         pass: &mut Pass,
         starved: Starved,
     ) -> Result<(), NotReady>
-        requires gate { pass.old.gate ≡ self.now.id }
+        requires gate { pass.old.gate ≡ self.now }
         ensures follows { Follows pass.old pass.new }
         ensures trail { HasTrail (hall_seen pass.new) }
         ensures in_hand { KeepsInHand pass.old pass.new }
@@ -330,7 +339,7 @@ impl Gate {
 
     /// Some entry that may start at that point of the trail, as the hall has it; none only where no entry may.
     pub fn ready<R: Wait>(&self, rt: &R, pass: &mut Pass) -> Option<u32>
-        requires gate { pass.old.gate ≡ self.now.id }
+        requires gate { pass.old.gate ≡ self.now }
         ensures follows { Follows pass.old pass.new }
         ensures trail { HasTrail (hall_seen pass.new) }
         ensures in_hand { KeepsInHand pass.old pass.new }
@@ -355,7 +364,7 @@ impl Gate {
         session: SessionNo,
         after: u32,
     ) -> Result<Option<Vec<Reply>>, AnswersFault>
-        requires gate { pass.old.gate ≡ self.now.id }
+        requires gate { pass.old.gate ≡ self.now }
         ensures follows { Follows pass.old pass.new }
         ensures trail { HasTrail (hall_seen pass.new) }
         ensures in_hand { KeepsInHand pass.old pass.new }
@@ -374,13 +383,13 @@ impl Gate {
 
     /// Moves one part of a pass to a pass of its own, for another thread. It has seen the same, and owns nothing.
     pub fn split_pass(&self, pass: &mut Pass) -> Pass
-        requires gate { pass.old.gate ≡ self.now.id }
+        requires gate { pass.old.gate ≡ self.now }
         requires some { 1 < pass.old.parts }
-        ensures gate { (pass.new.gate ≡ self.now.id) × (result.gate ≡ self.now.id) }
+        ensures gate { (pass.new.gate ≡ self.now) × (result.gate ≡ self.now) }
         ensures parts { (pass.new.parts + 1 ≡ pass.old.parts) × (result.parts ≡ 1) }
-        ensures old { (pass.new.base ≡ pass.old.base) × (pass.new.seen ≡ pass.old.seen) × (pass.new.own ≡ pass.old.own) }
+        ensures old { (pass.new.seen ≡ pass.old.seen) × (pass.new.own ≡ pass.old.own) }
         ensures in_hand { KeepsInHand pass.old pass.new }
-        ensures new { (result.base ≡ pass.old.base) × (result.seen ≡ pass.old.seen) × (result.own ≡ []) }
+        ensures new { (result.seen ≡ pass.old.seen) × (result.own ≡ []) }
     {
         let seat = self.table.shared.split_seat::<OnePart>(&mut pass.seat);
         pass.parts -= 1;
@@ -390,9 +399,8 @@ impl Gate {
     /// Takes in another pass of the same gate, with all its parts. The pass has then seen what each had seen, and owns the positions
     /// of both; no position is owned twice. What either had in hand it has, and no entry was in both hands.
     pub fn meet(&self, pass: &mut Pass, other: Pass)
-        requires gate { (pass.old.gate ≡ self.now.id) × (other.gate ≡ self.now.id) }
-        ensures gate { pass.new.gate ≡ self.now.id }
-        ensures base { pass.new.base ≡ pass.old.base }
+        requires gate { (pass.old.gate ≡ self.now) × (other.gate ≡ self.now) }
+        ensures gate { pass.new.gate ≡ self.now }
         ensures parts { pass.new.parts ≡ pass.old.parts + other.parts }
         ensures seen { StartsWith pass.new.seen pass.old.seen × StartsWith pass.new.seen other.seen }
         ensures own { pass.new.own ≡ pass.old.own ++ other.own }
@@ -409,12 +417,12 @@ impl Gate {
     /// The hall, once all parts have met in one pass. The gate is handed over, so nobody is inside a call. The hall's trail is what
     /// the pass has seen: the events that the gate was given, and then just those of the pass's own calls.
     pub fn close(self, pass: Pass) -> Hall
-        requires gate { pass.gate ≡ self.id }
+        requires gate { pass.gate ≡ self }
         requires all { pass.parts ≡ 64 }
         ensures hall { result ≡ hall_seen pass }
         ensures trail { HasTrail result }
-        ensures begins { StartsWith result.trail pass.base.trail }
-        ensures own { (p : ℕ) → times p pass.own ≡ within (length pass.base.trail) (length result.trail) p }
+        ensures begins { StartsWith result.trail pass.gate.base.trail }
+        ensures own { (p : ℕ) → times p pass.own ≡ within (length pass.gate.base.trail) (length result.trail) p }
     {
         let Pass { seat, parts: _ } = pass;
         let Gate {

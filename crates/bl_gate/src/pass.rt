@@ -31,8 +31,7 @@ impl Model for Pass {
     ghost coded = { Prim.hlevel (codes, matrix_code, coded_event) };
 
     ghost view = { λ pass. record {
-      gate = pass.seat.table_id;
-      base = pass.seat.me.0.base;
+      gate = record { table = pass.seat.table_id; base = pass.seat.me.0.base };
       seen = pass.seat.me.0.seen;
       own = pass.seat.me.0.own;
       parts = pass.parts;

@@ -72,7 +72,7 @@ pub(super) fn admit<R: AllocGlobal + Abort + Wait>(
     session: SessionNo,
     ordinal: u32,
 ) -> u32
-    requires { pass.old.gate ≡ gate.now.id }
+    requires { pass.old.gate ≡ gate.now }
     ensures { Follows pass.old pass.new }
 {
     let work = show_memo(rt, gate);
@@ -88,7 +88,7 @@ pub(super) fn ask<R: AllocGlobal + Abort + Wait>(
     gate: &Gate,
     pass: &mut Pass,
 ) -> (SessionNo, u32)
-    requires { pass.old.gate ≡ gate.now.id }
+    requires { pass.old.gate ≡ gate.now }
     ensures { Follows pass.old pass.new }
 {
     let session = right(rt, gate.open(rt, pass, SubjectId::new(ANN)));
@@ -123,7 +123,7 @@ pub(super) fn begin<R: AllocGlobal + Abort + Wait>(
     pass: &mut Pass,
     n: u32,
 ) -> Done
-    requires { pass.old.gate ≡ gate.now.id }
+    requires { pass.old.gate ≡ gate.now }
     ensures follows { Follows pass.old pass.new }
     ensures in_hand { KeepsInHand pass.old pass.new }
     ensures held { HasLoanInHand pass.new result }
@@ -154,7 +154,7 @@ pub(super) fn is_answered<R: Abort + Wait>(
     pass: &mut Pass,
     session: SessionNo,
 ) -> bool
-    requires { pass.old.gate ≡ gate.now.id }
+    requires { pass.old.gate ≡ gate.now }
     ensures { Follows pass.old pass.new }
 {
     match gate.answers(rt, pass, session, 0) {

@@ -43,7 +43,7 @@ impl Pause for HoldFirst {
 
 /// A worker with a pass of its own, which it gives back.
 fn work<R: Wait>(rt: &R, alloc: Global, gate: &Gate, mut pass: Pass, hold: &HoldFirst) -> Pass
-    requires { pass.gate ≡ gate.now.id }
+    requires { pass.gate ≡ gate.now }
     ensures { (result.gate ≡ pass.gate) × (result.parts ≡ pass.parts) }
 {
     run_worker(rt, alloc, gate, &mut pass, hold, &hold.bell);
@@ -59,17 +59,17 @@ fn work_both<R: Threads + Wait + Sync>(
     two: Pass,
     hold: &HoldFirst,
 ) -> (Pass, Pass)
-    requires { (one.gate ≡ gate.now.id) × (two.gate ≡ gate.now.id) }
+    requires { (one.gate ≡ gate.now) × (two.gate ≡ gate.now) }
     ensures { (result.0.gate ≡ one.gate) × (result.0.parts ≡ one.parts) × (result.1.gate ≡ two.gate) × (result.1.parts ≡ two.parts) }
 {
     thread::join(
         rt,
         move || -> Pass
-            requires { one.gate ≡ gate.now.id }
+            requires { one.gate ≡ gate.now }
             ensures { (result.gate ≡ one.gate) × (result.parts ≡ one.parts) }
         { work(rt, alloc, gate, one, hold) },
         move || -> Pass
-            requires { two.gate ≡ gate.now.id }
+            requires { two.gate ≡ gate.now }
             ensures { (result.gate ≡ two.gate) × (result.parts ≡ two.parts) }
         { work(rt, alloc, gate, two, hold) },
     )
@@ -95,13 +95,13 @@ fn work_until_two<R: Threads + Wait + Sync>(
     two: Pass,
     hold: &HoldFirst,
 ) -> (Pass, Pass)
-    requires { (one.gate ≡ gate.now.id) × (two.gate ≡ gate.now.id) }
+    requires { (one.gate ≡ gate.now) × (two.gate ≡ gate.now) }
     ensures { (result.0.gate ≡ one.gate) × (result.0.parts ≡ one.parts) × (result.1.gate ≡ two.gate) × (result.1.parts ≡ two.parts) }
 {
     let (passes, ()) = thread::join(
         rt,
         move || -> (Pass, Pass)
-            requires { (one.gate ≡ gate.now.id) × (two.gate ≡ gate.now.id) }
+            requires { (one.gate ≡ gate.now) × (two.gate ≡ gate.now) }
             ensures { (result.0.gate ≡ one.gate) × (result.0.parts ≡ one.parts) × (result.1.gate ≡ two.gate) × (result.1.parts ≡ two.parts) }
         { work_both(rt, alloc, gate, one, two, hold) },
         move || close_after_two(rt, &hold.bell),

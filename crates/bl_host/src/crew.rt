@@ -29,11 +29,11 @@ pub(crate) fn start_worker<'s, E, P: Pause + Sync, T: Threads + Wait + Sync>(
     post: &Post<'s, P, T>,
     pass: &mut Pass,
 ) -> Option<Member>
-    requires gate { pass.old.gate ≡ post.now.gate.now.id }
+    requires gate { pass.old.gate ≡ post.now.gate.now }
     requires some { 1 < pass.old.parts }
     ensures rest { Remains pass.old pass.new }
     ensures parts { pass.new.parts + 1 ≡ pass.old.parts }
-    ensures member { IfSome result (λ member. IsPart post.now.gate.now.id member.promise.0.value) }
+    ensures member { IfSome result (λ member. IsPart post.now.gate.now member.promise.0.value) }
 {
     let part = post.gate.split_pass(pass);
     let promise = Back(Snapshot::of(&part));
@@ -41,7 +41,7 @@ pub(crate) fn start_worker<'s, E, P: Pause + Sync, T: Threads + Wait + Sync>(
     let started = scope.spawn_with(
         promise,
         move || -> Share
-            requires { part.gate ≡ gate.now.id }
+            requires { part.gate ≡ gate.now }
             ensures { Follows part result.pass }
         {
             let post = Post {
@@ -64,11 +64,11 @@ pub(crate) fn start_session<'s, E, P: Pause + Sync, T: Threads + Wait + Sync>(
     pass: &mut Pass,
     desk: &'s Desk,
 ) -> Option<Member>
-    requires gate { pass.old.gate ≡ post.now.gate.now.id }
+    requires gate { pass.old.gate ≡ post.now.gate.now }
     requires some { 1 < pass.old.parts }
     ensures rest { Remains pass.old pass.new }
     ensures parts { pass.new.parts + 1 ≡ pass.old.parts }
-    ensures member { IfSome result (λ member. IsPart post.now.gate.now.id member.promise.0.value) }
+    ensures member { IfSome result (λ member. IsPart post.now.gate.now member.promise.0.value) }
 {
     let part = post.gate.split_pass(pass);
     let promise = Back(Snapshot::of(&part));
@@ -76,7 +76,7 @@ pub(crate) fn start_session<'s, E, P: Pause + Sync, T: Threads + Wait + Sync>(
     let started = scope.spawn_with(
         promise,
         move || -> Share
-            requires { part.gate ≡ gate.now.id }
+            requires { part.gate ≡ gate.now }
             ensures { Follows part result.pass }
         {
             let post = Post {
@@ -100,13 +100,13 @@ pub(crate) fn start_workers<'s, E, P: Pause + Sync, T: Threads + Wait + Sync>(
     count: u32,
     crew: &mut Vec<Member>,
 ) -> bool
-    requires gate { pass.old.gate ≡ post.now.gate.now.id }
+    requires gate { pass.old.gate ≡ post.now.gate.now }
     requires some { count < pass.old.parts }
-    requires crew { All (λ member. IsPart post.now.gate.now.id member.promise.0.value) crew.old.items }
+    requires crew { All (λ member. IsPart post.now.gate.now member.promise.0.value) crew.old.items }
     ensures rest { Remains pass.old pass.new }
     ensures left { pass.old.parts ≤ pass.new.parts + count }
     ensures whole { result ≡ true → pass.new.parts + vec_len crew.new ≡ pass.old.parts + vec_len crew.old }
-    ensures crew { All (λ member. IsPart post.now.gate.now.id member.promise.0.value) crew.new.items }
+    ensures crew { All (λ member. IsPart post.now.gate.now member.promise.0.value) crew.new.items }
 {
     for _ in 0..count {
         let Some(member) = start_worker(scope, post, pass) else {
@@ -128,12 +128,12 @@ pub(crate) fn start_sessions<'s, E, P: Pause + Sync, T: Threads + Wait + Sync>(
     desk: &'s Desk,
     crew: &mut Vec<Member>,
 ) -> bool
-    requires gate { pass.old.gate ≡ post.now.gate.now.id }
+    requires gate { pass.old.gate ≡ post.now.gate.now }
     requires some { count < pass.old.parts }
-    requires crew { All (λ member. IsPart post.now.gate.now.id member.promise.0.value) crew.old.items }
+    requires crew { All (λ member. IsPart post.now.gate.now member.promise.0.value) crew.old.items }
     ensures rest { Remains pass.old pass.new }
     ensures whole { result ≡ true → pass.new.parts + vec_len crew.new ≡ pass.old.parts + vec_len crew.old }
-    ensures crew { All (λ member. IsPart post.now.gate.now.id member.promise.0.value) crew.new.items }
+    ensures crew { All (λ member. IsPart post.now.gate.now member.promise.0.value) crew.new.items }
 {
     for _ in 0..count {
         let Some(member) = start_session(scope, post, pass, desk) else {
@@ -148,8 +148,8 @@ pub(crate) fn start_sessions<'s, E, P: Pause + Sync, T: Threads + Wait + Sync>(
 
 /// Waits for each thread of a crew, takes its pass in, and says whether all were fine.
 pub(crate) fn join_crew<T: Threads>(rt: &T, gate: &Gate, pass: &mut Pass, crew: Vec<Member>) -> bool
-    requires gate { pass.old.gate ≡ gate.now.id }
-    requires crew { All (λ member. IsPart gate.now.id member.promise.0.value) crew.items }
+    requires gate { pass.old.gate ≡ gate.now }
+    requires crew { All (λ member. IsPart gate.now member.promise.0.value) crew.items }
     ensures rest { Remains pass.old pass.new }
     ensures parts { pass.new.parts ≡ pass.old.parts + vec_len crew }
 {

@@ -53,7 +53,7 @@ fn run_crews<'s, E, P: Pause + Sync, T: Threads + Wait + Sync>(
     desk: &'s Desk,
     options: Options,
 ) -> Crews
-    requires gate { pass.gate ≡ post.now.gate.now.id }
+    requires gate { pass.gate ≡ post.now.gate.now }
     requires parts { pass.parts ≡ 64 }
     ensures gate { result.pass.gate ≡ pass.gate }
     ensures whole { result.whole ≡ true → Follows pass result.pass }
@@ -83,7 +83,7 @@ fn run_scope<P: Pause + Sync, T: Threads + Wait + Sync>(
     pass: Pass,
     options: Options,
 ) -> Crews
-    requires gate { pass.gate ≡ site.now.gate.now.id }
+    requires gate { pass.gate ≡ site.now.gate.now }
     requires parts { pass.parts ≡ 64 }
     ensures gate { result.pass.gate ≡ pass.gate }
     ensures whole { result.whole ≡ true → Follows pass result.pass }
@@ -93,7 +93,7 @@ fn run_scope<P: Pause + Sync, T: Threads + Wait + Sync>(
         thread::scope_env(),
         rt,
         |scope| -> Crews
-            requires { (pass.gate ≡ gate.now.id) × (pass.parts ≡ 64) }
+            requires { (pass.gate ≡ gate.now) × (pass.parts ≡ 64) }
             ensures { (result.pass.gate ≡ pass.gate) × (result.whole ≡ true → Follows pass result.pass) }
         {
             let post = Post {
@@ -130,7 +130,7 @@ pub fn host<P: Pause + Sync, T: Threads + Wait + Sync>(
     pass: Pass,
     options: Options,
 ) -> Hosted
-    requires gate { pass.gate ≡ site.now.gate.now.id }
+    requires gate { pass.gate ≡ site.now.gate.now }
     requires parts { pass.parts ≡ 64 }
     ensures gate { result.pass.gate ≡ pass.gate }
     ensures whole { result.whole ≡ true → Follows pass result.pass }

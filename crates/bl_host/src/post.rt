@@ -39,7 +39,7 @@ pub(crate) struct Share {
 impl<'a, P: Pause, T: Wait> Post<'a, P, T> {
     /// Takes turns until the bell is closed and nothing is ready. Nothing fails in it.
     pub(crate) fn work(&self, mut pass: Pass) -> Share
-        requires { pass.gate ≡ self.now.gate.now.id }
+        requires { pass.gate ≡ self.now.gate.now }
         ensures { Follows pass result.pass }
     {
         run_worker(
@@ -51,7 +51,7 @@ impl<'a, P: Pause, T: Wait> Post<'a, P, T> {
     /// Serves the session of a connection, and ends the connection's output once what was written is handed on. An output that failed is not
     /// called again; it ends with the connection.
     fn serve_stream(&self, pass: Pass, stream: &TcpStream) -> (Pass, Result<(), SessionFault>)
-        requires { pass.gate ≡ self.now.gate.now.id }
+        requires { pass.gate ≡ self.now.gate.now }
         ensures { Follows pass result.0 }
     {
         let _ = stream.set_nodelay(true);
@@ -81,7 +81,7 @@ impl<'a, P: Pause, T: Wait> Post<'a, P, T> {
 
     /// Serves a connection that was taken, and tells where its session ended early.
     fn serve_guest(&self, pass: Pass, desk: &Desk, guest: &Guest) -> Share
-        requires { pass.gate ≡ self.now.gate.now.id }
+        requires { pass.gate ≡ self.now.gate.now }
         ensures { Follows pass result.pass }
     {
         let Some(stream) = &guest.stream else {
@@ -98,7 +98,7 @@ impl<'a, P: Pause, T: Wait> Post<'a, P, T> {
 
     /// Takes one connection after another and serves its session, until all were taken.
     pub(crate) fn attend(&self, pass: Pass, desk: &Desk) -> Share
-        requires { pass.gate ≡ self.now.gate.now.id }
+        requires { pass.gate ≡ self.now.gate.now }
         ensures { Follows pass result.pass }
     {
         let mut share = Share { pass, fine: true };

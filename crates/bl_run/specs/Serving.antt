@@ -4,7 +4,7 @@ use Rattle.std.specs.List.{flat_map}
 use Rattle.std.specs.Io.KnownBytes.{Appends, Keeps}
 use Rattle.bl_setup.specs.Setup as setups
 use Rattle.bl_setup.specs.Grammar.{IsSetup}
-use Rattle.bl_gate.specs.Gates.{GateView, PassView}
+use Rattle.bl_gate.specs.Gates.{GateId, PassView}
 use Rattle.bl_host.specs.declared.ended.Ended.{Ended}
 use Rattle.bl_wire.specs.Watch.{Use}
 use Rattle.bl_run.specs.declared.fault.ProgramFault.{ProgramFault}
@@ -18,17 +18,17 @@ use Rattle.bl_run.specs.Runs.{HasTold}
 use Rattle.bl_run.specs.Status.{status_after}
 
 -- a gate round a hall of this setup and limit in which nothing has happened, and the pass with all parts
-pub record IsNewGate (setup : setups.Setup) (limit : ℕ) (gate : GateView) (pass : PassView) : Type 0 where
-  pub of : pass.gate ≡ gate.id
+pub record IsNewGate (setup : setups.Setup) (limit : ℕ) (gate : GateId) (pass : PassView) : Type 0 where
+  pub of : pass.gate ≡ gate
   pub all : pass.parts ≡ 64
-  pub base : pass.base ≡ record { setup = setup; limit = limit; trail = [] }
+  pub base : pass.gate.base ≡ record { setup = setup; limit = limit; trail = [] }
 
 -- own choice: what the program says once it listens
 abbrev pub listening : List ℕ
 listening = codes "listening\n"
 
 -- the setup is one, the gate is made for it, and `listening` was told
-pub record IsPrepared (setup : List ℕ) (limit : ℕ) (gate : GateView) (pass : PassView) (output : Use) : Type 0 where
+pub record IsPrepared (setup : List ℕ) (limit : ℕ) (gate : GateId) (pass : PassView) (output : Use) : Type 0 where
   pub begun : setups.Setup
   pub is : IsSetup setup begun
   pub made : IsNewGate begun limit gate pass

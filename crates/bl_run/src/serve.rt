@@ -187,7 +187,7 @@ fn keep_closed<T: Files>(
     claimed: Option<PartFile<T::File>>,
     trail: &TrailFile<'_>,
 ) -> Result<Kept, Unkept>
-    requires gate { pass.gate ≡ gate.id }
+    requires gate { pass.gate ≡ gate }
     requires all { pass.parts ≡ 64 }
 {
     let hall = gate.close(pass);
@@ -244,7 +244,7 @@ fn host_on<P: Pause + Sync, T: Threads + Wait + Files + Sync, E: Write>(
     run: &ServeRun<'_>,
     errors: &mut Watched<E>,
 ) -> Finished
-    requires gate { prepared.pass.gate ≡ prepared.gate.id }
+    requires gate { prepared.pass.gate ≡ prepared.gate }
     requires parts { prepared.pass.parts ≡ 64 }
     ensures run { HasHosted result (used E.contents errors.old errors.new) }
     ensures kept { result.status ≡ 0 → IsSome result.kept }

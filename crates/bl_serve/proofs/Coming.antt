@@ -12,7 +12,7 @@ use Rattle.bl_core.specs.declared.refusal.Cause.TheVariants as cause
 use Rattle.bl_hall.specs.Chronicle.{HasTrail}
 use Rattle.bl_hall.specs.Told.{AreAnswers, reply_of}
 use Rattle.bl_hall.specs.declared.reply.Reply as owned
-use Rattle.bl_gate.specs.Gates.{GateView, PassView, Calls, Follows, hall_seen, state_seen}
+use Rattle.bl_gate.specs.Gates.{GateId, PassView, Calls, Follows, hall_seen, state_seen}
 use Rattle.bl_gate.proofs.Following.{follows_itself, follows_then}
 use Rattle.bl_worker.proofs.Admitting.{admits_itself}
 use Rattle.bl_wire.specs.Replies.{line_or_full, line_text}
@@ -56,7 +56,7 @@ from_first names first p q course told same t = record {
 }
 
 -- a visit that has just begun
-pub come_first : (gate : GateView) (first : PassView) (visit : Visit) → visit.pass.gate ≡ gate.id → first ≡ visit.pass → visit.session ≡ None → visit.last ≡ 0 → visit.told.items ≡ [] → visit.upto ≡ 0 → HasCome gate first visit []
+pub come_first : (gate : GateId) (first : PassView) (visit : Visit) → visit.pass.gate ≡ gate → first ≡ visit.pass → visit.session ≡ None → visit.last ≡ 0 → visit.told.items ≡ [] → visit.upto ≡ 0 → HasCome gate first visit []
 come_first gate first visit is same session last none upto = record {
   own = record {
     gate_is = is;
@@ -79,7 +79,7 @@ not_full why (inl is) full = true≢false (sym (ap is_full full) ∙ ap is_full 
 not_full why (inr (inl is)) full = true≢false (sym (ap is_full full) ∙ ap is_full is)
 not_full why (inr (inr is)) full = true≢false (sym (ap is_full full) ∙ ap is_full is)
 
-module _ (gate : GateView) (first : PassView) (old : Visit) where
+module _ (gate : GateId) (first : PassView) (old : Visit) where
   -- a visit that has told nothing has no session
   pub silent : HasCome gate first old [] → (old.session ≡ None) × IsSilent first old []
   silent c = go old.session refl c.course
@@ -173,12 +173,12 @@ module _ (gate : GateView) (first : PassView) (old : Visit) where
 
         -- for another cause: then another pass spoke for the session
         pub spoken_for : (why : Cause) → IsCause (state_seen new.pass) s k w why → (why ≡ cause.Full → ⊥) → IsReadable gate.names w
-            → gate.names ≡ new.pass.base.setup.names → SpeaksAlone first new.pass s → ⊥
-        spoken_for cause.Stranger is other readable names alone = is (subst (λ n. IsReadable n w) (names ∙ sym (ap (λ m. m.names) (setup_after (start new.pass.base.setup new.pass.base.limit) new.pass.seen))) readable)
+            → gate.names ≡ new.pass.gate.base.setup.names → SpeaksAlone first new.pass s → ⊥
+        spoken_for cause.Stranger is other readable names alone = is (subst (λ n. IsReadable n w) (names ∙ sym (ap (λ m. m.names) (setup_after (start new.pass.gate.base.setup new.pass.gate.base.limit) new.pass.seen))) readable)
         spoken_for cause.Session is other readable names alone = let there = after_quiet.there in omega (arith, is.1, there)
         spoken_for cause.Ordinal is other readable names alone =
             let h = heard gate.names first new.pass (course_of gate.names old s) told after_quiet names alone in
-            let low = last_low (start new.pass.base.setup new.pass.base.limit) new.pass.seen s old.last (omega arith)
+            let low = last_low (start new.pass.gate.base.setup new.pass.gate.base.limit) new.pass.seen s old.last (omega arith)
             (subst (All (λ (a : ℕ × Work). a.0 ≤ old.last)) (sym h.lines) after_quiet.admits.works_low)
             in
             omega (arith, is.2, low, lt)
@@ -209,12 +209,12 @@ module _ (gate : GateView) (first : PassView) (old : Visit) where
         below_or_not : (a b : ℕ) → (a ≤ b) ⊎ (b < a)
         below_or_not a b = grind arith
 
-        either_side : gate.names ≡ new.pass.base.setup.names → SameUpTo old.upto (told_text gate.names old.told.items) (line_text (state_seen new.pass) s)
+        either_side : gate.names ≡ new.pass.gate.base.setup.names → SameUpTo old.upto (told_text gate.names old.told.items) (line_text (state_seen new.pass) s)
             → (k : ℕ) → k ≤ ordinal → (k ≤ old.upto) ⊎ (old.upto < k) → line_text (state_seen new.pass) s k ≡ told_text gate.names new.told.items k
         either_side names was k low (inl before) =
             was k before ∙ sym (ap (λ l. told_text gate.names l k) items ∙ text_stays gate.names old.upto ordinal old.upto old.told.items more (omega arith) are k before)
         either_side names was k low (inr after) =
             sym (ap (λ l. told_text gate.names l k) items
             ∙ (ap (λ l. line_or_full gate.names k (map reply_of (front k l))) (behind_old old.told.items more k (All-weaker (IsTold gate.names 0 old.upto) (λ r. ordinal_of r < k) (λ r is. omega (arith, is.high, after)) old.told.items c.own.told))
-            ∙ (ap (λ n. line_or_full n k (map reply_of (line_of k more))) (names ∙ sym (ap (λ m. m.names) (setup_after (start new.pass.base.setup new.pass.base.limit) new.pass.seen)))
+            ∙ (ap (λ n. line_or_full n k (map reply_of (line_of k more))) (names ∙ sym (ap (λ m. m.names) (setup_after (start new.pass.gate.base.setup new.pass.gate.base.limit) new.pass.seen)))
             ∙ block_text by_lines (state_seen new.pass) s more old.upto k after answers)))

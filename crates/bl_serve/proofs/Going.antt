@@ -113,20 +113,20 @@ module _ (p q : PassView) (follows : Follows p q) (legal : HasTrail (hall_seen q
   abbrev rest : List Event
   rest = follows.seen.0
 
-  hall_is : hall_seen q ≡ hall_with p.base (p.seen ++ rest)
+  hall_is : hall_seen q ≡ hall_with p.gate.base (p.seen ++ rest)
   hall_is = λ i. hall_with (follows.base i) (follows.seen.1 i)
 
   pub state_is : state_seen q ≡ state_after (state_seen p) follows.seen.0
-  state_is = ap state_now hall_is ∙ after_parts (start p.base.setup p.base.limit) p.seen rest
+  state_is = ap state_now hall_is ∙ after_parts (start p.gate.base.setup p.gate.base.limit) p.seen rest
 
-  whole : IsTrail (start p.base.setup p.base.limit) (p.seen ++ rest)
+  whole : IsTrail (start p.gate.base.setup p.gate.base.limit) (p.seen ++ rest)
   whole = subst HasTrail hall_is legal
 
   trail_rest : IsTrail (state_seen p) follows.seen.0
-  trail_rest = trail_back (start p.base.setup p.base.limit) p.seen rest whole
+  trail_rest = trail_back (start p.gate.base.setup p.gate.base.limit) p.seen rest whole
 
   sound : IsSound (state_seen p)
-  sound = sound_at (hall_with p.base p.seen) (trail_front (start p.base.setup p.base.limit) p.seen rest whole)
+  sound = sound_at (hall_with p.gate.base p.seen) (trail_front (start p.gate.base.setup p.gate.base.limit) p.seen rest whole)
 
   kept_weight : KeepsWeight (state_seen p) (state_seen q)
   kept_weight = subst (KeepsWeight (state_seen p)) (sym state_is) (weights_kept (state_seen p) rest)
@@ -148,7 +148,7 @@ module _ (p q : PassView) (follows : Follows p q) (legal : HasTrail (hall_seen q
           (stays (state_seen p) rest session upto sound trail_rest h.over (subst (All (IsBehind upto)) (sym are) above))
 
   module _ (names : KnownNames) (first : PassView) (course : Course) (told : List Request) (t : IsCourse names first p course told) where
-    names_then : names ≡ q.base.setup.names → names ≡ p.base.setup.names
+    names_then : names ≡ q.gate.base.setup.names → names ≡ p.gate.base.setup.names
     names_then e = e ∙ ap (λ (h : Chronicle). h.setup.names) follows.base
 
     length_on : length p.seen ≤ length q.seen
@@ -284,7 +284,7 @@ module _ (names : KnownNames) (first q : PassView) (course : Course) (told : Lis
 
   -- its lines up to an ordinal were answered
   pub course_settled : (ordinal : ℕ) (replies : ℕ → List ℕ) → course.last ≤ ordinal → ¬ Waits (state_seen q) course.session
-      → (names ≡ q.base.setup.names → (SameUpTo course.upto course.replies (line_text (state_seen q) course.session)) → SameUpTo ordinal replies (line_text (state_seen q) course.session))
+      → (names ≡ q.gate.base.setup.names → (SameUpTo course.upto course.replies (line_text (state_seen q) course.session)) → SameUpTo ordinal replies (line_text (state_seen q) course.session))
       → IsCourse names first q (record { session = course.session; last = ordinal; upto = ordinal; replies = replies }) (told ++ request.Settles ∷ [])
   course_settled ordinal replies le none same = record {
     gained = t.gained;
@@ -316,22 +316,22 @@ module _ (names : KnownNames) (first q : PassView) (course : Course) (told : Lis
 
 -- ---- the opening
 
-module _ (names : KnownNames) (first q : PassView) (session u : ℕ) (replies : ℕ → List ℕ) (legal : HasTrail (hall_seen q)) (base : q.base ≡ first.base)
+module _ (names : KnownNames) (first q : PassView) (session u : ℕ) (replies : ℕ → List ℕ) (legal : HasTrail (hall_seen q)) (base : q.gate.base ≡ first.gate.base)
     (call : Calls first (Opens u) (λ x. session ≡ length x.sessions) q) (quiet : replies 0 ≡ line_or_full names 0 []) where
   abbrev before : State
-  before = state_now (hall_with first.base call.trail)
+  before = state_now (hall_with first.gate.base call.trail)
 
-  hall_then : hall_seen q ≡ hall_with first.base (call.trail ++ Opens u ∷ [])
+  hall_then : hall_seen q ≡ hall_with first.gate.base (call.trail ++ Opens u ∷ [])
   hall_then = λ i. hall_with (base i) (call.seen i)
 
   state_then : state_seen q ≡ change before (Opens u)
-  state_then = ap state_now hall_then ∙ after_parts (start first.base.setup first.base.limit) call.trail (Opens u ∷ [])
+  state_then = ap state_now hall_then ∙ after_parts (start first.gate.base.setup first.gate.base.limit) call.trail (Opens u ∷ [])
 
-  trail_before : IsTrail (start first.base.setup first.base.limit) call.trail
-  trail_before = trail_front (start first.base.setup first.base.limit) call.trail (Opens u ∷ []) (subst HasTrail hall_then legal)
+  trail_before : IsTrail (start first.gate.base.setup first.gate.base.limit) call.trail
+  trail_before = trail_front (start first.gate.base.setup first.gate.base.limit) call.trail (Opens u ∷ []) (subst HasTrail hall_then legal)
 
   below : AreBelow (length before.sessions) before.order
-  below = all_below (start first.base.setup first.base.limit) call.trail (sound-start first.base.setup first.base.limit) trail_before (λ p lt. absurd (omega (arith, lt)))
+  below = all_below (start first.gate.base.setup first.gate.base.limit) call.trail (sound-start first.gate.base.setup first.gate.base.limit) trail_before (λ p lt. absurd (omega (arith, lt)))
 
   not_mine : (p : ℕ) → p < length before.order → (tag before.order p).session ≡ session → ⊥
   not_mine p lt own = let b = below p lt in omega (arith, b, own, call.answered)
@@ -369,7 +369,7 @@ module _ (names : KnownNames) (first q : PassView) (session u : ℕ) (replies : 
     covers = record { done = []; rest = request.Opens u ∷ []; split = refl; unsettled = tt; low = All-nil (λ (a : ℕ × Work). a.0 ≤ 0) };
     answered = λ is alone. record {
       lines = ap (admitted session) call.seen ∙ (admitted-append session call.trail (Opens u ∷ []) ∙ (append-nil (admitted session call.trail)
-          ∙ none_unopened (start first.base.setup first.base.limit) call.trail session trail_before (omega (arith, call.answered))));
+          ∙ none_unopened (start first.gate.base.setup first.gate.base.limit) call.trail session trail_before (omega (arith, call.answered))));
       over = subst (λ y. IsOverUpTo y session 0) (sym state_then) (λ p lt own low. absurd (not_mine p lt own));
       answers = λ k le. zero_only k le;
     };

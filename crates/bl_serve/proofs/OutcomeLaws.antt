@@ -1,6 +1,6 @@
 -- Laws of what a session over a gate ends with.
 use Rattle.std.proofs.Common.{◌≡◌, ℕ, zero, suc, ◌≤◌, ◌++◌, ◌∷◌, [], Bool, true, false, true≢false, List, Option, Some, None, All, ◌⊎◌, inl, inr, refl, sym, ap, subst, ◌∙◌, arith, append-nil, replicate}
-use Rattle.bl_gate.specs.Gates.{GateView, PassView, state_seen}
+use Rattle.bl_gate.specs.Gates.{GateId, PassView, state_seen}
 use Rattle.bl_hall.specs.declared.reply.Reply.{Reply}
 use Rattle.bl_work.specs.Names.{KnownNames}
 use Rattle.bl_wire.specs.Named.{NamesAnswer}
@@ -105,7 +105,7 @@ only_settles : (turns : List Turn) (n : ℕ) → told_by turns ≡ replicate n r
 only_settles turns zero is = is
 only_settles turns (suc n) is = absurd (true≢false (sym (ap is_settles is) ∙ not_settles turns))
 
-module _ (gate : GateView) (at_first : PassView) (visit : Visit) where
+module _ (gate : GateId) (at_first : PassView) (visit : Visit) where
   abbrev replies : ℕ → List ℕ
   replies = told_text gate.names visit.told.items
 
@@ -119,7 +119,7 @@ module _ (gate : GateView) (at_first : PassView) (visit : Visit) where
         s,
         is_own gate.names at_first visit.pass (course_of gate.names visit s) (told_by turns) course,
         λ is alone.
-            subst (IsTranscript visit.pass.base.setup visit.pass.base.limit visit.pass.seen s turns)
+            subst (IsTranscript visit.pass.gate.base.setup visit.pass.gate.base.limit visit.pass.seen s turns)
             (sym (written_is gate.names at_first visit.pass (course_of gate.names visit s) (told_by turns) course is alone turns refl))
             (transcribed gate.names at_first visit.pass (course_of gate.names visit s) (told_by turns) course is alone turns 0 (sym (append-nil (told_by turns)))),
       )
@@ -156,7 +156,7 @@ module _ (gate : GateView) (at_first : PassView) (visit : Visit) where
 
 -- ---- outcomes
 
-module _ (gate : GateView) (at_first before : PassView) (visit : Visit) (e : Ends) (same : at_first ≡ before) where
+module _ (gate : GateId) (at_first before : PassView) (visit : Visit) (e : Ends) (same : at_first ≡ before) where
   abbrev pub seen : View
   seen = record { replies = told_text gate.names visit.told.items; settled = λ n. n ≤ visit.upto; came = HasCome gate at_first visit }
 
@@ -210,14 +210,14 @@ module _ (gate : GateView) (at_first before : PassView) (visit : Visit) (e : End
   )
 
 -- whatever was told, the pass spoke for its own session alone
-pub speaks_then : (gate : GateView) (at_first : PassView) (visit : Visit) (told : List Request) → HasCome gate at_first visit told → SpeaksForItsOwn at_first visit.pass
+pub speaks_then : (gate : GateId) (at_first : PassView) (visit : Visit) (told : List Request) → HasCome gate at_first visit told → SpeaksForItsOwn at_first visit.pass
 speaks_then gate at_first visit told c = go visit.session c.course
   where
     go : (o : Option ℕ) → HasTold gate at_first visit o told → SpeaksForItsOwn at_first visit.pass
     go None course = speaks_for_none at_first visit.pass course.own
     go (Some s) course = speaks gate.names at_first visit.pass (course_of gate.names visit s) told course
 
-module _ (names : KnownNames) (gate : GateView) (at_first before : PassView) (visit : Visit) (start rest first kept : Option (List ℕ)) (read_failed write_failed : Bool) (is : names ≡ gate.names) (same : at_first ≡ before) where
+module _ (names : KnownNames) (gate : GateId) (at_first before : PassView) (visit : Visit) (start rest first kept : Option (List ℕ)) (read_failed write_failed : Bool) (is : names ≡ gate.names) (same : at_first ≡ before) where
   abbrev there : Ends
   there = ends start rest first kept
 

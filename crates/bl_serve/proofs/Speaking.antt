@@ -56,7 +56,7 @@ line_open x (e ∷ events) (suc p) session k w trail at = line_open (change x e)
 
 module _ (whole : PassView) (legal : HasTrail (hall_seen whole)) where
   abbrev first_state : State
-  first_state = start whole.base.setup whole.base.limit
+  first_state = start whole.gate.base.setup whole.gate.base.limit
 
   -- so many sessions are open behind a first part
   abbrev open_behind : List Event → ℕ
@@ -146,7 +146,7 @@ module _ (whole : PassView) (shares : List (List ℕ)) (out : IsSharedOut whole 
       go (inl same) = same.1
       go (inr two) =
           let both = two_of (times p) shares i j g h two.1 at there in
-          let most = within_le (length whole.base.trail) (length whole.seen) p in
+          let most = within_le (length whole.gate.base.trail) (length whole.seen) p in
           absurd (omega (arith, both, mine, other, out.shared p, out.owned p, most))
 
   pub stand_alone : (i session u : ℕ) (positions : List ℕ) → get_elem? shares i ≡ some positions → IsOpenedAt positions whole session u → StandAt positions session whole.seen
@@ -154,10 +154,10 @@ module _ (whole : PassView) (shares : List (List ℕ)) (out : IsSharedOut whole 
       let f : ℕ = length o.front in
       let behind : f < p = line_behind whole out.trail positions session u p k w o there in
       let in_shares = one_of (times f) shares i positions at in
-      let f_owned : 1 ≤ within (length whole.base.trail) (length whole.seen) f = omega (arith, in_shares, o.own, out.shared f, out.owned f) in
-      let low = (within_some (length whole.base.trail) (length whole.seen) f f_owned).0 in
+      let f_owned : 1 ≤ within (length whole.gate.base.trail) (length whole.seen) f = omega (arith, in_shares, o.own, out.shared f, out.owned f) in
+      let low = (within_some (length whole.gate.base.trail) (length whole.seen) f f_owned).0 in
       let inside = get_inside whole.seen p (Admits session k w) there in
-      let p_owned : within (length whole.base.trail) (length whole.seen) p ≡ 1 = within_in (length whole.base.trail) (length whole.seen) p (omega (arith, low, behind)) inside in
+      let p_owned : within (length whole.gate.base.trail) (length whole.seen) p ≡ 1 = within_in (length whole.gate.base.trail) (length whole.seen) p (omega (arith, low, behind)) inside in
       let found = share_with p shares (omega (arith, p_owned, out.shared p, out.owned p)) in
       let other = out.each found.0 found.1 found.2 p session k w found.3 there in
       let same : length other.1.front ≡ f = same_place whole out.trail found.1 positions session other.0 u other.1 o in

@@ -119,7 +119,7 @@ speaks_for_none first q same = record {
 
 -- ---- the transcript
 
-module _ (names : KnownNames) (first q : PassView) (course : Course) (told : List Request) (t : IsCourse names first q course told) (is : names ≡ q.base.setup.names) (alone : SpeaksAlone first q course.session) where
+module _ (names : KnownNames) (first q : PassView) (course : Course) (told : List Request) (t : IsCourse names first q course told) (is : names ≡ q.gate.base.setup.names) (alone : SpeaksAlone first q course.session) where
   pub heard : IsAnswered q course.session course.upto t.works course.replies
   heard = t.answered is (subst (λ (l : List ℕ). StandAt l course.session q.seen) (gained_is names first q course told t) alone)
 
@@ -144,7 +144,7 @@ module _ (names : KnownNames) (first q : PassView) (course : Course) (told : Lis
 
   -- the lines that were told, but for settling
   pub transcribed : (turns : List Turn) (settles : ℕ) → told_by turns ≡ told ++ replicate settles request.Settles
-      → IsTranscript q.base.setup q.base.limit q.seen course.session turns (session_text (line_text (state_seen q) course.session) turns)
+      → IsTranscript q.gate.base.setup q.gate.base.limit q.seen course.session turns (session_text (line_text (state_seen q) course.session) turns)
   transcribed [] settles by = absurd (omega (arith, ap length (by ∙ ap (λ l. l ++ replicate settles request.Settles) t.opened)))
   transcribed (Skip ∷ turns) settles by = transcribed turns settles by
   transcribed (Wait ∷ turns) settles by = absurd (omega (arith, ap length (by ∙ ap (λ l. l ++ replicate settles request.Settles) t.opened)))
@@ -178,7 +178,7 @@ module _ (names : KnownNames) (first q : PassView) (course : Course) (told : Lis
 -- ---- without a session
 
 -- lines that tell nothing
-pub nothing_told : (q : PassView) (f : ℕ → List ℕ) (turns : List Turn) → told_by turns ≡ [] → IsTranscript q.base.setup q.base.limit q.seen 0 turns (session_text f turns)
+pub nothing_told : (q : PassView) (f : ℕ → List ℕ) (turns : List Turn) → told_by turns ≡ [] → IsTranscript q.gate.base.setup q.gate.base.limit q.seen 0 turns (session_text f turns)
 nothing_told q f [] none = refl
 nothing_told q f (Skip ∷ turns) none = nothing_told q f turns none
 nothing_told q f (Wait ∷ turns) none = refl
@@ -188,10 +188,10 @@ nothing_told q f (Greets u ∷ turns) none = absurd (omega (arith, ap length non
 
 -- as many sessions as there may be
 pub turned_away : (q : PassView) (subject : ℕ) (turns : List Turn) → HasTrail (hall_seen q) → most_sessions ≤ length (state_seen q).sessions → IsOpening subject turns
-    → IsTranscript q.base.setup q.base.limit q.seen 0 turns (refused_sessions ++ bye_line)
+    → IsTranscript q.gate.base.setup q.gate.base.limit q.seen 0 turns (refused_sessions ++ bye_line)
 turned_away q subject [] legal full opening = absurd opening
 turned_away q subject (Skip ∷ turns) legal full opening = turned_away q subject turns legal full opening
-turned_away q subject (Greets u ∷ turns) legal full opening = inl (omega (arith, full, sessions_within (start q.base.setup q.base.limit) q.seen legal (omega arith)), refl)
+turned_away q subject (Greets u ∷ turns) legal full opening = inl (omega (arith, full, sessions_within (start q.gate.base.setup q.gate.base.limit) q.seen legal (omega arith)), refl)
 turned_away q subject (Wait ∷ turns) legal full opening = absurd opening
 turned_away q subject (Bad fault ∷ turns) legal full opening = absurd opening
 turned_away q subject (Ask work ∷ turns) legal full opening = absurd opening

@@ -29,7 +29,7 @@ SpeaksAlone before after session = StandAt (drop (length before.own) after.own) 
 pub record IsOpenedAt (positions : List ℕ) (pass : PassView) (session subject : ℕ) : Type 0 where
   pub front : List Event
   pub there : StartsWith pass.seen (front ++ Opens subject ∷ [])
-  pub number : session ≡ length (state_now (hall_with pass.base front)).sessions
+  pub number : session ≡ length (state_now (hall_with pass.gate.base front)).sessions
   pub own : 1 ≤ times (length front) positions
 
 -- the pass opened the session since `before`
@@ -121,7 +121,7 @@ pub record IsCourse (names : KnownNames) (first pass : PassView) (course : Cours
   pub works : List (ℕ × Work)
   pub admits : AreAdmitted (state_seen pass) course.last (asked_in told) works
   pub covers : IsCovered course.upto told
-  pub answered : names ≡ pass.base.setup.names → StandAt gained course.session pass.seen → IsAnswered pass course.session course.upto works course.replies
+  pub answered : names ≡ pass.gate.base.setup.names → StandAt gained course.session pass.seen → IsAnswered pass course.session course.upto works course.replies
 
 -- What a session does to a pass while it keeps quiet: the pass follows what it was and admits no line, and where what it had seen was a
 -- trail it is one still.

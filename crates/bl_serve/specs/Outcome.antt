@@ -26,7 +26,7 @@ replies_alone replies = record { replies = replies; settled = Unsaid; came = Uns
 
 -- a transcript by all that a pass has seen
 abbrev pub IsSeen : PassView → ℕ → List Turn → List ℕ → Type 0
-IsSeen pass session turns text = IsTranscript pass.base.setup pass.base.limit pass.seen session turns text
+IsSeen pass session turns text = IsTranscript pass.gate.base.setup pass.gate.base.limit pass.seen session turns text
 
 -- What was written for these lines is a transcript of them by all that the pass has seen. They tell nothing, and the pass has gained
 -- nothing; or it is of the session that the pass opened, where no other pass spoke for that and the names are the hall's.
@@ -34,7 +34,7 @@ abbrev pub IsTranscribed : KnownNames → (before after : PassView) → List Tur
 IsTranscribed names before after turns text =
     ((told_by turns ≡ []) × (after.own ≡ before.own) × IsSeen after 0 turns text)
     ⊎ ((session : ℕ) × IsOwn before after session
-    × (names ≡ after.base.setup.names → SpeaksAlone before after session → IsSeen after session turns text))
+    × (names ≡ after.gate.base.setup.names → SpeaksAlone before after session → IsSeen after session turns text))
 
 -- it begins one
 abbrev pub BeginsSeen : PassView → ℕ → List Turn → List ℕ → Type 0
@@ -45,7 +45,7 @@ abbrev pub IsTranscribedInPart : KnownNames → (before after : PassView) → Li
 IsTranscribedInPart names before after turns part =
     ((told_by turns ≡ []) × (after.own ≡ before.own) × BeginsSeen after 0 turns part)
     ⊎ ((session : ℕ) × IsOwn before after session
-    × (names ≡ after.base.setup.names → SpeaksAlone before after session → BeginsSeen after session turns part))
+    × (names ≡ after.gate.base.setup.names → SpeaksAlone before after session → BeginsSeen after session turns part))
 
 -- The input was read to its end, or to the end of a first line that was refused and no further. What is written is the text of a
 -- session that was told these replies, or there were as many sessions as there may be; and it is a transcript.

@@ -19,11 +19,11 @@ IsShare whole positions =
 -- the shares.
 pub record IsSharedOut (whole : PassView) (shares : List (List ℕ)) : Type 0 where
   pub trail : HasTrail (hall_seen whole)
-  pub owned : (p : ℕ) → times p whole.own ≡ within (length whole.base.trail) (length whole.seen) p
+  pub owned : (p : ℕ) → times p whole.own ≡ within (length whole.gate.base.trail) (length whole.seen) p
   pub shared : (p : ℕ) → total (times p) shares ≡ times p whole.own
   pub each : (i : ℕ) (positions : List ℕ) → get_elem? shares i ≡ some positions → IsShare whole positions
 
 -- the pass is of the same hall, and has seen all that another one had
 pub record HasMet (whole other : PassView) : Type 0 where
-  pub base : whole.base ≡ other.base
+  pub base : whole.gate.base ≡ other.gate.base
   pub seen : StartsWith whole.seen other.seen

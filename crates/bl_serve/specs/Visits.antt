@@ -3,7 +3,7 @@ use Rattle.std.specs.Prelude.{◌≡◌, ℕ, ◌<◌, ◌≤◌, List, [], Opti
 use Rattle.bl_work.specs.Names.{KnownNames}
 use Rattle.bl_order.specs.Machine.{most_sessions}
 use Rattle.bl_hall.specs.Chronicle.{HasTrail}
-use Rattle.bl_gate.specs.Gates.{GateView, PassView, Follows, hall_seen, state_seen}
+use Rattle.bl_gate.specs.Gates.{GateId, PassView, Follows, hall_seen, state_seen}
 use Rattle.bl_engine.specs.Requests.{Request}
 use Rattle.bl_serve.specs.Courses.{IsCourse, IsOwn, SpeaksAlone, Course}
 use Rattle.bl_serve.specs.Told.{behind, told_text, IsTold}
@@ -11,8 +11,8 @@ use Rattle.bl_serve.specs.declared.visit.Visit.{Visit}
 use Rattle.bl_serve.specs.declared.visit.Page.{Page}
 
 -- the pass is of the gate and follows what it was at first, and what was told are replies to lines up to the last one that was settled
-pub record IsOf (gate : GateView) (first : PassView) (visit : Visit) : Type 0 where
-  pub gate_is : visit.pass.gate ≡ gate.id
+pub record IsOf (gate : GateId) (first : PassView) (visit : Visit) : Type 0 where
+  pub gate_is : visit.pass.gate ≡ gate
   pub follows : Follows first visit.pass
   pub told : All (IsTold gate.names 0 visit.upto) visit.told.items
   pub within : visit.upto ≤ visit.last
@@ -29,17 +29,17 @@ abbrev pub course_of : KnownNames → Visit → ℕ → Course
 course_of names visit session = record { session = session; last = visit.last; upto = visit.upto; replies = told_text names visit.told.items }
 
 -- without a session nothing was told, and with one this was told of it
-abbrev pub HasTold : GateView → PassView → Visit → Option ℕ → List Request → Type 0
+abbrev pub HasTold : GateId → PassView → Visit → Option ℕ → List Request → Type 0
 HasTold gate first visit None told = IsSilent first visit told
 HasTold gate first visit (Some session) told = IsCourse gate.names first visit.pass (course_of gate.names visit session) told
 
 -- what was told brought the visit here
-pub record HasCome (gate : GateView) (first : PassView) (visit : Visit) (told : List Request) : Type 0 where
+pub record HasCome (gate : GateId) (first : PassView) (visit : Visit) (told : List Request) : Type 0 where
   pub own : IsOf gate first visit
   pub course : HasTold gate first visit visit.session told
 
 -- no call has failed, and the last block ended with this ordinal
-pub record IsWhole (gate : GateView) (first : PassView) (visit : Visit) (n : ℕ) : Type 0 where
+pub record IsWhole (gate : GateId) (first : PassView) (visit : Visit) (n : ℕ) : Type 0 where
   pub told : List Request
   pub come : HasCome gate first visit told
   pub upto : visit.upto ≡ n
@@ -51,7 +51,7 @@ pub record IsCrowded (pass : PassView) : Type 0 where
 
 -- another pass spoke for the session that the pass opened, where the names are the hall's
 abbrev pub IsSpokenFor : KnownNames → (before after : PassView) → Type 0
-IsSpokenFor names before after = (session : ℕ) × IsOwn before after session × (names ≡ after.base.setup.names → SpeaksAlone before after session → ⊥)
+IsSpokenFor names before after = (session : ℕ) × IsOwn before after session × (names ≡ after.gate.base.setup.names → SpeaksAlone before after session → ⊥)
 
 -- the replies to lines above an ordinal stand from the page's place on
 pub record IsPage (visit : Visit) (page : Page) (n : ℕ) : Type 0 where

@@ -42,7 +42,7 @@ pub fn serve<R: BufRead, W: Write, T: Wait>(
     writer: &mut Watched<W>,
     bell: &Bell,
 ) -> (Pass, Result<(), SessionFault>)
-    requires gate { pass.gate ≡ gate.now.id }
+    requires gate { pass.gate ≡ gate.now }
     requires reader { reader.old.failed ≡ false }
     requires writer { writer.old.failed ≡ false }
     ensures follows { Follows pass result.0 }
@@ -66,7 +66,7 @@ pub fn serve_with<R: BufRead, W: Write, P: Pause, T: Wait>(
     bell: &Bell,
     pause: &P,
 ) -> (Pass, Result<(), SessionFault>)
-    requires gate { pass.gate ≡ gate.now.id }
+    requires gate { pass.gate ≡ gate.now }
     requires reader { reader.old.failed ≡ false }
     requires writer { writer.old.failed ≡ false }
     ensures follows { Follows pass result.0 }

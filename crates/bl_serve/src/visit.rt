@@ -100,7 +100,7 @@ impl<'a, P: Pause, T: Wait> Visitor<'a, P, T> {
 
     /// Takes a turn with each of these entries that may start.
     fn run(&self, pass: &mut Pass, entries: &[u32])
-        requires { pass.old.gate ≡ self.now.gate.now.id }
+        requires { pass.old.gate ≡ self.now.gate.now }
         ensures { KeepsQuiet pass.old pass.new }
     {
         let mut count = 0usize;
@@ -120,7 +120,7 @@ impl<'a, P: Pause, T: Wait> Visitor<'a, P, T> {
         session: SessionNo,
         after: u32,
     ) -> Result<Vec<Reply>, AllocError>
-        requires { pass.old.gate ≡ self.now.gate.now.id }
+        requires { pass.old.gate ≡ self.now.gate.now }
         ensures quiet { KeepsQuiet pass.old pass.new }
         ensures trail { HasTrail (hall_seen pass.new) }
         ensures told { IfOk result (λ replies. AreAnswers (state_seen pass.new) session after (map reply_of replies.items)) }

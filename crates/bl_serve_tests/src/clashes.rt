@@ -28,7 +28,7 @@ struct Intruder<'a, T> {
     work: Option<Work>,
     first: &'a [u8],
     rest: &'a [u8],
-    ghost same: { pass.gate ≡ gate.now.id },
+    ghost same: { pass.gate ≡ gate.now },
 }
 
 impl<T: Wait> Intruder<'_, T> {

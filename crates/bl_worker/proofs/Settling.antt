@@ -26,7 +26,7 @@ passes_on h t s (rest, e) legal =
 -- and from one moment of a pass to a later one
 pub passes_later : (p q : PassView) → Follows p q → HasTrail (hall_seen q) → Passes (state_seen p) (state_seen q)
 passes_later p q follows legal =
-    subst (λ (h : Chronicle). Passes (state_now (hall_with h p.seen)) (state_seen q)) follows.base (passes_on q.base q.seen p.seen follows.seen legal)
+    subst (λ (h : Chronicle). Passes (state_now (hall_with h p.seen)) (state_seen q)) follows.base (passes_on q.gate.base q.seen p.seen follows.seen legal)
 
 -- A call in the trail: the state before it, where the event may come, and the state after it, where it has.
 pub record Happened (event : Event) (Answered : State → Type 0) (after : State) : Type 0 where
@@ -38,10 +38,10 @@ pub record Happened (event : Event) (Answered : State → Type 0) (after : State
 
 pub happened : (p q : PassView) (event : Event) (Answered : State → Type 0) → Calls p event Answered q → Follows p q → HasTrail (hall_seen q) → Happened event Answered (state_seen q)
 happened p q event Answered call follows legal =
-    let h : Chronicle = hall_with p.base call.trail in
-    let is : hall_seen q ≡ hall_with p.base (call.trail ++ event ∷ []) = (λ i. hall_with (follows.base i) (call.seen i)) in
-    let whole : HasTrail (hall_with p.base (call.trail ++ event ∷ [])) = subst HasTrail is legal in
-    let x : State = start p.base.setup p.base.limit in
+    let h : Chronicle = hall_with p.gate.base call.trail in
+    let is : hall_seen q ≡ hall_with p.gate.base (call.trail ++ event ∷ []) = (λ i. hall_with (follows.base i) (call.seen i)) in
+    let whole : HasTrail (hall_with p.gate.base (call.trail ++ event ∷ [])) = subst HasTrail is legal in
+    let x : State = start p.gate.base.setup p.gate.base.limit in
     record {
       before = state_now h;
       sound = sound_at h (trail_front x call.trail (event ∷ []) whole);

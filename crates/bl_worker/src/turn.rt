@@ -31,7 +31,7 @@ pub enum Turn {
 
 /// Ends an entry that ran.
 fn finish<R: Wait>(rt: &R, gate: &Gate, pass: &mut Pass, done: Done) -> Turn
-    requires gate { pass.old.gate ≡ gate.now.id }
+    requires gate { pass.old.gate ≡ gate.now }
     requires held { HasLoanInHand pass.old done }
     ensures follows { Follows pass.old pass.new }
     ensures trail { HasTrail (hall_seen pass.new) }
@@ -47,7 +47,7 @@ fn finish<R: Wait>(rt: &R, gate: &Gate, pass: &mut Pass, done: Done) -> Turn
 
 /// Ends an entry that could not be run as lost.
 fn lose<R: Wait>(rt: &R, gate: &Gate, pass: &mut Pass, unrun: Unrun) -> Turn
-    requires gate { pass.old.gate ≡ gate.now.id }
+    requires gate { pass.old.gate ≡ gate.now }
     requires held { HasLoanInHand pass.old unrun }
     ensures follows { Follows pass.old pass.new }
     ensures trail { HasTrail (hall_seen pass.new) }
@@ -63,7 +63,7 @@ fn lose<R: Wait>(rt: &R, gate: &Gate, pass: &mut Pass, unrun: Unrun) -> Turn
 
 /// Ends an entry that could not be started as lost.
 fn lose_ready<R: Wait>(rt: &R, gate: &Gate, pass: &mut Pass, starved: Starved) -> Turn
-    requires { pass.old.gate ≡ gate.now.id }
+    requires { pass.old.gate ≡ gate.now }
     ensures follows { Follows pass.old pass.new }
     ensures trail { HasTrail (hall_seen pass.new) }
     ensures lines { AdmitsNoLine pass.old pass.new }
@@ -87,7 +87,7 @@ fn run<P: Pause, R: Wait>(
     pause: &P,
     lent: Lent,
 ) -> Turn
-    requires gate { pass.old.gate ≡ gate.now.id }
+    requires gate { pass.old.gate ≡ gate.now }
     requires held { HasLoanInHand pass.old lent }
     ensures follows { Follows pass.old pass.new }
     ensures trail { HasTrail (hall_seen pass.new) }
@@ -114,7 +114,7 @@ pub fn work_on<P: Pause, R: Wait>(
     pause: &P,
     n: u32,
 ) -> Turn
-    requires gate { pass.old.gate ≡ gate.now.id }
+    requires gate { pass.old.gate ≡ gate.now }
     ensures follows { Follows pass.old pass.new }
     ensures trail { HasTrail (hall_seen pass.new) }
     ensures lines { AdmitsNoLine pass.old pass.new }
@@ -140,7 +140,7 @@ pub fn work_once<P: Pause, R: Wait>(
     pass: &mut Pass,
     pause: &P,
 ) -> Turn
-    requires gate { pass.old.gate ≡ gate.now.id }
+    requires gate { pass.old.gate ≡ gate.now }
     ensures follows { Follows pass.old pass.new }
     ensures trail { HasTrail (hall_seen pass.new) }
     ensures lines { AdmitsNoLine pass.old pass.new }

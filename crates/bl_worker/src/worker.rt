@@ -38,7 +38,7 @@ pub fn run_worker<P: Pause, R: Wait>(
     pause: &P,
     bell: &Bell,
 )
-    requires gate { pass.old.gate ≡ gate.now.id }
+    requires gate { pass.old.gate ≡ gate.now }
     ensures follows { Follows pass.old pass.new }
     ensures lines { AdmitsNoLine pass.old pass.new }
     ensures settles { Settles pass.old pass.new }

@@ -3,6 +3,7 @@ use Rattle.std.specs.Prelude.{◌↔◌}
 use Rattle.bl_order.specs.Machine.{MayStart, Starts}
 use Rattle.bl_core.specs.declared.refusal.StartFault.TheVariants as start_fault
 use Rattle.bl_hall.specs.Chronicle.{Chronicle, state_now}
+use Rattle.bl_gate.specs.Gates.{GateId}
 use Rattle.bl_gate.specs.Turns.{Sat}
 use Rattle.bl_gate.proofs.Results.{both, always}
 use Rattle.bl_gate.proofs.Holding.{adds_by, ends_none, turned_keeps, start_is_no_end, gives_in_hand}
@@ -55,5 +56,5 @@ returns-clause-in_hand g c loan held =
 pub returns-clause-gives : goal.returns-clause-gives
 returns-clause-gives g c = both c.start-answer.result
     (λ begun _ h _.
-    gives_in_hand _ _ c.args.n begun (turned_calls _ _ _ _ (turn g c) _ _ h.1 h.0) (turned_follows _ _ _ _ (turn g c)).base (turned_legal _ _ _ _ (turn g c)))
+    gives_in_hand _ _ c.args.n begun (turned_calls _ _ _ _ (turn g c) _ _ h.1 h.0) (ap (λ (x : GateId). x.base) (turned_follows _ _ _ _ (turn g c)).gate) (turned_legal _ _ _ _ (turn g c)))
     (λ _ _ _ _. tt) c.start-answer.ensures.ok c.start-answer.ensures.ok
