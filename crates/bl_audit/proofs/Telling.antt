@@ -9,7 +9,7 @@ use Rattle.bl_setup.specs.Agreement.{Agree}
 use Rattle.bl_setup.specs.Setup.{Setup}
 use Rattle.bl_order.specs.Known.{KnowsAnswer, KnowsDenial}
 use Rattle.bl_order.specs.Machine.{State, has_ended, past_at}
-use Rattle.bl_wire.specs.Named.{NamesAnswer, NamesDenial}
+use Rattle.bl_wire.proofs.Naming.{names-denial}
 use Rattle.bl_trail.specs.StartWords.{NamesWords}
 use Rattle.bl_audit.specs.Comes.{words_later}
 use Rattle.bl_audit.proofs.Later.{told_of}
@@ -22,20 +22,6 @@ told-is None x n value some = go (has_ended x n) (λ h. true≢false (sym (some.
     go : (b : Bool) → (b ≡ true → ⊥) → ◌≡◌ {A = Option Answer} None (cond b (Some (past_at x n).answer) None)
     go false none = refl
     go true none = absurd (none refl)
-
-names-object : (s : Setup) → Agree s → (o : Option ℕ) → IfSome o (λ doc. doc < length s.policy.documents) → IfSome o (λ doc. doc < length s.names.documents)
-names-object s agree None known = tt
-names-object s agree (Some doc) known = omega (arith, agree.documents, known)
-
-names-denial : (s : Setup) → Agree s → (d : Denial) → KnowsDenial s d → NamesDenial s.names d
-names-denial s agree d known = record { subject = omega (arith, agree.subjects, known.subject); object = names-object s agree d.object known.object }
-
--- what an answer names has a name
-pub names-answer : (s : Setup) → Agree s → (a : Answer) → KnowsAnswer s a → NamesAnswer s.names a
-names-answer s agree (answer.Done shown) known = tt
-names-answer s agree answer.RuleDone known = tt
-names-answer s agree (answer.Denied d) known = names-denial s agree d known
-names-answer s agree answer.Lost known = tt
 
 pub names-told : (s : Setup) → Agree s → (r : Option (Bor Answer)) → IfSome r (λ a. KnowsAnswer s a.now) → NamesWords s.names (words_later (option_copied r))
 names-told s agree None known = tt

@@ -1,5 +1,7 @@
 //! The gate, and the calls of the hall through it.
-ghost use Rattle.std.specs.Prelude.{◌≡◌, ◌≢◌, ◌⊎◌, ◌+◌, ◌-◌, ◌<◌, ◌≤◌, ◌++◌, ◌∷◌, ◌↔◌, [], ℕ, IsTrue, IsSome, IsNone, IsOk, IfOk, IfErr, IfSome, OnOk, OnErr, None, length, map};
+ghost use Rattle.std.specs.Prelude.{◌≡◌, ◌≢◌, ◌⊎◌, All, ◌+◌, ◌-◌, ◌<◌, ◌≤◌, ◌++◌, ◌∷◌, ◌↔◌, [], ℕ, IsTrue, IsSome, IsNone, IsOk, IfOk, IfErr, IfSome, OnOk, OnErr, None, length, map};
+ghost use Rattle.bl_setup.specs.Agreement.{Agree};
+ghost use Rattle.bl_order.specs.Known.{KnowsAnswer};
 ghost use Rattle.bl_order.specs.Machine.{Opens, Admits, Starts, Ends, Loses, MayStart};
 ghost use Rattle.bl_core.specs.Answers.{IsCause, IsLentBy, IsNotOpened, IsStarted, IsStarvedBy};
 ghost use Rattle.bl_hall.specs.Chronicle.{Continues, HasTrail};
@@ -49,13 +51,20 @@ pub struct Gate {
 
 impl Model for Gate {
     ghost use Rattle.std.specs.Prelude.{◌≡◌};
+    ghost use Rattle.std.specs.Coded.{codes};
+    ghost use Rattle.bl_policy.specs.Codes.{matrix_code};
+    ghost use Rattle.bl_setup.specs.Agreement.{Agree};
+    ghost use Rattle.bl_hall.specs.EventCodes.{coded_event};
     ghost use Rattle.bl_gate.specs.Gates.{GateId};
 
     ghost Value = { GateId };
 
+    ghost coded = { Prim.hlevel (codes, matrix_code, coded_event) };
+
     ghost view = { λ gate. record { table = gate.table.shared.table_id; base = gate.table.shared.key.value } };
 
-    ghost invariant = { λ gate. (gate.table.shared.table_id.words ≡ 2) × (gate.table.shared.table_id.slots ≡ 1) × (gate.names ≡ gate.table.shared.key.value.setup.names) };
+    ghost invariant = { λ gate. (gate.table.shared.table_id.words ≡ 2) × (gate.table.shared.table_id.slots ≡ 1)
+        × (gate.names ≡ gate.table.shared.key.value.setup.names) × Agree gate.table.shared.key.value.setup };
 }
 
 /// There was no memory for a gate; the hall, as it was given.
@@ -108,9 +117,10 @@ impl Gate {
         }
     }
 
-    /// The names of the hall's setup.
+    /// The names of the hall's setup, which agrees with itself, as each that was read does.
     pub fn names(&self) -> &Names
-        ensures { result.now ≡ self.now.base.setup.names }
+        ensures value { result.now ≡ self.now.base.setup.names }
+        ensures agree { Agree self.now.base.setup }
     {
         &self.names
     }
@@ -355,7 +365,7 @@ impl Gate {
     }
 
     /// The replies to a session's lines above an ordinal, as the hall has them at that point of the trail; none exactly where an entry
-    /// of the session has not ended there. `Session` comes where the session is not open there, and `Memory` where a growth was
+    /// of the session has not ended there. What they name is in the setup. `Session` comes where the session is not open there, and `Memory` where a growth was
     /// refused.
     pub fn answers<R: Wait>(
         &self,
@@ -372,6 +382,7 @@ impl Gate {
         ensures open { IfOk result (λ _. session < length (state_seen pass.new).sessions) }
         ensures waits { IfOk result (λ found. IsNone found → Waits (state_seen pass.new) session) }
         ensures replies { IfOk result (λ found. IfSome found (λ replies. AreAnswers (state_seen pass.new) session after (map reply_of replies.items))) }
+        ensures known { IfOk result (λ found. IfSome found (λ replies. All (λ reply. KnowsAnswer (state_seen pass.new).setup reply.answer) replies.items)) }
         ensures fault { IfErr result (λ fault. IsUnanswered (state_seen pass.new) session fault) }
     {
         let _alone = self.come_in(rt);

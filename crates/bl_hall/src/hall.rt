@@ -49,6 +49,7 @@ impl Model for Hall {
 
 impl Hall {
     ghost use Rattle.std.specs.Prelude.{◌≡◌, ◌<◌, ◌≤◌, ◌↔◌, ℕ, IsTrue, IsSome, IsNone, IsOk, length, map, All, [], IfOk, OnErr, OnOk, IfErr, IfSome, MatchResult, MatchOption, Some, None, Ok, Err};
+    ghost use Rattle.bl_order.specs.Known.{KnowsAnswer};
     ghost use Rattle.bl_order.specs.Labels.{tag};
     ghost use Rattle.bl_order.specs.Machine.{Opens, Admits, Starts, Ends, Loses, MayStart, Needs, has_ended, runs};
     ghost use Rattle.bl_order.specs.TheHeadline.{IsTheHeadlineThroughout};
@@ -302,8 +303,8 @@ impl Hall {
     }
 
     /// The replies to all lines of a session whose ordinal is above `after`, with those to their descendants, in numeric order of
-    /// labels; `Ok(None)` exactly where an entry of the session has not ended. It takes time for these lines and their descendants
-    /// alone. `Session` comes where the session is not open, and `Memory` where a growth was refused.
+    /// labels; `Ok(None)` exactly where an entry of the session has not ended. What they name is in the setup. It takes time for these
+    /// lines and their descendants alone. `Session` comes where the session is not open, and `Memory` where a growth was refused.
     pub fn answers(
         &self,
         session: SessionNo,
@@ -312,6 +313,7 @@ impl Hall {
         ensures open { IfOk result (λ _. session < length (state_now self.now).sessions) }
         ensures waits { IfOk result (λ found. IsNone found → Waits (state_now self.now) session) }
         ensures replies { IfOk result (λ found. IfSome found (λ replies. AreAnswers (state_now self.now) session after (map reply_of replies.items))) }
+        ensures known { IfOk result (λ found. IfSome found (λ replies. All (λ reply. KnowsAnswer (state_now self.now).setup reply.answer) replies.items)) }
         ensures fault { IfErr result (λ fault. IsUnanswered (state_now self.now) session fault) }
     {
         let Some(places) = self.places(session, after)? else {
@@ -326,7 +328,8 @@ impl Hall {
     /// The replies to the entries of these places.
     fn replies(&self, places: &[u32]) -> Result<Vec<Reply>, AllocError>
         requires { All (λ n. IsTrue (has_ended (state_now self.now) n)) places.now }
-        ensures { IfOk result (λ replies. map reply_of replies.items ≡ map (reply_in (state_now self.now)) places.now) }
+        ensures are { IfOk result (λ replies. map reply_of replies.items ≡ map (reply_in (state_now self.now)) places.now) }
+        ensures known { IfOk result (λ replies. All (λ reply. KnowsAnswer (state_now self.now).setup reply.answer) replies.items) }
     {
         let mut replies = Vec::with_capacity(self.alloc, places.len())?;
         for n in places {

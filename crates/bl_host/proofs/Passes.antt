@@ -5,11 +5,11 @@ use Rattle.bl_gate.proofs.Trails.{begins_itself, begins_more}
 use Rattle.bl_host.specs.Crews.{Remains}
 
 pub remains_itself : (p : PassView) → Remains p p
-remains_itself p = record { gate = refl; base = refl; seen = begins_itself p.seen }
+remains_itself p = record { gate = refl; seen = begins_itself p.seen }
 
 pub remains_then : (p q r : PassView) → Remains p q → Remains q r → Remains p r
-remains_then p q r f g = record { gate = g.gate ∙ f.gate; base = g.base ∙ f.base; seen = begins_more r.seen q.seen p.seen g.seen f.seen }
+remains_then p q r f g = record { gate = g.gate ∙ f.gate; seen = begins_more r.seen q.seen p.seen g.seen f.seen }
 
 -- where its parts are back, it follows
 pub remains_follows : (p q : PassView) → Remains p q → q.parts ≡ p.parts → Follows p q
-remains_follows p q r e = record { gate = r.gate; base = r.base; parts = e; seen = r.seen }
+remains_follows p q r e = record { gate = r.gate; parts = e; seen = r.seen }

@@ -8,8 +8,7 @@ pub record IsPart (of : GateId) (pass : PassView) : Type 0 where
   pub gate : pass.gate ≡ of
   pub one : pass.parts ≡ 1
 
--- the same pass later, with any parts: of the same gate and hall, and it has seen all that it had seen
+-- the same pass later, with any parts: of the same gate, and it has seen all that it had seen
 pub record Remains (before after : PassView) : Type 0 where
   pub gate : after.gate ≡ before.gate
-  pub base : after.gate.base ≡ before.gate.base
   pub seen : StartsWith after.seen before.seen

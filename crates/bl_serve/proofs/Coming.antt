@@ -5,6 +5,7 @@ use Rattle.std.proofs.lemmas.List.Elements.{All-nil, All-weaker}
 use Rattle.bl_work.specs.Names.{KnownNames}
 use Rattle.bl_work.specs.Readable.{IsReadable}
 use Rattle.bl_work.specs.declared.work.Work.{Work}
+use Rattle.bl_setup.specs.Agreement.{Agree}
 use Rattle.bl_order.specs.Machine.{State, Opens, Admits, start}
 use Rattle.bl_core.specs.Answers.{IsCause}
 use Rattle.bl_core.specs.declared.refusal.Cause.{Cause}
@@ -56,12 +57,13 @@ from_first names first p q course told same t = record {
 }
 
 -- a visit that has just begun
-pub come_first : (gate : GateId) (first : PassView) (visit : Visit) → visit.pass.gate ≡ gate → first ≡ visit.pass → visit.session ≡ None → visit.last ≡ 0 → visit.told.items ≡ [] → visit.upto ≡ 0 → HasCome gate first visit []
-come_first gate first visit is same session last none upto = record {
+pub come_first : (gate : GateId) (first : PassView) (visit : Visit) → Agree gate.base.setup → visit.pass.gate ≡ gate → first ≡ visit.pass → visit.session ≡ None → visit.last ≡ 0 → visit.told.items ≡ [] → visit.upto ≡ 0 → HasCome gate first visit []
+come_first gate first visit agree is same session last none upto = record {
   own = record {
+    agree = agree;
     gate_is = is;
     follows = subst (λ p. Follows p visit.pass) (sym same) (follows_itself visit.pass);
-    told = subst (All (IsTold gate.names 0 visit.upto)) (sym none) (All-nil (IsTold gate.names 0 visit.upto));
+    told = subst (All (IsTold gate.base.setup.names 0 visit.upto)) (sym none) (All-nil (IsTold gate.base.setup.names 0 visit.upto));
     within = omega (arith, last, upto);
   };
   course = subst (λ o. HasTold gate first visit o []) (sym session) (record { none = refl; own = ap (λ p. p.own) (sym same); replies = none; last = last });
@@ -90,9 +92,10 @@ module _ (gate : GateId) (first : PassView) (old : Visit) where
 
   of_later : (new : Visit) → IsOf gate first old → Follows old.pass new.pass → new.told.items ≡ old.told.items → new.upto ≡ old.upto → old.upto ≤ new.last → IsOf gate first new
   of_later new own follows told upto within = record {
+    agree = own.agree;
     gate_is = follows.gate ∙ own.gate_is;
     follows = follows_then first old.pass new.pass own.follows follows;
-    told = subst (All (IsTold gate.names 0 new.upto)) (sym told) (subst (λ n. All (IsTold gate.names 0 n) old.told.items) (sym upto) own.told);
+    told = subst (All (IsTold gate.base.setup.names 0 new.upto)) (sym told) (subst (λ n. All (IsTold gate.base.setup.names 0 n) old.told.items) (sym upto) own.told);
     within = subst (λ n. n ≤ new.last) (sym upto) within;
   }
 
@@ -106,10 +109,10 @@ module _ (gate : GateId) (first : PassView) (old : Visit) where
       record {
         own = of_later new c.own follows told upto (subst (λ n. old.upto ≤ n) (sym last) c.own.within);
         course = subst (λ o. HasTold gate first new o (request.Opens u ∷ [])) (sym session)
-            (from_first gate.names first old.pass new.pass (course_of gate.names new s) (request.Opens u ∷ []) quiet.own
-            (subst (λ t. IsCourse gate.names old.pass new.pass t (request.Opens u ∷ []))
-            (λ i. record { session = s; last = sym (last ∙ quiet.last) i; upto = sym (upto ∙ zero_upto) i; replies = told_text gate.names new.told.items })
-            (course_opened gate.names old.pass new.pass s u (told_text gate.names new.told.items) legal follows.base call (ap (λ l. told_text gate.names l 0) items))));
+            (from_first gate.base.setup.names first old.pass new.pass (course_of gate.base.setup.names new s) (request.Opens u ∷ []) quiet.own
+            (subst (λ t. IsCourse gate.base.setup.names old.pass new.pass t (request.Opens u ∷ []))
+            (λ i. record { session = s; last = sym (last ∙ quiet.last) i; upto = sym (upto ∙ zero_upto) i; replies = told_text gate.base.setup.names new.told.items })
+            (course_opened gate.base.setup.names old.pass new.pass s u (told_text gate.base.setup.names new.told.items) legal (base_stays old.pass new.pass follows) call (ap (λ l. told_text gate.base.setup.names l 0) items))));
       }
 
   -- it was not opened
@@ -124,7 +127,7 @@ module _ (gate : GateId) (first : PassView) (old : Visit) where
       }
 
   module _ (s : ℕ) (session : old.session ≡ Some s) (told : List Request) (c : HasCome gate first old told) where
-    pub course_is : IsCourse gate.names first old.pass (course_of gate.names old s) told
+    pub course_is : IsCourse gate.base.setup.names first old.pass (course_of gate.base.setup.names old s) told
     course_is = subst (λ o. HasTold gate first old o told) session c.course
 
     -- it after_quiet
@@ -132,89 +135,93 @@ module _ (gate : GateId) (first : PassView) (old : Visit) where
     come_quiet new quiet same v upto last = record {
       own = of_later new c.own quiet.follows v upto (subst (λ n. old.upto ≤ n) (sym last) c.own.within);
       course = subst (λ o. HasTold gate first new o told) (sym (same ∙ session))
-          (subst (λ t. IsCourse gate.names first new.pass t told)
-          (λ i. record { session = s; last = sym last i; upto = sym upto i; replies = told_text gate.names (sym v i) })
-          (course_on old.pass new.pass quiet.follows (quiet.trail course_is.trail) gate.names first (course_of gate.names old s) told course_is quiet.lines));
+          (subst (λ t. IsCourse gate.base.setup.names first new.pass t told)
+          (λ i. record { session = s; last = sym last i; upto = sym upto i; replies = told_text gate.base.setup.names (sym v i) })
+          (course_on old.pass new.pass quiet.follows (quiet.trail course_is.trail) gate.base.setup.names first (course_of gate.base.setup.names old s) told course_is quiet.lines));
     }
 
     module _ (new : Visit) (k : ℕ) (w : Work) (lt : old.last < k) (follows : Follows old.pass new.pass) (legal : HasTrail (hall_seen new.pass))
         (same : new.session ≡ old.session) (v : new.told.items ≡ old.told.items) (upto : new.upto ≡ old.upto) where
       later : Course
-      later = record { session = s; last = k; upto = old.upto; replies = told_text gate.names old.told.items }
+      later = record { session = s; last = k; upto = old.upto; replies = told_text gate.base.setup.names old.told.items }
 
       -- a line was admitted
       pub come_asked : (A : State → Type 0) → Calls old.pass (Admits s k w) A new.pass → new.last ≡ k → HasCome gate first new (told ++ request.Admits k w ∷ [])
       come_asked A call last = record {
         own = of_later new c.own follows v upto (omega (arith, c.own.within, lt, last));
         course = subst (λ o. HasTold gate first new o (told ++ request.Admits k w ∷ [])) (sym (same ∙ session))
-            (subst (λ t. IsCourse gate.names first new.pass t (told ++ request.Admits k w ∷ []))
-            (λ i. record { session = s; last = sym last i; upto = sym upto i; replies = told_text gate.names (sym v i) })
-            (course_asked old.pass new.pass follows legal gate.names first (course_of gate.names old s) told course_is k w A lt c.own.within call));
+            (subst (λ t. IsCourse gate.base.setup.names first new.pass t (told ++ request.Admits k w ∷ []))
+            (λ i. record { session = s; last = sym last i; upto = sym upto i; replies = told_text gate.base.setup.names (sym v i) })
+            (course_asked old.pass new.pass follows legal gate.base.setup.names first (course_of gate.base.setup.names old s) told course_is k w A lt c.own.within call));
       }
 
       -- a line was refused
       module _ (own : new.pass.own ≡ old.pass.own) where
-        after_quiet : IsCourse gate.names first new.pass (course_of gate.names old s) told
-        after_quiet = course_on old.pass new.pass follows legal gate.names first (course_of gate.names old s) told course_is (admits_itself old.pass new.pass own)
+        after_quiet : IsCourse gate.base.setup.names first new.pass (course_of gate.base.setup.names old s) told
+        after_quiet = course_on old.pass new.pass follows legal gate.base.setup.names first (course_of gate.base.setup.names old s) told course_is (admits_itself old.pass new.pass own)
 
         -- for want of room
         pub come_full : IsCause (state_seen new.pass) s k w cause.Full → new.last ≡ k → HasCome gate first new (told ++ request.Admits k w ∷ [])
         come_full is last = record {
           own = of_later new c.own follows v upto (omega (arith, c.own.within, lt, last));
           course = subst (λ o. HasTold gate first new o (told ++ request.Admits k w ∷ [])) (sym (same ∙ session))
-              (subst (λ t. IsCourse gate.names first new.pass t (told ++ request.Admits k w ∷ []))
-              (λ i. record { session = s; last = sym last i; upto = sym upto i; replies = told_text gate.names (sym v i) })
-              (course_full gate.names first new.pass (course_of gate.names old s) told after_quiet k w lt is.3));
+              (subst (λ t. IsCourse gate.base.setup.names first new.pass t (told ++ request.Admits k w ∷ []))
+              (λ i. record { session = s; last = sym last i; upto = sym upto i; replies = told_text gate.base.setup.names (sym v i) })
+              (course_full gate.base.setup.names first new.pass (course_of gate.base.setup.names old s) told after_quiet k w lt is.3));
         }
 
         -- the pass opened the session, and spoke for no other one
         pub own_here : IsOwn first new.pass s
-        own_here = is_own gate.names first new.pass (course_of gate.names old s) told after_quiet
+        own_here = is_own gate.base.setup.names first new.pass (course_of gate.base.setup.names old s) told after_quiet
+
+        names : gate.base.setup.names ≡ new.pass.gate.base.setup.names
+        names = sym (ap (λ (g : GateId). g.base.setup.names) (follows.gate ∙ c.own.gate_is))
 
         -- for another cause: then another pass spoke for the session
-        pub spoken_for : (why : Cause) → IsCause (state_seen new.pass) s k w why → (why ≡ cause.Full → ⊥) → IsReadable gate.names w
-            → gate.names ≡ new.pass.gate.base.setup.names → SpeaksAlone first new.pass s → ⊥
-        spoken_for cause.Stranger is other readable names alone = is (subst (λ n. IsReadable n w) (names ∙ sym (ap (λ m. m.names) (setup_after (start new.pass.gate.base.setup new.pass.gate.base.limit) new.pass.seen))) readable)
-        spoken_for cause.Session is other readable names alone = let there = after_quiet.there in omega (arith, is.1, there)
-        spoken_for cause.Ordinal is other readable names alone =
-            let h = heard gate.names first new.pass (course_of gate.names old s) told after_quiet names alone in
+        pub spoken_for : (why : Cause) → IsCause (state_seen new.pass) s k w why → (why ≡ cause.Full → ⊥) → IsReadable gate.base.setup.names w
+            → SpeaksAlone first new.pass s → ⊥
+        spoken_for cause.Stranger is other readable alone = is (subst (λ n. IsReadable n w) (names ∙ sym (ap (λ m. m.names) (setup_after (start new.pass.gate.base.setup new.pass.gate.base.limit) new.pass.seen))) readable)
+        spoken_for cause.Session is other readable alone = let there = after_quiet.there in omega (arith, is.1, there)
+        spoken_for cause.Ordinal is other readable alone =
+            let h = heard gate.base.setup.names first new.pass (course_of gate.base.setup.names old s) told after_quiet names alone in
             let low = last_low (start new.pass.gate.base.setup new.pass.gate.base.limit) new.pass.seen s old.last (omega arith)
             (subst (All (λ (a : ℕ × Work). a.0 ≤ old.last)) (sym h.lines) after_quiet.admits.works_low)
             in
             omega (arith, is.2, low, lt)
-        spoken_for cause.Full is other readable names alone = other refl
+        spoken_for cause.Full is other readable alone = other refl
 
     -- its lines were answered
-    pub come_settled : GoByLines → (new : Visit) (more : List owned.Reply) (ordinal : ℕ) → KeepsQuiet old.pass new.pass → HasTrail (hall_seen new.pass) → AreAnswers (state_seen new.pass) s old.upto (map reply_of more)
-        → All (IsTold gate.names old.upto ordinal) more → old.last ≤ ordinal → new.session ≡ old.session → new.told.items ≡ old.told.items ++ more → new.upto ≡ ordinal → new.last ≡ ordinal
+    pub come_settled : GoByLines → (new : Visit) (more all : List owned.Reply) (ordinal : ℕ) → KeepsQuiet old.pass new.pass → HasTrail (hall_seen new.pass) → AreAnswers (state_seen new.pass) s old.upto (map reply_of all)
+        → ((k : ℕ) → k ≤ ordinal → line_of k more ≡ line_of k all) → All (IsTold gate.base.setup.names old.upto ordinal) more → old.last ≤ ordinal → new.session ≡ old.session → new.told.items ≡ old.told.items ++ more → new.upto ≡ ordinal → new.last ≡ ordinal
         → HasCome gate first new (told ++ request.Settles ∷ [])
-    come_settled by_lines new more ordinal quiet legal answers are le same items upto last = record {
+    come_settled by_lines new more all ordinal quiet legal answers cut are le same items upto last = record {
       own = record {
+        agree = c.own.agree;
         gate_is = quiet.follows.gate ∙ c.own.gate_is;
         follows = follows_then first old.pass new.pass c.own.follows quiet.follows;
-        told = subst (λ n. All (IsTold gate.names 0 n) new.told.items) (sym upto) (subst (All (IsTold gate.names 0 ordinal)) (sym items)
-            (told_on gate.names old.upto ordinal old.told.items more (omega (arith, c.own.within, le)) c.own.told are));
+        told = subst (λ n. All (IsTold gate.base.setup.names 0 n) new.told.items) (sym upto) (subst (All (IsTold gate.base.setup.names 0 ordinal)) (sym items)
+            (told_on gate.base.setup.names old.upto ordinal old.told.items more (omega (arith, c.own.within, le)) c.own.told are));
         within = omega (arith, upto, last);
       };
       course = subst (λ o. HasTold gate first new o (told ++ request.Settles ∷ [])) (sym (same ∙ session))
-          (subst (λ t. IsCourse gate.names first new.pass t (told ++ request.Settles ∷ []))
-          (λ i. record { session = s; last = sym last i; upto = sym upto i; replies = told_text gate.names new.told.items })
-          (course_settled gate.names first new.pass (course_of gate.names old s) told after_quiet ordinal (told_text gate.names new.told.items) le answers.waits
+          (subst (λ t. IsCourse gate.base.setup.names first new.pass t (told ++ request.Settles ∷ []))
+          (λ i. record { session = s; last = sym last i; upto = sym upto i; replies = told_text gate.base.setup.names new.told.items })
+          (course_settled gate.base.setup.names first new.pass (course_of gate.base.setup.names old s) told after_quiet ordinal (told_text gate.base.setup.names new.told.items) le answers.waits
           (λ names was k low. either_side names was k low (below_or_not k old.upto))));
     }
       where
-        after_quiet : IsCourse gate.names first new.pass (course_of gate.names old s) told
-        after_quiet = course_on old.pass new.pass quiet.follows legal gate.names first (course_of gate.names old s) told course_is quiet.lines
+        after_quiet : IsCourse gate.base.setup.names first new.pass (course_of gate.base.setup.names old s) told
+        after_quiet = course_on old.pass new.pass quiet.follows legal gate.base.setup.names first (course_of gate.base.setup.names old s) told course_is quiet.lines
 
         below_or_not : (a b : ℕ) → (a ≤ b) ⊎ (b < a)
         below_or_not a b = grind arith
 
-        either_side : gate.names ≡ new.pass.gate.base.setup.names → SameUpTo old.upto (told_text gate.names old.told.items) (line_text (state_seen new.pass) s)
-            → (k : ℕ) → k ≤ ordinal → (k ≤ old.upto) ⊎ (old.upto < k) → line_text (state_seen new.pass) s k ≡ told_text gate.names new.told.items k
+        either_side : gate.base.setup.names ≡ new.pass.gate.base.setup.names → SameUpTo old.upto (told_text gate.base.setup.names old.told.items) (line_text (state_seen new.pass) s)
+            → (k : ℕ) → k ≤ ordinal → (k ≤ old.upto) ⊎ (old.upto < k) → line_text (state_seen new.pass) s k ≡ told_text gate.base.setup.names new.told.items k
         either_side names was k low (inl before) =
-            was k before ∙ sym (ap (λ l. told_text gate.names l k) items ∙ text_stays gate.names old.upto ordinal old.upto old.told.items more (omega arith) are k before)
+            was k before ∙ sym (ap (λ l. told_text gate.base.setup.names l k) items ∙ text_stays gate.base.setup.names old.upto ordinal old.upto old.told.items more (omega arith) are k before)
         either_side names was k low (inr after) =
-            sym (ap (λ l. told_text gate.names l k) items
-            ∙ (ap (λ l. line_or_full gate.names k (map reply_of (front k l))) (behind_old old.told.items more k (All-weaker (IsTold gate.names 0 old.upto) (λ r. ordinal_of r < k) (λ r is. omega (arith, is.high, after)) old.told.items c.own.told))
+            sym (ap (λ l. told_text gate.base.setup.names l k) items
+            ∙ (ap (λ l. line_or_full gate.base.setup.names k (map reply_of (front k l))) (behind_old old.told.items more k (All-weaker (IsTold gate.base.setup.names 0 old.upto) (λ r. ordinal_of r < k) (λ r is. omega (arith, is.high, after)) old.told.items c.own.told))
             ∙ (ap (λ n. line_or_full n k (map reply_of (line_of k more))) (names ∙ sym (ap (λ m. m.names) (setup_after (start new.pass.gate.base.setup new.pass.gate.base.limit) new.pass.seen)))
-            ∙ block_text by_lines (state_seen new.pass) s more old.upto k after answers)))
+            ∙ (ap (λ l. line_or_full (state_seen new.pass).setup.names k (map reply_of l)) (cut k low) ∙ block_text by_lines (state_seen new.pass) s all old.upto k after answers))))

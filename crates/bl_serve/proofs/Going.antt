@@ -16,6 +16,7 @@ use Rattle.bl_hall.specs.Told.{AreAnswers, Waits, reply_of}
 use Rattle.bl_hall.specs.declared.reply.Reply as owned
 use Rattle.bl_gate.specs.Counts.{times}
 use Rattle.bl_gate.specs.Gates.{PassView, Calls, Follows, hall_seen, hall_with, state_seen}
+use Rattle.bl_gate.proofs.Following.{base_stays}
 use Rattle.bl_gate.proofs.Totals.{times-append}
 use Rattle.bl_gate.proofs.Trails.{begins_length, begins_more, get_later, get_sooner}
 use Rattle.bl_worker.specs.Turns.{AdmitsNoLine}
@@ -71,7 +72,7 @@ opening_on : (p q : PassView) (g h : List ℕ) (session u : ℕ) → Follows p q
 opening_on p q g h session u follows o = record {
   front = o.front;
   there = begins_more q.seen p.seen (o.front ++ Opens u ∷ []) follows.seen o.there;
-  number = o.number ∙ ap (λ (b : Chronicle). length (state_now (hall_with b o.front)).sessions) (sym follows.base);
+  number = o.number ∙ ap (λ (b : Chronicle). length (state_now (hall_with b o.front)).sessions) (sym (base_stays p q follows));
   own = more_times (length o.front) g h o.own;
 }
 
@@ -114,7 +115,7 @@ module _ (p q : PassView) (follows : Follows p q) (legal : HasTrail (hall_seen q
   rest = follows.seen.0
 
   hall_is : hall_seen q ≡ hall_with p.gate.base (p.seen ++ rest)
-  hall_is = λ i. hall_with (follows.base i) (follows.seen.1 i)
+  hall_is = λ i. hall_with (base_stays p q follows i) (follows.seen.1 i)
 
   pub state_is : state_seen q ≡ state_after (state_seen p) follows.seen.0
   state_is = ap state_now hall_is ∙ after_parts (start p.gate.base.setup p.gate.base.limit) p.seen rest
@@ -131,7 +132,7 @@ module _ (p q : PassView) (follows : Follows p q) (legal : HasTrail (hall_seen q
   kept_weight : KeepsWeight (state_seen p) (state_seen q)
   kept_weight = subst (KeepsWeight (state_seen p)) (sym state_is) (weights_kept (state_seen p) rest)
 
-  kept_session : (session : ℕ) → session < length (state_seen p).sessions → KeepsSession (state_seen p) (state_seen q) session
+  pub kept_session : (session : ℕ) → session < length (state_seen p).sessions → KeepsSession (state_seen p) (state_seen q) session
   kept_session session lt = subst (λ y. KeepsSession (state_seen p) y session) (sym state_is) (sessions_kept (state_seen p) rest session lt)
 
   -- what was heard is heard still, with the lines that came
@@ -149,7 +150,7 @@ module _ (p q : PassView) (follows : Follows p q) (legal : HasTrail (hall_seen q
 
   module _ (names : KnownNames) (first : PassView) (course : Course) (told : List Request) (t : IsCourse names first p course told) where
     names_then : names ≡ q.gate.base.setup.names → names ≡ p.gate.base.setup.names
-    names_then e = e ∙ ap (λ (h : Chronicle). h.setup.names) follows.base
+    names_then e = e ∙ ap (λ (h : Chronicle). h.setup.names) (base_stays p q follows)
 
     length_on : length p.seen ≤ length q.seen
     length_on = begins_length q.seen p.seen follows.seen

@@ -8,6 +8,8 @@ mod Going
 mod Transcribing
 mod Quiet
 mod VisitLaws
+mod Cutting
 mod Coming
+mod Asking
 mod OutcomeLaws
 mod Speaking

@@ -105,49 +105,58 @@ only_settles : (turns : List Turn) (n : ℕ) → told_by turns ≡ replicate n r
 only_settles turns zero is = is
 only_settles turns (suc n) is = absurd (true≢false (sym (ap is_settles is) ∙ not_settles turns))
 
+names_here : {gate other : GateId} → gate ≡ other → gate.base.setup.names ≡ other.base.setup.names
+names_here same = ap (λ (g : GateId). g.base.setup.names) same
+
 module _ (gate : GateId) (at_first : PassView) (visit : Visit) where
   abbrev replies : ℕ → List ℕ
-  replies = told_text gate.names visit.told.items
+  replies = told_text gate.base.setup.names visit.told.items
 
   -- all lines were told, and settled
-  whole : (turns : List Turn) → HasCome gate at_first visit (told_by turns) → IsTranscribed gate.names at_first visit.pass turns (session_text (told_text gate.names visit.told.items) turns)
+  whole : (turns : List Turn) → HasCome gate at_first visit (told_by turns) → IsTranscribed at_first visit.pass turns (session_text (told_text gate.base.setup.names visit.told.items) turns)
   whole turns c = go visit.session c.course
     where
-      go : (o : Option ℕ) → HasTold gate at_first visit o (told_by turns) → IsTranscribed gate.names at_first visit.pass turns (session_text (told_text gate.names visit.told.items) turns)
-      go None course = inl (course.none, course.own, nothing_told visit.pass (told_text gate.names visit.told.items) turns course.none)
+      is : gate.base.setup.names ≡ visit.pass.gate.base.setup.names
+      is = sym (names_here c.own.gate_is)
+
+      go : (o : Option ℕ) → HasTold gate at_first visit o (told_by turns) → IsTranscribed at_first visit.pass turns (session_text (told_text gate.base.setup.names visit.told.items) turns)
+      go None course = inl (course.none, course.own, nothing_told visit.pass (told_text gate.base.setup.names visit.told.items) turns course.none)
       go (Some s) course = inr (
         s,
-        is_own gate.names at_first visit.pass (course_of gate.names visit s) (told_by turns) course,
-        λ is alone.
+        is_own gate.base.setup.names at_first visit.pass (course_of gate.base.setup.names visit s) (told_by turns) course,
+        λ alone.
             subst (IsTranscript visit.pass.gate.base.setup visit.pass.gate.base.limit visit.pass.seen s turns)
-            (sym (written_is gate.names at_first visit.pass (course_of gate.names visit s) (told_by turns) course is alone turns refl))
-            (transcribed gate.names at_first visit.pass (course_of gate.names visit s) (told_by turns) course is alone turns 0 (sym (append-nil (told_by turns)))),
+            (sym (written_is gate.base.setup.names at_first visit.pass (course_of gate.base.setup.names visit s) (told_by turns) course is alone turns refl))
+            (transcribed gate.base.setup.names at_first visit.pass (course_of gate.base.setup.names visit s) (told_by turns) course is alone turns 0 (sym (append-nil (told_by turns)))),
       )
 
   -- a first part was written
   in_part : (heard : List Turn) (told : List Request) (settles upto : ℕ) (written : List ℕ) → HasCome gate at_first visit told → told_by heard ≡ told ++ replicate settles request.Settles → upto ≤ visit.upto
-      → ((later : ℕ → List ℕ) → SameUpTo upto (told_text gate.names visit.told.items) later → Begins written (session_text later heard)) → IsTranscribedInPart gate.names at_first visit.pass heard written
+      → ((later : ℕ → List ℕ) → SameUpTo upto (told_text gate.base.setup.names visit.told.items) later → Begins written (session_text later heard)) → IsTranscribedInPart at_first visit.pass heard written
   in_part heard told settles upto written c by le begins = go visit.session c.course
     where
-      go : (o : Option ℕ) → HasTold gate at_first visit o told → IsTranscribedInPart gate.names at_first visit.pass heard written
+      is : gate.base.setup.names ≡ visit.pass.gate.base.setup.names
+      is = sym (names_here c.own.gate_is)
+
+      go : (o : Option ℕ) → HasTold gate at_first visit o told → IsTranscribedInPart at_first visit.pass heard written
       go None course =
           let none = only_settles heard settles (by ∙ ap (λ l. l ++ replicate settles request.Settles) course.none) in
           inl (
             none,
             course.own,
             (
-              session_text (told_text gate.names visit.told.items) heard,
-              nothing_told visit.pass (told_text gate.names visit.told.items) heard none,
-              begins (told_text gate.names visit.told.items) (λ k low. refl),
+              session_text (told_text gate.base.setup.names visit.told.items) heard,
+              nothing_told visit.pass (told_text gate.base.setup.names visit.told.items) heard none,
+              begins (told_text gate.base.setup.names visit.told.items) (λ k low. refl),
             ),
           )
       go (Some s) course = inr (
         s,
-        is_own gate.names at_first visit.pass (course_of gate.names visit s) told course,
-        λ is alone. (
+        is_own gate.base.setup.names at_first visit.pass (course_of gate.base.setup.names visit s) told course,
+        λ alone. (
           session_text (line_text (state_seen visit.pass) s) heard,
-          transcribed gate.names at_first visit.pass (course_of gate.names visit s) told course is alone heard settles by,
-          begins (line_text (state_seen visit.pass) s) (λ k low. replies_are gate.names at_first visit.pass (course_of gate.names visit s) told course is alone k (omega (arith, low, le))),
+          transcribed gate.base.setup.names at_first visit.pass (course_of gate.base.setup.names visit s) told course is alone heard settles by,
+          begins (line_text (state_seen visit.pass) s) (λ k low. replies_are gate.base.setup.names at_first visit.pass (course_of gate.base.setup.names visit s) told course is alone k (omega (arith, low, le))),
         ),
       )
 
@@ -158,52 +167,52 @@ module _ (gate : GateId) (at_first : PassView) (visit : Visit) where
 
 module _ (gate : GateId) (at_first before : PassView) (visit : Visit) (e : Ends) (same : at_first ≡ before) where
   abbrev pub seen : View
-  seen = record { replies = told_text gate.names visit.told.items; settled = λ n. n ≤ visit.upto; came = HasCome gate at_first visit }
+  seen = record { replies = told_text gate.base.setup.names visit.told.items; settled = λ n. n ≤ visit.upto; came = HasCome gate at_first visit }
 
-  named : (told : List Request) → HasCome gate at_first visit told → All (λ (r : Reply). NamesAnswer gate.names r.answer) visit.told.items
-  named told c = all_named gate.names visit.upto visit.told.items c.own.told
+  named : (told : List Request) → HasCome gate at_first visit told → All (λ (r : Reply). NamesAnswer gate.base.setup.names r.answer) visit.told.items
+  named told c = all_named gate.base.setup.names visit.upto visit.told.items c.own.told
 
-  served_here : Finished gate.names e seen ⊎ (IsCrowded visit.pass × TurnedAway gate.names e seen (refused_sessions ++ bye_line))
-      → (told : List Reply) × All (λ (r : Reply). NamesAnswer gate.names r.answer) told
-      × (((f : Finished gate.names e (replies_alone (told_text gate.names told))) × IsTranscribed gate.names before visit.pass f.turns (session_text (told_text gate.names told) f.turns))
-      ⊎ ((a : TurnedAway gate.names e (replies_alone (told_text gate.names told)) (refused_sessions ++ bye_line)) × (visit.pass.own ≡ before.own) × IsSeen visit.pass 0 a.turns (refused_sessions ++ bye_line)))
+  served_here : Finished gate.base.setup.names e seen ⊎ (IsCrowded visit.pass × TurnedAway gate.base.setup.names e seen (refused_sessions ++ bye_line))
+      → (told : List Reply) × All (λ (r : Reply). NamesAnswer gate.base.setup.names r.answer) told
+      × (((f : Finished gate.base.setup.names e (replies_alone (told_text gate.base.setup.names told))) × IsTranscribed before visit.pass f.turns (session_text (told_text gate.base.setup.names told) f.turns))
+      ⊎ ((a : TurnedAway gate.base.setup.names e (replies_alone (told_text gate.base.setup.names told)) (refused_sessions ++ bye_line)) × (visit.pass.own ≡ before.own) × IsSeen visit.pass 0 a.turns (refused_sessions ++ bye_line)))
   served_here (inl f) = (
     visit.told.items,
     named (told_by f.turns) f.came,
     inl (
-      finished_plain gate.names e seen f,
-      subst (λ (p : PassView). IsTranscribed gate.names p visit.pass f.turns (session_text (told_text gate.names visit.told.items) f.turns)) same (whole gate at_first visit f.turns f.came),
+      finished_plain gate.base.setup.names e seen f,
+      subst (λ (p : PassView). IsTranscribed p visit.pass f.turns (session_text (told_text gate.base.setup.names visit.told.items) f.turns)) same (whole gate at_first visit f.turns f.came),
     ),
   )
   served_here (inr a) = (
     visit.told.items,
     named [] a.1.came,
     inr (
-      away_plain gate.names e seen (refused_sessions ++ bye_line) a.1,
+      away_plain gate.base.setup.names e seen (refused_sessions ++ bye_line) a.1,
       (silent gate at_first visit a.1.came).1.own ∙ ap (λ (p : PassView). p.own) same,
       crowded gate at_first visit a.1.subject a.1.turns a.0 a.1.opened,
     ),
   )
 
   cut_here : (fault : SessionFault) (read_failed write_failed : Bool)
-      → Stopped fault gate.names e read_failed write_failed seen ⊎ (IsCrowded visit.pass × TurnedAwayInPart fault gate.names e read_failed write_failed seen (refused_sessions ++ bye_line))
-      → (told : List Reply) × All (λ (r : Reply). NamesAnswer gate.names r.answer) told
-      × (((s : Stopped fault gate.names e read_failed write_failed (replies_alone (told_text gate.names told))) × IsTranscribedInPart gate.names before visit.pass s.heard s.written)
-      ⊎ ((a : TurnedAwayInPart fault gate.names e read_failed write_failed (replies_alone (told_text gate.names told)) (refused_sessions ++ bye_line))
+      → Stopped fault gate.base.setup.names e read_failed write_failed seen ⊎ (IsCrowded visit.pass × TurnedAwayInPart fault gate.base.setup.names e read_failed write_failed seen (refused_sessions ++ bye_line))
+      → (told : List Reply) × All (λ (r : Reply). NamesAnswer gate.base.setup.names r.answer) told
+      × (((s : Stopped fault gate.base.setup.names e read_failed write_failed (replies_alone (told_text gate.base.setup.names told))) × IsTranscribedInPart before visit.pass s.heard s.written)
+      ⊎ ((a : TurnedAwayInPart fault gate.base.setup.names e read_failed write_failed (replies_alone (told_text gate.base.setup.names told)) (refused_sessions ++ bye_line))
       × (visit.pass.own ≡ before.own) × IsSeen visit.pass 0 a.part.turns (refused_sessions ++ bye_line)))
   cut_here fault read_failed write_failed (inl s) = (
     visit.told.items,
     named s.told s.came,
     inl (
-      stopped_plain gate.names e seen fault read_failed write_failed s,
-      subst (λ (p : PassView). IsTranscribedInPart gate.names p visit.pass s.heard s.written) same (in_part gate at_first visit s.heard s.told s.settles s.upto s.written s.came s.told_is s.settled s.begins),
+      stopped_plain gate.base.setup.names e seen fault read_failed write_failed s,
+      subst (λ (p : PassView). IsTranscribedInPart p visit.pass s.heard s.written) same (in_part gate at_first visit s.heard s.told s.settles s.upto s.written s.came s.told_is s.settled s.begins),
     ),
   )
   cut_here fault read_failed write_failed (inr a) = (
     visit.told.items,
     named [] a.1.part.came,
     inr (
-      away_part_plain gate.names e seen fault read_failed write_failed (refused_sessions ++ bye_line) a.1,
+      away_part_plain gate.base.setup.names e seen fault read_failed write_failed (refused_sessions ++ bye_line) a.1,
       (silent gate at_first visit a.1.part.came).1.own ∙ ap (λ (p : PassView). p.own) same,
       crowded gate at_first visit a.1.part.subject a.1.part.turns a.0 a.1.part.opened,
     ),
@@ -215,22 +224,22 @@ speaks_then gate at_first visit told c = go visit.session c.course
   where
     go : (o : Option ℕ) → HasTold gate at_first visit o told → SpeaksForItsOwn at_first visit.pass
     go None course = speaks_for_none at_first visit.pass course.own
-    go (Some s) course = speaks gate.names at_first visit.pass (course_of gate.names visit s) told course
+    go (Some s) course = speaks gate.base.setup.names at_first visit.pass (course_of gate.base.setup.names visit s) told course
 
-module _ (names : KnownNames) (gate : GateId) (at_first before : PassView) (visit : Visit) (start rest first kept : Option (List ℕ)) (read_failed write_failed : Bool) (is : names ≡ gate.names) (same : at_first ≡ before) where
+module _ (names : KnownNames) (gate : GateId) (at_first before : PassView) (visit : Visit) (start rest first kept : Option (List ℕ)) (read_failed write_failed : Bool) (is : names ≡ gate.base.setup.names) (same : at_first ≡ before) where
   abbrev there : Ends
   there = ends start rest first kept
 
   pub served : Finished names (ends start rest first kept) (seen gate at_first before visit (ends start rest first kept) same)
       ⊎ (IsCrowded visit.pass × TurnedAway names (ends start rest first kept) (seen gate at_first before visit (ends start rest first kept) same) (refused_sessions ++ bye_line))
-      → IsServed gate.names before visit.pass (record { before = start; after = rest; failed = read_failed }) (record { before = first; after = kept; failed = write_failed })
+      → IsServed gate.base.setup.names before visit.pass (record { before = start; after = rest; failed = read_failed }) (record { before = first; after = kept; failed = write_failed })
   served ended = served_here gate at_first before visit there same
       (subst (λ (n : KnownNames). Finished n there (seen gate at_first before visit there same) ⊎ (IsCrowded visit.pass × TurnedAway n there (seen gate at_first before visit there same) (refused_sessions ++ bye_line))) is ended)
 
   pub cut_short : (fault : SessionFault)
       → Stopped fault names (ends start rest first kept) read_failed write_failed (seen gate at_first before visit (ends start rest first kept) same)
       ⊎ (IsCrowded visit.pass × TurnedAwayInPart fault names (ends start rest first kept) read_failed write_failed (seen gate at_first before visit (ends start rest first kept) same) (refused_sessions ++ bye_line))
-      → IsCutShort gate.names before visit.pass fault (record { before = start; after = rest; failed = read_failed }) (record { before = first; after = kept; failed = write_failed })
+      → IsCutShort gate.base.setup.names before visit.pass fault (record { before = start; after = rest; failed = read_failed }) (record { before = first; after = kept; failed = write_failed })
   cut_short fault ended = cut_here gate at_first before visit there same fault read_failed write_failed
       (subst (λ (n : KnownNames). Stopped fault n there read_failed write_failed (seen gate at_first before visit there same)
       ⊎ (IsCrowded visit.pass × TurnedAwayInPart fault n there read_failed write_failed (seen gate at_first before visit there same) (refused_sessions ++ bye_line))) is ended)

@@ -25,7 +25,7 @@ module _ (x : State) (session : ℕ) where
       go false is rest = rest
 
   -- the replies above an ordinal are to lines above it
-  above_line : (a n : ℕ) → Lines (λ h. a < h) (replies_above x session a n)
+  pub above_line : (a n : ℕ) → Lines (λ h. a < h) (replies_above x session a n)
   above_line a zero = tt
   above_line a (suc n) = go (is_above session a (tag x.order n)) refl (above_line a n)
     where

@@ -22,7 +22,7 @@ not_low n k le = grind (arith, nat_tests)
 is_same : (n k : ℕ) → n ≡ k → (n == k) ≡ true
 is_same n k e = grind (arith, nat_tests)
 
-not_same : (n k : ℕ) → n ≢ k → (n == k) ≡ false
+pub not_same : (n k : ℕ) → n ≢ k → (n == k) ≡ false
 not_same n k e = grind (arith, nat_tests)
 
 -- ---- behind the replies to lines below an ordinal
@@ -30,7 +30,7 @@ not_same n k e = grind (arith, nat_tests)
 passes : (k : ℕ) (r : owned.Reply) (told : List owned.Reply) → ordinal_of r < k → behind k (r ∷ told) ≡ behind k told
 passes k r told lt = ap (λ (b : Bool). if b then behind k told else r ∷ told) (is_low (ordinal_of r) k lt)
 
-stays : (k : ℕ) (r : owned.Reply) (told : List owned.Reply) → k ≤ ordinal_of r → behind k (r ∷ told) ≡ r ∷ told
+pub stays : (k : ℕ) (r : owned.Reply) (told : List owned.Reply) → k ≤ ordinal_of r → behind k (r ∷ told) ≡ r ∷ told
 stays k r told le = ap (λ (b : Bool). if b then behind k told else r ∷ told) (not_low (ordinal_of r) k le)
 
 -- one place on

@@ -29,23 +29,21 @@ abbrev pub IsSeen : PassView → ℕ → List Turn → List ℕ → Type 0
 IsSeen pass session turns text = IsTranscript pass.gate.base.setup pass.gate.base.limit pass.seen session turns text
 
 -- What was written for these lines is a transcript of them by all that the pass has seen. They tell nothing, and the pass has gained
--- nothing; or it is of the session that the pass opened, where no other pass spoke for that and the names are the hall's.
-abbrev pub IsTranscribed : KnownNames → (before after : PassView) → List Turn → List ℕ → Type 0
-IsTranscribed names before after turns text =
+-- nothing; or it is of the session that the pass opened, where no other pass spoke for that.
+abbrev pub IsTranscribed : (before after : PassView) → List Turn → List ℕ → Type 0
+IsTranscribed before after turns text =
     ((told_by turns ≡ []) × (after.own ≡ before.own) × IsSeen after 0 turns text)
-    ⊎ ((session : ℕ) × IsOwn before after session
-    × (names ≡ after.gate.base.setup.names → SpeaksAlone before after session → IsSeen after session turns text))
+    ⊎ ((session : ℕ) × IsOwn before after session × (SpeaksAlone before after session → IsSeen after session turns text))
 
 -- it begins one
 abbrev pub BeginsSeen : PassView → ℕ → List Turn → List ℕ → Type 0
 BeginsSeen pass session turns part = (text : List ℕ) × IsSeen pass session turns text × Begins part text
 
 -- the same, where what was written begins it
-abbrev pub IsTranscribedInPart : KnownNames → (before after : PassView) → List Turn → List ℕ → Type 0
-IsTranscribedInPart names before after turns part =
+abbrev pub IsTranscribedInPart : (before after : PassView) → List Turn → List ℕ → Type 0
+IsTranscribedInPart before after turns part =
     ((told_by turns ≡ []) × (after.own ≡ before.own) × BeginsSeen after 0 turns part)
-    ⊎ ((session : ℕ) × IsOwn before after session
-    × (names ≡ after.gate.base.setup.names → SpeaksAlone before after session → BeginsSeen after session turns part))
+    ⊎ ((session : ℕ) × IsOwn before after session × (SpeaksAlone before after session → BeginsSeen after session turns part))
 
 -- The input was read to its end, or to the end of a first line that was refused and no further. What is written is the text of a
 -- session that was told these replies, or there were as many sessions as there may be; and it is a transcript.
@@ -53,7 +51,7 @@ abbrev pub IsServed : KnownNames → (before after : PassView) → Use → Use �
 IsServed names before after reader writer =
     (told : List owned.Reply) × All (λ reply. NamesAnswer names reply.answer) told
     × (((f : Finished names (ends reader.before reader.after writer.before writer.after) (replies_alone (told_text names told)))
-    × IsTranscribed names before after f.turns (session_text (told_text names told) f.turns))
+    × IsTranscribed before after f.turns (session_text (told_text names told) f.turns))
     ⊎ ((a : TurnedAway names (ends reader.before reader.after writer.before writer.after) (replies_alone (told_text names told)) (refused_sessions ++ bye_line))
     × (after.own ≡ before.own) × IsSeen after 0 a.turns (refused_sessions ++ bye_line)))
 
@@ -63,6 +61,6 @@ abbrev pub IsCutShort : KnownNames → (before after : PassView) → SessionFaul
 IsCutShort names before after fault reader writer =
     (told : List owned.Reply) × All (λ reply. NamesAnswer names reply.answer) told
     × (((s : Stopped fault names (ends reader.before reader.after writer.before writer.after) reader.failed writer.failed (replies_alone (told_text names told)))
-    × IsTranscribedInPart names before after s.heard s.written)
+    × IsTranscribedInPart before after s.heard s.written)
     ⊎ ((a : TurnedAwayInPart fault names (ends reader.before reader.after writer.before writer.after) reader.failed writer.failed (replies_alone (told_text names told)) (refused_sessions ++ bye_line))
     × (after.own ≡ before.own) × IsSeen after 0 a.part.turns (refused_sessions ++ bye_line)))

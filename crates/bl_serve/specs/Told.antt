@@ -1,5 +1,5 @@
 -- The replies that a session was told, in the order in which they came, and which of them answer a line.
-use Rattle.std.specs.Prelude.{ℕ, ◌<◌, ◌≤◌, ◌==◌, nat_lt, if◌then◌else◌, List, [], ◌∷◌, map, slice_index_or}
+use Rattle.std.specs.Prelude.{⊤, ℕ, ◌<◌, ◌≤◌, ◌==◌, nat_lt, if◌then◌else◌, List, [], ◌∷◌, map, slice_index_or}
 use Rattle.bl_work.specs.Names.{KnownNames}
 use Rattle.bl_hall.specs.declared.reply.Reply as owned
 use Rattle.bl_hall.specs.Told.{reply_of}
@@ -27,6 +27,11 @@ line_of k told = front k (behind k told)
 -- what is written for a line whose work was asked for: its replies, or where there are none that it was refused for want of room
 abbrev pub told_text : KnownNames → List owned.Reply → ℕ → List ℕ
 told_text names told k = line_or_full names k (map reply_of (line_of k told))
+
+-- the first of these replies, where there is one, is to a line above an ordinal
+abbrev pub BeginsAbove : ℕ → List owned.Reply → Type 0
+BeginsAbove n [] = ⊤
+BeginsAbove n (reply ∷ told) = n < ordinal_of reply
 
 -- a reply to a line behind one ordinal and up to another, in which each subject and document has a name
 pub record IsTold (names : KnownNames) (after upto : ℕ) (reply : owned.Reply) : Type 0 where

@@ -1,6 +1,7 @@
 -- How far a session over a gate has come.
 use Rattle.std.specs.Prelude.{◌≡◌, ℕ, ◌<◌, ◌≤◌, List, [], Option, Some, None, All, length, drop}
 use Rattle.bl_work.specs.Names.{KnownNames}
+use Rattle.bl_setup.specs.Agreement.{Agree}
 use Rattle.bl_order.specs.Machine.{most_sessions}
 use Rattle.bl_hall.specs.Chronicle.{HasTrail}
 use Rattle.bl_gate.specs.Gates.{GateId, PassView, Follows, hall_seen, state_seen}
@@ -10,11 +11,13 @@ use Rattle.bl_serve.specs.Told.{behind, told_text, IsTold}
 use Rattle.bl_serve.specs.declared.visit.Visit.{Visit}
 use Rattle.bl_serve.specs.declared.visit.Page.{Page}
 
--- the pass is of the gate and follows what it was at first, and what was told are replies to lines up to the last one that was settled
+-- The pass is of the gate and follows what it was at first, the setup of the gate's hall agrees with itself, and what was told are
+-- replies to lines up to the last one that was settled.
 pub record IsOf (gate : GateId) (first : PassView) (visit : Visit) : Type 0 where
+  pub agree : Agree gate.base.setup
   pub gate_is : visit.pass.gate ≡ gate
   pub follows : Follows first visit.pass
-  pub told : All (IsTold gate.names 0 visit.upto) visit.told.items
+  pub told : All (IsTold gate.base.setup.names 0 visit.upto) visit.told.items
   pub within : visit.upto ≤ visit.last
 
 -- nothing was told to the gate yet, and nothing by it
@@ -31,7 +34,7 @@ course_of names visit session = record { session = session; last = visit.last; u
 -- without a session nothing was told, and with one this was told of it
 abbrev pub HasTold : GateId → PassView → Visit → Option ℕ → List Request → Type 0
 HasTold gate first visit None told = IsSilent first visit told
-HasTold gate first visit (Some session) told = IsCourse gate.names first visit.pass (course_of gate.names visit session) told
+HasTold gate first visit (Some session) told = IsCourse gate.base.setup.names first visit.pass (course_of gate.base.setup.names visit session) told
 
 -- what was told brought the visit here
 pub record HasCome (gate : GateId) (first : PassView) (visit : Visit) (told : List Request) : Type 0 where
@@ -44,14 +47,20 @@ pub record IsWhole (gate : GateId) (first : PassView) (visit : Visit) (n : ℕ) 
   pub come : HasCome gate first visit told
   pub upto : visit.upto ≡ n
 
+-- the same, and the session is open
+pub record IsUnderWay (gate : GateId) (first : PassView) (visit : Visit) (n : ℕ) : Type 0 where
+  pub whole : IsWhole gate first visit n
+  pub session : ℕ
+  pub is : visit.session ≡ Some session
+
 -- there are as many sessions as there may be, as the pass has seen
 pub record IsCrowded (pass : PassView) : Type 0 where
   pub trail : HasTrail (hall_seen pass)
   pub full : most_sessions ≤ length (state_seen pass).sessions
 
--- another pass spoke for the session that the pass opened, where the names are the hall's
-abbrev pub IsSpokenFor : KnownNames → (before after : PassView) → Type 0
-IsSpokenFor names before after = (session : ℕ) × IsOwn before after session × (names ≡ after.gate.base.setup.names → SpeaksAlone before after session → ⊥)
+-- another pass spoke for the session that the pass opened
+abbrev pub IsSpokenFor : (before after : PassView) → Type 0
+IsSpokenFor before after = (session : ℕ) × IsOwn before after session × (SpeaksAlone before after session → ⊥)
 
 -- the replies to lines above an ordinal stand from the page's place on
 pub record IsPage (visit : Visit) (page : Page) (n : ℕ) : Type 0 where

@@ -31,8 +31,7 @@ use std::sync::Wait;
 ///
 /// What is written is a transcript of the lines that were read, by all that the pass has seen at the end, where no other pass spoke for the
 /// session; and then `Clash` does not come. After a fault it begins one of the lines that were heard: all that were read, but perhaps
-/// the last. The gate's names have to be those of its hall, which they are from `Gate::new` on. The pass spoke for no other session
-/// than its own.
+/// the last. The pass spoke for no other session than its own.
 pub fn serve<R: BufRead, W: Write, T: Wait>(
     rt: &T,
     alloc: Global,
@@ -47,10 +46,10 @@ pub fn serve<R: BufRead, W: Write, T: Wait>(
     requires writer { writer.old.failed ≡ false }
     ensures follows { Follows pass result.0 }
     ensures lines { SpeaksForItsOwn pass result.0 }
-    ensures ok { OnOk result.1 (IsServed gate.now.names pass result.0 (used R.remaining reader.old reader.new) (used W.contents writer.old writer.new)) }
+    ensures ok { OnOk result.1 (IsServed gate.now.base.setup.names pass result.0 (used R.remaining reader.old reader.new) (used W.contents writer.old writer.new)) }
     ensures fine { OnOk result.1 ((reader.new.failed ≡ false) × (writer.new.failed ≡ false) × (writer.new.unflushed ≡ false)) }
-    ensures clash { IfErr result.1 (λ fault. fault ≡ Clash → IsSpokenFor gate.now.names pass result.0) }
-    ensures err { IfErr result.1 (λ fault. IsCutShort gate.now.names pass result.0 fault (used R.remaining reader.old reader.new) (used W.contents writer.old writer.new)) }
+    ensures clash { IfErr result.1 (λ fault. fault ≡ Clash → IsSpokenFor pass result.0) }
+    ensures err { IfErr result.1 (λ fault. IsCutShort gate.now.base.setup.names pass result.0 fault (used R.remaining reader.old reader.new) (used W.contents writer.old writer.new)) }
 {
     serve_with(rt, alloc, gate, pass, reader, writer, bell, &NoPause)
 }
@@ -71,10 +70,10 @@ pub fn serve_with<R: BufRead, W: Write, P: Pause, T: Wait>(
     requires writer { writer.old.failed ≡ false }
     ensures follows { Follows pass result.0 }
     ensures lines { SpeaksForItsOwn pass result.0 }
-    ensures ok { OnOk result.1 (IsServed gate.now.names pass result.0 (used R.remaining reader.old reader.new) (used W.contents writer.old writer.new)) }
+    ensures ok { OnOk result.1 (IsServed gate.now.base.setup.names pass result.0 (used R.remaining reader.old reader.new) (used W.contents writer.old writer.new)) }
     ensures fine { OnOk result.1 ((reader.new.failed ≡ false) × (writer.new.failed ≡ false) × (writer.new.unflushed ≡ false)) }
-    ensures clash { IfErr result.1 (λ fault. fault ≡ Clash → IsSpokenFor gate.now.names pass result.0) }
-    ensures err { IfErr result.1 (λ fault. IsCutShort gate.now.names pass result.0 fault (used R.remaining reader.old reader.new) (used W.contents writer.old writer.new)) }
+    ensures clash { IfErr result.1 (λ fault. fault ≡ Clash → IsSpokenFor pass result.0) }
+    ensures err { IfErr result.1 (λ fault. IsCutShort gate.now.base.setup.names pass result.0 fault (used R.remaining reader.old reader.new) (used W.contents writer.old writer.new)) }
 {
     let visitor = Visitor {
         rt,

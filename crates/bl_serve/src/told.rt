@@ -1,19 +1,17 @@
 //! The replies that a session was told, in the order in which they came.
-ghost use Rattle.std.specs.Prelude.{◌≡◌, ◌+◌, ◌<◌, ◌≤◌, All, ℕ, drop, length, map, true};
+ghost use Rattle.std.specs.Prelude.{◌≡◌, ◌+◌, ◌<◌, ◌≤◌, All, ℕ, drop, length, map, take};
 ghost use Rattle.std.specs.List.{flat_map};
 ghost use Rattle.bl_hall.specs.Told.{reply_of};
-ghost use Rattle.bl_wire.specs.Named.{NamesAnswer, NamesDenial};
+ghost use Rattle.bl_wire.specs.Named.{NamesAnswer};
 ghost use Rattle.bl_wire.specs.Replies.{reply_text};
 ghost use Rattle.bl_wire.specs.Watch.{end_state, Puts};
-ghost use Rattle.bl_serve.specs.Told.{ordinal_of, behind, front, told_text, IsTold};
+ghost use Rattle.bl_serve.specs.Told.{ordinal_of, behind, front, told_text, BeginsAbove};
 
 use bl_hall::reply::Reply;
-use bl_policy::denial::Denial;
 use bl_wire::put::put;
 use bl_wire::reply::put_refused;
 use bl_wire::watched::Watched;
 use bl_wire::words::{put_answer, put_label};
-use bl_work::answer::Answer;
 use bl_work::names::Names;
 use std::io::Write;
 
@@ -28,46 +26,20 @@ fn ordinal_of(reply: &Reply) -> u32
     }
 }
 
-/// Whether the subject and the document of a denial have names.
-fn names_denial(names: &Names, denial: &Denial) -> bool
-    ensures { result ≡ true → NamesDenial names.now denial.now }
+/// How many replies stand before the first one to a line above an ordinal.
+pub(crate) fn count_up_to(upto: u32, replies: &[Reply]) -> usize
+    ensures within { result ≤ length replies.now }
+    ensures low { All (λ reply. ordinal_of reply ≤ upto) (take result replies.now) }
+    ensures next { BeginsAbove upto (drop result replies.now) }
 {
-    let object = match denial.object {
-        Some(doc) => (doc.position() as usize) < names.documents(),
-        None => true,
-    };
-    object && (denial.subject.position() as usize) < names.subjects()
-}
-
-/// Whether each subject and document of an answer has a name.
-fn names_answer(names: &Names, answer: &Answer) -> bool
-    ensures { result ≡ true → NamesAnswer names.now answer.now }
-{
-    match answer {
-        Answer::Denied(denial) => names_denial(names, denial),
-        Answer::Done(_) | Answer::RuleDone | Answer::Lost => true,
-    }
-}
-
-/// Whether a reply is one to a line behind `after` and up to `upto`, in which all have names.
-fn is_told(names: &Names, after: u32, upto: u32, reply: &Reply) -> bool
-    ensures { result ≡ true → IsTold names.now after upto reply.now }
-{
-    let ordinal = ordinal_of(reply);
-    after < ordinal && ordinal <= upto && names_answer(names, &reply.answer)
-}
-
-/// Whether all replies are ones to lines behind `after` and up to `upto`, in which all have names. A gate gives others only where
-/// somebody else spoke for the session.
-pub(crate) fn are_told(names: &Names, after: u32, upto: u32, replies: &[Reply]) -> bool
-    ensures { result ≡ true → All (IsTold names.now after upto) replies.now }
-{
+    let mut count = 0;
     for reply in replies {
-        if !is_told(names, after, upto, reply) {
-            return false;
+        if ordinal_of(reply) > upto {
+            return count;
         }
+        count += 1;
     }
-    true
+    count
 }
 
 /// Writes a reply, unless the writer has failed.

@@ -1,22 +1,23 @@
 //! The machine behind a session over a gate. Lines enter through the gate, and who waits for their answers takes turns meanwhile.
 //! Other threads call the gate too, so what the hall answers is that of a trail which goes on; what was told stays told.
-ghost use Rattle.std.specs.Prelude.{◌≡◌, ◌≤◌, ℕ, [], ⊤, Some, None, IfOk, map};
+ghost use Rattle.std.specs.Prelude.{◌≡◌, ◌≤◌, ◌<◌, All, ℕ, [], ⊤, Some, None, IfOk, length, map};
 ghost use Rattle.bl_gate.specs.Gates.{hall_seen, state_seen};
+ghost use Rattle.bl_order.specs.Known.{KnowsAnswer};
 ghost use Rattle.bl_hall.specs.Chronicle.{HasTrail};
 ghost use Rattle.bl_hall.specs.Told.{AreAnswers, reply_of};
 ghost use Rattle.bl_work.specs.Readable.{IsReadable};
 ghost use Rattle.bl_serve.specs.Courses.{KeepsQuiet};
 ghost use Rattle.bl_serve.specs.Told.{told_text};
-ghost use Rattle.bl_serve.specs.Visits.{HasCome, IsCrowded, IsPage, IsSpokenFor, IsWhole};
+ghost use Rattle.bl_serve.specs.Visits.{HasCome, IsCrowded, IsPage, IsSpokenFor, IsUnderWay, IsWhole};
 
-use crate::told::{are_told, put_line};
+use crate::told::{count_up_to, put_line};
 use bl_core::refusal::{Cause, OpenRefused};
 use bl_core::session::SessionNo;
 use bl_engine::behind::{Asking, Behind, Opening};
 use bl_gate::gate::Gate;
 use bl_gate::pass::Pass;
 use bl_hall::laws::replies_go_by_lines;
-use bl_hall::reply::Reply;
+use bl_hall::reply::{AnswersFault, Reply};
 use bl_policy::id::SubjectId;
 use bl_wire::watched::Watched;
 use bl_work::work::Work;
@@ -113,17 +114,19 @@ impl<'a, P: Pause, T: Wait> Visitor<'a, P, T> {
     }
 
     /// The replies to the session's lines above an ordinal. It takes turns until they are there, and waits at the bell for an entry to
-    /// end where nothing is ready.
+    /// end where nothing is ready. An error comes only where a growth was refused.
     fn hear(
         &self,
         pass: &mut Pass,
         session: SessionNo,
         after: u32,
     ) -> Result<Vec<Reply>, AllocError>
-        requires { pass.old.gate ≡ self.now.gate.now }
+        requires gate { pass.old.gate ≡ self.now.gate.now }
+        requires open { session < length (state_seen pass.old).sessions }
         ensures quiet { KeepsQuiet pass.old pass.new }
         ensures trail { HasTrail (hall_seen pass.new) }
         ensures told { IfOk result (λ replies. AreAnswers (state_seen pass.new) session after (map reply_of replies.items)) }
+        ensures known { IfOk result (λ replies. All (λ reply. KnowsAnswer (state_seen pass.new).setup reply.answer) replies.items) }
     {
         for _ in self.rt.forever() {
             let seen = self.bell.ends();
@@ -135,7 +138,8 @@ impl<'a, P: Pause, T: Wait> Visitor<'a, P, T> {
                         self.bell.wait_end(self.rt, seen);
                     }
                 }
-                Err(_) => return Err(AllocError),
+                Err(AnswersFault::Memory) => return Err(AllocError),
+                Err(AnswersFault::Session) => unreachable!(),
             }
         }
         unreachable!()
@@ -147,19 +151,21 @@ impl<'a, P: Pause, T: Wait> Behind for Visitor<'a, P, T> {
 
     type Block = Page;
 
-    ghost serves = { λ _ _. ⊤ };
+    ghost serves = { λ visitor subject. subject < length visitor.gate.now.base.setup.policy.subjects };
 
-    ghost takes = { λ visitor work. IsReadable visitor.gate.now.names work };
+    ghost takes = { λ visitor work. IsReadable visitor.gate.now.base.setup.names work };
 
     ghost fills = { λ _ visit. IsCrowded visit.pass };
 
-    ghost clashes = { λ visitor visit. IsSpokenFor visitor.gate.now.names visitor.first.value visit.pass };
+    ghost clashes = { λ visitor visit. IsSpokenFor visitor.first.value visit.pass };
 
-    ghost replies = { λ visitor visit k. told_text visitor.gate.now.names visit.told.items k };
+    ghost replies = { λ visitor visit k. told_text visitor.gate.now.base.setup.names visit.told.items k };
 
     ghost settled = { λ _ visit n. n ≤ visit.upto };
 
-    ghost whole = { λ visitor visit n. IsWhole visitor.gate.now visitor.first.value visit n };
+    ghost fresh = { λ visitor visit. IsWhole visitor.gate.now visitor.first.value visit 0 };
+
+    ghost whole = { λ visitor visit n. IsUnderWay visitor.gate.now visitor.first.value visit n };
 
     ghost came = { λ visitor visit told. HasCome visitor.gate.now visitor.first.value visit told };
 
@@ -175,13 +181,13 @@ impl<'a, P: Pause, T: Wait> Behind for Visitor<'a, P, T> {
             }
             Err(OpenRefused::SessionsFull) => Ok(Opening::Full),
             // the subject was read in the names of the gate, which are the hall's
-            Err(OpenRefused::Stranger) => Err(AllocError),
+            Err(OpenRefused::Stranger) => unreachable!(),
         }
     }
 
     fn ask(&self, state: &mut Visit, ordinal: u32, work: Work) -> Result<Asking, AllocError> {
         let Some(session) = state.session else {
-            return Err(AllocError);
+            unreachable!()
         };
         state.asked.reserve(1)?;
         match self
@@ -206,14 +212,14 @@ impl<'a, P: Pause, T: Wait> Behind for Visitor<'a, P, T> {
 
     fn settle(&self, state: &mut Visit, after: u32, ordinal: u32) -> Result<Page, AllocError> {
         let Some(session) = state.session else {
-            return Err(AllocError);
+            unreachable!()
         };
         replies_go_by_lines();
         self.run(&mut state.pass, &state.asked);
         let mut replies = self.hear(&mut state.pass, session, after)?;
-        if !are_told(self.gate.names(), after, ordinal, &replies) {
-            return Err(AllocError);
-        }
+        // a reply to a later line comes only where somebody else spoke for the session, whose next line then finds that
+        let count = count_up_to(ordinal, &replies);
+        replies.truncate(count);
         let next = state.told.len();
         state.told.append(&mut replies)?;
         state.upto = ordinal;

@@ -3,3 +3,4 @@ pub mod HeldLines
 pub mod TurnLaws
 pub mod WordLaws
 pub mod PutLaws
+pub mod Naming

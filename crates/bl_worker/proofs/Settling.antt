@@ -8,6 +8,7 @@ use Rattle.bl_hall.specs.Chronicle.{Chronicle, HasTrail, state_now}
 use Rattle.bl_hall.proofs.Trails.{state-next}
 use Rattle.bl_gate.specs.Counts.{times, StartsWith}
 use Rattle.bl_gate.specs.Gates.{PassView, Calls, Follows, hall_seen, hall_with, state_seen}
+use Rattle.bl_gate.proofs.Following.{base_stays}
 use Rattle.bl_gate.proofs.Halls.{sound_at}
 use Rattle.bl_gate.proofs.Trails.{begins_length, get_later, get_last, get_sooner}
 use Rattle.bl_gate.proofs.Totals.{times-append}
@@ -26,7 +27,7 @@ passes_on h t s (rest, e) legal =
 -- and from one moment of a pass to a later one
 pub passes_later : (p q : PassView) → Follows p q → HasTrail (hall_seen q) → Passes (state_seen p) (state_seen q)
 passes_later p q follows legal =
-    subst (λ (h : Chronicle). Passes (state_now (hall_with h p.seen)) (state_seen q)) follows.base (passes_on q.gate.base q.seen p.seen follows.seen legal)
+    subst (λ (h : Chronicle). Passes (state_now (hall_with h p.seen)) (state_seen q)) (base_stays p q follows) (passes_on q.gate.base q.seen p.seen follows.seen legal)
 
 -- A call in the trail: the state before it, where the event may come, and the state after it, where it has.
 pub record Happened (event : Event) (Answered : State → Type 0) (after : State) : Type 0 where
@@ -39,7 +40,7 @@ pub record Happened (event : Event) (Answered : State → Type 0) (after : State
 pub happened : (p q : PassView) (event : Event) (Answered : State → Type 0) → Calls p event Answered q → Follows p q → HasTrail (hall_seen q) → Happened event Answered (state_seen q)
 happened p q event Answered call follows legal =
     let h : Chronicle = hall_with p.gate.base call.trail in
-    let is : hall_seen q ≡ hall_with p.gate.base (call.trail ++ event ∷ []) = (λ i. hall_with (follows.base i) (call.seen i)) in
+    let is : hall_seen q ≡ hall_with p.gate.base (call.trail ++ event ∷ []) = (λ i. hall_with (base_stays p q follows i) (call.seen i)) in
     let whole : HasTrail (hall_with p.gate.base (call.trail ++ event ∷ [])) = subst HasTrail is legal in
     let x : State = start p.gate.base.setup p.gate.base.limit in
     record {

@@ -18,7 +18,8 @@ use Rattle.bl_trail.specs.TrueText.{HasNoLf}
 use Rattle.bl_trail.specs.declared.text.Words.{Words}
 use Rattle.bl_audit.specs.Comes.{Comes, HasLine, NumbersFit, lines_from, words_later, works_in}
 use Rattle.bl_audit.proofs.Later.{told_of}
-use Rattle.bl_audit.proofs.Telling.{names-answer, names-told, ok-three, told-is}
+use Rattle.bl_wire.proofs.Naming.{names-answer}
+use Rattle.bl_audit.proofs.Telling.{names-told, ok-three, told-is}
 use Rattle.bl_audit.proofs.Texts.{admitted-line, end-line, ended-so, is-end, is-line, is-loss, is-open, is-start, loss-line, open-line, start-line, subject-there}
 use Rattle.bl_audit.proofs.event.put_text.Goals as goal
 

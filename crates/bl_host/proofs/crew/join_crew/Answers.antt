@@ -20,7 +20,6 @@ loop-member-preserved g c =
     let one = c.join-share.ensures.parts ∙ part.one in (
       remains_then _ _ _ at.invariant.0 (record {
         gate = c.meet.ensures.gate ∙ sym c.requires.gate ∙ sym at.invariant.0.gate;
-        base = c.meet.ensures.base;
         seen = c.meet.ensures.seen.0;
       }),
       omega arith,

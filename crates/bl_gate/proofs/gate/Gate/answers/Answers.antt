@@ -1,5 +1,7 @@
-use Rattle.std.proofs.Common.{◌∙◌, ◌<◌, length, map, refl, ap, subst}
+use Rattle.std.proofs.Common.{All, ◌∙◌, ◌<◌, length, map, refl, ap, subst}
 use Rattle.std.specs.Prelude.{IfOk, IfErr, IfSome, IsNone}
+use Rattle.bl_order.specs.Known.{KnowsAnswer}
+use Rattle.bl_hall.specs.declared.reply.Reply.{Reply}
 use Rattle.bl_hall.specs.Told.{AreAnswers, IsUnanswered, Waits, reply_of}
 use Rattle.bl_hall.specs.Chronicle.{Chronicle, state_now}
 use Rattle.bl_gate.specs.Turns.{Sat}
@@ -35,6 +37,9 @@ returns-clause-waits g c = subst (λ (h : Chronicle). IfOk c.answers-answer.resu
 
 pub returns-clause-replies : goal.returns-clause-replies
 returns-clause-replies g c = subst (λ (h : Chronicle). IfOk c.answers-answer.result (λ found. IfSome found (λ replies. AreAnswers (state_now h) c.args.session c.args.after (map reply_of replies.items)))) (turned_seen _ _ _ _ (turn g c) refl) c.answers-answer.ensures.replies
+
+pub returns-clause-known : goal.returns-clause-known
+returns-clause-known g c = subst (λ (h : Chronicle). IfOk c.answers-answer.result (λ found. IfSome found (λ replies. All (λ (r : Reply). KnowsAnswer (state_now h).setup r.answer) replies.items))) (turned_seen _ _ _ _ (turn g c) refl) c.answers-answer.ensures.known
 
 pub returns-clause-fault : goal.returns-clause-fault
 returns-clause-fault g c = subst (λ (h : Chronicle). IfErr c.answers-answer.result (λ fault. IsUnanswered (state_now h) c.args.session fault)) (turned_seen _ _ _ _ (turn g c) refl) c.answers-answer.ensures.fault

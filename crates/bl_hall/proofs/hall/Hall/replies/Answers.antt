@@ -1,6 +1,8 @@
-use Rattle.std.proofs.Common.{◌≡◌, ◌∷◌, ◌++◌, ℕ, List, [], get_or, map, take, sym, ap, subst, ◌∙◌, arith}
+use Rattle.std.proofs.Common.{◌≡◌, All, ◌∷◌, ◌++◌, ℕ, List, [], get_or, map, take, sym, ap, subst, ◌∙◌, arith}
 use Rattle.std.proofs.lemmas.List.{map-append, take_more}
+use Rattle.std.proofs.lemmas.List.Elements.{All-push}
 use Rattle.bl_order.specs.Headline.{IsReached}
+use Rattle.bl_order.specs.Known.{KnowsAnswer}
 use Rattle.bl_order.specs.Labels.{Reply, tag}
 use Rattle.bl_order.specs.Machine.{State, past_at}
 use Rattle.bl_hall.specs.declared.reply.Reply as owned
@@ -32,4 +34,8 @@ loop-n-preserved c =
           ∙ ap (map (reply_in x)) (sym (take_more c.args.places.now c.loop-n.n-index 0 c.loop-n-test.true)),
       omega (arith, c.push_reserved.ensures.len, c.loop-n.invariant.1),
       c.push_reserved.ensures.capacity ∙ c.loop-n.invariant.2,
+      subst (All (λ (r : owned.Reply). KnowsAnswer x.setup r.answer)) (sym c.push_reserved.ensures.items)
+          (All-push (λ (r : owned.Reply). KnowsAnswer x.setup r.answer) c.loop-n.replies.items reply c.loop-n.invariant.3
+          (subst (KnowsAnswer x.setup) (sym c.in_ok-answer.ensures)
+          (subst (λ (y : State). KnowsAnswer y.setup c.in-Some.answer.now) (core-is c.self.inside c.self.invariant c.args.self.now c.self.view_is) c.in-Some.ensures.known))),
     )

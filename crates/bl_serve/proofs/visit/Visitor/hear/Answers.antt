@@ -1,4 +1,7 @@
-use Rattle.std.proofs.Common.{rules}
+use Rattle.std.proofs.Common.{rules, ◌<◌, length, subst, arith}
+use Rattle.bl_hall.specs.Told.{IsUnanswered}
+use Rattle.bl_gate.specs.Gates.{state_seen}
+use Rattle.bl_serve.proofs.Going.{kept_session}
 use Rattle.bl_worker.proofs.Admitting.{admits_itself}
 use Rattle.bl_serve.specs.Courses.{KeepsQuiet}
 use Rattle.bl_serve.proofs.Quiet.{quiet_once, quiet_then}
@@ -11,6 +14,17 @@ returns-in-Ok-Some-clause-quiet g c =
 
 pub returns-in-Ok-Some-clause-told : goal.returns-in-Ok-Some-clause-told
 returns-in-Ok-Some-clause-told g c = search rules
+
+-- the session stays open
+pub unreachable-requires : goal.unreachable-requires
+unreachable-requires g c =
+    let heard : KeepsQuiet c.args.pass.now c.answers.new.pass =
+    quiet_then c.args.pass.now c.loop.pass c.answers.new.pass c.loop.invariant.2
+    (quiet_once c.loop.pass c.answers.new.pass c.answers.ensures.follows (admits_itself c.loop.pass c.answers.new.pass c.answers.ensures.own) c.answers.ensures.trail)
+    in
+    let there : c.args.session < length (state_seen c.answers.new.pass).sessions = (kept_session c.args.pass.now c.answers.new.pass heard.follows c.answers.ensures.trail c.args.session c.requires.open).there in
+    let closed = subst (IsUnanswered (state_seen c.answers.new.pass) c.args.session) c.in-Err-Session.field-0-is c.in-Err-Session.ensures.fault in
+    omega (arith, there, closed)
 
 pub loop-preserved-then-not-tell : goal.loop-preserved-then-not-tell
 loop-preserved-then-not-tell g c =

@@ -1,4 +1,4 @@
-use Rattle.std.proofs.Common.{[], ◌∷◌, ◌++◌, ◌≡◌, Bool, true, false, true≢false, refl, sym, ap, subst, arith}
+use Rattle.std.proofs.Common.{rules, [], ◌∷◌, ◌++◌, ◌≡◌, Bool, true, false, true≢false, refl, sym, ap, subst, arith}
 use Rattle.bl_core.specs.Answers.{IsCause}
 use Rattle.bl_gate.specs.Gates.{state_seen}
 use Rattle.bl_engine.specs.Requests as request
@@ -9,12 +9,19 @@ use Rattle.bl_engine.specs.declared.behind.Asking.{Asking}
 use Rattle.bl_engine.specs.declared.behind.Asking.TheVariants.{Taken, Clash}
 use Rattle.bl_serve.proofs.visit.VisitorBehind.ask.Goals as goal
 
+pub unreachable-requires : goal.unreachable-requires
+unreachable-requires g c = search rules
+
 pub returns-in-Ok-clause-whole : goal.returns-in-Ok-clause-whole
 returns-in-Ok-clause-whole g c = λ _ n lt w. record {
-  told = w.told ++ request.Admits c.args.ordinal c.args.work ∷ [];
-  come = come_asked c.args.self.now.gate.now c.args.self.now.first.value c.args.state.now c.in-Some.session c.in-Some.is w.told w.come _ c.args.ordinal c.args.work c.requires.last
-      c.line.ensures.follows c.line.ensures.trail refl refl refl _ c.in-Ok.ensures.ok refl;
-  upto = w.upto;
+  whole = record {
+    told = w.whole.told ++ request.Admits c.args.ordinal c.args.work ∷ [];
+    come = come_asked c.args.self.now.gate.now c.args.self.now.first.value c.args.state.now c.in-Some.session c.in-Some.is w.whole.told w.whole.come _ c.args.ordinal c.args.work c.requires.last
+        c.line.ensures.follows c.line.ensures.trail refl refl refl _ c.in-Ok.ensures.ok refl;
+    upto = w.whole.upto;
+  };
+  session = c.in-Some.session;
+  is = c.in-Some.is;
 }
 
 pub returns-in-Ok-clause-came : goal.returns-in-Ok-clause-came
@@ -24,10 +31,14 @@ returns-in-Ok-clause-came g c = λ _ told came.
 
 pub returns-in-Full-clause-whole : goal.returns-in-Full-clause-whole
 returns-in-Full-clause-whole g c = λ _ n lt w. record {
-  told = w.told ++ request.Admits c.args.ordinal c.args.work ∷ [];
-  come = come_full c.args.self.now.gate.now c.args.self.now.first.value c.args.state.now c.in-Some.session c.in-Some.is w.told w.come _ c.args.ordinal c.args.work c.requires.last
-      c.line.ensures.follows c.line.ensures.trail refl refl refl c.in-Err.ensures.err.0 (subst (IsCause (state_seen c.line.new.pass) c.in-Some.session c.args.ordinal c.args.work) c.in-Full.is c.in-Err.ensures.err.1) refl;
-  upto = w.upto;
+  whole = record {
+    told = w.whole.told ++ request.Admits c.args.ordinal c.args.work ∷ [];
+    come = come_full c.args.self.now.gate.now c.args.self.now.first.value c.args.state.now c.in-Some.session c.in-Some.is w.whole.told w.whole.come _ c.args.ordinal c.args.work c.requires.last
+        c.line.ensures.follows c.line.ensures.trail refl refl refl c.in-Err.ensures.err.0 (subst (IsCause (state_seen c.line.new.pass) c.in-Some.session c.args.ordinal c.args.work) c.in-Full.is c.in-Err.ensures.err.1) refl;
+    upto = w.whole.upto;
+  };
+  session = c.in-Some.session;
+  is = c.in-Some.is;
 }
 
 pub returns-in-Full-clause-came : goal.returns-in-Full-clause-came
@@ -44,7 +55,7 @@ not_taken e = true≢false (sym (ap is_taken e))
 
 pub returns : goal.returns
 returns g c =
-    let w = c.requires.whole.2 in record {
+    let w = c.requires.whole.2.whole in record {
       whole = λ e. absurd (not_taken e);
       came = λ e. absurd (not_taken e);
       clash = λ _. (
