@@ -22,8 +22,8 @@ pub record DocumentText : Type 0 where
   pub content : Option (List ℕ)
 
 -- what the document contains: where it is not present, nothing
-abbrev pub content_of : DocumentText → List ℕ
-content_of d = unwrap_or d.content []
+abbrev pub declared_content : DocumentText → List ℕ
+declared_content d = unwrap_or d.content []
 
 -- the names of a subject and a document, and the modes that are added to their cell: at least one
 pub record AllowText : Type 0 where

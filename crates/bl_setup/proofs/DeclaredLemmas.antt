@@ -7,7 +7,7 @@ use Rattle.bl_level.specs.Scheme.{SchemeNames}
 use Rattle.bl_policy.specs.Policy.{Clearance}
 use Rattle.bl_setup.specs.Setup.{Setup}
 use Rattle.bl_setup.specs.Agreement.{of_scheme}
-use Rattle.bl_declare.specs.Declaration.{Declaration, SubjectText, DocumentText, content_of, AllowText, ranks, categories, subject, document, allow}
+use Rattle.bl_declare.specs.Declaration.{Declaration, SubjectText, DocumentText, declared_content, AllowText, ranks, categories, subject, document, allow}
 use Rattle.bl_setup.specs.Grammar.{AddsSubject, AddsDocument, AddsModes, Leads, IsSetup}
 use Rattle.bl_setup.proofs.RightsLemmas.{rights_are_named}
 use Rattle.bl_setup.specs.WholeLists.{subjects_of, documents_of, HaveClearances, HaveLevels, IsDeclared}
@@ -17,7 +17,7 @@ record Added (before : Setup) (ds : List Declaration) (after : Setup) : Type 0 w
   pub scheme : after.names.scheme ≡ before.names.scheme
   pub subjects : after.names.subjects ≡ before.names.subjects ++ map (λ s. s.name) (subjects_of ds)
   pub documents : after.names.documents ≡ before.names.documents ++ map (λ d. d.name) (documents_of ds)
-  pub contents : after.contents ≡ before.contents ++ map content_of (documents_of ds)
+  pub contents : after.contents ≡ before.contents ++ map declared_content (documents_of ds)
   pub present : after.policy.present ≡ before.policy.present ++ map (λ d. is_some d.content) (documents_of ds)
   pub clearances : List Clearance
   pub subjects_grown : after.policy.subjects ≡ before.policy.subjects ++ clearances
@@ -63,7 +63,7 @@ added_document before d ds next after a r =
       scheme = r.scheme ∙ scheme;
       subjects = same_front after.names.subjects next.names.subjects before.names.subjects _ (ap (λ x. x.names.subjects) a.is) r.subjects;
       documents = one_more after.names.documents next.names.documents before.names.documents _ d.name (ap (λ x. x.names.documents) a.is) r.documents;
-      contents = one_more after.contents next.contents before.contents _ (content_of d) (ap (λ x. x.contents) a.is) r.contents;
+      contents = one_more after.contents next.contents before.contents _ (declared_content d) (ap (λ x. x.contents) a.is) r.contents;
       present = one_more after.policy.present next.policy.present before.policy.present _ (is_some d.content) (ap (λ x. x.policy.present) a.is) r.present;
       clearances = r.clearances;
       subjects_grown = same_front after.policy.subjects next.policy.subjects before.policy.subjects r.clearances (ap (λ x. x.policy.subjects) a.is) r.subjects_grown;

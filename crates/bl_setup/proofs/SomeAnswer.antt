@@ -16,7 +16,7 @@ use Rattle.bl_policy.specs.declared.access.ModeSet.{ModeSet}
 use Rattle.bl_policy.specs.Mode.{flag_of}
 use Rattle.bl_work.proofs.MeantLevels.{level_meant, place_some}
 use Rattle.bl_setup.specs.Agreement.{of_scheme}
-use Rattle.bl_declare.specs.Declaration.{Declaration, SubjectText, DocumentText, content_of, AllowText, ranks, categories, subject, document, allow, spell_declaration}
+use Rattle.bl_declare.specs.Declaration.{Declaration, SubjectText, DocumentText, declared_content, AllowText, ranks, categories, subject, document, allow, spell_declaration}
 use Rattle.bl_setup.specs.FirstSetupFault.{SoFar, nothing, ranked, declared, IsDue, Declares, Passes, LeadTo, Question, IsSo, kind_of, AllHold, FirstFails, asked, asked_of_names, asked_of_categories, asked_of_level, IsTooMuch, IsAbove, LineFault, FaultNext, FirstSetupFault}
 use Rattle.bl_setup.specs.Grammar.{IsSetup, AddsSubject, AddsDocument, AddsModes}
 use Rattle.bl_setup.specs.Heads.{AreRanks}
@@ -170,11 +170,11 @@ document_declares b line d spelled r k =
     let next : Setup = record b {
       names = record b.names { documents = b.names.documents ++ d.name ∷ [] };
       policy = with_declared b.policy level.0 (is_some d.content);
-      contents = b.contents ++ content_of d ∷ [];
+      contents = b.contents ++ declared_content d ∷ [];
     } in
     let adds : AddsDocument b d next = record {
       room = omega (arith, room);
-      short = most_from 65536 (length (content_of d)) (λ long. r.few (inr long));
+      short = most_from 65536 (length (declared_content d)) (λ long. r.few (inr long));
       is_new = r.hold.0;
       level = level.0;
       means = level.1;

@@ -7,7 +7,7 @@ use Rattle.bl_level.specs.Name.{AreProper, IsProper}
 use Rattle.bl_level.specs.LevelText.{spell_level}
 use Rattle.bl_policy.specs.Policy.{with_declared, with_modes}
 use Rattle.bl_setup.specs.Setup.{Setup}
-use Rattle.bl_declare.specs.Declaration.{Declaration, SubjectText, DocumentText, content_of, AllowText, ranks, categories, subject, document, allow, spell_declaration, spell_content, spell_document}
+use Rattle.bl_declare.specs.Declaration.{Declaration, SubjectText, DocumentText, declared_content, AllowText, ranks, categories, subject, document, allow, spell_declaration, spell_content, spell_document}
 use Rattle.bl_setup.specs.Grammar.{Adds, AddsSubject, AddsDocument, AddsModes, LineAdds, Leads, Spells}
 use Rattle.bl_setup.specs.Heads.{Remain}
 use Rattle.bl_declare.specs.declared.fault.SetupFaultKind.{SetupFaultKind}
@@ -32,7 +32,7 @@ one_document b d x y p q =
     p.is ∙ (λ i. record b {
       names = record b.names { documents = b.names.documents ++ d.name ∷ [] };
       policy = with_declared b.policy (l i) (is_some d.content);
-      contents = b.contents ++ content_of d ∷ [];
+      contents = b.contents ++ declared_content d ∷ [];
     }) ∙ sym q.is
 
 one_modes : (b : Setup) (a : AllowText) (x y : Setup) → AddsModes b a x → AddsModes b a y → x ≡ y
@@ -108,7 +108,7 @@ proper_inside (Some x) p = p.0
 proper_inside None p = refl
 
 -- the content of a document that is spelled is of content bytes
-pub content_proper : (d : DocumentText) → AreProper (spell_document d) → IsProper (text (content_of d))
+pub content_proper : (d : DocumentText) → AreProper (spell_document d) → IsProper (text (declared_content d))
 content_proper d p = proper_inside d.content (proper_behind (spell_level d.level) (spell_content d.content) p.1.1)
 
 pub unless : {P Q : Type 0} {e : SetupFaultKind} → (P → Q) → UnlessMemory e P → UnlessMemory e Q

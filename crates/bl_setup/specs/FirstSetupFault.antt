@@ -7,7 +7,7 @@ use Rattle.bl_level.specs.Scheme.{SchemeNames}
 use Rattle.bl_policy.specs.Limits.{most_subjects, most_documents}
 use Rattle.bl_work.specs.Content.{most_bytes}
 use Rattle.bl_setup.specs.Agreement.{of_scheme}
-use Rattle.bl_declare.specs.Declaration.{Declaration, content_of, ranks, categories, subject, document, allow, spell_declaration}
+use Rattle.bl_declare.specs.Declaration.{Declaration, declared_content, ranks, categories, subject, document, allow, spell_declaration}
 use Rattle.bl_setup.specs.Grammar.{LineAdds, IsSetup, most_setup_bytes}
 use Rattle.bl_setup.specs.Heads.{DeclaresRanks, DeclaresCategories}
 use Rattle.bl_setup.specs.Lines.{is_skipped, file_lines}
@@ -99,7 +99,7 @@ abbrev pub IsTooMuch : SoFar → Declaration → Type 0
 IsTooMuch nothing (ranks lowest higher) = 16 < length (lowest ∷ higher)
 IsTooMuch (ranked names) (categories words) = 32 < length words
 IsTooMuch (declared setup) (subject s) = most_subjects < suc (length setup.names.subjects)
-IsTooMuch (declared setup) (document d) = (most_documents < suc (length setup.names.documents)) ⊎ (most_bytes < length (content_of d))
+IsTooMuch (declared setup) (document d) = (most_documents < suc (length setup.names.documents)) ⊎ (most_bytes < length (declared_content d))
 IsTooMuch _ _ = ⊥
 
 -- the subject's levels are the scheme's, and the greatest does not dominate the current one

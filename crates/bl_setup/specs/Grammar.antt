@@ -10,7 +10,7 @@ use Rattle.bl_policy.specs.declared.access.ModeSet.{ModeSet}
 use Rattle.bl_policy.specs.Mode.{has_mode}
 use Rattle.bl_policy.specs.Policy.{with_subject, with_declared, with_modes}
 use Rattle.bl_setup.specs.Lines.{lines_read}
-use Rattle.bl_declare.specs.Declaration.{Declaration, SubjectText, DocumentText, content_of, AllowText, ranks, categories, subject, document, allow, spell_declaration}
+use Rattle.bl_declare.specs.Declaration.{Declaration, SubjectText, DocumentText, declared_content, AllowText, ranks, categories, subject, document, allow, spell_declaration}
 use Rattle.bl_setup.specs.Setup.{Setup}
 use Rattle.bl_setup.specs.Agreement.{of_scheme}
 use Rattle.bl_policy.specs.Limits.{most_subjects, most_documents}
@@ -39,14 +39,14 @@ pub record AddsSubject (before : Setup) (s : SubjectText) (after : Setup) : Type
 -- stands behind the documents that were declared before, present where it has a content.
 pub record AddsDocument (before : Setup) (d : DocumentText) (after : Setup) : Type 0 where
   pub room : length before.names.documents < most_documents
-  pub short : length (content_of d) ≤ most_bytes
+  pub short : length (declared_content d) ≤ most_bytes
   pub is_new : Contains before.names.documents d.name → ⊥
   pub level : SecurityLevel
   pub means : Means before.names.scheme d.level level
   pub is : after ≡ record before {
     names = record before.names { documents = before.names.documents ++ d.name ∷ [] };
     policy = with_declared before.policy level (is_some d.content);
-    contents = before.contents ++ content_of d ∷ [];
+    contents = before.contents ++ declared_content d ∷ [];
   }
 
 -- The subject and the document were declared before, and the modes that the line names, and no others, are added to their cell.

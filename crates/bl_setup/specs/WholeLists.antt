@@ -8,7 +8,7 @@ use Rattle.bl_policy.specs.declared.access.Mode.{Mode}
 use Rattle.bl_policy.specs.Policy.{Clearance, allows}
 use Rattle.bl_work.specs.Names.{KnownNames}
 use Rattle.bl_setup.specs.Setup.{Setup}
-use Rattle.bl_declare.specs.Declaration.{Declaration, SubjectText, DocumentText, content_of, AllowText, ranks, categories, subject, document, allow}
+use Rattle.bl_declare.specs.Declaration.{Declaration, SubjectText, DocumentText, declared_content, AllowText, ranks, categories, subject, document, allow}
 use Rattle.bl_setup.specs.Grammar.{Spells}
 use Rattle.bl_setup.specs.Lines.{lines_read}
 
@@ -73,7 +73,7 @@ pub record IsDeclared (bytes : List ℕ) (setup : Setup) : Type 0 where
   pub spelled : Spells (lines_read bytes) declarations
   pub subjects : setup.names.subjects ≡ map (λ s. s.name) (subjects_of declarations)
   pub documents : setup.names.documents ≡ map (λ d. d.name) (documents_of declarations)
-  pub contents : setup.contents ≡ map content_of (documents_of declarations)
+  pub contents : setup.contents ≡ map declared_content (documents_of declarations)
   pub present : setup.policy.present ≡ map (λ d. is_some d.content) (documents_of declarations)
   pub clearances : HaveClearances setup.names.scheme (subjects_of declarations) setup.policy.subjects
   pub levels : HaveLevels setup.names.scheme (documents_of declarations) setup.policy.documents

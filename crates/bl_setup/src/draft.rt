@@ -8,7 +8,7 @@ ghost use Rattle.bl_policy.specs.Limits.{most_documents};
 ghost use Rattle.bl_policy.specs.Mode.{has_mode};
 ghost use Rattle.bl_policy.specs.Policy.{with_declared};
 ghost use Rattle.bl_work.specs.Content.{is_content_byte};
-ghost use Rattle.bl_declare.specs.Declaration.{content_of, spell_declaration};
+ghost use Rattle.bl_declare.specs.Declaration.{declared_content, spell_declaration};
 ghost use Rattle.bl_setup.specs.Grammar.{Adds, AddsSubject, AddsDocument, AddsModes, LineAdds};
 ghost use Rattle.bl_declare.specs.Faults.{UnlessMemory};
 ghost use Rattle.bl_setup.specs.FirstSetupFault as first;
@@ -117,7 +117,7 @@ impl Draft {
         document: &DocumentWords<'_>,
     ) -> Result<(), SetupFaultKind>
         requires name { IsName document.now.name.now }
-        requires plain { IsTrue (list_all is_content_byte (content_of (document_text document.now))) }
+        requires plain { IsTrue (list_all is_content_byte (declared_content (document_text document.now))) }
         requires agree { Agree (setup_of self.old) }
         ensures ok { OnOk result (AddsDocument (setup_of self.old) (document_text document.now) (setup_of self.new)) }
         ensures agree { OnOk result (Agree (setup_of self.new)) }

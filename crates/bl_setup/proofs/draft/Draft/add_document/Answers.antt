@@ -1,6 +1,6 @@
 use Rattle.std.proofs.Common.{◌≡◌, ◌≤◌, [], ◌∷◌, ◌++◌, length, ap, refl, subst, ◌∙◌, arith}
 use Rattle.std.specs.Prelude.{is_some}
-use Rattle.bl_declare.specs.Declaration.{content_of}
+use Rattle.bl_declare.specs.Declaration.{declared_content}
 use Rattle.bl_declare.specs.Words.{document_text}
 use Rattle.bl_policy.specs.Policy.{with_declared}
 use Rattle.bl_work.specs.Content.{most_bytes}
@@ -14,7 +14,7 @@ returns-clause-ok c =
     let d = document_text c.args.document.now in
     let before = setup_of c.args.self.now in
     let name = rw c.unwrap.ensures at c.new-2.ensures.value in
-    let content : c.unwrap_or-content.result.now ≡ content_of d = content_now c.args.document.now.content _ _ c.unwrap_or-content.ensures refl in
+    let content : c.unwrap_or-content.result.now ≡ declared_content d = content_now c.args.document.now.content _ _ c.unwrap_or-content.ensures refl in
     let there : c.is_some-2.result ≡ is_some d.content = c.is_some-2.ensures ∙ some_now c.args.document.now.content in
     record {
       room = omega arith;
