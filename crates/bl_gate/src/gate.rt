@@ -143,7 +143,7 @@ impl Gate {
     /// Waits a moment where a word of the table is as it was found: at first it spins, then it yields, and then it sleeps in short
     /// steps.
     fn rest<R: Wait>(&self, rt: &R, backoff: &Backoff, word: usize, found: u64)
-        requires { word < self.now.table.words }
+        requires { word < 2 }
     {
         if !backoff.is_completed() {
             backoff.snooze();
