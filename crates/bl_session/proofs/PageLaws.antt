@@ -2,13 +2,16 @@
 use Rattle.std.proofs.Common.{◌≡◌, ℕ, zero, suc, ◌+◌, ◌-◌, ◌<◌, ◌≤◌, Bool, true, false, cond, List, [], ◌∷◌, ◌++◌, length, refl, sym, ap, subst, ◌∙◌, arith, append-nil, append_assoc, nat_lt, replicate, true≢false, inl, inr, ◌⊎◌, sum_by, slice_index_or, slice_set}
 use Rattle.std.proofs.lemmas.Bool.Decides.{nat_tests}
 use mathlib.Core.Path.{fun_ext}
+use Rattle.bl_work.specs.Readable.{IsReadable}
 use Rattle.bl_work.specs.declared.work.Work.{Work}
 use Rattle.bl_setup.specs.Setup.{Setup}
 use Rattle.bl_order.specs.Order.{Line}
 use Rattle.bl_order.specs.Past.{is_done, place, content_before}
 use Rattle.bl_order.specs.Machine.{State, Event, Session, Phase, MayStart, Needs, Waiting, Running, Ended, Gone, is_gone, is_waiting, past_at, phase_at, change, state_after, start, runs, has_ended, session_at, no_session, entry_weight, weight_of}
 use Rattle.bl_order.specs.Machine as machine
-use Rattle.bl_core.specs.Answers.{loan_at, loan_of}
+use Rattle.bl_core.specs.Answers.{IsCause, loan_at, loan_of}
+use Rattle.bl_core.specs.declared.refusal.Cause.{Cause}
+use Rattle.bl_core.specs.declared.refusal.Cause.TheVariants as cause
 use Rattle.bl_hall.specs.Chronicle.{Chronicle, HasTrail, state_now, with_event}
 use Rattle.bl_wire.specs.declared.turn.Turn.{Turn}
 use Rattle.bl_wire.specs.Replies.{line_text}
@@ -177,6 +180,13 @@ pub asked_settled : (x : State) (e k n : ℕ) (w : Work) → RanUpTo e x → n <
 asked_settled x e k n w ran lt later =
     let grown : AreLater e (change x (machine.Admits 0 k w)).order n = later-line x.order e k (session_at x 0).subject n w later lt in
     (grown, text-stands x (change x (machine.Admits 0 k w)) (Line 0 k (session_at x 0).subject w ∷ []) e n refl refl (λ p low. ap is_gone (more_waiting x.phases 1 p)) ran.within grown)
+
+-- what is read by the setup's names, of a session that is open, with an ordinal above its last one, is refused for want of room alone
+pub only_full : (x : State) (k : ℕ) (w : Work) (why : Cause) → 0 < length x.sessions → IsReadable x.setup.names w → (session_at x 0).last < k → IsCause x 0 k w why
+    → (why ≡ cause.Stranger) ⊎ ((why ≡ cause.Session) ⊎ (why ≡ cause.Ordinal)) → ⊥
+only_full x k w why there readable last is (inl e) = subst (IsCause x 0 k w) e is readable
+only_full x k w why there readable last is (inr (inl e)) = let none = (subst (IsCause x 0 k w) e is).1 in omega (arith, none, there)
+only_full x k w why there readable last is (inr (inr e)) = let low = (subst (IsCause x 0 k w) e is).2 in omega (arith, low, last)
 
 -- ---- what was told
 

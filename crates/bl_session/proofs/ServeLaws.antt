@@ -1,6 +1,6 @@
 -- What is asked of the machine of one worker, and what is written.
 use Rattle.std.proofs.Common.{◌≡◌, ℕ, ◌<◌, Bool, true, false, ◌⊎◌, inl, inr, List, [], length, refl, subst, arith, Option, Some}
-use Rattle.std.specs.Prelude.{⊤, Result, Ok, Err, OnOk, IfErr}
+use Rattle.std.specs.Prelude.{Result, Ok, Err, OnOk, IfErr}
 use mathlib.Core.Path.{fun_ext}
 use Rattle.std.specs.Io.KnownBytes.{Appends}
 use Rattle.std.proofs.KnownBytes.{Appends-nil}
@@ -11,12 +11,14 @@ use Rattle.bl_work.specs.declared.asked.Line.TheVariants as line
 use Rattle.bl_work.specs.Names.{KnownNames}
 use Rattle.bl_work.specs.Grammar.{SpelledLine, hello, wait, when, rule}
 use Rattle.bl_work.specs.LineGrammar.{Means}
+use Rattle.bl_work.specs.Readable.{IsReadable}
 use Rattle.bl_setup.specs.Agreement.{Agree}
 use Rattle.bl_setup.specs.Setup.{Setup}
 use Rattle.bl_hall.specs.Chronicle.{state_now}
 use Rattle.bl_wire.specs.declared.turn.Turn.TheVariants.{Skip, Wait, Greets, Bad, Ask}
 use Rattle.bl_wire.specs.declared.fault.SessionFault.{SessionFault}
 use Rattle.bl_wire.specs.declared.fault.SessionFault.TheVariants.{Memory}
+use Rattle.bl_wire.specs.Lines.{without_cr}
 use Rattle.bl_wire.specs.Turns.{AreServed}
 use Rattle.bl_wire.specs.Replies.{line_text}
 use Rattle.bl_wire.specs.Texts.{session_text}
@@ -43,12 +45,12 @@ subject_of names wait subject means = absurd means
 subject_of names (when first more body) subject means = absurd means
 subject_of names (rule asked) subject means = absurd means
 
-pub are_served : (setup : Setup) → Agree setup → AreServed setup.names (λ subject. subject < length setup.policy.subjects) (λ work. ⊤)
+pub are_served : (setup : Setup) → Agree setup → AreServed setup.names (λ subject. subject < length setup.policy.subjects) (IsReadable setup.names)
 are_served setup agree l Skip is = tt
 are_served setup agree l Wait is = tt
 are_served setup agree l (Greets subject) is = subst (λ n. subject < n) agree.subjects (subject_of setup.names is.1.spelled subject is.1.means)
 are_served setup agree l (Bad fault) is = tt
-are_served setup agree l (Ask work) is = tt
+are_served setup agree l (Ask work) is = (without_cr l, is.1)
 
 -- ---- what is written
 

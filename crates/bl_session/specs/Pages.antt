@@ -31,6 +31,11 @@ pub record Stands (setup : Setup) (limit : ℕ) (s : Pages) : Type 0 where
   pub trail : HasTrail s.hall
   pub ran : RanUpTo s.next (state_now s.hall)
 
+-- and its session is open
+pub record IsOpen (setup : Setup) (limit : ℕ) (s : Pages) : Type 0 where
+  pub stands : Stands setup limit s
+  pub there : 0 < length (state_now s.hall).sessions
+
 -- with more events
 abbrev pub with_events : Chronicle → List Event → Chronicle
 with_events h events = record { setup = h.setup; limit = h.limit; trail = h.trail ++ events }

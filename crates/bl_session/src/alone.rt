@@ -1,6 +1,6 @@
 //! A session with one worker, in one thread: lines are admitted without being run, and at each
 //! `wait` and at the end of the input they are run in admission order, over a hall of their own.
-ghost use Rattle.std.specs.Prelude.{◌≡◌, ◌≢◌, false, OnOk, IfErr, IsSome};
+ghost use Rattle.std.specs.Prelude.{◌≡◌, ◌≢◌, ◌≤◌, false, OnOk, IfErr, IsSome};
 ghost use Rattle.bl_wire.specs.Watch.{used};
 ghost use Rattle.bl_session.specs.Outcome.{IsServed, IsCutShort};
 ghost use Rattle.bl_wire.specs.declared.fault.SessionFault.TheVariants.{Clash};
@@ -31,8 +31,8 @@ impl Kept {
     }
 }
 
-/// Serves one session over a reader and a writer. The admitted lines weigh at most `limit` together, one for each `when`. A limit is 1 to
-/// 100,000; with another one there is no memory for a session.
+/// Serves one session over a reader and a writer. The admitted lines weigh at most `limit` together, one for each `when`. The limit is 1
+/// to 100,000.
 ///
 /// At `Ok` the input was read to its end, or to the end of a first line that was refused, and its
 /// transcript is written and handed on. `Read` and `Write` come only where that end failed, and that
@@ -46,6 +46,8 @@ pub fn serve_alone<R: BufRead, W: Write>(
     reader: &mut Watched<R>,
     writer: &mut Watched<W>,
 ) -> Result<(), SessionFault>
+    requires some { 1 ≤ limit }
+    requires most { limit ≤ 100000 }
     requires reader { reader.old.failed ≡ false }
     requires writer { writer.old.failed ≡ false }
     ensures ok { OnOk result (IsServed setup limit (used R.remaining reader.old reader.new) (used W.contents writer.old writer.new)) }
@@ -66,6 +68,8 @@ pub fn serve_and_keep<R: BufRead, W: Write>(
     reader: &mut Watched<R>,
     writer: &mut Watched<W>,
 ) -> (Result<(), SessionFault>, Option<Kept>)
+    requires some { 1 ≤ limit }
+    requires most { limit ≤ 100000 }
     requires reader { reader.old.failed ≡ false }
     requires writer { writer.old.failed ≡ false }
     ensures ok { OnOk result.0 (IsServed setup limit (used R.remaining reader.old reader.new) (used W.contents writer.old writer.new)) }

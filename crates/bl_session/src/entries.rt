@@ -1,17 +1,18 @@
 //! The machine of one worker, over a hall. Lines enter the admission order without being run. When a block ends, the entries start
 //! and end by rising place, and the children of an entry enter at its end, behind all that entered before. An entry that finds no
 //! memory to start or to run is lost, and the others go on.
-ghost use Rattle.std.specs.Prelude.{◌≡◌, ◌<◌, [], length, IfOk, IsTrue, ⊤};
+ghost use Rattle.std.specs.Prelude.{◌≡◌, ◌<◌, ◌≤◌, [], length, IfOk, IsTrue};
 ghost use Rattle.bl_order.specs.Headline.{IsReached};
 ghost use Rattle.bl_order.specs.Labels.{tag};
 ghost use Rattle.bl_order.specs.Machine.{MayStart, has_ended, session_at, runs};
 ghost use Rattle.bl_core.specs.Answers.{loan_at};
 ghost use Rattle.bl_hall.specs.Chronicle.{state_now};
 ghost use Rattle.bl_hall.specs.Told.{reply_in};
+ghost use Rattle.bl_work.specs.Readable.{IsReadable};
 ghost use Rattle.bl_wire.specs.Replies.{label_text, line_text, reply_text};
 ghost use Rattle.bl_wire.specs.Watch.{end_state, Puts};
 ghost use Rattle.bl_session.specs.Blocks.{Gives};
-ghost use Rattle.bl_session.specs.Pages.{AreLater, Came, HasEnded, HasHad, HaveRun, RanUpTo, Stands};
+ghost use Rattle.bl_session.specs.Pages.{AreLater, Came, HasEnded, HasHad, HaveRun, IsOpen, RanUpTo, Stands};
 
 use crate::block::Block;
 use bl_core::machine::{Core, Started};
@@ -23,6 +24,7 @@ use bl_eval::evaluate::eval;
 use bl_eval::lent::Lent;
 use bl_hall::hall::Hall;
 use bl_hall::laws::replies_go_by_lines;
+use bl_hall::reply::AnswersFault;
 use bl_order::laws::the_order_has_room;
 use bl_policy::id::SubjectId;
 use bl_setup::setup::Setup;
@@ -36,9 +38,6 @@ use std::io::Write;
 
 /// The session of a hall that has one.
 const SESSION: u32 = 0;
-
-/// The greatest limit of a hall.
-const MOST_LIMIT: u32 = 100_000;
 
 /// What stays while a session is served: the setup, and the greatest sum of the weights of admitted lines.
 #[derive(Drop)]
@@ -55,20 +54,19 @@ pub struct Pages {
     pub next: u32,
 }
 
-/// A hall in which nothing has happened, over an equal setup. A limit that is not 1 to 100,000 has none, as if there were no memory
-/// for it.
+/// A hall in which nothing has happened, over an equal setup.
 fn hall_over(alloc: Global, setup: &Setup, limit: u32) -> Result<Hall, AllocError>
+    requires some { 1 ≤ limit }
+    requires most { limit ≤ 100000 }
     ensures { IfOk result (λ hall. hall ≡ record { setup = setup.now; limit = limit; trail = [] }) }
 {
-    if limit == 0 || limit > MOST_LIMIT {
-        return Err(AllocError);
-    }
     Hall::new(alloc, setup.copy()?, limit)
 }
 
-/// What a session begins with: a hall of its own over the setup. A limit that is not 1 to 100,000 has no hall, as if there were no
-/// memory for it.
+/// What a session begins with: a hall of its own over the setup. An error comes only where a growth is refused.
 pub fn begin(alloc: Global, setup: Setup, limit: u32) -> Result<(Alone, Pages), AllocError>
+    requires some { 1 ≤ limit }
+    requires most { limit ≤ 100000 }
     ensures alone { IfOk result (λ begun. (begun.0.setup ≡ setup) × (begun.0.limit ≡ limit)) }
     ensures pages { IfOk result (λ begun. (begun.1.hall ≡ record { setup = setup; limit = limit; trail = [] }) × (begun.1.next ≡ 0)) }
 {
@@ -179,7 +177,7 @@ impl Behind for Alone {
 
     ghost serves = { λ a subject. subject < length a.setup.policy.subjects };
 
-    ghost takes = { λ _ _. ⊤ };
+    ghost takes = { λ a work. IsReadable a.setup.names work };
 
     ghost fills = { λ _ _. ⊥ };
 
@@ -189,7 +187,9 @@ impl Behind for Alone {
 
     ghost settled = { λ _ s n. AreLater s.next (state_now s.hall).order n };
 
-    ghost whole = { λ a s _. Stands a.setup a.limit s };
+    ghost fresh = { λ a s. Stands a.setup a.limit s };
+
+    ghost whole = { λ a s _. IsOpen a.setup a.limit s };
 
     ghost came = { λ a s told. Came a.setup a.limit s told };
 
@@ -210,7 +210,7 @@ impl Behind for Alone {
             Ok(_) => Ok(Asking::Taken),
             Err(refused) => match refused.cause {
                 Cause::Full => Ok(Asking::Taken),
-                Cause::Stranger | Cause::Session | Cause::Ordinal => Err(AllocError),
+                Cause::Stranger | Cause::Session | Cause::Ordinal => unreachable!(),
             },
         }
     }
@@ -223,7 +223,8 @@ impl Behind for Alone {
         match state.hall.places(SessionNo::new(SESSION), after) {
             Ok(Some(places)) => Ok(Block { places, next: 0 }),
             Ok(None) => unreachable!(),
-            Err(_) => Err(AllocError),
+            Err(AnswersFault::Session) => unreachable!(),
+            Err(AnswersFault::Memory) => Err(AllocError),
         }
     }
 

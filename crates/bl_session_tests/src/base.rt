@@ -1,4 +1,6 @@
 //! The setup of the worked examples, and sessions over it.
+ghost use Rattle.std.specs.Prelude.{◌≤◌};
+
 use bl_session::alone::serve_alone;
 use bl_setup::reader::read_setup;
 use bl_setup::setup::Setup;
@@ -67,7 +69,10 @@ pub fn base_or_none(alloc: Global) -> Option<Setup> {
 }
 
 /// Serves the input over a setup. The bytes that were written, and how many were left unread.
-fn served(alloc: Global, setup: Setup, limit: u32, input: &[u8]) -> Result<(Vec<u8>, usize), Fail> {
+fn served(alloc: Global, setup: Setup, limit: u32, input: &[u8]) -> Result<(Vec<u8>, usize), Fail>
+    requires some { 1 ≤ limit }
+    requires most { limit ≤ 100000 }
+{
     let mut reader = Watched::new(input);
     let mut writer = Watched::new(Vec::new(alloc));
     serve_alone(alloc, setup, limit, &mut reader, &mut writer)?;
@@ -81,7 +86,10 @@ pub fn assert_served<R: AllocGlobal + Abort>(
     limit: u32,
     input: &[u8],
     output: &str,
-) -> Result<usize, Fail> {
+) -> Result<usize, Fail>
+    requires some { 1 ≤ limit }
+    requires most { limit ≤ 100000 }
+{
     let (written, left) = served(rt.alloc(), setup, limit, input)?;
     let said = String::from_utf8(written)?;
     assert_eq!(rt; said.as_str(), output);
@@ -94,7 +102,10 @@ pub fn assert_said_under<R: AllocGlobal + Abort>(
     limit: u32,
     input: &[u8],
     output: &str,
-) -> Result<(), Fail> {
+) -> Result<(), Fail>
+    requires some { 1 ≤ limit }
+    requires most { limit ≤ 100000 }
+{
     assert_served(rt, base(rt.alloc())?, limit, input, output)?;
     Ok(())
 }

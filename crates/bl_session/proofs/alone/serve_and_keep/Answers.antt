@@ -1,6 +1,6 @@
 use Rattle.std.proofs.Common.{◌≡◌, ◌<◌, ◌∙◌, [], sym, ap, subst, length, ℕ}
-use Rattle.std.specs.Prelude.{⊤}
 use Rattle.bl_work.specs.Names.{KnownNames}
+use Rattle.bl_work.specs.Readable.{IsReadable}
 use Rattle.bl_setup.specs.Setup.{Setup}
 use Rattle.bl_hall.specs.Chronicle.{Chronicle, state_now}
 use Rattle.bl_wire.specs.Replies.{line_text}
@@ -31,8 +31,8 @@ converse-served-requires-clause-came g c =
     new : Setup → ℕ → Chronicle
     new setup limit = record { setup = setup; limit = limit; trail = [] }
 
-pub converse-served-requires-clause-whole : goal.converse-served-requires-clause-whole
-converse-served-requires-clause-whole g c =
+pub converse-served-requires-clause-fresh : goal.converse-served-requires-clause-fresh
+converse-served-requires-clause-fresh g c =
     let behind = c.in-Ok.behind in
     let alone = c.in-Ok.ensures.alone in
     let hall : c.in-Ok.pages.hall ≡ record { setup = behind.setup; limit = behind.limit; trail = [] } =
@@ -46,7 +46,7 @@ converse-served-requires-clause-whole g c =
 pub converse-served-requires-clause-served : goal.converse-served-requires-clause-served
 converse-served-requires-clause-served g c =
     let own = c.in-Ok.behind.setup in
-    subst (λ (k : KnownNames). AreServed k (λ subject. subject < length own.policy.subjects) (λ work. ⊤)) (sym c.names.ensures.value) (are_served own c.names.ensures.agree)
+    subst (λ (k : KnownNames). AreServed k (λ subject. subject < length own.policy.subjects) (IsReadable own.names)) (sym c.names.ensures.value) (are_served own c.names.ensures.agree)
 
 pub returns-clause-ok : goal.returns-clause-ok
 returns-clause-ok g c =

@@ -51,7 +51,7 @@ replies-init g c =
 pub put_reply-requires-clause-setup : goal.put_reply-requires-clause-setup
 put_reply-requires-clause-setup g c =
     let h = c.args.state.now.hall in
-    sym (setup_after (start h.setup h.limit) h.trail ∙ c.requires.whole.1.setup_is)
+    sym (setup_after (start h.setup h.limit) h.trail ∙ c.requires.whole.1.stands.setup_is)
 
 pub replies-preserved : goal.replies-preserved
 replies-preserved g c =
@@ -83,7 +83,7 @@ returns-clause-text g c =
     let said : List Reply = inv.0 in
     let none = rw c.in_default.is at c.front-in-replies.ensures in
     let line = line_is c.replies_go_by_lines.ensures x c.args.block.now c.pass.new.self gives.0 k gives.1 gives.2 c.pass.ensures.left in
-    let same : c.args.self.now.setup ≡ x.setup = sym (setup_after (start h.setup h.limit) h.trail ∙ c.requires.whole.1.setup_is) in
+    let same : c.args.self.now.setup ≡ x.setup = sym (setup_after (start h.setup h.limit) h.trail ∙ c.requires.whole.1.stands.setup_is) in
     puts-is _ _ _ _
     (ap (λ (s : Setup). flat_map (reply_text s.names) said) same
     ∙ ap (flat_map (reply_text x.setup.names)) (sym (inv.2 ∙ ap (λ l. said ++ l) none ∙ append-nil said))

@@ -1,21 +1,29 @@
-use Rattle.std.proofs.Common.{rules, sym, ap, subst, ◌∙◌, arith, refl}
-use Rattle.bl_order.specs.Machine.{State, Admits, Needs, session_at}
+use Rattle.std.proofs.Common.{◌≡◌, ◌<◌, length, sym, ap, subst, ◌∙◌, arith, refl}
+use Rattle.bl_work.specs.Readable.{IsReadable}
+use Rattle.bl_setup.specs.Setup.{Setup}
+use Rattle.bl_order.specs.Machine.{State, Admits, Needs, change, session_at, start}
 use Rattle.bl_core.specs.Answers.{IsCause}
 use Rattle.bl_hall.specs.Chronicle.{state_now, with_event}
 use Rattle.bl_engine.specs.Requests.{SameUpTo}
 use Rattle.bl_wire.specs.Replies.{line_text}
 use Rattle.bl_session.specs.declared.entries.Pages.{Pages}
 use Rattle.bl_session.specs.Pages.{AreLater}
-use Rattle.bl_session.proofs.PageLaws.{state_next, asked_stands, asked_settled, came_asked, came_full}
+use Rattle.bl_session.proofs.PageLaws.{only_full, state_next, asked_stands, asked_settled, came_asked, came_full}
+use Rattle.bl_session.proofs.RunLaws.{setup_after}
 use Rattle.bl_session.proofs.TrailLaws.{last_set}
 use Rattle.bl_session.proofs.entries.AloneBehind.ask.Goals as goal
 
 pub returns-in-Ok-clause-whole : goal.returns-in-Ok-clause-whole
-returns-in-Ok-clause-whole c is n lt stands =
+returns-in-Ok-clause-whole c is n lt opened =
     let s = c.args.state.now in
+    let x = state_now s.hall in
     let t : Pages = record { hall = c.line.new.self; next = s.next } in
     let hall = c.in-Ok.ensures.ok.1 ∙ ap (λ j. with_event s.hall (Admits j c.args.ordinal c.args.work)) c.new.ensures in
-    asked_stands c.args.self.now.setup c.args.self.now.limit s t c.args.ordinal c.args.work stands hall refl c.in-Ok.ensures.continues.trail
+    let at : state_now t.hall ≡ change x (Admits 0 c.args.ordinal c.args.work) = ap state_now hall ∙ state_next s.hall (Admits 0 c.args.ordinal c.args.work) in
+    record {
+      stands = asked_stands c.args.self.now.setup c.args.self.now.limit s t c.args.ordinal c.args.work opened.stands hall refl c.in-Ok.ensures.continues.trail;
+      there = subst (λ (y : State). 0 < length y.sessions) (sym at) (last_set x.sessions c.args.ordinal opened.there).0;
+    }
 
 pub returns-in-Ok-clause-came : goal.returns-in-Ok-clause-came
 returns-in-Ok-clause-came c is told came =
@@ -40,7 +48,7 @@ returns-in-Ok-clause-settled c n lt later =
     let x = state_now s.hall in
     let hall = c.in-Ok.ensures.ok.1 ∙ ap (λ j. with_event s.hall (Admits j c.args.ordinal c.args.work)) c.new.ensures in
     subst (λ (y : State). AreLater s.next y.order n × SameUpTo n (line_text x 0) (line_text y 0)) (sym (ap state_now hall ∙ state_next s.hall (Admits 0 c.args.ordinal c.args.work)))
-    (asked_settled x s.next c.args.ordinal n c.args.work c.requires.whole.2.ran lt later)
+    (asked_settled x s.next c.args.ordinal n c.args.work c.requires.whole.2.stands.ran lt later)
 
 pub returns-in-Full-clause-came : goal.returns-in-Full-clause-came
 returns-in-Full-clause-came c is told came =
@@ -49,5 +57,11 @@ returns-in-Full-clause-came c is told came =
     let full = subst (IsCause (state_now s.hall) c.new.result c.args.ordinal c.args.work) c.in-Full.is c.in-Err.ensures.cause.0 in
     came_full c.args.self.now.setup c.args.self.now.limit s t c.args.ordinal c.args.work told came c.in-Err.ensures.err refl full.3
 
-pub returns : goal.returns
-returns c = search rules
+pub unreachable-requires : goal.unreachable-requires
+unreachable-requires c =
+    let s = c.args.state.now in
+    let x = state_now s.hall in
+    let opened = c.requires.whole.2 in
+    let same : x.setup ≡ c.args.self.now.setup = setup_after (start s.hall.setup s.hall.limit) s.hall.trail ∙ opened.stands.setup_is in
+    let why = subst (λ j. IsCause x j c.args.ordinal c.args.work c.in-Err.refused.cause) c.new.ensures c.in-Err.ensures.cause.0 in
+    only_full x c.args.ordinal c.args.work c.in-Err.refused.cause opened.there (subst (λ (k : Setup). IsReadable k.names c.args.work) (sym same) c.requires.takes) c.requires.last why c.in-Stranger.is

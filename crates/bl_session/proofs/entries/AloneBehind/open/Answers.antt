@@ -1,4 +1,4 @@
-use Rattle.std.proofs.Common.{◌≡◌, sym, ap, subst, ◌∙◌, arith, length, refl, []}
+use Rattle.std.proofs.Common.{◌≡◌, sym, ap, subst, ◌∙◌, arith, length, length-append, refl, [], ◌∷◌}
 use Rattle.bl_setup.specs.Setup.{Setup}
 use Rattle.bl_order.specs.Machine.{State, Opens, change, session_at, start}
 use Rattle.bl_core.specs.Answers.{IsNotOpened}
@@ -14,7 +14,7 @@ unreachable-requires c =
     let s = c.args.state.now in
     let x = state_now s.hall in
     let full = subst (IsNotOpened x c.args.subject) c.in-Err-Stranger.field-0-is c.in-Err-Stranger.ensures.cause in
-    let same : x.setup ≡ c.args.self.now.setup = setup_after (start s.hall.setup s.hall.limit) s.hall.trail ∙ c.requires.whole.setup_is in
+    let same : x.setup ≡ c.args.self.now.setup = setup_after (start s.hall.setup s.hall.limit) s.hall.trail ∙ c.requires.fresh.setup_is in
     omega (arith, full, c.requires.serves, ap (λ (k : Setup). length k.policy.subjects) same)
 
 pub unreachable-requires-in-Err-SessionsFull : goal.unreachable-requires-in-Err-SessionsFull
@@ -34,8 +34,13 @@ returns-clause-came c is =
 pub returns-clause-whole : goal.returns-clause-whole
 returns-clause-whole c is =
     let s = c.args.state.now in
+    let x = state_now s.hall in
     let t : Pages = record { hall = c.open.new.self; next = s.next } in
-    (came_opened c.args.self.now.setup c.args.self.now.limit s t c.args.subject c.requires.came c.in-Ok.ensures.ok.1 refl c.in-Ok.ensures.continues.trail).stands
+    let at : state_now t.hall ≡ change x (Opens c.args.subject) = ap state_now c.in-Ok.ensures.ok.1 ∙ state_next s.hall (Opens c.args.subject) in
+    record {
+      stands = (came_opened c.args.self.now.setup c.args.self.now.limit s t c.args.subject c.requires.came c.in-Ok.ensures.ok.1 refl c.in-Ok.ensures.continues.trail).stands;
+      there = omega (arith, ap (λ (y : State). length y.sessions) at, length-append x.sessions (record { subject = c.args.subject; last = 0 } ∷ []));
+    }
 
 pub returns-clause-last : goal.returns-clause-last
 returns-clause-last c is =
