@@ -17,6 +17,7 @@ use Rattle.bl_order.specs.Machine.{State, Event, Phase, Admits, Needs, change, p
 use Rattle.bl_order.specs.Machine as machine
 use Rattle.bl_order.specs.Order.{Entry, Task, accesses_of, unnamed}
 use Rattle.bl_order.specs.Order as orders
+use Rattle.bl_order.specs.Room.{IsBehaviourOrRule}
 use Rattle.bl_order.specs.Past.{no_entry, task_of, earlier, first_task, child_task}
 use Rattle.bl_queue.specs.Queues.{Queue}
 use Rattle.bl_queue.specs.Entries as queued
@@ -82,6 +83,36 @@ speaker-known x r k i row lt at =
     let within : i < length r.sessions.items = omega (arith, lt, ap length k.sessions, length-map r.sessions.items session_in) in
     subst (λ (s : Session). s.subject < length x.setup.policy.subjects) (sym at) (k.speakers i row within)
 
+child-first : (u : Work) → first_task u ≡ child_task (first_task u) 0
+child-first (works.Behaviour script) = refl
+child-first (works.Rule rule) = refl
+
+module _ (x : State) (r : Replayer) (i o : ℕ) (w : Work) (k : KeepsAt x r) where
+  -- the new place does what the line asks
+  line-task : (past_at (change x (Admits i o w)) (length r.places.items)).task ≡ child_task (first_task w) 0
+  line-task =
+      ap (task_of (earlier (change x (Admits i o w)).setup (is_lost (change x (Admits i o w))) (change x (Admits i o w)).order (length r.places.items)))
+      (ap (λ (m : ℕ). get_or (change x (Admits i o w)).order m no_entry) (sym (many-places x r k))
+      ∙ get_or-append_seam x.order (orders.Line i o (session_at x i).subject w) [] no_entry)
+      ∙ child-first w
+
+  module _ (needs : Needs x (Admits i o w)) (next : (y : State) (f : Event) → IsReached y → Needs y f → IsReached (change y f)) where
+    reached : IsReached (change x (Admits i o w))
+    reached = next x (Admits i o w) k.reached needs
+
+    longer : length (change x (Admits i o w)).order ≡ length r.places.items + 1
+    longer =
+        let more : length (change x (Admits i o w)).order ≡ length x.order + 1 = length-append x.order (orders.Line i o (session_at x i).subject w ∷ []) in
+        omega (arith, more, many-places x r k)
+
+    -- there is room for it
+    pub has-room : ((y : State) → IsReached y → length y.order ≤ y.limit) → length r.places.items < x.limit
+    has-room room = let within : length (change x (Admits i o w)).order ≤ x.limit = room (change x (Admits i o w)) reached in omega (arith, within, longer)
+
+    -- and it does one of the behaviours of a script, or applies a rule
+    pub is-task : ((y : State) (m : ℕ) → IsReached y → m < length y.order → IsBehaviourOrRule (past_at y m).task) → IsBehaviourOrRule (child_task (first_task w) 0)
+    is-task tasks = subst IsBehaviourOrRule line-task (tasks (change x (Admits i o w)) (length r.places.items) reached (omega (arith, longer)))
+
 module _ (x : State) (r d : Replayer) (i o subject : ℕ) (w : Work) (k : KeepsAt x r) (needs : Needs x (Admits i o w))
     (next : (y : State) (f : Event) → IsReached y → Needs y f → IsReached (change y f))
     (speaks : subject ≡ (session_at x i).subject) (known : subject < length x.setup.policy.subjects) (knows : KnowsWork x.setup w) (v : Admitted r d i o subject w) where
@@ -106,19 +137,9 @@ module _ (x : State) (r d : Replayer) (i o subject : ℕ) (w : Work) (k : KeepsA
   new-place : (m : ℕ) → length r.places.items ≤ m → m < length d.places.items → m ≡ length r.places.items
   new-place m ge lt = omega (arith, ge, lt, ap length v.places, length-append r.places.items (line_place subject w ∷ []))
 
-  child-first : (u : Work) → first_task u ≡ child_task (first_task u) 0
-  child-first (works.Behaviour script) = refl
-  child-first (works.Rule rule) = refl
-
-  entry-last : get_or (change x (Admits i o w)).order (length r.places.items) no_entry ≡ orders.Line i o (session_at x i).subject w
-  entry-last =
-      ap (λ (m : ℕ). get_or (change x (Admits i o w)).order m no_entry) (sym (many-places x r k))
-      ∙ get_or-append_seam x.order (orders.Line i o (session_at x i).subject w) [] no_entry
-
   task-last : (past_at (change x (Admits i o w)) (length r.places.items)).task ≡ task_in (place_in d.places.items (length r.places.items))
   task-last =
-      ap (task_of (earlier (change x (Admits i o w)).setup (is_lost (change x (Admits i o w))) (change x (Admits i o w)).order (length r.places.items))) entry-last
-      ∙ child-first w
+      line-task x r i o w k
       ∙ ap task_in (sym (ap (λ l. place_in l (length r.places.items)) v.places ∙ get_or-append_seam r.places.items (line_place subject w) [] no_place))
 
   new : (m : ℕ) → length r.places.items ≤ m → m < length d.places.items → (past_at (change x (Admits i o w)) m).task ≡ task_in (place_in d.places.items m)

@@ -1,8 +1,9 @@
 -- A place ends, and its children enter.
 use Rattle.std.proofs.Common.{◌≡◌, ℕ, zero, suc, ◌+◌, ◌-◌, ◌<◌, ◌≤◌, List, [], ◌∷◌, ◌++◌, length, get_or, set, replicate, refl, sym, ◌∙◌, ap, subst, arith, length-append, length-set}
-use Rattle.std.specs.Prelude.{All, map, sum_by}
+use Rattle.std.specs.Prelude.{All, IsTrue, map, sum_by}
 use Rattle.std.proofs.Math.ListN.{get_or-append}
 use Rattle.std.proofs.lemmas.List.{map-append, get_or-append_right}
+use Rattle.std.proofs.lemmas.Grind.{get_or_default_zero}
 use Rattle.std.proofs.lemmas.List.Elements.{All-append}
 use Rattle.std.proofs.lemmas.List.Sums.{sum_by-append}
 use Rattle.bl_work.specs.Effects.{children}
@@ -16,6 +17,7 @@ use Rattle.bl_order.specs.Machine as machine
 use Rattle.bl_order.specs.Order.{Entry, Task, unnamed}
 use Rattle.bl_order.specs.Order as orders
 use Rattle.bl_order.specs.Past.{Past, no_entry, task_of, earlier, at_place, first_task, child_task}
+use Rattle.bl_order.specs.Room.{IsBehaviourOrRule}
 use Rattle.bl_order.proofs.Places.{at_place-earlier}
 use Rattle.bl_order.proofs.Reached.{sound-reached}
 use Rattle.bl_order.proofs.Steps.{length-child_entries}
@@ -105,6 +107,52 @@ pub record Ended (r d : Replayer) (n : ℕ) (p : Place) (ks : List ℕ) : Type 0
   pub places : d.places.items ≡ set r.places.items n (standing p stand.Ended) ++ child_places n p.work 1 ks
   pub queues : d.queues ≡ record (queues.with_stand r.queues n (stand_of stand.Ended)) { entries = (queues.with_stand r.queues n (stand_of stand.Ended)).entries ++ map queued_as (child_places n p.work 1 ks) }
 
+module _ (x : State) (r : Replayer) (n : ℕ) (p : Place) (ks : List ℕ) (k : KeepsAt x r) (runs : Needs x (Ends n))
+    (lt : n < length r.places.items) (at : p ≡ get_or r.places.items n p) (are : ks ≡ children (past_at x n).effects) where
+  entry-new : (j : ℕ) → j < length ks → get_or (change x (Ends n)).order (length r.places.items + j) no_entry ≡ orders.Child n (1 + j)
+  entry-new j l =
+      get_or-append_right x.order (children_at x n) (length r.places.items) (length r.places.items + j) no_entry (many-places x r k) (omega arith)
+      ∙ ap (λ m. get_or (children_at x n) m no_entry) (less (length r.places.items) j)
+      ∙ entry-read n 1 (children (past_at x n).effects) j (subst (λ (xs : List ℕ). j < length xs) are l)
+
+  abbrev before : ℕ → List Past
+  before j = earlier (change x (Ends n)).setup (is_lost (change x (Ends n))) (change x (Ends n)).order (length r.places.items + j)
+
+  parent-read : (j : ℕ) → at_place (before j) n ≡ past_at x n
+  parent-read j =
+      at_place-earlier (change x (Ends n)).setup (is_lost (change x (Ends n))) (change x (Ends n)).order (length r.places.items + j) n (omega (arith, lt))
+      ∙ past-ended x (sound-reached x k.reached) n runs n (omega (arith, lt, many-places x r k))
+
+  -- each child does the behaviour that its parent spawned
+  task-child : (j : ℕ) → j < length ks → (past_at (change x (Ends n)) (length r.places.items + j)).task ≡ child_task (first_task p.work) (get_or ks j 0)
+  task-child j l =
+      ap (task_of (before j)) (entry-new j l)
+      ∙ ap (λ (q : Past). child_task q.task (get_or (children q.effects) ((1 + j) - 1) 0)) (parent-read j)
+      ∙ ap (λ (m : ℕ). child_task (past_at x n).task (get_or (children (past_at x n).effects) m 0)) (which-less j)
+      ∙ ap (λ (xs : List ℕ). child_task (past_at x n).task (get_or xs j 0)) (sym are)
+      ∙ ap (λ (u : Task). child_task u (get_or ks j 0)) (k.tasks n lt ∙ ap task_in (sym (here r.places.items n p stand.Ended lt at)))
+      ∙ child-again p.work p.index (get_or ks j 0)
+
+  many-children : length (children_at x n) ≡ length ks
+  many-children = length-child_entries n 1 (children (past_at x n).effects) ∙ ap length (sym are)
+
+  longer : length (change x (Ends n)).order ≡ length x.order + length (children_at x n)
+  longer = length-append x.order (children_at x n)
+
+  -- there is room for the children
+  pub have-room : ((y : State) (m : ℕ) → IsReached y → IsTrue (machine.runs y m) → length y.order + length (children_at y m) ≤ y.limit) → length r.places.items + length ks ≤ x.limit
+  have-room room = omega (arith, room x n k.reached runs, many-children, many-places x r k)
+
+  -- and each of them is one of the behaviours of a script
+  pub are-tasks : ((y : State) (f : Event) → IsReached y → Needs y f → IsReached (change y f))
+      → ((y : State) (m : ℕ) → IsReached y → m < length y.order → IsBehaviourOrRule (past_at y m).task)
+      → All (λ (index : ℕ). IsBehaviourOrRule (child_task (first_task p.work) index)) ks
+  are-tasks next tasks j d l =
+      subst (λ (index : ℕ). IsBehaviourOrRule (child_task (first_task p.work) index)) (sym (get_or_default_zero ks j d l))
+      (subst IsBehaviourOrRule (task-child j l)
+      (tasks (change x (Ends n)) (length r.places.items + j) (next x (Ends n) k.reached runs)
+      (omega (arith, l, longer, many-children, many-places x r k))))
+
 module _ (x : State) (r d : Replayer) (n : ℕ) (p : Place) (ks : List ℕ) (k : KeepsAt x r) (runs : Needs x (Ends n))
     (next : (y : State) (f : Event) → IsReached y → Needs y f → IsReached (change y f))
     (lt : n < length r.places.items) (at : p ≡ get_or r.places.items n p) (are : ks ≡ children (past_at x n).effects) (v : Ended r d n p ks) where
@@ -139,29 +187,8 @@ module _ (x : State) (r d : Replayer) (n : ℕ) (p : Place) (ks : List ℕ) (k :
       ∙ ap (λ m. get_or (child_places n p.work 1 ks) m no_place) (less (length r.places.items) j)
       ∙ child-read n p.work 1 ks j l
 
-  entry-new : (j : ℕ) → j < length ks → get_or (change x (Ends n)).order (length r.places.items + j) no_entry ≡ orders.Child n (1 + j)
-  entry-new j l =
-      get_or-append_right x.order (children_at x n) (length r.places.items) (length r.places.items + j) no_entry (many-places x r k) (omega arith)
-      ∙ ap (λ m. get_or (children_at x n) m no_entry) (less (length r.places.items) j)
-      ∙ entry-read n 1 (children (past_at x n).effects) j (subst (λ (xs : List ℕ). j < length xs) are l)
-
-  abbrev before : ℕ → List Past
-  before j = earlier (change x (Ends n)).setup (is_lost (change x (Ends n))) (change x (Ends n)).order (length r.places.items + j)
-
-  parent-read : (j : ℕ) → at_place (before j) n ≡ past_at x n
-  parent-read j =
-      at_place-earlier (change x (Ends n)).setup (is_lost (change x (Ends n))) (change x (Ends n)).order (length r.places.items + j) n (omega (arith, lt))
-      ∙ past-ended x (sound-reached x k.reached) n runs n (omega (arith, lt, many-places x r k))
-
   task-new : (j : ℕ) → j < length ks → (past_at (change x (Ends n)) (length r.places.items + j)).task ≡ task_in (place_in d.places.items (length r.places.items + j))
-  task-new j l =
-      ap (task_of (before j)) (entry-new j l)
-      ∙ ap (λ (q : Past). child_task q.task (get_or (children q.effects) ((1 + j) - 1) 0)) (parent-read j)
-      ∙ ap (λ (m : ℕ). child_task (past_at x n).task (get_or (children (past_at x n).effects) m 0)) (which-less j)
-      ∙ ap (λ (xs : List ℕ). child_task (past_at x n).task (get_or xs j 0)) (sym are)
-      ∙ ap (λ (u : Task). child_task u (get_or ks j 0)) (k.tasks n lt ∙ ap task_in (sym (here r.places.items n p stand.Ended lt at)))
-      ∙ child-again p.work p.index (get_or ks j 0)
-      ∙ ap task_in (sym (place-new j l))
+  task-new j l = task-child x r n p ks k runs lt at are j l ∙ ap task_in (sym (place-new j l))
 
   new : (m : ℕ) → length r.places.items ≤ m → m < length d.places.items → (past_at (change x (Ends n)) m).task ≡ task_in (place_in d.places.items m)
   new m ge l =

@@ -1,5 +1,5 @@
 -- The monitor is told one entry more.
-use Rattle.std.proofs.Common.{◌≡◌, ℕ, zero, suc, ◌+◌, ◌<◌, ◌⊎◌, inl, inr, Bool, false, List, [], ◌∷◌, ◌++◌, length, get_or, take, refl, sym, ◌∙◌, ap, arith, length-append}
+use Rattle.std.proofs.Common.{◌≡◌, ℕ, zero, suc, ◌+◌, ◌<◌, ◌⊎◌, inl, inr, Bool, false, List, [], ◌∷◌, ◌++◌, length, get_or, take, refl, sym, ◌∙◌, ap, subst, arith, length-append}
 use Rattle.std.specs.Prelude.{map}
 use Rattle.std.proofs.Math.ListN.{get_or-append}
 use Rattle.std.proofs.Math.Seq.{get_or-append_seam, take-suc}
@@ -9,10 +9,10 @@ use Rattle.bl_work.specs.declared.answer.Answer.{Answer}
 use Rattle.bl_setup.specs.Setup.{Setup}
 use Rattle.bl_order.specs.Known.{KnowsAnswer}
 use Rattle.bl_order.specs.Past.{Past, no_entry, past_of}
-use Rattle.bl_monitor.specs.Heard.{Heard, answer_at, entry_of, lost_of, with_entry, Knows}
+use Rattle.bl_monitor.specs.Heard.{Heard, MayCome, answer_at, entry_of, lost_of, with_entry, Knows}
 use Rattle.bl_monitor.specs.Heard as heard
-use Rattle.bl_replay.specs.Fed.{IsFed}
-use Rattle.bl_replay.specs.Kept.{KnowsPlace, entry_by, entry_in, entry_told, no_place, told_by}
+use Rattle.bl_replay.specs.Fed.{ComeInOrder, IsFed}
+use Rattle.bl_replay.specs.Kept.{KnowsPlace, entry_by, entry_in, entry_told, no_place, place_in, told_by}
 use Rattle.bl_replay.specs.declared.place.Origin.{Origin}
 use Rattle.bl_replay.specs.declared.place.Origin.TheVariants.{Line, Child}
 use Rattle.bl_replay.specs.declared.place.Place.{Place}
@@ -42,6 +42,13 @@ any-default (x ∷ l) (suc n) d e lt = any-default l n d e (omega (arith, lt))
 
 below_or_last : (k n : ℕ) → k < n + 1 → (k < n) ⊎ (k ≡ n)
 below_or_last k n lt = grind (arith, lt)
+
+-- the entry that comes next may come
+pub may-come : (s : Setup) (marks : ℕ → Bool) (P : List Place) (h : Heard) (answers : List Answer) (p d : Place) → IsFed s marks (map entry_in P) h answers → ComeInOrder s marks P
+    → length answers < length P → p ≡ get_or P (length answers) d → MayCome h (entry_told p (marks (length answers)))
+may-come s marks P h answers p d fed come lt at =
+    subst (λ (q : Place). MayCome h (entry_told q (marks (length answers)))) (sym (at ∙ any-default P (length answers) d no_place lt))
+    (subst (λ (m : ℕ). MayCome h (entry_told (place_in P m) (marks m))) (sym fed.many) (come h fed.told (omega (arith, lt, fed.many))))
 
 module _ (s : Setup) (marks : ℕ → Bool) (P : List Place) (h : Heard) (answers : List Answer) (answer : Answer) (p d : Place)
     (fed : IsFed s marks (map entry_in P) h answers) (lt : length answers < length P) (at : p ≡ get_or P (length answers) d) where

@@ -34,7 +34,7 @@ past-unnamed s lost h (Line session ordinal subject work) =
     (carried-unnamed s.version h session ordinal subject work)
 past-unnamed s lost h (Child parent which) = refl
 
-get-unnamed : (A : List Entry) (n : ℕ) → get_or (map unnamed A) n no_entry ≡ unnamed (get_or A n no_entry)
+pub get-unnamed : (A : List Entry) (n : ℕ) → get_or (map unnamed A) n no_entry ≡ unnamed (get_or A n no_entry)
 get-unnamed [] n = refl
 get-unnamed (x ∷ A) zero = refl
 get-unnamed (x ∷ A) (suc n) = get-unnamed A n

@@ -10,6 +10,7 @@ pub mod Queueing
 pub mod Standing
 pub mod Claiming
 pub mod Feeding
+pub mod Coming
 pub mod Admitting
 pub mod Ending
 pub mod Taking

@@ -1,5 +1,5 @@
 //! What an entry claims, as the queues are told: the policy is cown 0, and a document is the cown one above its place.
-ghost use Rattle.std.specs.Prelude.{◌≡◌, ℕ, ◌-◌, ◌<◌, ◌≤◌, ◌^◌, ◌++◌, ◌∷◌, [], All, OnOk, length, map};
+ghost use Rattle.std.specs.Prelude.{◌≡◌, ℕ, ◌+◌, ◌-◌, ◌<◌, ◌≤◌, ◌++◌, ◌∷◌, [], All, OnOk, length, map};
 ghost use Rattle.bl_policy.specs.declared.access.Access.{Access as AnyAccess};
 ghost use Rattle.bl_work.specs.Modes.{alters};
 ghost use Rattle.bl_order.specs.Claims.{numbered};
@@ -30,11 +30,10 @@ fn claim_of(access: &Access) -> Claim
     }
 }
 
-/// Lists what a behaviour of the work or its rule claims, in place of what stood there. An error comes where the work has no such
-/// behaviour, which no entry has, or a growth is refused.
+/// Lists what a behaviour of the work or its rule claims, in place of what stood there. An error comes only where a growth is refused.
 fn list_claims(claims: &mut Vec<Claim>, work: &Work, index: u8) -> Result<(), AllocError>
-    ensures claims { OnOk result (claims.new.items ≡ queue_claims (child_task (first_task work.now) index)) }
-    ensures task { OnOk result (IsBehaviourOrRule (child_task (first_task work.now) index)) }
+    requires { IsBehaviourOrRule (child_task (first_task work.now) index) }
+    ensures { OnOk result (claims.new.items ≡ queue_claims (child_task (first_task work.now) index)) }
 {
     claims.clear();
     match work {
@@ -46,15 +45,11 @@ fn list_claims(claims: &mut Vec<Claim>, work: &Work, index: u8) -> Result<(), Al
             Ok(())
         }
         Work::Behaviour(script) => {
-            let index = usize::from(index);
-            if index >= script.weight() {
-                return Err(AllocError);
-            }
             claims.push(Claim {
                 cown: 0,
                 shared: true,
             })?;
-            let accesses = script.accesses(index);
+            let accesses = script.accesses(usize::from(index));
             for access in accesses {
                 claims.push(claim_of(access))?;
             }
@@ -63,16 +58,17 @@ fn list_claims(claims: &mut Vec<Claim>, work: &Work, index: u8) -> Result<(), Al
     }
 }
 
-/// An entry more. An error comes where there is no room for it, which no trail leads to, or a growth is refused.
+/// An entry more, for which there is room. An error comes only where a growth is refused.
 pub fn enter(
     queues: &mut Queues,
     places: &mut Vec<Place>,
     claims: &mut Vec<Claim>,
-    limit: u32,
     place: Place,
 ) -> Result<(), AllocError>
     requires entries { length queues.old.entries ≡ length places.old.items }
-    requires limit { queues.old.limit ≡ limit }
+    requires limit { queues.old.limit ≤ 100000 }
+    requires room { length places.old.items < queues.old.limit }
+    requires task { IsBehaviourOrRule (task_in place) }
     requires cowns { 1 ≤ queues.old.cowns }
     requires known { All (λ (access : AnyAccess). access.doc < queues.old.cowns - 1) (accesses_of (task_in place)) }
     ensures places { OnOk result (places.new.items ≡ places.old.items ++ place ∷ []) }
@@ -80,30 +76,27 @@ pub fn enter(
 {
     claims_go_by_number();
     list_claims(claims, &place.work, place.index)?;
-    let n = places.len();
-    if n >= limit as usize {
-        return Err(AllocError);
-    }
-    queues.enter(n as u32, claims);
+    queues.enter(places.len() as u32, claims);
     places.push(place)?;
     Ok(())
 }
 
-/// The children of an entry enter, in order, by the numbers of their behaviours.
+/// The children of an entry enter, in order, by the numbers of their behaviours; there is room for them. An error comes only where a
+/// growth is refused.
 pub fn enter_children(
     queues: &mut Queues,
     places: &mut Vec<Place>,
     claims: &mut Vec<Claim>,
-    limit: u32,
     parent: u32,
     work: &Work,
     spawned: &[u8],
 ) -> Result<(), AllocError>
     requires entries { length queues.old.entries ≡ length places.old.items }
-    requires limit { queues.old.limit ≡ limit }
+    requires limit { queues.old.limit ≤ 100000 }
+    requires room { length places.old.items + length spawned.now ≤ queues.old.limit }
+    requires tasks { All (λ index. IsBehaviourOrRule (child_task (first_task work.now) index)) spawned.now }
     requires cowns { 1 ≤ queues.old.cowns }
     requires known { (index : ℕ) → All (λ (access : AnyAccess). access.doc < queues.old.cowns - 1) (accesses_of (child_task (first_task work.now) index)) }
-    requires few { length spawned.now < 2 ^ 32 }
     ensures places { OnOk result (places.new.items ≡ places.old.items ++ child_places parent work.now 1 spawned.now) }
     ensures queues { OnOk result (queues.new ≡ record queues.old { entries = queues.old.entries ++ map queued_as (child_places parent work.now 1 spawned.now) }) }
 {
@@ -116,7 +109,7 @@ pub fn enter_children(
             index: *index,
             stand: Stand::Waiting,
         };
-        enter(queues, places, claims, limit, place)?;
+        enter(queues, places, claims, place)?;
     }
     Ok(())
 }

@@ -10,8 +10,8 @@
 //!     replay      the verdict on a text
 #![tactic(auto)]
 
-pub mod claim;
-pub mod feed;
+mod claim;
+mod feed;
 pub mod mark;
 pub mod place;
 pub mod replay;

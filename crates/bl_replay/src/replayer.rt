@@ -9,8 +9,8 @@ use crate::place::{Origin, Place, Stand};
 use crate::start::start_words;
 use bl_monitor::monitor::Monitor;
 use bl_order::laws::{
-    claims_go_by_number, read_lines_are_in_the_setup, steps_lead_on, the_order_has_room,
-    what_is_at_hand_rests_on_ended_places,
+    claims_go_by_number, each_state_holds, read_lines_are_in_the_setup, steps_lead_on,
+    tasks_are_of_scripts, the_order_has_room, what_is_at_hand_rests_on_ended_places,
 };
 use bl_policy::id::SubjectId;
 use bl_queue::claim::Claim;
@@ -133,6 +133,8 @@ impl Replayer {
         ensures marks { OnOk result (self.new.marks ≡ self.old.marks) }
     {
         steps_lead_on();
+        the_order_has_room();
+        tasks_are_of_scripts();
         read_lines_are_in_the_setup();
         let more = weight(&work);
         let row = &mut self.sessions[session as usize];
@@ -144,13 +146,7 @@ impl Replayer {
             index: 0,
             stand: Stand::Waiting,
         };
-        enter(
-            &mut self.queues,
-            &mut self.places,
-            &mut self.claims,
-            self.limit,
-            place,
-        )?;
+        enter(&mut self.queues, &mut self.places, &mut self.claims, place)?;
         self.weight += more;
         Ok(())
     }
@@ -219,13 +215,15 @@ impl Replayer {
 
     /// Has the monitor answer the places up to this one.
     fn feed_to(&mut self, n: u32) -> Result<(), AllocError>
-        requires { (x : State) × KeepsAt x self.old × (n < length x.order) }
+        requires { (x : State) × KeepsAt x self.old × AreForetold (lost_later self.old.marks.items) x × (n < length x.order) }
         ensures keeps { OnOk result ((x : State) → KeepsAt x self.old → KeepsAt x self.new) }
         ensures told { OnOk result (n < length self.new.answers.items) }
         ensures marks { OnOk result (self.new.marks ≡ self.old.marks) }
         ensures places { OnOk result (self.new.places ≡ self.old.places) }
     {
         the_order_has_room();
+        each_state_holds();
+        what_is_at_hand_rests_on_ended_places();
         feed(
             &mut self.monitor,
             &mut self.answers,
@@ -292,25 +290,25 @@ impl Replayer {
 
     /// Ends a running place: its children enter.
     fn finish(&mut self, n: u32) -> Result<(), AllocError>
-        requires { (x : State) × KeepsAt x self.old × IsTrue (runs x n) }
+        requires runs { (x : State) × KeepsAt x self.old × AreForetold (lost_later self.old.marks.items) x × IsTrue (runs x n) }
+        requires kept { lost_later self.old.marks.items n ≡ false }
+        requires told { n < length self.old.answers.items }
         ensures keeps { OnOk result ((x : State) → KeepsAt x self.old → AreForetold (lost_later self.old.marks.items) x → IsTrue (runs x n)
-            → lost_later self.old.marks.items n ≡ false → n < length self.old.answers.items → KeepsAt (change x (Ends n)) self.new) }
+            → KeepsAt (change x (Ends n)) self.new) }
         ensures marks { OnOk result (self.new.marks ≡ self.old.marks) }
     {
         steps_lead_on();
+        the_order_has_room();
+        tasks_are_of_scripts();
         what_is_at_hand_rests_on_ended_places();
         let work = self.places[n as usize].work.share()?;
         self.queues.end(n);
         self.places[n as usize].stand = Stand::Ended;
         let spawned = self.monitor.spawned(n);
-        if spawned.len() > 32 {
-            return Err(AllocError);
-        }
         enter_children(
             &mut self.queues,
             &mut self.places,
             &mut self.claims,
-            self.limit,
             n,
             &work,
             spawned,

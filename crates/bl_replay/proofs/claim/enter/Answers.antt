@@ -6,7 +6,7 @@ use Rattle.bl_replay.proofs.claim.enter.Goals as goal
 
 pub enter-requires-clause-claims : goal.enter-requires-clause-claims
 enter-requires-clause-claims c =
-    subst (AreClaims c.args.queues.now.cowns) (sym (c.deref.ensures.value ∙ c.in_ok-list_claims.ensures.claims))
+    subst (AreClaims c.args.queues.now.cowns) (sym (c.deref.ensures.value ∙ c.in_ok-list_claims.ensures))
     (claims-fit (task_in c.args.place) c.args.queues.now.cowns c.requires.cowns
-    (c.claims_go_by_number.ensures.apart (task_in c.args.place) c.in_ok-list_claims.ensures.task)
+    (c.claims_go_by_number.ensures.apart (task_in c.args.place) c.requires.task)
     (c.claims_go_by_number.ensures.known (task_in c.args.place) (c.args.queues.now.cowns - 1) c.requires.known))

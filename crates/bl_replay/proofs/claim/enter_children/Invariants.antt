@@ -9,4 +9,4 @@ invariant-loop-index l =
     × (l.queues.entries ++ map queued_as (child_places l.parent l.work (l.which + 1) (drop l.index-index l.spawned)) ≡ l.initial.queues.entries ++ map queued_as (child_places l.parent l.work 1 l.spawned))
     × (l.queues.cowns ≡ l.initial.queues.cowns) × (l.queues.limit ≡ l.initial.queues.limit)
     × (l.which ≡ l.index-index)
-    × (length l.queues.entries ≡ length l.places.items)
+    × (length l.queues.entries ≡ length l.places.items) × (length l.places.items ≡ length l.initial.places.items + l.index-index)

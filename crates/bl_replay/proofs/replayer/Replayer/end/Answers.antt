@@ -20,7 +20,7 @@ use Rattle.bl_replay.proofs.replayer.Replayer.end.Goals as goal
 pub feed_to-requires : goal.feed_to-requires
 feed_to-requires c =
     let running : IsTrue (runs c.requires.ready.0 c.args.n) = (c.is_running.ensures c.requires.ready.0 c.requires.ready.2.keeps).0 c.if-not-is_running.false in
-    (c.requires.ready.0, c.requires.ready.2.keeps, omega (arith, runs-within c.requires.ready.0 c.args.self.now c.requires.ready.2.keeps c.args.n running, many-places c.requires.ready.0 c.args.self.now c.requires.ready.2.keeps))
+    (c.requires.ready.0, c.requires.ready.2.keeps, told-before c.the_order_has_room.ensures.order c.requires.ready.0 c.args.self.now _ c.requires.ready.2, omega (arith, runs-within c.requires.ready.0 c.args.self.now c.requires.ready.2.keeps c.args.n running, many-places c.requires.ready.0 c.args.self.now c.requires.ready.2.keeps))
 
 pub end_text-requires : goal.end_text-requires
 end_text-requires c =
@@ -29,9 +29,16 @@ end_text-requires c =
     (names-answer c.requires.ready.0.setup keeps.agree c.index.result.now
     (subst (KnowsAnswer c.requires.ready.0.setup) (sym c.index.ensures) (keeps.fed.known c.args.n c.index.result.now c.in_ok-feed_to.ensures.told)))
 
-pub finish-requires : goal.finish-requires
-finish-requires c =
-    (c.requires.ready.0, c.in_ok-feed_to.ensures.keeps c.requires.ready.0 c.requires.ready.2.keeps, (c.is_running.ensures c.requires.ready.0 c.requires.ready.2.keeps).0 c.if-not-is_running.false)
+pub finish-requires-clause-runs : goal.finish-requires-clause-runs
+finish-requires-clause-runs c =
+    let x = c.requires.ready.0 in
+    let foretold : AreForetold (lost_later c.feed_to.new.self.marks.items) x =
+    subst (λ m. AreForetold (lost_later m.items) x) (sym c.in_ok-feed_to.ensures.marks) (told-before c.the_order_has_room.ensures.order x c.args.self.now _ c.requires.ready.2) in
+    (x, c.in_ok-feed_to.ensures.keeps x c.requires.ready.2.keeps, foretold, (c.is_running.ensures c.requires.ready.0 c.requires.ready.2.keeps).0 c.if-not-is_running.false)
+
+pub finish-requires-clause-kept : goal.finish-requires-clause-kept
+finish-requires-clause-kept c =
+    ap (λ m. lost_later m.items c.args.n) c.in_ok-feed_to.ensures.marks ∙ sym (c.is_lost_later.ensures ∙ ap (λ l. lost_later l c.args.n) c.deref.ensures.value) ∙ c.if-is_lost_later.false
 
 pub returns-then-not-is_running-clause-wrong : goal.returns-then-not-is_running-clause-wrong
 returns-then-not-is_running-clause-wrong c is x rest replays needs has text =
@@ -74,5 +81,5 @@ returns-clause-right c is x rest replays =
       needs = running;
       has = tt;
       text = c.same_bytes.ensures.0 c.if-not-same_bytes.false ∙ c.deref-2.ensures.value ∙ c.in_ok-text.ensures ∙ whole;
-      keeps = c.in_ok-finish.ensures.keeps x keeps foretold running open_yet c.in_ok-feed_to.ensures.told;
+      keeps = c.in_ok-finish.ensures.keeps x keeps foretold running;
     }

@@ -13,7 +13,7 @@ use Rattle.bl_replay.proofs.replayer.Replayer.start.Goals as goal
 
 pub feed_to-requires : goal.feed_to-requires
 feed_to-requires c =
-    (c.requires.ready.0, c.requires.ready.2.keeps, ((c.is_ready.ensures c.requires.ready.0 c.requires.ready.2.keeps).0 c.if-not-is_ready.false).there)
+    (c.requires.ready.0, c.requires.ready.2.keeps, told-before c.the_order_has_room.ensures.order c.requires.ready.0 c.args.self.now _ c.requires.ready.2, ((c.is_ready.ensures c.requires.ready.0 c.requires.ready.2.keeps).0 c.if-not-is_ready.false).there)
 
 pub words-requires-clause-keeps : goal.words-requires-clause-keeps
 words-requires-clause-keeps c = (c.requires.ready.0, c.in_ok-feed_to.ensures.keeps c.requires.ready.0 c.requires.ready.2.keeps)
