@@ -1,5 +1,5 @@
 //! The run of the command `alone`.
-ghost use Rattle.std.specs.Prelude.{◌≡◌, ◌⊎◌, ℕ, List, false, is_some, IfErr, IsOk, IsSome, OnOk};
+ghost use Rattle.std.specs.Prelude.{◌≡◌, ◌≤◌, ◌⊎◌, ℕ, List, false, is_some, IfErr, IsOk, IsSome, OnOk};
 ghost use Rattle.std.specs.List.{flat_map};
 ghost use Rattle.std.specs.Option.{option_to_list};
 ghost use Rattle.std.specs.Result.{result_err};
@@ -36,6 +36,8 @@ fn serve_setup<R: BufRead, W: Write>(
     reader: &mut Watched<R>,
     writer: &mut Watched<W>,
 ) -> Result<(), ProgramFault>
+    requires some { 1 ≤ limit }
+    requires most { limit ≤ 100000 }
     requires reader { reader.old.failed ≡ false }
     requires writer { writer.old.failed ≡ false }
     ensures served { OnOk result ((begun : AnySetup) × IsSetup setup.now begun
@@ -56,7 +58,7 @@ fn serve_setup<R: BufRead, W: Write>(
     }
 }
 
-/// One session over a reader and a writer, after the setup of these bytes: the command `alone`.
+/// One session over a reader and a writer, after the setup of these bytes: the command `alone`. The limit is 1 to 100,000.
 ///
 /// The result is the status of the run: 0 where the session was served, 3 for a fault of the setup
 /// or of the session, and 4 for want of memory. The words of a fault go to `errors` and nothing else
@@ -71,6 +73,8 @@ pub fn alone_on<R: BufRead, W: Write, E: Write>(
     writer: &mut Watched<W>,
     errors: &mut Watched<E>,
 ) -> u8
+    requires some { 1 ≤ limit }
+    requires most { limit ≤ 100000 }
     requires reader { reader.old.failed ≡ false }
     requires writer { writer.old.failed ≡ false }
     requires errors { errors.old.failed ≡ false }
@@ -89,13 +93,14 @@ pub fn alone_on<R: BufRead, W: Write, E: Write>(
     }
 }
 
-/// What a session with a trail was asked for: where memory comes from, the weight of the lines that are admitted at most, and where the trail is
-/// kept.
+/// What a session with a trail was asked for: where memory comes from, the weight of the lines that are admitted at most, 1 to 100,000,
+/// and where the trail is kept.
 #[derive(Clone, Copy)]
 pub struct AloneRun<'a> {
     pub alloc: Global,
     pub limit: u32,
     pub trail: TrailFile<'a>,
+    pub ghost limited: { (1 ≤ limit) × (limit ≤ 100000) },
 }
 
 /// What stands before a session with a trail: the setup, and the file that was claimed for the trail.
@@ -112,6 +117,8 @@ fn sit<R: BufRead, W: Write>(
     reader: &mut Watched<R>,
     writer: &mut Watched<W>,
 ) -> (Result<(), ProgramFault>, Option<Kept>)
+    requires some { 1 ≤ limit }
+    requires most { limit ≤ 100000 }
     requires reader { reader.old.failed ≡ false }
     requires writer { writer.old.failed ≡ false }
     ensures ended { HasEnded setup limit (result_err result.0) (used R.remaining reader.old reader.new) (used W.contents writer.old writer.new) }
