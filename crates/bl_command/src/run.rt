@@ -5,6 +5,7 @@ ghost use Rattle.clap.specs.Words.{kind_of};
 ghost use Rattle.bl_wire.specs.Watch.{used};
 ghost use Rattle.bl_run.specs.Status.{IsStatus};
 ghost use Rattle.bl_command.specs.Runs.{IsRefused, IsRunAfter, IsRunOf};
+ghost use Rattle.bl_command.specs.Words.{IsInRange};
 
 use crate::command::{Command, status_of};
 use bl_run::alone::alone_on;
@@ -36,6 +37,7 @@ fn run_over<R: BufRead, W: Write, E: Write>(
     writer: &mut Watched<W>,
     errors: &mut Watched<E>,
 ) -> u8
+    requires range { IsInRange command.now }
     requires reader { reader.old.failed ≡ false }
     requires writer { writer.old.failed ≡ false }
     requires errors { errors.old.failed ≡ false }
@@ -69,6 +71,7 @@ pub fn run_command<R: BufRead, W: Write, E: Write>(
     writer: &mut Watched<W>,
     errors: &mut Watched<E>,
 ) -> u8
+    requires range { IsInRange command.now }
     requires reader { reader.old.failed ≡ false }
     requires writer { writer.old.failed ≡ false }
     requires errors { errors.old.failed ≡ false }
@@ -122,6 +125,7 @@ pub fn run_asked<R: BufRead, W: Write, E: Write>(
     writer: &mut Watched<W>,
     errors: &mut Watched<E>,
 ) -> u8
+    requires range { IfOk asked IsInRange }
     requires reader { reader.old.failed ≡ false }
     requires writer { writer.old.failed ≡ false }
     requires errors { errors.old.failed ≡ false }

@@ -7,7 +7,7 @@ ghost use Rattle.bl_run.specs.AloneKept.{IsAloneKept};
 ghost use Rattle.bl_run.specs.Runs.{HasTold};
 ghost use Rattle.bl_run.specs.Serving.{IsServe};
 ghost use Rattle.bl_run.specs.Status.{IsEnd, IsStatus};
-ghost use Rattle.bl_command.specs.Words.{IsHostingInRange};
+ghost use Rattle.bl_command.specs.Words.{IsHostingInRange, IsInRange};
 
 use crate::command::{Command, Hosting, read_words};
 use crate::files::{read_files, read_setup_file};
@@ -219,7 +219,8 @@ fn run_sitting<R: AllocGlobal + OpensFiles + Print + Eprint + Input, E: Write>(
 ) -> u8
 where
     R::Reader: IsTerminal,
-    requires { errors.old.failed ≡ false }
+    requires range { IfOk asked IsInRange }
+    requires errors { errors.old.failed ≡ false }
     ensures { IsStatus result }
 {
     let alloc = rt.alloc();
