@@ -10,6 +10,5 @@ mod Quiet
 mod VisitLaws
 mod Cutting
 mod Coming
-mod Asking
 mod OutcomeLaws
 mod Speaking

@@ -5,7 +5,7 @@ use Rattle.bl_wire.specs.Turns.{AreServed}
 use Rattle.bl_gate.specs.Gates.{PassView}
 use Rattle.bl_serve.specs.Courses.{IsOwn, SpeaksAlone}
 use Rattle.bl_serve.proofs.Coming.{come_first}
-use Rattle.bl_serve.proofs.Asking.{are_served}
+use Rattle.bl_session.proofs.ServeLaws.{are_served}
 use Rattle.bl_serve.proofs.OutcomeLaws.{served, served_speaks, cut_short, cut_speaks}
 use Rattle.bl_serve.proofs.session.serve_with.Goals as goal
 
