@@ -151,8 +151,39 @@ fn replay_limits_and_losses(rt: HostRuntime) -> Result<(), Fail> {
     )
 }
 
+/// The trail of `read-one`, with one line changed.
 #[test]
 fn trail_with_bad_tokens(rt: HostRuntime) -> Result<(), Fail> {
+    assert_verdicts(
+        &rt,
+        &[
+            (
+                "trail 1\r\nlimit 10000\nopen ann\nline 0 1 when read memo do show memo;end\nstart 0 run\nend 0 done \"m1\"\nstop\n",
+                Rejected(1),
+            ),
+            (
+                "trail 1\nlimit 10000\nopen zed\nline 0 1 when read memo do show memo;end\nstart 0 run\nend 0 done \"m1\"\nstop\n",
+                Rejected(3),
+            ),
+            (
+                "trail 1\nlimit 10000\nopen ann\nline 0 1 when read memo do show memo; end\nstart 0 run\nend 0 done \"m1\"\nstop\n",
+                Rejected(4),
+            ),
+            (
+                "trail 1\nlimit 10000\nopen ann\nline 0 1 when read memo do show memo;end\nstart 00 run\nend 0 done \"m1\"\nstop\n",
+                Rejected(5),
+            ),
+            (
+                "trail 1\nlimit 10000\nopen ann\nline 0 1 when read memo do show memo;end\nstart 99999999999999999999 run\nend 0 done \"m1\"\nstop\n",
+                Rejected(5),
+            ),
+        ],
+    )
+}
+
+/// The same tokens in trails that are closed early.
+#[test]
+fn short_trails_with_bad_tokens(rt: HostRuntime) -> Result<(), Fail> {
     assert_verdicts(
         &rt,
         &[
