@@ -21,7 +21,7 @@ use std::process::Abort;
 use std::sync::Wait;
 
 /// The base setup, as far as the tests speak of it.
-const BASE: &[u8] = b"ranks u c s t\n\
+pub(super) const BASE: &[u8] = b"ranks u c s t\n\
 categories nato crypto\n\
 subject ann greatest s{nato} current s{nato}\n\
 document memo s{nato} \"m1\"\n\
@@ -31,7 +31,7 @@ allow ann memo r w\n";
 pub(super) const ANN: u16 = 0;
 
 /// A line that shows memo.
-const SHOW_MEMO: &[u8] = b"when read memo do show memo; end";
+pub(super) const SHOW_MEMO: &[u8] = b"when read memo do show memo; end";
 
 /// What came where no fault may come.
 pub(super) fn right<T, E>(rt: &impl Abort, outcome: Result<T, E>) -> T

@@ -1,6 +1,7 @@
 //! The tests of `bl_gate` and `bl_worker`.
 //!
 //!     base        a gate over the base setup, and what the tests ask of it
+//!     memory      a turn where a growth is refused
 //!     writes      what one pass finds of its own calls
 //!     turns       one turn through the gate
 //!     overlaps    two behaviours that run side by side
@@ -9,6 +10,8 @@
 
 #[cfg(test)]
 mod base;
+#[cfg(test)]
+mod memory;
 #[cfg(test)]
 mod orders;
 #[cfg(test)]

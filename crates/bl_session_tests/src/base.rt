@@ -34,7 +34,7 @@ allow cat memo r\n\
 allow root note r w\n";
 
 /// Two further lines.
-const RESERVED: &str = "reserve draft u\nreserve top t\n";
+pub const RESERVED: &str = "reserve draft u\nreserve top t\n";
 
 /// The bytes of some texts, one behind the other.
 pub fn joined(alloc: Global, texts: &[&str]) -> Result<Vec<u8>, AllocError> {
@@ -62,9 +62,9 @@ pub fn reserved(alloc: Global) -> Result<Setup, Fail> {
     Ok(read_setup(alloc, &text)?)
 }
 
-/// The base setup; none where a growth is refused.
-pub fn base_or_none(alloc: Global) -> Option<Setup> {
-    let text = joined(alloc, [BEFORE_NOTE, "n1", BEHIND_NOTE].as_slice()).ok()?;
+/// The base setup, with these lines after it; none where a growth is refused.
+pub fn setup_or_none(alloc: Global, more: &str) -> Option<Setup> {
+    let text = joined(alloc, [BEFORE_NOTE, "n1", BEHIND_NOTE, more].as_slice()).ok()?;
     read_setup(alloc, &text).ok()
 }
 
