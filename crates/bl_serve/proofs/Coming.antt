@@ -14,7 +14,7 @@ use Rattle.bl_hall.specs.Chronicle.{HasTrail}
 use Rattle.bl_hall.specs.Told.{AreAnswers, reply_of}
 use Rattle.bl_hall.specs.declared.reply.Reply as owned
 use Rattle.bl_gate.specs.Gates.{GateId, PassView, Calls, Follows, hall_seen, state_seen}
-use Rattle.bl_gate.proofs.Following.{follows_itself, follows_then}
+use Rattle.bl_gate.proofs.Following.{base_stays, follows_itself, follows_then}
 use Rattle.bl_worker.proofs.Admitting.{admits_itself}
 use Rattle.bl_wire.specs.Replies.{line_or_full, line_text}
 use Rattle.bl_engine.specs.Requests as request

@@ -50,7 +50,7 @@ loop-preserved g c =
           (quiet_once c.answers.new.pass c.work_once-turn.new.pass c.work_once-turn.ensures.follows c.work_once-turn.ensures.lines c.work_once-turn.ensures.trail),
     )
 
-pub returns-in-Err-clause-quiet : goal.returns-in-Err-clause-quiet
-returns-in-Err-clause-quiet g c =
+pub returns-in-Err-Memory-clause-quiet : goal.returns-in-Err-Memory-clause-quiet
+returns-in-Err-Memory-clause-quiet g c =
     quiet_then c.args.pass.now c.loop.pass c.answers.new.pass c.loop.invariant.2
     (quiet_once c.loop.pass c.answers.new.pass c.answers.ensures.follows (admits_itself c.loop.pass c.answers.new.pass c.answers.ensures.own) c.answers.ensures.trail)

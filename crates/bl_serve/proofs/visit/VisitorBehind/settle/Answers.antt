@@ -1,9 +1,9 @@
-use Rattle.std.proofs.Common.{rules, take, ◌≡◌, ◌∙◌, ◌++◌, ◌∷◌, [], ℕ, List, arith, length, length-append, map, drop, refl, sym, ap, subst, inl, All}
+use Rattle.std.proofs.Common.{rules, take, ◌≡◌, ◌≤◌, ◌∙◌, ◌++◌, ◌∷◌, [], ℕ, List, arith, length, length-append, map, drop, refl, sym, ap, subst, inl, All}
 use Rattle.bl_engine.specs.Requests as request
 use Rattle.bl_gate.specs.Gates.{state_seen}
 use Rattle.bl_hall.specs.Told.{AreAnswers, reply_of}
 use Rattle.bl_hall.specs.declared.reply.Reply.{Reply}
-use Rattle.bl_serve.specs.Told.{behind, told_text, IsTold}
+use Rattle.bl_serve.specs.Told.{behind, ordinal_of, told_text, BeginsAbove, IsTold}
 use Rattle.bl_setup.specs.Setup.{Setup}
 use Rattle.bl_setup.specs.Agreement.{Agree}
 use Rattle.bl_order.specs.Machine.{start}
@@ -15,6 +15,7 @@ use Rattle.bl_serve.proofs.Going.{kept_session}
 use Rattle.bl_serve.proofs.Quiet.{quiet_then}
 use Rattle.bl_serve.proofs.VisitLaws.{text_stays, page_stands}
 use Rattle.bl_serve.proofs.visit.VisitorBehind.settle.Given as given
+use Rattle.bl_serve.proofs.visit.VisitorBehind.settle.Goals.{After-drop-replies-2}
 use Rattle.bl_serve.proofs.visit.VisitorBehind.settle.Goals as goal
 
 -- the session is open in what the pass has seen
@@ -36,8 +37,12 @@ returns-in_err-append-clause-err g c = on_err c.from_residual-in_err-append.resu
     inl (come_quiet c.args.self.now.gate.now c.args.self.now.first.value c.args.state.now c.in-Some.session c.in-Some.is told came _
     (quiet_then c.args.state.now.pass c.run.new.pass c.hear.new.pass c.run.ensures c.hear.ensures.quiet) refl (search rules) refl refl))
 
+-- what was looked at is what was heard
+heard_is : (g : given.Over) (c : After-drop-replies-2 g) → c.deref-2.result.now ≡ c.in_ok-replies.replies.items
+heard_is g c = search rules
+
 -- what was heard and is not left out are replies to lines of the block, and all that they name has a name
-are_told : (g : given.Over) (c : goal.After-append g) → All (IsTold c.args.self.now.gate.now.base.setup.names c.args.after c.args.ordinal) (take c.count_up_to-count.result c.in_ok-replies.replies.items)
+are_told : (g : given.Over) (c : After-drop-replies-2 g) → All (IsTold c.args.self.now.gate.now.base.setup.names c.args.after c.args.ordinal) (take c.count_up_to-count.result c.in_ok-replies.replies.items)
 are_told g c =
     let gate = c.args.self.now.gate.now in
     let pass = c.hear.new.pass in
@@ -47,11 +52,12 @@ are_told g c =
     let setup : (state_seen pass).setup ≡ gate.base.setup = setup_after (start pass.gate.base.setup pass.gate.base.limit) pass.seen ∙ ap (λ (k : GateId). k.base.setup) same in
     subst (λ (k : Setup). All (IsTold k.names c.args.after c.args.ordinal) (take c.count_up_to-count.result c.in_ok-replies.replies.items)) setup
     (left_are_told (state_seen pass) c.in-Some.session c.args.after c.args.ordinal c.count_up_to-count.result c.in_ok-replies.replies.items
-    (subst Agree (sym setup) w.come.own.agree) c.in_ok-replies.ensures.told c.count_up_to-count.ensures.low c.in_ok-replies.ensures.known)
+    (subst Agree (sym setup) w.come.own.agree) c.in_ok-replies.ensures.told
+    (subst (λ (l : List Reply). All (λ (r : Reply). ordinal_of r ≤ c.args.ordinal) (take c.count_up_to-count.result l)) (heard_is g c) c.count_up_to-count.ensures.low) c.in_ok-replies.ensures.known)
 
 -- the block's replies stand behind what was told before
-added : (g : given.Over) (c : goal.After-append g) → c.append.new.self.items ≡ c.args.state.now.told.items ++ take c.count_up_to-count.result c.in_ok-replies.replies.items
-added g c = search rules
+added : (g : given.Over) (c : After-drop-replies-2 g) → c.append.new.self.items ≡ c.args.state.now.told.items ++ take c.count_up_to-count.result c.in_ok-replies.replies.items
+added g c = let cut : c.truncate.new.self.items ≡ take c.count_up_to-count.result c.in_ok-replies.replies.items = c.truncate.ensures.items in search rules
 
 pub returns-clause-came : goal.returns-clause-came
 returns-clause-came g c = λ told came.
@@ -64,7 +70,7 @@ returns-clause-came g c = λ told came.
     come_settled c.args.self.now.gate.now c.args.self.now.first.value c.args.state.now c.in-Some.session c.in-Some.is told came c.replies_go_by_lines.ensures _ more heard c.args.ordinal
     (quiet_then c.args.state.now.pass c.run.new.pass c.hear.new.pass c.run.ensures c.hear.ensures.quiet) c.hear.ensures.trail
     (subst (λ n. AreAnswers (state_seen c.hear.new.pass) c.in-Some.session n (map reply_of heard)) (sym upto) c.in_ok-replies.ensures.told)
-    (λ k low. line_stays heard c.count_up_to-count.result c.args.ordinal k low c.count_up_to-count.ensures.next)
+    (λ k low. line_stays heard c.count_up_to-count.result c.args.ordinal k low (subst (λ (l : List Reply). BeginsAbove c.args.ordinal (drop c.count_up_to-count.result l)) (heard_is g c) c.count_up_to-count.ensures.next))
     (subst (λ n. All (IsTold names n c.args.ordinal) more) (sym upto) are) c.requires.last refl e refl refl
 
 pub returns-clause-whole : goal.returns-clause-whole
@@ -81,7 +87,7 @@ returns-clause-whole g c =
       come = come_settled c.args.self.now.gate.now c.args.self.now.first.value c.args.state.now c.in-Some.session c.in-Some.is c.requires.whole.whole.told c.requires.whole.whole.come c.replies_go_by_lines.ensures _ more heard c.args.ordinal
           (quiet_then c.args.state.now.pass c.run.new.pass c.hear.new.pass c.run.ensures c.hear.ensures.quiet) c.hear.ensures.trail
           (subst (λ n. AreAnswers (state_seen c.hear.new.pass) c.in-Some.session n (map reply_of heard)) (sym upto) c.in_ok-replies.ensures.told)
-    (λ k low. line_stays heard c.count_up_to-count.result c.args.ordinal k low c.count_up_to-count.ensures.next)
+    (λ k low. line_stays heard c.count_up_to-count.result c.args.ordinal k low (subst (λ (l : List Reply). BeginsAbove c.args.ordinal (drop c.count_up_to-count.result l)) (heard_is g c) c.count_up_to-count.ensures.next))
           (subst (λ n. All (IsTold names n c.args.ordinal) more) (sym upto) are) c.requires.last refl e refl refl;
       upto = refl;
      };
