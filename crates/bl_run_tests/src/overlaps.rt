@@ -5,13 +5,22 @@ use bl_wire::watched::Watched;
 use bl_worker::pause::Pause;
 use std::alloc::Global;
 use std::net::{Net, SocketAddr, TcpListener, TcpStream};
+use std::rt::Clock;
 use std::sync::Wait;
 use std::sync::atomic::{AtomicU64, Ordering};
 use std::thread::Threads;
+use std::time::Duration;
 use std::{fs, thread};
 
 /// The most turns for which something is held.
-const MOST_TURNS: u32 = 20_000_000;
+const MOST_TURNS: u32 = 1_000_000;
+
+/// After each so many turns a thread that is held sleeps too. On a machine that is loaded all turns may pass, if they only yield, before
+/// another thread has had one.
+const TURNS_TO_A_NAP: u32 = 1_000;
+
+/// For how long it sleeps.
+const NAP_MILLIS: u64 = 20;
 
 /// The lines of each client; the last has no line end.
 const LINES: &[u8] = b"hello ann\nwhen read note do show note; end";
@@ -19,17 +28,33 @@ const LINES: &[u8] = b"hello ann\nwhen read note do show note; end";
 /// What each client hears.
 const REPLIES: &[u8] = b"ok\n1 done \"n1\"\nbye\n";
 
+/// Waits for a mark that another thread makes, for at most 1,000,000 turns that each yield, and says whether it came.
+fn comes<R: Clock>(rt: &R, mark: &AtomicU64) -> bool {
+    for turn in 0..MOST_TURNS {
+        if mark.load(Ordering::SeqCst) > 0 {
+            return true;
+        }
+        thread::yield_now();
+        if turn % TURNS_TO_A_NAP == TURNS_TO_A_NAP - 1 {
+            thread::sleep(rt, Duration::from_millis(NAP_MILLIS));
+        }
+    }
+    false
+}
+
 /// Holds the first behaviour that runs until a client has read `bye`, and notes whether that came.
 #[derive(Drop)]
-struct HoldFirst {
+struct HoldFirst<'a, R> {
+    rt: &'a R,
     begun: AtomicU64,
     heard: AtomicU64,
     held: AtomicU64,
 }
 
-impl HoldFirst {
-    fn new() -> HoldFirst {
+impl<'a, R> HoldFirst<'a, R> {
+    fn new(rt: &'a R) -> HoldFirst<'a, R> {
         HoldFirst {
+            rt,
             begun: AtomicU64::new(0),
             heard: AtomicU64::new(0),
             held: AtomicU64::new(0),
@@ -37,18 +62,14 @@ impl HoldFirst {
     }
 }
 
-impl Pause for HoldFirst {
+impl<R: Clock> Pause for HoldFirst<'_, R> {
     fn between(&self, n: u32) {
         let _ = n;
         if self.begun.fetch_add(1, Ordering::SeqCst) > 0 {
             return;
         }
-        for _ in 0..MOST_TURNS {
-            if self.heard.load(Ordering::SeqCst) > 0 {
-                self.held.store(1, Ordering::SeqCst);
-                return;
-            }
-            thread::yield_now();
+        if comes(self.rt, &self.heard) {
+            self.held.store(1, Ordering::SeqCst);
         }
     }
 }
@@ -58,26 +79,37 @@ fn visit<R: Net<Listener = TcpListener, Stream = TcpStream>>(
     rt: &R,
     alloc: Global,
     at: SocketAddr,
-    hold: &HoldFirst,
+    heard: &AtomicU64,
 ) -> bool {
-    let Ok(heard) = converse(rt, alloc, at, LINES) else {
+    let Ok(told) = converse(rt, alloc, at, LINES) else {
         return false;
     };
-    hold.heard.fetch_add(1, Ordering::SeqCst);
-    heard.as_slice() == REPLIES
+    heard.fetch_add(1, Ordering::SeqCst);
+    told.as_slice() == REPLIES
 }
 
-/// Two clients side by side; whether both heard what they should.
-fn visit_both<R: Threads + Net<Listener = TcpListener, Stream = TcpStream> + Sync>(
+/// A client that comes once a behaviour runs. So the thread of its session cannot be the one in which the first is held, with the other
+/// session's line.
+fn visit_later<R: Net<Listener = TcpListener, Stream = TcpStream> + Clock>(
     rt: &R,
     alloc: Global,
     at: SocketAddr,
-    hold: &HoldFirst,
+    hold: &HoldFirst<'_, R>,
+) -> bool {
+    comes(rt, &hold.begun) && visit(rt, alloc, at, &hold.heard)
+}
+
+/// Two clients side by side; whether both heard what they should.
+fn visit_both<R: Threads + Net<Listener = TcpListener, Stream = TcpStream> + Clock + Sync>(
+    rt: &R,
+    alloc: Global,
+    at: SocketAddr,
+    hold: &HoldFirst<'_, R>,
 ) -> bool {
     let (one, two) = thread::join(
         rt,
-        move || visit(rt, alloc, at, hold),
-        move || visit(rt, alloc, at, hold),
+        move || visit(rt, alloc, at, &hold.heard),
+        move || visit_later(rt, alloc, at, hold),
     );
     one && two
 }
@@ -90,7 +122,7 @@ fn tcp_overlap(rt: HostRuntime) {
         panic!(rt; "no port");
     };
     clear(&rt, "overlap.trail");
-    let hold = HoldFirst::new();
+    let hold = HoldFirst::new(&rt);
     let run = two_of_each(2, "overlap.trail");
     let (handle, held) = (&rt, &hold);
     let (both, served) = thread::join(
