@@ -118,9 +118,9 @@ fn overlap(events: &[Event]) -> bool {
         && matches!(events[7], Event::End(_))
 }
 
-/// Two sessions read one document, with two workers: the first behaviour that runs is held until the other has ended.
+/// Lines of two sessions read one document, with two workers: the first behaviour that runs is held until the other has ended.
 #[test]
-fn two_readers_overlap(rt: HostRuntime) {
+fn two_workers_overlap(rt: HostRuntime) {
     let (gate, mut pass) = base_gate(&rt);
     let one = gate.split_pass(&mut pass);
     let two = gate.split_pass(&mut pass);

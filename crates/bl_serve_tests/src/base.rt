@@ -16,7 +16,21 @@ use bl_worker::bell::Bell;
 use std::alloc::AllocGlobal;
 use std::io::{BufRead, Write};
 use std::process::Abort;
+use std::rt::Clock;
 use std::sync::Wait;
+use std::sync::atomic::{AtomicU64, Ordering};
+use std::thread;
+use std::time::Duration;
+
+/// The most turns for which something is held.
+const MOST_TURNS: u32 = 1_000_000;
+
+/// After each so many turns a thread that is held sleeps too. On a machine that is loaded all turns may pass, if they only yield, before
+/// another thread has had one.
+const TURNS_TO_A_NAP: u32 = 1_000;
+
+/// For how long it sleeps.
+const NAP_MILLIS: u64 = 20;
 
 /// The setup of the worked examples, as far as the tests speak of it.
 const BASE: &[u8] = b"ranks u c s t\n\
@@ -42,6 +56,20 @@ pub(super) fn admitted() -> Event {
         session: SessionNo::new(0),
         ordinal: 1,
     }
+}
+
+/// Waits for a mark that another thread makes, for at most 1,000,000 turns that each yield, and says whether it came.
+pub(super) fn comes<R: Clock>(rt: &R, mark: &AtomicU64) -> bool {
+    for turn in 0..MOST_TURNS {
+        if mark.load(Ordering::SeqCst) > 0 {
+            return true;
+        }
+        thread::yield_now();
+        if turn % TURNS_TO_A_NAP == TURNS_TO_A_NAP - 1 {
+            thread::sleep(rt, Duration::from_millis(NAP_MILLIS));
+        }
+    }
+    false
 }
 
 /// A gate over the base setup for lines up to a weight of 10,000, and the pass with all its parts.

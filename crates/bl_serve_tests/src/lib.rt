@@ -4,6 +4,7 @@
 //!     sessions    a session with one thread
 //!     ends        a reader and a writer that fail
 //!     clashes     somebody else speaks for the session
+//!     overlaps    two sessions that run side by side
 #![tactic(auto)]
 
 #[cfg(test)]
@@ -12,5 +13,7 @@ mod base;
 mod clashes;
 #[cfg(test)]
 mod ends;
+#[cfg(test)]
+mod overlaps;
 #[cfg(test)]
 mod sessions;
