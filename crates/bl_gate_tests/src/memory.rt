@@ -67,7 +67,7 @@ fn work_or_none(alloc: Global, gate: &Gate) -> Option<Work> {
 
 /// Opens the first session, of `ann`, and admits its first line, with this work.
 fn admit<R: AllocGlobal + Abort + Wait>(rt: &R, gate: &Gate, pass: &mut Pass, work: Work)
-    requires { pass.old.gate ≡ gate.now.id }
+    requires { pass.old.gate ≡ gate.now }
     ensures { Follows pass.old pass.new }
 {
     let session = right(rt, gate.open(rt, pass, SubjectId::new(ANN)));
@@ -80,7 +80,7 @@ fn admit<R: AllocGlobal + Abort + Wait>(rt: &R, gate: &Gate, pass: &mut Pass, wo
 
 /// Takes the turn of the line that was admitted, and says what came of it: it is done; or, where a growth was refused in the call, lost.
 fn turn<R: AllocGlobal + Abort + Files + Print + Wait>(rt: &R, gate: &Gate, pass: &mut Pass) -> bool
-    requires { pass.old.gate ≡ gate.now.id }
+    requires { pass.old.gate ≡ gate.now }
     ensures { Follows pass.old pass.new }
 {
     let before = was_refused(rt);
@@ -109,7 +109,7 @@ fn assert_answered<R: AllocGlobal + Abort + Files + Print + Wait>(
     pass: &mut Pass,
     done: bool,
 )
-    requires { pass.old.gate ≡ gate.now.id }
+    requires { pass.old.gate ≡ gate.now }
     ensures { Follows pass.old pass.new }
 {
     let before = was_refused(rt);

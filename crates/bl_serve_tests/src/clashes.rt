@@ -1,10 +1,11 @@
 //! Somebody else speaks for the session.
-ghost use Rattle.std.specs.Prelude.{◌≡◌};
+ghost use Rattle.std.specs.Prelude.{◌≡◌, ◌+◌};
 
-use super::base::{READ_ONE, base_gate};
+use super::base::{Ended, READ_ONE, base_gate, comes, opened};
 use bl_core::session::SessionNo;
 use bl_gate::gate::Gate;
 use bl_gate::pass::Pass;
+use bl_hall::event::Event;
 use bl_read::line::read_line;
 use bl_serve::session::serve;
 use bl_wire::fault::SessionFault;
@@ -13,42 +14,49 @@ use bl_work::asked::Line;
 use bl_work::work::Work;
 use bl_worker::bell::Bell;
 use std::alloc::AllocGlobal;
-use std::io;
 use std::io::{BufReader, Read};
 use std::process::Abort;
+use std::rt::Clock;
 use std::sync::Wait;
+use std::sync::atomic::{AtomicU64, Ordering};
+use std::thread::Threads;
+use std::{io, thread};
 
-/// A reader that gives some bytes, and before it gives more speaks for the first session, with a pass of its own: it has a line
-/// admitted there under the ordinal 5.
+/// Whether the session asks for its second half, and whether another pass has spoken for it.
 #[derive(Drop)]
-struct Intruder<'a, T> {
-    rt: &'a T,
-    gate: &'a Gate,
-    pass: Pass,
-    work: Option<Work>,
-    first: &'a [u8],
-    rest: &'a [u8],
-    ghost same: { pass.gate ≡ gate.now },
+struct Talk {
+    asked: AtomicU64,
+    spoken: AtomicU64,
 }
 
-impl<T: Wait> Intruder<'_, T> {
-    /// Speaks for the first session, once.
-    fn intrude(&mut self) {
-        if let Some(work) = self.work.take() {
-            let _ = self
-                .gate
-                .line(self.rt, &mut self.pass, SessionNo::new(0), 5, work);
+impl Talk {
+    fn new() -> Talk {
+        Talk {
+            asked: AtomicU64::new(0),
+            spoken: AtomicU64::new(0),
         }
     }
 }
 
-impl<T: Wait> Read for Intruder<'_, T> {
+/// A reader that gives some bytes, and the others only once another pass has spoken for the session; where that does not come it is at its end.
+#[derive(Drop)]
+struct Halves<'a, R> {
+    rt: &'a R,
+    talk: &'a Talk,
+    first: &'a [u8],
+    second: &'a [u8],
+}
+
+impl<R: Clock> Read for Halves<'_, R> {
     fn read(&mut self, buf: &mut [u8]) -> io::Result<usize> {
         if !self.first.is_empty() {
             return self.first.read(buf);
         }
-        self.intrude();
-        self.rest.read(buf)
+        self.talk.asked.store(1, Ordering::SeqCst);
+        if !comes(self.rt, &self.talk.spoken) {
+            return Ok(0);
+        }
+        self.second.read(buf)
     }
 }
 
@@ -64,41 +72,136 @@ fn show_memo<R: AllocGlobal + Abort>(rt: &R, gate: &Gate) -> Work {
     }
 }
 
-/// The session is opened by its first line. Then another has a line of the session admitted under the ordinal 5, so that its own first
-/// line, under the ordinal 1, finds that somebody else spoke for it. Nothing more is written, and neither end has failed.
-#[test]
-fn clash(rt: HostRuntime) {
-    let (gate, mut pass) = base_gate(&rt);
-    let work = Some(show_memo(&rt, &gate));
-    let (first, rest) = READ_ONE.split_at(10);
-    let intruder = Intruder {
-        rt: &rt,
-        gate: &gate,
-        pass: gate.split_pass(&mut pass),
-        work,
-        first,
-        rest,
-    };
-    let Ok(reader) = BufReader::new(rt.alloc(), intruder) else {
+/// Another pass, which speaks for the first session once that asks for its second half: it has a line admitted there under this ordinal.
+/// It is given back.
+fn intrude<R: AllocGlobal + Abort + Wait + Clock>(
+    rt: &R,
+    gate: &Gate,
+    mut pass: Pass,
+    ordinal: u32,
+    talk: &Talk,
+) -> Pass
+    requires { pass.gate ≡ gate.now }
+    ensures { (result.gate ≡ pass.gate) × (result.parts ≡ pass.parts) }
+{
+    let work = show_memo(rt, gate);
+    let _ = comes(rt, &talk.asked);
+    let answer = gate.line(rt, &mut pass, SessionNo::new(0), ordinal, work);
+    if answer.is_ok() {
+        talk.spoken.store(1, Ordering::SeqCst);
+    }
+    pass
+}
+
+/// What came of a session: its pass, its result, which end has failed, and what it was told.
+#[derive(Drop)]
+struct Visited {
+    pass: Pass,
+    result: Result<(), SessionFault>,
+    read_failed: bool,
+    write_failed: bool,
+    told: Vec<u8>,
+}
+
+/// A session that reads these halves, with a pass of its own.
+fn visit<R: AllocGlobal + Abort + Wait + Clock>(
+    rt: &R,
+    gate: &Gate,
+    pass: Pass,
+    halves: Halves<'_, R>,
+) -> Visited
+    requires { pass.gate ≡ gate.now }
+    ensures { (result.pass.gate ≡ pass.gate) × (result.pass.parts ≡ pass.parts) }
+{
+    let Ok(reader) = BufReader::new(rt.alloc(), halves) else {
         panic!(rt; "no reader");
     };
     let mut reader = Watched::new(reader);
     let mut writer = Watched::new(Vec::new(rt.alloc()));
     let bell = Bell::new();
-    let (mut pass, result) = serve(
-        &rt,
-        rt.alloc(),
-        &gate,
+    let (pass, result) = serve(rt, rt.alloc(), gate, pass, &mut reader, &mut writer, &bell);
+    Visited {
         pass,
-        &mut reader,
-        &mut writer,
-        &bell,
+        result,
+        read_failed: reader.failed(),
+        write_failed: writer.failed(),
+        told: writer.into_inner(),
+    }
+}
+
+/// A session that reads these halves, and another thread with a pass that speaks for it under this ordinal. Both have their passes back.
+fn visit_beside<R: AllocGlobal + Abort + Threads + Wait + Clock + Sync>(
+    rt: &R,
+    gate: &Gate,
+    one: Pass,
+    other: Pass,
+    ordinal: u32,
+    halves: Halves<'_, R>,
+) -> Visited
+    requires { (one.gate ≡ gate.now) × (other.gate ≡ gate.now) }
+    ensures { (result.pass.gate ≡ gate.now) × (result.pass.parts ≡ one.parts + other.parts) }
+{
+    let talk = halves.talk;
+    let (mut visited, other) = thread::join(
+        rt,
+        move || -> Visited
+            requires { one.gate ≡ gate.now }
+            ensures { (result.pass.gate ≡ one.gate) × (result.pass.parts ≡ one.parts) }
+        { visit(rt, gate, one, halves) },
+        move || -> Pass
+            requires { other.gate ≡ gate.now }
+            ensures { (result.gate ≡ other.gate) × (result.parts ≡ other.parts) }
+        { intrude(rt, gate, other, ordinal, talk) },
     );
-    assert!(rt; result == Err(SessionFault::Clash));
-    assert!(rt; !reader.failed() && !writer.failed());
-    assert!(rt; writer.into_inner().as_slice() == b"ok\n".as_slice());
-    assert!(rt; gate.ready(&rt, &mut pass) == Some(0));
-    drop(reader);
-    drop(pass);
-    drop(gate);
+    gate.meet(&mut visited.pass, other);
+    visited
+}
+
+/// How a session ends for which another thread speaks, with a pass of its own and under this ordinal, once it asks for what it reads second.
+fn serve_beside<R: AllocGlobal + Abort + Threads + Wait + Clock + Sync>(
+    rt: &R,
+    ordinal: u32,
+    first: &[u8],
+    second: &[u8],
+) -> Ended<Vec<u8>> {
+    let (gate, mut pass) = base_gate(rt);
+    let other = gate.split_pass(&mut pass);
+    let talk = Talk::new();
+    let halves = Halves {
+        rt,
+        talk: &talk,
+        first,
+        second,
+    };
+    let Visited {
+        pass,
+        result,
+        read_failed,
+        write_failed,
+        told,
+    } = visit_beside(rt, &gate, pass, other, ordinal, halves);
+    Ended {
+        result,
+        read_failed,
+        write_failed,
+        writer: told,
+        hall: gate.close(pass),
+    }
+}
+
+/// The session is opened by its first line. Then another thread's pass has a line of the session admitted under the ordinal 9, so that its
+/// own first line, under the ordinal 1, finds that somebody else spoke for it. Nothing more is written, and neither end has failed.
+#[test]
+fn clash(rt: HostRuntime) {
+    let (hello, line) = READ_ONE.split_at(10);
+    let ended = serve_beside(&rt, 9, hello, line);
+    assert!(rt; ended.result == Err(SessionFault::Clash));
+    assert!(rt; !ended.read_failed && !ended.write_failed);
+    assert!(rt; ended.writer.as_slice() == b"ok\n".as_slice());
+    let intruded = Event::Line {
+        session: SessionNo::new(0),
+        ordinal: 9,
+    };
+    assert!(rt; ended.hall.trail() == [opened(), intruded].as_slice());
+    drop(ended);
 }

@@ -60,7 +60,7 @@ fn visit<R: Wait + Clock>(
     pass: Pass,
     hold: &HoldFirst<'_, R>,
 ) -> (Pass, bool)
-    requires { pass.gate ≡ gate.now.id }
+    requires { pass.gate ≡ gate.now }
     ensures { (result.0.gate ≡ pass.gate) × (result.0.parts ≡ pass.parts) }
 {
     let mut reader = Watched::new(READ_ONE);
@@ -88,7 +88,7 @@ fn visit_later<R: Wait + Clock>(
     pass: Pass,
     hold: &HoldFirst<'_, R>,
 ) -> (Pass, bool)
-    requires { pass.gate ≡ gate.now.id }
+    requires { pass.gate ≡ gate.now }
     ensures { (result.0.gate ≡ pass.gate) × (result.0.parts ≡ pass.parts) }
 {
     let _ = comes(rt, &hold.begun);
@@ -104,17 +104,17 @@ fn visit_both<R: Threads + Wait + Clock + Sync>(
     two: Pass,
     hold: &HoldFirst<'_, R>,
 ) -> (Pass, bool)
-    requires { (one.gate ≡ gate.now.id) × (two.gate ≡ gate.now.id) }
-    ensures { (result.0.gate ≡ gate.now.id) × (result.0.parts ≡ one.parts + two.parts) }
+    requires { (one.gate ≡ gate.now) × (two.gate ≡ gate.now) }
+    ensures { (result.0.gate ≡ gate.now) × (result.0.parts ≡ one.parts + two.parts) }
 {
     let ((mut pass, first), (other, second)) = thread::join(
         rt,
         move || -> (Pass, bool)
-            requires { one.gate ≡ gate.now.id }
+            requires { one.gate ≡ gate.now }
             ensures { (result.0.gate ≡ one.gate) × (result.0.parts ≡ one.parts) }
         { visit(rt, alloc, gate, one, hold) },
         move || -> (Pass, bool)
-            requires { two.gate ≡ gate.now.id }
+            requires { two.gate ≡ gate.now }
             ensures { (result.0.gate ≡ two.gate) × (result.0.parts ≡ two.parts) }
         { visit_later(rt, alloc, gate, two, hold) },
     );
@@ -131,7 +131,7 @@ fn work<R: Wait + Clock>(
     mut pass: Pass,
     hold: &HoldFirst<'_, R>,
 ) -> Pass
-    requires { pass.gate ≡ gate.now.id }
+    requires { pass.gate ≡ gate.now }
     ensures { (result.gate ≡ pass.gate) × (result.parts ≡ pass.parts) }
 {
     run_worker(rt, alloc, gate, &mut pass, hold, &hold.bell);
@@ -147,17 +147,17 @@ fn work_both<R: Threads + Wait + Clock + Sync>(
     two: Pass,
     hold: &HoldFirst<'_, R>,
 ) -> Pass
-    requires { (one.gate ≡ gate.now.id) × (two.gate ≡ gate.now.id) }
-    ensures { (result.gate ≡ gate.now.id) × (result.parts ≡ one.parts + two.parts) }
+    requires { (one.gate ≡ gate.now) × (two.gate ≡ gate.now) }
+    ensures { (result.gate ≡ gate.now) × (result.parts ≡ one.parts + two.parts) }
 {
     let (mut pass, other) = thread::join(
         rt,
         move || -> Pass
-            requires { one.gate ≡ gate.now.id }
+            requires { one.gate ≡ gate.now }
             ensures { (result.gate ≡ one.gate) × (result.parts ≡ one.parts) }
         { work(rt, alloc, gate, one, hold) },
         move || -> Pass
-            requires { two.gate ≡ gate.now.id }
+            requires { two.gate ≡ gate.now }
             ensures { (result.gate ≡ two.gate) × (result.parts ≡ two.parts) }
         { work(rt, alloc, gate, two, hold) },
     );
@@ -173,20 +173,20 @@ fn serve_both<R: Threads + Wait + Clock + Sync>(
     pass: &mut Pass,
     hold: &HoldFirst<'_, R>,
 ) -> bool
-    requires { (pass.old.gate ≡ gate.now.id) × (pass.old.parts ≡ 64) }
-    ensures { (pass.new.gate ≡ gate.now.id) × (pass.new.parts ≡ 64) }
+    requires { (pass.old.gate ≡ gate.now) × (pass.old.parts ≡ 64) }
+    ensures { (pass.new.gate ≡ gate.now) × (pass.new.parts ≡ 64) }
 {
     let (one, two) = (gate.split_pass(pass), gate.split_pass(pass));
     let (three, four) = (gate.split_pass(pass), gate.split_pass(pass));
     let ((sessions, right), workers) = thread::join(
         rt,
         move || -> (Pass, bool)
-            requires { (one.gate ≡ gate.now.id) × (two.gate ≡ gate.now.id) }
-            ensures { (result.0.gate ≡ gate.now.id) × (result.0.parts ≡ one.parts + two.parts) }
+            requires { (one.gate ≡ gate.now) × (two.gate ≡ gate.now) }
+            ensures { (result.0.gate ≡ gate.now) × (result.0.parts ≡ one.parts + two.parts) }
         { visit_both(rt, alloc, gate, one, two, hold) },
         move || -> Pass
-            requires { (three.gate ≡ gate.now.id) × (four.gate ≡ gate.now.id) }
-            ensures { (result.gate ≡ gate.now.id) × (result.parts ≡ three.parts + four.parts) }
+            requires { (three.gate ≡ gate.now) × (four.gate ≡ gate.now) }
+            ensures { (result.gate ≡ gate.now) × (result.parts ≡ three.parts + four.parts) }
         { work_both(rt, alloc, gate, three, four, hold) },
     );
     gate.meet(pass, sessions);
