@@ -205,3 +205,20 @@ fn clash(rt: HostRuntime) {
     assert!(rt; ended.hall.trail() == [opened(), intruded].as_slice());
     drop(ended);
 }
+
+/// Another thread's pass has a line of the session admitted under the ordinal 5, behind the session's own line. That is answered at its
+/// `wait` all the same, and the session's next line, under the ordinal 2, finds that somebody else spoke for it.
+#[test]
+fn spoken_for_behind(rt: HostRuntime) {
+    let (hello_and_line, _) = READ_ONE.split_at(43);
+    let rest = b"wait\nwhen read memo do show memo; end\nwait\n";
+    let ended = serve_beside(&rt, 5, hello_and_line, rest);
+    assert!(rt;
+        ended.result == Err(SessionFault::Clash),
+        "{:?}",
+        ended.result
+    );
+    assert!(rt; !ended.read_failed && !ended.write_failed);
+    assert!(rt; ended.writer.as_slice() == b"ok\n1 done \"m1\"\nok\n".as_slice());
+    drop(ended);
+}
