@@ -13,6 +13,7 @@ use crate::command::{Command, Hosting, read_words};
 use crate::files::{read_files, read_setup_file};
 use crate::run::{Files, run_asked, run_unread};
 use bl_host::options::Options;
+use bl_host::rest::hand_on_rest;
 use bl_run::alone::{AloneRun, alone_kept_on};
 use bl_run::fault::{ProgramFault, of_file};
 use bl_run::serve::{Finished, Ground, ServeRun, end_with, serve_on};
@@ -176,7 +177,10 @@ fn run_serve<
     let Ok(writer) = BufWriter::new(rt.alloc(), io::writer(rt)) else {
         return tell(errors, &ProgramFault::NoMemory);
     };
-    serve_found(rt, found, hosting, &mut Watched::new(writer), errors).status
+    let mut writer = Watched::new(writer);
+    let status = serve_found(rt, found, hosting, &mut writer, errors).status;
+    let _ = hand_on_rest(writer);
+    status
 }
 
 /// A session with a trail, once its setup file was read, or a fault was found, which is told.
@@ -211,7 +215,48 @@ fn tell_hint<R: Eprint>(rt: &R) {
     put_out(&mut Watched::new(StandardError { rt }), HINT);
 }
 
-/// A run of `alone` or `replay`, or of words that name no command, over standard input and output. The result is the status of the run.
+/// A run of `alone` or `replay`, or of words that name no command, over a reader and a writer. The result is the status of the run.
+fn sit<T: AllocGlobal + OpensFiles, R: BufRead, W: Write, E: Write>(
+    rt: &T,
+    asked: Result<Command<'_>, Error>,
+    reader: &mut Watched<R>,
+    writer: &mut Watched<W>,
+    errors: &mut Watched<E>,
+) -> u8
+    requires range { IfOk asked IsInRange }
+    requires reader { reader.old.failed ≡ false }
+    requires writer { writer.old.failed ≡ false }
+    requires errors { errors.old.failed ≡ false }
+    ensures { IsStatus result }
+{
+    let alloc = rt.alloc();
+    if let Ok(
+        Command::Alone {
+            setup,
+            limit,
+            trail: Some(trail),
+        },
+    ) = &asked
+    {
+        let run = AloneRun {
+            alloc,
+            limit: *limit,
+            trail: *trail,
+        };
+        let setup = read_setup_file(rt, setup);
+        return sit_found(rt, setup, &run, reader, writer, errors).status;
+    }
+    let files = match &asked {
+        Ok(command) => read_files(rt, command),
+        Err(_) => Ok(Files {
+            setup: Vec::new(alloc),
+            trail: Vec::new(alloc),
+        }),
+    };
+    run_asked(alloc, asked, files, reader, writer, errors)
+}
+
+/// The same over standard input and output. What was written is handed on, and an output that failed is not called again.
 fn run_sitting<R: AllocGlobal + OpensFiles + Print + Eprint + Input, E: Write>(
     rt: &R,
     asked: Result<Command<'_>, Error>,
@@ -234,32 +279,10 @@ where
     let Ok(writer) = BufWriter::new(alloc, io::writer(rt)) else {
         return tell(errors, &ProgramFault::NoMemory);
     };
-    let mut reader = Watched::new(reader);
     let mut writer = Watched::new(writer);
-    if let Ok(
-        Command::Alone {
-            setup,
-            limit,
-            trail: Some(trail),
-        },
-    ) = &asked
-    {
-        let run = AloneRun {
-            alloc,
-            limit: *limit,
-            trail: *trail,
-        };
-        let setup = read_setup_file(rt, setup);
-        return sit_found(rt, setup, &run, &mut reader, &mut writer, errors).status;
-    }
-    let files = match &asked {
-        Ok(command) => read_files(rt, command),
-        Err(_) => Ok(Files {
-            setup: Vec::new(alloc),
-            trail: Vec::new(alloc),
-        }),
-    };
-    run_asked(alloc, asked, files, &mut reader, &mut writer, errors)
+    let status = sit(rt, asked, &mut Watched::new(reader), &mut writer, errors);
+    let _ = hand_on_rest(writer);
+    status
 }
 
 /// A run of the program. The result is its status: 0 where all was done, or help or the version was asked for, 1 for a trail
