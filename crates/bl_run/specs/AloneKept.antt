@@ -8,7 +8,7 @@ use Rattle.bl_setup.specs.Grammar.{IsSetup}
 use Rattle.bl_wire.specs.Watch.{Use}
 use Rattle.bl_wire.specs.declared.fault.SessionFault.{SessionFault}
 use Rattle.bl_session.specs.Outcome.{IsServed, IsCutShort}
-use Rattle.bl_run.specs.declared.alone.AloneRun.{AloneRun}
+use Rattle.bl_run.specs.declared.alone_run.AloneRun.{AloneRun}
 use Rattle.bl_run.specs.declared.fault.ProgramFault.{ProgramFault}
 use Rattle.bl_run.specs.declared.serve.Finished.{Finished}
 use Rattle.bl_keep.specs.declared.whole.Unkept.{Unkept}

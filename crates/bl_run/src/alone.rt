@@ -14,11 +14,12 @@ ghost use Rattle.bl_run.specs.Message.{fault_line};
 ghost use Rattle.bl_run.specs.Runs.{IsRun};
 ghost use Rattle.bl_run.specs.Status.{IsEnd, status_after};
 
+use crate::alone_run::AloneRun;
 use crate::fault::{ProgramFault, of_keep, of_session, of_setup};
 use crate::serve::{Finished, end_with, tell_trail};
 use crate::told::tell;
 use bl_keep::keep::keep;
-use bl_keep::part::{PartFile, TrailFile, claim, give_back};
+use bl_keep::part::{PartFile, claim, give_back};
 use bl_session::alone::{Kept, serve_and_keep};
 use bl_setup::reader::read_setup;
 use bl_setup::setup::Setup;
@@ -91,16 +92,6 @@ pub fn alone_on<R: BufRead, W: Write, E: Write>(
         Ok(()) => 0,
         Err(fault) => tell(errors, &fault),
     }
-}
-
-/// What a session with a trail was asked for: where memory comes from, the weight of the lines that are admitted at most, 1 to 100,000,
-/// and where the trail is kept.
-#[derive(Clone, Copy)]
-pub struct AloneRun<'a> {
-    pub alloc: Global,
-    pub limit: u32,
-    pub trail: TrailFile<'a>,
-    pub ghost limited: { (1 ≤ limit) × (limit ≤ 100000) },
 }
 
 /// What stands before a session with a trail: the setup, and the file that was claimed for the trail.

@@ -2,7 +2,8 @@
 use super::base::BASE;
 use super::failing::FailingFiles;
 use bl_keep::part::TrailFile;
-use bl_run::alone::{AloneRun, alone_kept_on};
+use bl_run::alone::alone_kept_on;
+use bl_run::alone_run::AloneRun;
 use bl_wire::watched::Watched;
 use std::alloc::Global;
 use std::os::unix::fs::{MetadataExt, symlink};
