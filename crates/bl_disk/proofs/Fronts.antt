@@ -1,0 +1,34 @@
+-- Texts that begin with others.
+use Rattle.std.proofs.Common.{◌≡◌, ℕ, zero, suc, ◌≤◌, List, [], ◌∷◌, ◌++◌, length, take, refl, sym, ◌∙◌, ap, arith, append_assoc, append-nil}
+use Rattle.bl_disk.specs.File.{Begins, File, Keeps}
+
+-- a text begins with itself
+pub itself : {A : Type 0} (a : List A) → Begins a a
+itself a = ([], sym (append-nil a))
+
+-- what begins with a text begins with what that begins with
+pub through : {A : Type 0} (a b c : List A) → Begins a b → Begins b c → Begins a c
+through a b c (s, p) (t, q) = (s ++ t, q ∙ ap (λ l. l ++ t) p ∙ append_assoc a s t)
+
+-- a cut behind a front leaves it
+pub take-behind : (front rest : List ℕ) (n : ℕ) → length front ≤ n → Begins front (take n (front ++ rest))
+take-behind [] rest n le = (take n rest, refl)
+take-behind (b ∷ front) rest zero le = absurd (omega (arith, le))
+take-behind (b ∷ front) rest (suc n) le =
+    let t : Begins front (take n (front ++ rest)) = take-behind front rest n (omega (arith, le)) in
+    (t.0, ap (λ l. b ∷ l) t.1)
+
+-- two cuts at one place leave the one front of the other
+pub take-both : (n : ℕ) (front whole : List ℕ) → Begins front whole → Begins (take n front) (take n whole)
+take-both n front whole (rest, is) = go n front whole is
+  where
+    go : (n : ℕ) (front whole : List ℕ) → whole ≡ front ++ rest → Begins (take n front) (take n whole)
+    go zero front whole is = ([], refl)
+    go (suc n) [] whole is = (take (suc n) whole, refl)
+    go (suc n) (b ∷ front) whole is =
+        let t : Begins (take n front) (take n (front ++ rest)) = go n front (front ++ rest) refl in
+        (t.0, ap (take (suc n)) is ∙ ap (λ l. b ∷ l) t.1)
+
+-- what is kept, each crash leaves
+pub crash-keeps : (front : List ℕ) (file : File) → Begins front file.kept → Keeps front file
+crash-keeps front file begins left may = through front file.kept left begins may

@@ -1,0 +1,4 @@
+pub mod File
+pub mod Moments
+pub mod FileLives
+pub mod InMemory
