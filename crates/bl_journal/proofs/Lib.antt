@@ -1,0 +1,4 @@
+pub mod Heading
+pub mod Recovering
+pub mod Living
+pub mod Resuming
