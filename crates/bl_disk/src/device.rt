@@ -1,6 +1,6 @@
 //! A file as a log sees it: it is read whole, added to at its end, cut, and synced. What a crash leaves of it is said by what is
 //! on the disk for certain (File), at each moment of a call (Moments).
-ghost use Rattle.std.specs.Prelude.{◌≡◌, ◌≤◌, ◌++◌, List, length, take, IfOk, OnOk};
+ghost use Rattle.std.specs.Prelude.{◌≡◌, ◌≢◌, ◌≤◌, ◌++◌, Bool, true, false, List, length, take, IfErr, IfOk, OnOk};
 ghost use Rattle.bl_disk.specs.File.{File, seen, synced};
 ghost use Rattle.bl_disk.specs.Moments.{IsAdding, IsCutting, IsSyncing, Passes};
 ghost use Rattle.bl_disk.specs.declared.device.DeviceError.TheVariants.{Memory};
@@ -45,35 +45,39 @@ pub trait Device {
     /// moment within the call.
     ghost past: { Self → List File };
 
-    /// No call has failed since the file was opened.
-    ghost is_sound: { Self → Type 0 };
+    /// Whether the device has failed since the file was opened.
+    ghost has_failed: { Self → Bool };
 
     /// All the bytes. The file stays as it is.
     fn read(&mut self, alloc: Global) -> Result<Vec<u8>, DeviceError>
-        requires { is_sound self.old }
+        requires { has_failed self.old ≡ false }
         ensures bytes { IfOk result (λ bytes. bytes.items ≡ seen (now self.old)) }
         ensures moments { Passes now past self.old self.new (λ file. file ≡ now self.old) }
-        ensures sound { OnOk result (is_sound self.new) };
+        ensures fault { IfErr result (λ error. error ≢ Memory → has_failed self.new ≡ true) }
+        ensures sound { OnOk result (has_failed self.new ≡ false) };
 
     /// Adds a text at the end. At each moment a first part of it is there, and what was kept stays kept.
     fn append(&mut self, text: &[u8]) -> Result<(), DeviceError>
-        requires { is_sound self.old }
+        requires { has_failed self.old ≡ false }
         ensures added { OnOk result (seen (now self.new) ≡ seen (now self.old) ++ text.now) }
         ensures moments { Passes now past self.old self.new (IsAdding (now self.old) text.now) }
-        ensures sound { OnOk result (is_sound self.new) };
+        ensures fault { IfErr result (λ error. error ≢ Memory → has_failed self.new ≡ true) }
+        ensures sound { OnOk result (has_failed self.new ≡ false) };
 
     /// Cuts the file to so many bytes. At each moment what was kept of these is kept.
     fn cut(&mut self, len: usize) -> Result<(), DeviceError>
-        requires sound { is_sound self.old }
+        requires sound { has_failed self.old ≡ false }
         requires within { len ≤ length (seen (now self.old)) }
         ensures cut { OnOk result (seen (now self.new) ≡ take len (seen (now self.old))) }
         ensures moments { Passes now past self.old self.new (IsCutting (now self.old) len) }
-        ensures sound { OnOk result (is_sound self.new) };
+        ensures fault { IfErr result (λ error. error ≢ Memory → has_failed self.new ≡ true) }
+        ensures sound { OnOk result (has_failed self.new ≡ false) };
 
     /// Keeps all that a read returns. At each moment what was kept stays kept.
     fn sync(&mut self) -> Result<(), DeviceError>
-        requires { is_sound self.old }
+        requires { has_failed self.old ≡ false }
         ensures kept { OnOk result (now self.new ≡ synced (now self.old)) }
         ensures moments { Passes now past self.old self.new (IsSyncing (now self.old)) }
-        ensures sound { OnOk result (is_sound self.new) };
+        ensures fault { IfErr result (λ error. error ≢ Memory → has_failed self.new ≡ true) }
+        ensures sound { OnOk result (has_failed self.new ≡ false) };
 }

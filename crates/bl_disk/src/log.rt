@@ -1,6 +1,7 @@
 //! A file that grows at its end by whole texts, over a device. What was added is kept before the call answers; a text may also
 //! be put there now and kept later, with others.
-ghost use Rattle.std.specs.Prelude.{◌≡◌, ◌≤◌, ◌++◌, length, take, IfOk, IfErr, OnOk};
+ghost use Rattle.std.specs.Prelude.{◌≡◌, ◌≢◌, ◌≤◌, ◌++◌, true, false, length, take, IfErr, IfOk, OnOk};
+ghost use Rattle.bl_disk.specs.declared.device.DeviceError.TheVariants.{Memory};
 ghost use Rattle.bl_disk.specs.File.{Keeps, all_kept, seen, synced};
 ghost use Rattle.bl_disk.specs.Moments.{IsAdding, IsSyncing, Passes};
 
@@ -18,20 +19,22 @@ impl<D: Device> Log<D> {
     /// machine too, only after `keep`. Whenever the program ends, what is there is what was there before and a first part of the
     /// text; whenever the machine ends, what was kept is there. An error is the device's, and leaves just that.
     pub fn put(&mut self, text: &[u8]) -> Result<(), DeviceError>
-        requires { D.is_sound self.old.device }
+        requires { D.has_failed self.old.device ≡ false }
         ensures there { OnOk result (seen (D.now self.new.device) ≡ seen (D.now self.old.device) ++ text.now) }
         ensures any_moment { Passes D.now D.past self.old.device self.new.device (IsAdding (D.now self.old.device) text.now) }
-        ensures sound { OnOk result (D.is_sound self.new.device) }
+        ensures fault { IfErr result (λ error. error ≢ Memory → D.has_failed self.new.device ≡ true) }
+        ensures sound { OnOk result (D.has_failed self.new.device ≡ false) }
     {
         self.device.append(text)
     }
 
     /// Keeps all that was put there. An error is the device's; what was kept before is still kept.
     pub fn keep(&mut self) -> Result<(), DeviceError>
-        requires { D.is_sound self.old.device }
+        requires { D.has_failed self.old.device ≡ false }
         ensures kept { OnOk result (D.now self.new.device ≡ synced (D.now self.old.device)) }
         ensures any_moment { Passes D.now D.past self.old.device self.new.device (IsSyncing (D.now self.old.device)) }
-        ensures sound { OnOk result (D.is_sound self.new.device) }
+        ensures fault { IfErr result (λ error. error ≢ Memory → D.has_failed self.new.device ≡ true) }
+        ensures sound { OnOk result (D.has_failed self.new.device ≡ false) }
     {
         self.device.sync()
     }
@@ -39,10 +42,11 @@ impl<D: Device> Log<D> {
     /// Adds a text behind what is there, and keeps all. Whenever the machine ends, in the call or after it, what was kept before is
     /// there; once the call has answered `Ok`, so is the text. An error is the device's.
     pub fn add(&mut self, text: &[u8]) -> Result<(), DeviceError>
-        requires { D.is_sound self.old.device }
+        requires { D.has_failed self.old.device ≡ false }
         ensures kept { OnOk result (D.now self.new.device ≡ all_kept (seen (D.now self.old.device) ++ text.now)) }
         ensures any_moment { Passes D.now D.past self.old.device self.new.device (Keeps (D.now self.old.device).kept) }
-        ensures sound { OnOk result (D.is_sound self.new.device) }
+        ensures fault { IfErr result (λ error. error ≢ Memory → D.has_failed self.new.device ≡ true) }
+        ensures sound { OnOk result (D.has_failed self.new.device ≡ false) }
     {
         self.put(text)?;
         self.keep()
@@ -52,12 +56,13 @@ impl<D: Device> Log<D> {
 /// Opens a file again of which so many bytes are right: what stands behind them, as the torn end of a text, is cut off, and they
 /// are kept. Whenever the machine ends, what was kept of them is there. An error is the device's, which is given back with it.
 pub fn reopen<D: Device>(mut device: D, right: usize) -> Result<Log<D>, (DeviceError, D)>
-    requires sound { D.is_sound device }
+    requires sound { D.has_failed device ≡ false }
     requires within { right ≤ length (seen (D.now device)) }
     ensures kept { IfOk result (λ log. D.now log.device ≡ all_kept (take right (seen (D.now device)))) }
     ensures any_moment { IfOk result (λ log. Passes D.now D.past device log.device (Keeps (take right (D.now device).kept))) }
     ensures any_moment_failed { IfErr result (λ failed. Passes D.now D.past device failed.1 (Keeps (take right (D.now device).kept))) }
-    ensures sound { IfOk result (λ log. D.is_sound log.device) }
+    ensures fault { IfErr result (λ failed. failed.0 ≢ Memory → D.has_failed failed.1 ≡ true) }
+    ensures sound { IfOk result (λ log. D.has_failed log.device ≡ false) }
 {
     match device.cut(right) {
         Ok(()) => match device.sync() {

@@ -1,6 +1,6 @@
 //! A file in memory, which takes each text at once and remembers how it stood at each moment: for tests, and to see that a device
 //! can be what `Device` says.
-ghost use Rattle.std.specs.Prelude.{◌≡◌, ◌≤◌, ◌++◌, ◌∷◌, [], length, map, take, IfOk, OnErr, OnOk, ⊤};
+ghost use Rattle.std.specs.Prelude.{◌≡◌, ◌≤◌, ◌++◌, ◌∷◌, [], length, map, take, false, IfOk, OnErr, OnOk};
 ghost use Rattle.bl_disk.specs.File.{all_kept};
 
 use crate::device::{Device, DeviceError};
@@ -128,7 +128,7 @@ impl Device for Memory {
 
     ghost past = { memory_past };
 
-    ghost is_sound = { λ memory. ⊤ };
+    ghost has_failed = { λ memory. false };
 
     fn read(&mut self, alloc: Global) -> Result<Vec<u8>, DeviceError> {
         let all = self.stands.all(alloc)?;

@@ -5,7 +5,7 @@ use bl_disk::log::{Log, reopen};
 
 /// Opens a file again of which so many bytes are right. One that has fewer is given back as it is.
 pub fn opened(torn: Torn, right: usize) -> Result<Log<Torn>, (DeviceError, Torn)> {
-    if right <= torn.len() {
+    if right <= torn.len() && !torn.failed() {
         reopen(torn, right)
     } else {
         Err((DeviceError::Failed, torn))

@@ -14,7 +14,7 @@ fn a_full_file_has_a_first_part_and_is_opened_again(rt: HostRuntime) -> Result<(
     let Log { device } = log;
     assert!(rt; device.now().kept.as_slice() == b"one\n".as_slice());
     assert!(rt; device.now().loose.as_slice() == b"tw".as_slice());
-    let log = match opened(device, 4) {
+    let log = match opened(device.renewed(0), 4) {
         Ok(log) => log,
         Err(_) => return Err(Fail::from(AllocError)),
     };

@@ -1,7 +1,5 @@
 //! A file that takes each text byte by byte, so that a crash may come behind each of them; it has room for so many bytes, and so many
 //! of its syncs succeed.
-ghost use Rattle.std.specs.Prelude.{⊤};
-
 use bl_disk::device::{Device, DeviceError};
 use bl_disk::memory::{Memory, Moment};
 use std::alloc::{AllocError, Global};
@@ -15,21 +13,46 @@ pub struct Torn {
     room: usize,
     /// So many syncs more succeed.
     syncs: usize,
+    /// Whether it was full, or a sync failed.
+    failed: bool,
 }
 
 impl Torn {
-    ghost use Rattle.std.specs.Prelude.{◌≡◌, length};
+    ghost use Rattle.std.specs.Prelude.{◌≡◌, false, length, IfOk};
     ghost use Rattle.bl_disk.specs.File.{seen};
     ghost use Rattle.bl_disk_tests.specs.OfTorn.{torn_now};
 
     /// A file with these bytes, all of them kept, with room for so many more, of which so many syncs succeed.
-    pub fn new(alloc: Global, bytes: &[u8], room: usize, syncs: usize) -> Result<Torn, AllocError> {
+    pub fn new(alloc: Global, bytes: &[u8], room: usize, syncs: usize) -> Result<Torn, AllocError>
+        ensures { IfOk result (λ torn. torn.failed ≡ false) }
+    {
         let bytes = bytes.to_vec(alloc)?;
         Ok(Torn {
             memory: Memory::new(alloc, bytes),
             room,
             syncs,
+            failed: false,
         })
+    }
+
+    /// Whether it was full, or a sync failed, since it was opened.
+    pub fn failed(&self) -> bool
+        ensures { result ≡ self.now.failed }
+    {
+        self.failed
+    }
+
+    /// The same file, opened again, with room for so many bytes more.
+    pub fn renewed(self, room: usize) -> Torn
+        ensures { result.failed ≡ false }
+    {
+        let Torn { memory, syncs, .. } = self;
+        Torn {
+            memory,
+            room,
+            syncs,
+            failed: false,
+        }
     }
 
     /// How many bytes a read returns.
@@ -58,7 +81,7 @@ impl Device for Torn {
 
     ghost past = { torn_past };
 
-    ghost is_sound = { λ torn. ⊤ };
+    ghost has_failed = { λ torn. torn.failed };
 
     fn read(&mut self, alloc: Global) -> Result<Vec<u8>, DeviceError> {
         self.memory.read(alloc)
@@ -68,6 +91,7 @@ impl Device for Torn {
         for i in 0..text.len() {
             let byte = text[i];
             if self.room == 0 {
+                self.failed = true;
                 return Err(DeviceError::Full);
             }
             self.memory.append(&[byte])?;
@@ -82,6 +106,7 @@ impl Device for Torn {
 
     fn sync(&mut self) -> Result<(), DeviceError> {
         if self.syncs == 0 {
+            self.failed = true;
             return Err(DeviceError::Failed);
         }
         self.memory.sync()?;
