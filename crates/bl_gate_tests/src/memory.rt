@@ -48,7 +48,7 @@ fn hall_or_none(alloc: Global) -> Option<Hall> {
 
 /// A gate over the base setup and the pass with all its parts; none where a growth is refused.
 fn gate_or_none(alloc: Global) -> Option<(Gate, Pass)>
-    ensures gate { IfSome result (λ made. made.1.gate ≡ made.0.id) }
+    ensures gate { IfSome result (λ made. made.1.gate ≡ made.0) }
     ensures parts { IfSome result (λ made. made.1.parts ≡ 64) }
 {
     match Gate::new(hall_or_none(alloc)?) {
@@ -133,18 +133,26 @@ fn assert_answered<R: AllocGlobal + Abort + Files + Print + Wait>(
     }
 }
 
-/// Whether these are the events of one line and of a turn that was done, or that was lost at its start or while it ran.
-fn are_of_a_turn(events: &[Event], done: bool) -> bool {
-    let line = Event::Line {
+/// The event of the session that is opened.
+fn opened() -> Event {
+    Event::Open(SubjectId::new(ANN))
+}
+
+/// The event of its line.
+fn admitted() -> Event {
+    Event::Line {
         session: SessionNo::new(0),
         ordinal: 1,
-    };
-    let open = Event::Open(SubjectId::new(ANN));
+    }
+}
+
+/// Whether these are the events of one line and of a turn that was done, or that was lost at its start or while it ran.
+fn are_of_a_turn(events: &[Event], done: bool) -> bool {
     if done {
-        events == [open, line, Event::Start(0), Event::End(0)].as_slice()
+        events == [opened(), admitted(), Event::Start(0), Event::End(0)].as_slice()
     } else {
-        events == [open, line, Event::Lost(0)].as_slice()
-            || events == [open, line, Event::Start(0), Event::Lost(0)].as_slice()
+        events == [opened(), admitted(), Event::Lost(0)].as_slice()
+            || events == [opened(), admitted(), Event::Start(0), Event::Lost(0)].as_slice()
     }
 }
 
@@ -155,7 +163,7 @@ fn take_the_turn<R: AllocGlobal + Abort + Files + Print + Wait>(
     mut pass: Pass,
     work: Work,
 )
-    requires gate { pass.gate ≡ gate.id }
+    requires gate { pass.gate ≡ gate }
     requires parts { pass.parts ≡ 64 }
 {
     let mut other = gate.split_pass(&mut pass);
