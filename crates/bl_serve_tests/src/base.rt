@@ -74,7 +74,7 @@ pub(super) fn comes<R: Clock>(rt: &R, mark: &AtomicU64) -> bool {
 
 /// A gate over the base setup for lines up to a weight of 10,000, and the pass with all its parts.
 pub(super) fn base_gate<R: AllocGlobal + Abort>(rt: &R) -> (Gate, Pass)
-    ensures gate { result.1.gate ≡ result.0.id }
+    ensures gate { result.1.gate ≡ result.0 }
     ensures parts { result.1.parts ≡ 64 }
 {
     let Ok(setup) = read_setup(rt.alloc(), BASE) else {

@@ -103,16 +103,24 @@ struct Visited {
     told: Vec<u8>,
 }
 
-/// A session that reads these halves, with a pass of its own.
+/// A session that reads these two halves, with a pass of its own.
 fn visit<R: AllocGlobal + Abort + Wait + Clock>(
     rt: &R,
     gate: &Gate,
     pass: Pass,
-    halves: Halves<'_, R>,
+    talk: &Talk,
+    first: &[u8],
+    second: &[u8],
 ) -> Visited
     requires { pass.gate ≡ gate.now }
     ensures { (result.pass.gate ≡ pass.gate) × (result.pass.parts ≡ pass.parts) }
 {
+    let halves = Halves {
+        rt,
+        talk,
+        first,
+        second,
+    };
     let Ok(reader) = BufReader::new(rt.alloc(), halves) else {
         panic!(rt; "no reader");
     };
@@ -129,25 +137,26 @@ fn visit<R: AllocGlobal + Abort + Wait + Clock>(
     }
 }
 
-/// A session that reads these halves, and another thread with a pass that speaks for it under this ordinal. Both have their passes back.
+/// A session that reads these two halves, and another thread with a pass that speaks for it under this ordinal. Both have their passes back.
 fn visit_beside<R: AllocGlobal + Abort + Threads + Wait + Clock + Sync>(
     rt: &R,
     gate: &Gate,
     one: Pass,
     other: Pass,
     ordinal: u32,
-    halves: Halves<'_, R>,
+    talk: &Talk,
+    first: &[u8],
+    second: &[u8],
 ) -> Visited
     requires { (one.gate ≡ gate.now) × (other.gate ≡ gate.now) }
     ensures { (result.pass.gate ≡ gate.now) × (result.pass.parts ≡ one.parts + other.parts) }
 {
-    let talk = halves.talk;
     let (mut visited, other) = thread::join(
         rt,
         move || -> Visited
             requires { one.gate ≡ gate.now }
             ensures { (result.pass.gate ≡ one.gate) × (result.pass.parts ≡ one.parts) }
-        { visit(rt, gate, one, halves) },
+        { visit(rt, gate, one, talk, first, second) },
         move || -> Pass
             requires { other.gate ≡ gate.now }
             ensures { (result.gate ≡ other.gate) × (result.parts ≡ other.parts) }
@@ -167,19 +176,13 @@ fn serve_beside<R: AllocGlobal + Abort + Threads + Wait + Clock + Sync>(
     let (gate, mut pass) = base_gate(rt);
     let other = gate.split_pass(&mut pass);
     let talk = Talk::new();
-    let halves = Halves {
-        rt,
-        talk: &talk,
-        first,
-        second,
-    };
     let Visited {
         pass,
         result,
         read_failed,
         write_failed,
         told,
-    } = visit_beside(rt, &gate, pass, other, ordinal, halves);
+    } = visit_beside(rt, &gate, pass, other, ordinal, &talk, first, second);
     Ended {
         result,
         read_failed,

@@ -20,16 +20,16 @@ use std::thread::Threads;
 
 /// Holds the first behaviour that runs until a session has ended, and notes whether that came.
 #[derive(Drop)]
-struct HoldFirst<'a, R> {
-    rt: &'a R,
+struct HoldFirst<R> {
+    rt: R,
     bell: Bell,
     begun: AtomicU64,
     over: AtomicU64,
     held: AtomicU64,
 }
 
-impl<'a, R> HoldFirst<'a, R> {
-    fn new(rt: &'a R) -> HoldFirst<'a, R> {
+impl<R> HoldFirst<R> {
+    fn new(rt: R) -> HoldFirst<R> {
         HoldFirst {
             rt,
             bell: Bell::new(),
@@ -40,13 +40,13 @@ impl<'a, R> HoldFirst<'a, R> {
     }
 }
 
-impl<R: Clock> Pause for HoldFirst<'_, R> {
+impl<R: Clock> Pause for HoldFirst<R> {
     fn between(&self, n: u32) {
         let _ = n;
         if self.begun.fetch_add(1, Ordering::SeqCst) > 0 {
             return;
         }
-        if comes(self.rt, &self.over) {
+        if comes(&self.rt, &self.over) {
             self.held.store(1, Ordering::SeqCst);
         }
     }
@@ -58,7 +58,7 @@ fn visit<R: Wait + Clock>(
     alloc: Global,
     gate: &Gate,
     pass: Pass,
-    hold: &HoldFirst<'_, R>,
+    hold: &HoldFirst<R>,
 ) -> (Pass, bool)
     requires { pass.gate ≡ gate.now }
     ensures { (result.0.gate ≡ pass.gate) × (result.0.parts ≡ pass.parts) }
@@ -86,7 +86,7 @@ fn visit_later<R: Wait + Clock>(
     alloc: Global,
     gate: &Gate,
     pass: Pass,
-    hold: &HoldFirst<'_, R>,
+    hold: &HoldFirst<R>,
 ) -> (Pass, bool)
     requires { pass.gate ≡ gate.now }
     ensures { (result.0.gate ≡ pass.gate) × (result.0.parts ≡ pass.parts) }
@@ -102,7 +102,7 @@ fn visit_both<R: Threads + Wait + Clock + Sync>(
     gate: &Gate,
     one: Pass,
     two: Pass,
-    hold: &HoldFirst<'_, R>,
+    hold: &HoldFirst<R>,
 ) -> (Pass, bool)
     requires { (one.gate ≡ gate.now) × (two.gate ≡ gate.now) }
     ensures { (result.0.gate ≡ gate.now) × (result.0.parts ≡ one.parts + two.parts) }
@@ -129,7 +129,7 @@ fn work<R: Wait + Clock>(
     alloc: Global,
     gate: &Gate,
     mut pass: Pass,
-    hold: &HoldFirst<'_, R>,
+    hold: &HoldFirst<R>,
 ) -> Pass
     requires { pass.gate ≡ gate.now }
     ensures { (result.gate ≡ pass.gate) × (result.parts ≡ pass.parts) }
@@ -145,7 +145,7 @@ fn work_both<R: Threads + Wait + Clock + Sync>(
     gate: &Gate,
     one: Pass,
     two: Pass,
-    hold: &HoldFirst<'_, R>,
+    hold: &HoldFirst<R>,
 ) -> Pass
     requires { (one.gate ≡ gate.now) × (two.gate ≡ gate.now) }
     ensures { (result.gate ≡ gate.now) × (result.parts ≡ one.parts + two.parts) }
@@ -171,7 +171,7 @@ fn serve_both<R: Threads + Wait + Clock + Sync>(
     alloc: Global,
     gate: &Gate,
     pass: &mut Pass,
-    hold: &HoldFirst<'_, R>,
+    hold: &HoldFirst<R>,
 ) -> bool
     requires { (pass.old.gate ≡ gate.now) × (pass.old.parts ≡ 64) }
     ensures { (pass.new.gate ≡ gate.now) × (pass.new.parts ≡ 64) }
@@ -182,11 +182,11 @@ fn serve_both<R: Threads + Wait + Clock + Sync>(
         rt,
         move || -> (Pass, bool)
             requires { (one.gate ≡ gate.now) × (two.gate ≡ gate.now) }
-            ensures { (result.0.gate ≡ gate.now) × (result.0.parts ≡ one.parts + two.parts) }
+            ensures { (result.0.gate ≡ one.gate) × (result.0.parts ≡ one.parts + two.parts) }
         { visit_both(rt, alloc, gate, one, two, hold) },
         move || -> Pass
             requires { (three.gate ≡ gate.now) × (four.gate ≡ gate.now) }
-            ensures { (result.gate ≡ gate.now) × (result.parts ≡ three.parts + four.parts) }
+            ensures { (result.gate ≡ three.gate) × (result.parts ≡ three.parts + four.parts) }
         { work_both(rt, alloc, gate, three, four, hold) },
     );
     gate.meet(pass, sessions);
@@ -218,7 +218,7 @@ fn overlap(trail: &[Event]) -> bool {
 #[test]
 fn two_readers_overlap(rt: HostRuntime) {
     let (gate, mut pass) = base_gate(&rt);
-    let hold = HoldFirst::new(&rt);
+    let hold = HoldFirst::new(rt);
     let right = serve_both(&rt, rt.alloc(), &gate, &mut pass, &hold);
     assert!(rt; right);
     assert!(rt; hold.held.load(Ordering::SeqCst) == 1);
