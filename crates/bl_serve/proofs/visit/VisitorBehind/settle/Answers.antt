@@ -82,17 +82,17 @@ returns-clause-whole g c =
     let e : c.append.new.self.items ≡ c.args.state.now.told.items ++ more = added g c in
     let are = are_told g c in
     record {
-     whole = record {
-      told = c.requires.whole.whole.told ++ request.Settles ∷ [];
-      come = come_settled c.args.self.now.gate.now c.args.self.now.first.value c.args.state.now c.in-Some.session c.in-Some.is c.requires.whole.whole.told c.requires.whole.whole.come c.replies_go_by_lines.ensures _ more heard c.args.ordinal
-          (quiet_then c.args.state.now.pass c.run.new.pass c.hear.new.pass c.run.ensures c.hear.ensures.quiet) c.hear.ensures.trail
-          (subst (λ n. AreAnswers (state_seen c.hear.new.pass) c.in-Some.session n (map reply_of heard)) (sym upto) c.in_ok-replies.ensures.told)
-    (λ k low. line_stays heard c.count_up_to-count.result c.args.ordinal k low (subst (λ (l : List Reply). BeginsAbove c.args.ordinal (drop c.count_up_to-count.result l)) (heard_is g c) c.count_up_to-count.ensures.next))
-          (subst (λ n. All (IsTold names n c.args.ordinal) more) (sym upto) are) c.requires.last refl e refl refl;
-      upto = refl;
-     };
-     session = c.in-Some.session;
-     is = c.in-Some.is;
+      whole = record {
+        told = c.requires.whole.whole.told ++ request.Settles ∷ [];
+        come = come_settled c.args.self.now.gate.now c.args.self.now.first.value c.args.state.now c.in-Some.session c.in-Some.is c.requires.whole.whole.told c.requires.whole.whole.come c.replies_go_by_lines.ensures _ more heard c.args.ordinal
+            (quiet_then c.args.state.now.pass c.run.new.pass c.hear.new.pass c.run.ensures c.hear.ensures.quiet) c.hear.ensures.trail
+            (subst (λ n. AreAnswers (state_seen c.hear.new.pass) c.in-Some.session n (map reply_of heard)) (sym upto) c.in_ok-replies.ensures.told)
+            (λ k low. line_stays heard c.count_up_to-count.result c.args.ordinal k low (subst (λ (l : List Reply). BeginsAbove c.args.ordinal (drop c.count_up_to-count.result l)) (heard_is g c) c.count_up_to-count.ensures.next))
+            (subst (λ n. All (IsTold names n c.args.ordinal) more) (sym upto) are) c.requires.last refl e refl refl;
+        upto = refl;
+      };
+      session = c.in-Some.session;
+      is = c.in-Some.is;
     }
 
 pub returns-clause-block : goal.returns-clause-block
