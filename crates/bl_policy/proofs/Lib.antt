@@ -2,6 +2,7 @@ pub mod Triples
 pub mod CellLemmas
 pub mod ModeLemmas
 pub mod FirstFailed
+pub mod FailuresRows
 pub mod FieldLemmas
 pub mod Decisions
 pub mod Rows

@@ -1,5 +1,5 @@
 -- How the cells of a policy are kept: a row of them for each subject, one row after another, with a cell for each document that there may be.
-use Rattle.std.specs.Prelude.{◌≡◌, ◌≢◌, ◌⊎◌, ℕ, Bool, suc, ◌+◌, ◌*◌, ◌/◌, ◌%◌, ◌<◌, ◌≤◌, List, [], ◌∷◌, length, map, slice_index_or, Option, Some, None, ◌||◌, if◌then◌else◌}
+use Rattle.std.specs.Prelude.{◌≡◌, ◌≢◌, ◌⊎◌, ℕ, Bool, suc, ◌+◌, ◌*◌, ◌/◌, ◌%◌, ◌<◌, ◌≤◌, List, [], ◌∷◌, length, map, slice_index_or, Option, Some, None, ◌||◌, cond, if◌then◌else◌}
 use Rattle.bl_level.specs.Level.{SecurityLevel}
 use Rattle.bl_policy.specs.declared.access.Mode.{Mode}
 use Rattle.bl_policy.specs.declared.access.Mode.TheVariants.{Read, Append, Write}
@@ -9,6 +9,7 @@ use Rattle.bl_policy.specs.declared.denial.Clause.TheVariants as clause
 use Rattle.bl_policy.specs.declared.policy.Subject.{Subject}
 use Rattle.bl_policy.specs.declared.policy.cell.Cell.{Cell}
 use Rattle.bl_policy.specs.declared.policy.cell.Failed.{Failed}
+use Rattle.bl_policy.specs.declared.policy.cell.Failures.{Failures}
 use Rattle.bl_policy.specs.declared.policy.cell.Failed.TheVariants.{Nothing, Simple, Star, Discretionary}
 use Rattle.bl_policy.specs.Limits.{most_documents}
 use Rattle.bl_policy.specs.Mode.{has_mode}
@@ -67,6 +68,24 @@ cell_of subject level modes =
       append = failed_property subject level modes Append;
       write = failed_property subject level modes Write;
     }
+
+-- the place of a set of modes among all of them
+abbrev pub place_of_modes : ModeSet → ℕ
+place_of_modes modes = cond (has_mode modes Read) 1 0 + 2 * cond (has_mode modes Append) 1 0 + 4 * cond (has_mode modes Write) 1 0
+
+-- what stands for failures that are not there
+abbrev pub no_failures : Failures
+no_failures = record { read = Discretionary; append = Discretionary; write = Discretionary }
+
+-- the cell of these modes, by what the modes fail at the place of each set
+abbrev pub cell_from : List Failures → ModeSet → Cell
+cell_from failures modes =
+    let failed = slice_index_or failures (place_of_modes modes) no_failures in
+    record { modes = modes; read = failed.read; append = failed.append; write = failed.write }
+
+-- these are what the modes fail, whatever modes the matrix has
+abbrev pub AreFailuresOf : Clearance → SecurityLevel → List Failures → Type 0
+AreFailuresOf subject level failures = (modes : ModeSet) → cell_from failures modes ≡ cell_of subject level modes
 
 -- what stands for the cell of a subject and a document that is not there
 abbrev pub no_cell : Cell

@@ -3,7 +3,7 @@
 //
 // A decision reads cells and asks nothing else. So what changes a level or the matrix mends each cell that it touches.
 ghost use Rattle.std.specs.Prelude.{◌≡◌, ◌+◌, ◌*◌, ◌≤◌, ◌<◌, length, map};
-ghost use Rattle.bl_policy.specs.Cells.{modes_of, failed_in, no_cell, cell_of, first_failed, clause_of, clearance_from, HasMendedRow, HasMendedColumn, HasEmptiedColumn};
+ghost use Rattle.bl_policy.specs.Cells.{modes_of, failed_in, no_cell, cell_of, clause_of, clearance_from, place_of_modes, cell_from, AreFailuresOf, HasMendedRow, HasMendedColumn, HasEmptiedColumn};
 ghost use Rattle.bl_policy.specs.Limits.{most_subjects, most_documents};
 
 use super::{MOST_DOCUMENTS, Subject};
@@ -70,36 +70,108 @@ impl Cell {
     }
 }
 
-/// The first property that does not hold: simple security, then the star property, then the discretionary one.
-fn first_failed(simple: bool, star: bool, discretionary: bool) -> Failed
-    ensures { result ≡ first_failed simple star discretionary }
+/// The first property that each mode fails.
+#[derive(Clone, Copy)]
+struct Failures {
+    read: Failed,
+    append: Failed,
+    write: Failed,
+}
+
+/// What the modes fail, one item for each set of modes that the matrix may have, at the place of that set. It is made of
+/// what each mode fails where the matrix does not have it, and where it has.
+macro_rules! failures {
+    ($no_read:ident $read:ident, $no_append:ident $append:ident, $no_write:ident $write:ident) => {
+        [
+            failures!($no_read, $no_append, $no_write),
+            failures!($read, $no_append, $no_write),
+            failures!($no_read, $append, $no_write),
+            failures!($read, $append, $no_write),
+            failures!($no_read, $no_append, $write),
+            failures!($read, $no_append, $write),
+            failures!($no_read, $append, $write),
+            failures!($read, $append, $write),
+        ]
+    };
+    ($read:ident, $append:ident, $write:ident) => {
+        Failures {
+            read: Failed::$read,
+            append: Failed::$append,
+            write: Failed::$write,
+        }
+    };
+}
+
+/// What the modes fail at a level of a subject who observes it and is trusted, or whose current level is this one.
+static SAME: [Failures; 8] =
+    failures!(Discretionary Nothing, Discretionary Nothing, Discretionary Nothing);
+
+/// The same of a subject whose current level is above this one.
+static ABOVE: [Failures; 8] = failures!(Discretionary Nothing, Star Star, Star Star);
+
+/// The same of one whose current level is below this one, and who observes it.
+static BELOW: [Failures; 8] = failures!(Star Star, Discretionary Nothing, Star Star);
+
+/// The same of one whose current level is neither, and who observes it.
+static BESIDE: [Failures; 8] = failures!(Star Star, Star Star, Star Star);
+
+/// The same of one who does not observe it, and to whom the star property lets append.
+static BLIND: [Failures; 8] = failures!(Simple Simple, Discretionary Nothing, Simple Simple);
+
+/// The same of one who does not observe it, and to whom the star property does not.
+static APART: [Failures; 8] = failures!(Simple Simple, Star Star, Simple Simple);
+
+/// The place of a set of modes among all of them.
+fn place_of_modes(modes: ModeSet) -> usize
+    ensures place { result ≡ place_of_modes modes }
+    ensures within { result < 8 }
 {
-    if !simple {
-        Failed::Simple
-    } else if !star {
-        Failed::Star
-    } else if !discretionary {
-        Failed::Discretionary
-    } else {
-        Failed::Nothing
+    let read = modes.contains(ModeSet::READ);
+    let append = modes.contains(ModeSet::APPEND);
+    let write = modes.contains(ModeSet::WRITE);
+    read as usize + 2 * (append as usize) + 4 * (write as usize)
+}
+
+/// The cell of these modes.
+fn cell_from(failures: &[Failures; 8], modes: ModeSet) -> Cell
+    ensures { result ≡ cell_from failures.now modes }
+{
+    let failed = failures[place_of_modes(modes)];
+    Cell {
+        modes,
+        read: failed.read,
+        append: failed.append,
+        write: failed.write,
     }
 }
 
 impl Subject {
-    /// The cell of this subject and a document of this level, where the matrix has these modes. Levels that dominate each
-    /// other are one, so the star property holds of a write where it holds of a read and of an append.
+    /// What the modes fail at this level. Levels that dominate each other are one, so the star property holds of a write
+    /// where it holds of a read and of an append.
+    fn failures(&self, level: &Level) -> &'static [Failures; 8]
+        ensures { AreFailuresOf (clearance_from self.now) level.now result.now }
+    {
+        let observes = self.greatest.dominates(level);
+        if self.trusted {
+            return if observes { &SAME } else { &BLIND };
+        }
+        let alters = level.dominates(&self.current);
+        if !observes {
+            if alters { &BLIND } else { &APART }
+        } else if self.current.dominates(level) {
+            if alters { &SAME } else { &ABOVE }
+        } else if alters {
+            &BELOW
+        } else {
+            &BESIDE
+        }
+    }
+
+    /// The cell of this subject and a document of this level, where the matrix has these modes.
     pub(super) fn cell(&self, level: &Level, modes: ModeSet) -> Cell
         ensures { result ≡ cell_of (clearance_from self.now) level.now modes }
     {
-        let observes = self.greatest.dominates(level);
-        let reads = self.trusted || self.current.dominates(level);
-        let alters = self.trusted || level.dominates(&self.current);
-        Cell {
-            modes,
-            read: first_failed(observes, reads, modes.contains(ModeSet::READ)),
-            append: first_failed(true, alters, modes.contains(ModeSet::APPEND)),
-            write: first_failed(observes, reads && alters, modes.contains(ModeSet::WRITE)),
-        }
+        cell_from(self.failures(level), modes)
     }
 }
 
