@@ -44,15 +44,15 @@ fn comes<R: Clock>(rt: &R, mark: &AtomicU64) -> bool {
 
 /// Holds the first behaviour that runs until a client has read `bye`, and notes whether that came.
 #[derive(Drop)]
-struct HoldFirst<'a, R> {
-    rt: &'a R,
+struct HoldFirst {
+    rt: HostRuntime,
     begun: AtomicU64,
     heard: AtomicU64,
     held: AtomicU64,
 }
 
-impl<'a, R> HoldFirst<'a, R> {
-    fn new(rt: &'a R) -> HoldFirst<'a, R> {
+impl HoldFirst {
+    fn new(rt: HostRuntime) -> HoldFirst {
         HoldFirst {
             rt,
             begun: AtomicU64::new(0),
@@ -62,13 +62,13 @@ impl<'a, R> HoldFirst<'a, R> {
     }
 }
 
-impl<R: Clock> Pause for HoldFirst<'_, R> {
+impl Pause for HoldFirst {
     fn between(&self, n: u32) {
         let _ = n;
         if self.begun.fetch_add(1, Ordering::SeqCst) > 0 {
             return;
         }
-        if comes(self.rt, &self.heard) {
+        if comes(&self.rt, &self.heard) {
             self.held.store(1, Ordering::SeqCst);
         }
     }
@@ -79,36 +79,36 @@ fn visit<R: Net<Listener = TcpListener, Stream = TcpStream>>(
     rt: &R,
     alloc: Global,
     at: SocketAddr,
-    heard: &AtomicU64,
+    hold: &HoldFirst,
 ) -> bool {
     let Ok(told) = converse(rt, alloc, at, LINES) else {
         return false;
     };
-    heard.fetch_add(1, Ordering::SeqCst);
+    hold.heard.fetch_add(1, Ordering::SeqCst);
     told.as_slice() == REPLIES
 }
 
 /// A client that comes once a behaviour runs. So the thread of its session cannot be the one in which the first is held, with the other
 /// session's line.
-fn visit_later<R: Net<Listener = TcpListener, Stream = TcpStream> + Clock>(
+fn visit_later<R: Net<Listener = TcpListener, Stream = TcpStream>>(
     rt: &R,
     alloc: Global,
     at: SocketAddr,
-    hold: &HoldFirst<'_, R>,
+    hold: &HoldFirst,
 ) -> bool {
-    comes(rt, &hold.begun) && visit(rt, alloc, at, &hold.heard)
+    comes(&hold.rt, &hold.begun) && visit(rt, alloc, at, hold)
 }
 
 /// Two clients side by side; whether both heard what they should.
-fn visit_both<R: Threads + Net<Listener = TcpListener, Stream = TcpStream> + Clock + Sync>(
+fn visit_both<R: Threads + Net<Listener = TcpListener, Stream = TcpStream> + Sync>(
     rt: &R,
     alloc: Global,
     at: SocketAddr,
-    hold: &HoldFirst<'_, R>,
+    hold: &HoldFirst,
 ) -> bool {
     let (one, two) = thread::join(
         rt,
-        move || visit(rt, alloc, at, &hold.heard),
+        move || visit(rt, alloc, at, hold),
         move || visit_later(rt, alloc, at, hold),
     );
     one && two
@@ -122,7 +122,7 @@ fn tcp_overlap(rt: HostRuntime) {
         panic!(rt; "no port");
     };
     clear(&rt, "overlap.trail");
-    let hold = HoldFirst::new(&rt);
+    let hold = HoldFirst::new(rt);
     let run = two_of_each(2, "overlap.trail");
     let (handle, held) = (&rt, &hold);
     let (both, served) = thread::join(
