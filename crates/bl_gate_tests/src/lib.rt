@@ -5,11 +5,13 @@
 //!     writes      what one pass finds of its own calls
 //!     turns       one turn through the gate
 //!     overlaps    two behaviours that run side by side
+//!     ends        how two passes end what each has in hand
 //!     orders      entries that end in another order than they started
 #![tactic(auto)]
 
 #[cfg(test)]
 mod base;
+pub mod ends;
 #[cfg(test)]
 mod memory;
 #[cfg(test)]

@@ -1,5 +1,6 @@
 //! Entries that end in another order than they started.
 use super::base::{ANN, admit, base_gate, begin, right};
+use super::ends::finish_after_another;
 use bl_core::session::SessionNo;
 use bl_hall::event::Event;
 use bl_policy::id::SubjectId;
@@ -43,8 +44,7 @@ fn finish_in_another_order(rt: HostRuntime) {
     let second = begin(&rt, &gate, &mut pass, 1);
     let third = begin(&rt, &gate, &mut other, 2);
     gate.finish(&rt, &mut pass, second);
-    gate.finish(&rt, &mut other, third);
-    gate.finish(&rt, &mut pass, first);
+    finish_after_another(&rt, &gate, &mut pass, &mut other, first, third);
     gate.meet(&mut pass, other);
     assert!(rt; pass.parts() == 64);
     let hall = gate.close(pass);
