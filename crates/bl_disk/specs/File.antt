@@ -1,7 +1,7 @@
 -- A file, and what a crash leaves of it.
 use Rattle.std.specs.Prelude.{◌≡◌, ℕ, List, [], ◌++◌}
 
--- File (own choice): the bytes that are on the disk for certain, and those behind them that were handed over and may not be
+-- File (own choice): the bytes that are on the disk for certain, and those after them that were handed over and may not be
 pub record File : Type 0 where
   pub kept : List ℕ
   pub loose : List ℕ
@@ -14,7 +14,7 @@ seen file = file.kept ++ file.loose
 abbrev pub Begins : {A : Type 0} → List A → List A → Type 0
 Begins {A} front whole = (rest : List A) × (whole ≡ front ++ rest)
 
--- own choice: a crash, also of the machine, leaves what is kept, and anything behind it: of the loose bytes all, some, or others in their place
+-- own choice: a crash, also of the machine, leaves what is kept, and anything after it: of the loose bytes all, some, or others in their place
 abbrev pub MayLeave : File → List ℕ → Type 0
 MayLeave file left = Begins file.kept left
 

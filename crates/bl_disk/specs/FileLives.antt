@@ -10,7 +10,7 @@ pub record FileLife : Type 0 where
   pub left : List ℕ
   pub right : ℕ
 
--- It begins with these bytes, and keeps them; the crash leaves what was kept, and anything behind it; and the next life takes all that was kept.
+-- It begins with these bytes, and keeps them; the crash leaves what was kept, and anything after it; and the next life takes all that was kept.
 pub record IsFileLife (from : List ℕ) (life : FileLife) : Type 0 where
   pub goes_on : Begins from life.kept
   pub left : Begins life.kept life.left
@@ -41,7 +41,7 @@ abbrev pub EndWithTheProgram : List ℕ → List FileLife → Type 0
 EndWithTheProgram from [] = Unit {0}
 EndWithTheProgram from (life ∷ lives) = Begins life.left (from ++ life.added) × EndWithTheProgram (taken life) lives
 
--- the bytes are those at the beginning, and behind them for each life a first part of what it was to add
+-- the bytes are those at the beginning, and after them for each life a first part of what it was to add
 abbrev pub AreParts : List ℕ → List FileLife → List ℕ → Type 0
 AreParts from [] bytes = bytes ≡ from
 AreParts from (life ∷ lives) bytes = (part : List ℕ) × Begins part life.added × AreParts (from ++ part) lives bytes

@@ -9,7 +9,7 @@ pub fn what_was_kept_is_there()
         → Begins from (there_after from lives) × BeginsWithAllKept (there_after from lives) lives }
 {}
 
-/// Where each crash was the end of the program alone, what is there is what was there at the beginning, and behind it a first part of
+/// Where each crash was the end of the program alone, what is there is what was there at the beginning, and after it a first part of
 /// what was to be added in each life, one life after another.
 pub fn what_is_there_was_added()
     ensures { (from : List ℕ) (lives : List FileLife) → AreFileLives from lives → EndWithTheProgram from lives

@@ -1,7 +1,7 @@
 //! A file to which texts are added at its end, and what a crash at any moment leaves of it.
 //!
 //!     device    a file: what its calls do, and at which moments it stands how
-//!     log       texts one behind another, each kept once it is added; opened again after a crash
+//!     log       texts one after another, each kept once it is added; opened again after a crash
 //!     memory    a file in memory
 //!     laws      what is there after any number of crashes
 //!

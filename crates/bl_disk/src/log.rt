@@ -15,7 +15,7 @@ pub struct Log<D: Device> {
 }
 
 impl<D: Device> Log<D> {
-    /// Puts a text behind what is there: from then on a read returns it, and it outlives the program. It is kept, and outlives the
+    /// Puts a text after what is there: from then on a read returns it, and it outlives the program. It is kept, and outlives the
     /// machine too, only after `keep`. Whenever the program ends, what is there is what was there before and a first part of the
     /// text; whenever the machine ends, what was kept is there. An error is the device's, and leaves just that.
     pub fn put(&mut self, text: &[u8]) -> Result<(), DeviceError>
@@ -39,7 +39,7 @@ impl<D: Device> Log<D> {
         self.device.sync()
     }
 
-    /// Adds a text behind what is there, and keeps all. Whenever the machine ends, in the call or after it, what was kept before is
+    /// Adds a text after what is there, and keeps all. Whenever the machine ends, in the call or after it, what was kept before is
     /// there; once the call has answered `Ok`, so is the text. An error is the device's.
     pub fn add(&mut self, text: &[u8]) -> Result<(), DeviceError>
         requires { D.has_failed self.old.device ≡ false }
@@ -53,7 +53,7 @@ impl<D: Device> Log<D> {
     }
 }
 
-/// Opens a file again of which so many bytes are right: what stands behind them, as the torn end of a text, is cut off, and they
+/// Opens a file again of which so many bytes are right: what stands after them, as the torn end of a text, is cut off, and they
 /// are kept. Whenever the machine ends, what was kept of them is there. An error is the device's, which is given back with it.
 pub fn reopen<D: Device>(mut device: D, right: usize) -> Result<Log<D>, (DeviceError, D)>
     requires sound { D.has_failed device ≡ false }

@@ -11,7 +11,7 @@ use std::alloc::{AllocError, Global};
 pub struct Moment {
     /// The bytes that are kept.
     pub kept: Vec<u8>,
-    /// The bytes behind them that were put there and are not kept yet.
+    /// The bytes after them that were put there and are not kept yet.
     pub loose: Vec<u8>,
 }
 
@@ -26,7 +26,7 @@ impl Moment {
         Ok(Moment { kept, loose })
     }
 
-    /// With a text behind them that is not kept.
+    /// With a text after them that is not kept.
     fn with(&self, alloc: Global, text: &[u8]) -> Result<Moment, AllocError>
         ensures kept { IfOk result (λ moment. moment.kept.items ≡ self.now.kept.items) }
         ensures loose { IfOk result (λ moment. moment.loose.items ≡ self.now.loose.items ++ text.now) }
