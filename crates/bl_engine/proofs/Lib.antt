@@ -4,3 +4,11 @@ pub mod Steps
 pub mod Cuttings
 pub mod Stages
 pub mod Outcomes
+pub mod Conversing
+pub mod Hearings
+pub mod Tellings
+pub mod Endings
+pub mod Turnings
+pub mod Stoppings
+pub mod Driving
+pub mod Breaking

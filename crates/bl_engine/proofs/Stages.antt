@@ -66,7 +66,7 @@ skipped_told (Bad fault ∷ skips) quiet = absurd quiet
 skipped_told (Ask work ∷ skips) quiet = absurd quiet
 
 -- a session that was opened, or of which no line was heard, had no refused first line
-stops_opened : (subject : ℕ) (head turns : List Turn) → IsOpening subject head → StopsAtRefusal (head ++ turns)
+pub stops_opened : (subject : ℕ) (head turns : List Turn) → IsOpening subject head → StopsAtRefusal (head ++ turns)
 stops_opened subject [] turns opens = absurd opens
 stops_opened subject (Skip ∷ head) turns opens = stops_opened subject head turns opens
 stops_opened subject (Greets named ∷ head) turns opens = tt
@@ -83,7 +83,7 @@ stops_skipped (Bad fault ∷ skips) quiet = absurd quiet
 stops_skipped (Ask work ∷ skips) quiet = absurd quiet
 
 -- nor is the last line one
-not_refused_opened : (subject : ℕ) (head turns : List Turn) → IsOpening subject head → IsRefusal (head ++ turns) → ⊥
+pub not_refused_opened : (subject : ℕ) (head turns : List Turn) → IsOpening subject head → IsRefusal (head ++ turns) → ⊥
 not_refused_opened subject [] turns opens refused = opens
 not_refused_opened subject (Skip ∷ head) turns opens refused = not_refused_opened subject head turns opens refused
 not_refused_opened subject (Greets named ∷ head) turns opens refused = refused
@@ -91,7 +91,7 @@ not_refused_opened subject (Wait ∷ head) turns opens refused = opens
 not_refused_opened subject (Bad fault ∷ head) turns opens refused = opens
 not_refused_opened subject (Ask work ∷ head) turns opens refused = opens
 
-not_refused_skipped : (skips : List Turn) → AreSkips skips → IsRefusal skips → ⊥
+pub not_refused_skipped : (skips : List Turn) → AreSkips skips → IsRefusal skips → ⊥
 not_refused_skipped [] quiet refused = refused
 not_refused_skipped (Skip ∷ skips) quiet refused = not_refused_skipped skips quiet refused
 not_refused_skipped (Wait ∷ skips) quiet refused = quiet
@@ -119,7 +119,7 @@ refuses_after (Greets named ∷ skips) t quiet some none' = absurd quiet
 refuses_after (Bad fault ∷ skips) t quiet some none' = absurd quiet
 refuses_after (Ask work ∷ skips) t quiet some none' = absurd quiet
 
-skips-more : (skips : List Turn) (t : Turn) → AreSkips skips → is_skip t ≡ true → AreSkips (skips ++ t ∷ [])
+pub skips-more : (skips : List Turn) (t : Turn) → AreSkips skips → is_skip t ≡ true → AreSkips (skips ++ t ∷ [])
 skips-more [] Skip quiet skip = tt
 skips-more [] Wait quiet skip = cc
 skips-more [] (Greets named) quiet skip = cc

@@ -5,7 +5,6 @@ use Rattle.std.proofs.KnownBytes.{Appends-nil}
 use Rattle.bl_work.specs.declared.work.Work.{Work}
 use Rattle.bl_wire.specs.Faults.{is_write}
 use Rattle.bl_wire.specs.declared.fault.SessionFault.{SessionFault}
-use Rattle.bl_wire.specs.declared.fault.SessionFault.TheVariants.{Memory}
 use Rattle.bl_wire.specs.declared.turn.Turn.{Turn}
 use Rattle.bl_wire.specs.declared.turn.Turn.TheVariants.{Wait, Ask}
 use Rattle.bl_wire.specs.declared.turn.Pending.{Pending}

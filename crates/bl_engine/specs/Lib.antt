@@ -2,3 +2,8 @@ pub mod Stages
 pub mod Spoken
 pub mod View
 pub mod Requests
+pub mod Parts
+pub mod Conversations
+pub mod Greetings
+pub mod Unopened
+pub mod Driving

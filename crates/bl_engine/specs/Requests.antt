@@ -1,14 +1,9 @@
 -- What a session tells the machine behind it.
 use Rattle.std.specs.Prelude.{◌≡◌, ℕ, ◌+◌, ◌≤◌, List, [], ◌∷◌, ◌++◌}
-use Rattle.bl_work.specs.declared.work.Work.{Work}
+pub use Rattle.bl_engine.specs.declared.request.Request.{Request}
+pub use Rattle.bl_engine.specs.declared.request.Request.TheVariants.{Opens, Admits, Settles}
 use Rattle.bl_wire.specs.declared.turn.Turn.{Turn}
 use Rattle.bl_wire.specs.declared.turn.Turn.TheVariants.{Skip, Wait, Greets, Bad, Ask}
-
--- a subject opens the session; a line with its ordinal is to be admitted; all that was admitted is to be answered
-pub data Request : Type 0 where
-  Opens : (subject : ℕ) → Request
-  Admits : (ordinal : ℕ) → (work : Work) → Request
-  Settles : Request
 
 -- what the lines after an ordinal tell
 abbrev pub told_of : ℕ → List Turn → List Request

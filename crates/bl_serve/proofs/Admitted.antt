@@ -7,8 +7,8 @@ use Rattle.std.proofs.lemmas.List.Folds.{list_any-append}
 use Rattle.bl_work.specs.declared.work.Work.{Work}
 use Rattle.bl_order.specs.Machine.{State, weight_of}
 use Rattle.bl_order.specs.Room.{admitted_weight}
-use Rattle.bl_engine.specs.Requests as request
-use Rattle.bl_engine.specs.Requests.{Request}
+use Rattle.bl_engine.specs.declared.request.Request.TheVariants as request
+use Rattle.bl_engine.specs.declared.request.Request.{Request}
 use Rattle.bl_session.specs.Transcripts.{has_ordinal}
 use Rattle.bl_session.proofs.TranscriptLaws.{equal_self, filter_same}
 use Rattle.bl_serve.specs.Courses.{AreAdmitted, asked_in}

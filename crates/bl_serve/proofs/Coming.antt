@@ -17,8 +17,9 @@ use Rattle.bl_gate.specs.Gates.{GateId, PassView, Calls, Follows, hall_seen, sta
 use Rattle.bl_gate.proofs.Following.{base_stays, follows_itself, follows_then}
 use Rattle.bl_worker.proofs.Admitting.{admits_itself}
 use Rattle.bl_wire.specs.Replies.{line_or_full, line_text}
-use Rattle.bl_engine.specs.Requests as request
-use Rattle.bl_engine.specs.Requests.{Request, SameUpTo}
+use Rattle.bl_engine.specs.declared.request.Request.TheVariants as request
+use Rattle.bl_engine.specs.declared.request.Request.{Request}
+use Rattle.bl_engine.specs.Requests.{SameUpTo}
 use Rattle.bl_session.proofs.RunLaws.{setup_after}
 use Rattle.bl_serve.specs.Courses.{IsOwn, IsCourse, KeepsQuiet, SpeaksAlone, Course}
 use Rattle.bl_serve.specs.Told.{ordinal_of, front, line_of, told_text, IsTold}

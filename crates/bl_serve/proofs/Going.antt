@@ -24,8 +24,9 @@ use Rattle.bl_gate.proofs.Passing.{after_parts, trail_front, trail_back}
 use Rattle.bl_worker.proofs.Settling.{call_inside, call_there, one_place}
 use Rattle.bl_gate.proofs.Halls.{sound_at}
 use Rattle.bl_wire.specs.Replies.{line_or_full, line_text}
-use Rattle.bl_engine.specs.Requests as request
-use Rattle.bl_engine.specs.Requests.{Request, SameUpTo}
+use Rattle.bl_engine.specs.declared.request.Request.TheVariants as request
+use Rattle.bl_engine.specs.declared.request.Request.{Request}
+use Rattle.bl_engine.specs.Requests.{SameUpTo}
 use Rattle.bl_session.specs.Transcripts.{admitted}
 use Rattle.bl_session.proofs.TranscriptLaws.{KeepsSession, KeepsWeight, admitted-append, sessions_kept, weights_kept}
 use Rattle.bl_serve.specs.Told.{line_of}

@@ -9,8 +9,9 @@ use Rattle.bl_wire.specs.Turns.{IsOpening}
 use Rattle.bl_wire.specs.Texts.{bye_line, session_text}
 use Rattle.bl_wire.specs.declared.turn.Turn.{Turn}
 use Rattle.bl_wire.specs.declared.turn.Turn.TheVariants.{Skip, Wait, Greets, Bad, Ask}
-use Rattle.bl_engine.specs.Requests as request
-use Rattle.bl_engine.specs.Requests.{Request, SameUpTo, told_by}
+use Rattle.bl_engine.specs.declared.request.Request.TheVariants as request
+use Rattle.bl_engine.specs.declared.request.Request.{Request}
+use Rattle.bl_engine.specs.Requests.{SameUpTo, told_by}
 use Rattle.bl_engine.specs.Spoken.{Begins}
 use Rattle.bl_session.specs.Transcripts.{IsTranscript}
 use Rattle.bl_wire.specs.declared.fault.SessionFault.{SessionFault}

@@ -14,8 +14,9 @@ use Rattle.bl_wire.specs.declared.turn.Turn.TheVariants.{Skip, Wait, Greets, Bad
 use Rattle.bl_wire.specs.Replies.{line_text}
 use Rattle.bl_wire.specs.Texts.{text_of, session_text, refusal, fault_words, ok_line, bye_line}
 use Rattle.bl_wire.specs.Turns.{IsOpening}
-use Rattle.bl_engine.specs.Requests as request
-use Rattle.bl_engine.specs.Requests.{Request, SameUpTo, told_of, told_by}
+use Rattle.bl_engine.specs.declared.request.Request.TheVariants as request
+use Rattle.bl_engine.specs.declared.request.Request.{Request}
+use Rattle.bl_engine.specs.Requests.{SameUpTo, told_of, told_by}
 use Rattle.bl_engine.specs.Stages.{refused_sessions}
 use Rattle.bl_session.specs.Transcripts.{IsTranscript, Talks, asked_after, has_ordinal}
 use Rattle.bl_serve.specs.Courses.{AreOf, HasOpened, IsOpenedAt, IsOwn, SpeaksForItsOwn, HasNoSettles, IsCovered, IsAnswered, IsCourse, SpeaksAlone, StandAt, Course, asked_in}

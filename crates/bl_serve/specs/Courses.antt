@@ -10,8 +10,9 @@ use Rattle.bl_gate.specs.Counts.{StartsWith, times}
 use Rattle.bl_gate.specs.Gates.{PassView, Follows, hall_seen, hall_with, state_seen}
 use Rattle.bl_worker.specs.Turns.{AdmitsNoLine}
 use Rattle.bl_wire.specs.Replies.{line_text}
-use Rattle.bl_engine.specs.Requests as request
-use Rattle.bl_engine.specs.Requests.{Request, SameUpTo}
+use Rattle.bl_engine.specs.declared.request.Request.TheVariants as request
+use Rattle.bl_engine.specs.declared.request.Request.{Request}
+use Rattle.bl_engine.specs.Requests.{SameUpTo}
 use Rattle.bl_session.specs.Pages.{ordinal_of}
 use Rattle.bl_session.specs.Transcripts.{admitted, has_ordinal}
 

@@ -5,7 +5,7 @@ use Rattle.bl_setup.specs.Agreement.{Agree}
 use Rattle.bl_order.specs.Machine.{most_sessions}
 use Rattle.bl_hall.specs.Chronicle.{HasTrail}
 use Rattle.bl_gate.specs.Gates.{GateId, PassView, Follows, hall_seen, state_seen}
-use Rattle.bl_engine.specs.Requests.{Request}
+use Rattle.bl_engine.specs.declared.request.Request.{Request}
 use Rattle.bl_serve.specs.Courses.{IsCourse, IsOwn, SpeaksAlone, Course}
 use Rattle.bl_serve.specs.Told.{behind, told_text, IsTold}
 use Rattle.bl_serve.specs.declared.visit.Visit.{Visit}

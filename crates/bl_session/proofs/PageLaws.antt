@@ -15,7 +15,9 @@ use Rattle.bl_core.specs.declared.refusal.Cause.TheVariants as cause
 use Rattle.bl_hall.specs.Chronicle.{Chronicle, HasTrail, state_now, with_event}
 use Rattle.bl_wire.specs.declared.turn.Turn.{Turn}
 use Rattle.bl_wire.specs.Replies.{line_text}
-use Rattle.bl_engine.specs.Requests.{Request, Opens, Admits, Settles, SameUpTo, told_by}
+use Rattle.bl_engine.specs.declared.request.Request.{Request}
+use Rattle.bl_engine.specs.declared.request.Request.TheVariants.{Opens, Admits, Settles}
+use Rattle.bl_engine.specs.Requests.{SameUpTo, told_by}
 use Rattle.bl_session.specs.declared.entries.Pages.{Pages}
 use Rattle.bl_session.specs.One.{Fate, Kept, Starved, Unrun, started_then, events_by, place_events, run_from, settling, fits, events_of, one_state}
 use Rattle.bl_session.specs.Pages.{AreLater, RanUpTo, Stands, Came, HasEnded, HasHad, HaveRun, with_events}

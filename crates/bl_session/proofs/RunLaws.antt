@@ -10,7 +10,9 @@ use Rattle.bl_order.specs.Machine.{State, Event, Session, Phase, Waiting, Runnin
 use Rattle.bl_order.specs.Machine as machine
 use Rattle.bl_order.proofs.Places.{less_or_equal}
 use Rattle.bl_hall.proofs.Recalling.{same-setup, same-limit}
-use Rattle.bl_engine.specs.Requests.{Request, Opens, Admits, Settles, SameUpTo}
+use Rattle.bl_engine.specs.declared.request.Request.{Request}
+use Rattle.bl_engine.specs.declared.request.Request.TheVariants.{Opens, Admits, Settles}
+use Rattle.bl_engine.specs.Requests.{SameUpTo}
 use Rattle.bl_wire.specs.Replies.{line_text}
 use Rattle.bl_session.specs.One.{Fate, Kept, Starved, Unrun, events_by, place_events, run_from, settling, fits, events_of}
 use Rattle.bl_session.specs.Pages.{AreLater, RanUpTo}

@@ -15,7 +15,8 @@ use Rattle.bl_wire.specs.declared.turn.Turn.{Turn}
 use Rattle.bl_wire.specs.declared.turn.Turn.TheVariants.{Skip, Wait, Greets, Bad, Ask}
 use Rattle.bl_wire.specs.Replies.{line_text}
 use Rattle.bl_wire.specs.Texts.{session_text}
-use Rattle.bl_engine.specs.Requests.{Settles, told_of}
+use Rattle.bl_engine.specs.declared.request.Request.TheVariants.{Settles}
+use Rattle.bl_engine.specs.Requests.{told_of}
 use Rattle.bl_session.specs.One.{Fate, Kept, Starved, Unrun, events_by, place_events, run_from, settling, fits, events_of, one, one_state}
 use Rattle.bl_session.specs.Transcript.{transcript}
 use Rattle.bl_session.specs.Transcripts.{asked_after, admitted, has_ordinal, Talks, Answers, IsTranscript}

@@ -5,7 +5,9 @@ use Rattle.bl_setup.specs.Setup.{Setup}
 use Rattle.bl_order.specs.Machine.{State, Event, runs, has_ended, change, start, state_after, weight_of, entry_weight}
 use Rattle.bl_order.specs.Machine as machine
 use Rattle.bl_wire.specs.declared.turn.Turn.{Turn}
-use Rattle.bl_engine.specs.Requests.{Request, Opens, Admits, Settles, told_by}
+use Rattle.bl_engine.specs.declared.request.Request.{Request}
+use Rattle.bl_engine.specs.declared.request.Request.TheVariants.{Opens, Admits, Settles}
+use Rattle.bl_engine.specs.Requests.{told_by}
 
 -- what becomes of a place: it is not lost; it is lost for want of memory to start it; or for want of memory to run it
 pub data Fate : Type 0 where

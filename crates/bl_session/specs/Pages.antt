@@ -5,7 +5,7 @@ use Rattle.bl_order.specs.Labels.{Tag, tag}
 use Rattle.bl_order.specs.Order.{Entry}
 use Rattle.bl_order.specs.Machine.{State, Event, Ends, Loses, Waiting, phase_at, has_ended, start}
 use Rattle.bl_hall.specs.Chronicle.{Chronicle, HasTrail, state_now, with_event}
-use Rattle.bl_engine.specs.Requests.{Request}
+use Rattle.bl_engine.specs.declared.request.Request.{Request}
 use Rattle.bl_session.specs.declared.entries.Pages.{Pages}
 use Rattle.bl_session.specs.One.{Fate, events_of, place_events, run_from}
 

@@ -9,3 +9,4 @@ pub mod Turns
 pub mod Texts
 pub mod Replies
 pub mod Named
+pub mod Handing

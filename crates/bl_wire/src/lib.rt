@@ -2,6 +2,7 @@
 //!
 //!     ends       readers and writers of which contracts can say what a call answered
 //!     watched    readers and writers that remember whether they failed
+//!     ear        who hears the bytes that a reader shows
 //!     fault      why a session ends early
 //!     part       the part of a line among the bytes that a reader shows
 //!     lines      cuts a reader's bytes into lines
@@ -12,6 +13,7 @@
 //!     put        writes the whole of some bytes
 #![tactic(auto)]
 
+pub mod ear;
 pub mod ends;
 pub mod fault;
 pub mod held;

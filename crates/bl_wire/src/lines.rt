@@ -23,7 +23,7 @@ pub enum Next {
 
 /// Hands on what was written, unless the reader has bytes at hand, so that no reply stays back while the next read waits. It
 /// says whether that was done; otherwise the writer is marked.
-fn hand_on<R: BufRead, W: Write>(reader: &Watched<R>, writer: &mut Watched<W>) -> bool
+pub fn hand_on<R: BufRead, W: Write>(reader: &Watched<R>, writer: &mut Watched<W>) -> bool
     requires { writer.old.failed ≡ false }
     ensures handed_on { result ≡ true → reader.now.at_hand ≡ false → writer.new.unflushed ≡ false }
     ensures still { writer.old.unflushed ≡ false → writer.new.unflushed ≡ false }

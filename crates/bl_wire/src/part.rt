@@ -37,7 +37,7 @@ fn lf_place(bytes: &[u8]) -> Option<usize>
 
 /// Looks at what the reader shows, up to an LF or `left` bytes, and says which of the bytes
 /// are to be taken. `None` where a byte is shown and none may be taken.
-fn scan(shown: &[u8], held: &mut Held, left: usize) -> Option<Taken>
+pub fn scan(shown: &[u8], held: &mut Held, left: usize) -> Option<Taken>
     ensures found { IfSome result (λ found. Scanned found.bytes found.part shown.now held.old held.new left) }
     ensures at_hand { IfSome result (λ found. found.at_hand ≡ nat_lt found.bytes (length shown.now)) }
     ensures none { result ≡ None → (left ≡ 0) × (0 < length shown.now) }

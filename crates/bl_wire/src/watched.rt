@@ -5,9 +5,11 @@
 ghost use Rattle.std.specs.Prelude.{◌≡◌, ◌==◌, ◌≤◌, ◌<◌, nat_lt, false, not, ◌||◌, ◌&&◌, IfOk, IfErr, OnOk, length, take};
 ghost use Rattle.std.specs.Io.KnownBytes.{Keeps, Appends};
 ghost use Rattle.bl_wire.specs.Asked.{IsAsked};
-ghost use Rattle.bl_wire.specs.Faults.{is_write};
+ghost use Rattle.bl_wire.specs.Faults.{is_read, is_write};
+ghost use Rattle.bl_wire.specs.Handing.{HandsNone, HandsOver};
 ghost use Rattle.bl_wire.specs.Reads.{TookPart, Keeping};
 
+use crate::ear::{Ear, Handed, hand_over};
 use crate::ends::{Source, Target};
 use crate::fault::SessionFault;
 use crate::held::Held;
@@ -84,6 +86,30 @@ impl<T> Watched<T> {
 }
 
 impl<R: Source> Watched<R> {
+    /// Asks for bytes, and has those that are shown heard; those that were heard are taken. After a fault nothing is taken. A reader
+    /// that failed is marked.
+    pub fn hand_over<E: Ear>(&mut self, ear: &mut E) -> Result<Handed, SessionFault>
+        requires fine { self.old.failed ≡ false }
+        requires listens { E.listens ear.old }
+        ensures ok { IfOk result (λ handed. HandsOver E.hears handed (R.remaining self.old.inner) (R.remaining self.new.inner) ear.old ear.new) }
+        ensures err { IfErr result (λ fault. HandsNone E.hears fault (R.remaining self.old.inner) (R.remaining self.new.inner) ear.old ear.new) }
+        ensures fine { OnOk result (self.new.failed ≡ false) }
+        ensures failed { IfErr result (λ fault. self.new.failed ≡ is_read fault) }
+        ensures fault { IfErr result (λ fault. is_write fault ≡ false) }
+        ensures at_hand { IfOk result (λ handed. self.new.at_hand ≡ handed.at_hand) }
+    {
+        match hand_over(&mut self.inner, ear) {
+            Ok(handed) => {
+                self.at_hand = handed.at_hand;
+                Ok(handed)
+            }
+            Err(fault) => {
+                self.failed = fault.is_read();
+                Err(fault)
+            }
+        }
+    }
+
     /// Asks for bytes, and takes of those that are shown the line's: up to an LF, or `left` bytes.
     /// After a fault nothing is taken. A reader that failed is marked.
     pub(crate) fn take_part(

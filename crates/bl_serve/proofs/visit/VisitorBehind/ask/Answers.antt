@@ -1,7 +1,7 @@
 use Rattle.std.proofs.Common.{rules, [], ◌∷◌, ◌++◌, ◌≡◌, Bool, true, false, true≢false, refl, sym, ap, subst, arith}
 use Rattle.bl_core.specs.Answers.{IsCause}
 use Rattle.bl_gate.specs.Gates.{state_seen}
-use Rattle.bl_engine.specs.Requests as request
+use Rattle.bl_engine.specs.declared.request.Request.TheVariants as request
 use Rattle.bl_serve.proofs.Coming.{come_asked, come_full, come_quiet, not_full, own_here, spoken_for}
 use Rattle.bl_serve.proofs.Quiet.{quiet_once}
 use Rattle.bl_worker.proofs.Admitting.{admits_itself}

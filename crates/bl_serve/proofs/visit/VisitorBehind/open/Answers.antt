@@ -3,7 +3,7 @@ use Rattle.bl_setup.specs.Setup.{Setup}
 use Rattle.bl_order.specs.Machine.{start}
 use Rattle.bl_core.specs.Answers.{IsNotOpened}
 use Rattle.bl_gate.specs.Gates.{GateId, state_seen}
-use Rattle.bl_engine.specs.Requests as request
+use Rattle.bl_engine.specs.declared.request.Request.TheVariants as request
 use Rattle.bl_session.proofs.RunLaws.{setup_after}
 use Rattle.bl_serve.proofs.Coming.{come_opened}
 use Rattle.bl_serve.proofs.visit.VisitorBehind.open.Goals as goal

@@ -1,5 +1,5 @@
 use Rattle.std.proofs.Common.{rules, take, ◌≡◌, ◌≤◌, ◌∙◌, ◌++◌, ◌∷◌, [], ℕ, List, arith, length, length-append, map, drop, refl, sym, ap, subst, inl, All}
-use Rattle.bl_engine.specs.Requests as request
+use Rattle.bl_engine.specs.declared.request.Request.TheVariants as request
 use Rattle.bl_gate.specs.Gates.{state_seen}
 use Rattle.bl_hall.specs.Told.{AreAnswers, reply_of}
 use Rattle.bl_hall.specs.declared.reply.Reply.{Reply}

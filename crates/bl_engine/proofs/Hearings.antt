@@ -1,0 +1,260 @@
+-- What a conversation has heard.
+use Rattle.std.proofs.Common.{◌≡◌, ◌≢◌, ℕ, ◌+◌, ◌<◌, ◌⊎◌, inl, inr, Bool, true, false, List, [], ◌∷◌, ◌++◌, length, refl, sym, ap, subst, ◌∙◌, append_assoc, append-nil, arith, take, Option, Some, None, IfSome, ◌-◌, length-append, length-take, length-take-le}
+use Rattle.std.proofs.lemmas.List.Elements.{All-nil, All-append}
+use Rattle.bl_work.specs.Names.{KnownNames}
+use Rattle.bl_wire.specs.HoldsLine.{HoldsLine}
+use Rattle.bl_wire.specs.Lines.{lines_of, AreLines, HasNoLf}
+use Rattle.bl_wire.specs.Turns.{IsTurn, AreTurns}
+use Rattle.bl_wire.specs.declared.turn.Turn.{Turn}
+use Rattle.bl_engine.specs.Requests.{Request, Opens, Admits, Settles}
+use Rattle.bl_engine.specs.declared.conversation.Closing.TheVariants as closings
+use Rattle.bl_engine.specs.declared.conversation.Conversation.{Conversation}
+use Rattle.bl_engine.specs.declared.conversation.Need.TheVariants as needs
+use Rattle.bl_engine.specs.declared.conversation.Stage.{Stage}
+use Rattle.bl_engine.specs.declared.conversation.Stage.TheVariants as stages
+use Rattle.bl_engine.specs.Conversations.{Given, Talk, talk_of, need_at, need_of, AreSo, HasHeard, IsOpen, IsAt, HearsMore, Hears, IsOf, IsHeardOf, TakesLine}
+use Rattle.bl_engine.proofs.LineLaws.{AreLines-whole, AreLines-append, lines-last}
+use Rattle.bl_engine.proofs.Cuttings.{turns-append, lines-now}
+use Rattle.bl_engine.proofs.Conversing.{silent_same, open_same, silent_ends}
+use Rattle.bl_wire.specs.Reads.{Scanned}
+use Rattle.bl_wire.specs.declared.part.Part.{Part}
+use Rattle.bl_wire.specs.declared.part.Part.TheVariants.{Ends, More}
+
+-- a conversation that waits for input has not heard of its end
+pub not_ended : (ended : Bool) (stage : Stage) → need_at ended stage ≡ needs.Input → ended ≡ false
+not_ended false stage is = refl
+not_ended true stages.Greets is = cc
+not_ended true stages.Opens is = cc
+not_ended true stages.Listens is = cc
+not_ended true (stages.Settles closing) is = cc
+not_ended true (stages.Tells closing) is = cc
+not_ended true stages.Over is = cc
+
+-- and one that has waits for none
+pub no_input : (ended : Bool) (stage : Stage) → ended ≡ true → need_at ended stage ≡ needs.Input → ⊥
+no_input false stage ended is = cc
+no_input true stage ended is = let no' = not_ended true stage is in cc
+
+lines_last : (line : List ℕ) → 0 < length line → HasNoLf line → lines_of line ≡ line ∷ []
+lines_last [] some plain = absurd (omega arith)
+lines_last (b ∷ line) some plain = lines-last b line plain
+
+nothing_of : (line : List ℕ) → length line ≡ 0 → line ≡ []
+nothing_of [] is = refl
+nothing_of (b ∷ line) is = absurd (omega (arith, is))
+
+-- a line has begun exactly where bytes of it are held
+nothing_held : (held line : List ℕ) → held ≡ take 8193 line → length held ≡ 0 → line ≡ []
+nothing_held held line is none = nothing_of line (omega (arith, none, ap length is ∙ length-take 8193 line))
+
+something_held : (held line : List ℕ) → held ≡ take 8193 line → 0 < length held → 0 < length line
+something_held held line is some = omega (arith, some, ap length is ∙ length-take 8193 line)
+
+-- the same at another name
+pub at_is : (given : Given) (left : ℕ → List ℕ) (said : List ℕ) (stage to : Stage) (talk new : Talk) (turns more : List Turn) (asked also : List Request)
+    → to ≡ stage → new ≡ talk → more ≡ turns → also ≡ asked → IsAt stage given left talk turns asked said → IsAt to given left new more also said
+at_is given left said stage to talk new turns more asked also s t m a was =
+    subst (λ x. IsAt to given left new more x said) (sym a) (subst (λ x. IsAt to given left new x asked said) (sym m)
+    (subst (λ x. IsAt to given left x turns asked said) (sym t) (subst (λ x. IsAt x given left talk turns asked said) (sym s) was)))
+
+-- what is asked at a line was heard
+heard_of : (names : KnownNames) (line : List ℕ) (turn : Turn) (request : Option Request) → IsTurn names line turn → IfSome request (IsOf turn) → IfSome request (IsHeardOf names)
+heard_of names line turn None is of = tt
+heard_of names line turn (Some (Opens subject)) is of = (line, subst (IsTurn names line) of is)
+heard_of names line turn (Some (Admits ordinal work)) is of = (line, subst (IsTurn names line) of is)
+heard_of names line turn (Some Settles) is of = tt
+
+-- what was asked and said before the end of the input is so behind it
+pub ends_at : (stage : Stage) (ended : Bool) → (need_at ended stage ≡ needs.Input) ⊎ (need_at ended stage ≡ needs.End) → (given : Given) (left : ℕ → List ℕ) (talk new : Talk) (turns : List Turn) (asked : List Request) (said : List ℕ)
+    → new.after ≡ talk.after → new.pending ≡ talk.pending → new.line ≡ talk.line → IsAt stage given left talk turns asked said → IsAt stage given left new turns asked said
+ends_at stages.Greets ended need given left talk new turns asked said after pending line was = silent_same talk new turns asked said after pending line was
+ends_at stages.Listens ended need given left talk new turns asked said after pending line was = open_same given talk new [] turns asked said after pending line was
+ends_at stages.Opens ended need given left talk new turns asked said after pending line was = absurd (elim need [ inl e ↦ cc | inr e ↦ cc ])
+ends_at (stages.Settles closing) ended need given left talk new turns asked said after pending line was = absurd (elim need [ inl e ↦ cc | inr e ↦ cc ])
+ends_at (stages.Tells closing) ended need given left talk new turns asked said after pending line was = absurd (elim need [ inl e ↦ cc | inr e ↦ cc ])
+ends_at stages.Over ended need given left talk new turns asked said after pending line was = absurd (elim need [ inl e ↦ cc | inr e ↦ cc ])
+
+module _ (names : KnownNames) (old : Conversation) (turns : List Turn) (heard : List ℕ) (was : HasHeard names old turns heard) where
+  -- a part of a line was heard
+  pub heard_part : (new : Conversation) (bytes some : List ℕ) → need_of old ≡ needs.Input → bytes ≡ some → HasNoLf some
+      → ((line : List ℕ) → HoldsLine old.held line → HoldsLine new.held (line ++ some)) → new.left + length bytes ≡ old.left → new.stage ≡ old.stage → talk_of new ≡ talk_of old
+      → HearsMore names old new turns heard bytes None
+  heard_part new bytes some need is plain holds count stage talk =
+      let ended : new.ended ≡ old.ended = ap (λ (t : Talk). t.ended) talk in
+      let needs' : need_of new ≡ needs.Input = ap (λ e. need_at e new.stage) ended ∙ ap (λ s. need_at old.ended s) stage ∙ need in
+      record {
+        more = [];
+        few = omega arith;
+        origin = tt;
+        cut = record {
+          whole = was.whole;
+          rest = was.rest ++ some;
+          lines = was.lines;
+          split = ap (λ l. l ++ bytes) was.split ∙ append_assoc was.whole was.rest bytes ∙ ap (λ l. was.whole ++ (was.rest ++ l)) is;
+          cut = subst (λ e. AreSo e was.whole was.lines) (sym ended) was.cut;
+          are = subst (AreTurns names was.lines) (sym (append-nil turns)) was.are;
+          plain = All-append (λ b. b ≢ 10) was.rest some was.plain plain;
+          holds = holds was.rest was.holds;
+          none = λ other. absurd (other needs');
+          count = omega (arith, was.count, count, length-append heard bytes);
+        };
+        point = λ given left asked said at.
+            at_is given left said old.stage new.stage (talk_of old) (talk_of new) turns (turns ++ []) asked (asked ++ []) stage talk (append-nil turns) (append-nil asked) at;
+      }
+
+  -- the line that was held was taken, with these bytes behind it
+  taken : (mid new : Conversation) (request : Option Request) (bytes : List ℕ) (whole line : List ℕ) → HoldsLine mid.held line
+      → ((given : Given) (left : ℕ → List ℕ) (asked : List Request) (said : List ℕ) → IsAt old.stage given left (talk_of old) turns asked said → IsAt mid.stage given left (talk_of mid) turns asked said)
+      → TakesLine names mid new request → heard ++ bytes ≡ whole → AreSo new.ended whole (was.lines ++ line ∷ []) → mid.left + length (heard ++ bytes) ≡ 16777216
+      → HearsMore names old new turns heard bytes request
+  taken mid new request bytes whole line holds at takes split are count = record {
+    more = takes.turn ∷ [];
+    few = omega arith;
+    origin = heard_of names line takes.turn request (takes.is_turn line holds) takes.origin;
+    cut = record {
+      whole = whole;
+      rest = [];
+      lines = was.lines ++ line ∷ [];
+      split = split ∙ sym (append-nil whole);
+      cut = are;
+      are = turns-append names was.lines (line ∷ []) turns (takes.turn ∷ []) was.are (takes.is_turn line holds, tt);
+      plain = All-nil (λ b. b ≢ 10);
+      holds = takes.holds;
+      none = λ other. refl;
+      count = ap (λ n. n + length (heard ++ bytes)) takes.left ∙ count;
+    };
+    point = λ given left asked said was_at. takes.moves given left turns asked said (at given left asked said was_at);
+  }
+
+  -- the end of a line was heard
+  pub heard_line : (mid new : Conversation) (request : Option Request) (bytes some : List ℕ) → need_of old ≡ needs.Input → bytes ≡ some ++ 10 ∷ [] → HasNoLf some
+      → ((line : List ℕ) → HoldsLine old.held line → HoldsLine mid.held (line ++ some)) → mid.left + length bytes ≡ old.left → mid.stage ≡ old.stage → talk_of mid ≡ talk_of old
+      → TakesLine names mid new request
+      → HearsMore names old new turns heard bytes request
+  heard_line mid new request bytes some need is plain holds count stage talk takes =
+      let line = was.rest ++ some in
+      let whole_line : HasNoLf line = All-append (λ b. b ≢ 10) was.rest some was.plain plain in
+      let old_ended : old.ended ≡ false = not_ended old.ended old.stage need in
+      let ended : new.ended ≡ false = takes.ended ∙ ap (λ (t : Talk). t.ended) talk ∙ old_ended in
+      let lines : AreLines was.whole was.lines = subst (λ e. AreSo e was.whole was.lines) old_ended was.cut in
+      taken mid new request bytes (was.whole ++ (line ++ 10 ∷ [])) line (holds was.rest was.holds)
+      (λ g l a s p. at_is g l s old.stage mid.stage (talk_of old) (talk_of mid) turns turns a a stage talk refl refl p)
+      takes
+      (ap (λ l. l ++ bytes) was.split ∙ append_assoc was.whole was.rest bytes ∙ ap (λ l. was.whole ++ (was.rest ++ l)) is
+      ∙ ap (λ l. was.whole ++ l) (sym (append_assoc was.rest some (10 ∷ []))))
+      (subst (λ e. AreSo e (was.whole ++ (line ++ 10 ∷ [])) (was.lines ++ line ∷ [])) (sym ended)
+      (AreLines-append was.whole (line ++ 10 ∷ []) was.lines (line ∷ []) lines (AreLines-whole line whole_line)))
+      (omega (arith, was.count, count, length-append heard bytes))
+
+  -- the input has ended behind a line that had begun
+  pub ended_line : (mid new : Conversation) (request : Option Request) → old.ended ≡ false → 0 < length old.held.bytes.items → mid.held ≡ old.held → mid.left ≡ old.left
+      → mid.ended ≡ true
+      → ((given : Given) (left : ℕ → List ℕ) (asked : List Request) (said : List ℕ) → IsAt old.stage given left (talk_of old) turns asked said → IsAt mid.stage given left (talk_of mid) turns asked said)
+      → TakesLine names mid new request
+      → HearsMore names old new turns heard [] request
+  ended_line mid new request old_ended some held left_is mid_ended at takes =
+      let rest = was.rest in
+      let lines : AreLines was.whole was.lines = subst (λ e. AreSo e was.whole was.lines) old_ended was.cut in
+      let last : lines_of rest ≡ rest ∷ [] = lines_last rest (something_held old.held.bytes.items rest was.holds.front some) was.plain in
+      taken mid new request [] (was.whole ++ rest) rest (subst (λ h. HoldsLine h rest) (sym held) was.holds) at takes
+      (append-nil heard ∙ was.split)
+      (subst (λ e. AreSo e (was.whole ++ rest) (was.lines ++ rest ∷ [])) (sym (takes.ended ∙ mid_ended)) (lines rest ∙ ap (λ l. was.lines ++ l) last))
+      (omega (arith, was.count, left_is, ap length (append-nil heard)))
+
+  -- the input has ended, and no line had begun
+  pub ended_none : (new : Conversation) → (old.ended ≡ true) ⊎ (length old.held.bytes.items ≡ 0) → new.held ≡ old.held → new.left ≡ old.left → new.ended ≡ true
+      → HasHeard names new (turns ++ []) (heard ++ [])
+  ended_none new why held left_is ended =
+      let none : was.rest ≡ [] = elim why [
+        | inl already ↦ was.none (no_input old.ended old.stage already)
+        | inr nothing ↦ nothing_held old.held.bytes.items was.rest was.holds.front nothing
+      ] in
+      record {
+        whole = was.whole;
+        rest = was.rest;
+        lines = was.lines;
+        split = append-nil heard ∙ was.split;
+        cut = subst (λ e. AreSo e was.whole was.lines) (sym ended) (all_so old.ended was.cut);
+        are = subst (AreTurns names was.lines) (sym (append-nil turns)) was.are;
+        plain = was.plain;
+        holds = subst (λ h. HoldsLine h was.rest) (sym held) was.holds;
+        none = λ other. none;
+        count = omega (arith, was.count, left_is, ap length (append-nil heard));
+      }
+    where
+      all_so : (ended : Bool) → AreSo ended was.whole was.lines → lines_of was.whole ≡ was.lines
+      all_so true are = are
+      all_so false are = lines-now was.whole was.lines are
+
+  -- nothing more was heard
+  pub heard_same : (new : Conversation) → (need_of old ≡ needs.Input → ⊥) → new.held ≡ old.held → new.left ≡ old.left → new.ended ≡ old.ended → HasHeard names new turns heard
+  heard_same new other held left_is ended = record {
+    whole = was.whole;
+    rest = was.rest;
+    lines = was.lines;
+    split = was.split;
+    cut = subst (λ e. AreSo e was.whole was.lines) (sym ended) was.cut;
+    are = was.are;
+    plain = was.plain;
+    holds = subst (λ h. HoldsLine h was.rest) (sym held) was.holds;
+    none = λ _. was.none other;
+    count = ap (λ n. n + length heard) left_is ∙ was.count;
+  }
+
+-- the front of the bytes was heard: up to the end of a line, or a part of one
+pub scanned_line : (names : KnownNames) (old mid new : Conversation) (request : Option Request) (bytes : List ℕ) (n : ℕ) (part : Part) → part ≡ Ends
+    → Scanned n part bytes old.held mid.held old.left → need_of old ≡ needs.Input → mid.left ≡ old.left - n → mid.stage ≡ old.stage → talk_of mid ≡ talk_of old
+    → TakesLine names mid new request → Hears names old new (take n bytes) request
+scanned_line names old mid new request bytes n part is s need count stage talk takes turns heard was =
+    let whole : Scanned n Ends bytes old.held mid.held old.left = subst (λ p. Scanned n p bytes old.held mid.held old.left) is s in
+    heard_line names old turns heard was mid new request (take n bytes) whole.some need whole.front whole.plain whole.holds
+    (omega (arith, count, whole.fits, length-take-le n bytes whole.within)) stage talk takes
+
+pub scanned_part : (names : KnownNames) (old new : Conversation) (bytes : List ℕ) (n : ℕ) (part : Part) → part ≡ More
+    → Scanned n part bytes old.held new.held old.left → need_of old ≡ needs.Input → new.left ≡ old.left - n → new.stage ≡ old.stage → talk_of new ≡ talk_of old
+    → Hears names old new (take n bytes) None
+scanned_part names old new bytes n part is s need count stage talk turns heard was =
+    let some : Scanned n More bytes old.held new.held old.left = subst (λ p. Scanned n p bytes old.held new.held old.left) is s in
+    heard_part names old turns heard was new (take n bytes) some.some need some.front some.plain some.holds
+    (omega (arith, count, some.fits, length-take-le n bytes some.within)) stage talk
+
+-- the input has ended behind a line
+pub ends_line : (names : KnownNames) (old mid new : Conversation) (request : Option Request) → (old.ended ≡ false) × (0 < length old.held.bytes.items)
+    → (need_of old ≡ needs.Input) ⊎ (need_of old ≡ needs.End) → mid.held ≡ old.held → mid.left ≡ old.left → mid.stage ≡ old.stage → mid.ended ≡ true
+    → mid.after ≡ old.after → mid.pending.items ≡ old.pending.items → mid.line ≡ old.line → TakesLine names mid new request → Hears names old new [] request
+ends_line names old mid new request begun need held left_is stage ended after pending line takes turns heard was =
+    ended_line names old turns heard was mid new request begun.0 begun.1 held left_is ended
+    (λ g l a s p. subst (λ x. IsAt x g l (talk_of mid) turns a s) (sym stage)
+    (ends_at old.stage old.ended need g l (talk_of old) (talk_of mid) turns a s after pending line p))
+    takes
+
+-- and behind no line: nothing more is asked unless the session is open
+pub ends_quietly : (names : KnownNames) (old new : Conversation) → (old.ended ≡ true) ⊎ (length old.held.bytes.items ≡ 0) → old.stage ≡ stages.Greets → new.held ≡ old.held → new.left ≡ old.left
+    → new.stage ≡ stages.Tells closings.Ends → new.ended ≡ true → new.after ≡ old.after → new.pending.items ≡ old.pending.items → new.line ≡ old.line → Hears names old new [] None
+ends_quietly names old new why was_stage held left_is stage ended after pending line turns heard was = record {
+  more = [];
+  few = omega arith;
+  origin = tt;
+  cut = ended_none names old turns heard was new why held left_is ended;
+  point = λ given left asked said at. subst (λ x. IsAt x given left (talk_of new) (turns ++ []) (asked ++ []) said) (sym stage)
+      (silent_ends given left (talk_of new) turns asked said ended (silent_same (talk_of old) (talk_of new) turns asked said after pending line
+      (subst (λ x. IsAt x given left (talk_of old) turns asked said) was_stage at)));
+}
+
+pub ends_block : (names : KnownNames) (old new : Conversation) → (old.ended ≡ true) ⊎ (length old.held.bytes.items ≡ 0) → old.stage ≡ stages.Listens → new.held ≡ old.held → new.left ≡ old.left
+    → new.stage ≡ stages.Settles closings.Ends → new.ended ≡ true → new.after ≡ old.after → new.pending.items ≡ old.pending.items → new.line ≡ old.line → Hears names old new [] (Some Settles)
+ends_block names old new why was_stage held left_is stage ended after pending line turns heard was = record {
+  more = [];
+  few = omega arith;
+  origin = tt;
+  cut = ended_none names old turns heard was new why held left_is ended;
+  point = λ given left asked said at. subst (λ x. IsAt x given left (talk_of new) (turns ++ []) (asked ++ Settles ∷ []) said) (sym stage) (
+    ended,
+    (
+      asked,
+      refl,
+      subst (λ l. IsOpen given (talk_of new) [] l asked said) (sym (append-nil turns)) (open_same given (talk_of old) (talk_of new) [] turns asked said after pending line
+          (subst (λ x. IsAt x given left (talk_of old) turns asked said) was_stage at)),
+    ),
+  );
+}
