@@ -1,5 +1,5 @@
 -- How a session ends that a driver serves: when all was said, or by a fault.
-use Rattle.std.proofs.Common.{◌≡◌, ℕ, suc, ◌≤◌, ◌+◌, inl, inr, ◌⊎◌, replicate, Bool, true, false, List, [], ◌∷◌, ◌++◌, length, refl, sym, ap, subst, ◌∙◌, append_assoc, append-nil, arith, Option, Some, None, OnSome, take, drop}
+use Rattle.std.proofs.Common.{◌≡◌, ℕ, suc, inl, inr, ◌⊎◌, replicate, Bool, true, false, List, [], ◌∷◌, ◌++◌, length, refl, sym, subst, ◌∙◌, append_assoc, append-nil, arith, Option, Some, None, OnSome, take}
 use Rattle.std.specs.Io.KnownBytes.{Consumes, Appends, IsAtEnd, Keeps}
 use Rattle.std.proofs.KnownBytes.{Consumes-nil, Consumes-kept, Appends-nil, Appends-trans, Appends-kept}
 use Rattle.std.proofs.lemmas.List.Elements.{All-nil}
@@ -15,15 +15,13 @@ use Rattle.bl_wire.specs.declared.turn.Turn.{Turn}
 use Rattle.bl_engine.specs.Requests.{Request, Settles, SameUpTo, told_by}
 use Rattle.bl_engine.specs.Spoken.{is_reading}
 use Rattle.bl_engine.specs.Stages.{Finished, IsCause, Stopped}
-use Rattle.bl_engine.specs.View.{Ends, ends}
+use Rattle.bl_engine.specs.View.{ends}
 use Rattle.bl_engine.specs.Driving.{Exchange, HasListened, IsDriven, IsUnheard, ToldPart}
-use Rattle.bl_engine.specs.declared.behind.Opening.{Opening}
-use Rattle.bl_engine.specs.declared.behind.Opening.TheVariants.{Open}
 use Rattle.bl_engine.specs.declared.conversation.Closing.{Closing}
 use Rattle.bl_engine.specs.declared.conversation.Closing.TheVariants as closings
 use Rattle.bl_engine.specs.declared.conversation.Conversation.{Conversation}
 use Rattle.bl_engine.specs.declared.conversation.Need.TheVariants as needs
-use Rattle.bl_engine.specs.Conversations.{Given, AreSo, IsAt, IsAll, IsSoFar, IsWhy, Spoke, asks, need_of, talk_of}
+use Rattle.bl_engine.specs.Conversations.{Given, AreSo, IsAt, IsSoFar, IsWhy, Spoke, asks, need_of, talk_of}
 use Rattle.bl_engine.proofs.LineLaws.{AreLines-nil}
 use Rattle.bl_engine.proofs.Steps.{seen}
 use Rattle.bl_engine.proofs.Hearings.{no_input}

@@ -1,25 +1,15 @@
 -- How far a conversation has come with a driver that may wait.
-use Rattle.std.proofs.Common.{◌≡◌, ℕ, suc, ◌≤◌, inl, inr, ◌⊎◌, ◌+◌, replicate, Bool, true, false, List, [], ◌∷◌, ◌++◌, length, refl, sym, ap, subst, ◌∙◌, append_assoc, append-nil, arith, Option, Some, None, OnSome, take, drop}
+use Rattle.std.proofs.Common.{◌≡◌, ℕ, ◌≤◌, inl, inr, ◌⊎◌, ◌+◌, Bool, true, false, List, [], ◌++◌, length, refl, sym, ap, subst, ◌∙◌, append-nil, arith, Option, None, OnSome}
 use Rattle.std.specs.Io.KnownBytes.{Consumes, Appends, IsAtEnd, Keeps}
-use Rattle.std.proofs.KnownBytes.{Consumes-nil, Consumes-trans, Consumes-kept, Appends-nil, Appends-trans, Appends-kept}
+use Rattle.std.proofs.KnownBytes.{Consumes-nil, Consumes-trans, Keeps-refl, Appends-nil, Appends-trans, Appends-kept}
 use Rattle.bl_work.specs.Names.{KnownNames}
-use Rattle.bl_wire.specs.Lines.{lines_of, AreLines}
-use Rattle.bl_wire.specs.Faults.{is_write}
-use Rattle.bl_wire.specs.Reads.{HasMore}
-use Rattle.bl_wire.specs.Texts.{session_text}
-use Rattle.bl_wire.specs.Turns.{IsRefusal}
-use Rattle.bl_wire.specs.declared.fault.SessionFault.{SessionFault}
-use Rattle.bl_wire.specs.declared.fault.SessionFault.TheVariants.{Read, Write, TooLong, Memory, Clash}
 use Rattle.bl_wire.specs.declared.turn.Turn.{Turn}
 use Rattle.bl_wire.proofs.Parts.{known_on}
-use Rattle.bl_engine.specs.Requests.{Request, Settles, SameUpTo}
+use Rattle.bl_engine.specs.Requests.{Request}
 use Rattle.bl_engine.specs.Parts.{SameWithin}
-use Rattle.bl_engine.specs.Spoken.{is_reading}
-use Rattle.bl_engine.specs.Stages.{Finished, IsCause, Stopped}
 use Rattle.bl_engine.specs.View.{Ends, ends}
-use Rattle.bl_engine.specs.Driving.{Exchange, HasListened, IsDriven, IsUnheard, Listened, ToldAll, ToldPart, nothing_yet, with_line}
+use Rattle.bl_engine.specs.Driving.{Exchange, HasListened, IsDriven, Listened, ToldAll, nothing_yet, with_line}
 use Rattle.bl_engine.specs.declared.behind.Opening.{Opening}
-use Rattle.bl_engine.specs.declared.behind.Opening.TheVariants.{Open}
 use Rattle.bl_engine.specs.declared.conversation.Closing.{Closing}
 use Rattle.bl_engine.specs.declared.conversation.Closing.TheVariants as closings
 use Rattle.bl_engine.specs.declared.conversation.Conversation.{Conversation}
@@ -27,11 +17,9 @@ use Rattle.bl_engine.specs.declared.conversation.Need.TheVariants as needs
 use Rattle.bl_engine.specs.declared.conversation.Stage.{Stage}
 use Rattle.bl_engine.specs.declared.conversation.Stage.TheVariants as stages
 use Rattle.bl_engine.specs.Conversations.{Given, Talk, Hears, IsAnswered, IsAt, IsEnding, IsOpenedAs, IsTelling, KeepsBlock, Spoke, asks, is_hearing, need_at, need_of, owed, talk_of}
-use Rattle.bl_engine.proofs.Steps.{seen}
 use Rattle.bl_engine.proofs.Hearings.{no_input}
 use Rattle.bl_engine.proofs.Turnings.{all_told}
-use Rattle.bl_engine.proofs.Endings.{all_said, so_far_at}
-use Rattle.bl_engine.proofs.Stoppings.{given_by, nothing_behind, stopped_quiet, stopped_write}
+use Rattle.bl_engine.proofs.Stoppings.{given_by}
 
 -- before anything was heard
 pub driven_new : (names : KnownNames) (r w : Option (List ℕ)) (M : Given → Type 0) (conv : Conversation) → need_of conv ≡ needs.Input
@@ -55,7 +43,7 @@ driven_narrow names e M N conv x less was = record {
   point = λ given left may. was.point given left (less given may);
 }
 
-pub listened_narrow : (names : KnownNames) (e : Ends) (M N : Given → Type 0) (conv : Conversation) (request : Option Request) (x : Exchange) → ((given : Given) → N given → M given)
+abbrev pub listened_narrow : (names : KnownNames) (e : Ends) (M N : Given → Type 0) (conv : Conversation) (request : Option Request) (x : Exchange) → ((given : Given) → N given → M given)
     → HasListened names e M conv request x → HasListened names e N conv request x
 listened_narrow names e M N conv request x less was = record {
   old = was.old;
@@ -89,7 +77,7 @@ has_ended false stages.Over is = cc
 
 module _ (names : KnownNames) (start r first w : Option (List ℕ)) (M : Given → Type 0) (old : Conversation) (x : Exchange) (was : IsDriven names (ends start r first w) M old x) where
   -- a line more was heard, or a part of one, or the end of the input
-  driven_heard : (r' w' : Option (List ℕ)) (new : Conversation) (request : Option Request) (bytes : List ℕ) → Consumes r r' bytes → Keeps w w'
+  abbrev pub driven_heard : (r' w' : Option (List ℕ)) (new : Conversation) (request : Option Request) (bytes : List ℕ) → Consumes r r' bytes → Keeps w w'
       → (new.ended ≡ true → OnSome start (IsAtEnd r')) → is_hearing old.stage ≡ true → Hears names old new bytes request → KeepsBlock old new request
       → HasListened names (ends start r' first w') M new request x
   driven_heard r' w' new request bytes took kept end hearing hears block =
@@ -112,19 +100,15 @@ module _ (names : KnownNames) (start r first w : Option (List ℕ)) (M : Given �
         };
       }
 
-  pub driven_listened : (r' w' : Option (List ℕ)) (new : Conversation) (request : Option Request) → need_of old ≡ needs.Input → Listened names r r' old new request → Keeps w w'
+  abbrev pub driven_listened : (r' w' : Option (List ℕ)) (new : Conversation) (request : Option Request) → need_of old ≡ needs.Input → Listened names r r' old new request → Keeps w w'
       → HasListened names (ends start r' first w') M new request x
   driven_listened r' w' new request need on kept =
       driven_heard r' w' new request on.bytes on.took kept (λ is. known_on start r r' x.heard was.took (on.end is)) (hearing_by old.ended old.stage (inl need)) on.hears on.block
 
-  pub driven_ended : (new : Conversation) (request : Option Request) → need_of old ≡ needs.End → Hears names old new [] request → KeepsBlock old new request
+  abbrev pub driven_ended : (new : Conversation) (request : Option Request) → need_of old ≡ needs.End → Hears names old new [] request → KeepsBlock old new request
       → HasListened names (ends start r first w) M new request x
   driven_ended new request need hears block =
-      driven_heard r w new request [] (Consumes-nil r) (keeps w) (λ is. was.end (has_ended old.ended old.stage need)) (hearing_by old.ended old.stage (inr need)) hears block
-    where
-      keeps : (w : Option (List ℕ)) → Keeps w w
-      keeps None = tt
-      keeps (Some ys) = refl
+      driven_heard r w new request [] (Consumes-nil r) (Keeps-refl w) (λ is. was.end (has_ended old.ended old.stage need)) (hearing_by old.ended old.stage (inr need)) hears block
 
 -- nothing was asked
 pub driven_alone : (names : KnownNames) (e : Ends) (M : Given → Type 0) (conv : Conversation) (x : Exchange) → HasListened names e M conv None x

@@ -56,6 +56,7 @@ pub fn listen<R: BufRead, W: Write>(
     requires need { need_of listener.old.conv ≡ needs.Input }
     ensures ok { OnOk result (Listened listener.old.names.now (R.remaining reader.old.inner) (R.remaining reader.new.inner) listener.old.conv listener.new.conv listener.new.request) }
     ensures fine { OnOk result ((reader.new.failed ≡ false) × (writer.new.failed ≡ false)) }
+    ensures names { OnOk result (listener.new.names ≡ listener.old.names) }
     ensures kept { IfErr result (λ fault. Keeps (R.remaining reader.old.inner) (R.remaining reader.new.inner)) }
     ensures why { IfErr result (λ fault. IsUnheard fault reader.new.failed writer.new.failed listener.old.conv.left (R.remaining reader.old.inner) (R.remaining reader.new.inner)) }
     ensures written { Keeps (W.contents writer.old.inner) (W.contents writer.new.inner) }

@@ -5,5 +5,6 @@ pub mod PageLaws
 pub mod BlockLaws
 pub mod LabelLaws
 pub mod ServeLaws
+pub mod TalkLaws
 pub mod TrailLaws
 pub mod TranscriptLaws

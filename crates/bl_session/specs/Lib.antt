@@ -5,3 +5,5 @@ pub mod Transcripts
 pub mod Outcome
 pub mod Pages
 pub mod Blocks
+pub mod Talks
+pub mod Telling

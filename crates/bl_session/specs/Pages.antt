@@ -6,6 +6,8 @@ use Rattle.bl_order.specs.Order.{Entry}
 use Rattle.bl_order.specs.Machine.{State, Event, Ends, Loses, Waiting, phase_at, has_ended, start}
 use Rattle.bl_hall.specs.Chronicle.{Chronicle, HasTrail, state_now, with_event}
 use Rattle.bl_engine.specs.declared.request.Request.{Request}
+use Rattle.bl_engine.specs.Requests.{SameUpTo}
+use Rattle.bl_wire.specs.Replies.{line_text}
 use Rattle.bl_session.specs.declared.entries.Pages.{Pages}
 use Rattle.bl_session.specs.One.{Fate, events_of, place_events, run_from}
 
@@ -68,3 +70,8 @@ pub record HaveRun (before : Chronicle) (from : ℕ) (after : Chronicle) (to : �
   pub fate : ℕ → Fate
   pub led : (other : ℕ → Fate) → ((n : ℕ) → from ≤ n → n < to → other n ≡ fate n) → (most : ℕ)
       → after.trail ++ run_from other most (state_now after) to ≡ before.trail ++ run_from other ((to - from) + most) (state_now before) from
+
+-- what was answered up to an ordinal stands, and is answered so still
+pub record StillAnswers (n : ℕ) (before after : Pages) : Type 0 where
+  pub later : AreLater after.next (state_now after.hall).order n
+  pub same : SameUpTo n (line_text (state_now before.hall) 0) (line_text (state_now after.hall) 0)

@@ -6,7 +6,7 @@ ghost use Rattle.bl_session.specs.Outcome.{IsServed, IsCutShort};
 ghost use Rattle.bl_wire.specs.declared.fault.SessionFault.TheVariants.{Clash};
 
 use crate::entries::{Alone, Pages, begin};
-use bl_engine::session::converse;
+use crate::talk::converse_alone;
 use bl_hall::hall::Hall;
 use bl_setup::setup::Setup;
 use bl_wire::fault::SessionFault;
@@ -81,13 +81,6 @@ pub fn serve_and_keep<R: BufRead, W: Write>(
     let Ok((behind, mut pages)) = begin(alloc, setup, limit) else {
         return (Err(SessionFault::Memory), None);
     };
-    let served = converse(
-        alloc,
-        behind.setup.names(),
-        &behind,
-        &mut pages,
-        reader,
-        writer,
-    );
+    let served = converse_alone(&behind, &mut pages, reader, writer);
     (served, Some(Kept { behind, pages }))
 }

@@ -1,7 +1,7 @@
 //! The machine of one worker, over a hall. Lines enter the admission order without being run. When a block ends, the entries start
 //! and end by rising place, and the children of an entry enter at its end, behind all that entered before. An entry that finds no
 //! memory to start or to run is lost, and the others go on.
-ghost use Rattle.std.specs.Prelude.{◌≡◌, ◌<◌, ◌≤◌, [], length, IfOk, IsTrue};
+ghost use Rattle.std.specs.Prelude.{◌≡◌, ◌<◌, ◌≤◌, ◌++◌, ◌∷◌, [], ℕ, List, length, IfOk, IsTrue};
 ghost use Rattle.bl_order.specs.Headline.{IsReached};
 ghost use Rattle.bl_order.specs.Labels.{tag};
 ghost use Rattle.bl_order.specs.Machine.{MayStart, has_ended, session_at, runs};
@@ -11,15 +11,16 @@ ghost use Rattle.bl_hall.specs.Told.{reply_in};
 ghost use Rattle.bl_work.specs.Readable.{IsReadable};
 ghost use Rattle.bl_wire.specs.Replies.{label_text, line_text, reply_text};
 ghost use Rattle.bl_wire.specs.Watch.{end_state, Puts};
+ghost use Rattle.bl_engine.specs.declared.request.Request.{Request};
+ghost use Rattle.bl_engine.specs.declared.request.Request.TheVariants.{Opens, Admits, Settles};
 ghost use Rattle.bl_session.specs.Blocks.{Gives};
-ghost use Rattle.bl_session.specs.Pages.{AreLater, Came, HasEnded, HasHad, HaveRun, IsOpen, RanUpTo, Stands};
+ghost use Rattle.bl_session.specs.Pages.{AreLater, Came, HasEnded, HasHad, HaveRun, IsOpen, RanUpTo, StillAnswers};
 
 use crate::block::Block;
 use bl_core::machine::{Core, Started};
 use bl_core::origin::Origin;
 use bl_core::refusal::{Cause, OpenRefused, StartFault, Starved};
 use bl_core::session::SessionNo;
-use bl_engine::behind::{Asking, Behind, Opening};
 use bl_eval::evaluate::eval;
 use bl_eval::lent::Lent;
 use bl_hall::hall::Hall;
@@ -170,57 +171,56 @@ fn put_reply<W: Write>(hall: &Hall, setup: &Setup, n: u32, writer: &mut Watched<
     put(writer, b"\n");
 }
 
-impl Behind for Alone {
-    type State = Pages;
-
-    type Block = Block;
-
-    ghost serves = { λ a subject. subject < length a.setup.policy.subjects };
-
-    ghost takes = { λ a work. IsReadable a.setup.names work };
-
-    ghost fills = { λ _ _. ⊥ };
-
-    ghost clashes = { λ _ _. ⊥ };
-
-    ghost replies = { λ _ s k. line_text (state_now s.hall) 0 k };
-
-    ghost settled = { λ _ s n. AreLater s.next (state_now s.hall).order n };
-
-    ghost fresh = { λ a s. Stands a.setup a.limit s };
-
-    ghost whole = { λ a s _. IsOpen a.setup a.limit s };
-
-    ghost came = { λ a s told. Came a.setup a.limit s told };
-
-    ghost last = { λ _ s. (session_at (state_now s.hall) 0).last };
-
-    ghost gives = { λ _ s block n. Gives (state_now s.hall) block n };
-
-    fn open(&self, state: &mut Pages, subject: SubjectId) -> Result<Opening, AllocError> {
-        match state.hall.open(subject) {
-            Ok(_) => Ok(Opening::Open),
+impl Alone {
+    /// Opens the session for a subject.
+    pub fn open(&self, pages: &mut Pages, subject: SubjectId)
+        requires subject { subject < length self.now.setup.policy.subjects }
+        requires came { Came self.now.setup self.now.limit pages.old [] }
+        ensures opened { IsOpen self.now.setup self.now.limit pages.new }
+        ensures came { Came self.now.setup self.now.limit pages.new (Opens subject ∷ []) }
+        ensures last { (session_at (state_now pages.new.hall) 0).last ≡ 0 }
+        ensures settled { (n : ℕ) → AreLater pages.new.next (state_now pages.new.hall).order n }
+    {
+        match pages.hall.open(subject) {
+            Ok(_) => {}
             Err(OpenRefused::Stranger) => unreachable!(),
             Err(OpenRefused::SessionsFull) => unreachable!(),
         }
     }
 
-    fn ask(&self, state: &mut Pages, ordinal: u32, work: Work) -> Result<Asking, AllocError> {
-        match state.hall.line(SessionNo::new(SESSION), ordinal, work) {
-            Ok(_) => Ok(Asking::Taken),
+    /// Admits a work, or finds no room for it, which its reply tells.
+    pub fn ask(&self, pages: &mut Pages, ordinal: u32, work: Work)
+        requires readable { IsReadable self.now.setup.names work }
+        requires opened { IsOpen self.now.setup self.now.limit pages.old }
+        requires last { (session_at (state_now pages.old.hall) 0).last < ordinal }
+        ensures opened { IsOpen self.now.setup self.now.limit pages.new }
+        ensures came { (told : List Request) → Came self.now.setup self.now.limit pages.old told → Came self.now.setup self.now.limit pages.new (told ++ Admits ordinal work ∷ []) }
+        ensures last { (session_at (state_now pages.new.hall) 0).last ≤ ordinal }
+        ensures settled { (n : ℕ) → n < ordinal → AreLater pages.old.next (state_now pages.old.hall).order n → StillAnswers n pages.old pages.new }
+    {
+        match pages.hall.line(SessionNo::new(SESSION), ordinal, work) {
+            Ok(_) => {}
             Err(refused) => match refused.cause {
-                Cause::Full => Ok(Asking::Taken),
+                Cause::Full => {}
                 Cause::Stranger | Cause::Session | Cause::Ordinal => unreachable!(),
             },
         }
     }
 
-    fn settle(&self, state: &mut Pages, after: u32, ordinal: u32) -> Result<Block, AllocError> {
-        // the contract alone speaks of the last ordinal
-        let _ = ordinal;
+    /// Runs all that was admitted. The block has the replies to the lines above `after`; an error comes where it was refused memory.
+    pub fn settle(&self, pages: &mut Pages, after: u32) -> Result<Block, AllocError>
+        requires opened { IsOpen self.now.setup self.now.limit pages.old }
+        requires settled { AreLater pages.old.next (state_now pages.old.hall).order after }
+        ensures opened { IsOpen self.now.setup self.now.limit pages.new }
+        ensures came { (told : List Request) → Came self.now.setup self.now.limit pages.old told → Came self.now.setup self.now.limit pages.new (told ++ Settles ∷ []) }
+        ensures last { (session_at (state_now pages.new.hall) 0).last ≡ (session_at (state_now pages.old.hall) 0).last }
+        ensures settled { (n : ℕ) → AreLater pages.old.next (state_now pages.old.hall).order n → StillAnswers n pages.old pages.new }
+        ensures done { (n : ℕ) → AreLater pages.new.next (state_now pages.new.hall).order n }
+        ensures block { IfOk result (λ block. Gives (state_now pages.new.hall) block after) }
+    {
         the_order_has_room();
-        run(self.alloc, state);
-        match state.hall.places(SessionNo::new(SESSION), after) {
+        run(self.alloc, pages);
+        match pages.hall.places(SessionNo::new(SESSION), after) {
             Ok(Some(places)) => Ok(Block { places, next: 0 }),
             Ok(None) => unreachable!(),
             Err(AnswersFault::Session) => unreachable!(),
@@ -228,15 +228,21 @@ impl Behind for Alone {
         }
     }
 
-    fn answer<W: Write>(
+    /// Writes the replies to the work of an ordinal, unless the writer has failed. It takes no memory.
+    pub fn answer<W: Write>(
         &self,
-        state: &Pages,
+        pages: &Pages,
         block: &mut Block,
         ordinal: u32,
         writer: &mut Watched<W>,
-    ) {
+    )
+        requires opened { IsOpen self.now.setup self.now.limit pages.now }
+        requires gives { (n : ℕ) × (n < ordinal) × Gives (state_now pages.now.hall) block.old n }
+        ensures text { Puts (line_text (state_now pages.now.hall) 0 ordinal) (end_state W.contents writer.old) (end_state W.contents writer.new) }
+        ensures gives { Gives (state_now pages.now.hall) block.new ordinal }
+    {
         replies_go_by_lines();
-        let hall = &state.hall;
+        let hall = &pages.hall;
         block.pass(hall, ordinal - 1);
         if block.front(hall, ordinal).is_none() {
             return put_refused(writer, ordinal, b"full");

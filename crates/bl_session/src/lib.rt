@@ -2,7 +2,8 @@
 //!
 //!     alone      a session with one worker
 //!     laws       what holds of a session with one worker
-//!     entries    the machine of one worker, over a hall, which stands behind the engine
+//!     talk       its conversation: what is heard, asked of the hall and told
+//!     entries    the hall of one worker: lines are admitted, run, and answered
 //!     block      the replies of a block, line by line
 #![tactic(auto)]
 
@@ -10,5 +11,6 @@ pub mod alone;
 mod block;
 mod entries;
 pub mod laws;
+mod talk;
 
 pub use bl_wire::{fault, watched};

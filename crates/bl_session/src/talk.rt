@@ -1,10 +1,19 @@
-//! The conversation of a session with one worker: it is handed what the reader shows, its requests are met by the hall, and what it
-//! tells is written. What was written is handed on before a read that may wait.
-ghost use Rattle.std.specs.Prelude.{◌≡◌, false, OnOk};
+//! The conversation of a session with one worker: it hears what the reader shows, what it asks is done by the hall, and what it tells
+//! is written. What was written is handed on before a read that may wait.
+ghost use Rattle.std.specs.Prelude.{◌≡◌, ◌≢◌, ◌≤◌, [], ℕ, false, Option, Some, List, OnOk, IfErr};
+ghost use Rattle.bl_setup.specs.Agreement.{Agree};
+ghost use Rattle.bl_hall.specs.Chronicle.{state_now};
+ghost use Rattle.bl_wire.specs.declared.fault.SessionFault.TheVariants.{Clash};
+ghost use Rattle.bl_engine.specs.Conversations.{waits_left};
+ghost use Rattle.bl_engine.specs.declared.request.Request.TheVariants.{Settles};
+ghost use Rattle.bl_engine.specs.Stages.{Finished, Stopped};
+ghost use Rattle.bl_engine.specs.View.{ends};
+ghost use Rattle.bl_session.specs.Pages.{AreLater, Came};
+ghost use Rattle.bl_session.specs.Talks.{IsAsking, IsUnderWay, seen_of};
 
 use crate::block::Block;
 use crate::entries::{Alone, Pages};
-use bl_engine::behind::{Asking, Behind};
+use bl_engine::behind::Opening;
 use bl_engine::block::{NoReplies, Replies};
 use bl_engine::conversation::{Conversation, Need};
 use bl_engine::driver::{Listener, listen, tell_all};
@@ -13,19 +22,21 @@ use bl_wire::fault::SessionFault;
 use bl_wire::watched::Watched;
 use std::io::{BufRead, Write};
 
-/// The replies to a block of the session, which are taken line by line; those up to an ordinal were.
+/// The replies to a block of the session, which are told line by line; those up to an ordinal were.
 #[derive(Drop)]
-struct Told<'a> {
-    behind: &'a Alone,
-    pages: &'a Pages,
-    block: Block,
-    upto: u32,
+pub struct Told<'a> {
+    pub behind: &'a Alone,
+    pub pages: &'a Pages,
+    pub block: Block,
+    pub upto: u32,
 }
 
 impl Replies for Told<'_> {
-    ghost left = { λ t k. if nat_le k t.upto then [] else line_text (state_now t.pages.now.hall) 0 k };
+    ghost use Rattle.bl_session.specs.Telling.{left_of, Stands};
 
-    ghost stands = { λ t n. StandsTold t n };
+    ghost left = { left_of };
+
+    ghost stands = { Stands };
 
     fn put_part<W: Write>(&mut self, ordinal: u32, writer: &mut Watched<W>) -> bool {
         self.behind
@@ -35,60 +46,111 @@ impl Replies for Told<'_> {
     }
 }
 
-/// Has the machine do what was asked at the last line.
+/// Has the block answered, and tells it.
+fn settle<W: Write>(
+    behind: &Alone,
+    pages: &mut Pages,
+    conv: &mut Conversation,
+    writer: &mut Watched<W>,
+) -> Result<(), SessionFault>
+    requires writer { writer.old.failed ≡ false }
+    requires asks { (start rest first : Option (List ℕ)) × IsAsking behind.now.setup behind.now.limit (ends start rest first (W.contents writer.old.inner)) conv.old (Some Settles) pages.old }
+    ensures ok { OnOk result ((start rest first : Option (List ℕ)) → IsAsking behind.now.setup behind.now.limit (ends start rest first (W.contents writer.old.inner)) conv.old (Some Settles) pages.old
+        → IsUnderWay behind.now.setup behind.now.limit (ends start rest first (W.contents writer.new.inner)) conv.new pages.new) }
+    ensures fine { OnOk result (writer.new.failed ≡ false) }
+    ensures nearer { OnOk result (waits_left conv.new ≤ waits_left conv.old) }
+    ensures err { IfErr result (λ fault. (start rest first : Option (List ℕ)) → IsAsking behind.now.setup behind.now.limit (ends start rest first (W.contents writer.old.inner)) conv.old (Some Settles) pages.old
+        → Stopped fault behind.now.setup.names (ends start rest first (W.contents writer.new.inner)) false writer.new.failed (seen_of behind.now.setup behind.now.limit pages.new)) }
+    ensures never { IfErr result (λ fault. fault ≢ Clash) }
+{
+    let after = conv.after();
+    let block = behind.settle(pages, after)?;
+    conv.answered();
+    let mut told = Told {
+        behind,
+        pages,
+        block,
+        upto: after,
+    };
+    tell_all(conv, &mut told, writer)
+}
+
+/// Has done what was asked at the last line.
 fn meet<W: Write>(
     behind: &Alone,
     pages: &mut Pages,
     talk: &mut Listener<'_>,
     writer: &mut Watched<W>,
-) -> Result<(), SessionFault> {
-    match talk.request.take() {
-        None => Ok(()),
-        Some(Request::Opens(subject)) => {
-            let opening = behind.open(pages, subject)?;
-            talk.conv.opened(opening);
+) -> Result<(), SessionFault>
+    requires writer { writer.old.failed ≡ false }
+    requires agree { Agree behind.now.setup }
+    requires asks { (start rest first : Option (List ℕ)) × IsAsking behind.now.setup behind.now.limit (ends start rest first (W.contents writer.old.inner)) talk.old.conv talk.old.request pages.old }
+    ensures ok { OnOk result ((start rest first : Option (List ℕ)) → IsAsking behind.now.setup behind.now.limit (ends start rest first (W.contents writer.old.inner)) talk.old.conv talk.old.request pages.old
+        → IsUnderWay behind.now.setup behind.now.limit (ends start rest first (W.contents writer.new.inner)) talk.new.conv pages.new) }
+    ensures fine { OnOk result (writer.new.failed ≡ false) }
+    ensures names { talk.new.names ≡ talk.old.names }
+    ensures nearer { OnOk result (waits_left talk.new.conv ≤ waits_left talk.old.conv) }
+    ensures err { IfErr result (λ fault. (start rest first : Option (List ℕ)) → IsAsking behind.now.setup behind.now.limit (ends start rest first (W.contents writer.old.inner)) talk.old.conv talk.old.request pages.old
+        → Stopped fault behind.now.setup.names (ends start rest first (W.contents writer.new.inner)) false writer.new.failed (seen_of behind.now.setup behind.now.limit pages.new)) }
+    ensures never { IfErr result (λ fault. fault ≢ Clash) }
+{
+    let Some(request) = talk.request.take() else {
+        return Ok(());
+    };
+    match request {
+        Request::Opens(subject) => {
+            behind.open(pages, subject);
+            talk.conv.opened(Opening::Open);
             Ok(())
         }
-        Some(Request::Admits { ordinal, work }) => match behind.ask(pages, ordinal, work)? {
-            Asking::Taken => Ok(()),
-            Asking::Clash => unreachable!(),
-        },
-        Some(Request::Settles) => {
-            let after = talk.conv.after();
-            let block = behind.settle(pages, after, talk.conv.ordinal())?;
-            talk.conv.answered();
-            let mut told = Told {
-                behind,
-                pages,
-                block,
-                upto: after,
-            };
-            tell_all(&mut talk.conv, &mut told, writer)
+        Request::Admits { ordinal, work } => {
+            behind.ask(pages, ordinal, work);
+            Ok(())
         }
+        Request::Settles => settle(behind, pages, &mut talk.conv, writer),
     }
 }
 
 /// A whole session over the hall of one worker.
-pub(crate) fn converse_alone<R: BufRead, W: Write>(
+pub fn converse_alone<R: BufRead, W: Write>(
     behind: &Alone,
     pages: &mut Pages,
     reader: &mut Watched<R>,
     writer: &mut Watched<W>,
-) -> Result<(), SessionFault> {
+) -> Result<(), SessionFault>
+    requires fine { (reader.old.failed ≡ false) × (writer.old.failed ≡ false) }
+    requires came { Came behind.now.setup behind.now.limit pages.old [] }
+    requires settled { AreLater pages.old.next (state_now pages.old.hall).order 0 }
+    ensures ok { OnOk result (Finished behind.now.setup.names (ends (R.remaining reader.old.inner) (R.remaining reader.new.inner) (W.contents writer.old.inner) (W.contents writer.new.inner)) (seen_of behind.now.setup behind.now.limit pages.new)) }
+    ensures fine { OnOk result ((reader.new.failed ≡ false) × (writer.new.failed ≡ false) × (writer.new.unflushed ≡ false)) }
+    ensures err { IfErr result (λ fault. Stopped fault behind.now.setup.names (ends (R.remaining reader.old.inner) (R.remaining reader.new.inner) (W.contents writer.old.inner) (W.contents writer.new.inner))
+        reader.new.failed writer.new.failed (seen_of behind.now.setup behind.now.limit pages.new)) }
+    ensures never { IfErr result (λ fault. fault ≢ Clash) }
+{
+    let names = behind.setup.names();
     let mut talk = Listener {
         alloc: behind.alloc,
-        names: behind.setup.names(),
+        names,
         conv: Conversation::new(behind.alloc)?,
         request: None,
     };
-    'waits: while talk.conv.need() != Need::Over {
+    'waits: loop {
         match talk.conv.need() {
-            Need::Input => listen(&mut talk, reader, writer)?,
-            Need::End => talk.request = talk.conv.end(talk.alloc, talk.names)?,
-            Need::Room => tell_all(&mut talk.conv, &mut NoReplies, writer)?,
-            Need::Opening | Need::Replies | Need::Over => unreachable!(),
+            Need::Input => {
+                listen(&mut talk, reader, writer)?;
+                meet(behind, pages, &mut talk, writer)?;
+            }
+            Need::End => {
+                talk.request = talk.conv.end(behind.alloc, names)?;
+                meet(behind, pages, &mut talk, writer)?;
+            }
+            Need::Room => {
+                let mut none = NoReplies;
+                tell_all(&mut talk.conv, &mut none, writer)?;
+            }
+            Need::Opening | Need::Replies => unreachable!(),
+            Need::Over => break,
         }
-        meet(behind, pages, &mut talk, writer)?;
     }
     if writer.flush() {
         Ok(())

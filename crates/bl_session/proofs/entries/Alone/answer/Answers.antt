@@ -13,11 +13,11 @@ use Rattle.bl_session.specs.Blocks.{left_in, up_to}
 use Rattle.bl_session.specs.declared.block.Block.{Block}
 use Rattle.bl_session.proofs.BlockLaws.{line_is, rest_is, front_first, front_behind, none_in_front, some_in_front, some_text}
 use Rattle.bl_session.proofs.RunLaws.{setup_after}
-use Rattle.bl_session.proofs.entries.AloneBehind.answer.Goals as goal
+use Rattle.bl_session.proofs.entries.Alone.answer.Goals as goal
 
 pub returns-then-is_none-clause-text : goal.returns-then-is_none-clause-text
 returns-then-is_none-clause-text g c =
-    let x = state_now c.args.state.now.hall in
+    let x = state_now c.args.pages.now.hall in
     let k = c.args.ordinal in
     let gives = c.requires.gives in
     let line = line_is c.replies_go_by_lines.ensures x c.args.block.now c.pass.new.self gives.0 k gives.1 gives.2 c.pass.ensures.left in
@@ -26,7 +26,7 @@ returns-then-is_none-clause-text g c =
 
 pub returns-then-is_none-clause-gives : goal.returns-then-is_none-clause-gives
 returns-then-is_none-clause-gives g c =
-    let x = state_now c.args.state.now.hall in
+    let x = state_now c.args.pages.now.hall in
     let k = c.args.ordinal in
     let gives = c.requires.gives in
     record {
@@ -37,7 +37,7 @@ returns-then-is_none-clause-gives g c =
 
 pub replies-init : goal.replies-init
 replies-init g c =
-    let x = state_now c.args.state.now.hall in
+    let x = state_now c.args.pages.now.hall in
     let k = c.args.ordinal in
     let gives = c.requires.gives in (
       [],
@@ -50,12 +50,12 @@ replies-init g c =
 
 pub put_reply-requires-clause-setup : goal.put_reply-requires-clause-setup
 put_reply-requires-clause-setup g c =
-    let h = c.args.state.now.hall in
-    sym (setup_after (start h.setup h.limit) h.trail ∙ c.requires.whole.1.stands.setup_is)
+    let h = c.args.pages.now.hall in
+    sym (setup_after (start h.setup h.limit) h.trail ∙ c.requires.opened.stands.setup_is)
 
 pub replies-preserved : goal.replies-preserved
 replies-preserved g c =
-    let x = state_now c.args.state.now.hall in
+    let x = state_now c.args.pages.now.hall in
     let k = c.args.ordinal in
     let names = c.args.self.now.setup.names in
     let f = rw c.in-Some.is at c.front-in-replies.ensures in
@@ -75,7 +75,7 @@ replies-preserved g c =
 
 pub returns-clause-text : goal.returns-clause-text
 returns-clause-text g c =
-    let h = c.args.state.now.hall in
+    let h = c.args.pages.now.hall in
     let x = state_now h in
     let k = c.args.ordinal in
     let gives = c.requires.gives in
@@ -83,7 +83,7 @@ returns-clause-text g c =
     let said : List Reply = inv.0 in
     let none = rw c.in_default.is at c.front-in-replies.ensures in
     let line = line_is c.replies_go_by_lines.ensures x c.args.block.now c.pass.new.self gives.0 k gives.1 gives.2 c.pass.ensures.left in
-    let same : c.args.self.now.setup ≡ x.setup = sym (setup_after (start h.setup h.limit) h.trail ∙ c.requires.whole.1.stands.setup_is) in
+    let same : c.args.self.now.setup ≡ x.setup = sym (setup_after (start h.setup h.limit) h.trail ∙ c.requires.opened.stands.setup_is) in
     puts-is _ _ _ _
     (ap (λ (s : Setup). flat_map (reply_text s.names) said) same
     ∙ ap (flat_map (reply_text x.setup.names)) (sym (inv.2 ∙ ap (λ l. said ++ l) none ∙ append-nil said))

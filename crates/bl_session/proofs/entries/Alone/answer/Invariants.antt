@@ -6,11 +6,11 @@ use Rattle.bl_hall.specs.Told.{replies_above}
 use Rattle.bl_wire.specs.Replies.{reply_text}
 use Rattle.bl_wire.specs.Watch.{end_state, Puts}
 use Rattle.bl_session.specs.Blocks.{behind, left_in, up_to}
-use Rattle.bl_session.proofs.entries.AloneBehind.answer.Given as goal
+use Rattle.bl_session.proofs.entries.Alone.answer.Given as goal
 
 abbrev pub invariant-replies : goal.invariant-replies
 invariant-replies g l =
-    let x = state_now l.state.hall in
+    let x = state_now l.pages.hall in
     (said : List Reply) × Puts (flat_map (reply_text l.self.setup.names) said) (end_state g.W.Write.contents l.fn.writer) (end_state g.W.Write.contents l.writer)
     × (replies_to x 0 l.ordinal (length x.order) ≡ said ++ up_to l.ordinal (left_in x l.block))
     × (behind l.ordinal (left_in x l.block) ≡ replies_above x 0 l.ordinal (length x.order))

@@ -11,11 +11,12 @@ use Rattle.bl_session.specs.Pages.{AreLater}
 use Rattle.bl_session.proofs.PageLaws.{only_full, state_next, asked_stands, asked_settled, came_asked, came_full}
 use Rattle.bl_session.proofs.RunLaws.{setup_after}
 use Rattle.bl_session.proofs.TrailLaws.{last_set}
-use Rattle.bl_session.proofs.entries.AloneBehind.ask.Goals as goal
+use Rattle.bl_session.proofs.entries.Alone.ask.Goals as goal
 
-pub returns-in-Ok-clause-whole : goal.returns-in-Ok-clause-whole
-returns-in-Ok-clause-whole c is n lt opened =
-    let s = c.args.state.now in
+pub returns-in-Ok-clause-opened : goal.returns-in-Ok-clause-opened
+returns-in-Ok-clause-opened c =
+    let opened = c.requires.opened in
+    let s = c.args.pages.now in
     let x = state_now s.hall in
     let t : Pages = record { hall = c.line.new.self; next = s.next } in
     let hall = c.in-Ok.ensures.ok.1 ∙ ap (λ j. with_event s.hall (Admits j c.args.ordinal c.args.work)) c.new.ensures in
@@ -26,8 +27,8 @@ returns-in-Ok-clause-whole c is n lt opened =
     }
 
 pub returns-in-Ok-clause-came : goal.returns-in-Ok-clause-came
-returns-in-Ok-clause-came c is told came =
-    let s = c.args.state.now in
+returns-in-Ok-clause-came c told came =
+    let s = c.args.pages.now in
     let t : Pages = record { hall = c.line.new.self; next = s.next } in
     let hall = c.in-Ok.ensures.ok.1 ∙ ap (λ j. with_event s.hall (Admits j c.args.ordinal c.args.work)) c.new.ensures in
     let needs = subst (λ j. Needs (state_now s.hall) (Admits j c.args.ordinal c.args.work)) c.new.ensures c.in-Ok.ensures.cause in
@@ -35,7 +36,7 @@ returns-in-Ok-clause-came c is told came =
 
 pub returns-in-Ok-clause-last : goal.returns-in-Ok-clause-last
 returns-in-Ok-clause-last c =
-    let s = c.args.state.now in
+    let s = c.args.pages.now in
     let x = state_now s.hall in
     let hall = c.in-Ok.ensures.ok.1 ∙ ap (λ j. with_event s.hall (Admits j c.args.ordinal c.args.work)) c.new.ensures in
     let needs = subst (λ j. Needs x (Admits j c.args.ordinal c.args.work)) c.new.ensures c.in-Ok.ensures.cause in
@@ -44,24 +45,28 @@ returns-in-Ok-clause-last c =
 
 pub returns-in-Ok-clause-settled : goal.returns-in-Ok-clause-settled
 returns-in-Ok-clause-settled c n lt later =
-    let s = c.args.state.now in
+    let s = c.args.pages.now in
     let x = state_now s.hall in
     let hall = c.in-Ok.ensures.ok.1 ∙ ap (λ j. with_event s.hall (Admits j c.args.ordinal c.args.work)) c.new.ensures in
-    subst (λ (y : State). AreLater s.next y.order n × SameUpTo n (line_text x 0) (line_text y 0)) (sym (ap state_now hall ∙ state_next s.hall (Admits 0 c.args.ordinal c.args.work)))
-    (asked_settled x s.next c.args.ordinal n c.args.work c.requires.whole.2.stands.ran lt later)
+    let at : state_now c.line.new.self ≡ change x (Admits 0 c.args.ordinal c.args.work) = ap state_now hall ∙ state_next s.hall (Admits 0 c.args.ordinal c.args.work) in
+    let still = asked_settled x s.next c.args.ordinal n c.args.work c.requires.opened.stands.ran lt later in
+    record {
+      later = subst (λ (y : State). AreLater s.next y.order n) (sym at) still.0;
+      same = subst (λ (y : State). SameUpTo n (line_text x 0) (line_text y 0)) (sym at) still.1;
+    }
 
 pub returns-in-Full-clause-came : goal.returns-in-Full-clause-came
-returns-in-Full-clause-came c is told came =
-    let s = c.args.state.now in
+returns-in-Full-clause-came c told came =
+    let s = c.args.pages.now in
     let t : Pages = record { hall = c.line.new.self; next = s.next } in
     let full = subst (IsCause (state_now s.hall) c.new.result c.args.ordinal c.args.work) c.in-Full.is c.in-Err.ensures.cause.0 in
     came_full c.args.self.now.setup c.args.self.now.limit s t c.args.ordinal c.args.work told came c.in-Err.ensures.err refl full.3
 
 pub unreachable-requires : goal.unreachable-requires
 unreachable-requires c =
-    let s = c.args.state.now in
+    let s = c.args.pages.now in
     let x = state_now s.hall in
-    let opened = c.requires.whole.2 in
+    let opened = c.requires.opened in
     let same : x.setup ≡ c.args.self.now.setup = setup_after (start s.hall.setup s.hall.limit) s.hall.trail ∙ opened.stands.setup_is in
     let why = subst (λ j. IsCause x j c.args.ordinal c.args.work c.in-Err.refused.cause) c.new.ensures c.in-Err.ensures.cause.0 in
-    only_full x c.args.ordinal c.args.work c.in-Err.refused.cause opened.there (subst (λ (k : Setup). IsReadable k.names c.args.work) (sym same) c.requires.takes) c.requires.last why c.in-Stranger.is
+    only_full x c.args.ordinal c.args.work c.in-Err.refused.cause opened.there (subst (λ (k : Setup). IsReadable k.names c.args.work) (sym same) c.requires.readable) c.requires.last why c.in-Stranger.is
