@@ -13,8 +13,7 @@ use Rattle.bl_wire.specs.declared.fault.SessionFault.{SessionFault}
 use Rattle.bl_wire.specs.declared.fault.SessionFault.TheVariants.{Read, Write, TooLong, Memory, Clash}
 use Rattle.bl_wire.specs.declared.turn.Turn.{Turn}
 use Rattle.bl_engine.specs.Requests.{Request, Settles, SameUpTo, told_by}
-use Rattle.bl_engine.specs.Spoken.{is_reading}
-use Rattle.bl_engine.specs.Stages.{Finished, IsCause, Stopped}
+use Rattle.bl_engine.specs.Outcome.{Finished, IsCause, LacksTheLast, Stopped, WereHeard, is_reading}
 use Rattle.bl_engine.specs.View.{ends}
 use Rattle.bl_engine.specs.Driving.{Exchange, HasListened, IsDriven, IsUnheard, ToldPart}
 use Rattle.bl_engine.specs.declared.conversation.Closing.{Closing}
@@ -23,7 +22,7 @@ use Rattle.bl_engine.specs.declared.conversation.Conversation.{Conversation}
 use Rattle.bl_engine.specs.declared.conversation.Need.TheVariants as needs
 use Rattle.bl_engine.specs.Conversations.{Given, AreSo, IsAt, IsSoFar, IsWhy, Spoke, asks, need_of, talk_of}
 use Rattle.bl_engine.proofs.LineLaws.{AreLines-nil}
-use Rattle.bl_engine.proofs.Steps.{seen}
+use Rattle.bl_engine.specs.View.{seen}
 use Rattle.bl_engine.proofs.Hearings.{no_input}
 use Rattle.bl_engine.proofs.Endings.{all_said, so_far_at}
 use Rattle.bl_engine.proofs.Texts.{same_refl}
@@ -41,6 +40,30 @@ end_kept None b c bs moved kept end = tt
 end_kept (Some xs) None c bs moved kept end = absurd moved
 end_kept (Some xs) (Some ys) None bs moved kept end = absurd kept
 end_kept (Some xs) (Some ys) (Some zs) bs moved kept end = kept ∙ end
+
+-- all lines were heard, whatever the fault
+all_heard : (fault : SessionFault) (turns : List Turn) → WereHeard fault turns turns
+all_heard Read turns = refl
+all_heard Write turns = refl
+all_heard TooLong turns = refl
+all_heard Memory turns = ([], omega arith, sym (append-nil turns))
+all_heard Clash turns = ([], omega arith, sym (append-nil turns))
+
+-- or, where no end failed, all but perhaps the last
+few_heard : (fault : SessionFault) (heard turns : List Turn) → is_write fault ≡ false → is_reading fault ≡ false → LacksTheLast heard turns → WereHeard fault heard turns
+few_heard Read heard turns own other lacks = cc
+few_heard Write heard turns own other lacks = cc
+few_heard TooLong heard turns own other lacks = cc
+few_heard Memory heard turns own other lacks = lacks
+few_heard Clash heard turns own other lacks = lacks
+
+-- what was heard is a front of what was read
+pub heard_front : (fault : SessionFault) (heard turns : List Turn) → WereHeard fault heard turns → (last : List Turn) × (turns ≡ heard ++ last)
+heard_front Read heard turns are = ([], sym are ∙ sym (append-nil heard))
+heard_front Write heard turns are = ([], sym are ∙ sym (append-nil heard))
+heard_front TooLong heard turns are = ([], sym are ∙ sym (append-nil heard))
+heard_front Memory heard turns are = (are.0, are.2)
+heard_front Clash heard turns are = (are.0, are.2)
 
 -- a fault that is no reading one comes with one line more at most
 own_fault : (fault : SessionFault) → is_reading fault ≡ false → is_reading fault ≡ true → (last : List Turn) → last ≡ []
@@ -65,7 +88,7 @@ module _ (names : KnownNames) (start r first w : Option (List ℕ)) (M : Given �
         let took : Consumes start r' x.heard = Consumes-kept start r r' x.heard was.took kept in
         let end : conv.ended ≡ true → OnSome start (IsAtEnd r') = λ is. end_kept start r r' x.heard was.took kept (was.end is) in
         stopped_quiet names start r' first w' read_failed write_failed f Settled Came upto settled fault conv x.turns x.turns [] x.turns x.asked now_is.settles x.heard x.said was.cut took end
-        (Appends-kept first w w' x.said was.put put) own no_reading cause (sym (append-nil x.turns)) (omega arith) (λ _. refl) ([], omega arith, sym (append-nil x.turns))
+        (Appends-kept first w w' x.said was.put put) own no_reading cause (sym (append-nil x.turns)) (omega arith) (λ _. refl) (all_heard fault x.turns)
         (λ later same. (now later same).quiet hearing) (λ later same. (now later same).begins) now_is.stops
         (nothing_behind names start r' first w' read_failed write_failed conv x.turns x.heard was.cut took end f x.said now_is.quiet) came now_is.asked_is
 
@@ -103,7 +126,7 @@ module _ (names : KnownNames) (start r first w : Option (List ℕ)) (M : Given �
       let before_is = before f (same_refl upto f) in
       let now_is = now f (same_refl upto f) in
       stopped_quiet names start r first w read_failed write_failed f Settled Came upto settled fault conv turns x.turns on.more x.turns x.asked before_is.settles heard x.said
-      on.now.cut on.now.took on.now.end on.now.put own (λ _. no_reading) (cause_at fault no_reading cause (length heard)) refl on.few (λ is. own_fault fault no_reading is on.more) (on.more, on.few, refl)
+      on.now.cut on.now.took on.now.end on.now.put own (λ _. no_reading) (cause_at fault no_reading cause (length heard)) refl on.few (λ is. own_fault fault no_reading is on.more) (few_heard fault x.turns (x.turns ++ on.more) own no_reading (on.more, on.few, refl))
       (λ later same. (before later same).quiet on.hearing) (λ later same. (before later same).begins) now_is.stops
       (nothing_behind names start r first w read_failed write_failed conv turns heard on.now.cut on.now.took on.now.end f x.said now_is.quiet) came before_is.asked_is
     where
@@ -142,7 +165,7 @@ module _ (names : KnownNames) (start r first w : Option (List ℕ)) (M : Given �
       broken told settles came told_is =
           stopped_quiet names start r first w read_failed write_failed f Settled Came upto settled fault conv turns x.turns on.more turns told settles (x.heard ++ on.bytes) x.said
           on.now.cut on.now.took on.now.end on.now.put own (λ _. no_reading) (cause (length (x.heard ++ on.bytes))) refl on.few (λ is. own_fault fault no_reading is on.more)
-          ([], omega arith, sym (append-nil turns)) (λ later same. (before later same).quiet on.hearing) (λ later same. (now later same).begins) now_is.stops
+          (all_heard fault turns) (λ later same. (before later same).quiet on.hearing) (λ later same. (now later same).begins) now_is.stops
           (nothing_behind names start r first w read_failed write_failed conv turns (x.heard ++ on.bytes) on.now.cut on.now.took on.now.end f x.said now_is.quiet) came told_is
 
   -- writing failed while a block was told
@@ -214,7 +237,7 @@ broken_before names start first f Settled Came read_failed write_failed settled 
     took = Consumes-nil start;
     within = omega arith;
     lines = inl AreLines-nil;
-    dropped = inl (All-nil (λ y. y ≡ 10 → ⊥));
+    dropped = All-nil (λ y. y ≡ 10 → ⊥);
     are = tt;
     why = (reader, writer);
   };

@@ -7,16 +7,16 @@ use Rattle.bl_wire.specs.declared.turn.Pending.TheVariants.{Again, Refused, Aske
 use Rattle.bl_wire.specs.Texts.{text_of, session_text, ordinal_after, ok_line, bye_line, refused_hello}
 use Rattle.bl_wire.specs.Turns.{AreSkips, IsOpening, StopsAtRefusal, HasNoWait, is_skip, greeted}
 use Rattle.bl_engine.specs.Requests.{Request, Opens, Settles, told_of, told_by}
-use Rattle.bl_engine.specs.Spoken.{pending_of, block_text, reply_to, Begins}
-use Rattle.bl_engine.specs.Stages.{refused_sessions}
-use Rattle.bl_engine.specs.declared.behind.Opening.{Opening}
-use Rattle.bl_engine.specs.declared.behind.Opening.TheVariants.{Open, Full}
+use Rattle.bl_engine.specs.BlockText.{pending_of, block_text, reply_to, Begins}
+use Rattle.bl_engine.specs.Outcome.{refused_sessions}
+use Rattle.bl_engine.specs.declared.conversation.Opening.{Opening}
+use Rattle.bl_engine.specs.declared.conversation.Opening.TheVariants.{Open, Full}
 use Rattle.bl_engine.specs.declared.conversation.Closing.{Closing}
 use Rattle.bl_engine.specs.declared.conversation.Closing.TheVariants.{GoesOn, Ends, RefusesHello, FindsFull}
 use Rattle.bl_engine.specs.Parts.{SameWithin}
 use Rattle.bl_engine.specs.Conversations.{Given, Talk, lines_left, owed, words_of, full_text, full_asked, whole_text, whole_asked, IsFresh, IsSilent, HasGreeted, IsOpen, TellsWhole, IsTelling, IsEnding, IsSettling}
 use Rattle.bl_engine.proofs.Texts.{text-append, ordinal-append, told-append, text-block, ordinal-block, pending-append, no_wait-append}
-use Rattle.bl_engine.proofs.Stages.{opened_text, opened_told, opens_after, skips-more, stops_opened, stops_skipped, skipped_text, skipped_told, refuses_after}
+use Rattle.bl_engine.proofs.TurnLaws.{opened_text, opened_told, opens_after, skips-more, stops_opened, stops_skipped, skipped_text, skipped_told, refuses_after}
 
 -- what a machine that opens no session would say is the same where no line asks for one
 full_refuses : (skips : List Turn) (t : Turn) → AreSkips skips → is_skip t ≡ false → greeted t ≡ None

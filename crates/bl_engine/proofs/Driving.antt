@@ -9,7 +9,7 @@ use Rattle.bl_engine.specs.Requests.{Request}
 use Rattle.bl_engine.specs.Parts.{SameWithin}
 use Rattle.bl_engine.specs.View.{Ends, ends}
 use Rattle.bl_engine.specs.Driving.{Exchange, HasListened, IsDriven, Listened, ToldAll, nothing_yet, with_line}
-use Rattle.bl_engine.specs.declared.behind.Opening.{Opening}
+use Rattle.bl_engine.specs.declared.conversation.Opening.{Opening}
 use Rattle.bl_engine.specs.declared.conversation.Closing.{Closing}
 use Rattle.bl_engine.specs.declared.conversation.Closing.TheVariants as closings
 use Rattle.bl_engine.specs.declared.conversation.Conversation.{Conversation}

@@ -7,10 +7,10 @@ use Rattle.bl_wire.specs.Texts.{text_of, session_text, ordinal_after, ok_line, b
 use Rattle.bl_wire.specs.declared.turn.Turn.{Turn}
 use Rattle.bl_wire.specs.declared.turn.Turn.TheVariants.{Skip, Wait, Greets, Bad, Ask}
 use Rattle.bl_engine.specs.Requests.{Request, Opens, Settles, told_of, told_by}
-use Rattle.bl_engine.specs.Spoken.{Begins}
-use Rattle.bl_engine.specs.Stages.{AreWhole, IsDue}
-use Rattle.bl_engine.specs.declared.behind.Opening.{Opening}
-use Rattle.bl_engine.specs.declared.behind.Opening.TheVariants.{Open, Full}
+use Rattle.bl_engine.specs.BlockText.{Begins}
+use Rattle.bl_engine.specs.Outcome.{AreWhole, IsDue}
+use Rattle.bl_engine.specs.declared.conversation.Opening.{Opening}
+use Rattle.bl_engine.specs.declared.conversation.Opening.TheVariants.{Open, Full}
 use Rattle.bl_engine.specs.declared.conversation.Closing.{Closing}
 use Rattle.bl_engine.specs.declared.conversation.Closing.TheVariants.{GoesOn, Ends, RefusesHello, FindsFull}
 use Rattle.bl_engine.specs.declared.conversation.Conversation.{Conversation}
@@ -19,8 +19,8 @@ use Rattle.bl_engine.specs.declared.conversation.Stage.{Stage}
 use Rattle.bl_engine.specs.declared.conversation.Stage.TheVariants as stages
 use Rattle.bl_engine.specs.Conversations.{Given, Talk, talk_of, need_at, need_of, is_hearing, whole_text, whole_asked, owed, AreSo, IsOpen, IsTelling, IsEnding, TellsWhole, IsAt, Spoke, IsAll, IsSoFar}
 use Rattle.bl_engine.proofs.Texts.{text-append}
-use Rattle.bl_engine.proofs.Stages.{opened_text, opened_told, skipped_told, stops_opened, stops_skipped}
-use Rattle.bl_engine.proofs.Cuttings.{lines-now}
+use Rattle.bl_engine.proofs.TurnLaws.{opened_text, opened_told, skipped_told, stops_opened, stops_skipped}
+use Rattle.bl_engine.proofs.LineLaws.{lines-now}
 use Rattle.bl_engine.proofs.Conversing.{open_blocks, quiet_blocks, opening_blocks, full_opens, full_skips}
 
 is_over : (ended : Bool) (stage : Stage) → need_at ended stage ≡ needs.Over → stage ≡ stages.Over

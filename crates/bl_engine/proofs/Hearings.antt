@@ -14,7 +14,7 @@ use Rattle.bl_engine.specs.declared.conversation.Stage.{Stage}
 use Rattle.bl_engine.specs.declared.conversation.Stage.TheVariants as stages
 use Rattle.bl_engine.specs.Conversations.{Given, Talk, talk_of, need_at, need_of, AreSo, HasHeard, IsOpen, IsAt, HearsMore, Hears, IsOf, IsHeardOf, TakesLine}
 use Rattle.bl_engine.proofs.LineLaws.{AreLines-whole, AreLines-append, lines-last}
-use Rattle.bl_engine.proofs.Cuttings.{turns-append, lines-now}
+use Rattle.bl_engine.proofs.LineLaws.{turns-append, lines-now}
 use Rattle.bl_engine.proofs.Conversing.{silent_same, open_same, silent_ends}
 use Rattle.bl_wire.specs.Reads.{Scanned}
 use Rattle.bl_wire.specs.declared.part.Part.{Part}

@@ -1,8 +1,6 @@
 pub mod LineLaws
 pub mod Texts
-pub mod Steps
-pub mod Cuttings
-pub mod Stages
+pub mod TurnLaws
 pub mod Outcomes
 pub mod Conversing
 pub mod Hearings

@@ -10,19 +10,19 @@ use Rattle.bl_wire.specs.declared.fault.SessionFault.{SessionFault}
 use Rattle.bl_wire.specs.declared.fault.SessionFault.TheVariants.{Read, Write, TooLong, Memory, Clash}
 use Rattle.bl_wire.specs.declared.turn.Turn.{Turn}
 use Rattle.bl_engine.specs.Requests.{Request, Settles, told_by, SameUpTo}
-use Rattle.bl_engine.specs.Spoken.{Begins, LacksTheLast, is_reading}
-use Rattle.bl_engine.specs.Stages.{AreWhole, AreWholeLines, Broken, IsCause, IsPutAt, Stopped}
+use Rattle.bl_engine.specs.BlockText.{Begins}
+use Rattle.bl_engine.specs.Outcome.{AreWhole, AreWholeLines, Broken, IsCause, IsPutAt, Stopped, WereHeard, is_reading}
 use Rattle.bl_engine.specs.View.{ends}
-use Rattle.bl_engine.specs.declared.behind.Opening.TheVariants.{Open}
+use Rattle.bl_engine.specs.declared.conversation.Opening.TheVariants.{Open}
 use Rattle.bl_engine.specs.declared.conversation.Conversation.{Conversation}
 use Rattle.bl_engine.specs.declared.conversation.Need.TheVariants as needs
 use Rattle.bl_engine.specs.declared.conversation.Stage.{Stage}
 use Rattle.bl_engine.specs.declared.conversation.Stage.TheVariants as stages
 use Rattle.bl_engine.specs.Conversations.{Given, need_at, is_hearing, AreSo, HasHeard, IsSoFar}
 use Rattle.bl_engine.proofs.Texts.{same_refl}
-use Rattle.bl_engine.proofs.Steps.{seen}
-use Rattle.bl_engine.proofs.Stages.{not_refused_opened, not_refused_skipped}
-use Rattle.bl_engine.proofs.Cuttings.{lines-now}
+use Rattle.bl_engine.specs.View.{seen}
+use Rattle.bl_engine.proofs.TurnLaws.{not_refused_opened, not_refused_skipped}
+use Rattle.bl_engine.proofs.LineLaws.{lines-now}
 use Rattle.bl_engine.proofs.Hearings.{no_input}
 
 -- the machine has opened the session, and answers so
@@ -58,7 +58,7 @@ module _ (names : KnownNames) (start rest first kept : Option (List ℕ)) (read_
       took = subst (Consumes start rest) cut.split took;
       within = omega (arith, cut.count, ap length cut.split);
       lines = by_end conv.ended refl cut.cut;
-      dropped = inl cut.plain;
+      dropped = cut.plain;
       are = subst (λ l. AreTurns names l turns) (sym (lines_are conv.ended cut.whole cut.lines cut.cut)) cut.are;
       why = subst (IsCause fault start rest read_failed write_failed) (ap length cut.split) cause;
     }
@@ -93,7 +93,7 @@ module _ (names : KnownNames) (start rest first kept : Option (List ℕ)) (read_
           told = asked;
           came = came;
           heard = turns;
-          heard_is = ([], omega arith, sym (append-nil turns));
+          heard_is = refl;
           settles = now_is.settles;
           told_is = now_is.asked_is;
           begins = λ later same. part_begins (session_text later turns) (now later same).begins;
@@ -121,7 +121,7 @@ module _ (names : KnownNames) (start rest first kept : Option (List ℕ)) (read_
     pub stopped_quiet : (fault : SessionFault) (conv : Conversation) (turns front last hears : List Turn) (told : List Request) (settles : ℕ) (heard said : List ℕ)
         (cut : HasHeard names conv turns heard) → Consumes start rest heard → (conv.ended ≡ true → OnSome start (IsAtEnd rest)) → Appends first kept said
         → is_write fault ≡ false → (conv.ended ≡ true → is_reading fault ≡ false) → IsCause fault start rest read_failed write_failed (length heard)
-        → turns ≡ front ++ last → length last ≤ 1 → (is_reading fault ≡ true → last ≡ []) → LacksTheLast hears turns
+        → turns ≡ front ++ last → length last ≤ 1 → (is_reading fault ≡ true → last ≡ []) → WereHeard fault hears turns
         → ((later : ℕ → List ℕ) → SameUpTo upto f later → AreWhole later front said) → ((later : ℕ → List ℕ) → SameUpTo upto f later → Begins said (session_text later hears))
         → StopsAtRefusal turns → (IsRefusal turns → cut.rest ≡ []) → Came told → told_by hears ≡ told ++ replicate settles Settles
         → Stopped fault names (ends start rest first kept) read_failed write_failed (seen f Settled Came)

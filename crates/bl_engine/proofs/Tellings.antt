@@ -3,7 +3,7 @@ use Rattle.std.proofs.Common.{◌≡◌, ℕ, suc, ◌+◌, ◌<◌, ◌≤◌, 
 use Rattle.bl_wire.specs.Watch.{EndState, Puts}
 use Rattle.bl_wire.specs.declared.turn.Pending.{Pending}
 use Rattle.bl_wire.specs.declared.turn.Pending.TheVariants.{Again, Refused, Asked}
-use Rattle.bl_engine.specs.Spoken.{block_text, reply_to}
+use Rattle.bl_engine.specs.BlockText.{block_text, reply_to}
 use Rattle.bl_engine.specs.Parts.{PutsPart, SameAbove, rest_of}
 use Rattle.bl_engine.specs.Conversations.{Talk, lines_left}
 

@@ -7,7 +7,7 @@ use Rattle.bl_wire.specs.Texts.{text_of, ordinal_after, refusal, ok_line, fault_
 use Rattle.bl_wire.specs.Turns.{HasNoWait}
 use Rattle.bl_wire.specs.declared.turn.Pending.{Pending}
 use Rattle.bl_wire.specs.declared.turn.Pending.TheVariants.{Again, Refused, Asked}
-use Rattle.bl_engine.specs.Spoken.{pending_of, block_text, reply_to}
+use Rattle.bl_engine.specs.BlockText.{pending_of, block_text, reply_to}
 
 -- one reply in front
 front : (a x y z : List ℕ) → x ≡ y ++ z → a ++ x ≡ (a ++ y) ++ z

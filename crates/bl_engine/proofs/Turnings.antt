@@ -5,10 +5,10 @@ use Rattle.bl_wire.specs.declared.turn.Pending.{Pending}
 use Rattle.bl_wire.specs.declared.turn.Turn.{Turn}
 use Rattle.bl_wire.specs.declared.turn.Turn.TheVariants.{Skip, Wait, Greets, Bad, Ask}
 use Rattle.bl_engine.specs.Requests.{Request, Opens, Settles, told_of}
-use Rattle.bl_engine.specs.Spoken.{pending_of, block_text}
+use Rattle.bl_engine.specs.BlockText.{pending_of, block_text}
 use Rattle.bl_engine.specs.Greetings.{greeting_of}
-use Rattle.bl_engine.specs.declared.behind.Opening.{Opening}
-use Rattle.bl_engine.specs.declared.behind.Opening.TheVariants.{Open, Full}
+use Rattle.bl_engine.specs.declared.conversation.Opening.{Opening}
+use Rattle.bl_engine.specs.declared.conversation.Opening.TheVariants.{Open, Full}
 use Rattle.bl_engine.specs.declared.conversation.Closing.{Closing}
 use Rattle.bl_engine.specs.declared.conversation.Closing.TheVariants.{GoesOn, Ends, RefusesHello, FindsFull}
 use Rattle.bl_engine.specs.declared.conversation.Conversation.{Conversation}

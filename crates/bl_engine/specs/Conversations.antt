@@ -10,11 +10,11 @@ use Rattle.bl_wire.specs.declared.turn.Pending.{Pending}
 use Rattle.bl_wire.specs.declared.turn.Turn.{Turn}
 use Rattle.bl_wire.specs.declared.turn.Turn.TheVariants.{Skip, Wait, Greets, Bad, Ask}
 use Rattle.bl_engine.specs.Requests.{Request, Opens, Admits, Settles, told_of, told_by}
-use Rattle.bl_engine.specs.Spoken.{pending_of, block_text, Begins}
-use Rattle.bl_engine.specs.Stages.{AreWhole, AreWholeBefore, IsDue, refused_sessions}
+use Rattle.bl_engine.specs.BlockText.{pending_of, block_text, Begins}
+use Rattle.bl_engine.specs.Outcome.{AreWhole, AreWholeBefore, IsDue, refused_sessions}
 use Rattle.bl_engine.specs.Parts.{SameWithin}
-use Rattle.bl_engine.specs.declared.behind.Opening.{Opening}
-use Rattle.bl_engine.specs.declared.behind.Opening.TheVariants.{Open, Full}
+use Rattle.bl_engine.specs.declared.conversation.Opening.{Opening}
+use Rattle.bl_engine.specs.declared.conversation.Opening.TheVariants.{Open, Full}
 use Rattle.bl_engine.specs.declared.conversation.Conversation.{Conversation}
 use Rattle.bl_engine.specs.declared.conversation.Need.{Need}
 use Rattle.bl_engine.specs.declared.conversation.Need.TheVariants as needs

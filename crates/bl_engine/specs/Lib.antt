@@ -1,5 +1,5 @@
-pub mod Stages
-pub mod Spoken
+pub mod Outcome
+pub mod BlockText
 pub mod View
 pub mod Requests
 pub mod Parts

@@ -9,9 +9,9 @@ pub record View : Type 1 where
   pub settled : ℕ → Type 0
   pub came : List Request → Type 0
 
--- what is seen of a machine in a state
-abbrev pub view : {A S : Type 0} → (A → S → ℕ → List ℕ) → (A → S → ℕ → Type 0) → (A → S → List Request → Type 0) → A → S → View
-view replies settled came behind state = record { replies = replies behind state; settled = settled behind state; came = came behind state }
+-- what is seen of a machine, part by part
+abbrev pub seen : (ℕ → List ℕ) → (ℕ → Type 0) → (List Request → Type 0) → View
+seen replies settled came = record { replies = replies; settled = settled; came = came }
 
 -- what is known of the bytes at both ends: those to be read at first and those that rest, those written at first and those kept now
 pub record Ends : Type 0 where

@@ -2,12 +2,11 @@
 ghost use Rattle.std.specs.Prelude.{◌≡◌, [], ℕ, List, ⊤};
 ghost use Rattle.bl_wire.specs.Watch.{end_state};
 ghost use Rattle.bl_engine.specs.Parts.{MayTake, PutsPart, SameAbove, next_behind, rest_of};
-ghost use Rattle.bl_engine.specs.Spoken.{reply_to};
+ghost use Rattle.bl_engine.specs.BlockText.{reply_to};
 ghost use Rattle.bl_engine.specs.declared.conversation.Closing.{Closing};
 ghost use Rattle.bl_engine.specs.Greetings.{greeting_of};
 
-use crate::behind::Opening;
-use crate::conversation::Closing;
+use crate::conversation::{Closing, Opening};
 use bl_wire::put::put;
 use bl_wire::reply::{put_bad, put_refused};
 use bl_wire::turn::Pending;

@@ -4,7 +4,6 @@
 ghost use Rattle.std.specs.Prelude.{◌≡◌, ◌+◌, ◌≤◌, ◌<◌, ◌^◌, ◌++◌, ◌∷◌, [], ◌⊎◌, ℕ, List, Bool, true, false, Option, Some, None, IfOk, OnOk, IfErr, IfSome, length, take, drop};
 ghost use Rattle.bl_engine.specs.Unopened.{is_unopened};
 
-use crate::behind::Opening;
 use crate::block::{Replies, greeting, put_reply};
 use crate::request::Request;
 use bl_wire::fault::SessionFault;
@@ -35,6 +34,15 @@ pub enum Need {
     Room,
     /// Nothing: all was said.
     Over,
+}
+
+/// How the machine takes a subject who asks for a session.
+#[derive(Clone, Copy, Debug, PartialEq, Eq)]
+pub enum Opening {
+    /// The session is open.
+    Open,
+    /// There are as many sessions as there may be, and none was opened.
+    Full,
 }
 
 /// What closes that which is told.

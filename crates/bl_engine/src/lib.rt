@@ -1,9 +1,5 @@
-//! The engine of a session: it reads the lines that a client sends, has them answered by whatever machine stands behind it, and
-//! writes the replies.
-//!
-//!     session    the engine: reads lines, has them answered, writes the replies
-//!     replies    the replies to the lines of a block
-//!     behind     what stands behind a session
+//! The engine of a session: a value that turns the bytes of a client into requests to a machine, and the machine's replies into bytes.
+//! It calls no reader, no writer and no machine of its own accord.
 //!
 //!     conversation    a session as a value: bytes become requests, and replies bytes
 //!     request         what a conversation asks
@@ -12,11 +8,8 @@
 //!     laws            what holds of each conversation
 #![tactic(auto)]
 
-pub mod behind;
 pub mod block;
 pub mod conversation;
 pub mod driver;
 pub mod laws;
-mod replies;
 pub mod request;
-pub mod session;

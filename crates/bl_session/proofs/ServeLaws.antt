@@ -1,9 +1,10 @@
 -- What is asked of the machine of one worker, and what is written.
-use Rattle.std.proofs.Common.{◌≡◌, ℕ, ◌<◌, Bool, true, false, ◌⊎◌, inl, inr, List, [], length, refl, subst, arith, Option, Some}
+use Rattle.std.proofs.Common.{◌≡◌, ℕ, ◌<◌, Bool, false, ◌⊎◌, inl, inr, List, [], length, refl, subst, arith, Option, Some}
 use Rattle.std.specs.Prelude.{Result, Ok, Err, OnOk, IfErr}
 use mathlib.Core.Path.{fun_ext}
 use Rattle.std.specs.Io.KnownBytes.{Appends}
-use Rattle.std.proofs.KnownBytes.{Appends-nil}
+use Rattle.std.proofs.KnownBytes.{Appends-nil, Consumes-nil}
+use Rattle.std.proofs.lemmas.List.Elements.{All-nil}
 use Rattle.std.specs.Str.{bytes_eq}
 use Rattle.std.proofs.lemmas.List.Quantifiers.{position-Some}
 use Rattle.bl_level.specs.Table.{place_of}
@@ -24,9 +25,9 @@ use Rattle.bl_wire.specs.Replies.{line_text}
 use Rattle.bl_wire.specs.Texts.{session_text}
 use Rattle.bl_engine.specs.Requests.{SameUpTo}
 use Rattle.bl_engine.specs.View.{ends}
-use Rattle.bl_engine.specs.Stages.{Finished, Stopped}
-use Rattle.bl_engine.proofs.Steps.{seen}
-use Rattle.bl_engine.proofs.Cuttings.{cutting_start, broken_after}
+use Rattle.bl_engine.specs.Outcome.{Finished, Stopped}
+use Rattle.bl_engine.specs.View.{seen}
+use Rattle.bl_engine.proofs.LineLaws.{AreLines-nil}
 use Rattle.bl_session.specs.declared.entries.Pages.{Pages}
 use Rattle.bl_session.specs.One.{Kept, one_state}
 use Rattle.bl_session.specs.Outcome.{IsServed, IsCutShort}
@@ -98,7 +99,16 @@ pub unserved : (setup : Setup) (limit : ℕ) (start kept : Option (List ℕ)) (r
     → IsCutShort setup limit Memory (record { before = start; after = start; failed = read_failed }) (record { before = kept; after = kept; failed = write_failed })
 unserved setup limit start kept read_failed write_failed reader writer = record {
   turns = [];
-  read = broken_after true _ _ _ 16777216 [] (cutting_start setup.names start 16777216 refl) Memory read_failed write_failed reader writer;
+  read = record {
+    bytes = [];
+    part = [];
+    took = Consumes-nil start;
+    within = omega arith;
+    lines = inl AreLines-nil;
+    dropped = All-nil (λ y. y ≡ 10 → ⊥);
+    are = tt;
+    why = (reader, writer);
+  };
   stops = tt;
   unread = λ refused. absurd refused;
   written = [];

@@ -22,7 +22,7 @@ use Rattle.bl_engine.specs.declared.request.Request.{Request}
 use Rattle.bl_engine.specs.declared.request.Request.TheVariants.{Opens, Admits, Settles}
 use Rattle.bl_engine.specs.View.{Ends, ends}
 use Rattle.bl_engine.specs.Driving.{Exchange, IsDriven, Listened, ToldAll, nothing_yet, with_line}
-use Rattle.bl_engine.specs.declared.behind.Opening.TheVariants.{Open}
+use Rattle.bl_engine.specs.declared.conversation.Opening.TheVariants.{Open}
 use Rattle.bl_engine.specs.declared.conversation.Closing.{Closing}
 use Rattle.bl_engine.specs.declared.conversation.Closing.TheVariants as closings
 use Rattle.bl_engine.specs.declared.conversation.Conversation.{Conversation}

@@ -21,7 +21,7 @@ use Rattle.bl_engine.specs.Requests.{told_of}
 use Rattle.bl_session.specs.One.{Fate, Kept, Starved, Unrun, events_by, place_events, run_from, settling, fits, events_of, one, one_state}
 use Rattle.bl_session.specs.OneTrail.{IsOneTrail}
 use Rattle.bl_session.specs.Pages.{RanUpTo}
-use Rattle.bl_engine.specs.Spoken.{Begins}
+use Rattle.bl_engine.specs.BlockText.{Begins}
 use Rattle.bl_session.proofs.RunLaws.{state_after-append, setup_after, limit_after, ran_place, ran_line}
 use Rattle.bl_session.proofs.ServeLaws.{subject_of}
 

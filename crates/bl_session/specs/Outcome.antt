@@ -7,8 +7,8 @@ use Rattle.bl_wire.specs.declared.fault.SessionFault.{SessionFault}
 use Rattle.bl_wire.specs.declared.turn.Turn.{Turn}
 use Rattle.bl_wire.specs.Lines.{lines_of, AreLines}
 use Rattle.bl_wire.specs.Turns.{AreTurns, IsRefusal, StopsAtRefusal}
-use Rattle.bl_engine.specs.Spoken.{Begins, LacksTheLast}
-use Rattle.bl_engine.specs.Stages.{Broken, IsPutAt}
+use Rattle.bl_engine.specs.BlockText.{Begins}
+use Rattle.bl_engine.specs.Outcome.{Broken, IsPutAt, WereHeard}
 use Rattle.bl_wire.specs.Replies.{line_text}
 use Rattle.bl_session.specs.One.{Fate, one_state}
 use Rattle.bl_session.specs.Transcript.{transcript}
@@ -27,8 +27,8 @@ pub record IsServed (setup : Setup) (limit : ℕ) (reader writer : Use) : Type 0
   pub put : Appends writer.before writer.after (transcript setup limit fate turns)
   pub fine : (reader.failed ≡ false) × (writer.failed ≡ false)
 
--- The session ended early. What is written begins the transcript of the lines that were read, but perhaps the last. Where
--- reading failed it is all blocks whose `wait` came. Where memory was refused it is they as well, but the block that the last
+-- The session ended early. What is written begins the transcript of the lines that were heard: all that were read, but where memory
+-- was refused perhaps not the last. Where reading failed it is all blocks whose `wait` came. Where memory was refused it is they as well, but the block that the last
 -- line closes may be lacking. Where writing failed a part of what is written next may follow. Of what stands behind a first
 -- line that was refused nothing was read.
 pub record IsCutShort (setup : Setup) (limit : ℕ) (fault : SessionFault) (reader writer : Use) : Type 0 where
@@ -39,7 +39,7 @@ pub record IsCutShort (setup : Setup) (limit : ℕ) (fault : SessionFault) (read
   pub written : List ℕ
   pub put : Appends writer.before writer.after written
   pub heard : List Turn
-  pub heard_is : LacksTheLast heard turns
+  pub heard_is : WereHeard fault heard turns
   pub fate : ℕ → Fate
   pub begins : Begins written (transcript setup limit fate heard)
   pub closed : IsPutAt fault (line_text (one_state setup limit fate heard) 0) reader.before reader.after turns heard written

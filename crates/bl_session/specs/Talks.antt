@@ -9,7 +9,7 @@ use Rattle.bl_engine.specs.Driving.{Exchange, HasListened, IsDriven}
 use Rattle.bl_engine.specs.Parts.{SameWithin}
 use Rattle.bl_engine.specs.declared.request.Request.{Request}
 use Rattle.bl_engine.specs.View.{Ends, View}
-use Rattle.bl_engine.specs.declared.behind.Opening.TheVariants.{Open}
+use Rattle.bl_engine.specs.declared.conversation.Opening.TheVariants.{Open}
 use Rattle.bl_engine.specs.declared.conversation.Conversation.{Conversation}
 use Rattle.bl_session.specs.declared.entries.Pages.{Pages}
 use Rattle.bl_session.specs.Pages.{AreLater, Came, IsOpen}

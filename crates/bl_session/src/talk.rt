@@ -6,16 +6,15 @@ ghost use Rattle.bl_hall.specs.Chronicle.{state_now};
 ghost use Rattle.bl_wire.specs.declared.fault.SessionFault.TheVariants.{Clash};
 ghost use Rattle.bl_engine.specs.Conversations.{waits_left};
 ghost use Rattle.bl_engine.specs.declared.request.Request.TheVariants.{Settles};
-ghost use Rattle.bl_engine.specs.Stages.{Finished, Stopped};
+ghost use Rattle.bl_engine.specs.Outcome.{Finished, Stopped};
 ghost use Rattle.bl_engine.specs.View.{ends};
 ghost use Rattle.bl_session.specs.Pages.{AreLater, Came};
 ghost use Rattle.bl_session.specs.Talks.{IsAsking, IsUnderWay, seen_of};
 
 use crate::block::Block;
 use crate::entries::{Alone, Pages};
-use bl_engine::behind::Opening;
 use bl_engine::block::{NoReplies, Replies};
-use bl_engine::conversation::{Conversation, Need};
+use bl_engine::conversation::{Conversation, Need, Opening};
 use bl_engine::driver::{Listener, listen, tell_all};
 use bl_engine::request::Request;
 use bl_wire::fault::SessionFault;

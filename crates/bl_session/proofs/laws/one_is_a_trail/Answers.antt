@@ -1,5 +1,6 @@
 use Rattle.bl_session.proofs.TrailLaws.{is_run, turns_stand, small_turns, first_turns}
 use Rattle.bl_wire.specs.Lines.{lines_of}
+use Rattle.bl_engine.proofs.Breaking.{heard_front}
 use Rattle.bl_session.proofs.laws.one_is_a_trail.Goals as goal
 
 pub returns : goal.returns
@@ -11,6 +12,6 @@ returns c =
           run setup limit served.fate served.turns agree (turns_stand setup.names (lines_of served.bytes) served.turns served.are)
           (small_turns setup.names served.bytes served.turns served.are served.within);
       cut = λ setup limit fault reader writer agree cut.
-          let heard = first_turns setup.names cut.read.bytes cut.read.part cut.heard cut.turns cut.read.are cut.read.within (cut.heard_is.0, cut.heard_is.2) in
+          let heard = first_turns setup.names cut.read.bytes cut.read.part cut.heard cut.turns cut.read.are cut.read.within (heard_front fault cut.heard cut.turns cut.heard_is) in
           run setup limit cut.fate cut.heard agree heard.0 heard.1;
     }

@@ -4,7 +4,7 @@ use Rattle.bl_hall.specs.Chronicle.{state_now}
 use Rattle.bl_wire.specs.Replies.{line_text}
 use Rattle.bl_wire.specs.declared.fault.SessionFault.{SessionFault}
 use Rattle.bl_wire.specs.declared.fault.SessionFault.TheVariants.{Memory}
-use Rattle.bl_engine.specs.Stages.{Stopped}
+use Rattle.bl_engine.specs.Outcome.{Stopped}
 use Rattle.bl_engine.specs.View.{ends}
 use Rattle.bl_engine.proofs.Breaking.{broken_before, broken_handing, broken_listening, broken_quiet, broken_telling, driven_finished, driven_kept}
 use Rattle.bl_engine.proofs.Driving.{spoke_with}

@@ -4,7 +4,7 @@ use Rattle.bl_wire.specs.Replies.{line_text}
 use Rattle.bl_wire.specs.declared.fault.SessionFault.{SessionFault}
 use Rattle.bl_wire.specs.declared.fault.SessionFault.TheVariants.{Memory}
 use Rattle.bl_engine.specs.Conversations.{last_ordinal}
-use Rattle.bl_engine.specs.Stages.{Stopped}
+use Rattle.bl_engine.specs.Outcome.{Stopped}
 use Rattle.bl_engine.specs.View.{ends}
 use Rattle.bl_engine.proofs.Breaking.{broken_settled, broken_telling}
 use Rattle.bl_engine.proofs.Outcomes.{on_ok-map, if_err-both}

@@ -1,5 +1,5 @@
 use Rattle.std.proofs.Common.{◌≡◌, ◌+◌, ◌++◌, inl, inr, refl, ap, ◌∙◌, append-nil}
-use Rattle.bl_engine.specs.Spoken.{reply_to}
+use Rattle.bl_engine.specs.BlockText.{reply_to}
 use Rattle.bl_engine.specs.Parts.{rest_of}
 use Rattle.bl_engine.specs.Conversations.{talk_of}
 use Rattle.bl_engine.proofs.Tellings.{part_more, part_last}

@@ -1,5 +1,5 @@
--- How far a session has come, from its first byte on.
-use Rattle.std.specs.Prelude.{◌≡◌, ℕ, ◌+◌, ◌≤◌, ◌<◌, Bool, true, false, List, [], ◌∷◌, ◌++◌, length, Option, Some, None, OnSome, ◌⊎◌, replicate, codes, take}
+-- How a session ends.
+use Rattle.std.specs.Prelude.{◌≡◌, ℕ, ◌+◌, ◌≤◌, Bool, true, false, List, [], ◌++◌, length, Option, OnSome, ◌⊎◌, replicate, codes, take}
 use Rattle.std.specs.Io.KnownBytes.{Consumes, Appends, IsAtEnd}
 use Rattle.bl_work.specs.Names.{KnownNames}
 use Rattle.bl_wire.specs.Lines.{lines_of, AreLines, HasNoLf}
@@ -7,12 +7,23 @@ use Rattle.bl_wire.specs.Reads.{HasMore}
 use Rattle.bl_wire.specs.declared.fault.SessionFault.{SessionFault}
 use Rattle.bl_wire.specs.declared.fault.SessionFault.TheVariants.{Read, Write, TooLong, Memory, Clash}
 use Rattle.bl_wire.specs.declared.turn.Turn.{Turn}
-use Rattle.bl_wire.specs.declared.turn.Pending.{Pending}
-use Rattle.bl_wire.specs.Turns.{AreTurns, AreSkips, IsOpening, IsRefusal, StopsAtRefusal, HasNoWait, is_skip}
+use Rattle.bl_wire.specs.Turns.{AreTurns, AreSkips, IsOpening, IsRefusal, StopsAtRefusal, HasNoWait}
+use Rattle.bl_wire.specs.Texts.{text_of, session_text, ok_line, refused_hello, bye_line}
 use Rattle.bl_engine.specs.Requests.{Request, Settles, told_by, SameUpTo}
+use Rattle.bl_engine.specs.BlockText.{Begins}
 use Rattle.bl_engine.specs.View.{View, Ends}
-use Rattle.bl_wire.specs.Texts.{text_of, session_text, ok_line, bye_line, refused_hello}
-use Rattle.bl_engine.specs.Spoken.{Spoken, Begins, LacksTheLast, is_reading}
+
+-- what was heard of these lines: all of them, but perhaps the last
+abbrev pub LacksTheLast : List Turn → List Turn → Type 0
+LacksTheLast heard turns = (last : List Turn) × (length last ≤ 1) × (turns ≡ heard ++ last)
+
+-- whether the fault came when lines were read
+abbrev pub is_reading : SessionFault → Bool
+is_reading Read = true
+is_reading Write = false
+is_reading TooLong = true
+is_reading Memory = false
+is_reading Clash = false
 
 -- the lines that were consumed: more may come, or these are all
 abbrev pub IsCut : Bool → List ℕ → List (List ℕ) → Option (List ℕ) → Option (List ℕ) → Type 0
@@ -27,44 +38,6 @@ pub record Cutting (again : Bool) (names : KnownNames) (start rest : Option (Lis
   pub took : Consumes start rest bytes
   pub count : left + length bytes ≡ 16777216
   pub are : AreTurns names lines turns
-
--- reading one line more: there was none, or it is this turn
-abbrev pub ReadsOn : Option (Turn × Bool) → KnownNames → Option (List ℕ) → Option (List ℕ) → ℕ → List Turn → Type 0
-ReadsOn None names start rest left turns = Cutting false names start rest left turns
-ReadsOn (Some found) names start rest left turns = Cutting found.1 names start rest left (turns ++ found.0 ∷ [])
-
--- a line that ended by its LF took a byte
-abbrev pub IsNearer : Option (Turn × Bool) → ℕ → ℕ → Type 0
-IsNearer None was left = left ≤ was
-IsNearer (Some found) was left = (left ≤ was) × (found.1 ≡ true → left < was)
-
--- only lines that are skipped were read
-pub record Unheard (again : Bool) (names : KnownNames) (start rest : Option (List ℕ)) (left : ℕ) : Type 0 where
-  pub turns : List Turn
-  pub read : Cutting again names start rest left turns
-  pub quiet : AreSkips turns
-
--- this is the first line that isn't skipped
-pub record HeardFirst (turn : Turn) (again : Bool) (names : KnownNames) (start rest : Option (List ℕ)) (left : ℕ) : Type 0 where
-  pub turns : List Turn
-  pub read : Cutting again names start rest left (turns ++ turn ∷ [])
-  pub quiet : AreSkips turns
-
--- all lines are skipped, or this is the first one that isn't
-abbrev pub IsFirst : Option (Turn × Bool) → KnownNames → Option (List ℕ) → Option (List ℕ) → ℕ → Type 0
-IsFirst None names start rest left = Unheard false names start rest left
-IsFirst (Some found) names start rest left = HeardFirst found.0 found.1 names start rest left × (is_skip found.0 ≡ false)
-
--- between two lines of a session that is open
-pub record Stage (again : Bool) (names : KnownNames) (ends : Ends) (left : ℕ) (view : View) (after : ℕ) (pending : List Pending) : Type 0 where
-  pub subject : ℕ
-  pub head : List Turn
-  pub turns : List Turn
-  pub written : List ℕ
-  pub opened : IsOpening subject head
-  pub read : Cutting again names ends.start ends.rest left (head ++ turns)
-  pub put : Appends ends.first ends.kept (ok_line ++ written)
-  pub spoken : Spoken view subject after pending turns written
 
 -- The input was read to its end, or to the end of a first line that was refused and no further, and its transcript is written.
 pub record Finished (names : KnownNames) (ends : Ends) (view : View) : Type 0 where
@@ -112,23 +85,19 @@ IsCause TooLong start rest read_failed write_failed taken = (read_failed ≡ fal
 IsCause Memory start rest read_failed write_failed taken = (read_failed ≡ false) × (write_failed ≡ false)
 IsCause Clash start rest read_failed write_failed taken = (read_failed ≡ false) × (write_failed ≡ false)
 
--- a begun line, or at want of memory a line that wasn't understood
-abbrev pub IsDropped : SessionFault → List ℕ → Type 0
-IsDropped fault part = HasNoLf part ⊎ ((fault ≡ Memory) × ((line : List ℕ) × HasNoLf line × (part ≡ line ++ 10 ∷ [])))
-
 -- the bytes are whole lines, or where it wasn't reading that stopped they may be all of an input whose last line has no LF
 abbrev pub AreWholeLines : SessionFault → List ℕ → List ℕ → Option (List ℕ) → Option (List ℕ) → Type 0
 AreWholeLines fault bytes part start rest =
     AreLines bytes (lines_of bytes) ⊎ ((is_reading fault ≡ false) × (part ≡ []) × OnSome start (IsAtEnd rest))
 
--- these turns were read whole, and then a part that is dropped
+-- these turns were read whole, and then a part of a line that is dropped
 pub record Broken (fault : SessionFault) (names : KnownNames) (start rest : Option (List ℕ)) (read_failed write_failed : Bool) (turns : List Turn) : Type 0 where
   pub bytes : List ℕ
   pub part : List ℕ
   pub took : Consumes start rest (bytes ++ part)
   pub within : length (bytes ++ part) ≤ 16777216
   pub lines : AreWholeLines fault bytes part start rest
-  pub dropped : IsDropped fault part
+  pub dropped : HasNoLf part
   pub are : AreTurns names (lines_of bytes) turns
   pub why : IsCause fault start rest read_failed write_failed (length (bytes ++ part))
 
@@ -171,8 +140,16 @@ IsPutAt Write replies start rest turns heard written =
     ((done : List ℕ) × AreWholeBefore replies turns done × Begins done written) × IsDuePart replies start rest heard written
 IsPutAt Clash replies start rest turns heard written = AreWholeBefore replies turns written
 
--- The session ended early. What is written begins the transcript of the lines that were heard, which are those that were
--- read but perhaps the last, whatever is answered later. What was told is what these lines tell, but for settling. Nothing
+-- What was heard of the lines that were read: all of them, or where memory was refused or somebody else spoke for the session all but
+-- perhaps the last.
+abbrev pub WereHeard : SessionFault → List Turn → List Turn → Type 0
+WereHeard Read heard turns = heard ≡ turns
+WereHeard Write heard turns = heard ≡ turns
+WereHeard TooLong heard turns = heard ≡ turns
+WereHeard Memory heard turns = LacksTheLast heard turns
+WereHeard Clash heard turns = LacksTheLast heard turns
+
+-- The session ended early. What is written begins the transcript of the lines that were heard, whatever is answered later. What was told is what these lines tell, but for settling. Nothing
 -- was read behind a first line that was refused.
 pub record Stopped (fault : SessionFault) (names : KnownNames) (ends : Ends) (read_failed write_failed : Bool) (view : View) : Type 0 where
   pub turns : List Turn
@@ -186,17 +163,8 @@ pub record Stopped (fault : SessionFault) (names : KnownNames) (ends : Ends) (re
   pub told : List Request
   pub came : view.came told
   pub heard : List Turn
-  pub heard_is : LacksTheLast heard turns
+  pub heard_is : WereHeard fault heard turns
   pub settles : ℕ
   pub told_is : told_by heard ≡ told ++ replicate settles Settles
   pub begins : (later : ℕ → List ℕ) → SameUpTo upto view.replies later → Begins written (session_text later heard)
   pub closed : (later : ℕ → List ℕ) → SameUpTo upto view.replies later → IsPutAt fault later ends.start ends.rest turns heard written
-
--- a session ended: its transcript is written, or, where sessions may be full, it was turned away
-abbrev pub HasEnded : KnownNames → Ends → View → (Fills : Type 0) → Type 0
-HasEnded names ends view Fills = Finished names ends view ⊎ (Fills × TurnedAway names ends view (refused_sessions ++ bye_line))
-
--- a session ended early, while it was served or while it was turned away
-abbrev pub HasBroken : SessionFault → KnownNames → Ends → (read_failed write_failed : Bool) → View → (Fills : Type 0) → Type 0
-HasBroken fault names ends read_failed write_failed view Fills =
-    Stopped fault names ends read_failed write_failed view ⊎ (Fills × TurnedAwayInPart fault names ends read_failed write_failed view (refused_sessions ++ bye_line))
