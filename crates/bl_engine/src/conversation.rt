@@ -285,7 +285,6 @@ impl Conversation {
                 taken,
                 request: None,
             }),
-            Part::Nothing => unreachable!(),
         }
     }
 

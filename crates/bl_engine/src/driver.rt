@@ -1,6 +1,6 @@
 //! What a driver that may wait does with one conversation: it has heard what a reader shows, and writes what is told. What was written
 //! is handed on before a read that may wait.
-ghost use Rattle.std.specs.Prelude.{◌≡◌, ◌+◌, ◌<◌, false, true, IfErr, IfOk, None, OnOk};
+ghost use Rattle.std.specs.Prelude.{◌≡◌, ◌+◌, ◌<◌, false, true, not, IfErr, OnOk};
 ghost use Rattle.std.specs.Io.KnownBytes.{Keeps};
 ghost use Rattle.bl_wire.specs.declared.fault.SessionFault.TheVariants.{Write};
 ghost use Rattle.bl_engine.specs.Driving.{HearsAs, IsUnheard, Listened, ToldAll, ToldPart};
@@ -13,7 +13,6 @@ use crate::conversation::{Conversation, Need};
 use crate::request::Request;
 use bl_wire::ear::Ear;
 use bl_wire::fault::SessionFault;
-use bl_wire::lines::hand_on;
 use bl_wire::watched::Watched;
 use bl_work::names::Names;
 use std::alloc::Global;
@@ -42,6 +41,17 @@ impl Ear for Listener<'_> {
             Err(fault) => Err(fault),
         }
     }
+}
+
+/// Hands on what was written, unless the reader has bytes at hand, so that no reply stays back while the next read waits. It
+/// says whether that was done; otherwise the writer is marked.
+fn hand_on<R: BufRead, W: Write>(reader: &Watched<R>, writer: &mut Watched<W>) -> bool
+    requires { writer.old.failed ≡ false }
+    ensures handed_on { result ≡ true → reader.now.at_hand ≡ false → writer.new.unflushed ≡ false }
+    ensures bytes { Keeps (W.contents writer.old.inner) (W.contents writer.new.inner) }
+    ensures failed { writer.new.failed ≡ not result }
+{
+    reader.at_hand() || !writer.unflushed() || writer.flush()
 }
 
 /// Has heard what the reader shows, or that its input is at its end. After a fault nothing is taken from the reader, and the

@@ -1,5 +1,5 @@
 -- The texts of labels, piece by piece.
-use Rattle.std.proofs.Common.{◌≡◌, ℕ, zero, suc, ◌+◌, ◌<◌, List, [], ◌∷◌, ◌++◌, length, take, refl, sym, ap, ◌∙◌, append_assoc, add-one, arith, codes, decimal, slice_index}
+use Rattle.std.proofs.Common.{◌≡◌, ℕ, ◌+◌, ◌<◌, List, [], ◌∷◌, ◌++◌, length, take, sym, ap, ◌∙◌, append_assoc, add-one, codes, decimal, slice_index}
 use Rattle.std.proofs.Math.Seq.{take-suc}
 use Rattle.bl_wire.specs.Replies.{label_text}
 

@@ -1,6 +1,5 @@
 pub mod Faults
 pub mod Watch
-pub mod Asked
 pub mod Lines
 pub mod Look
 pub mod HoldsLine

@@ -1,5 +1,5 @@
 //! Who hears the bytes that a reader shows.
-ghost use Rattle.std.specs.Prelude.{◌≡◌, ◌<◌, ◌≤◌, false, List, ℕ, Result, Err, IfOk, IfErr, length};
+ghost use Rattle.std.specs.Prelude.{◌≡◌, ◌<◌, ◌≤◌, false, List, ℕ, Result, Err, IfOk, IfErr, length, nat_lt};
 ghost use Rattle.bl_wire.specs.Faults.{is_read, is_write};
 ghost use Rattle.bl_wire.specs.Handing.{HandsNone, HandsOver, HearsShown};
 ghost use Rattle.bl_wire.specs.declared.fault.SessionFault.{SessionFault};
@@ -37,6 +37,7 @@ pub struct Handed {
 pub(crate) fn hand_shown<E: Ear>(ear: &mut E, shown: &[u8]) -> Result<Handed, SessionFault>
     requires { E.listens ear.old }
     ensures ok { IfOk result (λ handed. HearsShown E.hears handed shown.now ear.old ear.new) }
+    ensures at_hand { IfOk result (λ handed. handed.at_hand ≡ nat_lt handed.bytes (length shown.now)) }
     ensures err { IfErr result (λ fault. (0 < length shown.now) × E.hears ear.old shown.now (Err fault) ear.new) }
     ensures fault { IfErr result (λ fault. (is_read fault ≡ false) × (is_write fault ≡ false)) }
 {
@@ -63,8 +64,8 @@ pub(crate) fn hand_over<R: Source, E: Ear>(
     ear: &mut E,
 ) -> Result<Handed, SessionFault>
     requires { E.listens ear.old }
-    ensures ok { IfOk result (λ handed. HandsOver E.hears handed (R.remaining reader.old) (R.remaining reader.new) ear.old ear.new) }
-    ensures err { IfErr result (λ fault. HandsNone E.hears fault (R.remaining reader.old) (R.remaining reader.new) ear.old ear.new) }
+    ensures ok { IfOk result (λ handed. HandsOver (R.shows reader.old) E.hears handed (R.remaining reader.old) (R.remaining reader.new) ear.old ear.new) }
+    ensures err { IfErr result (λ fault. HandsNone (R.shows reader.old) E.hears fault (R.remaining reader.old) (R.remaining reader.new) ear.old ear.new) }
     ensures fault { IfErr result (λ fault. is_write fault ≡ false) }
 {
     let handed = match reader.show() {

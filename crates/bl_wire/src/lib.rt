@@ -5,7 +5,6 @@
 //!     ear        who hears the bytes that a reader shows
 //!     fault      why a session ends early
 //!     part       the part of a line among the bytes that a reader shows
-//!     lines      cuts a reader's bytes into lines
 //!     held       a line while it comes
 //!     turn       what a line is to a session
 //!     words      writes answers
@@ -17,7 +16,6 @@ pub mod ear;
 pub mod ends;
 pub mod fault;
 pub mod held;
-pub mod lines;
 pub mod part;
 pub mod put;
 pub mod reply;

@@ -1,11 +1,7 @@
 //! The part of a line that stands at the front of what a reader shows.
-ghost use Rattle.std.specs.Prelude.{◌≡◌, ◌==◌, false, ◌<◌, nat_lt, IfSome, IfOk, IfErr, None, length, position};
-ghost use Rattle.bl_wire.specs.Asked.{IsAsked};
-ghost use Rattle.bl_wire.specs.Faults.{is_read, is_write};
-ghost use Rattle.bl_wire.specs.Reads.{Scanned, TookPart, Keeping};
+ghost use Rattle.std.specs.Prelude.{◌≡◌, ◌==◌, ◌<◌, IfSome, None, length, position};
+ghost use Rattle.bl_wire.specs.Reads.{Scanned};
 
-use crate::ends::Source;
-use crate::fault::SessionFault;
 use crate::held::Held;
 use memchr::memchr;
 
@@ -16,17 +12,13 @@ pub enum Part {
     Ends,
     /// With more to come.
     More,
-    /// There was nothing.
-    Nothing,
 }
 
-/// What was taken of the bytes that a reader showed: how many, how the part of the line among them ended, and whether more bytes
-/// were shown and are still at hand.
+/// How many of the bytes that were shown belong to a line, and how the part of the line among them ended.
 #[derive(Clone, Copy, Debug, PartialEq, Eq)]
-pub struct Taken {
+pub struct Found {
     pub bytes: usize,
     pub part: Part,
-    pub at_hand: bool,
 }
 
 fn lf_place(bytes: &[u8]) -> Option<usize>
@@ -35,20 +27,13 @@ fn lf_place(bytes: &[u8]) -> Option<usize>
     memchr(b'\n', bytes)
 }
 
-/// Looks at what the reader shows, up to an LF or `left` bytes, and says which of the bytes
-/// are to be taken. `None` where a byte is shown and none may be taken.
-pub fn scan(shown: &[u8], held: &mut Held, left: usize) -> Option<Taken>
+/// Looks at what a reader shows, up to an LF or `left` bytes, holds what belongs to the line, and says which of the bytes are to be
+/// taken. `None` where none may be taken.
+pub fn scan(shown: &[u8], held: &mut Held, left: usize) -> Option<Found>
+    requires { 0 < length shown.now }
     ensures found { IfSome result (λ found. Scanned found.bytes found.part shown.now held.old held.new left) }
-    ensures at_hand { IfSome result (λ found. found.at_hand ≡ nat_lt found.bytes (length shown.now)) }
-    ensures none { result ≡ None → (left ≡ 0) × (0 < length shown.now) }
+    ensures none { result ≡ None → left ≡ 0 }
 {
-    if shown.len() == 0 {
-        return Some(Taken {
-            bytes: 0,
-            part: Part::Nothing,
-            at_hand: false,
-        });
-    }
     if left == 0 {
         return None;
     }
@@ -56,45 +41,17 @@ pub fn scan(shown: &[u8], held: &mut Held, left: usize) -> Option<Taken>
     match lf_place(&shown[..most]) {
         Some(at) => {
             held.add(&shown[..at]);
-            Some(Taken {
+            Some(Found {
                 bytes: at + 1,
                 part: Part::Ends,
-                at_hand: at + 1 < shown.len(),
             })
         }
         None => {
             held.add(&shown[..most]);
-            Some(Taken {
+            Some(Found {
                 bytes: most,
                 part: Part::More,
-                at_hand: most < shown.len(),
             })
         }
-    }
-}
-
-/// Asks a reader for bytes, and takes of those that it shows the line's: up to an LF, or `left`
-/// bytes. After a fault nothing is taken.
-pub(crate) fn take_shown<R: Source>(
-    reader: &mut R,
-    held: &mut Held,
-    left: &mut usize,
-) -> Result<Taken, SessionFault>
-    ensures ok { IfOk result (λ taken. TookPart taken.part (R.remaining reader.old) (R.remaining reader.new) held.old held.new left.old left.new) }
-    ensures err { IfErr result (λ fault. Keeping fault (R.remaining reader.old) (R.remaining reader.new) (is_read fault) left.old left.new) }
-    ensures fault { IfErr result (λ fault. is_write fault ≡ false) }
-    ensures asked { IsAsked (R.shows reader.old) result }
-{
-    let found = match reader.show() {
-        Ok(shown) => scan(shown, held, *left),
-        Err(_) => return Err(SessionFault::Read),
-    };
-    match found {
-        Some(taken) => {
-            reader.consume(taken.bytes);
-            *left -= taken.bytes;
-            Ok(taken)
-        }
-        None => Err(SessionFault::TooLong),
     }
 }

@@ -4,16 +4,12 @@
 //! library's call answered is trusted (ends.rt).
 ghost use Rattle.std.specs.Prelude.{◌≡◌, ◌==◌, ◌≤◌, ◌<◌, nat_lt, false, not, ◌||◌, ◌&&◌, IfOk, IfErr, OnOk, length, take};
 ghost use Rattle.std.specs.Io.KnownBytes.{Keeps, Appends};
-ghost use Rattle.bl_wire.specs.Asked.{IsAsked};
 ghost use Rattle.bl_wire.specs.Faults.{is_read, is_write};
 ghost use Rattle.bl_wire.specs.Handing.{HandsNone, HandsOver};
-ghost use Rattle.bl_wire.specs.Reads.{TookPart, Keeping};
 
 use crate::ear::{Ear, Handed, hand_over};
 use crate::ends::{Source, Target};
 use crate::fault::SessionFault;
-use crate::held::Held;
-use crate::part::{Taken, take_shown};
 use std::marker::Model;
 
 /// A reader or a writer, whether a call of it failed, whether something was written to it
@@ -91,8 +87,8 @@ impl<R: Source> Watched<R> {
     pub fn hand_over<E: Ear>(&mut self, ear: &mut E) -> Result<Handed, SessionFault>
         requires fine { self.old.failed ≡ false }
         requires listens { E.listens ear.old }
-        ensures ok { IfOk result (λ handed. HandsOver E.hears handed (R.remaining self.old.inner) (R.remaining self.new.inner) ear.old ear.new) }
-        ensures err { IfErr result (λ fault. HandsNone E.hears fault (R.remaining self.old.inner) (R.remaining self.new.inner) ear.old ear.new) }
+        ensures ok { IfOk result (λ handed. HandsOver (R.shows self.old.inner) E.hears handed (R.remaining self.old.inner) (R.remaining self.new.inner) ear.old ear.new) }
+        ensures err { IfErr result (λ fault. HandsNone (R.shows self.old.inner) E.hears fault (R.remaining self.old.inner) (R.remaining self.new.inner) ear.old ear.new) }
         ensures fine { OnOk result (self.new.failed ≡ false) }
         ensures failed { IfErr result (λ fault. self.new.failed ≡ is_read fault) }
         ensures fault { IfErr result (λ fault. is_write fault ≡ false) }
@@ -102,33 +98,6 @@ impl<R: Source> Watched<R> {
             Ok(handed) => {
                 self.at_hand = handed.at_hand;
                 Ok(handed)
-            }
-            Err(fault) => {
-                self.failed = fault.is_read();
-                Err(fault)
-            }
-        }
-    }
-
-    /// Asks for bytes, and takes of those that are shown the line's: up to an LF, or `left` bytes.
-    /// After a fault nothing is taken. A reader that failed is marked.
-    pub(crate) fn take_part(
-        &mut self,
-        held: &mut Held,
-        left: &mut usize,
-    ) -> Result<Taken, SessionFault>
-        requires { self.old.failed ≡ false }
-        ensures ok { IfOk result (λ taken. TookPart taken.part (R.remaining self.old.inner) (R.remaining self.new.inner) held.old held.new left.old left.new) }
-        ensures err { IfErr result (λ fault. Keeping fault (R.remaining self.old.inner) (R.remaining self.new.inner) self.new.failed left.old left.new) }
-        ensures fine { OnOk result (self.new.failed ≡ false) }
-        ensures fault { IfErr result (λ fault. is_write fault ≡ false) }
-        ensures asked { IsAsked (R.shows self.old.inner) result }
-        ensures at_hand { IfOk result (λ taken. self.new.at_hand ≡ taken.at_hand) }
-    {
-        match take_shown(&mut self.inner, held, left) {
-            Ok(taken) => {
-                self.at_hand = taken.at_hand;
-                Ok(taken)
             }
             Err(fault) => {
                 self.failed = fault.is_read();

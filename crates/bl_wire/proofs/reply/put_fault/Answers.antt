@@ -1,4 +1,4 @@
-use Rattle.std.proofs.Common.{rules, refl, ap, ◌≡◌, ◌++◌, ◌∙◌, codes}
+use Rattle.std.proofs.Common.{rules, ap, ◌++◌, ◌∙◌, codes}
 use Rattle.bl_wire.specs.Texts.{fault_words}
 use Rattle.bl_wire.proofs.PutLaws.{puts-two}
 use Rattle.bl_wire.proofs.reply.put_fault.Goals as goal

@@ -1,5 +1,4 @@
 use Rattle.std.proofs.Common.{codes, decimal}
-use Rattle.bl_wire.specs.Texts.{fault_words}
 use Rattle.bl_wire.proofs.PutLaws.{puts-line}
 use Rattle.bl_wire.proofs.reply.put_refused.Goals as goal
 

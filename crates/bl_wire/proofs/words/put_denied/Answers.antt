@@ -1,4 +1,4 @@
-use Rattle.std.proofs.Common.{rules, refl, ap, sym, ◌∙◌, ◌++◌, ◌≡◌, [], codes, slice_index_or}
+use Rattle.std.proofs.Common.{rules, refl, ap, ◌∙◌, ◌++◌, ◌≡◌, [], codes, slice_index_or}
 use Rattle.std.proofs.lemmas.Option.{gets}
 use Rattle.bl_policy.specs.Denial.{word_of}
 use Rattle.bl_wire.specs.Replies.{object_text, answer_text}
