@@ -91,6 +91,10 @@ module _ (gate : GateId) (first : PassView) (old : Visit) where
       go None is course = (is, course)
       go (Some s) is course = absurd (omega (arith, ap length course.opened))
 
+  -- and no line
+  pub come_zero : HasCome gate first old [] → (old.last ≡ 0) × (old.upto ≡ 0)
+  come_zero c = let last : old.last ≡ 0 = (silent c).1.last in (last, omega (arith, c.own.within, last))
+
   of_later : (new : Visit) → IsOf gate first old → Follows old.pass new.pass → new.told.items ≡ old.told.items → new.upto ≡ old.upto → old.upto ≤ new.last → IsOf gate first new
   of_later new own follows told upto within = record {
     agree = own.agree;

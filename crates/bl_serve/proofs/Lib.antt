@@ -12,3 +12,7 @@ mod Cutting
 mod Coming
 mod OutcomeLaws
 mod Speaking
+mod Faults
+mod Asking
+mod TalkLaws
+mod TalkEnds

@@ -18,6 +18,7 @@ use Rattle.bl_wire.specs.declared.fault.SessionFault.{SessionFault}
 use Rattle.bl_engine.specs.View.{View, Ends, ends}
 use Rattle.bl_engine.specs.Stages.{Finished, Stopped, TurnedAway, TurnedAwayInPart, refused_sessions}
 use Rattle.bl_serve.specs.Courses.{SpeaksForItsOwn}
+use Rattle.bl_serve.specs.Talks.{seen_of}
 use Rattle.bl_serve.specs.Told.{told_text}
 use Rattle.bl_serve.specs.Visits.{HasCome, HasTold, IsCrowded, course_of}
 use Rattle.bl_serve.specs.Outcome.{replies_alone, IsSeen, IsServed, IsCutShort, IsTranscribed, IsTranscribedInPart}
@@ -167,13 +168,10 @@ module _ (gate : GateId) (at_first : PassView) (visit : Visit) where
 -- ---- outcomes
 
 module _ (gate : GateId) (at_first before : PassView) (visit : Visit) (e : Ends) (same : at_first ≡ before) where
-  abbrev pub seen : View
-  seen = record { replies = told_text gate.base.setup.names visit.told.items; settled = λ n. n ≤ visit.upto; came = HasCome gate at_first visit }
-
   named : (told : List Request) → HasCome gate at_first visit told → All (λ (r : Reply). NamesAnswer gate.base.setup.names r.answer) visit.told.items
   named told c = all_named gate.base.setup.names visit.upto visit.told.items c.own.told
 
-  served_here : Finished gate.base.setup.names e seen ⊎ (IsCrowded visit.pass × TurnedAway gate.base.setup.names e seen (refused_sessions ++ bye_line))
+  served_here : Finished gate.base.setup.names e (seen_of gate at_first visit) ⊎ (IsCrowded visit.pass × TurnedAway gate.base.setup.names e (seen_of gate at_first visit) (refused_sessions ++ bye_line))
       → (told : List Reply) × All (λ (r : Reply). NamesAnswer gate.base.setup.names r.answer) told
       × (((f : Finished gate.base.setup.names e (replies_alone (told_text gate.base.setup.names told))) × IsTranscribed before visit.pass f.turns (session_text (told_text gate.base.setup.names told) f.turns))
       ⊎ ((a : TurnedAway gate.base.setup.names e (replies_alone (told_text gate.base.setup.names told)) (refused_sessions ++ bye_line)) × (visit.pass.own ≡ before.own) × IsSeen visit.pass 0 a.turns (refused_sessions ++ bye_line)))
@@ -181,7 +179,7 @@ module _ (gate : GateId) (at_first before : PassView) (visit : Visit) (e : Ends)
     visit.told.items,
     named (told_by f.turns) f.came,
     inl (
-      finished_plain gate.base.setup.names e seen f,
+      finished_plain gate.base.setup.names e (seen_of gate at_first visit) f,
       subst (λ (p : PassView). IsTranscribed p visit.pass f.turns (session_text (told_text gate.base.setup.names visit.told.items) f.turns)) same (whole gate at_first visit f.turns f.came),
     ),
   )
@@ -189,14 +187,14 @@ module _ (gate : GateId) (at_first before : PassView) (visit : Visit) (e : Ends)
     visit.told.items,
     named [] a.1.came,
     inr (
-      away_plain gate.base.setup.names e seen (refused_sessions ++ bye_line) a.1,
+      away_plain gate.base.setup.names e (seen_of gate at_first visit) (refused_sessions ++ bye_line) a.1,
       (silent gate at_first visit a.1.came).1.own ∙ ap (λ (p : PassView). p.own) same,
       crowded gate at_first visit a.1.subject a.1.turns a.0 a.1.opened,
     ),
   )
 
   cut_here : (fault : SessionFault) (read_failed write_failed : Bool)
-      → Stopped fault gate.base.setup.names e read_failed write_failed seen ⊎ (IsCrowded visit.pass × TurnedAwayInPart fault gate.base.setup.names e read_failed write_failed seen (refused_sessions ++ bye_line))
+      → Stopped fault gate.base.setup.names e read_failed write_failed (seen_of gate at_first visit) ⊎ (IsCrowded visit.pass × TurnedAwayInPart fault gate.base.setup.names e read_failed write_failed (seen_of gate at_first visit) (refused_sessions ++ bye_line))
       → (told : List Reply) × All (λ (r : Reply). NamesAnswer gate.base.setup.names r.answer) told
       × (((s : Stopped fault gate.base.setup.names e read_failed write_failed (replies_alone (told_text gate.base.setup.names told))) × IsTranscribedInPart before visit.pass s.heard s.written)
       ⊎ ((a : TurnedAwayInPart fault gate.base.setup.names e read_failed write_failed (replies_alone (told_text gate.base.setup.names told)) (refused_sessions ++ bye_line))
@@ -205,7 +203,7 @@ module _ (gate : GateId) (at_first before : PassView) (visit : Visit) (e : Ends)
     visit.told.items,
     named s.told s.came,
     inl (
-      stopped_plain gate.base.setup.names e seen fault read_failed write_failed s,
+      stopped_plain gate.base.setup.names e (seen_of gate at_first visit) fault read_failed write_failed s,
       subst (λ (p : PassView). IsTranscribedInPart p visit.pass s.heard s.written) same (in_part gate at_first visit s.heard s.told s.settles s.upto s.written s.came s.told_is s.settled s.begins),
     ),
   )
@@ -213,7 +211,7 @@ module _ (gate : GateId) (at_first before : PassView) (visit : Visit) (e : Ends)
     visit.told.items,
     named [] a.1.part.came,
     inr (
-      away_part_plain gate.base.setup.names e seen fault read_failed write_failed (refused_sessions ++ bye_line) a.1,
+      away_part_plain gate.base.setup.names e (seen_of gate at_first visit) fault read_failed write_failed (refused_sessions ++ bye_line) a.1,
       (silent gate at_first visit a.1.part.came).1.own ∙ ap (λ (p : PassView). p.own) same,
       crowded gate at_first visit a.1.part.subject a.1.part.turns a.0 a.1.part.opened,
     ),
@@ -231,29 +229,29 @@ module _ (names : KnownNames) (gate : GateId) (at_first before : PassView) (visi
   abbrev there : Ends
   there = ends start rest first kept
 
-  pub served : Finished names (ends start rest first kept) (seen gate at_first before visit (ends start rest first kept) same)
-      ⊎ (IsCrowded visit.pass × TurnedAway names (ends start rest first kept) (seen gate at_first before visit (ends start rest first kept) same) (refused_sessions ++ bye_line))
+  pub served : Finished names (ends start rest first kept) (seen_of gate at_first visit)
+      ⊎ (IsCrowded visit.pass × TurnedAway names (ends start rest first kept) (seen_of gate at_first visit) (refused_sessions ++ bye_line))
       → IsServed gate.base.setup.names before visit.pass (record { before = start; after = rest; failed = read_failed }) (record { before = first; after = kept; failed = write_failed })
   served ended = served_here gate at_first before visit there same
-      (subst (λ (n : KnownNames). Finished n there (seen gate at_first before visit there same) ⊎ (IsCrowded visit.pass × TurnedAway n there (seen gate at_first before visit there same) (refused_sessions ++ bye_line))) is ended)
+      (subst (λ (n : KnownNames). Finished n there (seen_of gate at_first visit) ⊎ (IsCrowded visit.pass × TurnedAway n there (seen_of gate at_first visit) (refused_sessions ++ bye_line))) is ended)
 
   pub cut_short : (fault : SessionFault)
-      → Stopped fault names (ends start rest first kept) read_failed write_failed (seen gate at_first before visit (ends start rest first kept) same)
-      ⊎ (IsCrowded visit.pass × TurnedAwayInPart fault names (ends start rest first kept) read_failed write_failed (seen gate at_first before visit (ends start rest first kept) same) (refused_sessions ++ bye_line))
+      → Stopped fault names (ends start rest first kept) read_failed write_failed (seen_of gate at_first visit)
+      ⊎ (IsCrowded visit.pass × TurnedAwayInPart fault names (ends start rest first kept) read_failed write_failed (seen_of gate at_first visit) (refused_sessions ++ bye_line))
       → IsCutShort gate.base.setup.names before visit.pass fault (record { before = start; after = rest; failed = read_failed }) (record { before = first; after = kept; failed = write_failed })
   cut_short fault ended = cut_here gate at_first before visit there same fault read_failed write_failed
-      (subst (λ (n : KnownNames). Stopped fault n there read_failed write_failed (seen gate at_first before visit there same)
-      ⊎ (IsCrowded visit.pass × TurnedAwayInPart fault n there read_failed write_failed (seen gate at_first before visit there same) (refused_sessions ++ bye_line))) is ended)
+      (subst (λ (n : KnownNames). Stopped fault n there read_failed write_failed (seen_of gate at_first visit)
+      ⊎ (IsCrowded visit.pass × TurnedAwayInPart fault n there read_failed write_failed (seen_of gate at_first visit) (refused_sessions ++ bye_line))) is ended)
 
-  pub served_speaks : Finished names (ends start rest first kept) (seen gate at_first before visit (ends start rest first kept) same)
-      ⊎ (IsCrowded visit.pass × TurnedAway names (ends start rest first kept) (seen gate at_first before visit (ends start rest first kept) same) (refused_sessions ++ bye_line))
+  pub served_speaks : Finished names (ends start rest first kept) (seen_of gate at_first visit)
+      ⊎ (IsCrowded visit.pass × TurnedAway names (ends start rest first kept) (seen_of gate at_first visit) (refused_sessions ++ bye_line))
       → SpeaksForItsOwn before visit.pass
   served_speaks (inl f) = subst (λ (p : PassView). SpeaksForItsOwn p visit.pass) same (speaks_then gate at_first visit (told_by f.turns) f.came)
   served_speaks (inr a) = subst (λ (p : PassView). SpeaksForItsOwn p visit.pass) same (speaks_then gate at_first visit [] a.1.came)
 
   pub cut_speaks : (fault : SessionFault)
-      → Stopped fault names (ends start rest first kept) read_failed write_failed (seen gate at_first before visit (ends start rest first kept) same)
-      ⊎ (IsCrowded visit.pass × TurnedAwayInPart fault names (ends start rest first kept) read_failed write_failed (seen gate at_first before visit (ends start rest first kept) same) (refused_sessions ++ bye_line))
+      → Stopped fault names (ends start rest first kept) read_failed write_failed (seen_of gate at_first visit)
+      ⊎ (IsCrowded visit.pass × TurnedAwayInPart fault names (ends start rest first kept) read_failed write_failed (seen_of gate at_first visit) (refused_sessions ++ bye_line))
       → SpeaksForItsOwn before visit.pass
   cut_speaks fault (inl s) = subst (λ (p : PassView). SpeaksForItsOwn p visit.pass) same (speaks_then gate at_first visit s.told s.came)
   cut_speaks fault (inr a) = subst (λ (p : PassView). SpeaksForItsOwn p visit.pass) same (speaks_then gate at_first visit [] a.1.part.came)

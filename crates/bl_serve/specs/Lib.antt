@@ -3,3 +3,5 @@ pub mod Courses
 pub mod Speakers
 pub mod Visits
 pub mod Outcome
+pub mod Talks
+pub mod Telling

@@ -4,12 +4,13 @@ use Rattle.bl_work.specs.Names.{KnownNames}
 use Rattle.bl_setup.specs.Agreement.{Agree}
 use Rattle.bl_order.specs.Machine.{most_sessions}
 use Rattle.bl_hall.specs.Chronicle.{HasTrail}
+use Rattle.bl_hall.specs.declared.reply.Reply as owned
 use Rattle.bl_gate.specs.Gates.{GateId, PassView, Follows, hall_seen, state_seen}
 use Rattle.bl_engine.specs.declared.request.Request.{Request}
+use Rattle.bl_engine.specs.Requests.{SameUpTo}
 use Rattle.bl_serve.specs.Courses.{IsCourse, IsOwn, SpeaksAlone, Course}
 use Rattle.bl_serve.specs.Told.{behind, told_text, IsTold}
 use Rattle.bl_serve.specs.declared.visit.Visit.{Visit}
-use Rattle.bl_serve.specs.declared.visit.Page.{Page}
 
 -- The pass is of the gate and follows what it was at first, the setup of the gate's hall agrees with itself, and what was told are
 -- replies to lines up to the last one that was settled.
@@ -41,17 +42,11 @@ pub record HasCome (gate : GateId) (first : PassView) (visit : Visit) (told : Li
   pub own : IsOf gate first visit
   pub course : HasTold gate first visit visit.session told
 
--- no call has failed, and the last block ended with this ordinal
-pub record IsWhole (gate : GateId) (first : PassView) (visit : Visit) (n : ℕ) : Type 0 where
-  pub told : List Request
-  pub come : HasCome gate first visit told
-  pub upto : visit.upto ≡ n
-
--- the same, and the session is open
-pub record IsUnderWay (gate : GateId) (first : PassView) (visit : Visit) (n : ℕ) : Type 0 where
-  pub whole : IsWhole gate first visit n
-  pub session : ℕ
-  pub is : visit.session ≡ Some session
+-- the session is the same, and what was told up to the last line that was settled stands
+pub record StillTells (names : KnownNames) (old new : Visit) : Type 0 where
+  pub session : new.session ≡ old.session
+  pub upto : old.upto ≤ new.upto
+  pub same : SameUpTo old.upto (told_text names old.told.items) (told_text names new.told.items)
 
 -- there are as many sessions as there may be, as the pass has seen
 pub record IsCrowded (pass : PassView) : Type 0 where
@@ -62,7 +57,7 @@ pub record IsCrowded (pass : PassView) : Type 0 where
 abbrev pub IsSpokenFor : (before after : PassView) → Type 0
 IsSpokenFor before after = (session : ℕ) × IsOwn before after session × (SpeaksAlone before after session → ⊥)
 
--- the replies to lines above an ordinal stand from the page's place on
-pub record IsPage (visit : Visit) (page : Page) (n : ℕ) : Type 0 where
-  pub within : page.next ≤ length visit.told.items
-  pub later : (k : ℕ) → n < k → behind k visit.told.items ≡ behind k (drop page.next visit.told.items)
+-- the replies to lines above an ordinal stand from a place on
+pub record IsPage (told : List owned.Reply) (next n : ℕ) : Type 0 where
+  pub within : next ≤ length told
+  pub later : (k : ℕ) → n < k → behind k told ≡ behind k (drop next told)

@@ -1,6 +1,7 @@
 //! Sessions over a gate: the machine behind a session whose lines others run too, and the session itself, over any reader and writer.
 //!
 //!     session    serves a session
+//!     talk       its conversation: what was asked is done, and what is told is written
 //!     visit      the machine behind it: lines through the gate, turns while it waits
 //!     told       the replies that a session was told
 //!     laws       who speaks for a session, over all that happened behind a gate
@@ -8,5 +9,6 @@
 
 pub mod laws;
 pub mod session;
+pub mod talk;
 mod told;
 pub mod visit;

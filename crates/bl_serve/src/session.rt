@@ -7,8 +7,8 @@ ghost use Rattle.bl_serve.specs.Outcome.{IsServed, IsCutShort};
 ghost use Rattle.bl_serve.specs.Courses.{SpeaksForItsOwn};
 ghost use Rattle.bl_serve.specs.Visits.{IsSpokenFor};
 
+use crate::talk::converse;
 use crate::visit::{Visit, Visitor};
-use bl_engine::session::converse;
 use bl_gate::gate::Gate;
 use bl_gate::pass::Pass;
 use bl_wire::fault::SessionFault;
@@ -84,7 +84,7 @@ pub fn serve_with<R: BufRead, W: Write, P: Pause, T: Wait>(
         first: Snapshot::of(&pass),
     };
     let mut visit = Visit::new(alloc, pass);
-    match converse(alloc, gate.names(), &visitor, &mut visit, reader, writer) {
+    match converse(&visitor, &mut visit, gate.names(), reader, writer) {
         Ok(()) => (visit.pass, Ok(())),
         Err(fault) => (visit.pass, Err(fault)),
     }

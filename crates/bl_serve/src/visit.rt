@@ -1,31 +1,33 @@
 //! The machine behind a session over a gate. Lines enter through the gate, and who waits for their answers takes turns meanwhile.
 //! Other threads call the gate too, so what the hall answers is that of a trail which goes on; what was told stays told.
-ghost use Rattle.std.specs.Prelude.{◌≡◌, ◌≤◌, ◌<◌, All, ℕ, [], ⊤, Some, None, IfOk, length, map};
+ghost use Rattle.std.specs.Prelude.{◌≡◌, ◌≤◌, ◌<◌, ◌++◌, ◌∷◌, ◌⊎◌, All, List, [], None, IfOk, IfErr, OnOk, OnErr, IsSome, length, map};
 ghost use Rattle.bl_gate.specs.Gates.{hall_seen, state_seen};
 ghost use Rattle.bl_order.specs.Known.{KnowsAnswer};
 ghost use Rattle.bl_hall.specs.Chronicle.{HasTrail};
 ghost use Rattle.bl_hall.specs.Told.{AreAnswers, reply_of};
 ghost use Rattle.bl_work.specs.Readable.{IsReadable};
+ghost use Rattle.bl_wire.specs.declared.fault.SessionFault.TheVariants.{Memory, Clash};
+ghost use Rattle.bl_engine.specs.declared.request.Request.{Request};
+ghost use Rattle.bl_engine.specs.declared.request.Request.TheVariants.{Opens, Admits, Settles};
+ghost use Rattle.bl_engine.specs.declared.behind.Opening.TheVariants.{Open, Full};
 ghost use Rattle.bl_serve.specs.Courses.{KeepsQuiet};
-ghost use Rattle.bl_serve.specs.Told.{told_text};
-ghost use Rattle.bl_serve.specs.Visits.{HasCome, IsCrowded, IsPage, IsSpokenFor, IsUnderWay, IsWhole};
+ghost use Rattle.bl_serve.specs.Visits.{HasCome, IsCrowded, IsPage, IsSpokenFor, StillTells};
 
-use crate::told::{count_up_to, put_line};
+use crate::told::count_up_to;
 use bl_core::refusal::{Cause, OpenRefused};
 use bl_core::session::SessionNo;
-use bl_engine::behind::{Asking, Behind, Opening};
+use bl_engine::behind::Opening;
 use bl_gate::gate::Gate;
 use bl_gate::pass::Pass;
 use bl_hall::laws::replies_go_by_lines;
 use bl_hall::reply::{AnswersFault, Reply};
 use bl_policy::id::SubjectId;
-use bl_wire::watched::Watched;
+use bl_wire::fault::SessionFault;
 use bl_work::work::Work;
 use bl_worker::bell::Bell;
 use bl_worker::pause::Pause;
 use bl_worker::turn::{Turn, work_on, work_once};
 use std::alloc::{AllocError, Global};
-use std::io::Write;
 use std::snapshot::Snapshot;
 use std::sync::Wait;
 
@@ -55,12 +57,6 @@ pub struct Visit {
     pub last: u32,
     pub told: Vec<Reply>,
     pub upto: u32,
-}
-
-/// The place in what was told behind the replies that were written.
-#[derive(Drop)]
-pub struct Page {
-    pub next: usize,
 }
 
 impl Visit {
@@ -144,97 +140,91 @@ impl<'a, P: Pause, T: Wait> Visitor<'a, P, T> {
         }
         unreachable!()
     }
-}
 
-impl<'a, P: Pause, T: Wait> Behind for Visitor<'a, P, T> {
-    type State = Visit;
-
-    type Block = Page;
-
-    ghost serves = { λ visitor subject. subject < length visitor.gate.now.base.setup.policy.subjects };
-
-    ghost takes = { λ visitor work. IsReadable visitor.gate.now.base.setup.names work };
-
-    ghost fills = { λ _ visit. IsCrowded visit.pass };
-
-    ghost clashes = { λ visitor visit. IsSpokenFor visitor.first.value visit.pass };
-
-    ghost replies = { λ visitor visit k. told_text visitor.gate.now.base.setup.names visit.told.items k };
-
-    ghost settled = { λ _ visit n. n ≤ visit.upto };
-
-    ghost fresh = { λ visitor visit. IsWhole visitor.gate.now visitor.first.value visit 0 };
-
-    ghost whole = { λ visitor visit n. IsUnderWay visitor.gate.now visitor.first.value visit n };
-
-    ghost came = { λ visitor visit told. HasCome visitor.gate.now visitor.first.value visit told };
-
-    ghost last = { λ _ visit. visit.last };
-
-    ghost gives = { λ _ visit page n. IsPage visit page n };
-
-    fn open(&self, state: &mut Visit, subject: SubjectId) -> Result<Opening, AllocError> {
-        match self.gate.open(self.rt, &mut state.pass, subject) {
+    /// Opens the session for a subject, or finds that there are as many as there may be.
+    pub fn open(&self, visit: &mut Visit, subject: SubjectId) -> Opening
+        requires come { HasCome self.now.gate.now self.now.first.value visit.old [] }
+        requires serves { subject < length self.now.gate.now.base.setup.policy.subjects }
+        ensures opened { result ≡ Open → HasCome self.now.gate.now self.now.first.value visit.new (Opens subject ∷ []) × IsSome visit.new.session }
+        ensures full { result ≡ Full → HasCome self.now.gate.now self.now.first.value visit.new [] × IsCrowded visit.new.pass }
+        ensures last { visit.new.last ≡ 0 }
+        ensures upto { visit.new.upto ≡ 0 }
+    {
+        match self.gate.open(self.rt, &mut visit.pass, subject) {
             Ok(session) => {
-                state.session = Some(session);
-                Ok(Opening::Open)
+                visit.session = Some(session);
+                Opening::Open
             }
-            Err(OpenRefused::SessionsFull) => Ok(Opening::Full),
+            Err(OpenRefused::SessionsFull) => Opening::Full,
             // the subject was read in the names of the gate, which are the hall's
             Err(OpenRefused::Stranger) => unreachable!(),
         }
     }
 
-    fn ask(&self, state: &mut Visit, ordinal: u32, work: Work) -> Result<Asking, AllocError> {
-        let Some(session) = state.session else {
+    /// Admits a work, or finds no room for it. An error comes where a growth was refused, and where somebody else spoke for the session;
+    /// then nothing was admitted.
+    pub fn ask(&self, visit: &mut Visit, ordinal: u32, work: Work) -> Result<(), SessionFault>
+        requires come { (told : List Request) × HasCome self.now.gate.now self.now.first.value visit.old told }
+        requires opened { IsSome visit.old.session }
+        requires last { visit.old.last < ordinal }
+        requires takes { IsReadable self.now.gate.now.base.setup.names work }
+        ensures come { OnOk result ((told : List Request) → HasCome self.now.gate.now self.now.first.value visit.old told → HasCome self.now.gate.now self.now.first.value visit.new (told ++ Admits ordinal work ∷ [])) }
+        ensures kept { OnErr result ((told : List Request) → HasCome self.now.gate.now self.now.first.value visit.old told → HasCome self.now.gate.now self.now.first.value visit.new told) }
+        ensures still { StillTells self.now.gate.now.base.setup.names visit.old visit.new }
+        ensures upto { visit.new.upto ≡ visit.old.upto }
+        ensures last { visit.new.last ≤ ordinal }
+        ensures why { IfErr result (λ fault. (fault ≡ Memory) ⊎ ((fault ≡ Clash) × IsSpokenFor self.now.first.value visit.new.pass)) }
+    {
+        let Some(session) = visit.session else {
             unreachable!()
         };
-        state.asked.reserve(1)?;
+        visit.asked.reserve(1)?;
         match self
             .gate
-            .line(self.rt, &mut state.pass, session, ordinal, work)
+            .line(self.rt, &mut visit.pass, session, ordinal, work)
         {
             Ok(n) => {
-                state.asked.push_reserved(n);
-                state.last = ordinal;
-                self.call_workers(state.asked.len());
-                Ok(Asking::Taken)
+                visit.asked.push_reserved(n);
+                visit.last = ordinal;
+                self.call_workers(visit.asked.len());
+                Ok(())
             }
             Err(refused) => match refused.cause {
                 Cause::Full => {
-                    state.last = ordinal;
-                    Ok(Asking::Taken)
+                    visit.last = ordinal;
+                    Ok(())
                 }
-                Cause::Stranger | Cause::Session | Cause::Ordinal => Ok(Asking::Clash),
+                Cause::Stranger | Cause::Session | Cause::Ordinal => Err(SessionFault::Clash),
             },
         }
     }
 
-    fn settle(&self, state: &mut Visit, after: u32, ordinal: u32) -> Result<Page, AllocError> {
-        let Some(session) = state.session else {
+    /// Has each work up to an ordinal answered, and says from which place on the replies of the block stand.
+    pub fn settle(&self, visit: &mut Visit, ordinal: u32) -> Result<usize, AllocError>
+        requires come { (told : List Request) × HasCome self.now.gate.now self.now.first.value visit.old told }
+        requires opened { IsSome visit.old.session }
+        requires last { visit.old.last ≤ ordinal }
+        ensures come { OnOk result ((told : List Request) → HasCome self.now.gate.now self.now.first.value visit.old told → HasCome self.now.gate.now self.now.first.value visit.new (told ++ Settles ∷ [])) }
+        ensures kept { OnErr result ((told : List Request) → HasCome self.now.gate.now self.now.first.value visit.old told → HasCome self.now.gate.now self.now.first.value visit.new told) }
+        ensures still { StillTells self.now.gate.now.base.setup.names visit.old visit.new }
+        ensures upto { OnOk result (visit.new.upto ≡ ordinal) }
+        ensures last { visit.new.last ≤ ordinal }
+        ensures page { IfOk result (λ next. IsPage visit.new.told.items next visit.old.upto) }
+    {
+        let Some(session) = visit.session else {
             unreachable!()
         };
         replies_go_by_lines();
-        self.run(&mut state.pass, &state.asked);
-        let mut replies = self.hear(&mut state.pass, session, after)?;
+        self.run(&mut visit.pass, &visit.asked);
+        let mut replies = self.hear(&mut visit.pass, session, visit.upto)?;
         // a reply to a later line comes only where somebody else spoke for the session, whose next line then finds that
         let count = count_up_to(ordinal, &replies);
         replies.truncate(count);
-        let next = state.told.len();
-        state.told.append(&mut replies)?;
-        state.upto = ordinal;
-        state.last = ordinal;
-        state.asked.clear();
-        Ok(Page { next })
-    }
-
-    fn answer<W: Write>(
-        &self,
-        state: &Visit,
-        block: &mut Page,
-        ordinal: u32,
-        writer: &mut Watched<W>,
-    ) {
-        block.next = put_line(writer, self.gate.names(), ordinal, &state.told, block.next);
+        let next = visit.told.len();
+        visit.told.append(&mut replies)?;
+        visit.upto = ordinal;
+        visit.last = ordinal;
+        visit.asked.clear();
+        Ok(next)
     }
 }

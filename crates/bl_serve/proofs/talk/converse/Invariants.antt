@@ -1,0 +1,15 @@
+use Rattle.std.proofs.Common.{◌≡◌, false}
+use Rattle.bl_engine.specs.Conversations.{waits_left}
+use Rattle.bl_engine.specs.View.{ends}
+use Rattle.bl_serve.specs.Talks.{IsUnderWay}
+use Rattle.bl_serve.proofs.talk.converse.Given as goal
+
+abbrev pub invariant-waits : goal.invariant-waits
+invariant-waits g l = record {
+  fine : (l.reader.failed ≡ false) × (l.writer.failed ≡ false);
+  names : l.talk.names.now ≡ l.visitor.gate.now.base.setup.names;
+  under : IsUnderWay l.visitor.gate.now l.visitor.first.value (ends (g.R.Read.remaining l.initial.reader.inner) (g.R.Read.remaining l.reader.inner) (g.W.Write.contents l.initial.writer.inner) (g.W.Write.contents l.writer.inner)) l.talk.conv l.visit;
+}
+
+abbrev pub decreases-waits : goal.decreases-waits
+decreases-waits g l = waits_left l.talk.conv

@@ -1,0 +1,66 @@
+-- How far the conversation of a session over a gate has come.
+use Rattle.std.specs.Prelude.{◌≡◌, ℕ, ◌≤◌, ◌⊎◌, Option, Some, None, List, [], length, ⊤}
+use Rattle.bl_work.specs.Names.{KnownNames}
+use Rattle.bl_gate.specs.Gates.{GateId, PassView}
+use Rattle.bl_wire.specs.Turns.{IsOpening}
+use Rattle.bl_engine.specs.Conversations.{Given, GoesOnAlone, KeepsBlock, last_ordinal}
+use Rattle.bl_engine.specs.Driving.{Exchange, HasListened, IsDriven}
+use Rattle.bl_engine.specs.Parts.{SameWithin}
+use Rattle.bl_engine.specs.declared.request.Request.{Request}
+use Rattle.bl_engine.specs.View.{Ends, View}
+use Rattle.bl_engine.specs.declared.behind.Opening.TheVariants.{Open, Full}
+use Rattle.bl_engine.specs.declared.conversation.Conversation.{Conversation}
+use Rattle.bl_serve.specs.Told.{told_text}
+use Rattle.bl_serve.specs.Visits.{HasCome, IsCrowded}
+use Rattle.bl_serve.specs.declared.visit.Visit.{Visit}
+
+-- What may be given yet: without a session anything. With one, that it is open, and what was answered up to the last line that was
+-- settled.
+abbrev pub GivesWith : KnownNames → Visit → Option ℕ → Given → Type 0
+GivesWith names visit None given = ⊤
+GivesWith names visit (Some session) given = (given.opening ≡ Open) × SameWithin 0 visit.upto (told_text names visit.told.items) given.replies
+
+abbrev pub MayGive : KnownNames → Visit → Given → Type 0
+MayGive names visit given = GivesWith names visit visit.session given
+
+-- there are as many sessions as there may be
+abbrev pub IsFull : Given → Type 0
+IsFull given = given.opening ≡ Full
+
+-- what is seen of the machine
+abbrev pub seen_of : GateId → PassView → Visit → View
+seen_of gate first visit = record { replies = told_text gate.base.setup.names visit.told.items; settled = λ n. n ≤ visit.upto; came = HasCome gate first visit }
+
+-- What was asked was done, the last block is answered, and no line has an ordinal above the last one.
+pub record HasDone (gate : GateId) (first : PassView) (after last : ℕ) (visit : Visit) (asked : List Request) : Type 0 where
+  pub come : HasCome gate first visit asked
+  pub upto_is : visit.upto ≡ after
+  pub last_is : visit.last ≤ last
+
+-- The conversation waits for the reader, or for room to tell words.
+pub record IsTalking (gate : GateId) (first : PassView) (ends : Ends) (conv : Conversation) (visit : Visit) : Type 0 where
+  pub so_far : Exchange
+  pub driven : IsDriven gate.base.setup.names ends (MayGive gate.base.setup.names visit) conv so_far
+  pub done : HasDone gate first conv.after (last_ordinal conv) visit so_far.asked
+  pub alone : GoesOnAlone (length conv.pending.items) conv.stage
+
+-- The subject's `hello` was the last line, there are as many sessions as there may be, and that is told.
+pub record IsTurnedOff (gate : GateId) (first : PassView) (ends : Ends) (conv : Conversation) (visit : Visit) : Type 0 where
+  pub so_far : Exchange
+  pub driven : IsDriven gate.base.setup.names ends IsFull conv so_far
+  pub subject : ℕ
+  pub opened : IsOpening subject so_far.turns
+  pub come : HasCome gate first visit []
+  pub crowded : IsCrowded visit.pass
+  pub alone : GoesOnAlone (length conv.pending.items) conv.stage
+
+abbrev pub IsUnderWay : GateId → PassView → Ends → Conversation → Visit → Type 0
+IsUnderWay gate first ends conv visit = IsTalking gate first ends conv visit ⊎ IsTurnedOff gate first ends conv visit
+
+-- It has heard one line more at most, and what is asked at that is still to be done.
+pub record IsAsking (gate : GateId) (first : PassView) (ends : Ends) (conv : Conversation) (request : Option Request) (visit : Visit) : Type 0 where
+  pub so_far : Exchange
+  pub on : HasListened gate.base.setup.names ends (MayGive gate.base.setup.names visit) conv request so_far
+  pub old : Conversation
+  pub block : KeepsBlock old conv request
+  pub done : HasDone gate first conv.after (last_ordinal old) visit so_far.asked
