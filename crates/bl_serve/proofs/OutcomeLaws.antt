@@ -12,11 +12,11 @@ use Rattle.bl_wire.specs.declared.turn.Turn.TheVariants.{Skip, Wait, Greets, Bad
 use Rattle.bl_engine.specs.declared.request.Request.TheVariants as request
 use Rattle.bl_engine.specs.declared.request.Request.{Request}
 use Rattle.bl_engine.specs.Requests.{SameUpTo, told_by}
-use Rattle.bl_engine.specs.Spoken.{Begins}
+use Rattle.bl_engine.specs.BlockText.{Begins}
 use Rattle.bl_session.specs.Transcripts.{IsTranscript}
 use Rattle.bl_wire.specs.declared.fault.SessionFault.{SessionFault}
 use Rattle.bl_engine.specs.View.{View, Ends, ends}
-use Rattle.bl_engine.specs.Stages.{Finished, Stopped, TurnedAway, TurnedAwayInPart, refused_sessions}
+use Rattle.bl_engine.specs.Outcome.{Finished, Stopped, TurnedAway, TurnedAwayInPart, refused_sessions}
 use Rattle.bl_serve.specs.Courses.{SpeaksForItsOwn}
 use Rattle.bl_serve.specs.Talks.{seen_of}
 use Rattle.bl_serve.specs.Told.{told_text}

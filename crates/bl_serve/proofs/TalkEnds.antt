@@ -15,12 +15,14 @@ use Rattle.bl_wire.specs.declared.turn.Turn.{Turn}
 use Rattle.bl_wire.specs.declared.turn.Turn.TheVariants as turns
 use Rattle.bl_engine.specs.declared.request.Request.{Request}
 use Rattle.bl_engine.specs.declared.request.Request.TheVariants.{Opens, Admits, Settles}
-use Rattle.bl_engine.specs.Spoken.{Begins, is_reading}
+use Rattle.bl_engine.specs.BlockText.{Begins}
+use Rattle.bl_engine.specs.Outcome.{is_reading}
 use Rattle.bl_wire.specs.Faults.{is_write}
-use Rattle.bl_engine.specs.Stages.{Finished, HasBroken, HasEnded, IsCause, IsCut, Stopped, TurnedAway, TurnedAwayInPart, refused_sessions}
+use Rattle.bl_engine.specs.Outcome.{Finished, IsCause, IsCut, Stopped, TurnedAway, TurnedAwayInPart, refused_sessions}
+use Rattle.bl_serve.specs.Endings.{HasBroken, HasEnded}
 use Rattle.bl_engine.specs.View.{Ends, ends}
 use Rattle.bl_engine.specs.Driving.{Exchange, HasListened, IsDriven, IsUnheard, ToldAll, ToldPart, with_line}
-use Rattle.bl_engine.specs.declared.behind.Opening.TheVariants.{Open, Full}
+use Rattle.bl_engine.specs.declared.conversation.Opening.TheVariants.{Open, Full}
 use Rattle.bl_engine.specs.declared.conversation.Conversation.{Conversation}
 use Rattle.bl_engine.specs.declared.conversation.Need.TheVariants as needs
 use Rattle.bl_engine.specs.declared.conversation.Stage.{Stage}

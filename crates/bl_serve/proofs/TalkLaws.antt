@@ -14,7 +14,7 @@ use Rattle.bl_engine.specs.Requests.{SameUpTo}
 use Rattle.bl_engine.specs.Parts.{SameWithin}
 use Rattle.bl_engine.specs.View.{Ends, ends}
 use Rattle.bl_engine.specs.Driving.{Exchange, HasListened, IsDriven, Listened, ToldAll, nothing_yet, with_line}
-use Rattle.bl_engine.specs.declared.behind.Opening.TheVariants.{Open, Full}
+use Rattle.bl_engine.specs.declared.conversation.Opening.TheVariants.{Open, Full}
 use Rattle.bl_engine.specs.declared.conversation.Conversation.{Conversation}
 use Rattle.bl_engine.specs.declared.conversation.Need.TheVariants as needs
 use Rattle.bl_engine.specs.declared.conversation.Stage.{Stage}

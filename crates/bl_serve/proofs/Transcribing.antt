@@ -17,7 +17,7 @@ use Rattle.bl_wire.specs.Turns.{IsOpening}
 use Rattle.bl_engine.specs.declared.request.Request.TheVariants as request
 use Rattle.bl_engine.specs.declared.request.Request.{Request}
 use Rattle.bl_engine.specs.Requests.{SameUpTo, told_of, told_by}
-use Rattle.bl_engine.specs.Stages.{refused_sessions}
+use Rattle.bl_engine.specs.Outcome.{refused_sessions}
 use Rattle.bl_session.specs.Transcripts.{IsTranscript, Talks, asked_after, has_ordinal}
 use Rattle.bl_serve.specs.Courses.{AreOf, HasOpened, IsOpenedAt, IsOwn, SpeaksForItsOwn, HasNoSettles, IsCovered, IsAnswered, IsCourse, SpeaksAlone, StandAt, Course, asked_in}
 use Rattle.bl_serve.proofs.Admitted.{asked_more}

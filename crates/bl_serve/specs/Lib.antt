@@ -5,3 +5,4 @@ pub mod Visits
 pub mod Outcome
 pub mod Talks
 pub mod Telling
+pub mod Endings

@@ -9,8 +9,8 @@ use Rattle.bl_wire.specs.declared.turn.Turn.{Turn}
 use Rattle.bl_gate.specs.Gates.{PassView}
 use Rattle.bl_wire.specs.declared.fault.SessionFault.{SessionFault}
 use Rattle.bl_engine.specs.View.{View, ends}
-use Rattle.bl_engine.specs.Stages.{Finished, Stopped, TurnedAway, TurnedAwayInPart, refused_sessions}
-use Rattle.bl_engine.specs.Spoken.{Begins}
+use Rattle.bl_engine.specs.Outcome.{Finished, Stopped, TurnedAway, TurnedAwayInPart, refused_sessions}
+use Rattle.bl_engine.specs.BlockText.{Begins}
 use Rattle.bl_session.specs.Transcripts.{IsTranscript}
 use Rattle.bl_engine.specs.Requests.{told_by}
 use Rattle.bl_serve.specs.Courses.{IsOwn, SpeaksAlone}

@@ -8,7 +8,7 @@ use Rattle.bl_engine.specs.Driving.{Exchange, HasListened, IsDriven}
 use Rattle.bl_engine.specs.Parts.{SameWithin}
 use Rattle.bl_engine.specs.declared.request.Request.{Request}
 use Rattle.bl_engine.specs.View.{Ends, View}
-use Rattle.bl_engine.specs.declared.behind.Opening.TheVariants.{Open, Full}
+use Rattle.bl_engine.specs.declared.conversation.Opening.TheVariants.{Open, Full}
 use Rattle.bl_engine.specs.declared.conversation.Conversation.{Conversation}
 use Rattle.bl_serve.specs.Told.{told_text}
 use Rattle.bl_serve.specs.Visits.{HasCome, IsCrowded}

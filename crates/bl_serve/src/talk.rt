@@ -4,7 +4,8 @@ ghost use Rattle.std.specs.Prelude.{◌≡◌, ◌≢◌, ◌≤◌, [], false, 
 ghost use Rattle.bl_wire.specs.declared.fault.SessionFault.TheVariants.{Clash};
 ghost use Rattle.bl_engine.specs.Conversations.{waits_left};
 ghost use Rattle.bl_engine.specs.declared.request.Request.TheVariants.{Settles};
-ghost use Rattle.bl_engine.specs.Stages.{HasBroken, HasEnded, Stopped};
+ghost use Rattle.bl_engine.specs.Outcome.{Stopped};
+ghost use Rattle.bl_serve.specs.Endings.{HasBroken, HasEnded};
 ghost use Rattle.bl_engine.specs.View.{ends};
 ghost use Rattle.bl_serve.specs.Talks.{IsAsking, IsUnderWay, seen_of};
 ghost use Rattle.bl_serve.specs.Visits.{HasCome, IsCrowded, IsSpokenFor};

@@ -9,14 +9,14 @@ ghost use Rattle.bl_work.specs.Readable.{IsReadable};
 ghost use Rattle.bl_wire.specs.declared.fault.SessionFault.TheVariants.{Memory, Clash};
 ghost use Rattle.bl_engine.specs.declared.request.Request.{Request};
 ghost use Rattle.bl_engine.specs.declared.request.Request.TheVariants.{Opens, Admits, Settles};
-ghost use Rattle.bl_engine.specs.declared.behind.Opening.TheVariants.{Open, Full};
+ghost use Rattle.bl_engine.specs.declared.conversation.Opening.TheVariants.{Open, Full};
 ghost use Rattle.bl_serve.specs.Courses.{KeepsQuiet};
 ghost use Rattle.bl_serve.specs.Visits.{HasCome, IsCrowded, IsPage, IsSpokenFor, StillTells};
 
 use crate::told::count_up_to;
 use bl_core::refusal::{Cause, OpenRefused};
 use bl_core::session::SessionNo;
-use bl_engine::behind::Opening;
+use bl_engine::conversation::Opening;
 use bl_gate::gate::Gate;
 use bl_gate::pass::Pass;
 use bl_hall::laws::replies_go_by_lines;

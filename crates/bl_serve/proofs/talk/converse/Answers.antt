@@ -4,7 +4,8 @@ use Rattle.bl_wire.specs.declared.fault.SessionFault.{SessionFault}
 use Rattle.bl_wire.specs.declared.fault.SessionFault.TheVariants.{Write, Memory}
 use Rattle.bl_engine.specs.Conversations.{Hears}
 use Rattle.bl_engine.specs.Driving.{Listened}
-use Rattle.bl_engine.specs.Stages.{HasBroken, Stopped}
+use Rattle.bl_engine.specs.Outcome.{Stopped}
+use Rattle.bl_serve.specs.Endings.{HasBroken}
 use Rattle.bl_engine.specs.View.{ends}
 use Rattle.bl_serve.specs.Talks.{seen_of}
 use Rattle.bl_serve.specs.Visits.{IsCrowded}

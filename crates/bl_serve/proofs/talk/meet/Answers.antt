@@ -1,8 +1,8 @@
 use Rattle.std.proofs.Common.{◌≡◌, ◌∙◌, ◌⊎◌, false, inl, inr, refl, sym, ap, subst, arith, Some}
 use Rattle.bl_engine.specs.View.{Ends, ends}
 use Rattle.bl_engine.specs.Conversations.{IsOpenedAs}
-use Rattle.bl_engine.specs.declared.behind.Opening.{Opening}
-use Rattle.bl_engine.specs.declared.behind.Opening.TheVariants.{Open, Full}
+use Rattle.bl_engine.specs.declared.conversation.Opening.{Opening}
+use Rattle.bl_engine.specs.declared.conversation.Opening.TheVariants.{Open, Full}
 use Rattle.bl_engine.proofs.Outcomes.{if_err-map, on_ok-map}
 use Rattle.bl_serve.proofs.Faults.{if_err-on}
 use Rattle.bl_serve.proofs.TalkEnds.{flags_as, talk_unasked}

@@ -5,7 +5,7 @@ use Rattle.bl_engine.proofs.Outcomes.{on_ok-map, if_err-both}
 use Rattle.bl_work.specs.Names.{KnownNames}
 use Rattle.bl_hall.specs.declared.reply.Reply.{Reply}
 use Rattle.bl_serve.specs.declared.talk.Told.{Told}
-use Rattle.bl_engine.specs.Stages.{Stopped}
+use Rattle.bl_engine.specs.Outcome.{Stopped}
 use Rattle.bl_engine.specs.View.{ends}
 use Rattle.bl_wire.specs.declared.fault.SessionFault.{SessionFault}
 use Rattle.bl_wire.specs.declared.fault.SessionFault.TheVariants.{Memory, Write}
