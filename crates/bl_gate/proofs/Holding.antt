@@ -1,5 +1,5 @@
 -- What a pass has in hand, through a call.
-use Rattle.std.proofs.Common.{◌≡◌, ◌≢◌, ℕ, zero, suc, ◌+◌, ◌<◌, ◌≤◌, ◌⊎◌, inl, inr, List, [], ◌∷◌, ◌++◌, length, Some, refl, sym, ap, ◌∙◌, subst, arith, true, true≢false, length-append}
+use Rattle.std.proofs.Common.{◌≡◌, ◌≢◌, ℕ, zero, suc, ◌+◌, ◌≤◌, ◌⊎◌, inl, inr, List, [], ◌∷◌, ◌++◌, length, Some, refl, sym, ap, ◌∙◌, subst, arith, true, true≢false, length-append}
 use mathlib.Core.Logic.{dite}
 use native.Mathlib.Decide.{ℕ_discrete}
 use Rattle.std.specs.Prelude.{slice_get}
@@ -14,20 +14,21 @@ use Rattle.bl_core.specs.declared.machine.Started.{Started}
 use Rattle.bl_core.specs.declared.machine.Started.TheVariants.{Denied, RuleDone, Run}
 use Rattle.bl_hall.specs.Chronicle.{Chronicle, HasTrail, state_now, with_event}
 use Rattle.bl_hall.proofs.Trails.{reached-now, state-next}
-use Rattle.bl_gate.specs.Counts.{StartsWith, times}
-use Rattle.bl_gate.specs.Gates.{GateId, PassView, Calls, InHand, HasLoanInHand, GivesInHand, KeepsInHand, hall_seen, hall_with, state_seen}
-use Rattle.bl_gate.specs.Views.{View, brings, drew, entered, gained, heard, joined, longer}
-use Rattle.bl_gate.specs.Turns.{AreTold, EndsAt, EndsWhatItStarted, IsTold, NoEndBehind}
+use Rattle.bl_gate.specs.Counts.{StartsWith, gained, times}
+use Rattle.bl_gate.specs.Gates.{PassView, Calls, InHand, HasLoanInHand, GivesInHand, KeepsInHand, hall_seen, hall_with, state_seen}
+use Rattle.bl_gate.specs.Views.{View, Brought, brings, heard, joined, longer}
+use Rattle.bl_gate.specs.Seats.{pass_of}
+use Rattle.bl_gate.specs.Turns.{AreTold, EndsAt, IsTold, NoEndBehind}
 use Rattle.bl_gate.proofs.Passing.{after_parts, trail_front, trail_back}
 use Rattle.bl_order.specs.Running.{GoesOn}
 use Rattle.bl_order.proofs.Running.{goes_on-started}
 use Rattle.bl_gate.proofs.Lending.{lent_later, lent_still, starts_once, begun_behind, begun_once}
-use Rattle.bl_gate.proofs.Halls.{legal_front, sound_at}
+use Rattle.bl_gate.proofs.Halls.{sound_at}
 use Rattle.bl_gate.proofs.Totals.{times-append}
 use Rattle.bl_gate.proofs.Trails.{get_later, get_last}
-use Rattle.bl_gate.proofs.Parts.{ends_at_sooner, end_within}
-use Rattle.bl_gate.proofs.Steps.{continues_base, continues_starts}
-use Rattle.bl_gate.proofs.Turned.{Turned, pass_of, brought_by, turned_follows, turned_legal}
+use Rattle.bl_gate.proofs.Parts.{end_within}
+use Rattle.bl_gate.proofs.Following.{base_stays}
+use Rattle.bl_gate.proofs.Turned.{NextEndsItsOwn, Turned, turned_follows, turned_legal, turned_own}
 
 -- ---- what a call adds
 
@@ -78,30 +79,31 @@ loss_of_another k n apart = ((λ e. absurd (cc)), (λ e. apart (same e)))
     same : Loses k ≡ Loses n → n ≡ k
     same e = cc
 
--- ---- what the rule asks of who puts the hall back
+-- ---- what the rule asks of who goes on with the hall
 
-module _ (v v' : View) (t : ℕ) (taken lent put : Chronicle) (came : v' ≡ entered (drew v t) taken.trail) (same : lent ≡ taken) where
-  as_long : length v'.seen ≡ length lent.trail
-  as_long = ap (λ (u : View). length u.seen) came ∙ ap (λ (h : Chronicle). length h.trail) (sym same)
+-- what a pass would bring where two meet
+abbrev pub brought_by : PassView → Brought
+brought_by p = record { base = p.gate.base; seen = p.seen; own = p.own }
+
+module _ (taken lent put : Chronicle) (own : List ℕ) (same : lent ≡ taken) where
+  as_long : length taken.trail ≡ length lent.trail
+  as_long = ap (λ (h : Chronicle). length h.trail) (sym same)
 
   -- where nothing ends nothing is asked
-  pub ends_none : ((n : ℕ) → AddsNoEnd lent put n) → EndsWhatItStarted v' put.trail
-  ends_none adds n q at there = let l = as_long in absurd (adds n (length v'.seen) (omega arith) at)
+  pub ends_none : ((n : ℕ) → AddsNoEnd lent put n) → NextEndsItsOwn taken.trail put.trail own
+  ends_none adds n q at there = let l = as_long in absurd (adds n (length taken.trail) (omega arith) at)
 
   -- where one entry ends, its start has to be one's own
-  pub ends_one : (k : ℕ) → ((n : ℕ) → n ≢ k → AddsNoEnd lent put n) → ((q : ℕ) → slice_get taken.trail q ≡ Some (Starts k) → 1 ≤ times q v.own) → EndsWhatItStarted v' put.trail
+  pub ends_one : (k : ℕ) → ((n : ℕ) → n ≢ k → AddsNoEnd lent put n) → ((q : ℕ) → slice_get taken.trail q ≡ Some (Starts k) → 1 ≤ times q own) → NextEndsItsOwn taken.trail put.trail own
   ends_one k adds mine n q at there =
       dite (ℕ_discrete n k)
-      (λ is. let here : slice_get taken.trail q ≡ Some (Starts k) = ap (λ (u : View). slice_get u.seen q) (sym came) ∙ (there ∙ ap (λ (j : ℕ). Some (Starts j)) is) in
-      subst (λ (u : View). 1 ≤ times q u.own) (sym came) (mine q here))
-      (λ apart. let l = as_long in absurd (adds n apart (length v'.seen) (omega arith) at))
+      (λ is. mine q (there ∙ ap (λ (j : ℕ). Some (Starts j)) is))
+      (λ apart. let l = as_long in absurd (adds n apart (length taken.trail) (omega arith) at))
 
 -- an entry that is in hand has its start at that position alone
-pub start_is_own : (p : PassView) (taken : Chronicle) (loan : Loan) → HasTrail taken → StartsWith taken.trail p.seen → HasLoanInHand p loan
-    → (q : ℕ) → slice_get taken.trail q ≡ Some (Starts loan.entry) → 1 ≤ times q p.own
-start_is_own p taken loan legal more held q there =
-    let here = get_later taken.trail p.seen held.entry.position (Starts loan.entry) more held.entry.start in
-    let one : held.entry.position ≡ q = starts_once (start taken.setup taken.limit) taken.trail loan.entry held.entry.position q (sound-start taken.setup taken.limit) legal here there in
+pub start_is_own : (p : PassView) (loan : Loan) → HasTrail (hall_seen p) → HasLoanInHand p loan → (q : ℕ) → slice_get p.seen q ≡ Some (Starts loan.entry) → 1 ≤ times q p.own
+start_is_own p loan legal held q there =
+    let one : held.entry.position ≡ q = starts_once (start p.gate.base.setup p.gate.base.limit) p.seen loan.entry held.entry.position q (sound-start p.gate.base.setup p.gate.base.limit) legal held.entry.start there in
     subst (λ (k : ℕ). 1 ≤ times k p.own) one held.entry.own
 
 -- what may start has no start in the trail
@@ -156,44 +158,29 @@ held_same p q base seen own loan held =
       lent = held.lent ∙ ap (λ (y : State). loan_at y loan.entry) (sym state);
     }
 
--- in the hall that was taken what is in hand runs, and is lent what the loan is
-pub taken_lends : (p : PassView) (taken lent : Chronicle) → taken ≡ hall_with p.gate.base taken.trail → HasTrail taken → StartsWith taken.trail p.seen → NoEndBehind (brought_by p) taken.trail → lent ≡ taken
-    → (loan : Loan) → HasLoanInHand p loan → IsLentBy (state_now lent) loan
-taken_lends p taken lent is legal more ends same loan held =
-    let q : PassView = record p { seen = taken.trail } in
-    let h = held_later p q refl more (subst HasTrail is legal) (λ k o. o) loan (λ r le at. ends loan.entry held.entry.position r held.entry.own held.entry.start le at) held in
-    subst (λ (c : Chronicle). IsLentBy (state_now c) loan) (sym is ∙ sym same) (h.entry.running, h.lent)
+-- what is in hand runs in the hall that the pass has seen, and is lent what the loan is
+pub seen_lends : (p : PassView) (lent : Chronicle) (loan : Loan) → lent ≡ hall_seen p → HasLoanInHand p loan → IsLentBy (state_now lent) loan
+seen_lends p lent loan is held = subst (λ (h : Chronicle). IsLentBy (state_now h) loan) (sym is) (held.entry.running, held.lent)
 
-module _ (p : PassView) (taken put : Chronicle) (q : PassView) (turn : Turned p taken put q) where
-  taken_legal : HasTrail taken
-  taken_legal = legal_front taken put.trail taken.trail (continues_starts taken put turn.continues) (subst HasTrail (continues_base taken put turn.continues) turn.continues.trail)
+-- what a call in a turn does not end is in hand behind it
+pub turned_keeps : (p : PassView) (taken put : Chronicle) (q : PassView) → Turned p taken put q → (loan : Loan) → AddsNoEnd taken put loan.entry → HasLoanInHand p loan → HasLoanInHand q loan
+turned_keeps p taken put q turn loan adds held =
+    held_later p q (base_stays p q (turned_follows p taken put q turn)) (turned_follows p taken put q turn).seen (turned_legal p taken put q turn) own loan ends held
+  where
+    own : (k : ℕ) → 1 ≤ times k p.own → 1 ≤ times k q.own
+    own k o =
+        let a = times-append k p.own (gained (length p.seen) (length q.seen)) in
+        subst (λ (l : List ℕ). 1 ≤ times k l) (sym (turned_own p taken put q turn)) (omega arith)
 
-  pub turned_lends : (loan : Loan) → HasLoanInHand p loan → IsLentBy (state_now taken) loan
-  turned_lends loan held = taken_lends p taken taken turn.taken_is taken_legal turn.from turn.no_end refl loan held
+    ends : (r : ℕ) → length p.seen ≤ r → EndsAt q.seen r loan.entry → ⊥
+    ends r le at =
+        let l : length taken.trail ≡ length p.seen = ap (λ (h : Chronicle). length h.trail) turn.taken_is in
+        adds r (omega arith) (subst (λ (l : List Event). EndsAt l r loan.entry) (ap (λ (x : PassView). x.seen) turn.after_is) at)
 
-  -- what the turn does not end is in hand behind it
-  pub turned_keeps : (loan : Loan) → AddsNoEnd taken put loan.entry → HasLoanInHand p loan → HasLoanInHand q loan
-  turned_keeps loan adds held =
-      held_later p q (ap (λ (g : GateId). g.base) (turned_follows p taken put q turn).gate) (turned_follows p taken put q turn).seen (turned_legal p taken put q turn) own loan ends held
-    where
-      own : (k : ℕ) → 1 ≤ times k p.own → 1 ≤ times k q.own
-      own k o =
-          let a = times-append k p.own (gained (length taken.trail) (length put.trail)) in
-          subst (λ (l : List ℕ). 1 ≤ times k l) (sym (ap (λ (x : PassView). x.own) turn.after_is)) (omega arith)
-
-      ends : (r : ℕ) → length p.seen ≤ r → EndsAt q.seen r loan.entry → ⊥
-      ends r le at =
-          let there : EndsAt put.trail r loan.entry = subst (λ (l : List Event). EndsAt l r loan.entry) (ap (λ (x : PassView). x.seen) turn.after_is) at in
-          by there (less r (length taken.trail))
-        where
-          less : (a b : ℕ) → (a < b) ⊎ (b ≤ a)
-          less a b = grind arith
-
-          by : EndsAt put.trail r loan.entry → (r < length taken.trail) ⊎ (length taken.trail ≤ r) → ⊥
-          by there (inl lt) =
-              turn.no_end loan.entry held.entry.position r held.entry.own held.entry.start le
-              (ends_at_sooner taken.trail put.trail r loan.entry (continues_starts taken put turn.continues) lt there)
-          by there (inr ge) = adds r ge there
+-- what a pass had in hand it has where a turn begins
+pub begun_keeps : (p : PassView) (trail : List Event) → StartsWith trail p.seen → HasTrail (hall_with p.gate.base trail) → NoEndBehind (brought_by p) trail → KeepsInHand p (record p { seen = trail })
+begun_keeps p trail more legal none loan held =
+    held_later p (record p { seen = trail }) refl more legal (λ k o. o) loan (λ r le at. none loan.entry held.entry.position r held.entry.own held.entry.start le at) held
 
 -- ---- what a start lets run
 

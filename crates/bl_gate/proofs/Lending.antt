@@ -1,5 +1,5 @@
 -- What a running place is lent, as a trail goes on.
-use Rattle.std.proofs.Common.{◌≡◌, ◌≢◌, ℕ, zero, suc, Bool, true, false, cond, ◌||◌, List, [], ◌∷◌, map, Some, refl, sym, ◌∙◌, ap, subst, inl, inr, ◌⊎◌, true≢false}
+use Rattle.std.proofs.Common.{◌≡◌, ℕ, zero, suc, Bool, true, false, cond, ◌||◌, List, [], ◌∷◌, map, Some, refl, sym, ◌∙◌, ap, subst, inl, inr, ◌⊎◌, true≢false}
 use Rattle.std.specs.Prelude.{◌==◌, slice_get}
 use Rattle.bl_policy.specs.declared.access.Access.{Access}
 use Rattle.bl_order.specs.Order.{accesses_of, is_declared}

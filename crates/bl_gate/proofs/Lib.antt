@@ -8,8 +8,8 @@ pub mod Trails
 pub mod Parts
 pub mod Steps
 pub mod Hands
+pub mod Following
 pub mod Turned
 pub mod Holding
 pub mod Results
-pub mod Following
 pub mod Crossing

@@ -1,8 +1,7 @@
 -- Each step of a gate keeps the rule.
-use Rattle.std.proofs.Common.{◌≡◌, ◌≢◌, ℕ, zero, suc, ◌+◌, ◌-◌, ◌%◌, ◌^◌, ◌<◌, ◌≤◌, ◌⊎◌, inl, inr, ⊎_elim, List, [], ◌∷◌, ◌++◌, length, eqb, set, get_or, Option, Some, Bool, true, false, true≢false, cond, refl, sym, ap, ◌∙◌, subst, arith, append-nil, length-append}
+use Rattle.std.proofs.Common.{◌≡◌, ◌≢◌, ℕ, zero, suc, ◌+◌, ◌%◌, ◌^◌, ◌<◌, ◌≤◌, inl, inr, ⊎_elim, List, [], ◌∷◌, ◌++◌, length, eqb, set, get_or, Option, Some, true, false, true≢false, refl, sym, ap, ◌∙◌, subst, arith}
 use mathlib.Core.Logic.{dite}
 use Rattle.std.proofs.Math.Nat.{mod-eq_of_lt}
-use Rattle.std.proofs.lemmas.Bool.Decides.{nat_tests}
 use mathlib.Core.Option.{some, none, some-injective, some-ne-none}
 use mathlib.Core.Option as Found
 use native.Mathlib.Decide.{ℕ_discrete}
@@ -11,15 +10,15 @@ use prog.Atomic.{either}
 use Rattle.atomic_table.specs.Table.{State, Act, step, keeps, takes, gives, Valid, homes_after, carried_after, Allows, Splits, Joins, opening, Final, Seen}
 use Rattle.atomic_table.proofs.Lists.{at_longer, at_snoc, set_else, set_again, exchanged}
 use Rattle.bl_order.specs.Machine.{Event, Ends, Loses}
-use Rattle.bl_hall.specs.Chronicle.{Chronicle, HasTrail, Continues, with_event}
-use Rattle.bl_gate.specs.Counts.{one_if, within, times, total, StartsWith}
+use Rattle.bl_hall.specs.Chronicle.{Chronicle, HasTrail}
+use Rattle.bl_gate.specs.Counts.{one_if, within, times, gained, total, StartsWith}
 use Rattle.bl_gate.specs.Gates.{hall_with}
-use Rattle.bl_gate.specs.Views.{View, Brought, opener, nobody, brings, drew, entered, gained, went, joined, heard, stays, branch, IsIdle}
-use Rattle.bl_gate.specs.Turns.{EndsAt, EndsItsOwn, EndsWhatItStarted, NoEndBehind, AreTold, has_ticket, Queue, Slot, Trails, Kept, Sat, Draws, Looks, Passes, Hears, in_hand}
-use Rattle.bl_gate.proofs.Totals.{total_set, total_snoc, one_of, two_of, within_le, within_more, within_less, within_none, times-append}
-use Rattle.bl_gate.proofs.Trails.{get_later, get_sooner, begins_itself, begins_any, begins_whole, begins_length, ranked}
+use Rattle.bl_gate.specs.Views.{View, Brought, opener, nobody, brings, drew, entered, went, joined, heard, stays, branch, IsIdle}
+use Rattle.bl_gate.specs.Turns.{EndsItsOwn, HasGoneOn, NoEndBehind, AreTold, has_ticket, Queue, Slot, Trails, Kept, Sat, Draws, Looks, Passes, Hears, in_hand}
+use Rattle.bl_gate.proofs.Totals.{total_set, total_snoc, one_of, two_of, within_le, within_some, within_more, within_less, within_none, within_then, times-append, times-gained}
+use Rattle.bl_gate.proofs.Trails.{get_later, begins_itself, begins_any, begins_whole, begins_length, ranked}
 use Rattle.bl_gate.proofs.Halls.{legal_front}
-use Rattle.bl_gate.proofs.Parts.{at_here, set_all, same_view, queue_set, queue_same, served_below, slot_idle, slot_home, slot_out, Whole, whole_same, trails_set, no_end, ends_at_sooner}
+use Rattle.bl_gate.proofs.Parts.{at_here, set_all, same_view, queue_set, queue_same, served_below, slot_idle, slot_home, slot_out, Whole, whole_same, trails_set, no_end}
 
 abbrev S : Type 0
 S = State (Option Chronicle) View
@@ -128,7 +127,7 @@ looks base slots id t m mine out some_part empty s k wide at small =
       },
       (
         (λ _.
-            (k.trail, r.seen id v at, subst (λ (b : Chronicle). HasTrail (hall_with b k.trail)) back r.legal, refl, (λ i. (0, Some (hall_with (back i) k.trail)) ∷ empty i), no_end base k.trail s.views id v at r)),
+            (k.trail, r.seen id v at, subst (λ (b : Chronicle). HasTrail (hall_with b k.trail)) back r.legal, refl, (λ i. (0, Some (hall_with (back i) k.trail)) ∷ empty i), no_end base k.trail s.views id v at r, r.starters id v at)),
         (λ no. absurd (no turn)),
       ),
     ))
@@ -149,84 +148,19 @@ looks base slots id t m mine out some_part empty s k wide at small =
     )) in
     subst P (sym k.words) done
 
-gains_by : (own : List ℕ) (b n n' p : ℕ) (c : Bool) → eqb n n' ≡ c → b ≤ n → (n' ≡ n) ⊎ (n' ≡ n + 1) → times p (own ++ cond c [] (n ∷ [])) + within b n p ≡ times p own + within b n' p
-gains_by own b n n' p true e l next = let is : n ≡ n' = grind (arith, nat_tests) in let h = times-append p own [] in let k = ap (λ (x : ℕ). within b x p) is in omega arith
-gains_by own b n n' p false e l next =
-    let is : n' ≡ n + 1 = grind (arith, nat_tests) in
-    let h = times-append p own (n ∷ []) in
-    let k = ap (λ (x : ℕ). within b x p) is in
-    let j = within_more b n p l in omega arith
-
-gains : (own : List ℕ) (b n n' p : ℕ) → b ≤ n → (n' ≡ n) ⊎ (n' ≡ n + 1) → times p (own ++ gained n n') + within b n p ≡ times p own + within b n' p
-gains own b n n' p l next = gains_by own b n n' p (eqb n n') refl l next
-
--- this trail is the one before, or has one event more
-abbrev IsNext : List Event → List Event → Type 0
-IsNext before after = (after ≡ before) ⊎ ((event : Event) × (after ≡ before ++ event ∷ []))
-
-continues_trail : (a b : Chronicle) → Continues a b → IsNext a.trail b.trail
-continues_trail a b c = by c.by_one_at_most
-  where
-    by : (b ≡ a) ⊎ ((event : Event) × (b ≡ with_event a event)) → IsNext a.trail b.trail
-    by (inl e) = inl (ap (λ (h : Chronicle). h.trail) e)
-    by (inr e) = inr (e.0, ap (λ (h : Chronicle). h.trail) e.1)
-
-pub continues_base : (a b : Chronicle) → Continues a b → b ≡ hall_with a b.trail
-continues_base a b c = by c.by_one_at_most
-  where
-    by : (b ≡ a) ⊎ ((event : Event) × (b ≡ with_event a event)) → b ≡ hall_with a b.trail
-    by (inl e) = e ∙ ap (λ (h : Chronicle). hall_with a h.trail) (sym e)
-    by (inr e) = e.1 ∙ ap (λ (h : Chronicle). hall_with a h.trail) (sym e.1)
-
-next_starts : (before after : List Event) → IsNext before after → StartsWith after before
-next_starts before after (inl e) = ([], e ∙ sym (append-nil before))
-next_starts before after (inr e) = (e.0 ∷ [], e.1)
-
-pub continues_starts : (a b : Chronicle) → Continues a b → StartsWith b.trail a.trail
-continues_starts a b c = next_starts a.trail b.trail (continues_trail a b c)
-
-next_length : (before after : List Event) → IsNext before after → (length after ≡ length before) ⊎ (length after ≡ length before + 1)
-next_length before after (inl e) = inl (ap length e)
-next_length before after (inr e) = inr (ap length e.1 ∙ length-append before (e.0 ∷ []))
-
-mine_next : (own : List ℕ) (before after : List Event) → IsNext before after → (p : ℕ) → ((p : ℕ) → 1 ≤ times p own → p < length before)
-    → 1 ≤ times p (own ++ gained (length before) (length after)) → p < length after
-mine_next own before after next p mine o =
-    let a = times-append p own (gained (length before) (length after)) in
-    let l = begins_length after before (next_starts before after next) in
+-- positions that are owned lie in the trail, those that were gained too
+mine_gained : (own : List ℕ) (n m p : ℕ) → n ≤ m → ((p : ℕ) → 1 ≤ times p own → p < n) → 1 ≤ times p (own ++ gained n m) → p < m
+mine_gained own n m p l mine o =
+    let a = times-append p own (gained n m) in
+    let b = times-gained n m p l in
     dite (ℕ_discrete (times p own) 0)
-    (λ z. gained_at (length before) (length after) p l (omega arith))
-    (λ n. let m = mine p (omega arith) in omega arith)
-  where
-    by : (b a p : ℕ) (c : Bool) → eqb b a ≡ c → b ≤ a → 1 ≤ times p (cond c [] (b ∷ [])) → p < a
-    by b a p true e l o = absurd (omega arith)
-    by b a p false e l o = grind (arith, nat_tests)
+    (λ z. (within_some n m p (omega arith)).1)
+    (λ some. let i = mine p (omega arith) in omega arith)
 
-    gained_at : (b a p : ℕ) → b ≤ a → 1 ≤ times p (gained b a) → p < a
-    gained_at b a p l o = by b a p (eqb b a) refl l o
-
-at_end : (b a p : ℕ) (c : Bool) → eqb b a ≡ c → 1 ≤ times p (cond c [] (b ∷ [])) → p ≡ b
-at_end b a p true e o = absurd (omega arith)
-at_end b a p false e o = grind (arith, nat_tests)
-
--- who ends what it started, at one position more, ends its own
-ends_next : (v : View) (t : List Event) → IsNext v.seen t → ((p : ℕ) → 1 ≤ times p v.own → p < length v.seen) → EndsItsOwn v.seen v.own → EndsWhatItStarted v t
-    → EndsItsOwn t (v.own ++ gained (length v.seen) (length t))
-ends_next v t next mine old starts n p q o at before there =
-    let a = times-append p v.own (gained (length v.seen) (length t)) in
-    let b = times-append q v.own (gained (length v.seen) (length t)) in
-    let more = next_starts v.seen t next in
-    dite (ℕ_discrete (times p v.own) 0)
-    (λ z. let is : p ≡ length v.seen = at_end (length v.seen) (length t) p (eqb (length v.seen) (length t)) refl (omega arith) in
-    let h : 1 ≤ times q v.own = starts n q (subst (λ (k : ℕ). EndsAt t k n) is at) (sym (get_sooner t v.seen q more (omega arith)) ∙ there) in omega arith)
-    (λ no. let lt : p < length v.seen = mine p (omega arith) in
-    let h : 1 ≤ times q v.own = old n p q (omega arith) (ends_at_sooner v.seen t p n more lt at) before (sym (get_sooner t v.seen q more (omega arith)) ∙ there) in omega arith)
-
--- who is inside puts the hall back, as it was or with one event more, and the next ticket is served
-pub passes : (base : Chronicle) (slots id : ℕ) (m : Sat) (hall : Chronicle) → m.1 ≡ (0, Some hall) ∷ [] → m.0.inside ≡ true → 0 < m.0.parts → m.0.met ≡ []
-    → Continues (hall_with m.0.base m.0.seen) hall → EndsWhatItStarted m.0 hall.trail
+-- who is inside puts the hall back as it went on, and the next ticket is served
+pub passes : (base : Chronicle) (slots id : ℕ) (m : Sat) (hall : Chronicle) → m.1 ≡ (0, Some hall) ∷ [] → m.0.inside ≡ true → 0 < m.0.parts → m.0.met ≡ [] → HasGoneOn m.0 hall
     → Allows (Kept base) slots id m 1 (λ n. (n + 1) % 2 ^ 64) (Passes (step slots 1 1 0 none) m)
-passes base slots id m hall hand is some_part untold continues starts s k wide at small =
+passes base slots id m hall hand is some_part untold on s k wide at small =
     let f : ℕ → ℕ = λ n. (n + 1) % 2 ^ 64 in
     let P : List ℕ → Type 0 = λ ws. (w : View) × (a : A) × Valid s.homes m.1 a
     × Kept base (at_words (set ws 1 (f (get_or ws 1 0))) (homes_after s.homes m.1 a) (set s.views id w))
@@ -240,10 +174,10 @@ passes base slots id m hall hand is some_part untold continues starts s k wide a
     let below = served_below k.drawn k.served s.views id v at q hold.turn in
     let no_wrap : (k.served + 1) % 2 ^ 64 ≡ k.served + 1 = (let b = q.small in mod-eq_of_lt (omega arith)) in
     let is_base : v.base ≡ base = r.based id v at some_part in
-    let next = continues_trail (hall_with v.base v.seen) hall continues in
-    let whole : hall ≡ hall_with base t = continues_base (hall_with v.base v.seen) hall continues ∙ ap (λ (b : Chronicle). hall_with b t) is_base in
+    let whole : hall ≡ hall_with base t = on.of_hall ∙ ap (λ (b : Chronicle). hall_with b t) is_base in
     let trail_is : k.trail ≡ v.seen = sym hold.knows in
-    let more : StartsWith t k.trail = subst (StartsWith t) (sym trail_is) (next_starts v.seen t next) in
+    let more : StartsWith t k.trail = subst (StartsWith t) (sym trail_is) on.seen in
+    let longer : length v.seen ≤ length t = begins_length t v.seen on.seen in
     let first : length base.trail ≤ length v.seen = (let h = begins_length k.trail base.trail r.begins in let e : length k.trail ≡ length v.seen = ap length trail_is in omega arith) in
     let put : homes_after s.homes m.1 gives ≡ some (Some (hall_with base t)) ∷ [] = (λ i. homes_after (hold.out i) (hand i) gives) ∙ ap (λ (h : Chronicle). some (Some h) ∷ []) whole in
     let done : P (k.drawn ∷ k.served ∷ []) = (
@@ -260,11 +194,13 @@ passes base slots id m hall hand is some_part untold continues starts s k wide a
             refl some_part;
         slot = inl (put, set_all (λ j u. u.inside ≡ false) s.views id w refl (λ j u n e. hold.others j u n e));
         trails = trails_set base k.trail t s.views id v w at r more (begins_itself t) (subst (AreTold v.base t) (sym untold) tt) is_base
-            (id, w, at_here s.views id v w at, refl) (subst HasTrail whole continues.trail)
-            (λ p o. mine_next v.own v.seen t next p (r.mine id v at) o)
-            (λ p. let h = gains v.own (length base.trail) (length v.seen) (length t) p first (next_length v.seen t next) in
+            (id, w, at_here s.views id v w at, refl) (subst HasTrail whole on.legal)
+            (λ p o. mine_gained v.own (length v.seen) (length t) p longer (r.mine id v at) o)
+            (λ p. let a = times-append p v.own (gained (length v.seen) (length t)) in
+            let b = times-gained (length v.seen) (length t) p longer in
+            let c = within_then (length base.trail) (length v.seen) (length t) p first longer in
             let e : within (length base.trail) (length k.trail) p ≡ within (length base.trail) (length v.seen) p = ap (λ (l : List Event). within (length base.trail) (length l) p) trail_is in omega arith)
-            (ends_next v t next (r.mine id v at) (subst (λ (l : List Event). EndsItsOwn l v.own) trail_is (r.starters id v at)) starts);
+            on.ends;
       },
       (ap (λ (c : List (ℕ × Option Chronicle)). went v (hand_of c)) (sym hand), refl),
     ) in

@@ -1,11 +1,11 @@
 -- Sums over all views, after one view changes.
-use Rattle.std.proofs.Common.{◌≡◌, ◌≢◌, ℕ, zero, suc, ◌+◌, ◌<◌, ◌≤◌, ◌⊎◌, inl, inr, List, [], ◌∷◌, ◌++◌, eqb, set, refl, sym, ap, arith}
+use Rattle.std.proofs.Common.{◌≡◌, ◌≢◌, ℕ, zero, suc, ◌+◌, ◌-◌, ◌<◌, ◌≤◌, ◌⊎◌, inl, inr, List, [], ◌∷◌, ◌++◌, eqb, set, refl, sym, ap, ◌∙◌, arith}
 use Rattle.std.proofs.lemmas.Bool.Decides.{nat_tests}
 use mathlib.Core.Option.{some, some-injective, some-ne-none}
 use mathlib.Core.Logic.{dite}
 use native.Mathlib.Decide.{ℕ_discrete}
 use lib.ListN.{get_elem?}
-use Rattle.bl_gate.specs.Counts.{one_if, within, times, total}
+use Rattle.bl_gate.specs.Counts.{one_if, within, times, from, gained, total}
 
 module _ {A : Type 0} (f : A → ℕ) where
   pub total_set : (l : List A) (i : ℕ) (v w : A) → get_elem? l i ≡ some v → total f (set l i w) + f v ≡ total f l + f w
@@ -62,3 +62,39 @@ within_none a x = grind (arith, nat_tests)
 pub times-append : (x : ℕ) (ys zs : List ℕ) → times x (ys ++ zs) ≡ times x ys + times x zs
 times-append x [] zs = omega arith
 times-append x (y ∷ ys) zs = let h = times-append x ys zs in omega arith
+
+-- up to some number, and from there on
+pub within_then : (a b c x : ℕ) → a ≤ b → b ≤ c → within a b x + within b c x ≡ within a c x
+within_then a b c x p q = grind (arith, nat_tests)
+
+-- ---- positions in a row
+
+from-append : (a m n : ℕ) → from a (m + n) ≡ from a m ++ from (a + m) n
+from-append a zero n = ap (from a) (let e : 0 + n ≡ n = omega arith in e) ∙ ap (λ (k : ℕ). from k n) (let e : a ≡ a + 0 = omega arith in e)
+from-append a (suc m) n =
+    ap (from a) (let e : suc m + n ≡ suc (m + n) = omega arith in e)
+    ∙ (ap (λ (l : List ℕ). a ∷ l) (from-append (a + 1) m n)
+    ∙ ap (λ (k : ℕ). a ∷ (from (a + 1) m ++ from k n)) (let e : a + 1 + m ≡ a + suc m = omega arith in e))
+
+times-from : (a n x : ℕ) → times x (from a n) ≡ within a (a + n) x
+times-from a zero x = sym (within_none a x) ∙ ap (λ (k : ℕ). within a k x) (let e : a ≡ a + 0 = omega arith in e)
+times-from a (suc n) x =
+    let h = times-from (a + 1) n x in
+    let k : within (a + 1) (a + 1 + n) x ≡ within (a + 1) (a + suc n) x = ap (λ (b : ℕ). within (a + 1) b x) (omega arith) in
+    let j = within_less a (a + suc n) x (omega arith) in omega arith
+
+-- each position between two lengths is gained once
+pub times-gained : (a b x : ℕ) → a ≤ b → times x (gained a b) ≡ within a b x
+times-gained a b x l = times-from a (b - a) x ∙ ap (λ (k : ℕ). within a k x) (let e : a + (b - a) ≡ b = omega arith in e)
+
+pub gained_none : (a : ℕ) → gained a a ≡ []
+gained_none a = ap (from a) (let e : a - a ≡ 0 = omega arith in e)
+
+pub gained_one : (a b : ℕ) → b ≡ a + 1 → gained a b ≡ a ∷ []
+gained_one a b next = ap (from a) (let e : b - a ≡ 1 = omega arith in e)
+
+pub gained_then : (a b c : ℕ) → a ≤ b → b ≤ c → gained a c ≡ gained a b ++ gained b c
+gained_then a b c p q =
+    ap (from a) (let e : c - a ≡ (b - a) + (c - b) = omega arith in e)
+    ∙ (from-append a (b - a) (c - b)
+    ∙ ap (λ (k : ℕ). gained a b ++ from k (c - b)) (let e : a + (b - a) ≡ b = omega arith in e))

@@ -9,7 +9,7 @@ use Rattle.bl_core.specs.Answers.{loan_at}
 use Rattle.bl_core.specs.declared.machine.Started.{Started}
 use Rattle.bl_core.specs.declared.machine.Started.TheVariants.{Denied, RuleDone, Run}
 use Rattle.bl_hall.specs.Chronicle.{Chronicle, state_now}
-use Rattle.bl_gate.specs.Counts.{StartsWith, times}
+use Rattle.bl_gate.specs.Counts.{StartsWith, gained, times}
 
 -- a gate: its table's own name, and the hall that it was given
 pub record GateId : Type 0 where
@@ -37,6 +37,15 @@ no_hall = record {
   trail = [];
 }
 
+-- a pass that was taken from where it was leaves this there, which is of no gate
+abbrev pub no_pass : PassView
+no_pass = record {
+  gate = record { table = record { words = 0; slots = 0; views_name = 0; atom = 0; block = 0; offset = 0; slot_names = [] }; base = no_hall };
+  seen = [];
+  own = [];
+  parts = 0;
+}
+
 -- a hall with another trail
 abbrev pub hall_with : Chronicle → List Event → Chronicle
 hall_with base trail = record { setup = base.setup; limit = base.limit; trail = trail }
@@ -53,6 +62,10 @@ pub record Follows (before after : PassView) : Type 0 where
   pub gate : after.gate ≡ before.gate
   pub parts : after.parts ≡ before.parts
   pub seen : StartsWith after.seen before.seen
+
+-- every position that the pass has seen since then is its own: nobody else has made an event
+abbrev pub OwnsAllSince : PassView → PassView → Type 0
+OwnsAllSince before after = after.own ≡ before.own ++ gained (length before.seen) (length after.seen)
 
 -- A call that is an event. The trail begins with all that the pass had seen and ends with the event, where the pass has gained the
 -- position; and what is answered holds in the state that the trail led to before it.

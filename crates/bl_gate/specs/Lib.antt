@@ -1,4 +1,5 @@
 pub mod Counts
 pub mod Gates
 pub mod Views
+pub mod Seats
 pub mod Turns

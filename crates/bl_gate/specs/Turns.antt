@@ -1,6 +1,6 @@
 -- The rule of the gate's table, and what each step on it tells.
 -- Word 0 counts the tickets drawn, word 1 those served. The slot has the hall.
-use Rattle.std.specs.Prelude.{◌≡◌, ◌≢◌, ℕ, ◌<◌, ◌≤◌, ◌==◌, true, false, ◌⊎◌, List, [], ◌∷◌, length, slice_get, Option, Some, None}
+use Rattle.std.specs.Prelude.{◌≡◌, ◌≢◌, ℕ, ◌<◌, ◌≤◌, ◌==◌, true, false, ◌⊎◌, List, [], ◌∷◌, ◌++◌, length, slice_get, Option, Some, None}
 use mathlib.Core.Option.{some, none}
 use mathlib.Core.Option as Found
 use lib.ListN.{get_elem?}
@@ -8,7 +8,7 @@ use Rattle.atomic_table.specs.Table as table
 use Rattle.atomic_table.specs.Table.{Me, Step, rest}
 use Rattle.bl_order.specs.Machine.{Event, Starts, Ends, Loses}
 use Rattle.bl_hall.specs.Chronicle.{Chronicle, HasTrail}
-use Rattle.bl_gate.specs.Counts.{one_if, within, times, total, StartsWith}
+use Rattle.bl_gate.specs.Counts.{one_if, within, times, gained, total, StartsWith}
 use Rattle.bl_gate.specs.Gates.{hall_with}
 use Rattle.bl_gate.specs.Views.{View, Brought, nobody, brings, drew, entered, went, heard}
 
@@ -53,10 +53,6 @@ EndsAt trail p n = (slice_get trail p ≡ Some (Ends n)) ⊎ (slice_get trail p 
 abbrev pub EndsItsOwn : List Event → List ℕ → Type 0
 EndsItsOwn trail own = (n p q : ℕ) → 1 ≤ times p own → EndsAt trail p n → q < p → slice_get trail q ≡ Some (Starts n) → 1 ≤ times q own
 
--- where the first event behind what was seen ends an entry whose start was seen, the seat owns that start
-abbrev pub EndsWhatItStarted : View → List Event → Type 0
-EndsWhatItStarted v trail = (n q : ℕ) → EndsAt trail (length v.seen) n → slice_get v.seen q ≡ Some (Starts n) → 1 ≤ times q v.own
-
 -- of the entries that were started here, none ends in the trail behind what was seen
 abbrev pub NoEndBehind : Brought → List Event → Type 0
 NoEndBehind b trail = (n q r : ℕ) → 1 ≤ times q b.own → slice_get b.seen q ≡ Some (Starts n) → length b.seen ≤ r → EndsAt trail r n → ⊥
@@ -85,6 +81,14 @@ pub record Trails (base : Chronicle) (trail : List Event) (views : List View) : 
   pub owned : (p : ℕ) → total (λ v. times p v.own) views ≡ within (length base.trail) (length trail) p
   pub starters : (i : ℕ) (v : View) → get_elem? views i ≡ some v → EndsItsOwn trail v.own
 
+-- A hall that was taken, and went on: it is the hall that the gate was given, with a trail that begins with what was seen where it was
+-- taken, and of the entries that were ended there the starts are one's own.
+pub record HasGoneOn (v : View) (hall : Chronicle) : Type 0 where
+  pub of_hall : hall ≡ hall_with v.base hall.trail
+  pub legal : HasTrail hall
+  pub seen : StartsWith hall.trail v.seen
+  pub ends : EndsItsOwn hall.trail (v.own ++ gained (length v.seen) (length hall.trail))
+
 -- The rule.
 pub record Kept (base : Chronicle) (s : table.State (Option Chronicle) View) : Type 0 where
   pub drawn : ℕ
@@ -106,12 +110,12 @@ Told = Step (Option Chronicle)
 abbrev pub Draws : Told → Sat → ℕ → Sat → Type 0
 Draws st m found n = (n.1 ≡ m.1) × (found ≡ st.first → n.0 ≡ drew m.0 found) × (found ≢ st.first → n.0 ≡ m.0)
 
--- the hall came into the seat's hands, with a legal trail that begins with all that it had seen, and nobody else has ended what it
--- had started
+-- the hall came into the seat's hands, with a legal trail that begins with all that it had seen; nobody else has ended what it had
+-- started, and it has ended nothing else
 abbrev pub Comes : Sat → Sat → Type 0
 Comes m n =
     (trail : List Event) × StartsWith trail m.0.seen × HasTrail (hall_with m.0.base trail) × (n.0 ≡ entered m.0 trail)
-    × (n.1 ≡ (0, Some (hall_with m.0.base trail)) ∷ []) × NoEndBehind (brings m.0) trail
+    × (n.1 ≡ (0, Some (hall_with m.0.base trail)) ∷ []) × NoEndBehind (brings m.0) trail × EndsItsOwn trail m.0.own
 
 -- a look at served: the hall comes where the seat's ticket is served, and otherwise nothing changes
 abbrev pub Looks : Told → Sat → ℕ → Sat → Type 0

@@ -1,7 +1,8 @@
 -- What a seat of the gate's table knows, and how it changes.
-use Rattle.std.specs.Prelude.{◌≡◌, ℕ, ◌+◌, ◌-◌, ◌<◌, ◌==◌, Bool, true, false, cond, List, [], ◌∷◌, ◌++◌, length, Option, Some, None, nat_le}
+use Rattle.std.specs.Prelude.{◌≡◌, ℕ, ◌+◌, ◌-◌, ◌<◌, Bool, true, false, cond, List, [], ◌∷◌, ◌++◌, length, Option, Some, None, nat_le}
 use Rattle.bl_order.specs.Machine.{Event}
 use Rattle.bl_hall.specs.Chronicle.{Chronicle}
+use Rattle.bl_gate.specs.Counts.{gained}
 use Rattle.bl_gate.specs.Gates.{no_hall}
 
 -- what a seat brings where two meet: the hall that the gate was given, the trail that it had seen, and the positions of its own calls
@@ -36,10 +37,6 @@ drew v ticket = record v { ticket = Some ticket }
 -- the hall was taken, with this trail
 abbrev pub entered : View → List Event → View
 entered v trail = record v { seen = trail; met = []; inside = true }
-
--- the position that a longer trail has more
-abbrev pub gained : ℕ → ℕ → List ℕ
-gained before after = cond (before == after) [] (before ∷ [])
 
 -- the hall was put back, with this trail
 abbrev pub went : View → List Event → View

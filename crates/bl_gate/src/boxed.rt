@@ -37,6 +37,14 @@ impl BoxedHall {
         }
     }
 
+    /// The hall in its memory.
+    pub(crate) fn into_box(self) -> Box<Hall>
+        ensures { result.value ≡ self }
+    {
+        let BoxedHall { inner } = self;
+        inner
+    }
+
     /// The hall, and no more memory of its own.
     pub(crate) fn into_hall(self) -> Hall
         ensures { result ≡ self }

@@ -8,12 +8,13 @@ ghost use Rattle.bl_hall.specs.Chronicle.{Continues, HasTrail};
 ghost use Rattle.bl_hall.specs.Told.{AreAnswers, IsUnanswered, Waits, reply_of};
 ghost use Rattle.bl_gate.specs.Counts.{StartsWith, times, within};
 ghost use Rattle.bl_gate.specs.Gates.{Calls, Follows, GivesInHand, HasLoanInHand, InHand, IsOf, KeepsInHand, KeepsInHandBut, hall_seen, hall_with, state_seen};
-ghost use Rattle.bl_gate.specs.Turns.{EndsWhatItStarted, NoEndBehind};
+ghost use Rattle.bl_gate.specs.Turns.{EndsItsOwn, HasGoneOn, NoEndBehind};
 ghost use Rattle.bl_gate.specs.Views.{IsIdle, HasTurn, brings, drew, entered, went};
 
 use crate::boxed::BoxedHall;
 use crate::pass::{PARTS, Pass, Place};
 use crate::rule::{Both, Draw, Hear, InTurn, Look, OnePart, PassOn, View};
+use crate::turn::Turn;
 use atomic_table::{Refused as NoTable, Table};
 use bl_core::machine::Started;
 use bl_core::refusal::{NotReady, OpenRefused, Refused, StartFault, Starved};
@@ -34,8 +35,8 @@ use std::time::Duration;
 /// How long a call sleeps at most before it looks again whether its turn has come.
 const NAP_MICROS: u64 = 50;
 
-/// A hall that many threads call, each with a pass of its own, in the order of their tickets: a call draws a ticket, waits until it is
-/// served, makes one call of the hall, and has the next ticket served. So all calls stand in one trail, and a pass knows what it has
+/// A hall that many threads call, each with a pass of its own, in the order of their tickets: who calls it draws a ticket, waits until it
+/// is served, makes its calls of the hall, one or, in a `Turn`, several, and has the next ticket served. So all calls stand in one trail, and a pass knows what it has
 /// seen of it and which positions are its own. An entry that a pass has started, and that runs, is in its hand until it ends it itself: no
 /// other pass can.
 ///
@@ -107,7 +108,13 @@ impl Gate {
                     names,
                     lobby,
                 };
-                Ok((gate, Pass { seat, parts: PARTS }))
+                Ok((
+                    gate,
+                    Pass {
+                        seat: Some(seat),
+                        parts: PARTS,
+                    },
+                ))
             }
             Err(NoTable { mut slots }) => {
                 drop(names);
@@ -197,6 +204,7 @@ impl Gate {
         ensures turn { (t : ℕ) × (seat.new.me.0 ≡ entered (drew seat.old.me.0 t) result.trail) }
         ensures hands { seat.new.me.1 ≡ (0, None) ∷ [] }
         ensures no_end { NoEndBehind (brings seat.old.me.0) result.trail }
+        ensures ends { EndsItsOwn result.trail seat.old.me.0.own }
     {
         let ticket = self.draw(rt, seat);
         let shared = &self.table.shared;
@@ -211,18 +219,39 @@ impl Gate {
         unreachable!()
     }
 
-    /// Puts the hall back, as it was taken or with one event more, and has the next ticket served.
-    fn leave(&self, seat: &mut Place, hall: BoxedHall)
+    /// Puts the hall back as it went on, and has the next ticket served.
+    pub(crate) fn put_back(&self, seat: &mut Place, hall: BoxedHall)
         requires gate { seat.old.table_id ≡ self.now.table }
         requires turn { HasTurn seat.old.me.0 × (seat.old.me.1 ≡ (0, None) ∷ []) }
-        requires next { Continues (hall_with seat.old.me.0.base seat.old.me.0.seen) hall }
-        requires starts { EndsWhatItStarted seat.old.me.0 hall.trail }
+        requires on { HasGoneOn seat.old.me.0 hall }
         ensures gate { seat.new.table_id ≡ seat.old.table_id }
         ensures went { seat.new.me ≡ (went seat.old.me.0 hall.trail, []) }
     {
         let shared = &self.table.shared;
         drop(shared.exchange(seat, 0, Some(hall)));
         shared.fetch_add::<PassOn>(seat, 1, 1);
+    }
+
+    /// A turn at the gate: waits until nobody else has the hall, takes it, and has it until the turn is left. Nobody else makes a call
+    /// in between. The turn is what the pass was, and has seen the hall's trail.
+    pub fn turn<'a, R: Wait>(&'a self, rt: &R, pass: Pass) -> Turn<'a>
+        requires gate { pass.gate ≡ self.now }
+        ensures follows { Follows pass result }
+        ensures trail { HasTrail (hall_seen result) }
+        ensures in_hand { KeepsInHand pass result }
+        ensures own { result.own ≡ pass.own }
+    {
+        let _table = &self.table;
+        let (mut seat, parts) = pass.into_seat();
+        let alone = self.come_in(rt);
+        let hall = self.enter(rt, &mut seat).into_box();
+        Turn {
+            gate: self,
+            alone,
+            seat,
+            hall,
+            parts,
+        }
     }
 
     /// Opens a session for a subject, and answers its number, as the hall does at that point of the trail. A refusal is the hall's
@@ -240,10 +269,9 @@ impl Gate {
         ensures ok { IfOk result (λ session. Calls pass.old (Opens subject) (λ x. session ≡ length x.sessions) pass.new) }
         ensures err { IfErr result (λ refused. (pass.new.own ≡ pass.old.own) × IsNotOpened (state_seen pass.new) subject refused) }
     {
-        let _alone = self.come_in(rt);
-        let mut hall = self.enter(rt, &mut pass.seat);
-        let answer = hall.inner.open(subject);
-        self.leave(&mut pass.seat, hall);
+        let mut turn = self.turn(rt, pass.take());
+        let answer = turn.open(subject);
+        *pass = turn.leave();
         answer
     }
 
@@ -265,10 +293,9 @@ impl Gate {
         ensures err { IfErr result (λ refused. (pass.new.own ≡ pass.old.own) × IsCause (state_seen pass.new) session ordinal work refused.cause) }
         ensures back { IfErr result (λ refused. refused.work ≡ work) }
     {
-        let _alone = self.come_in(rt);
-        let mut hall = self.enter(rt, &mut pass.seat);
-        let answer = hall.inner.line(session, ordinal, work);
-        self.leave(&mut pass.seat, hall);
+        let mut turn = self.turn(rt, pass.take());
+        let answer = turn.line(session, ordinal, work);
+        *pass = turn.leave();
         answer
     }
 
@@ -286,10 +313,9 @@ impl Gate {
         ensures gives { IfOk result (GivesInHand pass.new) }
         ensures starved { IfErr result (IsStarvedBy n) }
     {
-        let _alone = self.come_in(rt);
-        let mut hall = self.enter(rt, &mut pass.seat);
-        let answer = hall.inner.start(n);
-        self.leave(&mut pass.seat, hall);
+        let mut turn = self.turn(rt, pass.take());
+        let answer = turn.start(n);
+        *pass = turn.leave();
         answer
     }
 
@@ -303,10 +329,9 @@ impl Gate {
         ensures in_hand { KeepsInHandBut done.entry pass.old pass.new }
         ensures calls { Calls pass.old (Ends done.entry) (λ x. IsLentBy x done) pass.new }
     {
-        let _alone = self.come_in(rt);
-        let mut hall = self.enter(rt, &mut pass.seat);
-        hall.inner.finish_lent(done);
-        self.leave(&mut pass.seat, hall);
+        let mut turn = self.turn(rt, pass.take());
+        turn.finish(done);
+        *pass = turn.leave();
     }
 
     /// Ends an entry that the pass has in hand as lost, with what it was lent, as the hall does at that point of the trail. Nobody else
@@ -319,10 +344,9 @@ impl Gate {
         ensures in_hand { KeepsInHandBut unrun.entry pass.old pass.new }
         ensures calls { Calls pass.old (Loses unrun.entry) (λ x. IsLentBy x unrun) pass.new }
     {
-        let _alone = self.come_in(rt);
-        let mut hall = self.enter(rt, &mut pass.seat);
-        hall.inner.lose_lent(unrun);
-        self.leave(&mut pass.seat, hall);
+        let mut turn = self.turn(rt, pass.take());
+        turn.lose(unrun);
+        *pass = turn.leave();
     }
 
     /// Ends an entry as lost that was refused memory at its start, as the hall does at that point of the trail. `NotReady` comes where
@@ -340,10 +364,9 @@ impl Gate {
         ensures ok { OnOk result (Calls pass.old (Loses starved) (λ x. MayStart x starved) pass.new) }
         ensures err { OnErr result ((pass.new.own ≡ pass.old.own) × (¬ MayStart (state_seen pass.new) starved)) }
     {
-        let _alone = self.come_in(rt);
-        let mut hall = self.enter(rt, &mut pass.seat);
-        let answer = hall.inner.lose_ready(starved);
-        self.leave(&mut pass.seat, hall);
+        let mut turn = self.turn(rt, pass.take());
+        let answer = turn.lose_ready(starved);
+        *pass = turn.leave();
         answer
     }
 
@@ -357,10 +380,9 @@ impl Gate {
         ensures some { IfSome result (λ n. MayStart (state_seen pass.new) n) }
         ensures none { IsNone result → (n : ℕ) → ¬ MayStart (state_seen pass.new) n }
     {
-        let _alone = self.come_in(rt);
-        let hall = self.enter(rt, &mut pass.seat);
-        let answer = hall.inner.ready();
-        self.leave(&mut pass.seat, hall);
+        let turn = self.turn(rt, pass.take());
+        let answer = turn.ready();
+        *pass = turn.leave();
         answer
     }
 
@@ -385,10 +407,9 @@ impl Gate {
         ensures known { IfOk result (λ found. IfSome found (λ replies. All (λ reply. KnowsAnswer (state_seen pass.new).setup reply.answer) replies.items)) }
         ensures fault { IfErr result (λ fault. IsUnanswered (state_seen pass.new) session fault) }
     {
-        let _alone = self.come_in(rt);
-        let hall = self.enter(rt, &mut pass.seat);
-        let answer = hall.inner.answers(session, after);
-        self.leave(&mut pass.seat, hall);
+        let turn = self.turn(rt, pass.take());
+        let answer = turn.answers(session, after);
+        *pass = turn.leave();
         answer
     }
 
@@ -402,9 +423,17 @@ impl Gate {
         ensures in_hand { KeepsInHand pass.old pass.new }
         ensures new { (result.seen ≡ pass.old.seen) × (result.own ≡ []) }
     {
-        let seat = self.table.shared.split_seat::<OnePart>(&mut pass.seat);
-        pass.parts -= 1;
-        Pass { seat, parts: 1 }
+        let shared = &self.table.shared;
+        let (mut seat, parts) = pass.take().into_seat();
+        let other = shared.split_seat::<OnePart>(&mut seat);
+        *pass = Pass {
+            seat: Some(seat),
+            parts: parts - 1,
+        };
+        Pass {
+            seat: Some(other),
+            parts: 1,
+        }
     }
 
     /// Takes in another pass of the same gate, with all its parts. The pass has then seen what each had seen, and owns the positions
@@ -419,10 +448,15 @@ impl Gate {
         ensures in_hand { KeepsInHand pass.old pass.new × KeepsInHand other pass.new }
         ensures hands { (n : ℕ) → InHand pass.old n → InHand other n → ⊥ }
     {
-        let Pass { seat, parts } = other;
-        self.table.shared.join_seat::<Both>(&mut pass.seat, seat);
-        self.table.shared.load::<Hear>(&mut pass.seat, 1);
-        pass.parts += parts;
+        let shared = &self.table.shared;
+        let (mut seat, parts) = pass.take().into_seat();
+        let (theirs, more) = other.into_seat();
+        shared.join_seat::<Both>(&mut seat, theirs);
+        shared.load::<Hear>(&mut seat, 1);
+        *pass = Pass {
+            seat: Some(seat),
+            parts: parts + more,
+        };
     }
 
     /// The hall, once all parts have met in one pass. The gate is handed over, so nobody is inside a call. The hall's trail is what
@@ -435,7 +469,8 @@ impl Gate {
         ensures begins { StartsWith result.trail pass.gate.base.trail }
         ensures own { (p : ℕ) → times p pass.own ≡ within (length pass.gate.base.trail) (length result.trail) p }
     {
-        let Pass { seat, parts: _ } = pass;
+        let _table = &self.table;
+        let (seat, _parts) = pass.into_seat();
         let Gate {
             table,
             names,

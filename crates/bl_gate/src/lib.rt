@@ -5,9 +5,11 @@
 //!     gate    the gate, and the calls of the hall through it
 //!     pass    what a thread calls a gate with
 //!     rule    what the gate's table keeps between any two steps
+//!     turn    several calls of the hall while nobody else makes one
 #![tactic(auto)]
 
 pub mod boxed;
 pub mod gate;
 pub mod pass;
 pub mod rule;
+pub mod turn;

@@ -1,4 +1,4 @@
-use Rattle.std.proofs.Common.{rules, subst, sym, ap, ◌∙◌, arith}
+use Rattle.std.proofs.Common.{rules, subst, sym}
 use Rattle.bl_gate.specs.Views.{IsIdle}
 use Rattle.bl_gate.specs.Turns.{Sat}
 use Rattle.bl_gate.proofs.Steps.{draws}

@@ -1,7 +1,7 @@
 use Rattle.std.proofs.Common.{rules, ◌≡◌, ℕ, ◌+◌, ◌<◌, ◌≤◌, ap, sym, ◌∙◌, subst, arith}
 use Rattle.bl_hall.specs.Chronicle.{HasTrail}
 use Rattle.bl_gate.specs.Counts.{times}
-use Rattle.bl_gate.specs.Gates.{hall_with}
+use Rattle.bl_gate.specs.Gates.{GateId, PassView, hall_with}
 use Rattle.bl_gate.specs.Views.{View, heard, joined}
 use Rattle.bl_gate.specs.Turns.{AreTold, Sat}
 use Rattle.bl_gate.proofs.Steps.{joins, hears}
@@ -9,20 +9,27 @@ use Rattle.bl_gate.proofs.Holding.{met}
 use Rattle.bl_gate.proofs.gate.Gate.meet.Goals as goal
 
 pub join_seat-requires : goal.join_seat-requires
-join_seat-requires c = (search rules, search rules, c.other.invariant.1, search rules, joins _ _ _ _ _ c.pass.invariant.0 c.other.invariant.0)
+join_seat-requires c = (
+  ap (λ (q : PassView). q.gate.table) (c.into_seat-seat.ensures.same ∙ c.take.ensures.taken) ∙ (ap (λ (i : GateId). i.table) c.requires.gate.0 ∙ sym (ap (λ (i : GateId). i.table) c.self.view_is)),
+  ap (λ (q : PassView). q.gate.table) c.into_seat-theirs.ensures.same ∙ (ap (λ (i : GateId). i.table) c.requires.gate.1 ∙ sym (ap (λ (i : GateId). i.table) c.self.view_is)),
+  c.into_seat-theirs.ensures.idle.1,
+  search rules,
+  joins _ _ _ _ _ c.into_seat-seat.ensures.idle.0 c.into_seat-theirs.ensures.idle.0,
+)
 
 pub load-requires : goal.load-requires
 load-requires c =
-    let e : c.join_seat.new.seat.me.0 ≡ joined c.pass.inside.seat.me.0 c.other.inside.seat.me.0 = ap (λ (m : Sat). m.0) c.join_seat.ensures.2 in
-    let some_part : 0 < c.pass.inside.seat.me.0.parts = c.pass.invariant.0.3 in
+    let e : c.join_seat.new.seat.me.0 ≡ joined c.into_seat-seat.result.0.me.0 c.into_seat-theirs.result.0.me.0 = ap (λ (m : Sat). m.0) c.join_seat.ensures.2 in
+    let some_part : 0 < c.into_seat-seat.result.0.me.0.parts = c.into_seat-seat.ensures.idle.0.3 in
     (search rules, search rules, hears _ _ _ _ (ap (λ (v : View). v.inside) e) (subst (λ (v : View). 0 < v.parts) (sym e) (omega arith)))
 
 pub returns-clause-in_hand : goal.returns-clause-in_hand
 returns-clause-in_hand c =
-    let v : View = c.pass.inside.seat.me.0 in
-    let u : View = c.other.inside.seat.me.0 in
+    let v : View = c.into_seat-seat.result.0.me.0 in
+    let u : View = c.into_seat-theirs.result.0.me.0 in
     let e : c.join_seat.new.seat.me.0 ≡ joined v u = ap (λ (m : Sat). m.0) c.join_seat.ensures.2 in
-    let all = met c.args.pass.now c.args.other c.pass.inside.seat.table_id c.other.inside.seat.table_id c.load.new.seat.table_id v u c.load.new.seat.me.0 c.pass.inside.parts c.other.inside.parts (c.pass.inside.parts + c.other.inside.parts) c.pass.view_is c.other.view_is
+    let all = met c.args.pass.now c.args.other c.into_seat-seat.result.0.table_id c.into_seat-theirs.result.0.table_id c.load.new.seat.table_id v u c.load.new.seat.me.0 c.into_seat-seat.result.1 c.into_seat-theirs.result.1 (c.into_seat-seat.result.1 + c.into_seat-theirs.result.1)
+    (c.into_seat-seat.ensures.same ∙ c.take.ensures.taken) c.into_seat-theirs.ensures.same
     (ap (λ (m : Sat). m.0) c.load.ensures.2.0 ∙ ap heard e)
     (subst (λ (x : View). AreTold x.base x.seen x.met) e c.load.ensures.2.1)
     (subst (λ (x : View). HasTrail (hall_with x.base x.seen)) e c.load.ensures.2.4)
@@ -31,10 +38,11 @@ returns-clause-in_hand c =
 
 pub returns-clause-hands : goal.returns-clause-hands
 returns-clause-hands c =
-    let v : View = c.pass.inside.seat.me.0 in
-    let u : View = c.other.inside.seat.me.0 in
+    let v : View = c.into_seat-seat.result.0.me.0 in
+    let u : View = c.into_seat-theirs.result.0.me.0 in
     let e : c.join_seat.new.seat.me.0 ≡ joined v u = ap (λ (m : Sat). m.0) c.join_seat.ensures.2 in
-    let all = met c.args.pass.now c.args.other c.pass.inside.seat.table_id c.other.inside.seat.table_id c.load.new.seat.table_id v u c.load.new.seat.me.0 c.pass.inside.parts c.other.inside.parts (c.pass.inside.parts + c.other.inside.parts) c.pass.view_is c.other.view_is
+    let all = met c.args.pass.now c.args.other c.into_seat-seat.result.0.table_id c.into_seat-theirs.result.0.table_id c.load.new.seat.table_id v u c.load.new.seat.me.0 c.into_seat-seat.result.1 c.into_seat-theirs.result.1 (c.into_seat-seat.result.1 + c.into_seat-theirs.result.1)
+    (c.into_seat-seat.ensures.same ∙ c.take.ensures.taken) c.into_seat-theirs.ensures.same
     (ap (λ (m : Sat). m.0) c.load.ensures.2.0 ∙ ap heard e)
     (subst (λ (x : View). AreTold x.base x.seen x.met) e c.load.ensures.2.1)
     (subst (λ (x : View). HasTrail (hall_with x.base x.seen)) e c.load.ensures.2.4)

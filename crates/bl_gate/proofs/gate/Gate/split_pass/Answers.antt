@@ -1,16 +1,14 @@
-use Rattle.std.proofs.Common.{rules, ◌≡◌, ap, ◌∙◌, arith}
-use Rattle.bl_gate.specs.Gates.{PassView}
+use Rattle.std.proofs.Common.{rules, ◌≡◌, ap, sym, ◌∙◌, arith}
+use Rattle.bl_gate.specs.Gates.{GateId, PassView}
 use Rattle.bl_gate.proofs.Steps.{splits}
 use Rattle.bl_gate.proofs.gate.Gate.split_pass.Goals as goal
 
-pub split_seat-seat-requires : goal.split_seat-seat-requires
-split_seat-seat-requires c =
-    let is : c.pass.inside.seat.me.0.parts ≡ c.args.pass.now.parts = c.pass.invariant.2 ∙ ap (λ (q : PassView). q.parts) c.pass.view_is in
-    let r = c.requires.some in
-    (search rules, search rules, splits _ _ _ c.pass.invariant.0 (omega arith))
-
-pub invariant_of-pass : goal.invariant_of-pass
-invariant_of-pass c = search rules
-
-pub returns-clause-parts : goal.returns-clause-parts
-returns-clause-parts c = search rules
+pub split_seat-other-requires : goal.split_seat-other-requires
+split_seat-other-requires c =
+    let same = c.into_seat-seat.ensures.same ∙ c.take.ensures.taken in
+    let is : c.into_seat-seat.result.0.me.0.parts ≡ c.args.pass.now.parts = c.into_seat-seat.ensures.parts ∙ ap (λ (q : PassView). q.parts) same in
+    let r = c.requires.some in (
+      ap (λ (q : PassView). q.gate.table) same ∙ (ap (λ (i : GateId). i.table) c.requires.gate ∙ sym (ap (λ (i : GateId). i.table) c.self.view_is)),
+      search rules,
+      splits _ _ _ c.into_seat-seat.ensures.idle.0 (omega arith),
+    )

@@ -3,7 +3,7 @@ use mathlib.Core.Option.{none}
 use Rattle.atomic_table.specs.Table.{step, Allows, rest}
 use Rattle.bl_gate.specs.Turns.{Kept, Sat, Passes}
 use Rattle.bl_gate.proofs.Steps.{passes}
-use Rattle.bl_gate.proofs.gate.Gate.leave.Goals as goal
+use Rattle.bl_gate.proofs.gate.Gate.put_back.Goals as goal
 
 pub fetch_add-requires : goal.fetch_add-requires
 fetch_add-requires c =
@@ -13,7 +13,7 @@ fetch_add-requires c =
       search rules,
       search rules,
       subst (λ (x : Sat). Allows (Kept c.self.inside.table.shared.key.value) c.self.inside.table.shared.table_id.slots c.exchange.new.seat.id x 1 (λ n. (n + 1) % 2 ^ 64) (Passes (step c.self.inside.table.shared.table_id.slots 1 1 0 none) x)) (sym e)
-          (passes _ _ _ m c.args.hall refl turn.0 turn.2 turn.1 c.requires.next c.requires.starts),
+          (passes _ _ _ m c.args.hall refl turn.0 turn.2 turn.1 c.requires.on),
     )
 
 pub returns-clause-went : goal.returns-clause-went
