@@ -1,3 +1,4 @@
 pub mod Settling
 pub mod Working
 pub mod Admitting
+pub mod Handing

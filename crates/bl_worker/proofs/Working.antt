@@ -17,6 +17,7 @@ use Rattle.bl_gate.specs.Gates.{PassView, Calls, Follows, hall_seen, state_seen}
 use Rattle.bl_worker.specs.declared.turn.Turn.{Turn}
 use Rattle.bl_worker.specs.declared.turn.Turn.TheVariants.{Idle, Missed, Denied, Done, Lost}
 use Rattle.bl_worker.specs.Turns.{Closes, HasEndedAs, HasRun, HasWorked, IsDenied, IsDoneOrRuleDone, IsLost, IsTurnOf, Settles, WasTaken, has_begun}
+use Rattle.bl_worker.specs.Hands.{IsNoMiss}
 use Rattle.bl_gate.proofs.Passing.{lost_moves}
 use Rattle.bl_worker.proofs.Settling.{happened, of_start, passes_later, settles_call, settles_calls}
 
@@ -139,7 +140,7 @@ gone p q n A call follows legal =
     let h = happened p q (Loses n) A call follows legal in
     subst (λ (y : State). HasEndedAs y n IsLost) (sym h.leads) (ends_as_lost h.before n h.sound h.needs)
 
-silent : (p q : PassView) (e : Event) (A : State → Type 0) → Calls p e A q → Calls p e (λ _. Unit {0}) q
+pub silent : (p q : PassView) (e : Event) (A : State → Type 0) → Calls p e A q → Calls p e (λ _. Unit {0}) q
 silent p q e A call = record { trail = call.trail; from = call.from; seen = call.seen; own = call.own; answered = tt }
 
 no_start_is_end : (n k : ℕ) → Ends n ≡ Starts k → ⊥
@@ -156,3 +157,21 @@ closes_loss p q n A call follows legal = record { event = Loses n; is_no_start =
 
 pub settles_loss : (p q : PassView) (n : ℕ) (A : State → Type 0) → Calls p (Loses n) A q → Settles p q
 settles_loss p q n A call = settles_call p q (Loses n) A call (λ k e. absurd (no_start_is_loss n k (let h : Loses n ≡ Starts k = cc in h)))
+
+pub settles_end : (p q : PassView) (n : ℕ) (A : State → Type 0) → Calls p (Ends n) A q → Settles p q
+settles_end p q n A call = settles_call p q (Ends n) A call (λ k e. absurd (no_start_is_end n k (let h : Ends n ≡ Starts k = cc in h)))
+
+-- who missed nothing has nothing to tell of another
+pub no_miss_taken : (p q : PassView) (t : Turn) → IsNoMiss t → WasTaken p q t
+no_miss_taken p q Idle h = tt
+no_miss_taken p q (Missed n) h = absurd h
+no_miss_taken p q (Denied n) h = tt
+no_miss_taken p q (Done n) h = tt
+no_miss_taken p q (Lost n) h = tt
+
+pub ran_missed_none : (q : PassView) (t : Turn) → HasRun q t → IsNoMiss t
+ran_missed_none q Idle h = absurd h
+ran_missed_none q (Missed n) h = absurd h
+ran_missed_none q (Denied n) h = absurd h
+ran_missed_none q (Done n) h = tt
+ran_missed_none q (Lost n) h = tt

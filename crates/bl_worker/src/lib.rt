@@ -1,12 +1,14 @@
-//! Workers: threads that run what is admitted, one entry a turn.
+//! Workers: threads that run what is admitted, one entry after another.
 //!
 //!     turn      one turn: an entry starts and ends
+//!     hand      what a worker has in hand from one turn at the gate to the next
 //!     pause     what a turn does between the start and the end
 //!     bell      how threads that have nothing to do are woken
 //!     worker    a worker, turn by turn
 #![tactic(auto)]
 
 pub mod bell;
+pub(crate) mod hand;
 pub mod pause;
 pub mod turn;
 pub mod worker;

@@ -1,8 +1,10 @@
 //! One turn: an entry starts and ends.
 ghost use Rattle.std.specs.Prelude.{◌≡◌};
 ghost use Rattle.bl_hall.specs.Chronicle.{HasTrail};
-ghost use Rattle.bl_gate.specs.Gates.{Follows, HasLoanInHand, hall_seen};
+ghost use Rattle.bl_gate.specs.Gates.{Follows, HasLoanInHand, hall_seen, state_seen};
 ghost use Rattle.bl_worker.specs.Turns.{AdmitsNoLine, Closes, HasRun, HasWorked, IsTurnOf, Settles, WasTaken};
+ghost use Rattle.bl_order.specs.Machine.{MayStart};
+ghost use Rattle.bl_worker.specs.Hands.{HasBegun, IsBegunOf, IsNoMiss, MissesNone};
 
 use crate::pause::Pause;
 use bl_core::machine::Started;
@@ -11,6 +13,7 @@ use bl_eval::evaluate::eval;
 use bl_eval::lent::{Done, Lent, Unrun};
 use bl_gate::gate::Gate;
 use bl_gate::pass::Pass;
+use bl_gate::turn::Turn as AtGate;
 use std::alloc::Global;
 use std::sync::Wait;
 
@@ -61,20 +64,59 @@ fn lose<R: Wait>(rt: &R, gate: &Gate, pass: &mut Pass, unrun: Unrun) -> Turn
     Turn::Lost(n)
 }
 
+/// What came of an entry that was begun in a turn at the gate: nothing is left to do, or it runs, and this was lent to it.
+pub(crate) enum Begun {
+    Over(Turn),
+    Runs(Lent),
+}
+
 /// Ends an entry that could not be started as lost.
-fn lose_ready<R: Wait>(rt: &R, gate: &Gate, pass: &mut Pass, starved: Starved) -> Turn
-    requires { pass.old.gate ≡ gate.now }
-    ensures follows { Follows pass.old pass.new }
-    ensures trail { HasTrail (hall_seen pass.new) }
-    ensures lines { AdmitsNoLine pass.old pass.new }
+fn lose_ready(turn: &mut AtGate<'_>, starved: Starved) -> Turn
+    ensures follows { Follows turn.old turn.new }
+    ensures trail { HasTrail (hall_seen turn.new) }
+    ensures lines { AdmitsNoLine turn.old turn.new }
     ensures turn { IsTurnOf starved result }
-    ensures worked { HasWorked pass.old pass.new result }
-    ensures settles { Settles pass.old pass.new }
+    ensures worked { HasWorked turn.old turn.new result }
+    ensures settles { Settles turn.old turn.new }
+    ensures missed { MayStart (state_seen turn.old) starved → IsNoMiss result }
 {
     let n = starved.entry();
-    match gate.lose_ready(rt, pass, starved) {
+    match turn.lose_ready(starved) {
         Ok(()) => Turn::Lost(n),
         Err(_) => Turn::Missed(n),
+    }
+}
+
+/// Begins the entry `n`. `Missed` comes where it may not start, and `Lost` only after want of memory.
+fn begin(turn: &mut AtGate<'_>, n: u32) -> Begun
+    ensures follows { Follows turn.old turn.new }
+    ensures trail { HasTrail (hall_seen turn.new) }
+    ensures lines { AdmitsNoLine turn.old turn.new }
+    ensures entry { IsBegunOf n result }
+    ensures begun { HasBegun turn.old turn.new result }
+    ensures missed { MayStart (state_seen turn.old) n → MissesNone result }
+{
+    match turn.start(n) {
+        Ok(Started::Denied(_)) => Begun::Over(Turn::Denied(n)),
+        Ok(Started::RuleDone) => Begun::Over(Turn::Done(n)),
+        Ok(Started::Run(lent)) => Begun::Runs(lent),
+        Err(StartFault::NotReady) => Begun::Over(Turn::Missed(n)),
+        Err(StartFault::Memory(starved)) => Begun::Over(lose_ready(turn, starved)),
+    }
+}
+
+/// Begins an entry that is ready, which nobody else can take; `Idle` where none is.
+pub(crate) fn begin_next(turn: &mut AtGate<'_>) -> Begun
+    requires { HasTrail (hall_seen turn.old) }
+    ensures follows { Follows turn.old turn.new }
+    ensures trail { HasTrail (hall_seen turn.new) }
+    ensures lines { AdmitsNoLine turn.old turn.new }
+    ensures begun { HasBegun turn.old turn.new result }
+    ensures missed { MissesNone result }
+{
+    match turn.ready() {
+        Some(n) => begin(turn, n),
+        None => Begun::Over(Turn::Idle),
     }
 }
 
@@ -122,12 +164,12 @@ pub fn work_on<P: Pause, R: Wait>(
     ensures worked { HasWorked pass.old pass.new result }
     ensures settles { Settles pass.old pass.new }
 {
-    match gate.start(rt, pass, n) {
-        Ok(Started::Denied(_)) => Turn::Denied(n),
-        Ok(Started::RuleDone) => Turn::Done(n),
-        Ok(Started::Run(lent)) => run(rt, alloc, gate, pass, pause, lent),
-        Err(StartFault::NotReady) => Turn::Missed(n),
-        Err(StartFault::Memory(starved)) => lose_ready(rt, gate, pass, starved),
+    let mut turn = gate.turn(rt, pass.take());
+    let begun = begin(&mut turn, n);
+    *pass = turn.leave();
+    match begun {
+        Begun::Over(turn) => turn,
+        Begun::Runs(lent) => run(rt, alloc, gate, pass, pause, lent),
     }
 }
 
@@ -148,8 +190,11 @@ pub fn work_once<P: Pause, R: Wait>(
     ensures taken { WasTaken pass.old pass.new result }
     ensures settles { Settles pass.old pass.new }
 {
-    match gate.ready(rt, pass) {
-        Some(n) => work_on(rt, alloc, gate, pass, pause, n),
-        None => Turn::Idle,
+    let mut turn = gate.turn(rt, pass.take());
+    let begun = begin_next(&mut turn);
+    *pass = turn.leave();
+    match begun {
+        Begun::Over(turn) => turn,
+        Begun::Runs(lent) => run(rt, alloc, gate, pass, pause, lent),
     }
 }

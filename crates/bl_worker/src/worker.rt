@@ -4,8 +4,9 @@ ghost use Rattle.bl_gate.specs.Gates.{Follows};
 ghost use Rattle.bl_worker.specs.Turns.{AdmitsNoLine, Settles};
 
 use crate::bell::Bell;
+use crate::hand::{Hand, evaluate, take_turn};
 use crate::pause::Pause;
-use crate::turn::{Turn, work_once};
+use crate::turn::{Begun, Turn};
 use bl_gate::gate::Gate;
 use bl_gate::pass::Pass;
 use crossbeam_utils::Backoff;
@@ -27,9 +28,9 @@ fn rest<R: Wait>(rt: &R, bell: &Bell, backoff: &Backoff, seen: u64) -> bool {
     bell.wait_work(rt, seen)
 }
 
-/// Takes turns until the bell is closed and nothing is ready, and rings after each turn that ended an entry. While there is nothing to
-/// do it sleeps at the bell, until workers are called. When it returns, every entry that it started has ended.
-#[tactic(auto, using(crate::proofs::Settling::settles_itself, crate::proofs::Settling::settles_then))]
+/// Takes turns at the gate until the bell is closed and nothing is ready, and rings after each in which an entry has ended. In one turn
+/// it ends the entry that it has run and begins the next one, which it runs with the gate free. While there is nothing to do it sleeps at
+/// the bell, until workers are called. When it returns, every entry that it started has ended.
 pub fn run_worker<P: Pause, R: Wait>(
     rt: &R,
     alloc: Global,
@@ -45,16 +46,23 @@ pub fn run_worker<P: Pause, R: Wait>(
 {
     let backoff = Backoff::new();
     let mut closed = false;
+    let mut hand = Hand::Empty;
     for _ in rt.forever() {
         let seen = bell.calls();
-        match work_once(rt, alloc, gate, pass, pause) {
-            Turn::Idle if closed => break,
-            Turn::Idle => closed = rest(rt, bell, &backoff, seen),
-            Turn::Missed(_) => backoff.snooze(),
-            Turn::Denied(_) | Turn::Done(_) | Turn::Lost(_) => {
-                backoff.reset();
-                bell.ring_end(rt);
-            }
+        let (ended, begun) = take_turn(rt, gate, pass, hand);
+        if ended {
+            backoff.reset();
+            bell.ring_end(rt);
         }
+        hand = match begun {
+            Begun::Runs(lent) => evaluate(alloc, pause, lent),
+            Begun::Over(Turn::Idle) if closed => return,
+            Begun::Over(Turn::Idle) => {
+                closed = rest(rt, bell, &backoff, seen);
+                Hand::Empty
+            }
+            Begun::Over(_) => Hand::Empty,
+        };
     }
+    unreachable!()
 }

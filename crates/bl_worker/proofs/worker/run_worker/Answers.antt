@@ -1,44 +1,54 @@
-use Rattle.std.proofs.Common.{sym, subst}
-use Rattle.bl_gate.specs.Gates.{PassView}
+use Rattle.std.proofs.Common.{subst}
 use Rattle.bl_gate.proofs.Following.{follows_then}
+use Rattle.bl_worker.specs.Hands.{Holds, IsLent, RunsEntry}
+use Rattle.bl_worker.specs.declared.turn.Begun.{Begun}
+use Rattle.bl_worker.specs.declared.hand.Hand.TheVariants.{Empty}
 use Rattle.bl_worker.proofs.Admitting.{admits_then}
-use Rattle.bl_worker.proofs.Settling.{settles_then}
-use Rattle.bl_worker.specs.Turns.{AdmitsNoLine}
+use Rattle.bl_worker.proofs.Handing.{but_then, hand_of, held_as, holds_what_ran, over_runs_none, settled_all}
 use Rattle.bl_worker.proofs.worker.run_worker.Goals as goal
-use Rattle.bl_worker.proofs.worker.run_worker.Goals.{in-None, in-Some+in-Idle}
 
-pub loop-preserved-in-Idle-2 : goal.loop-preserved-in-Idle-2
-loop-preserved-in-Idle-2 g c = (
-  tt,
-  tt,
-  follows_then c.args.pass.now c.loop.pass c.work_once.new.pass c.loop.invariant.2 c.work_once.ensures.follows,
-  settles_then c.args.pass.now c.loop.pass c.work_once.new.pass c.loop.invariant.3 c.work_once.ensures.settles c.work_once.ensures.follows c.work_once.ensures.trail,
-  admits_then c.args.pass.now c.loop.pass c.work_once.new.pass c.loop.invariant.4 c.work_once.ensures.lines c.work_once.ensures.follows,
-)
+pub returns-in-Over-Idle-clause-lines : goal.returns-in-Over-Idle-clause-lines
+returns-in-Over-Idle-clause-lines g c =
+    admits_then c.args.pass.now c.loop.pass c.take_turn-ended.new.pass c.loop.invariant.4 c.take_turn-ended.ensures.lines c.take_turn-ended.ensures.follows
 
-pub loop-preserved-in-Missed : goal.loop-preserved-in-Missed
-loop-preserved-in-Missed g c = (
-  tt,
-  tt,
-  follows_then c.args.pass.now c.loop.pass c.work_once.new.pass c.loop.invariant.2 c.work_once.ensures.follows,
-  settles_then c.args.pass.now c.loop.pass c.work_once.new.pass c.loop.invariant.3 c.work_once.ensures.settles c.work_once.ensures.follows c.work_once.ensures.trail,
-  admits_then c.args.pass.now c.loop.pass c.work_once.new.pass c.loop.invariant.4 c.work_once.ensures.lines c.work_once.ensures.follows,
-)
+pub returns-in-Over-Idle-clause-settles : goal.returns-in-Over-Idle-clause-settles
+returns-in-Over-Idle-clause-settles g c =
+    let whole = but_then (Holds c.loop.hand) (RunsEntry c.take_turn-ended.result.1) c.args.pass.now c.loop.pass c.take_turn-ended.new.pass c.loop.invariant.3 c.take_turn-ended.ensures.settles c.take_turn-ended.ensures.follows
+    c.take_turn-ended.ensures.trail c.take_turn-ended.ensures.ended in
+    settled_all _ c.args.pass.now c.take_turn-ended.new.pass whole (λ n runs. absurd (over_runs_none c.take_turn-ended.result.1 _ c.in-Over-Idle.is n runs))
+
+pub loop-preserved-in-Runs : goal.loop-preserved-in-Runs
+loop-preserved-in-Runs g c =
+    let whole = but_then (Holds c.loop.hand) (RunsEntry c.take_turn-ended.result.1) c.args.pass.now c.loop.pass c.take_turn-ended.new.pass c.loop.invariant.3 c.take_turn-ended.ensures.settles c.take_turn-ended.ensures.follows
+    c.take_turn-ended.ensures.trail c.take_turn-ended.ensures.ended in (
+      tt,
+      tt,
+      follows_then c.args.pass.now c.loop.pass c.take_turn-ended.new.pass c.loop.invariant.2 c.take_turn-ended.ensures.follows,
+      held_as _ (Holds c.evaluate.result) c.args.pass.now c.take_turn-ended.new.pass whole (λ n runs. holds_what_ran c.in-Runs.lent c.evaluate.result c.evaluate.ensures n (subst (λ (begun : Begun). RunsEntry begun n) c.in-Runs.is runs)),
+      admits_then c.args.pass.now c.loop.pass c.take_turn-ended.new.pass c.loop.invariant.4 c.take_turn-ended.ensures.lines c.take_turn-ended.ensures.follows,
+      hand_of c.take_turn-ended.new.pass c.in-Runs.lent c.evaluate.result c.evaluate.ensures (subst (IsLent c.take_turn-ended.new.pass) c.in-Runs.is c.take_turn-ended.ensures.lent),
+    )
+
+pub loop-preserved-in-Over-Idle-2 : goal.loop-preserved-in-Over-Idle-2
+loop-preserved-in-Over-Idle-2 g c =
+    let whole = but_then (Holds c.loop.hand) (RunsEntry c.take_turn-ended.result.1) c.args.pass.now c.loop.pass c.take_turn-ended.new.pass c.loop.invariant.3 c.take_turn-ended.ensures.settles c.take_turn-ended.ensures.follows
+    c.take_turn-ended.ensures.trail c.take_turn-ended.ensures.ended in (
+      tt,
+      tt,
+      follows_then c.args.pass.now c.loop.pass c.take_turn-ended.new.pass c.loop.invariant.2 c.take_turn-ended.ensures.follows,
+      held_as _ (Holds Empty) c.args.pass.now c.take_turn-ended.new.pass whole (λ n runs. absurd (over_runs_none c.take_turn-ended.result.1 _ c.in-Over-Idle.is n runs)),
+      admits_then c.args.pass.now c.loop.pass c.take_turn-ended.new.pass c.loop.invariant.4 c.take_turn-ended.ensures.lines c.take_turn-ended.ensures.follows,
+      tt,
+    )
 
 pub loop-preserved : goal.loop-preserved
-loop-preserved g c = (
-  tt,
-  tt,
-  follows_then c.args.pass.now c.loop.pass c.work_once.new.pass c.loop.invariant.2 c.work_once.ensures.follows,
-  settles_then c.args.pass.now c.loop.pass c.work_once.new.pass c.loop.invariant.3 c.work_once.ensures.settles c.work_once.ensures.follows c.work_once.ensures.trail,
-  admits_then c.args.pass.now c.loop.pass c.work_once.new.pass c.loop.invariant.4 c.work_once.ensures.lines c.work_once.ensures.follows,
-)
-
-pub returns-clause-lines : goal.returns-clause-lines
-returns-clause-lines g c =
-    elim c.match-next.branch [
-      | in-None w ↦ subst (λ (p : PassView). AdmitsNoLine c.args.pass.now p) (sym w.pass-is) c.loop.invariant.4
-      | in-Some+in-Idle w ↦
-          subst (λ (p : PassView). AdmitsNoLine c.args.pass.now p) (sym w.pass-is)
-          (admits_then c.args.pass.now c.loop.pass w.work_once.new.pass c.loop.invariant.4 w.work_once.ensures.lines w.work_once.ensures.follows)
-    ]
+loop-preserved g c =
+    let whole = but_then (Holds c.loop.hand) (RunsEntry c.take_turn-ended.result.1) c.args.pass.now c.loop.pass c.take_turn-ended.new.pass c.loop.invariant.3 c.take_turn-ended.ensures.settles c.take_turn-ended.ensures.follows
+    c.take_turn-ended.ensures.trail c.take_turn-ended.ensures.ended in (
+      tt,
+      tt,
+      follows_then c.args.pass.now c.loop.pass c.take_turn-ended.new.pass c.loop.invariant.2 c.take_turn-ended.ensures.follows,
+      held_as _ (Holds Empty) c.args.pass.now c.take_turn-ended.new.pass whole (λ n runs. absurd (over_runs_none c.take_turn-ended.result.1 _ c.in-Over.is n runs)),
+      admits_then c.args.pass.now c.loop.pass c.take_turn-ended.new.pass c.loop.invariant.4 c.take_turn-ended.ensures.lines c.take_turn-ended.ensures.follows,
+      tt,
+    )
