@@ -19,7 +19,7 @@ use bl_trail::verdict::{Verdict, what_was_followed_tells_the_verdict};
 use std::alloc::{AllocError, Global};
 
 /// A replayer of no event, which judges by this version, for lines that say this of the ends of places.
-fn begin(
+pub fn begin(
     alloc: Global,
     setup: &Setup,
     version: Version,

@@ -1,0 +1,6 @@
+pub mod Lending
+pub mod Naming
+pub mod Making
+pub mod Collecting
+pub mod Stepping
+pub mod Recovering

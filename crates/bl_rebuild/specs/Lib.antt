@@ -1,0 +1,4 @@
+pub mod Unfinished
+pub mod Remaking
+pub mod Following
+pub mod Rebuilds

@@ -1,0 +1,24 @@
+//! Why no hall is rebuilt.
+use std::alloc::AllocError;
+
+/// Why no hall is rebuilt of a text.
+#[derive(Clone, Copy, Debug, PartialEq, Eq)]
+pub enum RebuildFault {
+    /// The head of the text is torn or wrong: of its first two lines the one of this number is the first that is not right.
+    Head(u64),
+    /// The head is right, and the trail is of version 1: no hall is of that version.
+    OldVersion,
+    /// A growth was refused.
+    Memory,
+}
+
+impl From<AllocError> for RebuildFault {
+    ghost use Rattle.std.specs.Prelude.{◌≡◌};
+    ghost use Rattle.bl_rebuild.specs.declared.fault.RebuildFault.TheVariants.{Memory};
+
+    ghost from_gives = { λ _ fault. fault ≡ Memory };
+
+    fn from(_error: AllocError) -> RebuildFault {
+        RebuildFault::Memory
+    }
+}

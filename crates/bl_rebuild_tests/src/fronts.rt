@@ -1,0 +1,90 @@
+//! Each front of a trail, and how its run goes on.
+use crate::base::{assert_rebuilt, assert_trail, base, right};
+use bl_eval::evaluate::eval;
+use bl_rebuild::rebuild::rebuild;
+use bl_setup::setup::Setup;
+use std::alloc::AllocGlobal;
+use std::process::Abort;
+use std::test::Fail;
+
+/// The head of the trail.
+const HEAD: &str = "trail 2\nlimit 10000\n";
+
+/// Its events, each with how many entries run behind it. ann's first line spawns a reader; bob reads his note beside them, and is lost.
+const EVENTS: [(&str, usize); 13] = [
+    ("open ann\n", 0),
+    ("open bob\n", 0),
+    (
+        "line 0 1 when write memo do add memo\"a\";spawn when read memo do show memo;end;end\n",
+        0,
+    ),
+    ("line 1 1 when read note do show note;end\n", 0),
+    ("line 0 2 when write memo do add memo\"b\";end\n", 0),
+    ("start 1 run\n", 1),
+    ("start 0 run\n", 2),
+    ("end 0 done\n", 1),
+    ("start 2 run\n", 2),
+    ("lost 1\n", 1),
+    ("end 2 done\n", 0),
+    ("start 3 run\n", 1),
+    ("end 3 done \"m1ab\"\n", 0),
+];
+
+/// Asserts what is rebuilt of a front with each part of its next line behind it, without that line's LF.
+fn assert_torn<R: AllocGlobal + Abort>(
+    rt: &R,
+    setup: &Setup,
+    front: &[u8],
+    line: &[u8],
+    running: usize,
+) -> Result<(), Fail> {
+    for (end, _) in line.iter().enumerate() {
+        assert_rebuilt(rt, setup, front, &line[..end], running)?;
+    }
+    Ok(())
+}
+
+#[test]
+fn each_front(rt: HostRuntime) -> Result<(), Fail> {
+    let setup = base(rt.alloc())?;
+    let mut front = Vec::new(rt.alloc());
+    front.extend_from_slice(HEAD.as_bytes())?;
+    let mut running = 0;
+    for (line, next) in EVENTS {
+        assert_torn(&rt, &setup, &front, line.as_bytes(), running)?;
+        front.extend_from_slice(line.as_bytes())?;
+        running = next;
+    }
+    assert_torn(&rt, &setup, &front, b"stop\n", running)?;
+    assert_rebuilt(&rt, &setup, &front, b"stop\n", running)?;
+    drop(setup);
+    Ok(())
+}
+
+/// What runs at the end of a front is evaluated again, and ends with the answers that it would have had.
+#[test]
+fn runs_go_on(rt: HostRuntime) -> Result<(), Fail> {
+    let setup = base(rt.alloc())?;
+    let front = "trail 2\nlimit 10000\nopen ann\nopen bob\n\
+line 0 1 when write memo do add memo\"a\";show memo;end\n\
+line 1 1 when read note do show note;end\n\
+line 0 2 when read memo do show memo;end\n\
+start 1 run\nstart 0 run\n";
+    let rebuilt = rebuild(rt.alloc(), &setup, front.as_bytes())?;
+    drop(setup);
+    let mut hall = rebuilt.hall;
+    for unfinished in rebuilt.running {
+        match eval(rt.alloc(), unfinished.into_lent()) {
+            Ok(done) => match hall.finish(done) {
+                Ok(()) => {}
+                Err(_foreign) => panic!(rt; "foreign"),
+            },
+            Err(_unrun) => panic!(rt; "no memory"),
+        }
+    }
+    right(&rt, hall.start(2));
+    let mut whole = Vec::new(rt.alloc());
+    whole.extend_from_slice(front.as_bytes())?;
+    whole.extend_from_slice(b"end 0 done \"m1a\"\nend 1 done \"n1\"\nstart 2 run\n")?;
+    assert_trail(&rt, &hall, &whole)
+}
