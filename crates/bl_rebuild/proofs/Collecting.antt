@@ -1,12 +1,12 @@
 -- What the slots have is what the running places were lent, in their order.
-use Rattle.std.proofs.Common.{◌≡◌, ℕ, zero, suc, ◌<◌, ◌≤◌, Bool, true, false, cond, List, [], ◌∷◌, ◌++◌, length, get_or, refl, sym, ◌∙◌, ap, subst, arith, inl, inr, ◌⊎◌, append_assoc, append-nil, true≢false}
+use Rattle.std.proofs.Common.{◌≡◌, ℕ, zero, suc, ◌≤◌, Bool, true, false, cond, List, [], ◌∷◌, ◌++◌, length, get_or, refl, sym, ◌∙◌, ap, arith, inl, inr, ◌⊎◌, append_assoc, append-nil}
 use Rattle.std.specs.Prelude.{Option, Some, None}
 use Rattle.std.specs.Option.{option_to_list}
 use Rattle.std.specs.List.{flat_map}
 use Rattle.bl_order.specs.Machine.{State, Phase, Waiting, is_running, runs}
 use Rattle.bl_core.specs.Answers.{loan_at}
 use Rattle.bl_eval.specs.Loan.{Loan}
-use Rattle.bl_rebuild.specs.Unfinished.{AreLent, lent_in, loans_below, slot_at}
+use Rattle.bl_rebuild.specs.Unfinished.{AreLent, loans_below, slot_at}
 use Rattle.bl_rebuild.proofs.Lending.{lent-idle}
 
 -- what the first slots have

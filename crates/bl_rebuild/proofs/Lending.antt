@@ -1,6 +1,6 @@
 -- What runs is lent what it was, as events come; and the slots tell it.
-use Rattle.std.proofs.Common.{◌≡◌, ℕ, Bool, true, false, cond, List, [], ◌∷◌, map, refl, sym, ◌∙◌, ap, subst, inl, inr, ◌⊎◌, true≢false}
-use Rattle.std.specs.Prelude.{◌==◌, IsTrue, Option, Some, None}
+use Rattle.std.proofs.Common.{◌≡◌, ℕ, Bool, true, false, cond, List, [], ◌∷◌, map, refl, sym, ◌∙◌, ap, inl, inr, ◌⊎◌, true≢false}
+use Rattle.std.specs.Prelude.{◌==◌, Option, Some, None}
 use Rattle.std.proofs.lemmas.Bool.Decides.{eqb_tells}
 use Rattle.bl_policy.specs.declared.access.Access.{Access}
 use Rattle.bl_work.specs.declared.work.Work.{Work}

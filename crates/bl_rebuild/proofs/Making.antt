@@ -1,15 +1,14 @@
 -- An event is made.
-use Rattle.std.proofs.Common.{◌≡◌, ℕ, true, cond, List, refl, sym, ◌∙◌, ap, subst}
+use Rattle.std.proofs.Common.{◌≡◌, ℕ, true, cond, List, sym, ◌∙◌, ap, subst}
 use Rattle.std.specs.Prelude.{◌==◌, Option, Some, None}
 use Rattle.bl_eval.specs.Loan.{Loan}
 use Rattle.bl_order.specs.Headline.{IsReached}
-use Rattle.bl_order.specs.Machine.{State, Event, Starts, Ends, Loses, MayStart, Needs, change, past_at, runs}
-use Rattle.bl_order.specs.Past.{is_done}
+use Rattle.bl_order.specs.Machine.{Event, Ends, Loses, Needs, change, runs}
 use Rattle.bl_core.specs.Answers.{loan_at}
 use Rattle.bl_hall.specs.Chronicle.{HasTrail, state_now, with_event}
 use Rattle.bl_hall.proofs.Trails.{reached-now, state-next, trail-next}
 use Rattle.bl_rebuild.specs.Remaking.{IsMade, IsWhole}
-use Rattle.bl_rebuild.specs.Unfinished.{AreLent, lent_in, slot_at}
+use Rattle.bl_rebuild.specs.Unfinished.{AreLent, slot_at}
 use Rattle.bl_rebuild.specs.declared.remade.Remade.{Remade}
 use Rattle.bl_rebuild.proofs.Lending.{lent-ended, lent-lost, lent-runs}
 

@@ -1,5 +1,5 @@
 -- One subject has a name.
-use Rattle.std.proofs.Common.{◌≡◌, ◌≢◌, ℕ, ◌<◌, List, [], length, get_or, sym, ◌∙◌, arith, inl, inr, ◌⊎◌}
+use Rattle.std.proofs.Common.{◌≡◌, ℕ, ◌<◌, List, [], length, get_or, sym, ◌∙◌, arith, inl, inr, ◌⊎◌}
 use Rattle.std.specs.Prelude.{Some}
 use Rattle.bl_name.specs.Table.{AreDistinct, place_of}
 use Rattle.bl_setup.specs.Agreement.{Agree}

@@ -1,10 +1,9 @@
 -- What was followed is what is recovered.
-use Rattle.std.proofs.Common.{◌≡◌, ℕ, ◌+◌, List, [], ◌∷◌, ◌++◌, length, refl, sym, ◌∙◌, ap, subst, arith, length-append, append_assoc}
+use Rattle.std.proofs.Common.{◌≡◌, ℕ, ◌+◌, List, [], ◌++◌, length, sym, ◌∙◌, ap, subst, arith, length-append}
 use Rattle.std.specs.List.{AllByRecursion}
 use Rattle.bl_setup.specs.Setup.{Setup, by_version}
-use Rattle.bl_setup.specs.declared.version.Version.{Version}
 use Rattle.bl_setup.specs.declared.version.Version.TheVariants.{Two}
-use Rattle.bl_order.specs.Machine.{State, Event, IsTrail, start, state_after}
+use Rattle.bl_order.specs.Machine.{Event, IsTrail, start, state_after}
 use Rattle.bl_trail.specs.Asks.{HasNo}
 use Rattle.bl_trail.specs.Follow.{Followed}
 use Rattle.bl_trail.specs.TrueText.{IsLimit, event_texts, head_lines, joined}

@@ -1,6 +1,6 @@
 -- A line more is followed, or no further one.
 use Rattle.std.proofs.Common.{◌≡◌, ℕ, List, [], ◌∷◌, ◌++◌, refl, sym, ◌∙◌, ap, subst, append_assoc}
-use Rattle.bl_order.specs.Machine.{State, Event, Needs, change, start, state_after}
+use Rattle.bl_order.specs.Machine.{State, Event, change, start, state_after}
 use Rattle.bl_hall.specs.Chronicle.{Chronicle, state_now, with_event}
 use Rattle.bl_trail.specs.Asks.{HasNo}
 use Rattle.bl_trail.specs.EventText.{event_text}

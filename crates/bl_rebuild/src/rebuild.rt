@@ -33,11 +33,7 @@ pub struct Rebuilt {
 }
 
 /// The limit that stands at the head of a text of version 2, and what stands behind the head.
-fn head<'a>(
-    alloc: Global,
-    setup: &Setup,
-    text: &'a [u8],
-) -> Result<(u32, &'a [u8]), RebuildFault>
+fn head<'a>(alloc: Global, setup: &Setup, text: &'a [u8]) -> Result<(u32, &'a [u8]), RebuildFault>
     ensures ok { IfOk result (λ head. IsLimit head.0 × (text.now ≡ joined (head_lines Two head.0) ++ head.1.now)) }
     ensures err { IfErr result (IsNotRebuilt setup.now text.now) }
 {
@@ -64,12 +60,7 @@ fn remade_over(alloc: Global, setup: &Setup, limit: u32) -> Result<Remade, Alloc
 }
 
 /// A replayer and a hall of no event, for lines that say this text.
-fn set_out(
-    alloc: Global,
-    setup: &Setup,
-    limit: u32,
-    text: &[u8],
-) -> Result<Follower, AllocError>
+fn set_out(alloc: Global, setup: &Setup, limit: u32, text: &[u8]) -> Result<Follower, AllocError>
     requires { IsLimit limit }
     ensures step { IfOk result (λ follower. IsInStep follower text.now) }
     ensures hall { IfOk result (λ follower. follower.remade.hall ≡ record { setup = setup.now; limit = limit; trail = [] }) }

@@ -1,4 +1,4 @@
-use Rattle.std.proofs.Common.{◌≡◌, sym, ◌∙◌, ap, subst}
+use Rattle.std.proofs.Common.{sym, ◌∙◌, ap, subst}
 use Rattle.bl_order.specs.Machine.{State, start}
 use Rattle.bl_hall.specs.Chronicle.{state_now}
 use Rattle.bl_replay.specs.Keeps.{Replays}

@@ -1,4 +1,4 @@
-use Rattle.std.proofs.Common.{◌≡◌, sym, ◌∙◌, ap, subst}
+use Rattle.std.proofs.Common.{sym, ◌∙◌, ap, subst}
 use Rattle.bl_hall.specs.Chronicle.{Chronicle, HasTrail, state_now}
 use Rattle.bl_rebuild.specs.Unfinished.{lent_in, slot_at}
 use Rattle.bl_rebuild.proofs.remade.Remade.new.Goals as goal
