@@ -1,6 +1,9 @@
 //! Each front of a trail, and how its run goes on.
 use crate::base::{assert_rebuilt, assert_trail, base, right};
+use bl_core::machine::Started;
 use bl_eval::evaluate::eval;
+use bl_eval::lent::Lent;
+use bl_hall::hall::Hall;
 use bl_rebuild::rebuild::rebuild;
 use bl_setup::setup::Setup;
 use std::alloc::AllocGlobal;
@@ -61,6 +64,17 @@ fn each_front(rt: HostRuntime) -> Result<(), Fail> {
     Ok(())
 }
 
+/// Evaluates an entry again, and ends it.
+fn finish<R: AllocGlobal + Abort>(rt: &R, hall: &mut Hall, lent: Lent) {
+    match eval(rt.alloc(), lent) {
+        Ok(done) => match hall.finish(done) {
+            Ok(()) => {}
+            Err(_foreign) => panic!(rt; "foreign"),
+        },
+        Err(_unrun) => panic!(rt; "no memory"),
+    }
+}
+
 /// What runs at the end of a front is evaluated again, and ends with the answers that it would have had.
 #[test]
 fn runs_go_on(rt: HostRuntime) -> Result<(), Fail> {
@@ -74,17 +88,14 @@ start 1 run\nstart 0 run\n";
     drop(setup);
     let mut hall = rebuilt.hall;
     for unfinished in rebuilt.running {
-        match eval(rt.alloc(), unfinished.into_lent()) {
-            Ok(done) => match hall.finish(done) {
-                Ok(()) => {}
-                Err(_foreign) => panic!(rt; "foreign"),
-            },
-            Err(_unrun) => panic!(rt; "no memory"),
-        }
+        finish(&rt, &mut hall, unfinished.into_lent());
     }
-    right(&rt, hall.start(2));
+    match right(&rt, hall.start(2)) {
+        Started::Run(lent) => finish(&rt, &mut hall, lent),
+        Started::Denied(_) | Started::RuleDone => panic!(rt; "it does not run"),
+    }
     let mut whole = Vec::new(rt.alloc());
     whole.extend_from_slice(front.as_bytes())?;
-    whole.extend_from_slice(b"end 0 done \"m1a\"\nend 1 done \"n1\"\nstart 2 run\n")?;
+    whole.extend_from_slice(b"end 0 done \"m1a\"\nend 1 done \"n1\"\nstart 2 run\nend 2 done \"m1a\"\n")?;
     assert_trail(&rt, &hall, &whole)
 }
