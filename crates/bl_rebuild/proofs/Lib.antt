@@ -4,3 +4,4 @@ pub mod Making
 pub mod Collecting
 pub mod Stepping
 pub mod Recovering
+pub mod WrongHeads

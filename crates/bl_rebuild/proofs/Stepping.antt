@@ -21,7 +21,7 @@ pub one-event-more : (h : Chronicle) (events : List Event) (e : Event) → with_
 one-event-more h events e = ap (λ t. record h { trail = t }) (append_assoc h.trail events (e ∷ []))
 
 -- a text with an LF has one
-has-lf : (a b : List ℕ) → HasNo 10 (a ++ 10 ∷ b) → ⊥
+pub has-lf : (a b : List ℕ) → HasNo 10 (a ++ 10 ∷ b) → ⊥
 has-lf [] b h = h.0 refl
 has-lf (x ∷ a) b h = has-lf a b h.1
 

@@ -1,5 +1,5 @@
 -- The hall of a text.
-use Rattle.std.specs.Prelude.{◌≡◌, ℕ, ◌+◌, List, ◌++◌, length}
+use Rattle.std.specs.Prelude.{◌≡◌, ℕ, ◌+◌, ◌≤◌, List, ◌++◌, length}
 use Rattle.bl_setup.specs.Setup.{Setup}
 use Rattle.bl_setup.specs.declared.version.Version.TheVariants.{One, Two}
 use Rattle.bl_order.specs.Machine.{Event}
@@ -46,8 +46,13 @@ pub record IsOld (setup : Setup) (text : List ℕ) : Type 0 where
   pub rest : List ℕ
   pub split : text ≡ joined (head_lines One limit) ++ rest
 
+-- a line is the first of the text that is not right; where it is one of the head, of which there are two, no journal is recovered
+pub record IsHeadless (setup : Setup) (text : List ℕ) (line : ℕ) : Type 0 where
+  pub wrong : FirstWrong setup text line
+  pub none : line ≤ 2 → (journal : Journal) → IsRecovered setup text journal → ⊥
+
 -- why there is no hall of the text
 abbrev pub IsNotRebuilt : Setup → List ℕ → RebuildFault → Type 0
-IsNotRebuilt setup text (Head line) = FirstWrong setup text line
+IsNotRebuilt setup text (Head line) = IsHeadless setup text line
 IsNotRebuilt setup text OldVersion = IsOld setup text
 IsNotRebuilt setup text Memory = Unit {0}

@@ -68,11 +68,7 @@ pub fn text_of<R: AllocGlobal + Abort>(rt: &R, hall: &Hall) -> Vec<u8> {
 }
 
 /// Asserts that the trail of a hall has the text of this front, and then `stop`.
-pub fn assert_trail<R: AllocGlobal + Abort>(
-    rt: &R,
-    hall: &Hall,
-    front: &[u8],
-) -> Result<(), Fail> {
+pub fn assert_trail<R: AllocGlobal + Abort>(rt: &R, hall: &Hall, front: &[u8]) -> Result<(), Fail> {
     let mut wanted = Vec::new(rt.alloc());
     wanted.extend_from_slice(front)?;
     wanted.extend_from_slice(b"stop\n")?;
@@ -92,8 +88,10 @@ pub fn assert_rebuilt<R: AllocGlobal + Abort>(
     let mut text = Vec::new(rt.alloc());
     text.extend_from_slice(front)?;
     text.extend_from_slice(behind)?;
-    let rebuilt = rebuild(rt.alloc(), setup, &text)?;
+    let rebuilt = right(rt, rebuild(rt.alloc(), setup, &text));
     assert_eq!(rt; rebuilt.right, front.len());
     assert_eq!(rt; rebuilt.running.len(), running);
-    assert_trail(rt, &rebuilt.hall, front)
+    let passed = assert_trail(rt, &rebuilt.hall, front);
+    drop(rebuilt);
+    passed
 }

@@ -4,7 +4,8 @@ use bl_core::machine::Started;
 use bl_eval::evaluate::eval;
 use bl_eval::lent::Lent;
 use bl_hall::hall::Hall;
-use bl_rebuild::rebuild::rebuild;
+use bl_rebuild::rebuild::{Rebuilt, rebuild};
+use bl_rebuild::unfinished::Unfinished;
 use bl_setup::setup::Setup;
 use std::alloc::AllocGlobal;
 use std::process::Abort;
@@ -47,21 +48,30 @@ fn assert_torn<R: AllocGlobal + Abort>(
     Ok(())
 }
 
-#[test]
-fn each_front(rt: HostRuntime) -> Result<(), Fail> {
-    let setup = base(rt.alloc())?;
+/// Asserts what is rebuilt of each front of a head and events, and of the closed whole.
+fn assert_fronts<R: AllocGlobal + Abort>(
+    rt: &R,
+    setup: &Setup,
+    events: &[(&str, usize)],
+) -> Result<(), Fail> {
     let mut front = Vec::new(rt.alloc());
     front.extend_from_slice(HEAD.as_bytes())?;
     let mut running = 0;
-    for (line, next) in EVENTS {
-        assert_torn(&rt, &setup, &front, line.as_bytes(), running)?;
+    for (line, next) in events {
+        assert_torn(rt, setup, &front, line.as_bytes(), running)?;
         front.extend_from_slice(line.as_bytes())?;
-        running = next;
+        running = *next;
     }
-    assert_torn(&rt, &setup, &front, b"stop\n", running)?;
-    assert_rebuilt(&rt, &setup, &front, b"stop\n", running)?;
+    assert_torn(rt, setup, &front, b"stop\n", running)?;
+    assert_rebuilt(rt, setup, &front, b"stop\n", running)
+}
+
+#[test]
+fn each_front(rt: HostRuntime) -> Result<(), Fail> {
+    let setup = base(rt.alloc())?;
+    let passed = assert_fronts(&rt, &setup, EVENTS.as_slice());
     drop(setup);
-    Ok(())
+    passed
 }
 
 /// Evaluates an entry again, and ends it.
@@ -75,27 +85,45 @@ fn finish<R: AllocGlobal + Abort>(rt: &R, hall: &mut Hall, lent: Lent) {
     }
 }
 
-/// What runs at the end of a front is evaluated again, and ends with the answers that it would have had.
-#[test]
-fn runs_go_on(rt: HostRuntime) -> Result<(), Fail> {
-    let setup = base(rt.alloc())?;
-    let front = "trail 2\nlimit 10000\nopen ann\nopen bob\n\
+/// A trail of which two entries run at the end.
+const BEGUN: &str = "trail 2\nlimit 10000\nopen ann\nopen bob\n\
 line 0 1 when write memo do add memo\"a\";show memo;end\n\
 line 1 1 when read note do show note;end\n\
 line 0 2 when read memo do show memo;end\n\
 start 1 run\nstart 0 run\n";
-    let rebuilt = rebuild(rt.alloc(), &setup, front.as_bytes())?;
-    drop(setup);
-    let mut hall = rebuilt.hall;
-    for unfinished in rebuilt.running {
-        finish(&rt, &mut hall, unfinished.into_lent());
+
+/// The same when what ran has ended, and one more entry.
+const ENDED: &str = "trail 2\nlimit 10000\nopen ann\nopen bob\n\
+line 0 1 when write memo do add memo\"a\";show memo;end\n\
+line 1 1 when read note do show note;end\n\
+line 0 2 when read memo do show memo;end\n\
+start 1 run\nstart 0 run\n\
+end 0 done \"m1a\"\nend 1 done \"n1\"\nstart 2 run\nend 2 done \"m1a\"\n";
+
+/// Ends what runs, and runs the last entry.
+fn go_on<R: AllocGlobal + Abort>(rt: &R, hall: &mut Hall, running: Vec<Unfinished>) {
+    for unfinished in running {
+        finish(rt, hall, unfinished.into_lent());
     }
-    match right(&rt, hall.start(2)) {
-        Started::Run(lent) => finish(&rt, &mut hall, lent),
+    match right(rt, hall.start(2)) {
+        Started::Run(lent) => finish(rt, hall, lent),
         Started::Denied(_) | Started::RuleDone => panic!(rt; "it does not run"),
     }
-    let mut whole = Vec::new(rt.alloc());
-    whole.extend_from_slice(front.as_bytes())?;
-    whole.extend_from_slice(b"end 0 done \"m1a\"\nend 1 done \"n1\"\nstart 2 run\nend 2 done \"m1a\"\n")?;
-    assert_trail(&rt, &hall, &whole)
+}
+
+/// What runs at the end of a front is evaluated again, and ends with the answers that it would have had.
+#[test]
+fn runs_go_on(rt: HostRuntime) -> Result<(), Fail> {
+    let setup = base(rt.alloc())?;
+    let rebuilt = right(&rt, rebuild(rt.alloc(), &setup, BEGUN.as_bytes()));
+    drop(setup);
+    let Rebuilt {
+        mut hall,
+        running,
+        right: _,
+    } = rebuilt;
+    go_on(&rt, &mut hall, running);
+    let passed = assert_trail(&rt, &hall, ENDED.as_bytes());
+    drop(hall);
+    passed
 }

@@ -9,12 +9,7 @@ use std::process::Abort;
 use std::test::Fail;
 
 /// Asserts why no hall is rebuilt of a text.
-fn assert_fault<R: AllocGlobal + Abort>(
-    rt: &R,
-    setup: &Setup,
-    text: &[u8],
-    wanted: RebuildFault,
-) {
+fn assert_fault<R: AllocGlobal + Abort>(rt: &R, setup: &Setup, text: &[u8], wanted: RebuildFault) {
     match rebuild(rt.alloc(), setup, text) {
         Ok(_rebuilt) => panic!(rt; "no fault"),
         Err(fault) => assert_eq!(rt; fault, wanted),
@@ -41,28 +36,41 @@ const WRONG: [(&[u8], u64); 16] = [
     (b"trail 2\nopen ann\n", 2),
 ];
 
+/// Asserts the first line of each text that is not right.
+fn assert_wrong<R: AllocGlobal + Abort>(rt: &R, setup: &Setup, cases: &[(&[u8], u64)]) {
+    for (text, line) in cases {
+        assert_fault(rt, setup, text, Head(*line));
+    }
+}
+
 #[test]
 fn wrong_heads(rt: HostRuntime) -> Result<(), Fail> {
     let setup = base(rt.alloc())?;
-    for (text, line) in WRONG {
-        assert_fault(&rt, &setup, text, Head(line));
-    }
+    assert_wrong(&rt, &setup, WRONG.as_slice());
     drop(setup);
     Ok(())
 }
 
 #[test]
-fn heads_alone(rt: HostRuntime) -> Result<(), Fail> {
+fn head_alone(rt: HostRuntime) -> Result<(), Fail> {
     let setup = base(rt.alloc())?;
-    assert_rebuilt(&rt, &setup, b"trail 2\nlimit 1\n", b"", 0)?;
-    assert_rebuilt(&rt, &setup, b"trail 2\nlimit 100000\n", b"stop\n", 0)?;
+    let passed = assert_rebuilt(&rt, &setup, b"trail 2\nlimit 1\n", b"", 0);
     drop(setup);
-    Ok(())
+    passed
+}
+
+#[test]
+fn head_and_stop(rt: HostRuntime) -> Result<(), Fail> {
+    let setup = base(rt.alloc())?;
+    let passed = assert_rebuilt(&rt, &setup, b"trail 2\nlimit 100000\n", b"stop\n", 0);
+    drop(setup);
+    passed
 }
 
 #[test]
 fn version_1(rt: HostRuntime) -> Result<(), Fail> {
-    let text: &[u8] = b"trail 1\nlimit 10000\nopen ann\nline 0 1 when read memo do show memo;end\nstart 0 run\n";
+    let text: &[u8] =
+        b"trail 1\nlimit 10000\nopen ann\nline 0 1 when read memo do show memo;end\nstart 0 run\n";
     let setup = base(rt.alloc())?;
     assert_fault(&rt, &setup, text, OldVersion);
     drop(setup);

@@ -40,6 +40,7 @@ fn losses_rules_and_children(rt: HostRuntime) {
         Ok(rebuilt) => {
             assert_eq!(rt; rebuilt.right, TRAIL.len());
             assert_eq!(rt; rebuilt.running.len(), 1);
+            drop(rebuilt);
             say(&rt, "own");
         }
         Err(fault) => {

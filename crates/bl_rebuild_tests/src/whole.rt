@@ -1,5 +1,8 @@
 //! Stored trails, whole.
 use crate::base::{assert_rebuilt, base, reserved};
+use bl_setup::setup::Setup;
+use std::alloc::AllocGlobal;
+use std::process::Abort;
 use std::test::Fail;
 
 /// What closes each of them.
@@ -56,28 +59,38 @@ line 0 3 when read memo do show memo;end\n\
 start 0 run\nend 0 done\nstart 1 denied star bob memo\nstart 2 rule\nstart 4 run\nstart 3 run\n\
 end 3 done \"m1!\"\nlost 4\nlost 5\n";
 
+/// Asserts that each of these trails is rebuilt whole.
+fn assert_whole<R: AllocGlobal + Abort>(
+    rt: &R,
+    setup: &Setup,
+    fronts: &[&str],
+) -> Result<(), Fail> {
+    for front in fronts {
+        assert_rebuilt(rt, setup, front.as_bytes(), STOP, 0)?;
+    }
+    Ok(())
+}
+
 #[test]
 fn accepted_trails(rt: HostRuntime) -> Result<(), Fail> {
     let setup = base(rt.alloc())?;
-    for front in ACCEPTED {
-        assert_rebuilt(&rt, &setup, front.as_bytes(), STOP, 0)?;
-    }
+    let passed = assert_whole(&rt, &setup, ACCEPTED.as_slice());
     drop(setup);
-    Ok(())
+    passed
 }
 
 #[test]
 fn create_use_delete(rt: HostRuntime) -> Result<(), Fail> {
     let setup = reserved(rt.alloc())?;
-    assert_rebuilt(&rt, &setup, CREATE_USE_DELETE.as_bytes(), STOP, 0)?;
+    let passed = assert_rebuilt(&rt, &setup, CREATE_USE_DELETE.as_bytes(), STOP, 0);
     drop(setup);
-    Ok(())
+    passed
 }
 
 #[test]
 fn losses(rt: HostRuntime) -> Result<(), Fail> {
     let setup = base(rt.alloc())?;
-    assert_rebuilt(&rt, &setup, TWO_PEOPLE.as_bytes(), STOP, 0)?;
+    let passed = assert_rebuilt(&rt, &setup, TWO_PEOPLE.as_bytes(), STOP, 0);
     drop(setup);
-    Ok(())
+    passed
 }

@@ -1,9 +1,15 @@
 use Rattle.std.proofs.Common.{◌≡◌, ◌++◌, ap, subst, ◌∙◌}
 use Rattle.bl_setup.specs.declared.version.Version.{Version}
 use Rattle.bl_trail.specs.Heads.{IsHead}
-use Rattle.bl_trail.specs.TrueText.{IsLimit, head_lines, joined}
+use Rattle.bl_trail.specs.TrueText.{FirstWrong, IsLimit, head_lines, joined}
 use Rattle.bl_trail.specs.Versions.{HasSetup}
+use Rattle.bl_rebuild.proofs.WrongHeads.{no-journal}
 use Rattle.bl_rebuild.proofs.rebuild.head.Goals as goal
+
+pub returns-in-Wrong-clause-err : goal.returns-in-Wrong-clause-err
+returns-in-Wrong-clause-err c =
+    let wrong : FirstWrong c.args.setup.now c.args.text.now c.in-Wrong.line = subst (IsHead c.args.setup.now c.args.text.now) c.in-Wrong.is c.in_ok-line.ensures in
+    record { wrong = wrong; none = no-journal c.args.setup.now c.args.text.now c.in-Wrong.line wrong }
 
 pub returns-in-One-clause-err : goal.returns-in-One-clause-err
 returns-in-One-clause-err c =
