@@ -36,9 +36,9 @@ use std::time::Duration;
 const NAP_MICROS: u64 = 50;
 
 /// A hall that many threads call, each with a pass of its own, in the order of their tickets: who calls it draws a ticket, waits until it
-/// is served, makes its calls of the hall, one or, in a `Turn`, several, and has the next ticket served. So all calls stand in one trail, and a pass knows what it has
-/// seen of it and which positions are its own. An entry that a pass has started, and that runs, is in its hand until it ends it itself: no
-/// other pass can.
+/// is served, makes one call of the hall or, in a `Turn`, several, and has the next ticket served. So all calls stand in one trail, and a
+/// pass knows what it has seen of it and which positions are its own. An entry that a pass has started, and that runs, is in its hand
+/// until it ends it itself: no other pass can.
 ///
 /// The calls that take a runtime may wait for another thread, and what is said of them holds if they return. They wait in the lobby, one
 /// after another, so that who draws a ticket is served at once; nothing that is proved rests on the lobby.
@@ -232,8 +232,8 @@ impl Gate {
         shared.fetch_add::<PassOn>(seat, 1, 1);
     }
 
-    /// A turn at the gate: waits until nobody else has the hall, takes it, and has it until the turn is left. Nobody else makes a call
-    /// in between. The turn is what the pass was, and has seen the hall's trail.
+    /// Waits until nobody else has the hall, and takes it for a turn of several calls, until that is left. The turn has what the pass had,
+    /// and has seen the hall's trail. Who has its pass by reference takes it from there (`Pass::take`), and puts back what `leave` gives.
     pub fn turn<'a, R: Wait>(&'a self, rt: &R, pass: Pass) -> Turn<'a>
         requires gate { pass.gate ≡ self.now }
         ensures follows { Follows pass result }

@@ -42,14 +42,14 @@ impl Pass {
     ghost use Rattle.bl_gate.specs.Seats.{pass_of};
     ghost use Rattle.bl_gate.specs.Views.{IsIdle};
 
-    /// Its parts of the right to close the gate, 1 to 64.
+    /// Its parts of the right to close the gate, 1 to 64; none where it was taken from.
     pub fn parts(&self) -> u32
         ensures { result ≡ self.now.parts }
     {
         self.parts
     }
 
-    /// The pass, taken from where it is.
+    /// The pass, taken from where it is, as a turn at the gate asks for it. What is left there can call no gate.
     pub fn take(&mut self) -> Pass
         ensures taken { result ≡ self.old }
         ensures left { self.new ≡ no_pass }

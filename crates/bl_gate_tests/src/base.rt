@@ -57,7 +57,7 @@ pub(super) fn base_gate<R: AllocGlobal + Abort>(rt: &R) -> (Gate, Pass)
 }
 
 /// The work of a line that shows memo.
-fn show_memo<R: AllocGlobal + Abort>(rt: &R, gate: &Gate) -> Work {
+pub(super) fn show_memo<R: AllocGlobal + Abort>(rt: &R, gate: &Gate) -> Work {
     match right(rt, read_line(rt.alloc(), gate.names(), SHOW_MEMO)) {
         Line::Work(work) => work,
         Line::Hello(_) | Line::Wait => panic!(rt; "no work"),
@@ -97,7 +97,7 @@ pub(super) fn ask<R: AllocGlobal + Abort + Wait>(
 }
 
 /// What is lent where an entry runs.
-fn lent_of(rt: &impl Abort, begun: Started) -> Lent
+pub(super) fn lent_of(rt: &impl Abort, begun: Started) -> Lent
     ensures { begun ≡ Started.Run result }
 {
     match begun {
@@ -107,7 +107,7 @@ fn lent_of(rt: &impl Abort, begun: Started) -> Lent
 }
 
 /// What is done with what was lent.
-fn done_of<R: AllocGlobal + Abort>(rt: &R, lent: Lent) -> Done
+pub(super) fn done_of<R: AllocGlobal + Abort>(rt: &R, lent: Lent) -> Done
     ensures { result ≡ lent }
 {
     match eval(rt.alloc(), lent) {

@@ -4,6 +4,7 @@
 //!     memory      a turn where a growth is refused
 //!     writes      what one pass finds of its own calls
 //!     turns       one turn through the gate
+//!     several     several calls in one turn at the gate
 //!     overlaps    two behaviours that run side by side
 //!     ends        how two passes end what each has in hand
 //!     orders      entries that end in another order than they started
@@ -18,6 +19,8 @@ mod memory;
 mod orders;
 #[cfg(test)]
 mod overlaps;
+#[cfg(test)]
+mod several;
 #[cfg(test)]
 mod turns;
 #[cfg(test)]
