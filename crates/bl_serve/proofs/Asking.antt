@@ -1,5 +1,5 @@
 -- What was asked before, by the stage of a conversation and by what it waits for.
-use Rattle.std.proofs.Common.{◌≡◌, ℕ, ◌+◌, ◌≤◌, inl, inr, ◌⊎◌, Bool, true, false, List, [], ◌∷◌, ◌++◌, length, length-append, refl, ap, subst, arith}
+use Rattle.std.proofs.Common.{◌≡◌, ℕ, ◌≤◌, inl, inr, ◌⊎◌, Bool, true, false, List, [], ◌∷◌, ◌++◌, length, length-append, refl, ap, subst, arith}
 use Rattle.bl_work.specs.declared.work.Work.{Work}
 use Rattle.bl_wire.specs.declared.turn.Turn.{Turn}
 use Rattle.bl_engine.specs.declared.request.Request.{Request}
@@ -52,17 +52,6 @@ alone_input ended n stages.Over is = tt
 alone_input ended n stages.Opens is = cc
 alone_input ended n (stages.Settles closing) is = cc
 alone_input ended n (stages.Tells closing) is = cc
-
--- it waits for nothing from the machine
-pub alone_waits : (n : ℕ) (ended : Bool) (stage : Stage) → GoesOnAlone n stage → (need_at ended stage ≡ needs.Opening) ⊎ (need_at ended stage ≡ needs.Replies) → ⊥
-alone_waits n true stages.Greets alone need = elim need [ inl is ↦ cc | inr is ↦ cc ]
-alone_waits n false stages.Greets alone need = elim need [ inl is ↦ cc | inr is ↦ cc ]
-alone_waits n ended stages.Opens alone need = alone
-alone_waits n true stages.Listens alone need = elim need [ inl is ↦ cc | inr is ↦ cc ]
-alone_waits n false stages.Listens alone need = elim need [ inl is ↦ cc | inr is ↦ cc ]
-alone_waits n ended (stages.Settles closing) alone need = alone
-alone_waits n ended (stages.Tells closing) alone need = elim need [ inl is ↦ cc | inr is ↦ cc ]
-alone_waits n ended stages.Over alone need = elim need [ inl is ↦ cc | inr is ↦ cc ]
 
 -- ---- what was asked before
 

@@ -7,7 +7,6 @@ mod Admitted
 mod Going
 mod Transcribing
 mod Quiet
-mod VisitLaws
 mod Cutting
 mod Coming
 mod OutcomeLaws

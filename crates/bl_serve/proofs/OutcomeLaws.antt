@@ -18,14 +18,14 @@ use Rattle.bl_wire.specs.declared.fault.SessionFault.{SessionFault}
 use Rattle.bl_engine.specs.View.{View, Ends, ends}
 use Rattle.bl_engine.specs.Outcome.{Finished, Stopped, TurnedAway, TurnedAwayInPart, refused_sessions}
 use Rattle.bl_serve.specs.Courses.{SpeaksForItsOwn}
-use Rattle.bl_serve.specs.Talks.{seen_of}
+use Rattle.bl_serve.specs.Talks.{HasBroken, HasEnded, seen_of}
 use Rattle.bl_serve.specs.Told.{told_text}
 use Rattle.bl_serve.specs.Visits.{HasCome, HasTold, IsCrowded, course_of}
 use Rattle.bl_serve.specs.Outcome.{replies_alone, IsSeen, IsServed, IsCutShort, IsTranscribed, IsTranscribedInPart}
 use Rattle.bl_serve.specs.declared.visit.Visit.{Visit}
 use Rattle.bl_serve.proofs.Coming.{silent}
 use Rattle.bl_serve.proofs.Transcribing.{nothing_told, is_own, speaks, speaks_for_none, replies_are, transcribed, turned_away, written_is}
-use Rattle.bl_serve.proofs.VisitLaws.{all_named}
+use Rattle.bl_serve.proofs.ToldLaws.{all_named}
 
 module _ (names : KnownNames) (e : Ends) (view : View) where
   abbrev pub finished_plain : Finished names e view → Finished names e (replies_alone view.replies)
@@ -110,55 +110,52 @@ only_settles turns (suc n) is = absurd (true≢false (sym (ap is_settles is) ∙
 names_here : {gate other : GateId} → gate ≡ other → gate.base.setup.names ≡ other.base.setup.names
 names_here same = ap (λ (g : GateId). g.base.setup.names) same
 
-module _ (gate : GateId) (at_first : PassView) (visit : Visit) where
-  abbrev replies : ℕ → List ℕ
-  replies = told_text gate.base.setup.names visit.told.items
-
+module _ (gate : GateId) (at_first : PassView) (visit : Visit) (replies : List Reply) where
   -- all lines were told, and settled
-  whole : (turns : List Turn) → HasCome gate at_first visit (told_by turns) → IsTranscribed at_first visit.pass turns (session_text (told_text gate.base.setup.names visit.told.items) turns)
+  whole : (turns : List Turn) → HasCome gate at_first visit replies (told_by turns) → IsTranscribed at_first visit.pass turns (session_text (told_text gate.base.setup.names replies) turns)
   whole turns c = go visit.session c.course
     where
       is : gate.base.setup.names ≡ visit.pass.gate.base.setup.names
       is = sym (names_here c.own.gate_is)
 
-      go : (o : Option ℕ) → HasTold gate at_first visit o (told_by turns) → IsTranscribed at_first visit.pass turns (session_text (told_text gate.base.setup.names visit.told.items) turns)
-      go None course = inl (course.none, course.own, nothing_told visit.pass (told_text gate.base.setup.names visit.told.items) turns course.none)
+      go : (o : Option ℕ) → HasTold gate at_first visit replies o (told_by turns) → IsTranscribed at_first visit.pass turns (session_text (told_text gate.base.setup.names replies) turns)
+      go None course = inl (course.none, course.own, nothing_told visit.pass (told_text gate.base.setup.names replies) turns course.none)
       go (Some s) course = inr (
         s,
-        is_own gate.base.setup.names at_first visit.pass (course_of gate.base.setup.names visit s) (told_by turns) course,
+        is_own gate.base.setup.names at_first visit.pass (course_of gate.base.setup.names visit replies s) (told_by turns) course,
         λ alone.
             subst (IsTranscript visit.pass.gate.base.setup visit.pass.gate.base.limit visit.pass.seen s turns)
-            (sym (written_is gate.base.setup.names at_first visit.pass (course_of gate.base.setup.names visit s) (told_by turns) course is alone turns refl))
-            (transcribed gate.base.setup.names at_first visit.pass (course_of gate.base.setup.names visit s) (told_by turns) course is alone turns 0 (sym (append-nil (told_by turns)))),
+            (sym (written_is gate.base.setup.names at_first visit.pass (course_of gate.base.setup.names visit replies s) (told_by turns) course is alone turns refl))
+            (transcribed gate.base.setup.names at_first visit.pass (course_of gate.base.setup.names visit replies s) (told_by turns) course is alone turns 0 (sym (append-nil (told_by turns)))),
       )
 
   -- a first part was written
-  in_part : (heard : List Turn) (told : List Request) (settles upto : ℕ) (written : List ℕ) → HasCome gate at_first visit told → told_by heard ≡ told ++ replicate settles request.Settles → upto ≤ visit.upto
-      → ((later : ℕ → List ℕ) → SameUpTo upto (told_text gate.base.setup.names visit.told.items) later → Begins written (session_text later heard)) → IsTranscribedInPart at_first visit.pass heard written
+  in_part : (heard : List Turn) (told : List Request) (settles upto : ℕ) (written : List ℕ) → HasCome gate at_first visit replies told → told_by heard ≡ told ++ replicate settles request.Settles → upto ≤ visit.upto
+      → ((later : ℕ → List ℕ) → SameUpTo upto (told_text gate.base.setup.names replies) later → Begins written (session_text later heard)) → IsTranscribedInPart at_first visit.pass heard written
   in_part heard told settles upto written c by le begins = go visit.session c.course
     where
       is : gate.base.setup.names ≡ visit.pass.gate.base.setup.names
       is = sym (names_here c.own.gate_is)
 
-      go : (o : Option ℕ) → HasTold gate at_first visit o told → IsTranscribedInPart at_first visit.pass heard written
+      go : (o : Option ℕ) → HasTold gate at_first visit replies o told → IsTranscribedInPart at_first visit.pass heard written
       go None course =
           let none = only_settles heard settles (by ∙ ap (λ l. l ++ replicate settles request.Settles) course.none) in
           inl (
             none,
             course.own,
             (
-              session_text (told_text gate.base.setup.names visit.told.items) heard,
-              nothing_told visit.pass (told_text gate.base.setup.names visit.told.items) heard none,
-              begins (told_text gate.base.setup.names visit.told.items) (λ k low. refl),
+              session_text (told_text gate.base.setup.names replies) heard,
+              nothing_told visit.pass (told_text gate.base.setup.names replies) heard none,
+              begins (told_text gate.base.setup.names replies) (λ k low. refl),
             ),
           )
       go (Some s) course = inr (
         s,
-        is_own gate.base.setup.names at_first visit.pass (course_of gate.base.setup.names visit s) told course,
+        is_own gate.base.setup.names at_first visit.pass (course_of gate.base.setup.names visit replies s) told course,
         λ alone. (
           session_text (line_text (state_seen visit.pass) s) heard,
-          transcribed gate.base.setup.names at_first visit.pass (course_of gate.base.setup.names visit s) told course is alone heard settles by,
-          begins (line_text (state_seen visit.pass) s) (λ k low. replies_are gate.base.setup.names at_first visit.pass (course_of gate.base.setup.names visit s) told course is alone k (omega (arith, low, le))),
+          transcribed gate.base.setup.names at_first visit.pass (course_of gate.base.setup.names visit replies s) told course is alone heard settles by,
+          begins (line_text (state_seen visit.pass) s) (λ k low. replies_are gate.base.setup.names at_first visit.pass (course_of gate.base.setup.names visit replies s) told course is alone k (omega (arith, low, le))),
         ),
       )
 
@@ -167,91 +164,81 @@ module _ (gate : GateId) (at_first : PassView) (visit : Visit) where
 
 -- ---- outcomes
 
-module _ (gate : GateId) (at_first before : PassView) (visit : Visit) (e : Ends) (same : at_first ≡ before) where
-  named : (told : List Request) → HasCome gate at_first visit told → All (λ (r : Reply). NamesAnswer gate.base.setup.names r.answer) visit.told.items
-  named told c = all_named gate.base.setup.names visit.upto visit.told.items c.own.told
+module _ (gate : GateId) (at_first before : PassView) (visit : Visit) (replies : List Reply) (e : Ends) (same : at_first ≡ before) where
+  named : (told : List Request) → HasCome gate at_first visit replies told → All (λ (r : Reply). NamesAnswer gate.base.setup.names r.answer) replies
+  named told c = all_named gate.base.setup.names 0 visit.upto replies c.own.told
 
-  served_here : Finished gate.base.setup.names e (seen_of gate at_first visit) ⊎ (IsCrowded visit.pass × TurnedAway gate.base.setup.names e (seen_of gate at_first visit) (refused_sessions ++ bye_line))
+  served_here : Finished gate.base.setup.names e (seen_of gate at_first visit replies) ⊎ (IsCrowded visit.pass × TurnedAway gate.base.setup.names e (seen_of gate at_first visit replies) (refused_sessions ++ bye_line))
       → (told : List Reply) × All (λ (r : Reply). NamesAnswer gate.base.setup.names r.answer) told
       × (((f : Finished gate.base.setup.names e (replies_alone (told_text gate.base.setup.names told))) × IsTranscribed before visit.pass f.turns (session_text (told_text gate.base.setup.names told) f.turns))
       ⊎ ((a : TurnedAway gate.base.setup.names e (replies_alone (told_text gate.base.setup.names told)) (refused_sessions ++ bye_line)) × (visit.pass.own ≡ before.own) × IsSeen visit.pass 0 a.turns (refused_sessions ++ bye_line)))
   served_here (inl f) = (
-    visit.told.items,
+    replies,
     named (told_by f.turns) f.came,
     inl (
-      finished_plain gate.base.setup.names e (seen_of gate at_first visit) f,
-      subst (λ (p : PassView). IsTranscribed p visit.pass f.turns (session_text (told_text gate.base.setup.names visit.told.items) f.turns)) same (whole gate at_first visit f.turns f.came),
+      finished_plain gate.base.setup.names e (seen_of gate at_first visit replies) f,
+      subst (λ (p : PassView). IsTranscribed p visit.pass f.turns (session_text (told_text gate.base.setup.names replies) f.turns)) same (whole gate at_first visit replies f.turns f.came),
     ),
   )
   served_here (inr a) = (
-    visit.told.items,
+    replies,
     named [] a.1.came,
     inr (
-      away_plain gate.base.setup.names e (seen_of gate at_first visit) (refused_sessions ++ bye_line) a.1,
-      (silent gate at_first visit a.1.came).1.own ∙ ap (λ (p : PassView). p.own) same,
-      crowded gate at_first visit a.1.subject a.1.turns a.0 a.1.opened,
+      away_plain gate.base.setup.names e (seen_of gate at_first visit replies) (refused_sessions ++ bye_line) a.1,
+      (silent gate at_first visit replies a.1.came).1.own ∙ ap (λ (p : PassView). p.own) same,
+      crowded gate at_first visit replies a.1.subject a.1.turns a.0 a.1.opened,
     ),
   )
 
   cut_here : (fault : SessionFault) (read_failed write_failed : Bool)
-      → Stopped fault gate.base.setup.names e read_failed write_failed (seen_of gate at_first visit) ⊎ (IsCrowded visit.pass × TurnedAwayInPart fault gate.base.setup.names e read_failed write_failed (seen_of gate at_first visit) (refused_sessions ++ bye_line))
+      → Stopped fault gate.base.setup.names e read_failed write_failed (seen_of gate at_first visit replies) ⊎ (IsCrowded visit.pass × TurnedAwayInPart fault gate.base.setup.names e read_failed write_failed (seen_of gate at_first visit replies) (refused_sessions ++ bye_line))
       → (told : List Reply) × All (λ (r : Reply). NamesAnswer gate.base.setup.names r.answer) told
       × (((s : Stopped fault gate.base.setup.names e read_failed write_failed (replies_alone (told_text gate.base.setup.names told))) × IsTranscribedInPart before visit.pass s.heard s.written)
       ⊎ ((a : TurnedAwayInPart fault gate.base.setup.names e read_failed write_failed (replies_alone (told_text gate.base.setup.names told)) (refused_sessions ++ bye_line))
       × (visit.pass.own ≡ before.own) × IsSeen visit.pass 0 a.part.turns (refused_sessions ++ bye_line)))
   cut_here fault read_failed write_failed (inl s) = (
-    visit.told.items,
+    replies,
     named s.told s.came,
     inl (
-      stopped_plain gate.base.setup.names e (seen_of gate at_first visit) fault read_failed write_failed s,
-      subst (λ (p : PassView). IsTranscribedInPart p visit.pass s.heard s.written) same (in_part gate at_first visit s.heard s.told s.settles s.upto s.written s.came s.told_is s.settled s.begins),
+      stopped_plain gate.base.setup.names e (seen_of gate at_first visit replies) fault read_failed write_failed s,
+      subst (λ (p : PassView). IsTranscribedInPart p visit.pass s.heard s.written) same (in_part gate at_first visit replies s.heard s.told s.settles s.upto s.written s.came s.told_is s.settled s.begins),
     ),
   )
   cut_here fault read_failed write_failed (inr a) = (
-    visit.told.items,
+    replies,
     named [] a.1.part.came,
     inr (
-      away_part_plain gate.base.setup.names e (seen_of gate at_first visit) fault read_failed write_failed (refused_sessions ++ bye_line) a.1,
-      (silent gate at_first visit a.1.part.came).1.own ∙ ap (λ (p : PassView). p.own) same,
-      crowded gate at_first visit a.1.part.subject a.1.part.turns a.0 a.1.part.opened,
+      away_part_plain gate.base.setup.names e (seen_of gate at_first visit replies) fault read_failed write_failed (refused_sessions ++ bye_line) a.1,
+      (silent gate at_first visit replies a.1.part.came).1.own ∙ ap (λ (p : PassView). p.own) same,
+      crowded gate at_first visit replies a.1.part.subject a.1.part.turns a.0 a.1.part.opened,
     ),
   )
 
 -- whatever was told, the pass spoke for its own session alone
-pub speaks_then : (gate : GateId) (at_first : PassView) (visit : Visit) (told : List Request) → HasCome gate at_first visit told → SpeaksForItsOwn at_first visit.pass
-speaks_then gate at_first visit told c = go visit.session c.course
+pub speaks_then : (gate : GateId) (at_first : PassView) (visit : Visit) (replies : List Reply) (told : List Request) → HasCome gate at_first visit replies told → SpeaksForItsOwn at_first visit.pass
+speaks_then gate at_first visit replies told c = go visit.session c.course
   where
-    go : (o : Option ℕ) → HasTold gate at_first visit o told → SpeaksForItsOwn at_first visit.pass
+    go : (o : Option ℕ) → HasTold gate at_first visit replies o told → SpeaksForItsOwn at_first visit.pass
     go None course = speaks_for_none at_first visit.pass course.own
-    go (Some s) course = speaks gate.base.setup.names at_first visit.pass (course_of gate.base.setup.names visit s) told course
+    go (Some s) course = speaks gate.base.setup.names at_first visit.pass (course_of gate.base.setup.names visit replies s) told course
 
-module _ (names : KnownNames) (gate : GateId) (at_first before : PassView) (visit : Visit) (start rest first kept : Option (List ℕ)) (read_failed write_failed : Bool) (is : names ≡ gate.base.setup.names) (same : at_first ≡ before) where
-  abbrev there : Ends
-  there = ends start rest first kept
-
-  pub served : Finished names (ends start rest first kept) (seen_of gate at_first visit)
-      ⊎ (IsCrowded visit.pass × TurnedAway names (ends start rest first kept) (seen_of gate at_first visit) (refused_sessions ++ bye_line))
+module _ (gate : GateId) (at_first before : PassView) (visit : Visit) (start rest first kept : Option (List ℕ)) (read_failed write_failed : Bool) (same : at_first ≡ before) where
+  pub served : HasEnded gate at_first (ends start rest first kept) visit
       → IsServed gate.base.setup.names before visit.pass (record { before = start; after = rest; failed = read_failed }) (record { before = first; after = kept; failed = write_failed })
-  served ended = served_here gate at_first before visit there same
-      (subst (λ (n : KnownNames). Finished n there (seen_of gate at_first visit) ⊎ (IsCrowded visit.pass × TurnedAway n there (seen_of gate at_first visit) (refused_sessions ++ bye_line))) is ended)
+  served ended = served_here gate at_first before visit ended.0 (ends start rest first kept) same ended.1
 
-  pub cut_short : (fault : SessionFault)
-      → Stopped fault names (ends start rest first kept) read_failed write_failed (seen_of gate at_first visit)
-      ⊎ (IsCrowded visit.pass × TurnedAwayInPart fault names (ends start rest first kept) read_failed write_failed (seen_of gate at_first visit) (refused_sessions ++ bye_line))
+  pub cut_short : (fault : SessionFault) → HasBroken fault gate at_first (ends start rest first kept) read_failed write_failed visit
       → IsCutShort gate.base.setup.names before visit.pass fault (record { before = start; after = rest; failed = read_failed }) (record { before = first; after = kept; failed = write_failed })
-  cut_short fault ended = cut_here gate at_first before visit there same fault read_failed write_failed
-      (subst (λ (n : KnownNames). Stopped fault n there read_failed write_failed (seen_of gate at_first visit)
-      ⊎ (IsCrowded visit.pass × TurnedAwayInPart fault n there read_failed write_failed (seen_of gate at_first visit) (refused_sessions ++ bye_line))) is ended)
+  cut_short fault ended = cut_here gate at_first before visit ended.0 (ends start rest first kept) same fault read_failed write_failed ended.1
 
-  pub served_speaks : Finished names (ends start rest first kept) (seen_of gate at_first visit)
-      ⊎ (IsCrowded visit.pass × TurnedAway names (ends start rest first kept) (seen_of gate at_first visit) (refused_sessions ++ bye_line))
-      → SpeaksForItsOwn before visit.pass
-  served_speaks (inl f) = subst (λ (p : PassView). SpeaksForItsOwn p visit.pass) same (speaks_then gate at_first visit (told_by f.turns) f.came)
-  served_speaks (inr a) = subst (λ (p : PassView). SpeaksForItsOwn p visit.pass) same (speaks_then gate at_first visit [] a.1.came)
+  pub served_speaks : HasEnded gate at_first (ends start rest first kept) visit → SpeaksForItsOwn before visit.pass
+  served_speaks ended = subst (λ (p : PassView). SpeaksForItsOwn p visit.pass) same (elim ended.1 [
+    | inl f ↦ speaks_then gate at_first visit ended.0 (told_by f.turns) f.came
+    | inr a ↦ speaks_then gate at_first visit ended.0 [] a.1.came
+  ])
 
-  pub cut_speaks : (fault : SessionFault)
-      → Stopped fault names (ends start rest first kept) read_failed write_failed (seen_of gate at_first visit)
-      ⊎ (IsCrowded visit.pass × TurnedAwayInPart fault names (ends start rest first kept) read_failed write_failed (seen_of gate at_first visit) (refused_sessions ++ bye_line))
-      → SpeaksForItsOwn before visit.pass
-  cut_speaks fault (inl s) = subst (λ (p : PassView). SpeaksForItsOwn p visit.pass) same (speaks_then gate at_first visit s.told s.came)
-  cut_speaks fault (inr a) = subst (λ (p : PassView). SpeaksForItsOwn p visit.pass) same (speaks_then gate at_first visit [] a.1.part.came)
+  pub cut_speaks : (fault : SessionFault) → HasBroken fault gate at_first (ends start rest first kept) read_failed write_failed visit → SpeaksForItsOwn before visit.pass
+  cut_speaks fault ended = subst (λ (p : PassView). SpeaksForItsOwn p visit.pass) same (elim ended.1 [
+    | inl s ↦ speaks_then gate at_first visit ended.0 s.told s.came
+    | inr a ↦ speaks_then gate at_first visit ended.0 [] a.1.part.came
+  ])

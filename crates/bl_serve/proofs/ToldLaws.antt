@@ -1,164 +1,165 @@
--- Laws of the replies that a session was told: how those to a line are found, and that what comes later doesn't change them.
-use Rattle.std.proofs.Common.{◌≡◌, ◌≢◌, ℕ, suc, ◌+◌, ◌-◌, ◌<◌, ◌≤◌, ◌==◌, Bool, true, false, if◌then◌else◌, List, [], ◌∷◌, ◌++◌, length, map, take, take_all, drop, length-drop, refl, sym, ap, ◌∙◌, append-nil, append_assoc, arith, add-one, nat_lt, get_or, All, codes}
+-- Laws of the replies that a session was told: which of them are to a line, and that what comes later doesn't change them.
+use Rattle.std.proofs.Common.{◌≡◌, ℕ, suc, ◌+◌, ◌⊎◌, inl, inr, length-append, ◌<◌, ◌≤◌, ◌==◌, Bool, true, false, if◌then◌else◌, List, [], ◌∷◌, ◌++◌, length, map, take, drop, length-drop, refl, sym, ap, subst, ◌∙◌, append-nil, arith, nat_lt, get_or, All, codes}
 use Rattle.std.specs.List.{flat_map}
-use Rattle.std.proofs.Math.Seq.{take-suc, drop-cons, drop-append_seam}
-use Rattle.std.proofs.lemmas.List.{map-append, drop-drop, length-take-le}
+use Rattle.std.proofs.lemmas.List.{map-append, get_or-drop, get_or-take, take_more, length-take, take-append-drop}
+use Rattle.std.proofs.Math.Seq.{drop-cons}
+use Rattle.std.proofs.lemmas.List.Elements.{All-append, All-cons, All-head, All-nil, All-tail, All-weaker, filter-append}
 use Rattle.std.proofs.lemmas.Grind.{flat_map-append}
-use Rattle.std.proofs.lemmas.Bool.Decides.{nat_tests}
-use Rattle.std.proofs.Math.ListN.{drop_of_length-le}
+use Rattle.std.proofs.lemmas.Bool.Decides.{eqb_tells, nat_tests}
 use Rattle.bl_work.specs.Names.{KnownNames}
 use Rattle.bl_hall.specs.declared.reply.Reply as owned
 use Rattle.bl_hall.specs.Told.{reply_of}
+use Rattle.bl_wire.specs.Named.{NamesAnswer}
 use Rattle.bl_wire.specs.Replies.{label_text, answer_text, reply_text, line_or_full}
 use Rattle.bl_wire.specs.Texts.{refusal}
-use Rattle.bl_serve.specs.Told.{ordinal_of, behind, front, line_of, told_text}
+use Rattle.bl_serve.specs.Told.{ordinal_of, line_of, told_text, BeginsAbove, GoByLine, IsPage, IsTold}
 
-is_low : (n k : ℕ) → n < k → nat_lt n k ≡ true
-is_low n k lt = grind (arith, nat_tests)
+not_same : (n k : ℕ) → (n ≡ k → ⊥) → (n == k) ≡ false
+not_same n k other = grind (arith, nat_tests)
 
-not_low : (n k : ℕ) → k ≤ n → nat_lt n k ≡ false
-not_low n k le = grind (arith, nat_tests)
+-- ---- the replies to a line
 
-is_same : (n k : ℕ) → n ≡ k → (n == k) ≡ true
-is_same n k e = grind (arith, nat_tests)
+-- none of them is to the line
+pub none_to : (k : ℕ) (told : List owned.Reply) → All (λ r. ordinal_of r ≡ k → ⊥) told → line_of k told ≡ []
+none_to k [] other = refl
+none_to k (r ∷ told) other =
+    ap (λ (b : Bool). if b then r ∷ line_of k told else line_of k told) (not_same (ordinal_of r) k (All-head (λ (q : owned.Reply). ordinal_of q ≡ k → ⊥) r told other))
+    ∙ none_to k told (All-tail (λ (q : owned.Reply). ordinal_of q ≡ k → ⊥) r told other)
 
-pub not_same : (n k : ℕ) → n ≢ k → (n == k) ≡ false
-not_same n k e = grind (arith, nat_tests)
+pub line-append : (k : ℕ) (told more : List owned.Reply) → line_of k (told ++ more) ≡ line_of k told ++ line_of k more
+line-append k told more = filter-append (λ (r : owned.Reply). ordinal_of r == k) told more
 
--- ---- behind the replies to lines below an ordinal
+-- those behind are to other lines
+pub line_front : (k : ℕ) (told more : List owned.Reply) → All (λ r. ordinal_of r ≡ k → ⊥) more → line_of k (told ++ more) ≡ line_of k told
+line_front k told more other = line-append k told more ∙ ap (λ l. line_of k told ++ l) (none_to k more other) ∙ append-nil (line_of k told)
 
-passes : (k : ℕ) (r : owned.Reply) (told : List owned.Reply) → ordinal_of r < k → behind k (r ∷ told) ≡ behind k told
-passes k r told lt = ap (λ (b : Bool). if b then behind k told else r ∷ told) (is_low (ordinal_of r) k lt)
+-- those in front are
+pub line_back : (k : ℕ) (told more : List owned.Reply) → All (λ r. ordinal_of r ≡ k → ⊥) told → line_of k (told ++ more) ≡ line_of k more
+line_back k told more other = line-append k told more ∙ ap (λ l. l ++ line_of k more) (none_to k told other)
 
-pub stays : (k : ℕ) (r : owned.Reply) (told : List owned.Reply) → k ≤ ordinal_of r → behind k (r ∷ told) ≡ r ∷ told
-stays k r told le = ap (λ (b : Bool). if b then behind k told else r ∷ told) (not_low (ordinal_of r) k le)
+-- of the replies that were looked at, with one more
+pub line_more : (k i : ℕ) (told : List owned.Reply) (d : owned.Reply) → i < length told
+    → line_of k (take (i + 1) told) ≡ line_of k (take i told) ++ line_of k (get_or told i d ∷ [])
+line_more k i told d lt = ap (line_of k) (take_more told i d lt) ∙ line-append k (take i told) (get_or told i d ∷ [])
 
--- one place on
-pub behind_on : (told : List owned.Reply) (i k : ℕ) (d : owned.Reply) → i < length told → ordinal_of (get_or told i d) < k
-    → behind k (drop i told) ≡ behind k (drop (i + 1) told)
-behind_on told i k d lt low =
-    ap (behind k) (drop-cons told i d lt) ∙ passes k (get_or told i d) (drop (suc i) told) low ∙ ap (λ n. behind k (drop n told)) (sym (add-one i))
+one_is : (k : ℕ) (r : owned.Reply) → ordinal_of r ≡ k → line_of k (r ∷ []) ≡ r ∷ []
+one_is k r is = go (eqb_tells (ordinal_of r) k)
+  where
+    go : (((ordinal_of r == k) ≡ true) × (ordinal_of r ≡ k)) ⊎ (((ordinal_of r == k) ≡ false) × (ordinal_of r ≡ k → ⊥)) → line_of k (r ∷ []) ≡ r ∷ []
+    go (inl t) = ap (λ (b : Bool). if b then r ∷ [] else []) t.0
+    go (inr t) = absurd (t.1 is)
 
--- no place on
-pub behind_here : (told : List owned.Reply) (i k : ℕ) (d : owned.Reply) → i < length told → k ≤ ordinal_of (get_or told i d)
-    → behind k (drop i told) ≡ drop i told
-behind_here told i k d lt le =
-    ap (behind k) (drop-cons told i d lt) ∙ stays k (get_or told i d) (drop (suc i) told) le ∙ sym (drop-cons told i d lt)
+one_other : (k : ℕ) (r : owned.Reply) → (ordinal_of r ≡ k → ⊥) → line_of k (r ∷ []) ≡ []
+one_other k r other = none_to k (r ∷ []) (All-cons (λ (q : owned.Reply). ordinal_of q ≡ k → ⊥) r [] other (All-nil (λ (q : owned.Reply). ordinal_of q ≡ k → ⊥)))
 
-pub behind_end : (told : List owned.Reply) (i k : ℕ) → length told ≤ i → behind k (drop i told) ≡ drop i told
-behind_end told i k le = ap (behind k) (drop_of_length-le told le) ∙ sym (drop_of_length-le told le)
+-- one more to the line, or to another
+pub line_with : (k i : ℕ) (told : List owned.Reply) (d : owned.Reply) → i < length told → ordinal_of (get_or told i d) ≡ k
+    → line_of k (take (i + 1) told) ≡ line_of k (take i told) ++ get_or told i d ∷ []
+line_with k i told d lt is = line_more k i told d lt ∙ ap (λ l. line_of k (take i told) ++ l) (one_is k (get_or told i d) is)
 
--- a place behind a place
-pub behind_two : (told : List owned.Reply) (a b k : ℕ) → behind k (drop b (drop a told)) ≡ behind k (drop (a + b) told)
-behind_two told a b k = ap (behind k) (drop-drop b a told)
+pub line_without : (k i : ℕ) (told : List owned.Reply) (d : owned.Reply) → i < length told → (ordinal_of (get_or told i d) ≡ k → ⊥)
+    → line_of k (take (i + 1) told) ≡ line_of k (take i told)
+line_without k i told d lt other = line_more k i told d lt ∙ ap (λ l. line_of k (take i told) ++ l) (one_other k (get_or told i d) other) ∙ append-nil (line_of k (take i told))
 
--- ---- the replies to a line in front
+-- ---- line by line
 
--- so many are its replies so far
-pub front_on : (told : List owned.Reply) (i k : ℕ) (d : owned.Reply) → i < length told → ordinal_of (get_or told i d) ≡ k
-    → front k told ≡ take i told ++ front k (drop i told) → front k told ≡ take (i + 1) told ++ front k (drop (i + 1) told)
-front_on told i k d lt is so =
-    let r = get_or told i d in
-    let rest = drop (suc i) told in
-    let first : front k (drop i told) ≡ r ∷ front k rest =
-    ap (front k) (drop-cons told i d lt) ∙ ap (λ (b : Bool). if b then r ∷ front k rest else []) (is_same (ordinal_of r) k is) in
-    let one : take (suc i) told ≡ take i told ++ r ∷ [] = take-suc told i d lt in
-    so ∙ ap (λ l. take i told ++ l) first ∙ sym (append_assoc (take i told) (r ∷ []) (front k rest)) ∙ ap (λ l. l ++ front k rest) (sym one)
-    ∙ ap (λ n. take n told ++ front k (drop n told)) (sym (add-one i))
+-- from a place on all are to lines above an ordinal, where the one there is
+pub all_above : (told : List owned.Reply) (at n : ℕ) → GoByLine told → ((d : owned.Reply) → at < length told → n < ordinal_of (get_or told at d)) → All (λ r. n < ordinal_of r) (drop at told)
+all_above told at n order above i d lt =
+    subst (λ (r : owned.Reply). n < ordinal_of r) (sym (get_or-drop at told i d)) (go (either i))
+  where
+    inside : at + i < length told
+    inside = omega (arith, lt, length-drop at told)
 
--- and no more
-pub front_here : (told : List owned.Reply) (i k : ℕ) (d : owned.Reply) → i < length told → ordinal_of (get_or told i d) ≢ k
-    → front k told ≡ take i told ++ front k (drop i told) → front k told ≡ take i told
-front_here told i k d lt isnt so =
-    let r = get_or told i d in
-    let rest = drop (suc i) told in
-    so ∙ ap (λ l. take i told ++ l) (ap (front k) (drop-cons told i d lt) ∙ ap (λ (b : Bool). if b then r ∷ front k rest else []) (not_same (ordinal_of r) k isnt))
-    ∙ append-nil (take i told)
+    either : (i : ℕ) → (i ≡ 0) ⊎ (0 < i)
+    either i = grind arith
 
-pub front_end : (told : List owned.Reply) (i k : ℕ) → length told ≤ i → front k told ≡ take i told ++ front k (drop i told) → front k told ≡ take i told
-front_end told i k le so = so ∙ ap (λ l. take i told ++ front k l) (drop_of_length-le told le) ∙ append-nil (take i told)
+    go : (i ≡ 0) ⊎ (0 < i) → n < ordinal_of (get_or told (at + i) d)
+    go (inl none) = let here : at ≡ at + i = omega arith in subst (λ (j : ℕ). n < ordinal_of (get_or told j d)) here (above d (omega (arith, inside)))
+    go (inr some) = let first = above d (omega (arith, inside)) in let le = order at (at + i) d (omega arith) inside in omega (arith, first, le)
 
-pub front_count : (told : List owned.Reply) (i k : ℕ) → i ≤ length told → front k told ≡ take i told → i ≡ length (front k told)
-front_count told i k le is = sym (ap length is ∙ length-take-le i told le)
+pub begins_above : (told : List owned.Reply) (at n : ℕ) → GoByLine told → BeginsAbove n (drop at told) → All (λ r. n < ordinal_of r) (drop at told)
+begins_above told at n order above = all_above told at n order (λ d lt. subst (BeginsAbove n) (drop-cons told at d lt) above)
+
+pub order_take : (told : List owned.Reply) (n : ℕ) → GoByLine told → GoByLine (take n told)
+order_take told n order i j d lt within =
+    let few = length-take n told in
+    let le = order i j d lt (omega (arith, within, few)) in
+    subst (λ (r : owned.Reply). ordinal_of r ≤ ordinal_of (get_or (take n told) j d)) (sym (get_or-take n told i d (omega (arith, lt, within, few))))
+    (subst (λ (r : owned.Reply). ordinal_of (get_or told i d) ≤ ordinal_of r) (sym (get_or-take n told j d (omega (arith, within, few)))) le)
+
+-- ---- a page
+
+pub page_first : (told : List owned.Reply) (n : ℕ) → GoByLine told → IsPage told 0 n
+page_first told n order = record { order = order; within = omega arith; low = All-nil (λ (r : owned.Reply). ordinal_of r ≤ n) }
+
+-- up to a place all replies to a line were passed over, where those from there on are to later lines
+pub line_until : (k at : ℕ) (told : List owned.Reply) → All (λ r. k < ordinal_of r) (drop at told) → line_of k told ≡ line_of k (take at told)
+line_until k at told above =
+    ap (line_of k) (sym (take-append-drop at told))
+    ∙ line_front k (take at told) (drop at told) (All-weaker (λ (r : owned.Reply). k < ordinal_of r) (λ (r : owned.Reply). ordinal_of r ≡ k → ⊥) (λ r lt is. omega (arith, lt, is)) (drop at told) above)
+
+-- those before a place are to earlier lines
+pub line_before : (k n at : ℕ) (told : List owned.Reply) → n < k → All (λ r. ordinal_of r ≤ n) (take at told) → line_of k (take at told) ≡ []
+line_before k n at told lt low =
+    none_to k (take at told) (All-weaker (λ (r : owned.Reply). ordinal_of r ≤ n) (λ (r : owned.Reply). ordinal_of r ≡ k → ⊥) (λ r le is. omega (arith, le, lt, is)) (take at told) low)
 
 -- ---- texts
 
 -- the text of one reply more
-pub text_on : (names : KnownNames) (told : List owned.Reply) (i : ℕ) (d : owned.Reply) → i < length told
-    → flat_map (reply_text names) (map reply_of (take (i + 1) told)) ≡ flat_map (reply_text names) (map reply_of (take i told)) ++ reply_text names (reply_of (get_or told i d))
-text_on names told i d lt =
-    ap (λ k. flat_map (reply_text names) (map reply_of (take k told))) (add-one i)
-    ∙ ap (λ l. flat_map (reply_text names) (map reply_of l)) (take-suc told i d lt)
-    ∙ ap (flat_map (reply_text names)) (map-append reply_of (take i told) (get_or told i d ∷ []))
-    ∙ flat_map-append (reply_text names) (map reply_of (take i told)) (reply_of (get_or told i d) ∷ [])
-    ∙ ap (λ l. flat_map (reply_text names) (map reply_of (take i told)) ++ l) (append-nil (reply_text names (reply_of (get_or told i d))))
+pub text_on : (names : KnownNames) (told : List owned.Reply) (r : owned.Reply)
+    → flat_map (reply_text names) (map reply_of (told ++ r ∷ [])) ≡ flat_map (reply_text names) (map reply_of told) ++ reply_text names (reply_of r)
+text_on names told r =
+    ap (flat_map (reply_text names)) (map-append reply_of told (r ∷ []))
+    ∙ flat_map-append (reply_text names) (map reply_of told) (reply_of r ∷ [])
+    ∙ ap (λ l. flat_map (reply_text names) (map reply_of told) ++ l) (append-nil (reply_text names (reply_of r)))
 
 -- a line with replies, and one without
-pub text_some : (names : KnownNames) (k : ℕ) (replies : List owned.Reply) → 0 < length replies
+pub text_some : (names : KnownNames) (k : ℕ) (replies : List owned.Reply) → nat_lt 0 (length replies) ≡ true
     → flat_map (reply_text names) (map reply_of replies) ≡ line_or_full names k (map reply_of replies)
-text_some names k [] lt = absurd (omega (arith, lt))
-text_some names k (r ∷ replies) lt = refl
+text_some names k [] some = cc
+text_some names k (r ∷ replies) some = refl
 
-pub text_none : (names : KnownNames) (k : ℕ) (replies : List owned.Reply) → length replies ≡ 0
-    → flat_map (reply_text names) (map reply_of replies) ++ refusal k (codes "full") ≡ line_or_full names k (map reply_of replies)
-text_none names k [] is = refl
-text_none names k (r ∷ replies) is = absurd (omega (arith, is))
-
--- the replies to a line, sought from a place on
-pub sought : (told : List owned.Reply) (next from k : ℕ) → behind k told ≡ behind k (drop next told) → behind k (drop next told) ≡ drop from told
-    → line_of k told ≡ front k (drop from told)
-sought told next from k passed is = ap (front k) (passed ∙ is)
-
--- a slice from a place on
-pub rest_is : (told : List owned.Reply) (n : ℕ) → take (length told - n) (drop n told) ≡ drop n told
-rest_is told n = take_all (length told - n) (drop n told) (omega (arith, length-drop n told))
-
--- what is written for a line whose replies were sought: nothing and the refusal, or its replies
-pub text_from_none : (names : KnownNames) (told shown : List owned.Reply) (next from k : ℕ) → shown ≡ drop from told
-    → behind k told ≡ behind k (drop next told) → behind k (drop next told) ≡ drop from told → length (front k shown) ≡ 0
-    → told_text names told k ≡ flat_map (reply_text names) (map reply_of (front k shown)) ++ refusal k (codes "full")
-text_from_none names told shown next from k shows passed is none =
-    ap (λ l. line_or_full names k (map reply_of l)) (sought told next from k passed is ∙ ap (front k) (sym shows)) ∙ sym (text_none names k (front k shown) none)
-
-pub text_from_some : (names : KnownNames) (told shown : List owned.Reply) (next from k : ℕ) → shown ≡ drop from told
-    → behind k told ≡ behind k (drop next told) → behind k (drop next told) ≡ drop from told → 0 < length (front k shown)
-    → flat_map (reply_text names) (map reply_of (front k shown)) ≡ told_text names told k
-text_from_some names told shown next from k shows passed is some =
-    text_some names k (front k shown) some ∙ ap (λ l. line_or_full names k (map reply_of l)) (sym (sought told next from k passed is ∙ ap (front k) (sym shows)))
-
--- ---- what comes later
-
-behind_more : (told more : List owned.Reply) (k : ℕ) → All (λ r. k < ordinal_of r) more → behind k (told ++ more) ≡ behind k told ++ more
-behind_more [] [] k later = refl
-behind_more [] (r ∷ more) k later = stays k r more (omega (arith, later 0 r (omega arith)))
-behind_more (r ∷ told) more k later =
-    ap (λ l. if nat_lt (ordinal_of r) k then l else r ∷ (told ++ more)) (behind_more told more k later) ∙ cut (nat_lt (ordinal_of r) k)
+pub text_none : (names : KnownNames) (k : ℕ) (replies : List owned.Reply) → nat_lt 0 (length replies) ≡ false
+    → line_or_full names k (map reply_of replies) ≡ flat_map (reply_text names) (map reply_of replies) ++ refusal k (codes "full")
+text_none names k [] none = refl
+text_none names k (r ∷ replies) none = absurd (long (length replies) none)
   where
-    cut : (b : Bool) → (if b then behind k told ++ more else r ∷ (told ++ more)) ≡ (if b then behind k told else r ∷ told) ++ more
-    cut true = refl
-    cut false = refl
+    long : (n : ℕ) → nat_lt 0 (suc n) ≡ false → ⊥
+    long n none = grind (arith, nat_tests)
 
-front_more : (told more : List owned.Reply) (k : ℕ) → All (λ r. k < ordinal_of r) more → front k (told ++ more) ≡ front k told
-front_more [] [] k later = refl
-front_more [] (r ∷ more) k later =
-    let lt : k < ordinal_of r = later 0 r (omega arith) in
-    ap (λ (b : Bool). if b then r ∷ front k more else []) (not_same (ordinal_of r) k (λ e. absurd (omega (arith, lt, e))))
-front_more (r ∷ told) more k later = ap (λ l. if ordinal_of r == k then r ∷ l else []) (front_more told more k later)
-
--- the replies to lines that come later change nothing
-pub line_more : (told more : List owned.Reply) (k : ℕ) → All (λ r. k < ordinal_of r) more → line_of k (told ++ more) ≡ line_of k told
-line_more told more k later = ap (front k) (behind_more told more k later) ∙ front_more (behind k told) more k later
-
--- behind all that was told before
-pub behind_old : (told more : List owned.Reply) (k : ℕ) → All (λ r. ordinal_of r < k) told → behind k (told ++ more) ≡ behind k more
-behind_old [] more k low = refl
-behind_old (r ∷ told) more k low =
-    passes k r (told ++ more) (low 0 r (omega arith)) ∙ behind_old told more k (λ i d lt. low (suc i) d (omega (arith, lt)))
-
-pub page_new : (told more : List owned.Reply) (k : ℕ) → All (λ r. ordinal_of r < k) told → behind k (told ++ more) ≡ behind k (drop (length told) (told ++ more))
-page_new told more k low = behind_old told more k low ∙ ap (behind k) (sym (drop-append_seam told more))
+pub some_more : (l : List owned.Reply) (r : owned.Reply) → true ≡ nat_lt 0 (length (l ++ r ∷ []))
+some_more l r = let long = length-append l (r ∷ []) in sym (is_less (length (l ++ r ∷ [])) (omega (arith, long)))
+  where
+    is_less : (n : ℕ) → 0 < n → nat_lt 0 n ≡ true
+    is_less n lt = grind (arith, nat_tests)
 
 -- a label that begins so
 pub labelled : (reply : owned.Reply) (n : ℕ) (path : List ℕ) (names : KnownNames) → reply.label.items ≡ n ∷ path
     → reply_text names (reply_of reply) ≡ label_text (n ∷ path) ++ (answer_text names reply.answer ++ codes "\n")
 labelled reply n path names is = ap (λ l. label_text l ++ (answer_text names reply.answer ++ codes "\n")) is
+
+-- ---- what was told, and a block more
+
+-- what is told of an earlier line stays so
+pub text_stays : (names : KnownNames) (after upto : ℕ) (told more : List owned.Reply) → All (IsTold names after upto) more → (k : ℕ) → k ≤ after → told_text names (told ++ more) k ≡ told_text names told k
+text_stays names after upto told more are k le =
+    ap (λ l. line_or_full names k (map reply_of l))
+    (line_front k told more (All-weaker (IsTold names after upto) (λ (r : owned.Reply). ordinal_of r ≡ k → ⊥) (λ r is e. (let low = is.low in omega (arith, low, le, e))) more are))
+
+-- and of a later one it is what the block has
+pub text_new : (names : KnownNames) (after : ℕ) (told more : List owned.Reply) → All (IsTold names 0 after) told → (k : ℕ) → after < k → told_text names (told ++ more) k ≡ told_text names more k
+text_new names after told more was k lt =
+    ap (λ l. line_or_full names k (map reply_of l))
+    (line_back k told more (All-weaker (IsTold names 0 after) (λ (r : owned.Reply). ordinal_of r ≡ k → ⊥) (λ r is e. (let high = is.high in omega (arith, high, lt, e))) told was))
+
+-- all that was told is told up to the last line
+pub told_on : (names : KnownNames) (after upto : ℕ) (told more : List owned.Reply) → after ≤ upto → All (IsTold names 0 after) told → All (IsTold names after upto) more
+    → All (IsTold names 0 upto) (told ++ more)
+told_on names after upto told more within was are =
+    All-append (IsTold names 0 upto) told more
+    (All-weaker (IsTold names 0 after) (IsTold names 0 upto) (λ r is. record { low = is.low; high = omega (arith, is.high, within); named = is.named }) told was)
+    (All-weaker (IsTold names after upto) (IsTold names 0 upto) (λ r is. record { low = omega (arith, is.low); high = is.high; named = is.named }) more are)
+
+pub all_named : (names : KnownNames) (after upto : ℕ) (told : List owned.Reply) → All (IsTold names after upto) told → All (λ r. NamesAnswer names r.answer) told
+all_named names after upto told are = All-weaker (IsTold names after upto) (λ r. NamesAnswer names r.answer) (λ r is. is.named) told are

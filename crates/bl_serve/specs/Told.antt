@@ -1,5 +1,5 @@
 -- The replies that a session was told, in the order in which they came, and which of them answer a line.
-use Rattle.std.specs.Prelude.{⊤, ℕ, ◌<◌, ◌≤◌, ◌==◌, nat_lt, if◌then◌else◌, List, [], ◌∷◌, map, slice_index_or}
+use Rattle.std.specs.Prelude.{⊤, ℕ, ◌<◌, ◌≤◌, ◌==◌, List, [], ◌∷◌, All, AllPairs, filter, length, map, slice_index_or, take}
 use Rattle.bl_work.specs.Names.{KnownNames}
 use Rattle.bl_hall.specs.declared.reply.Reply as owned
 use Rattle.bl_hall.specs.Told.{reply_of}
@@ -10,23 +10,17 @@ use Rattle.bl_wire.specs.Replies.{line_or_full}
 abbrev pub ordinal_of : owned.Reply → ℕ
 ordinal_of reply = slice_index_or reply.label.items 0 0
 
--- what is left behind the replies to lines below an ordinal
-abbrev pub behind : ℕ → List owned.Reply → List owned.Reply
-behind k [] = []
-behind k (reply ∷ told) = if nat_lt (ordinal_of reply) k then behind k told else reply ∷ told
-
--- the replies to a line with which a list begins
-abbrev pub front : ℕ → List owned.Reply → List owned.Reply
-front k [] = []
-front k (reply ∷ told) = if ordinal_of reply == k then reply ∷ front k told else []
-
--- Own choice: the replies to a line are those that come first behind all to smaller ordinals.
+-- the replies to a line
 abbrev pub line_of : ℕ → List owned.Reply → List owned.Reply
-line_of k told = front k (behind k told)
+line_of k told = filter (λ reply. ordinal_of reply == k) told
 
 -- what is written for a line whose work was asked for: its replies, or where there are none that it was refused for want of room
 abbrev pub told_text : KnownNames → List owned.Reply → ℕ → List ℕ
 told_text names told k = line_or_full names k (map reply_of (line_of k told))
+
+-- they go line by line
+abbrev pub GoByLine : List owned.Reply → Type 0
+GoByLine told = AllPairs (λ (earlier later : owned.Reply). ordinal_of earlier ≤ ordinal_of later) told
 
 -- the first of these replies, where there is one, is to a line above an ordinal
 abbrev pub BeginsAbove : ℕ → List owned.Reply → Type 0
@@ -38,3 +32,14 @@ pub record IsTold (names : KnownNames) (after upto : ℕ) (reply : owned.Reply) 
   pub low : after < ordinal_of reply
   pub high : ordinal_of reply ≤ upto
   pub named : NamesAnswer names reply.answer
+
+-- these are replies to the lines behind one ordinal and up to another, line by line
+pub record IsBlock (names : KnownNames) (after upto : ℕ) (told : List owned.Reply) : Type 0 where
+  pub are : All (IsTold names after upto) told
+  pub order : GoByLine told
+
+-- they go line by line, and those before a place are to lines up to an ordinal
+pub record IsPage (told : List owned.Reply) (next n : ℕ) : Type 0 where
+  pub order : GoByLine told
+  pub within : next ≤ length told
+  pub low : All (λ reply. ordinal_of reply ≤ n) (take next told)

@@ -1,52 +1,55 @@
 -- How far a session over a gate has come.
-use Rattle.std.specs.Prelude.{◌≡◌, ℕ, ◌<◌, ◌≤◌, List, [], Option, Some, None, All, length, drop}
+use Rattle.std.specs.Prelude.{◌≡◌, ℕ, ◌≤◌, List, [], ◌∷◌, ◌++◌, Option, Some, None, All, length}
 use Rattle.bl_work.specs.Names.{KnownNames}
 use Rattle.bl_setup.specs.Agreement.{Agree}
 use Rattle.bl_order.specs.Machine.{most_sessions}
 use Rattle.bl_hall.specs.Chronicle.{HasTrail}
-use Rattle.bl_hall.specs.declared.reply.Reply as owned
+use Rattle.bl_hall.specs.declared.reply.Reply.{Reply}
 use Rattle.bl_gate.specs.Gates.{GateId, PassView, Follows, hall_seen, state_seen}
 use Rattle.bl_engine.specs.declared.request.Request.{Request}
-use Rattle.bl_engine.specs.Requests.{SameUpTo}
 use Rattle.bl_serve.specs.Courses.{IsCourse, IsOwn, SpeaksAlone, Course}
-use Rattle.bl_serve.specs.Told.{behind, told_text, IsTold}
+use Rattle.bl_serve.specs.Told.{told_text, IsTold}
 use Rattle.bl_serve.specs.declared.visit.Visit.{Visit}
 
 -- The pass is of the gate and follows what it was at first, the setup of the gate's hall agrees with itself, and what was told are
 -- replies to lines up to the last one that was settled.
-pub record IsOf (gate : GateId) (first : PassView) (visit : Visit) : Type 0 where
+pub record IsOf (gate : GateId) (first : PassView) (visit : Visit) (replies : List Reply) : Type 0 where
   pub agree : Agree gate.base.setup
   pub gate_is : visit.pass.gate ≡ gate
   pub follows : Follows first visit.pass
-  pub told : All (IsTold gate.base.setup.names 0 visit.upto) visit.told.items
+  pub told : All (IsTold gate.base.setup.names 0 visit.upto) replies
   pub within : visit.upto ≤ visit.last
 
 -- nothing was told to the gate yet, and nothing by it
-pub record IsSilent (first : PassView) (visit : Visit) (told : List Request) : Type 0 where
+pub record IsSilent (first : PassView) (visit : Visit) (replies : List Reply) (told : List Request) : Type 0 where
   pub none : told ≡ []
   pub own : visit.pass.own ≡ first.own
-  pub replies : visit.told.items ≡ []
+  pub quiet : replies ≡ []
   pub last : visit.last ≡ 0
 
 -- the course of a visit's session
-abbrev pub course_of : KnownNames → Visit → ℕ → Course
-course_of names visit session = record { session = session; last = visit.last; upto = visit.upto; replies = told_text names visit.told.items }
+abbrev pub course_of : KnownNames → Visit → List Reply → ℕ → Course
+course_of names visit replies session = record { session = session; last = visit.last; upto = visit.upto; replies = told_text names replies }
 
 -- without a session nothing was told, and with one this was told of it
-abbrev pub HasTold : GateId → PassView → Visit → Option ℕ → List Request → Type 0
-HasTold gate first visit None told = IsSilent first visit told
-HasTold gate first visit (Some session) told = IsCourse gate.base.setup.names first visit.pass (course_of gate.base.setup.names visit session) told
+abbrev pub HasTold : GateId → PassView → Visit → List Reply → Option ℕ → List Request → Type 0
+HasTold gate first visit replies None told = IsSilent first visit replies told
+HasTold gate first visit replies (Some session) told =
+    IsCourse gate.base.setup.names first visit.pass (course_of gate.base.setup.names visit replies session) told
 
--- what was told brought the visit here
-pub record HasCome (gate : GateId) (first : PassView) (visit : Visit) (told : List Request) : Type 0 where
-  pub own : IsOf gate first visit
-  pub course : HasTold gate first visit visit.session told
+-- what was told to the gate, and by it, brought the visit here
+pub record HasCome (gate : GateId) (first : PassView) (visit : Visit) (replies : List Reply) (told : List Request) : Type 0 where
+  pub own : IsOf gate first visit replies
+  pub course : HasTold gate first visit replies visit.session told
 
--- the session is the same, and what was told up to the last line that was settled stands
-pub record StillTells (names : KnownNames) (old new : Visit) : Type 0 where
-  pub session : new.session ≡ old.session
-  pub upto : old.upto ≤ new.upto
-  pub same : SameUpTo old.upto (told_text names old.told.items) (told_text names new.told.items)
+-- nothing more was told
+abbrev pub GoesOn : GateId → PassView → (old new : Visit) → Type 0
+GoesOn gate first old new = (replies : List Reply) (told : List Request) → HasCome gate first old replies told → HasCome gate first new replies told
+
+-- this request was, and these replies
+abbrev pub GoesOnWith : GateId → PassView → (old new : Visit) → List Reply → Request → Type 0
+GoesOnWith gate first old new more request =
+    (replies : List Reply) (told : List Request) → HasCome gate first old replies told → HasCome gate first new (replies ++ more) (told ++ request ∷ [])
 
 -- there are as many sessions as there may be, as the pass has seen
 pub record IsCrowded (pass : PassView) : Type 0 where
@@ -56,8 +59,3 @@ pub record IsCrowded (pass : PassView) : Type 0 where
 -- another pass spoke for the session that the pass opened
 abbrev pub IsSpokenFor : (before after : PassView) → Type 0
 IsSpokenFor before after = (session : ℕ) × IsOwn before after session × (SpeaksAlone before after session → ⊥)
-
--- the replies to lines above an ordinal stand from a place on
-pub record IsPage (told : List owned.Reply) (next n : ℕ) : Type 0 where
-  pub within : next ≤ length told
-  pub later : (k : ℕ) → n < k → behind k told ≡ behind k (drop next told)

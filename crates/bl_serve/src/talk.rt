@@ -4,11 +4,9 @@ ghost use Rattle.std.specs.Prelude.{◌≡◌, ◌≢◌, ◌≤◌, [], false, 
 ghost use Rattle.bl_wire.specs.declared.fault.SessionFault.TheVariants.{Clash};
 ghost use Rattle.bl_engine.specs.Conversations.{waits_left};
 ghost use Rattle.bl_engine.specs.declared.request.Request.TheVariants.{Settles};
-ghost use Rattle.bl_engine.specs.Outcome.{Stopped};
-ghost use Rattle.bl_serve.specs.Endings.{HasBroken, HasEnded};
 ghost use Rattle.bl_engine.specs.View.{ends};
-ghost use Rattle.bl_serve.specs.Talks.{IsAsking, IsUnderWay, seen_of};
-ghost use Rattle.bl_serve.specs.Visits.{HasCome, IsCrowded, IsSpokenFor};
+ghost use Rattle.bl_serve.specs.Talks.{HasBroken, HasEnded, HasStopped, IsAsking, IsUnderWay};
+ghost use Rattle.bl_serve.specs.Visits.{HasCome, IsSpokenFor};
 
 use crate::told::put_line;
 use crate::visit::{Visit, Visitor};
@@ -29,7 +27,7 @@ use std::sync::Wait;
 #[derive(Drop)]
 pub struct Told<'a> {
     pub names: &'a Names,
-    pub told: &'a [Reply],
+    pub replies: Vec<Reply>,
     pub next: usize,
     pub upto: u32,
 }
@@ -42,7 +40,7 @@ impl Replies for Told<'_> {
     ghost stands = { Stands };
 
     fn put_part<W: Write>(&mut self, ordinal: u32, writer: &mut Watched<W>) -> bool {
-        self.next = put_line(writer, self.names, ordinal, self.told, self.next);
+        self.next = put_line(writer, self.names, ordinal, &self.replies, self.next);
         self.upto = ordinal;
         true
     }
@@ -62,16 +60,16 @@ fn settle<P: Pause, T: Wait, W: Write>(
     ensures fine { OnOk result (writer.new.failed ≡ false) }
     ensures nearer { OnOk result (waits_left conv.new ≤ waits_left conv.old) }
     ensures err { IfErr result (λ fault. (start rest first : Option (List ℕ)) → IsAsking visitor.now.gate.now visitor.now.first.value (ends start rest first (W.contents writer.old.inner)) conv.old (Some Settles) visit.old
-        → Stopped fault visitor.now.gate.now.base.setup.names (ends start rest first (W.contents writer.new.inner)) false writer.new.failed (seen_of visitor.now.gate.now visitor.now.first.value visit.new)) }
+        → HasStopped fault visitor.now.gate.now visitor.now.first.value (ends start rest first (W.contents writer.new.inner)) false writer.new.failed visit.new) }
     ensures never { IfErr result (λ fault. fault ≢ Clash) }
 {
     let upto = conv.after();
-    let next = visitor.settle(visit, conv.ordinal())?;
+    let replies = visitor.settle(visit, conv.ordinal())?;
     conv.answered();
     let mut told = Told {
         names: visitor.gate.names(),
-        told: &visit.told,
-        next,
+        replies,
+        next: 0,
         upto,
     };
     tell_all(conv, &mut told, writer)
@@ -92,7 +90,7 @@ fn meet<P: Pause, T: Wait, W: Write>(
     ensures names { talk.new.names ≡ talk.old.names }
     ensures nearer { OnOk result (waits_left talk.new.conv ≤ waits_left talk.old.conv) }
     ensures err { IfErr result (λ fault. (start rest first : Option (List ℕ)) → IsAsking visitor.now.gate.now visitor.now.first.value (ends start rest first (W.contents writer.old.inner)) talk.old.conv talk.old.request visit.old
-        → Stopped fault visitor.now.gate.now.base.setup.names (ends start rest first (W.contents writer.new.inner)) false writer.new.failed (seen_of visitor.now.gate.now visitor.now.first.value visit.new)) }
+        → HasStopped fault visitor.now.gate.now visitor.now.first.value (ends start rest first (W.contents writer.new.inner)) false writer.new.failed visit.new) }
     ensures clash { IfErr result (λ fault. fault ≡ Clash → IsSpokenFor visitor.now.first.value visit.new.pass) }
 {
     let Some(request) = talk.request.take() else {
@@ -119,12 +117,10 @@ pub(crate) fn converse<R: BufRead, P: Pause, T: Wait, W: Write>(
 ) -> Result<(), SessionFault>
     requires names { names.now ≡ visitor.now.gate.now.base.setup.names }
     requires fine { (reader.old.failed ≡ false) × (writer.old.failed ≡ false) }
-    requires come { HasCome visitor.now.gate.now visitor.now.first.value visit.old [] }
-    ensures ok { OnOk result (HasEnded visitor.now.gate.now.base.setup.names (ends (R.remaining reader.old.inner) (R.remaining reader.new.inner) (W.contents writer.old.inner) (W.contents writer.new.inner))
-        (seen_of visitor.now.gate.now visitor.now.first.value visit.new) (IsCrowded visit.new.pass)) }
+    requires come { HasCome visitor.now.gate.now visitor.now.first.value visit.old [] [] }
+    ensures ok { OnOk result (HasEnded visitor.now.gate.now visitor.now.first.value (ends (R.remaining reader.old.inner) (R.remaining reader.new.inner) (W.contents writer.old.inner) (W.contents writer.new.inner)) visit.new) }
     ensures fine { OnOk result ((reader.new.failed ≡ false) × (writer.new.failed ≡ false) × (writer.new.unflushed ≡ false)) }
-    ensures err { IfErr result (λ fault. HasBroken fault visitor.now.gate.now.base.setup.names (ends (R.remaining reader.old.inner) (R.remaining reader.new.inner) (W.contents writer.old.inner) (W.contents writer.new.inner))
-        reader.new.failed writer.new.failed (seen_of visitor.now.gate.now visitor.now.first.value visit.new) (IsCrowded visit.new.pass)) }
+    ensures err { IfErr result (λ fault. HasBroken fault visitor.now.gate.now visitor.now.first.value (ends (R.remaining reader.old.inner) (R.remaining reader.new.inner) (W.contents writer.old.inner) (W.contents writer.new.inner)) reader.new.failed writer.new.failed visit.new) }
     ensures clash { IfErr result (λ fault. fault ≡ Clash → IsSpokenFor visitor.now.first.value visit.new.pass) }
 {
     let mut talk = Listener {

@@ -1,11 +1,11 @@
 //! The replies that a session was told, in the order in which they came.
-ghost use Rattle.std.specs.Prelude.{◌≡◌, ◌+◌, ◌<◌, ◌≤◌, All, ℕ, drop, length, map, take};
-ghost use Rattle.std.specs.List.{flat_map};
+ghost use Rattle.std.specs.Prelude.{◌≡◌, ◌<◌, ◌≤◌, All, drop, length, take};
 ghost use Rattle.bl_hall.specs.Told.{reply_of};
 ghost use Rattle.bl_wire.specs.Named.{NamesAnswer};
 ghost use Rattle.bl_wire.specs.Replies.{reply_text};
 ghost use Rattle.bl_wire.specs.Watch.{end_state, Puts};
-ghost use Rattle.bl_serve.specs.Told.{ordinal_of, behind, front, told_text, BeginsAbove};
+ghost use Rattle.bl_engine.specs.Parts.{MayTake};
+ghost use Rattle.bl_serve.specs.Told.{ordinal_of, told_text, BeginsAbove, IsPage};
 
 use bl_hall::reply::Reply;
 use bl_wire::put::put;
@@ -56,45 +56,6 @@ fn put_told<W: Write>(writer: &mut Watched<W>, names: &Names, reply: &Reply)
     put(writer, b"\n");
 }
 
-/// Passes over the replies to lines below an ordinal, from a place on, and answers the place behind them.
-fn pass_over(told: &[Reply], next: usize, ordinal: u32) -> usize
-    requires { next ≤ length told.now }
-    ensures within { result ≤ length told.now }
-    ensures behind { behind ordinal (drop next told.now) ≡ drop result told.now }
-    ensures later { (k : ℕ) → ordinal < k → behind k (drop next told.now) ≡ behind k (drop result told.now) }
-{
-    let mut at = next;
-    'places: while at < told.len() && ordinal_of(&told[at]) < ordinal {
-        at += 1;
-    }
-    at
-}
-
-/// Writes the replies to a line with which a list begins, unless the writer has failed, and answers how many there are.
-fn put_front<W: Write>(
-    writer: &mut Watched<W>,
-    names: &Names,
-    ordinal: u32,
-    told: &[Reply],
-) -> usize
-    requires ordinal { 0 < ordinal }
-    requires named { All (λ reply. NamesAnswer names.now reply.answer) told.now }
-    ensures text { Puts (flat_map (reply_text names.now) (map reply_of (front ordinal told.now))) (end_state W.contents writer.old) (end_state W.contents writer.new) }
-    ensures count { result ≡ length (front ordinal told.now) }
-    ensures within { result ≤ length told.now }
-    ensures later { (k : ℕ) → ordinal < k → behind k told.now ≡ behind k (drop result told.now) }
-{
-    let mut count = 0;
-    for reply in told {
-        if ordinal_of(reply) != ordinal {
-            return count;
-        }
-        put_told(writer, names, reply);
-        count += 1;
-    }
-    count
-}
-
 /// Writes the replies to a line whose work was asked for, unless the writer has failed. They are sought from a place on, and the place
 /// behind them is answered.
 pub(crate) fn put_line<W: Write>(
@@ -104,18 +65,22 @@ pub(crate) fn put_line<W: Write>(
     told: &[Reply],
     next: usize,
 ) -> usize
-    requires ordinal { 0 < ordinal }
-    requires within { next ≤ length told.now }
-    requires passed { behind ordinal told.now ≡ behind ordinal (drop next told.now) }
+    requires page { MayTake (IsPage told.now next) ordinal }
     requires named { All (λ reply. NamesAnswer names.now reply.answer) told.now }
     ensures text { Puts (told_text names.now told.now ordinal) (end_state W.contents writer.old) (end_state W.contents writer.new) }
-    ensures within { result ≤ length told.now }
-    ensures later { (k : ℕ) → ordinal < k → behind k (drop next told.now) ≡ behind k (drop result told.now) }
+    ensures page { IsPage told.now result ordinal }
 {
-    let from = pass_over(told, next, ordinal);
-    let count = put_front(writer, names, ordinal, &told[from..]);
-    if count == 0 {
+    let mut at = next;
+    let mut found = false;
+    'replies: while at < told.len() && ordinal_of(&told[at]) <= ordinal {
+        if ordinal_of(&told[at]) == ordinal {
+            put_told(writer, names, &told[at]);
+            found = true;
+        }
+        at += 1;
+    }
+    if !found {
         put_refused(writer, ordinal, b"full");
     }
-    from + count
+    at
 }

@@ -1,17 +1,19 @@
 //! The machine behind a session over a gate. Lines enter through the gate, and who waits for their answers takes turns meanwhile.
-//! Other threads call the gate too, so what the hall answers is that of a trail which goes on; what was told stays told.
-ghost use Rattle.std.specs.Prelude.{◌≡◌, ◌≤◌, ◌<◌, ◌++◌, ◌∷◌, ◌⊎◌, All, List, [], None, IfOk, IfErr, OnOk, OnErr, IsSome, length, map};
+//! Other threads call the gate too, so what the hall answers is that of a trail which goes on; what was told stays told, and is kept nowhere.
+ghost use Rattle.std.specs.Prelude.{◌≡◌, ◌≤◌, ◌<◌, ◌∷◌, ◌⊎◌, All, List, [], None, IfOk, IfErr, OnOk, OnErr, IsSome, length, map};
 ghost use Rattle.bl_gate.specs.Gates.{hall_seen, state_seen};
 ghost use Rattle.bl_order.specs.Known.{KnowsAnswer};
 ghost use Rattle.bl_hall.specs.Chronicle.{HasTrail};
 ghost use Rattle.bl_hall.specs.Told.{AreAnswers, reply_of};
+ghost use Rattle.bl_hall.specs.declared.reply.Reply.{Reply};
 ghost use Rattle.bl_work.specs.Readable.{IsReadable};
 ghost use Rattle.bl_wire.specs.declared.fault.SessionFault.TheVariants.{Memory, Clash};
 ghost use Rattle.bl_engine.specs.declared.request.Request.{Request};
 ghost use Rattle.bl_engine.specs.declared.request.Request.TheVariants.{Opens, Admits, Settles};
 ghost use Rattle.bl_engine.specs.declared.conversation.Opening.TheVariants.{Open, Full};
 ghost use Rattle.bl_serve.specs.Courses.{KeepsQuiet};
-ghost use Rattle.bl_serve.specs.Visits.{HasCome, IsCrowded, IsPage, IsSpokenFor, StillTells};
+ghost use Rattle.bl_serve.specs.Told.{IsBlock};
+ghost use Rattle.bl_serve.specs.Visits.{GoesOn, GoesOnWith, HasCome, IsCrowded, IsSpokenFor};
 
 use crate::told::count_up_to;
 use bl_core::refusal::{Cause, OpenRefused};
@@ -47,29 +49,27 @@ pub struct Visitor<'a, P, T> {
     pub first: Snapshot<Pass>,
 }
 
-/// The pass, the session once it is open, the entries of the block's lines, an ordinal up to which all lies that was asked, what was
-/// told of the session, and the ordinal up to which.
+/// The pass, the session once it is open, the entries of the block's lines, an ordinal up to which all lies that was asked, and the one
+/// up to which it was answered.
 #[derive(Drop)]
 pub struct Visit {
     pub pass: Pass,
     pub session: Option<SessionNo>,
     pub asked: Vec<u32>,
     pub last: u32,
-    pub told: Vec<Reply>,
     pub upto: u32,
 }
 
 impl Visit {
     /// A session that is not open yet.
     pub fn new(alloc: Global, pass: Pass) -> Visit
-        ensures { (result.pass ≡ pass) × (result.session ≡ None) × (result.last ≡ 0) × (result.told.items ≡ []) × (result.upto ≡ 0) }
+        ensures { (result.pass ≡ pass) × (result.session ≡ None) × (result.last ≡ 0) × (result.upto ≡ 0) }
     {
         Visit {
             pass,
             session: None,
             asked: Vec::new(alloc),
             last: 0,
-            told: Vec::new(alloc),
             upto: 0,
         }
     }
@@ -143,10 +143,10 @@ impl<'a, P: Pause, T: Wait> Visitor<'a, P, T> {
 
     /// Opens the session for a subject, or finds that there are as many as there may be.
     pub fn open(&self, visit: &mut Visit, subject: SubjectId) -> Opening
-        requires come { HasCome self.now.gate.now self.now.first.value visit.old [] }
+        requires come { HasCome self.now.gate.now self.now.first.value visit.old [] [] }
         requires serves { subject < length self.now.gate.now.base.setup.policy.subjects }
-        ensures opened { result ≡ Open → HasCome self.now.gate.now self.now.first.value visit.new (Opens subject ∷ []) × IsSome visit.new.session }
-        ensures full { result ≡ Full → HasCome self.now.gate.now self.now.first.value visit.new [] × IsCrowded visit.new.pass }
+        ensures opened { result ≡ Open → HasCome self.now.gate.now self.now.first.value visit.new [] (Opens subject ∷ []) × IsSome visit.new.session }
+        ensures full { result ≡ Full → HasCome self.now.gate.now self.now.first.value visit.new [] [] × IsCrowded visit.new.pass }
         ensures last { visit.new.last ≡ 0 }
         ensures upto { visit.new.upto ≡ 0 }
     {
@@ -164,13 +164,13 @@ impl<'a, P: Pause, T: Wait> Visitor<'a, P, T> {
     /// Admits a work, or finds no room for it. An error comes where a growth was refused, and where somebody else spoke for the session;
     /// then nothing was admitted.
     pub fn ask(&self, visit: &mut Visit, ordinal: u32, work: Work) -> Result<(), SessionFault>
-        requires come { (told : List Request) × HasCome self.now.gate.now self.now.first.value visit.old told }
+        requires come { (replies : List Reply) × (told : List Request) × HasCome self.now.gate.now self.now.first.value visit.old replies told }
         requires opened { IsSome visit.old.session }
         requires last { visit.old.last < ordinal }
         requires takes { IsReadable self.now.gate.now.base.setup.names work }
-        ensures come { OnOk result ((told : List Request) → HasCome self.now.gate.now self.now.first.value visit.old told → HasCome self.now.gate.now self.now.first.value visit.new (told ++ Admits ordinal work ∷ [])) }
-        ensures kept { OnErr result ((told : List Request) → HasCome self.now.gate.now self.now.first.value visit.old told → HasCome self.now.gate.now self.now.first.value visit.new told) }
-        ensures still { StillTells self.now.gate.now.base.setup.names visit.old visit.new }
+        ensures come { OnOk result (GoesOnWith self.now.gate.now self.now.first.value visit.old visit.new [] (Admits ordinal work)) }
+        ensures kept { OnErr result (GoesOn self.now.gate.now self.now.first.value visit.old visit.new) }
+        ensures session { visit.new.session ≡ visit.old.session }
         ensures upto { visit.new.upto ≡ visit.old.upto }
         ensures last { visit.new.last ≤ ordinal }
         ensures why { IfErr result (λ fault. (fault ≡ Memory) ⊎ ((fault ≡ Clash) × IsSpokenFor self.now.first.value visit.new.pass)) }
@@ -199,17 +199,18 @@ impl<'a, P: Pause, T: Wait> Visitor<'a, P, T> {
         }
     }
 
-    /// Has each work up to an ordinal answered, and says from which place on the replies of the block stand.
-    pub fn settle(&self, visit: &mut Visit, ordinal: u32) -> Result<usize, AllocError>
-        requires come { (told : List Request) × HasCome self.now.gate.now self.now.first.value visit.old told }
+    /// Has each work up to an ordinal answered, and gives the replies of the block.
+    pub fn settle(&self, visit: &mut Visit, ordinal: u32) -> Result<Vec<Reply>, AllocError>
+        requires come { (replies : List Reply) × (told : List Request) × HasCome self.now.gate.now self.now.first.value visit.old replies told }
         requires opened { IsSome visit.old.session }
         requires last { visit.old.last ≤ ordinal }
-        ensures come { OnOk result ((told : List Request) → HasCome self.now.gate.now self.now.first.value visit.old told → HasCome self.now.gate.now self.now.first.value visit.new (told ++ Settles ∷ [])) }
-        ensures kept { OnErr result ((told : List Request) → HasCome self.now.gate.now self.now.first.value visit.old told → HasCome self.now.gate.now self.now.first.value visit.new told) }
-        ensures still { StillTells self.now.gate.now.base.setup.names visit.old visit.new }
+        ensures come { IfOk result (λ block. GoesOnWith self.now.gate.now self.now.first.value visit.old visit.new block.items Settles) }
+        ensures block { IfOk result (λ block. IsBlock self.now.gate.now.base.setup.names visit.old.upto ordinal block.items) }
+        ensures kept { OnErr result (GoesOn self.now.gate.now self.now.first.value visit.old visit.new) }
+        ensures session { visit.new.session ≡ visit.old.session }
         ensures upto { OnOk result (visit.new.upto ≡ ordinal) }
+        ensures same { OnErr result (visit.new.upto ≡ visit.old.upto) }
         ensures last { visit.new.last ≤ ordinal }
-        ensures page { IfOk result (λ next. IsPage visit.new.told.items next visit.old.upto) }
     {
         let Some(session) = visit.session else {
             unreachable!()
@@ -220,11 +221,9 @@ impl<'a, P: Pause, T: Wait> Visitor<'a, P, T> {
         // a reply to a later line comes only where somebody else spoke for the session, whose next line then finds that
         let count = count_up_to(ordinal, &replies);
         replies.truncate(count);
-        let next = visit.told.len();
-        visit.told.append(&mut replies)?;
         visit.upto = ordinal;
         visit.last = ordinal;
         visit.asked.clear();
-        Ok(next)
+        Ok(replies)
     }
 }

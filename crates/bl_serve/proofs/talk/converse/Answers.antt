@@ -1,16 +1,13 @@
-use Rattle.std.proofs.Common.{◌≡◌, ◌∙◌, ℕ, List, [], Bool, true, false, not, inl, inr, refl, sym, ap, subst}
+use Rattle.std.proofs.Common.{◌∙◌, [], true, false, not, inl, inr, refl, sym, ap, subst}
 use Rattle.bl_work.specs.Names.{KnownNames}
 use Rattle.bl_wire.specs.declared.fault.SessionFault.{SessionFault}
 use Rattle.bl_wire.specs.declared.fault.SessionFault.TheVariants.{Write, Memory}
 use Rattle.bl_engine.specs.Conversations.{Hears}
 use Rattle.bl_engine.specs.Driving.{Listened}
-use Rattle.bl_engine.specs.Outcome.{Stopped}
-use Rattle.bl_serve.specs.Endings.{HasBroken}
 use Rattle.bl_engine.specs.View.{ends}
-use Rattle.bl_serve.specs.Talks.{seen_of}
-use Rattle.bl_serve.specs.Visits.{IsCrowded}
+use Rattle.bl_serve.specs.Talks.{HasBroken}
 use Rattle.bl_serve.proofs.Faults.{memory_alone, passes_on}
-use Rattle.bl_serve.proofs.TalkEnds.{breaks_told, breaks_unhanded, broken_as, ends_so, flags_as, listens_on, talk_before, talk_unended, talk_unheard}
+use Rattle.bl_serve.proofs.TalkEnds.{breaks_told, breaks_unhanded, broken_as, ends_so, listens_on, stopped_as, stops_broken, talk_before, talk_unended, talk_unheard}
 use Rattle.bl_serve.proofs.TalkLaws.{begins_talk, has_heard_end, has_listened, under_told}
 use Rattle.bl_serve.proofs.talk.converse.Goals as goal
 
@@ -21,7 +18,8 @@ returns-in_err-new-clause-err g c =
     let start = g.R.Read.remaining c.args.reader.now.inner in
     let written = g.W.Write.contents c.args.writer.now.inner in
     memory_alone c.from_residual.result _ c.from_residual.ensures.1
-    (inl (flags_as Memory gate first (ends start start written written) c.args.visit.now false false c.args.reader.now.failed c.args.writer.now.failed (sym c.requires.fine.0) (sym c.requires.fine.1)
+    (stops_broken Memory gate first (ends start start written written) c.args.visit.now c.args.reader.now.failed c.args.writer.now.failed
+    (stopped_as Memory gate first (ends start start written written) c.args.visit.now false false c.args.reader.now.failed c.args.writer.now.failed (sym c.requires.fine.0) (sym c.requires.fine.1)
     (talk_before gate first start written c.args.visit.now c.requires.come)))
 
 pub waits-init : goal.waits-init
@@ -50,7 +48,8 @@ returns-in_err-listen-in-Input-clause-err g c =
     let w' = W c.listen.new.writer.inner in
     let off = c.in_err-listen-in-Input.ensures in
     passes_on c.from_residual-in_err-listen-in-Input.result c.in_err-listen-in-Input.field-0.0 _ c.from_residual-in_err-listen-in-Input.ensures.1
-    (inl (talk_unheard gate first start r written w conv visit on c.in_err-listen-in-Input.field-0.0 r' w' c.listen.new.reader.failed c.listen.new.writer.failed need off.kept c.listen.ensures.written off.why))
+    (stops_broken c.in_err-listen-in-Input.field-0.0 gate first (ends start r' written w') visit c.listen.new.reader.failed c.listen.new.writer.failed
+    (talk_unheard gate first start r written w conv visit on c.in_err-listen-in-Input.field-0.0 r' w' c.listen.new.reader.failed c.listen.new.writer.failed need off.kept c.listen.ensures.written off.why))
 
 pub meet-requires-clause-asks : goal.meet-requires-clause-asks
 meet-requires-clause-asks g c =
@@ -119,7 +118,8 @@ returns-in_err-meet-in-Input-clause-err g c =
     in
     let fault = c.in_err-meet-in-Input.field-0.0 in
     passes_on c.from_residual-in_err-meet-in-Input.result fault _ c.from_residual-in_err-meet-in-Input.ensures.1
-    (inl (flags_as fault gate first (ends start r' written (W c.meet.new.writer.inner)) c.meet.new.visit false c.meet.new.writer.failed c.listen.new.reader.failed c.meet.new.writer.failed
+    (stops_broken fault gate first (ends start r' written (W c.meet.new.writer.inner)) c.meet.new.visit c.listen.new.reader.failed c.meet.new.writer.failed
+    (stopped_as fault gate first (ends start r' written (W c.meet.new.writer.inner)) c.meet.new.visit false c.meet.new.writer.failed c.listen.new.reader.failed c.meet.new.writer.failed
     (sym c.in_ok-listen-in-Input.ensures.fine.0) refl (c.in_err-meet-in-Input.ensures.err start r' written a)))
 
 pub returns-in_err-talk-in-End-clause-err : goal.returns-in_err-talk-in-End-clause-err
@@ -137,7 +137,8 @@ returns-in_err-talk-in-End-clause-err g c =
     let need = sym c.need.ensures ∙ c.in-End.is in
     let on = listens_on gate first start r written w conv visit c.waits.invariant.under (inr need) in
     memory_alone c.from_residual-in_err-talk-in-End.result _ c.from_residual-in_err-talk-in-End.ensures.1
-    (inl (flags_as Memory gate first (ends start r written w) visit false false c.waits.reader.failed c.waits.writer.failed (sym c.waits.invariant.fine.0) (sym c.waits.invariant.fine.1)
+    (stops_broken Memory gate first (ends start r written w) visit c.waits.reader.failed c.waits.writer.failed
+    (stopped_as Memory gate first (ends start r written w) visit false false c.waits.reader.failed c.waits.writer.failed (sym c.waits.invariant.fine.0) (sym c.waits.invariant.fine.1)
     (talk_unended gate first start r written w conv visit on need)))
 
 pub meet-requires-in-End-clause-asks : goal.meet-requires-in-End-clause-asks
@@ -201,7 +202,8 @@ returns-in_err-meet-in-End-clause-err g c =
     in
     let fault = c.in_err-meet-in-End.field-0.0 in
     passes_on c.from_residual-in_err-meet-in-End.result fault _ c.from_residual-in_err-meet-in-End.ensures.1
-    (inl (flags_as fault gate first (ends start r written (W c.meet-in-End.new.writer.inner)) c.meet-in-End.new.visit false c.meet-in-End.new.writer.failed c.waits.reader.failed c.meet-in-End.new.writer.failed
+    (stops_broken fault gate first (ends start r written (W c.meet-in-End.new.writer.inner)) c.meet-in-End.new.visit c.waits.reader.failed c.meet-in-End.new.writer.failed
+    (stopped_as fault gate first (ends start r written (W c.meet-in-End.new.writer.inner)) c.meet-in-End.new.visit false c.meet-in-End.new.writer.failed c.waits.reader.failed c.meet-in-End.new.writer.failed
     (sym c.waits.invariant.fine.0) refl (c.in_err-meet-in-End.ensures.err start r written a)))
 
 pub waits-preserved : goal.waits-preserved
@@ -238,7 +240,7 @@ returns-in_err-tell_all-in-Room-clause-err g c =
     let w' = W c.tell_all.new.writer.inner in
     let off = c.in_err-tell_all-in-Room.ensures in
     passes_on c.from_residual-in_err-tell_all-in-Room.result c.in_err-tell_all-in-Room.field-0.0 _ c.from_residual-in_err-tell_all-in-Room.ensures.1
-    (subst (λ (f : SessionFault). HasBroken f gate.base.setup.names (ends start r written w') c.waits.reader.failed c.tell_all.new.writer.failed (seen_of gate first visit) (IsCrowded visit.pass)) (sym off.write.0)
+    (subst (λ (f : SessionFault). HasBroken f gate first (ends start r written w') c.waits.reader.failed c.tell_all.new.writer.failed visit) (sym off.write.0)
     (broken_as Write gate first (ends start r written w') visit false true c.waits.reader.failed c.tell_all.new.writer.failed (sym c.waits.invariant.fine.0) (sym off.write.1)
     (breaks_told gate first start r written w conv visit c.waits.invariant.under w' off.part)))
 

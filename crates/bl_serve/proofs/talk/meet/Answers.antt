@@ -5,7 +5,7 @@ use Rattle.bl_engine.specs.declared.conversation.Opening.{Opening}
 use Rattle.bl_engine.specs.declared.conversation.Opening.TheVariants.{Open, Full}
 use Rattle.bl_engine.proofs.Outcomes.{if_err-map, on_ok-map}
 use Rattle.bl_serve.proofs.Faults.{if_err-on}
-use Rattle.bl_serve.proofs.TalkEnds.{flags_as, talk_unasked}
+use Rattle.bl_serve.proofs.TalkEnds.{stopped_as, talk_unasked}
 use Rattle.bl_serve.proofs.TalkLaws.{admitting_open, admitting_takes, asking_is, goes_on, has_asked, has_found_full, has_opened, opening_come, opening_serves}
 use Rattle.bl_serve.proofs.talk.meet.Goals as goal
 
@@ -49,7 +49,7 @@ ask-requires-clause-come g c =
     let asks = c.requires.asks in
     let e : Ends = ends asks.0 asks.1 asks.2 (g.W.Write.contents c.args.writer.now.inner) in
     let a = asking_is gate first e conv visit _ _ (sym c.take.ensures.value ∙ (c.in-Some.is ∙ ap (λ q. Some q) c.in-Admits.is)) asks.3 in
-    (a.so_far.asked, a.done.come)
+    (a.replies, a.so_far.asked, a.done.come)
 
 pub ask-requires-clause-opened : goal.ask-requires-clause-opened
 ask-requires-clause-opened g c =
@@ -71,7 +71,7 @@ ask-requires-clause-last g c =
     let asks = c.requires.asks in
     let e : Ends = ends asks.0 asks.1 asks.2 (g.W.Write.contents c.args.writer.now.inner) in
     let a = asking_is gate first e conv visit _ _ (sym c.take.ensures.value ∙ (c.in-Some.is ∙ ap (λ q. Some q) c.in-Admits.is)) asks.3 in
-    omega (arith, a.done.last_is, a.block.number.1)
+    omega (arith, a.done.last_is, a.on.block.number.1)
 
 pub ask-requires-clause-takes : goal.ask-requires-clause-takes
 ask-requires-clause-takes g c =
@@ -128,7 +128,7 @@ returns-in-Admits-clause-ok g c =
     let visit = c.args.visit.now in
     let e = ends start rest written (g.W.Write.contents c.args.writer.now.inner) in
     let a = asking_is gate first e conv visit _ _ (sym c.take.ensures.value ∙ (c.in-Some.is ∙ ap (λ q. Some q) c.in-Admits.is)) was in
-    has_asked gate first e conv visit c.in-Admits.ordinal c.in-Admits.work c.ask.new.visit a come c.ask.ensures.still c.ask.ensures.upto c.ask.ensures.last) c.ask.ensures.come
+    has_asked gate first e conv visit c.in-Admits.ordinal c.in-Admits.work c.ask.new.visit a come c.ask.ensures.session c.ask.ensures.upto c.ask.ensures.last) c.ask.ensures.come
 
 pub returns-in-Admits-clause-err : goal.returns-in-Admits-clause-err
 returns-in-Admits-clause-err g c =
@@ -139,9 +139,9 @@ returns-in-Admits-clause-err g c =
     let visit = c.args.visit.now in
     let e = ends start rest written (g.W.Write.contents c.args.writer.now.inner) in
     let a = asking_is gate first e conv visit _ _ (sym c.take.ensures.value ∙ (c.in-Some.is ∙ ap (λ q. Some q) c.in-Admits.is)) was in
-    flags_as fault gate first e c.ask.new.visit false false false c.args.writer.now.failed refl (sym c.requires.writer)
+    stopped_as fault gate first e c.ask.new.visit false false false c.args.writer.now.failed refl (sym c.requires.writer)
     (talk_unasked gate first start rest written (g.W.Write.contents c.args.writer.now.inner) conv visit fault _ c.ask.new.visit
-    (elim why [ inl memory ↦ inl memory | inr clash ↦ inr clash.0 ]) a c.ask.ensures.still kept)) c.ask.ensures.kept c.ask.ensures.why
+    (elim why [ inl memory ↦ inl memory | inr clash ↦ inr clash.0 ]) a c.ask.ensures.session c.ask.ensures.upto kept)) c.ask.ensures.kept c.ask.ensures.why
 
 pub returns-in-Admits-clause-clash : goal.returns-in-Admits-clause-clash
 returns-in-Admits-clause-clash g c =

@@ -1,10 +1,8 @@
-use Rattle.std.proofs.Common.{◌≡◌, ◌≤◌, ◌<◌, ◌∷◌, [], All, List, arith, length, take, drop, get_or, sym, ap, subst, ◌∙◌}
-use Rattle.std.proofs.Math.Seq.{drop-cons}
-use Rattle.std.proofs.Math.ListN.{drop_of_length-le}
+use Rattle.std.proofs.Common.{◌≡◌, ◌≤◌, ◌<◌, All, arith, length, take, get_or, sym, ap, subst, ◌∙◌}
 use Rattle.std.proofs.lemmas.List.{take_more}
 use Rattle.std.proofs.lemmas.List.Elements.{All-push}
 use Rattle.bl_hall.specs.declared.reply.Reply.{Reply}
-use Rattle.bl_serve.specs.Told.{ordinal_of, BeginsAbove}
+use Rattle.bl_serve.specs.Told.{ordinal_of}
 use Rattle.bl_serve.proofs.told.count_up_to.Goals as goal
 
 pub loop-reply-preserved : goal.loop-reply-preserved

@@ -1,9 +1,8 @@
-use Rattle.std.proofs.Common.{◌≡◌, [], ◌∷◌, length, refl, ap, subst, ◌∙◌, arith}
+use Rattle.std.proofs.Common.{◌≡◌, [], length, refl, ap, subst, ◌∙◌, arith}
 use Rattle.bl_setup.specs.Setup.{Setup}
 use Rattle.bl_order.specs.Machine.{start}
 use Rattle.bl_core.specs.Answers.{IsNotOpened}
 use Rattle.bl_gate.specs.Gates.{GateId, state_seen}
-use Rattle.bl_engine.specs.declared.request.Request.TheVariants as request
 use Rattle.bl_session.proofs.RunLaws.{setup_after}
 use Rattle.bl_serve.proofs.Coming.{come_opened, come_zero}
 use Rattle.bl_serve.proofs.visit.Visitor.open.Goals as goal
@@ -20,6 +19,6 @@ unreachable-requires g c =
 
 pub returns-in-Ok-clause-opened : goal.returns-in-Ok-clause-opened
 returns-in-Ok-clause-opened g c = λ _. (
-  come_opened c.args.self.now.gate.now c.args.self.now.first.value c.args.visit.now _ c.in-Ok.session c.args.subject c.requires.come (come_zero c.args.self.now.gate.now c.args.self.now.first.value c.args.visit.now c.requires.come).1 c.open.ensures.follows c.open.ensures.trail c.in-Ok.ensures.ok refl refl refl refl,
+  come_opened c.args.self.now.gate.now c.args.self.now.first.value c.args.visit.now [] _ c.in-Ok.session c.args.subject c.requires.come (come_zero c.args.self.now.gate.now c.args.self.now.first.value c.args.visit.now [] c.requires.come).1 c.open.ensures.follows c.open.ensures.trail c.in-Ok.ensures.ok refl refl refl,
   refl,
 )
