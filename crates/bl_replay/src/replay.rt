@@ -18,7 +18,8 @@ use bl_trail::head::{Head, head_of};
 use bl_trail::verdict::{Verdict, what_was_followed_tells_the_verdict};
 use std::alloc::{AllocError, Global};
 
-/// A replayer of no event, which judges by this version, for lines that say this of the ends of places.
+/// A replayer of no event, which judges by this version, for lines that say this of the ends of places. An error comes only where a
+/// growth is refused.
 pub fn begin(
     alloc: Global,
     setup: &Setup,
