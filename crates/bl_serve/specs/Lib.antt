@@ -5,4 +5,3 @@ pub mod Visits
 pub mod Outcome
 pub mod Talks
 pub mod Telling
-pub mod Endings

@@ -3,7 +3,7 @@
 //!     session    serves a session
 //!     talk       its conversation: what was asked is done, and what is told is written
 //!     visit      the machine behind it: lines through the gate, turns while it waits
-//!     told       the replies that a session was told
+//!     told       the replies to the lines of a block
 //!     laws       who speaks for a session, over all that happened behind a gate
 #![tactic(auto)]
 

@@ -1,4 +1,4 @@
-//! The replies that a session was told, in the order in which they came.
+//! The replies to the lines of a block, in the order in which they came.
 ghost use Rattle.std.specs.Prelude.{◌≡◌, ◌<◌, ◌≤◌, All, drop, length, take};
 ghost use Rattle.bl_hall.specs.Told.{reply_of};
 ghost use Rattle.bl_wire.specs.Named.{NamesAnswer};
