@@ -64,7 +64,7 @@ heard_of names line turn (Some (Opens subject)) is of = (line, subst (IsTurn nam
 heard_of names line turn (Some (Admits ordinal work)) is of = (line, subst (IsTurn names line) of is)
 heard_of names line turn (Some Settles) is of = tt
 
--- what was asked and said before the end of the input is so behind it
+-- what was asked and said before the end of the input is so after it
 pub ends_at : (stage : Stage) (ended : Bool) → (need_at ended stage ≡ needs.Input) ⊎ (need_at ended stage ≡ needs.End) → (given : Given) (left : ℕ → List ℕ) (talk new : Talk) (turns : List Turn) (asked : List Request) (said : List ℕ)
     → new.after ≡ talk.after → new.pending ≡ talk.pending → new.line ≡ talk.line → IsAt stage given left talk turns asked said → IsAt stage given left new turns asked said
 ends_at stages.Greets ended need given left talk new turns asked said after pending line was = silent_same talk new turns asked said after pending line was
@@ -102,7 +102,7 @@ module _ (names : KnownNames) (old : Conversation) (turns : List Turn) (heard : 
             at_is given left said old.stage new.stage (talk_of old) (talk_of new) turns (turns ++ []) asked (asked ++ []) stage talk (append-nil turns) (append-nil asked) at;
       }
 
-  -- the line that was held was taken, with these bytes behind it
+  -- the line that was held was taken, with these bytes after it
   taken : (mid new : Conversation) (request : Option Request) (bytes : List ℕ) (whole line : List ℕ) → HoldsLine mid.held line
       → ((given : Given) (left : ℕ → List ℕ) (asked : List Request) (said : List ℕ) → IsAt old.stage given left (talk_of old) turns asked said → IsAt mid.stage given left (talk_of mid) turns asked said)
       → TakesLine names mid new request → heard ++ bytes ≡ whole → AreSo new.ended whole (was.lines ++ line ∷ []) → mid.left + length (heard ++ bytes) ≡ 16777216
@@ -146,7 +146,7 @@ module _ (names : KnownNames) (old : Conversation) (turns : List Turn) (heard : 
       (AreLines-append was.whole (line ++ 10 ∷ []) was.lines (line ∷ []) lines (AreLines-whole line whole_line)))
       (omega (arith, was.count, count, length-append heard bytes))
 
-  -- the input has ended behind a line that had begun
+  -- the input has ended after a line that had begun
   pub ended_line : (mid new : Conversation) (request : Option Request) → old.ended ≡ false → 0 < length old.held.bytes.items → mid.held ≡ old.held → mid.left ≡ old.left
       → mid.ended ≡ true
       → ((given : Given) (left : ℕ → List ℕ) (asked : List Request) (said : List ℕ) → IsAt old.stage given left (talk_of old) turns asked said → IsAt mid.stage given left (talk_of mid) turns asked said)
@@ -218,7 +218,7 @@ scanned_part names old new bytes n part is s need count stage talk turns heard w
     heard_part names old turns heard was new (take n bytes) some.some need some.front some.plain some.holds
     (omega (arith, count, some.fits, length-take-le n bytes some.within)) stage talk
 
--- the input has ended behind a line
+-- the input has ended after a line
 pub ends_line : (names : KnownNames) (old mid new : Conversation) (request : Option Request) → (old.ended ≡ false) × (0 < length old.held.bytes.items)
     → (need_of old ≡ needs.Input) ⊎ (need_of old ≡ needs.End) → mid.held ≡ old.held → mid.left ≡ old.left → mid.stage ≡ old.stage → mid.ended ≡ true
     → mid.after ≡ old.after → mid.pending.items ≡ old.pending.items → mid.line ≡ old.line → TakesLine names mid new request → Hears names old new [] request
@@ -228,7 +228,7 @@ ends_line names old mid new request begun need held left_is stage ended after pe
     (ends_at old.stage old.ended need g l (talk_of old) (talk_of mid) turns a s after pending line p))
     takes
 
--- and behind no line: nothing more is asked unless the session is open
+-- and after no line: nothing more is asked unless the session is open
 pub ends_quietly : (names : KnownNames) (old new : Conversation) → (old.ended ≡ true) ⊎ (length old.held.bytes.items ≡ 0) → old.stage ≡ stages.Greets → new.held ≡ old.held → new.left ≡ old.left
     → new.stage ≡ stages.Tells closings.Ends → new.ended ≡ true → new.after ≡ old.after → new.pending.items ≡ old.pending.items → new.line ≡ old.line → Hears names old new [] None
 ends_quietly names old new why was_stage held left_is stage ended after pending line turns heard was = record {

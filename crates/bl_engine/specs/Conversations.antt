@@ -28,7 +28,7 @@ pub record Given : Type 0 where
   pub opening : Opening
   pub replies : ℕ → List ℕ
 
--- what is waited for by who hears lines, before the end of the input and behind it
+-- what is waited for by who hears lines, before the end of the input and after it
 abbrev pub input_need : Bool → Need
 input_need false = needs.Input
 input_need true = needs.End
@@ -78,7 +78,7 @@ full_asked (Wait ∷ turns) = []
 full_asked (Bad fault ∷ turns) = []
 full_asked (Ask work ∷ turns) = []
 
--- all that is told for these lines and the end behind them, and all that is asked
+-- all that is told for these lines and the end after them, and all that is asked
 abbrev pub whole_text : Opening → (ℕ → List ℕ) → List Turn → List ℕ
 whole_text Open replies turns = session_text replies turns
 whole_text Full replies turns = full_text turns
@@ -108,12 +108,12 @@ lines_left left talk = block_text left (talk.after + talk.line) (drop talk.line 
 abbrev pub owed : (ℕ → List ℕ) → Talk → Closing → List ℕ
 owed left talk closing = lines_left left talk ++ words_of closing
 
--- these are the lines of the bytes: of all of them, or whatever comes behind them
+-- these are the lines of the bytes: of all of them, or whatever comes after them
 abbrev pub AreSo : Bool → List ℕ → List (List ℕ) → Type 0
 AreSo true bytes lines = lines_of bytes ≡ lines
 AreSo false bytes lines = AreLines bytes lines
 
--- These turns are the whole lines of what was heard, and what has begun behind them is held.
+-- These turns are the whole lines of what was heard, and what has begun after them is held.
 pub record HasHeard (names : KnownNames) (conv : Conversation) (turns : List Turn) (heard : List ℕ) : Type 0 where
   pub whole : List ℕ
   pub rest : List ℕ
@@ -147,7 +147,7 @@ pub record HasGreeted (talk : Talk) (turns : List Turn) (asked : List Request) (
   pub asked_is : asked ≡ Opens subject ∷ []
   pub quiet : said ≡ []
 
--- The session is open. All blocks before the open one were told whole, and nothing of that, behind which these turns stand.
+-- The session is open. All blocks before the open one were told whole, and nothing of that, after which these turns stand.
 pub record IsOpen (given : Given) (talk : Talk) (behind turns : List Turn) (asked : List Request) (said : List ℕ) : Type 0 where
   pub is_open : given.opening ≡ Open
   pub subject : ℕ
@@ -242,7 +242,7 @@ IsOf turn (Opens subject) = turn ≡ Greets subject
 IsOf turn (Admits ordinal work) = turn ≡ Ask work
 IsOf turn Settles = ⊤
 
--- These bytes were heard behind others, with one turn more at most, and this is asked.
+-- These bytes were heard after others, with one turn more at most, and this is asked.
 pub record HearsMore (names : KnownNames) (old new : Conversation) (turns : List Turn) (heard bytes : List ℕ) (request : Option Request) : Type 0 where
   pub more : List Turn
   pub few : length more ≤ 1
@@ -353,7 +353,7 @@ pub record TellsPart (was left : ℕ → List ℕ) (old new : Conversation) (bef
   pub split : lines_left was (talk_of old) ≡ more ++ lines_left left (talk_of new)
   pub nearer : ((line ≡ old.line) × (0 < length more)) ⊎ (line ≡ old.line + 1)
 
--- how it goes on behind such words
+-- how it goes on after such words
 abbrev pub stage_behind : Closing → Stage
 stage_behind GoesOn = stages.Listens
 stage_behind Ends = stages.Over
@@ -414,7 +414,7 @@ pub record IsAll (names : KnownNames) (given : Given) (conv : Conversation) (tur
   pub said_is : said ≡ whole_text given.opening given.replies turns
 
 -- What was said begins what these turns tell, and each block that was told is whole; while lines are heard, so are all whose `wait`
--- came. What was said is part of what is told whatever comes behind these turns, unless the input is at its end. What was asked
+-- came. What was said is part of what is told whatever comes after these turns, unless the input is at its end. What was asked
 -- is what they ask, but for settling.
 pub record IsSoFar (given : Given) (conv : Conversation) (turns : List Turn) (asked : List Request) (said : List ℕ) : Type 0 where
   pub begins : Begins said (whole_text given.opening given.replies turns)

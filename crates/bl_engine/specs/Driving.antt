@@ -83,7 +83,7 @@ pub record IsDriven (names : KnownNames) (ends : Ends) (MayGive : Given → Type
   pub cut : HasHeard names conv x.turns x.heard
   pub point : (given : Given) (left : ℕ → List ℕ) → MayGive given → IsAt conv.stage given left (talk_of conv) x.turns x.asked x.said
 
--- It has heard one line more at most behind `x`, at which this is asked.
+-- It has heard one line more at most after `x`, at which this is asked.
 pub record HasListened (names : KnownNames) (ends : Ends) (MayGive : Given → Type 0) (conv : Conversation) (request : Option Request) (x : Exchange) : Type 0 where
   pub old : Conversation
   pub hearing : is_hearing old.stage ≡ true

@@ -18,7 +18,7 @@ SameAbove n was left = (k : ℕ) → n < k → left k ≡ was k
 abbrev pub SameWithin : ℕ → ℕ → (ℕ → List ℕ) → (ℕ → List ℕ) → Type 0
 SameWithin after upto f g = (k : ℕ) → after < k → k ≤ upto → g k ≡ f k
 
--- what is left behind a part: nothing behind the last one
+-- what is left after a part: nothing after the last one
 abbrev pub rest_of : Bool → List ℕ → List ℕ
 rest_of true text = []
 rest_of false text = text

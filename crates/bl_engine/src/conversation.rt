@@ -114,7 +114,7 @@ impl Closing {
         }
     }
 
-    /// What comes behind them.
+    /// What comes after them.
     fn next(self) -> Stage
         ensures { result ≡ stage_behind self }
     {

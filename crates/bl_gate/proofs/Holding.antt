@@ -162,7 +162,7 @@ held_same p q base seen own loan held =
 pub seen_lends : (p : PassView) (lent : Chronicle) (loan : Loan) → lent ≡ hall_seen p → HasLoanInHand p loan → IsLentBy (state_now lent) loan
 seen_lends p lent loan is held = subst (λ (h : Chronicle). IsLentBy (state_now h) loan) (sym is) (held.entry.running, held.lent)
 
--- what a call in a turn does not end is in hand behind it
+-- what a call in a turn does not end is in hand after it
 pub turned_keeps : (p : PassView) (taken put : Chronicle) (q : PassView) → Turned p taken put q → (loan : Loan) → AddsNoEnd taken put loan.entry → HasLoanInHand p loan → HasLoanInHand q loan
 turned_keeps p taken put q turn loan adds held =
     held_later p q (base_stays p q (turned_follows p taken put q turn)) (turned_follows p taken put q turn).seen (turned_legal p taken put q turn) own loan ends held

@@ -38,7 +38,7 @@ told x slots lent (suc n) =
     ∙ ap (λ o. loans_below x n ++ option_to_list o) (lent n)
     ∙ ap (λ l. loans_below x n ++ l) (listed (runs x n) (loan_at x n))
 
--- behind the last running place there is none
+-- after the last running place there is none
 none-more : (x : State) (m n : ℕ) → m ≤ n → ((k : ℕ) → m ≤ k → runs x k ≡ false) → loans_below x n ≡ loans_below x m
 none-more x m zero le idle = let e : 0 ≡ m = omega (arith, le) in ap (loans_below x) e
 none-more x m (suc n) le idle = go (last m n le) (λ lower. none-more x m n lower idle)

@@ -9,7 +9,7 @@ use Rattle.bl_journal.specs.Journals.{GoesNoFurther}
 use Rattle.bl_journal.proofs.Heading.{same_line}
 use Rattle.bl_rebuild.specs.Following.{with_events}
 
--- where events lead that come behind others
+-- where events lead that come after others
 leads : (x : State) (es fs : List Event) → state_after x (es ++ fs) ≡ state_after (state_after x es) fs
 leads x [] fs = refl
 leads x (e ∷ es) fs = leads (change x e) es fs

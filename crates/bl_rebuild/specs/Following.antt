@@ -28,7 +28,7 @@ pub record HasTaken (before : Follower) (line rest : List ℕ) (after : Follower
 abbrev pub with_events : Chronicle → List Event → Chronicle
 with_events h events = record { setup = h.setup; limit = h.limit; trail = h.trail ++ events }
 
--- The events of the lines in front were made, and what stands behind so many bytes goes no further.
+-- The events of the lines in front were made, and what stands after so many bytes goes no further.
 pub record HasFollowed (before after : Follower) (text : List ℕ) (right : ℕ) : Type 0 where
   pub events : List Event
   pub rest : List ℕ

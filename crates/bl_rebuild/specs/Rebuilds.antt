@@ -27,7 +27,7 @@ pub record IsRebuilt (setup : Setup) (text : List ℕ) (rebuilt : Rebuilt) : Typ
   pub right : rebuilt.right ≡ length (journal_text setup (journal_of rebuilt.hall))
   pub running : rebuilt.running.items ≡ loans_now (state_now rebuilt.hall)
 
--- The events of the lines in front were made on a follower's hall, and what stands behind so many bytes goes no further; and what runs in
+-- The events of the lines in front were made on a follower's hall, and what stands after so many bytes goes no further; and what runs in
 -- the hall was lent just this.
 pub record IsFollowedBy (before : Follower) (head : ℕ) (text : List ℕ) (rebuilt : Rebuilt) : Type 0 where
   pub events : List Event

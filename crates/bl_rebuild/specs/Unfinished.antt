@@ -17,7 +17,7 @@ loans_below x (suc n) = loans_below x n ++ (if runs x n then loan_at x n ∷ [] 
 abbrev pub loans_now : State → List Loan
 loans_now x = loans_below x (length x.order)
 
--- what stands in the slot of a place; nothing behind the last slot
+-- what stands in the slot of a place; nothing after the last slot
 abbrev pub slot_at : List (Option Loan) → ℕ → Option Loan
 slot_at slots n = slice_index_or slots n None
 

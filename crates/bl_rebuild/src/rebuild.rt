@@ -32,7 +32,7 @@ pub struct Rebuilt {
     pub right: usize,
 }
 
-/// The limit that stands at the head of a text of version 2, and what stands behind the head.
+/// The limit that stands at the head of a text of version 2, and what stands after the head.
 fn head<'a>(alloc: Global, setup: &Setup, text: &'a [u8]) -> Result<(u32, &'a [u8]), RebuildFault>
     ensures ok { IfOk result (λ head. IsLimit head.0 × (text.now ≡ joined (head_lines Two head.0) ++ head.1.now)) }
     ensures err { IfErr result (IsNotRebuilt setup.now text.now) }
@@ -102,7 +102,7 @@ fn close(follower: Follower, right: usize) -> Result<Rebuilt, AllocError>
     }
 }
 
-/// Follows a text behind its head, of so many bytes, as far as it is right.
+/// Follows a text after its head, of so many bytes, as far as it is right.
 fn follow_on(follower: Follower, head: usize, text: &[u8]) -> Result<Rebuilt, AllocError>
     requires step { IsInStep follower text.now }
     requires fits { head + length text.now < 2 ^ 64 }
@@ -118,8 +118,8 @@ fn follow_on(follower: Follower, head: usize, text: &[u8]) -> Result<Rebuilt, Al
     }
 }
 
-/// Follows the longest front of the text that is right, and gives the hall that it leads to. What is behind that front, a line that is
-/// torn or wrong, is left out, and `right` says how long the front is; a closing `stop` is no event, and so behind it. What runs there was
+/// Follows the longest front of the text that is right, and gives the hall that it leads to. What is after that front, a line that is
+/// torn or wrong, is left out, and `right` says how long the front is; a closing `stop` is no event, and so after it. What runs there was
 /// lent just this, so whoever goes on evaluates it again on the same contents. `Head` comes where the head is not right, `OldVersion`
 /// for a trail of version 1, and `Memory` only where a growth is refused, also in an evaluation; then nothing is kept.
 pub fn rebuild(alloc: Global, setup: &Setup, text: &[u8]) -> Result<Rebuilt, RebuildFault>

@@ -77,7 +77,7 @@ pub fn assert_trail<R: AllocGlobal + Abort>(rt: &R, hall: &Hall, front: &[u8]) -
     Ok(())
 }
 
-/// Asserts what is rebuilt of a front with something behind it: just the front, and so many entries that run.
+/// Asserts what is rebuilt of a front with something after it: just the front, and so many entries that run.
 pub fn assert_rebuilt<R: AllocGlobal + Abort>(
     rt: &R,
     setup: &Setup,

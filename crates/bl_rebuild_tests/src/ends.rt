@@ -1,4 +1,4 @@
-//! What stands behind the right lines.
+//! What stands after the right lines.
 use crate::base::{assert_rebuilt, base};
 use bl_setup::setup::Setup;
 use std::alloc::AllocGlobal;
@@ -34,7 +34,7 @@ const BEHIND: [&[u8]; 19] = [
     b"\nend 0 done \"m1\"\n",
 ];
 
-/// Asserts that each of these is left out behind the front.
+/// Asserts that each of these is left out after the front.
 fn assert_left_out<R: AllocGlobal + Abort>(
     rt: &R,
     setup: &Setup,
@@ -73,7 +73,7 @@ start 0 rule\nstart 1 run\nend 1 done\nstart 2 rule\n",
     passed
 }
 
-/// What runs may be lost and what waits may be lost, whatever wrong lines behind it say.
+/// What runs may be lost and what waits may be lost, whatever wrong lines after it say.
 #[test]
 fn lost_and_then_wrong(rt: HostRuntime) -> Result<(), Fail> {
     let setup = base(rt.alloc())?;

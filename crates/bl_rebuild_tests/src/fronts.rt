@@ -14,7 +14,7 @@ use std::test::Fail;
 /// The head of the trail.
 const HEAD: &str = "trail 2\nlimit 10000\n";
 
-/// Its events, each with how many entries run behind it. ann's first line spawns a reader; bob reads his note beside them, and is lost.
+/// Its events, each with how many entries run after it. ann's first line spawns a reader; bob reads his note beside them, and is lost.
 const EVENTS: [(&str, usize); 13] = [
     ("open ann\n", 0),
     ("open bob\n", 0),
@@ -34,7 +34,7 @@ const EVENTS: [(&str, usize); 13] = [
     ("end 3 done \"m1ab\"\n", 0),
 ];
 
-/// Asserts what is rebuilt of a front with each part of its next line behind it, without that line's LF.
+/// Asserts what is rebuilt of a front with each part of its next line after it, without that line's LF.
 fn assert_torn<R: AllocGlobal + Abort>(
     rt: &R,
     setup: &Setup,

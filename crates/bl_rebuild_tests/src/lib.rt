@@ -3,7 +3,7 @@
 //!     base      the setups of the worked examples, and what is rebuilt over them
 //!     whole     stored trails, whole
 //!     fronts    each front of a trail, and how its run goes on
-//!     ends      what stands behind the right lines
+//!     ends      what stands after the right lines
 //!     heads     heads that are not right
 //!     memory    what is answered where a growth is refused
 #![tactic(auto)]

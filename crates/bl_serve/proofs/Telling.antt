@@ -113,7 +113,7 @@ module _ (by_lines : GoByLines) (x : State) (session : ℕ) where
   abbrev to : ℕ → List Reply
   to k = replies_to x session k (length x.order)
 
-  -- those to a line behind an ordinal are the state's
+  -- those to a line after an ordinal are the state's
   line_above : (d a : ℕ) → line_in (a + d + 1) (above a) ≡ to (a + d + 1)
   line_above zero a =
       let e : a + 0 + 1 ≡ a + 1 = omega arith in

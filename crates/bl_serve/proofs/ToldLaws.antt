@@ -29,7 +29,7 @@ none_to k (r ∷ told) other =
 pub line-append : (k : ℕ) (told more : List owned.Reply) → line_of k (told ++ more) ≡ line_of k told ++ line_of k more
 line-append k told more = filter-append (λ (r : owned.Reply). ordinal_of r == k) told more
 
--- those behind are to other lines
+-- those after are to other lines
 pub line_front : (k : ℕ) (told more : List owned.Reply) → All (λ r. ordinal_of r ≡ k → ⊥) more → line_of k (told ++ more) ≡ line_of k told
 line_front k told more other = line-append k told more ∙ ap (λ l. line_of k told ++ l) (none_to k more other) ∙ append-nil (line_of k told)
 

@@ -33,7 +33,7 @@ pub record IsTold (names : KnownNames) (after upto : ℕ) (reply : owned.Reply) 
   pub high : ordinal_of reply ≤ upto
   pub named : NamesAnswer names reply.answer
 
--- these are replies to the lines behind one ordinal and up to another, line by line
+-- these are replies to the lines after one ordinal and up to another, line by line
 pub record IsBlock (names : KnownNames) (after upto : ℕ) (told : List owned.Reply) : Type 0 where
   pub are : All (IsTold names after upto) told
   pub order : GoByLine told

@@ -64,7 +64,7 @@ but_then Held Kept p q r s t follows legal ended = record {
     settled i n (inl h) at = by n (s.settled i n h (sym (get_sooner r.seen q.seen i follows.seen (s.within i h)) ∙ at))
     settled i n (inr h) at = t.settled i n h at
 
--- one call, which starts what is in hand behind it
+-- one call, which starts what is in hand after it
 starts_held : (p q : PassView) (n : ℕ) (Answered : State → Type 0) → Calls p (Starts n) Answered q → SettlesBut (λ k. n ≡ k) p q
 starts_held p q n Answered call = record {
   gained = length call.trail ∷ [];
