@@ -9,10 +9,10 @@ use Rattle.bl_gate.proofs.Totals.{times-append}
 use Rattle.bl_gate.proofs.Trails.{begins_length, get_sooner}
 use Rattle.bl_gate.proofs.Following.{calls_from}
 use Rattle.bl_worker.specs.declared.turn.Turn.{Turn}
-use Rattle.bl_worker.specs.Turns.{AdmitsNoLine, Closes, HasWorked, Settles}
-use Rattle.bl_worker.proofs.Admitting.{admits_itself, admits_then}
+use Rattle.bl_worker.specs.Turns.{AddsTurnsOf, Closes, HasWorked, IsEventOf, IsTurnOf, Settles}
+use Rattle.bl_worker.proofs.Adding.{adds_itself, adds_then, turns_as}
 use Rattle.bl_worker.proofs.Working.{settles_from, settles_run, worked_from}
-use Rattle.bl_worker.specs.Hands.{HasBegun, HasInHand, Holds, IsHandOf, RunsEntry, SettlesBut}
+use Rattle.bl_worker.specs.Hands.{HasBegun, HasInHand, Holds, IsBegunOf, IsHandOf, RunsEntry, SettlesBut}
 use Rattle.bl_worker.specs.declared.hand.Hand.{Hand}
 use Rattle.bl_worker.specs.declared.hand.Hand.TheVariants.{Empty, Ran, Failed}
 use Rattle.bl_worker.specs.declared.turn.Begun.{Begun}
@@ -39,10 +39,10 @@ held_as Held Kept p q s kept = record { gained = s.gained; own = s.own; within =
     by n (inl e) = inl e
     by n (inr h) = inr (kept n h)
 
--- one after the other, where what was in hand has ended
-pub but_then : (Held Kept : ℕ → Type 0) (p q r : PassView) → SettlesBut Held p q → SettlesBut Kept q r → Follows q r → HasTrail (hall_seen r)
-    → ((n : ℕ) → Held n → has_ended (state_seen r) n ≡ true) → SettlesBut Kept p r
-but_then Held Kept p q r s t follows legal ended = record {
+-- one after the other, where what was in hand has ended or is in hand still
+pub but_on : (Held Kept : ℕ → Type 0) (p q r : PassView) → SettlesBut Held p q → SettlesBut Kept q r → Follows q r → HasTrail (hall_seen r)
+    → ((n : ℕ) → Held n → (IsTrue (has_ended (state_seen r) n)) ⊎ Kept n) → SettlesBut Kept p r
+but_on Held Kept p q r s t follows legal goes = record {
   gained = s.gained ++ t.gained;
   own = t.own ∙ (ap (λ (l : List ℕ). l ++ t.gained) s.own ∙ append_assoc p.own s.gained t.gained);
   within = λ i h. within i (either i h);
@@ -58,11 +58,16 @@ but_then Held Kept p q r s t follows legal ended = record {
 
     by : (n : ℕ) → (IsTrue (has_ended (state_seen q) n)) ⊎ Held n → (IsTrue (has_ended (state_seen r) n)) ⊎ Kept n
     by n (inl e) = inl ((passes_later q r follows legal).ended n e)
-    by n (inr h) = inl (ended n h)
+    by n (inr h) = goes n h
 
     settled : (i n : ℕ) → (1 ≤ times i s.gained) ⊎ (1 ≤ times i t.gained) → slice_get r.seen i ≡ Some (Starts n) → (IsTrue (has_ended (state_seen r) n)) ⊎ Kept n
     settled i n (inl h) at = by n (s.settled i n h (sym (get_sooner r.seen q.seen i follows.seen (s.within i h)) ∙ at))
     settled i n (inr h) at = t.settled i n h at
+
+-- one after the other, where what was in hand has ended
+pub but_then : (Held Kept : ℕ → Type 0) (p q r : PassView) → SettlesBut Held p q → SettlesBut Kept q r → Follows q r → HasTrail (hall_seen r)
+    → ((n : ℕ) → Held n → has_ended (state_seen r) n ≡ true) → SettlesBut Kept p r
+but_then Held Kept p q r s t follows legal ended = but_on Held Kept p q r s t follows legal (λ n h. inl (ended n h))
 
 -- one call, which starts what is in hand after it
 starts_held : (p q : PassView) (n : ℕ) (Answered : State → Type 0) → Calls p (Starts n) Answered q → SettlesBut (λ k. n ≡ k) p q
@@ -98,8 +103,16 @@ module _ (p t u q : PassView) (follows : Follows p t) (own : t.own ≡ p.own) (l
   begun_closed r lent h later closes =
       settles_run p q r lent.entry _ (calls_from p t q (Starts lent.entry) _ follows own (subst (λ (x : PassView). Calls t (Starts lent.entry) (λ _. Unit {0}) x) (sym left) h.1)) later closes
 
-  pub begun_lines : AdmitsNoLine t u → Follows t u → AdmitsNoLine p q
-  begun_lines lines later = subst (AdmitsNoLine p) (sym left) (admits_then p t u (admits_itself p t own) lines later)
+  pub begun_adds : (Entry : ℕ → Type 0) → AddsTurnsOf Entry t u → Follows t u → AddsTurnsOf Entry p q
+  begun_adds Entry adds later = subst (AddsTurnsOf Entry p) (sym left) (adds_then (λ _. IsEventOf Entry) p t u (adds_itself (λ _. IsEventOf Entry) p t own) adds later)
+
+  -- and what runs was run, all of one turn
+  pub begun_ran : (r : PassView) (lent : Loan) (turn : Turn) → AddsTurnsOf (λ n. IsBegunOf n (Runs lent)) t u → Follows t u → IsTurnOf lent.entry turn
+      → AddsTurnsOf (λ n. IsTurnOf n turn) q r → Follows q r → AddsTurnsOf (λ n. IsTurnOf n turn) p r
+  begun_ran r lent turn begun later of ran last =
+      adds_then (λ _. IsEventOf (λ n. IsTurnOf n turn)) p q r
+      (begun_adds (λ n. IsTurnOf n turn) (turns_as (λ n. lent.entry ≡ n) (λ n. IsTurnOf n turn) t u begun (λ n e. subst (λ (k : ℕ). IsTurnOf k turn) e of)) later)
+      ran last
 
 -- ---- hands
 

@@ -1,4 +1,4 @@
 pub mod Settling
 pub mod Working
-pub mod Admitting
+pub mod Adding
 pub mod Handing

@@ -2,8 +2,7 @@
 use Rattle.std.specs.Prelude.{◌≡◌, ℕ, ◌<◌, ◌≤◌, Bool, false, IsTrue, ◌||◌, List, ◌++◌, length, Some, slice_get}
 use Rattle.bl_work.specs.declared.answer.Answer.{Answer}
 use Rattle.bl_work.specs.declared.answer.Answer.TheVariants as answers
-use Rattle.bl_work.specs.declared.work.Work.{Work}
-use Rattle.bl_order.specs.Machine.{State, Event, Admits, Starts, MayStart, past_at, has_ended, runs}
+use Rattle.bl_order.specs.Machine.{State, Event, Opens, Admits, Starts, Ends, Loses, MayStart, past_at, has_ended, runs}
 use Rattle.bl_gate.specs.Counts.{times}
 use Rattle.bl_gate.specs.Gates.{PassView, Calls, state_seen}
 use Rattle.bl_worker.specs.declared.turn.Turn.{Turn}
@@ -85,9 +84,37 @@ pub record Settles (before after : PassView) : Type 0 where
   pub within : (p : ℕ) → 1 ≤ times p gained → p < length after.seen
   pub settled : (p n : ℕ) → 1 ≤ times p gained → slice_get after.seen p ≡ Some (Starts n) → IsTrue (has_ended (state_seen after) n)
 
--- The pass has admitted no line since then: each of its new positions is one that it has seen, and no line stands there.
-pub record AdmitsNoLine (before after : PassView) : Type 0 where
+-- The pass has made no event since then but such ones: each of its new positions is one that it has seen, and the event that stands there
+-- is such a one at that position.
+pub record Adds (Such : ℕ → Event → Type 0) (before after : PassView) : Type 0 where
   pub gained : List ℕ
   pub own : after.own ≡ before.own ++ gained
   pub within : (p : ℕ) → 1 ≤ times p gained → p < length after.seen
-  pub no_line : (p session ordinal : ℕ) (work : Work) → 1 ≤ times p gained → slice_get after.seen p ≡ Some (Admits session ordinal work) → ⊥
+  pub events : (p : ℕ) (event : Event) → 1 ≤ times p gained → slice_get after.seen p ≡ Some event → Such p event
+
+-- an event of a turn with such an entry: it starts, ends or is lost
+abbrev pub IsEventOf : (ℕ → Type 0) → Event → Type 0
+IsEventOf Entry (Opens subject) = ⊥
+IsEventOf Entry (Admits session ordinal work) = ⊥
+IsEventOf Entry (Starts n) = Entry n
+IsEventOf Entry (Ends n) = Entry n
+IsEventOf Entry (Loses n) = Entry n
+
+-- it took turns with such entries, and made no other event
+abbrev pub AddsTurnsOf : (ℕ → Type 0) → PassView → PassView → Type 0
+AddsTurnsOf Entry before after = Adds (λ _. IsEventOf Entry) before after
+
+-- with whatever entries: it has opened no session and admitted no line
+abbrev pub AddsTurnsAlone : PassView → PassView → Type 0
+AddsTurnsAlone before after = AddsTurnsOf (λ n. Unit {0}) before after
+
+abbrev pub IsNoLine : Event → Type 0
+IsNoLine (Opens subject) = Unit {0}
+IsNoLine (Admits session ordinal work) = ⊥
+IsNoLine (Starts n) = Unit {0}
+IsNoLine (Ends n) = Unit {0}
+IsNoLine (Loses n) = Unit {0}
+
+-- it has admitted no line
+abbrev pub AdmitsNoLine : PassView → PassView → Type 0
+AdmitsNoLine before after = Adds (λ _. IsNoLine) before after

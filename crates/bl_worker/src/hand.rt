@@ -3,7 +3,7 @@ ghost use Rattle.std.specs.Prelude.{◌≡◌, ℕ, IsTrue};
 ghost use Rattle.bl_order.specs.Machine.{has_ended};
 ghost use Rattle.bl_hall.specs.Chronicle.{HasTrail};
 ghost use Rattle.bl_gate.specs.Gates.{Follows, hall_seen, state_seen};
-ghost use Rattle.bl_worker.specs.Turns.{AdmitsNoLine, Settles};
+ghost use Rattle.bl_worker.specs.Turns.{AddsTurnsAlone, AddsTurnsOf, Settles};
 ghost use Rattle.bl_worker.specs.Hands.{Holds, HasInHand, IsHandOf, IsLent, MissesNone, RunsEntry, SettlesBut};
 
 use crate::pause::Pause;
@@ -40,7 +40,7 @@ fn put_down(turn: &mut AtGate<'_>, hand: Hand) -> bool
     requires held { HasInHand turn.old hand }
     ensures follows { Follows turn.old turn.new }
     ensures trail { HasTrail (hall_seen turn.new) }
-    ensures lines { AdmitsNoLine turn.old turn.new }
+    ensures adds { AddsTurnsOf (Holds hand) turn.old turn.new }
     ensures settles { Settles turn.old turn.new }
     ensures ended { (n : ℕ) → Holds hand n → IsTrue (has_ended (state_seen turn.new) n) }
 {
@@ -58,7 +58,7 @@ pub(crate) fn take_turn<R: Wait>(rt: &R, gate: &Gate, pass: &mut Pass, hand: Han
     requires held { HasInHand pass.old hand }
     ensures follows { Follows pass.old pass.new }
     ensures trail { HasTrail (hall_seen pass.new) }
-    ensures lines { AdmitsNoLine pass.old pass.new }
+    ensures adds { AddsTurnsAlone pass.old pass.new }
     ensures lent { IsLent pass.new result.1 }
     ensures missed { MissesNone result.1 }
     ensures settles { SettlesBut (RunsEntry result.1) pass.old pass.new }

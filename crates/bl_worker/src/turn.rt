@@ -2,7 +2,7 @@
 ghost use Rattle.std.specs.Prelude.{◌≡◌};
 ghost use Rattle.bl_hall.specs.Chronicle.{HasTrail};
 ghost use Rattle.bl_gate.specs.Gates.{Follows, HasLoanInHand, hall_seen, state_seen};
-ghost use Rattle.bl_worker.specs.Turns.{AdmitsNoLine, Closes, HasRun, HasWorked, IsTurnOf, Settles, WasTaken};
+ghost use Rattle.bl_worker.specs.Turns.{AddsTurnsOf, AdmitsNoLine, Closes, HasRun, HasWorked, IsTurnOf, Settles, WasTaken};
 ghost use Rattle.bl_order.specs.Machine.{MayStart};
 ghost use Rattle.bl_worker.specs.Hands.{HasBegun, IsBegunOf, IsNoMiss, MissesNone};
 
@@ -38,7 +38,7 @@ fn finish<R: Wait>(rt: &R, gate: &Gate, pass: &mut Pass, done: Done) -> Turn
     requires held { HasLoanInHand pass.old done }
     ensures follows { Follows pass.old pass.new }
     ensures trail { HasTrail (hall_seen pass.new) }
-    ensures lines { AdmitsNoLine pass.old pass.new }
+    ensures adds { AddsTurnsOf (λ k. IsTurnOf k result) pass.old pass.new }
     ensures turn { IsTurnOf done.entry result }
     ensures ran { HasRun pass.new result }
     ensures closes { Closes done.entry pass.old pass.new }
@@ -54,7 +54,7 @@ fn lose<R: Wait>(rt: &R, gate: &Gate, pass: &mut Pass, unrun: Unrun) -> Turn
     requires held { HasLoanInHand pass.old unrun }
     ensures follows { Follows pass.old pass.new }
     ensures trail { HasTrail (hall_seen pass.new) }
-    ensures lines { AdmitsNoLine pass.old pass.new }
+    ensures adds { AddsTurnsOf (λ k. IsTurnOf k result) pass.old pass.new }
     ensures turn { IsTurnOf unrun.entry result }
     ensures ran { HasRun pass.new result }
     ensures closes { Closes unrun.entry pass.old pass.new }
@@ -74,7 +74,7 @@ pub(crate) enum Begun {
 fn lose_ready(turn: &mut AtGate<'_>, starved: Starved) -> Turn
     ensures follows { Follows turn.old turn.new }
     ensures trail { HasTrail (hall_seen turn.new) }
-    ensures lines { AdmitsNoLine turn.old turn.new }
+    ensures adds { AddsTurnsOf (λ k. IsTurnOf k result) turn.old turn.new }
     ensures turn { IsTurnOf starved result }
     ensures worked { HasWorked turn.old turn.new result }
     ensures settles { Settles turn.old turn.new }
@@ -91,7 +91,7 @@ fn lose_ready(turn: &mut AtGate<'_>, starved: Starved) -> Turn
 fn begin(turn: &mut AtGate<'_>, n: u32) -> Begun
     ensures follows { Follows turn.old turn.new }
     ensures trail { HasTrail (hall_seen turn.new) }
-    ensures lines { AdmitsNoLine turn.old turn.new }
+    ensures adds { AddsTurnsOf (λ k. IsBegunOf k result) turn.old turn.new }
     ensures entry { IsBegunOf n result }
     ensures begun { HasBegun turn.old turn.new result }
     ensures missed { MayStart (state_seen turn.old) n → MissesNone result }
@@ -110,7 +110,7 @@ pub(crate) fn begin_next(turn: &mut AtGate<'_>) -> Begun
     requires { HasTrail (hall_seen turn.old) }
     ensures follows { Follows turn.old turn.new }
     ensures trail { HasTrail (hall_seen turn.new) }
-    ensures lines { AdmitsNoLine turn.old turn.new }
+    ensures adds { AddsTurnsOf (λ k. IsBegunOf k result) turn.old turn.new }
     ensures begun { HasBegun turn.old turn.new result }
     ensures missed { MissesNone result }
 {
@@ -133,7 +133,7 @@ fn run<P: Pause, R: Wait>(
     requires held { HasLoanInHand pass.old lent }
     ensures follows { Follows pass.old pass.new }
     ensures trail { HasTrail (hall_seen pass.new) }
-    ensures lines { AdmitsNoLine pass.old pass.new }
+    ensures adds { AddsTurnsOf (λ k. IsTurnOf k result) pass.old pass.new }
     ensures turn { IsTurnOf lent.entry result }
     ensures ran { HasRun pass.new result }
     ensures closes { Closes lent.entry pass.old pass.new }
@@ -160,6 +160,7 @@ pub fn work_on<P: Pause, R: Wait>(
     ensures follows { Follows pass.old pass.new }
     ensures trail { HasTrail (hall_seen pass.new) }
     ensures lines { AdmitsNoLine pass.old pass.new }
+    ensures adds { AddsTurnsOf (λ k. IsTurnOf k result) pass.old pass.new }
     ensures turn { IsTurnOf n result }
     ensures worked { HasWorked pass.old pass.new result }
     ensures settles { Settles pass.old pass.new }
@@ -186,6 +187,7 @@ pub fn work_once<P: Pause, R: Wait>(
     ensures follows { Follows pass.old pass.new }
     ensures trail { HasTrail (hall_seen pass.new) }
     ensures lines { AdmitsNoLine pass.old pass.new }
+    ensures adds { AddsTurnsOf (λ k. IsTurnOf k result) pass.old pass.new }
     ensures worked { HasWorked pass.old pass.new result }
     ensures taken { WasTaken pass.old pass.new result }
     ensures settles { Settles pass.old pass.new }

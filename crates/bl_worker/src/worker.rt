@@ -1,7 +1,7 @@
 //! A worker, turn by turn.
 ghost use Rattle.std.specs.Prelude.{◌≡◌};
 ghost use Rattle.bl_gate.specs.Gates.{Follows};
-ghost use Rattle.bl_worker.specs.Turns.{AdmitsNoLine, Settles};
+ghost use Rattle.bl_worker.specs.Turns.{AddsTurnsAlone, AdmitsNoLine, Settles};
 
 use crate::bell::Bell;
 use crate::hand::{Hand, evaluate, take_turn};
@@ -42,6 +42,7 @@ pub fn run_worker<P: Pause, R: Wait>(
     requires gate { pass.old.gate ≡ gate.now }
     ensures follows { Follows pass.old pass.new }
     ensures lines { AdmitsNoLine pass.old pass.new }
+    ensures adds { AddsTurnsAlone pass.old pass.new }
     ensures settles { Settles pass.old pass.new }
 {
     let backoff = Backoff::new();

@@ -1,21 +1,23 @@
 use Rattle.std.proofs.Common.{◌≡◌, true, sym, ap, ◌∙◌, subst}
 use Rattle.bl_order.specs.Machine.{has_ended}
 use Rattle.bl_gate.specs.Gates.{PassView, state_seen}
-use Rattle.bl_worker.specs.Turns.{AdmitsNoLine}
+use Rattle.bl_worker.specs.Turns.{AddsTurnsAlone}
 use Rattle.bl_worker.specs.Hands.{RunsEntry, SettlesBut}
-use Rattle.bl_worker.proofs.Admitting.{admits_itself, admits_then}
+use Rattle.bl_worker.proofs.Adding.{adds_alone, adds_itself, adds_then}
 use Rattle.bl_worker.proofs.Handing.{worked}
 use Rattle.bl_worker.proofs.Settling.{passes_later}
 use Rattle.bl_worker.proofs.Working.{settles_from}
 use Rattle.bl_worker.proofs.hand.take_turn.Goals as goal
 
-pub returns-clause-lines : goal.returns-clause-lines
-returns-clause-lines g c =
+pub returns-clause-adds : goal.returns-clause-adds
+returns-clause-adds g c =
     let own = c.turn-turn.ensures.own ∙ ap (λ (p : PassView). p.own) c.take.ensures.taken in
-    subst (AdmitsNoLine c.args.pass.now) (sym c.leave.ensures)
-    (admits_then c.args.pass.now c.put_down-put_down.new.turn c.begin_next-begun.new.turn
-    (admits_then c.args.pass.now c.turn-turn.result c.put_down-put_down.new.turn (admits_itself c.args.pass.now c.turn-turn.result own) c.put_down-put_down.ensures.lines c.put_down-put_down.ensures.follows)
-    c.begin_next-begun.ensures.lines c.begin_next-begun.ensures.follows)
+    let put_down = adds_alone _ c.turn-turn.result c.put_down-put_down.new.turn c.put_down-put_down.ensures.adds in
+    let begun = adds_alone _ c.put_down-put_down.new.turn c.begin_next-begun.new.turn c.begin_next-begun.ensures.adds in
+    subst (AddsTurnsAlone c.args.pass.now) (sym c.leave.ensures)
+    (adds_then _ c.args.pass.now c.put_down-put_down.new.turn c.begin_next-begun.new.turn
+    (adds_then _ c.args.pass.now c.turn-turn.result c.put_down-put_down.new.turn (adds_itself _ c.args.pass.now c.turn-turn.result own) put_down c.put_down-put_down.ensures.follows)
+    begun c.begin_next-begun.ensures.follows)
 
 pub returns-clause-settles : goal.returns-clause-settles
 returns-clause-settles g c =

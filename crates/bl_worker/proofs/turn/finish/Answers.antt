@@ -1,12 +1,15 @@
 use Rattle.std.proofs.Common.{ℕ, sym, subst}
 use Rattle.bl_gate.specs.Gates.{state_seen}
-use Rattle.bl_worker.specs.Turns.{HasEndedAs, IsDoneOrRuleDone}
+use Rattle.bl_worker.specs.Turns.{IsEventOf, HasEndedAs, IsDoneOrRuleDone, IsTurnOf}
 use Rattle.bl_worker.proofs.Working.{finished, closes_end}
-use Rattle.bl_worker.proofs.Admitting.{admits_end}
+use Rattle.bl_worker.proofs.Adding.{adds_call}
+use Rattle.bl_worker.specs.declared.turn.Turn.TheVariants.{Done}
+use Rattle.bl_order.specs.Machine.{Ends}
 use Rattle.bl_worker.proofs.turn.finish.Goals as goal
 
-pub returns-clause-lines : goal.returns-clause-lines
-returns-clause-lines g c = admits_end c.args.pass.now c.finish.new.pass c.args.done.entry _ c.finish.ensures.calls
+pub returns-clause-adds : goal.returns-clause-adds
+returns-clause-adds g c =
+    adds_call (λ _. IsEventOf (λ (k : ℕ). IsTurnOf k (Done c.entry-n.result))) c.args.pass.now c.finish.new.pass (Ends c.args.done.entry) _ c.finish.ensures.calls c.entry-n.ensures
 
 pub returns-clause-ran : goal.returns-clause-ran
 returns-clause-ran g c =

@@ -1,12 +1,15 @@
 use Rattle.std.proofs.Common.{ℕ, sym, subst}
 use Rattle.bl_gate.specs.Gates.{state_seen}
-use Rattle.bl_worker.specs.Turns.{HasEndedAs, IsLost}
+use Rattle.bl_worker.specs.Turns.{IsEventOf, HasEndedAs, IsLost, IsTurnOf}
 use Rattle.bl_worker.proofs.Working.{gone, closes_loss}
-use Rattle.bl_worker.proofs.Admitting.{admits_loss}
+use Rattle.bl_worker.proofs.Adding.{adds_call}
+use Rattle.bl_worker.specs.declared.turn.Turn.TheVariants.{Lost}
+use Rattle.bl_order.specs.Machine.{Loses}
 use Rattle.bl_worker.proofs.turn.lose.Goals as goal
 
-pub returns-clause-lines : goal.returns-clause-lines
-returns-clause-lines g c = admits_loss c.args.pass.now c.lose.new.pass c.args.unrun.entry _ c.lose.ensures.calls
+pub returns-clause-adds : goal.returns-clause-adds
+returns-clause-adds g c =
+    adds_call (λ _. IsEventOf (λ (k : ℕ). IsTurnOf k (Lost c.entry-n.result))) c.args.pass.now c.lose.new.pass (Loses c.args.unrun.entry) _ c.lose.ensures.calls c.entry-n.ensures
 
 pub returns-clause-ran : goal.returns-clause-ran
 returns-clause-ran g c =

@@ -3,13 +3,16 @@ use Rattle.bl_gate.proofs.Following.{follows_then}
 use Rattle.bl_worker.specs.Hands.{Holds, IsLent, RunsEntry}
 use Rattle.bl_worker.specs.declared.turn.Begun.{Begun}
 use Rattle.bl_worker.specs.declared.hand.Hand.TheVariants.{Empty}
-use Rattle.bl_worker.proofs.Admitting.{admits_then}
+use Rattle.bl_worker.proofs.Adding.{adds_no_line, adds_then}
 use Rattle.bl_worker.proofs.Handing.{but_then, hand_of, held_as, holds_what_ran, over_runs_none, settled_all}
 use Rattle.bl_worker.proofs.worker.run_worker.Goals as goal
 
+pub returns-in-Over-Idle-clause-adds : goal.returns-in-Over-Idle-clause-adds
+returns-in-Over-Idle-clause-adds g c =
+    adds_then _ c.args.pass.now c.loop.pass c.take_turn-ended.new.pass c.loop.invariant.4 c.take_turn-ended.ensures.adds c.take_turn-ended.ensures.follows
+
 pub returns-in-Over-Idle-clause-lines : goal.returns-in-Over-Idle-clause-lines
-returns-in-Over-Idle-clause-lines g c =
-    admits_then c.args.pass.now c.loop.pass c.take_turn-ended.new.pass c.loop.invariant.4 c.take_turn-ended.ensures.lines c.take_turn-ended.ensures.follows
+returns-in-Over-Idle-clause-lines g c = adds_no_line _ c.args.pass.now c.take_turn-ended.new.pass (returns-in-Over-Idle-clause-adds g c)
 
 pub returns-in-Over-Idle-clause-settles : goal.returns-in-Over-Idle-clause-settles
 returns-in-Over-Idle-clause-settles g c =
@@ -25,7 +28,7 @@ loop-preserved-in-Runs g c =
       tt,
       follows_then c.args.pass.now c.loop.pass c.take_turn-ended.new.pass c.loop.invariant.2 c.take_turn-ended.ensures.follows,
       held_as _ (Holds c.evaluate.result) c.args.pass.now c.take_turn-ended.new.pass whole (λ n runs. holds_what_ran c.in-Runs.lent c.evaluate.result c.evaluate.ensures n (subst (λ (begun : Begun). RunsEntry begun n) c.in-Runs.is runs)),
-      admits_then c.args.pass.now c.loop.pass c.take_turn-ended.new.pass c.loop.invariant.4 c.take_turn-ended.ensures.lines c.take_turn-ended.ensures.follows,
+      adds_then _ c.args.pass.now c.loop.pass c.take_turn-ended.new.pass c.loop.invariant.4 c.take_turn-ended.ensures.adds c.take_turn-ended.ensures.follows,
       hand_of c.take_turn-ended.new.pass c.in-Runs.lent c.evaluate.result c.evaluate.ensures (subst (IsLent c.take_turn-ended.new.pass) c.in-Runs.is c.take_turn-ended.ensures.lent),
     )
 
@@ -37,7 +40,7 @@ loop-preserved-in-Over-Idle-2 g c =
       tt,
       follows_then c.args.pass.now c.loop.pass c.take_turn-ended.new.pass c.loop.invariant.2 c.take_turn-ended.ensures.follows,
       held_as _ (Holds Empty) c.args.pass.now c.take_turn-ended.new.pass whole (λ n runs. absurd (over_runs_none c.take_turn-ended.result.1 _ c.in-Over-Idle.is n runs)),
-      admits_then c.args.pass.now c.loop.pass c.take_turn-ended.new.pass c.loop.invariant.4 c.take_turn-ended.ensures.lines c.take_turn-ended.ensures.follows,
+      adds_then _ c.args.pass.now c.loop.pass c.take_turn-ended.new.pass c.loop.invariant.4 c.take_turn-ended.ensures.adds c.take_turn-ended.ensures.follows,
       tt,
     )
 
@@ -49,6 +52,6 @@ loop-preserved g c =
       tt,
       follows_then c.args.pass.now c.loop.pass c.take_turn-ended.new.pass c.loop.invariant.2 c.take_turn-ended.ensures.follows,
       held_as _ (Holds Empty) c.args.pass.now c.take_turn-ended.new.pass whole (λ n runs. absurd (over_runs_none c.take_turn-ended.result.1 _ c.in-Over.is n runs)),
-      admits_then c.args.pass.now c.loop.pass c.take_turn-ended.new.pass c.loop.invariant.4 c.take_turn-ended.ensures.lines c.take_turn-ended.ensures.follows,
+      adds_then _ c.args.pass.now c.loop.pass c.take_turn-ended.new.pass c.loop.invariant.4 c.take_turn-ended.ensures.adds c.take_turn-ended.ensures.follows,
       tt,
     )
