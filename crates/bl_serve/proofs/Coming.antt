@@ -15,7 +15,8 @@ use Rattle.bl_hall.specs.Told.{AreAnswers, reply_of}
 use Rattle.bl_hall.specs.declared.reply.Reply as owned
 use Rattle.bl_gate.specs.Gates.{GateId, PassView, Calls, Follows, hall_seen, state_seen}
 use Rattle.bl_gate.proofs.Following.{base_stays, follows_itself, follows_then}
-use Rattle.bl_worker.proofs.Admitting.{admits_itself}
+use Rattle.bl_worker.specs.Turns.{IsNoLine}
+use Rattle.bl_worker.proofs.Adding.{adds_itself, adds_no_line}
 use Rattle.bl_wire.specs.Replies.{line_or_full, line_text}
 use Rattle.bl_engine.specs.declared.request.Request.TheVariants as request
 use Rattle.bl_engine.specs.declared.request.Request.{Request}
@@ -29,7 +30,8 @@ use Rattle.bl_serve.proofs.Opened.{last_low}
 use Rattle.bl_serve.proofs.Going.{block_text, course_asked, course_full, course_on, course_opened, course_settled}
 use Rattle.bl_serve.proofs.Telling.{GoByLines}
 use Rattle.bl_serve.proofs.ToldLaws.{text_new, text_stays, told_on}
-use Rattle.bl_serve.proofs.Transcribing.{heard, is_own}
+use Rattle.bl_serve.proofs.Owning.{own_first, own_line, own_opened, own_then, own_turns}
+use Rattle.bl_serve.proofs.Transcribing.{heard}
 
 -- what holds whatever a call gave holds where it gave an error
 pub on_err : {A E P : Type 0} (r : Result A E) → P → OnErr r P
@@ -48,7 +50,6 @@ from_first names first p q course told same t = record {
   more = t.more;
   opened = t.opened;
   opening = t.opening;
-  mine = t.mine;
   subject_is = t.subject_is;
   works = t.works;
   admits = t.admits;
@@ -95,7 +96,7 @@ module _ (gate : GateId) (first : PassView) (old : Visit) (replies : List owned.
     where
       go : (s : Option ℕ) → old.session ≡ s → HasTold gate first old replies s [] → (old.session ≡ None) × IsSilent first old replies []
       go None is course = (is, course)
-      go (Some s) is course = absurd (omega (arith, ap length course.opened))
+      go (Some s) is course = absurd (omega (arith, ap length course.1.opened))
 
   -- and no line
   pub come_zero : HasCome gate first old replies [] → (old.last ≡ 0) × (old.upto ≡ 0)
@@ -118,25 +119,36 @@ module _ (gate : GateId) (first : PassView) (old : Visit) (replies : List owned.
       let quiet = (silent c).1 in
       record {
         own = of_later new c.own follows upto (subst (λ n. old.upto ≤ n) (sym last) c.own.within);
-        course = subst (λ o. HasTold gate first new replies o (request.Opens u ∷ [])) (sym session)
-            (from_first gate.base.setup.names first old.pass new.pass (course_of gate.base.setup.names new replies s) (request.Opens u ∷ []) quiet.own
-            (subst (λ t. IsCourse gate.base.setup.names old.pass new.pass t (request.Opens u ∷ []))
-            (λ i. record { session = s; last = sym (last ∙ quiet.last) i; upto = sym (upto ∙ zero_upto) i; replies = told_text gate.base.setup.names replies })
-            (course_opened gate.base.setup.names old.pass new.pass s u (told_text gate.base.setup.names replies) legal (base_stays old.pass new.pass follows) call (ap (λ l. told_text gate.base.setup.names l 0) quiet.quiet))));
+        course = subst (λ o. HasTold gate first new replies o (request.Opens u ∷ [])) (sym session) (
+          own_first first old.pass new.pass s quiet.own (own_opened old.pass new.pass s u (base_stays old.pass new.pass follows) call),
+          from_first gate.base.setup.names first old.pass new.pass (course_of gate.base.setup.names new replies s) (request.Opens u ∷ []) quiet.own
+              (subst (λ t. IsCourse gate.base.setup.names old.pass new.pass t (request.Opens u ∷ []))
+              (λ i. record { session = s; last = sym (last ∙ quiet.last) i; upto = sym (upto ∙ zero_upto) i; replies = told_text gate.base.setup.names replies })
+              (course_opened gate.base.setup.names old.pass new.pass s u (told_text gate.base.setup.names replies) legal (base_stays old.pass new.pass follows) call (ap (λ l. told_text gate.base.setup.names l 0) quiet.quiet))),
+        );
       }
 
   module _ (s : ℕ) (session : old.session ≡ Some s) (told : List Request) (c : HasCome gate first old replies told) where
-    pub course_is : IsCourse gate.base.setup.names first old.pass (course_of gate.base.setup.names old replies s) told
-    course_is = subst (λ o. HasTold gate first old replies o told) session c.course
+    told_is : HasTold gate first old replies (Some s) told
+    told_is = subst (λ o. HasTold gate first old replies o told) session c.course
 
-    -- it after_quiet
+    -- the session is the pass's own
+    own_is : IsOwn first old.pass s
+    own_is = told_is.0
+
+    pub course_is : IsCourse gate.base.setup.names first old.pass (course_of gate.base.setup.names old replies s) told
+    course_is = told_is.1
+
+    -- while it keeps quiet
     pub come_quiet : (new : Visit) → KeepsQuiet old.pass new.pass → new.session ≡ old.session → new.upto ≡ old.upto → new.last ≡ old.last → HasCome gate first new replies told
     come_quiet new quiet same upto last = record {
       own = of_later new c.own quiet.follows upto (subst (λ n. old.upto ≤ n) (sym last) c.own.within);
-      course = subst (λ o. HasTold gate first new replies o told) (sym (same ∙ session))
-          (subst (λ t. IsCourse gate.base.setup.names first new.pass t told)
-          (λ i. record { session = s; last = sym last i; upto = sym upto i; replies = told_text gate.base.setup.names replies })
-          (course_on old.pass new.pass quiet.follows (quiet.trail course_is.trail) gate.base.setup.names first (course_of gate.base.setup.names old replies s) told course_is quiet.lines));
+      course = subst (λ o. HasTold gate first new replies o told) (sym (same ∙ session)) (
+        own_turns first old.pass new.pass s own_is quiet.follows quiet.adds,
+        subst (λ t. IsCourse gate.base.setup.names first new.pass t told)
+            (λ i. record { session = s; last = sym last i; upto = sym upto i; replies = told_text gate.base.setup.names replies })
+            (course_on old.pass new.pass quiet.follows (quiet.trail course_is.trail) gate.base.setup.names first (course_of gate.base.setup.names old replies s) told course_is (adds_no_line (λ n. Unit {0}) old.pass new.pass quiet.adds)),
+      );
     }
 
     module _ (new : Visit) (k : ℕ) (w : Work) (lt : old.last < k) (follows : Follows old.pass new.pass) (legal : HasTrail (hall_seen new.pass))
@@ -148,30 +160,34 @@ module _ (gate : GateId) (first : PassView) (old : Visit) (replies : List owned.
       pub come_asked : (A : State → Type 0) → Calls old.pass (Admits s k w) A new.pass → new.last ≡ k → HasCome gate first new replies (told ++ request.Admits k w ∷ [])
       come_asked A call last = record {
         own = of_later new c.own follows upto (omega (arith, c.own.within, lt, last));
-        course = subst (λ o. HasTold gate first new replies o (told ++ request.Admits k w ∷ [])) (sym (same ∙ session))
-            (subst (λ t. IsCourse gate.base.setup.names first new.pass t (told ++ request.Admits k w ∷ []))
-            (λ i. record { session = s; last = sym last i; upto = sym upto i; replies = told_text gate.base.setup.names replies })
-            (course_asked old.pass new.pass follows legal gate.base.setup.names first (course_of gate.base.setup.names old replies s) told course_is k w A lt c.own.within call));
+        course = subst (λ o. HasTold gate first new replies o (told ++ request.Admits k w ∷ [])) (sym (same ∙ session)) (
+          own_line first old.pass new.pass s k w A own_is follows call,
+          subst (λ t. IsCourse gate.base.setup.names first new.pass t (told ++ request.Admits k w ∷ []))
+              (λ i. record { session = s; last = sym last i; upto = sym upto i; replies = told_text gate.base.setup.names replies })
+              (course_asked old.pass new.pass follows legal gate.base.setup.names first (course_of gate.base.setup.names old replies s) told course_is k w A lt c.own.within call),
+        );
       }
 
       -- a line was refused
       module _ (own : new.pass.own ≡ old.pass.own) where
         after_quiet : IsCourse gate.base.setup.names first new.pass (course_of gate.base.setup.names old replies s) told
-        after_quiet = course_on old.pass new.pass follows legal gate.base.setup.names first (course_of gate.base.setup.names old replies s) told course_is (admits_itself old.pass new.pass own)
+        after_quiet = course_on old.pass new.pass follows legal gate.base.setup.names first (course_of gate.base.setup.names old replies s) told course_is (adds_itself (λ _. IsNoLine) old.pass new.pass own)
+
+        -- the session is the pass's own still
+        pub own_here : IsOwn first new.pass s
+        own_here = own_then first old.pass new.pass s own_is follows (adds_itself _ old.pass new.pass own)
 
         -- for want of room
         pub come_full : IsCause (state_seen new.pass) s k w cause.Full → new.last ≡ k → HasCome gate first new replies (told ++ request.Admits k w ∷ [])
         come_full is last = record {
           own = of_later new c.own follows upto (omega (arith, c.own.within, lt, last));
-          course = subst (λ o. HasTold gate first new replies o (told ++ request.Admits k w ∷ [])) (sym (same ∙ session))
-              (subst (λ t. IsCourse gate.base.setup.names first new.pass t (told ++ request.Admits k w ∷ []))
-              (λ i. record { session = s; last = sym last i; upto = sym upto i; replies = told_text gate.base.setup.names replies })
-              (course_full gate.base.setup.names first new.pass (course_of gate.base.setup.names old replies s) told after_quiet k w lt is.3));
+          course = subst (λ o. HasTold gate first new replies o (told ++ request.Admits k w ∷ [])) (sym (same ∙ session)) (
+            own_here,
+            subst (λ t. IsCourse gate.base.setup.names first new.pass t (told ++ request.Admits k w ∷ []))
+                (λ i. record { session = s; last = sym last i; upto = sym upto i; replies = told_text gate.base.setup.names replies })
+                (course_full gate.base.setup.names first new.pass (course_of gate.base.setup.names old replies s) told after_quiet k w lt is.3),
+          );
         }
-
-        -- the pass opened the session, and spoke for no other one
-        pub own_here : IsOwn first new.pass s
-        own_here = is_own gate.base.setup.names first new.pass (course_of gate.base.setup.names old replies s) told after_quiet
 
         names : gate.base.setup.names ≡ new.pass.gate.base.setup.names
         names = sym (ap (λ (g : GateId). g.base.setup.names) (follows.gate ∙ c.own.gate_is))
@@ -202,15 +218,17 @@ module _ (gate : GateId) (first : PassView) (old : Visit) (replies : List owned.
             (told_on gate.base.setup.names old.upto ordinal replies more (omega (arith, c.own.within, le)) c.own.told are);
         within = omega (arith, upto, last);
       };
-      course = subst (λ o. HasTold gate first new (replies ++ more) o (told ++ request.Settles ∷ [])) (sym (same ∙ session))
-          (subst (λ t. IsCourse gate.base.setup.names first new.pass t (told ++ request.Settles ∷ []))
-          (λ i. record { session = s; last = sym last i; upto = sym upto i; replies = told_text gate.base.setup.names (replies ++ more) })
-          (course_settled gate.base.setup.names first new.pass (course_of gate.base.setup.names old replies s) told after_quiet ordinal (told_text gate.base.setup.names (replies ++ more)) le answers.waits
-          (λ names was k low. either_side names was k low (below_or_not k old.upto))));
+      course = subst (λ o. HasTold gate first new (replies ++ more) o (told ++ request.Settles ∷ [])) (sym (same ∙ session)) (
+        own_turns first old.pass new.pass s own_is quiet.follows quiet.adds,
+        subst (λ t. IsCourse gate.base.setup.names first new.pass t (told ++ request.Settles ∷ []))
+            (λ i. record { session = s; last = sym last i; upto = sym upto i; replies = told_text gate.base.setup.names (replies ++ more) })
+            (course_settled gate.base.setup.names first new.pass (course_of gate.base.setup.names old replies s) told after_quiet ordinal (told_text gate.base.setup.names (replies ++ more)) le answers.waits
+            (λ names was k low. either_side names was k low (below_or_not k old.upto))),
+      );
     }
       where
         after_quiet : IsCourse gate.base.setup.names first new.pass (course_of gate.base.setup.names old replies s) told
-        after_quiet = course_on old.pass new.pass quiet.follows legal gate.base.setup.names first (course_of gate.base.setup.names old replies s) told course_is quiet.lines
+        after_quiet = course_on old.pass new.pass quiet.follows legal gate.base.setup.names first (course_of gate.base.setup.names old replies s) told course_is (adds_no_line (λ n. Unit {0}) old.pass new.pass quiet.adds)
 
         below_or_not : (a b : ℕ) → (a ≤ b) ⊎ (b < a)
         below_or_not a b = grind arith

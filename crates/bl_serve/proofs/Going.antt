@@ -30,9 +30,10 @@ use Rattle.bl_engine.specs.Requests.{SameUpTo}
 use Rattle.bl_session.specs.Transcripts.{admitted}
 use Rattle.bl_session.proofs.TranscriptLaws.{KeepsSession, KeepsWeight, admitted-append, sessions_kept, weights_kept}
 use Rattle.bl_serve.specs.Told.{line_of}
-use Rattle.bl_serve.specs.Courses.{AreAdmitted, AreOf, HasNoSettles, IsCovered, IsAnswered, IsOpenedAt, IsOverUpTo, IsCourse, StandAt, Course, asked_in}
+use Rattle.bl_serve.specs.Courses.{AreAdmitted, HasNoSettles, IsCovered, IsAnswered, IsOpenedAt, IsOverUpTo, IsCourse, StandAt, Course, asked_in}
 use Rattle.bl_serve.proofs.Admitted.{admitted_none, admitted_later, admitted_upto, admitted_one, admitted_full, asked_more}
 use Rattle.bl_serve.proofs.Alone.{either, get_inside, stood, none_came}
+use Rattle.bl_serve.proofs.Owning.{more_times, once}
 use Rattle.bl_serve.proofs.Opened.{AreBelow, all_below, none_unopened}
 use Rattle.bl_serve.proofs.Staying.{IsBehind, Stays, answers_stay, over_stays, replies_other, stays}
 use Rattle.bl_serve.proofs.Telling.{GoByLines, line_is}
@@ -66,9 +67,6 @@ covers_settled upto last told le low = record {
 
 -- ---- where the session was opened
 
-more_times : (i : ℕ) (g h : List ℕ) → 1 ≤ times i g → 1 ≤ times i (g ++ h)
-more_times i g h some = omega (arith, times-append i g h, some)
-
 opening_on : (p q : PassView) (g h : List ℕ) (session u : ℕ) → Follows p q → IsOpenedAt g p session u → IsOpenedAt (g ++ h) q session u
 opening_on p q g h session u follows o = record {
   front = o.front;
@@ -77,18 +75,6 @@ opening_on p q g h session u follows o = record {
   own = more_times (length o.front) g h o.own;
 }
 
-once : (k : ℕ) → 1 ≤ times k (k ∷ [])
-once k = grind (arith, nat_tests)
-
--- ---- whose lines stand at its positions
-
-abbrev session_of : Event → ℕ
-session_of (Opens u) = 0
-session_of (Admits session k w) = session
-session_of (Starts n) = 0
-session_of (Ends n) = 0
-session_of (Loses n) = 0
-
 abbrev is_line : Event → Bool
 is_line (Opens u) = false
 is_line (Admits session k w) = true
@@ -96,15 +82,8 @@ is_line (Starts n) = false
 is_line (Ends n) = false
 is_line (Loses n) = false
 
-same_session : (a b : Event) → Some a ≡ Some b → session_of a ≡ session_of b
-same_session a b e = let h : a ≡ b = cc in ap session_of h
-
 pub no_line : (u session k : ℕ) (w : Work) → Some (Opens u) ≡ Some (Admits session k w) → ⊥
 no_line u session k w e = let h : Opens u ≡ Admits session k w = cc in true≢false (sym (ap is_line h))
-
--- those at the positions that it had are as they were
-mine_on : (p q : PassView) (g : List ℕ) (session : ℕ) → Follows p q → ((i : ℕ) → 1 ≤ times i g → i < length p.seen) → AreOf g session p.seen → AreOf g session q.seen
-mine_on p q g session follows within mine i other k w some at = mine i other k w some (sym (get_sooner q.seen p.seen i follows.seen (within i some)) ∙ at)
 
 -- ---- from one moment of a pass to a later one
 
@@ -168,7 +147,6 @@ module _ (p q : PassView) (follows : Follows p q) (legal : HasTrail (hall_seen q
       more = t.more;
       opened = t.opened;
       opening = opening_on p q t.gained none.gained course.session t.subject follows t.opening;
-      mine = λ i other k w some at. mine i other k w (either i t.gained none.gained some) at;
       subject_is = (kept_session course.session t.there).subject ∙ t.subject_is;
       works = t.works;
       admits = admitted_later (state_seen p) (state_seen q) course.last (asked_in told) t.works kept_weight.limit kept_weight.weight t.admits;
@@ -176,7 +154,7 @@ module _ (p q : PassView) (follows : Follows p q) (legal : HasTrail (hall_seen q
       answered = λ is alone.
           let a : StandAt (t.gained ++ none.gained) course.session (p.seen ++ rest) = subst (StandAt (t.gained ++ none.gained) course.session) follows.seen.1 alone in
           let n : (i k : ℕ) (w : Work) → slice_get (p.seen ++ rest) i ≡ Some (Admits course.session k w) → 1 ≤ times i none.gained → ⊥ =
-          λ i k w at new. none.no_line i course.session k w new (ap (λ (l : List Event). slice_get l i) follows.seen.1 ∙ at) in
+          λ i k w at new. none.events i (Admits course.session k w) new (ap (λ (l : List Event). slice_get l i) follows.seen.1 ∙ at) in
           subst (λ l. IsAnswered q course.session course.upto l course.replies) (append-nil t.works)
           (heard_on course.session course.upto t.works [] course.replies (t.answered (names_then is) (stood course.session t.gained none.gained p.seen rest a n t.within))
           (none_came course.session t.gained none.gained p.seen rest a n t.within) (All-nil (IsBehind course.upto)));
@@ -185,10 +163,6 @@ module _ (p q : PassView) (follows : Follows p q) (legal : HasTrail (hall_seen q
         within : (i : ℕ) → (1 ≤ times i t.gained) ⊎ (1 ≤ times i none.gained) → i < length q.seen
         within i (inl old) = omega (arith, t.within i old, length_on)
         within i (inr new) = none.within i new
-
-        mine : (i other k : ℕ) (w : Work) → (1 ≤ times i t.gained) ⊎ (1 ≤ times i none.gained) → slice_get q.seen i ≡ Some (Admits other k w) → other ≡ course.session
-        mine i other k w (inl old) at = mine_on p q t.gained course.session follows t.within t.mine i other k w old at
-        mine i other k w (inr new) at = absurd (none.no_line i other k w new at)
 
     -- a line of it was admitted
     module _ (k : ℕ) (w : Work) (A : State → Type 0) (lt : course.last < k) (le : course.upto ≤ course.last) (call : Calls p (Admits course.session k w) A q) where
@@ -232,7 +206,6 @@ module _ (p q : PassView) (follows : Follows p q) (legal : HasTrail (hall_seen q
         more = t.more ++ request.Admits k w ∷ [];
         opened = ap (λ l. l ++ request.Admits k w ∷ []) t.opened;
         opening = opening_on p q t.gained (length call.trail ∷ []) course.session t.subject follows t.opening;
-        mine = λ i other j v some at. mine i other j v (either i t.gained (length call.trail ∷ []) some) at;
         subject_is = (kept_session course.session t.there).subject ∙ t.subject_is;
         works = t.works ++ one;
         admits = subst (λ l. AreAdmitted (state_seen q) k l (t.works ++ one)) (sym (asked_more told (request.Admits k w ∷ [])))
@@ -249,11 +222,6 @@ module _ (p q : PassView) (follows : Follows p q) (legal : HasTrail (hall_seen q
           within : (i : ℕ) → (1 ≤ times i t.gained) ⊎ (1 ≤ times i (length call.trail ∷ [])) → i < length q.seen
           within i (inl old) = omega (arith, t.within i old, length_on)
           within i (inr new) = let l = call_inside p q event A call in let e = one_place i (length call.trail) new in omega (arith, l, e)
-
-          mine : (i other j : ℕ) (v : Work) → (1 ≤ times i t.gained) ⊎ (1 ≤ times i (length call.trail ∷ [])) → slice_get q.seen i ≡ Some (Admits other j v) → other ≡ course.session
-          mine i other j v (inl old) at = mine_on p q t.gained course.session follows t.within t.mine i other j v old at
-          mine i other j v (inr new) at =
-              sym (same_session event (Admits other j v) (sym (call_there p q event A call) ∙ (ap (slice_get q.seen) (sym (one_place i (length call.trail) new)) ∙ at)))
 
           same_rest : (xs a b : List Event) → xs ++ a ≡ xs ++ b → a ≡ b
           same_rest [] a b e = e
@@ -275,7 +243,6 @@ module _ (names : KnownNames) (first q : PassView) (course : Course) (told : Lis
     more = t.more ++ request.Admits k w ∷ [];
     opened = ap (λ l. l ++ request.Admits k w ∷ []) t.opened;
     opening = t.opening;
-    mine = t.mine;
     subject_is = t.subject_is;
     works = t.works;
     admits = subst (λ l. AreAdmitted (state_seen q) k l t.works) (sym (asked_more told (request.Admits k w ∷ [])))
@@ -298,7 +265,6 @@ module _ (names : KnownNames) (first q : PassView) (course : Course) (told : Lis
     more = t.more ++ request.Settles ∷ [];
     opened = ap (λ l. l ++ request.Settles ∷ []) t.opened;
     opening = t.opening;
-    mine = t.mine;
     subject_is = t.subject_is;
     works = t.works;
     admits = subst (λ l. AreAdmitted (state_seen q) ordinal l t.works) (sym (asked_more told (request.Settles ∷ []) ∙ append-nil (asked_in told)))
@@ -360,8 +326,6 @@ module _ (names : KnownNames) (first q : PassView) (session u : ℕ) (replies : 
       number = call.answered ∙ ap (λ (b : Chronicle). length (state_now (hall_with b call.trail)).sessions) (sym base);
       own = once (length call.trail);
     };
-    mine = λ i other k w some at.
-        absurd (no_line u other k w (sym (call_there first q (Opens u) (λ y. session ≡ length y.sessions) call) ∙ (ap (slice_get q.seen) (sym (one_place i (length call.trail) some)) ∙ at)));
     subject_is =
         ap (λ (y : State). (session_at y session).subject) state_then
         ∙ (ap (λ n. (slice_index_or (before.sessions ++ record { subject = u; last = 0 } ∷ []) n no_session).subject) call.answered

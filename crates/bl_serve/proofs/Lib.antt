@@ -7,6 +7,7 @@ mod Admitted
 mod Going
 mod Transcribing
 mod Quiet
+mod Owning
 mod Cutting
 mod Coming
 mod OutcomeLaws

@@ -17,14 +17,15 @@ use Rattle.bl_session.specs.Transcripts.{IsTranscript}
 use Rattle.bl_wire.specs.declared.fault.SessionFault.{SessionFault}
 use Rattle.bl_engine.specs.View.{View, Ends, ends}
 use Rattle.bl_engine.specs.Outcome.{Finished, Stopped, TurnedAway, TurnedAwayInPart, refused_sessions}
-use Rattle.bl_serve.specs.Courses.{SpeaksForItsOwn}
+use Rattle.bl_serve.specs.Courses.{AddsOneSession, IsOwn, SpeaksForItsOwn}
 use Rattle.bl_serve.specs.Talks.{HasBroken, HasEnded, seen_of}
 use Rattle.bl_serve.specs.Told.{told_text}
 use Rattle.bl_serve.specs.Visits.{HasCome, HasTold, IsCrowded, course_of}
 use Rattle.bl_serve.specs.Outcome.{replies_alone, IsSeen, IsServed, IsCutShort, IsTranscribed, IsTranscribedInPart}
 use Rattle.bl_serve.specs.declared.visit.Visit.{Visit}
 use Rattle.bl_serve.proofs.Coming.{silent}
-use Rattle.bl_serve.proofs.Transcribing.{nothing_told, is_own, speaks, speaks_for_none, replies_are, transcribed, turned_away, written_is}
+use Rattle.bl_serve.proofs.Owning.{own_speaks, speaks_for_none}
+use Rattle.bl_serve.proofs.Transcribing.{nothing_told, replies_are, transcribed, turned_away, written_is}
 use Rattle.bl_serve.proofs.ToldLaws.{all_named}
 
 module _ (names : KnownNames) (e : Ends) (view : View) where
@@ -122,11 +123,11 @@ module _ (gate : GateId) (at_first : PassView) (visit : Visit) (replies : List R
       go None course = inl (course.none, course.own, nothing_told visit.pass (told_text gate.base.setup.names replies) turns course.none)
       go (Some s) course = inr (
         s,
-        is_own gate.base.setup.names at_first visit.pass (course_of gate.base.setup.names visit replies s) (told_by turns) course,
+        course.0,
         λ alone.
             subst (IsTranscript visit.pass.gate.base.setup visit.pass.gate.base.limit visit.pass.seen s turns)
-            (sym (written_is gate.base.setup.names at_first visit.pass (course_of gate.base.setup.names visit replies s) (told_by turns) course is alone turns refl))
-            (transcribed gate.base.setup.names at_first visit.pass (course_of gate.base.setup.names visit replies s) (told_by turns) course is alone turns 0 (sym (append-nil (told_by turns)))),
+            (sym (written_is gate.base.setup.names at_first visit.pass (course_of gate.base.setup.names visit replies s) (told_by turns) course.1 is alone turns refl))
+            (transcribed gate.base.setup.names at_first visit.pass (course_of gate.base.setup.names visit replies s) (told_by turns) course.1 is alone turns 0 (sym (append-nil (told_by turns)))),
       )
 
   -- a first part was written
@@ -151,11 +152,11 @@ module _ (gate : GateId) (at_first : PassView) (visit : Visit) (replies : List R
           )
       go (Some s) course = inr (
         s,
-        is_own gate.base.setup.names at_first visit.pass (course_of gate.base.setup.names visit replies s) told course,
+        course.0,
         λ alone. (
           session_text (line_text (state_seen visit.pass) s) heard,
-          transcribed gate.base.setup.names at_first visit.pass (course_of gate.base.setup.names visit replies s) told course is alone heard settles by,
-          begins (line_text (state_seen visit.pass) s) (λ k low. replies_are gate.base.setup.names at_first visit.pass (course_of gate.base.setup.names visit replies s) told course is alone k (omega (arith, low, le))),
+          transcribed gate.base.setup.names at_first visit.pass (course_of gate.base.setup.names visit replies s) told course.1 is alone heard settles by,
+          begins (line_text (state_seen visit.pass) s) (λ k low. replies_are gate.base.setup.names at_first visit.pass (course_of gate.base.setup.names visit replies s) told course.1 is alone k (omega (arith, low, le))),
         ),
       )
 
@@ -214,13 +215,18 @@ module _ (gate : GateId) (at_first before : PassView) (visit : Visit) (replies :
     ),
   )
 
--- whatever was told, the pass spoke for its own session alone
-pub speaks_then : (gate : GateId) (at_first : PassView) (visit : Visit) (replies : List Reply) (told : List Request) → HasCome gate at_first visit replies told → SpeaksForItsOwn at_first visit.pass
-speaks_then gate at_first visit replies told c = go visit.session c.course
+-- whatever was told, what the pass has gained is its own session's alone
+adds_then : (gate : GateId) (at_first : PassView) (visit : Visit) (replies : List Reply) (told : List Request) → HasCome gate at_first visit replies told → AddsOneSession at_first visit.pass
+adds_then gate at_first visit replies told c = go visit.session c.course
   where
-    go : (o : Option ℕ) → HasTold gate at_first visit replies o told → SpeaksForItsOwn at_first visit.pass
-    go None course = speaks_for_none at_first visit.pass course.own
-    go (Some s) course = speaks gate.base.setup.names at_first visit.pass (course_of gate.base.setup.names visit replies s) told course
+    go : (o : Option ℕ) → HasTold gate at_first visit replies o told → AddsOneSession at_first visit.pass
+    go None course = inl course.own
+    go (Some s) course = inr (s, course.0)
+
+-- so it spoke for no other one
+pub speaks : (before after : PassView) → AddsOneSession before after → SpeaksForItsOwn before after
+speaks before after (inl same) = speaks_for_none before after same
+speaks before after (inr own) = own_speaks before after own.0 own.1
 
 module _ (gate : GateId) (at_first before : PassView) (visit : Visit) (start rest first kept : Option (List ℕ)) (read_failed write_failed : Bool) (same : at_first ≡ before) where
   pub served : HasEnded gate at_first (ends start rest first kept) visit
@@ -231,14 +237,14 @@ module _ (gate : GateId) (at_first before : PassView) (visit : Visit) (start res
       → IsCutShort gate.base.setup.names before visit.pass fault (record { before = start; after = rest; failed = read_failed }) (record { before = first; after = kept; failed = write_failed })
   cut_short fault ended = cut_here gate at_first before visit ended.0 (ends start rest first kept) same fault read_failed write_failed ended.1
 
-  pub served_speaks : HasEnded gate at_first (ends start rest first kept) visit → SpeaksForItsOwn before visit.pass
-  served_speaks ended = subst (λ (p : PassView). SpeaksForItsOwn p visit.pass) same (elim ended.1 [
-    | inl f ↦ speaks_then gate at_first visit ended.0 (told_by f.turns) f.came
-    | inr a ↦ speaks_then gate at_first visit ended.0 [] a.1.came
+  pub served_adds : HasEnded gate at_first (ends start rest first kept) visit → AddsOneSession before visit.pass
+  served_adds ended = subst (λ (p : PassView). AddsOneSession p visit.pass) same (elim ended.1 [
+    | inl f ↦ adds_then gate at_first visit ended.0 (told_by f.turns) f.came
+    | inr a ↦ adds_then gate at_first visit ended.0 [] a.1.came
   ])
 
-  pub cut_speaks : (fault : SessionFault) → HasBroken fault gate at_first (ends start rest first kept) read_failed write_failed visit → SpeaksForItsOwn before visit.pass
-  cut_speaks fault ended = subst (λ (p : PassView). SpeaksForItsOwn p visit.pass) same (elim ended.1 [
-    | inl s ↦ speaks_then gate at_first visit ended.0 s.told s.came
-    | inr a ↦ speaks_then gate at_first visit ended.0 [] a.1.part.came
+  pub cut_adds : (fault : SessionFault) → HasBroken fault gate at_first (ends start rest first kept) read_failed write_failed visit → AddsOneSession before visit.pass
+  cut_adds fault ended = subst (λ (p : PassView). AddsOneSession p visit.pass) same (elim ended.1 [
+    | inl s ↦ adds_then gate at_first visit ended.0 s.told s.came
+    | inr a ↦ adds_then gate at_first visit ended.0 [] a.1.part.came
   ])

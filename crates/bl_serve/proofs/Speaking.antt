@@ -41,7 +41,7 @@ session_share whole before after met s p session k w mine at =
 pub turn_share : (whole before after : PassView) → HasMet whole after → AdmitsNoLine before after → IsShare whole (drop (length before.own) after.own)
 turn_share whole before after met none p session k w mine at =
     let gained : 1 ≤ times p none.gained = subst (λ (l : List ℕ). 1 ≤ times p l) (ap (drop (length before.own)) none.own ∙ drop-append_seam before.own none.gained) mine in
-    absurd (none.no_line p session k w gained (sym (get_sooner whole.seen after.seen p met.seen (none.within p gained)) ∙ at))
+    absurd (none.events p (Admits session k w) gained (sym (get_sooner whole.seen after.seen p met.seen (none.within p gained)) ∙ at))
 
 -- ---- sessions
 

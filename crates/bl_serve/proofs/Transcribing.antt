@@ -19,7 +19,7 @@ use Rattle.bl_engine.specs.declared.request.Request.{Request}
 use Rattle.bl_engine.specs.Requests.{SameUpTo, told_of, told_by}
 use Rattle.bl_engine.specs.Outcome.{refused_sessions}
 use Rattle.bl_session.specs.Transcripts.{IsTranscript, Talks, asked_after, has_ordinal}
-use Rattle.bl_serve.specs.Courses.{AreOf, HasOpened, IsOpenedAt, IsOwn, SpeaksForItsOwn, HasNoSettles, IsCovered, IsAnswered, IsCourse, SpeaksAlone, StandAt, Course, asked_in}
+use Rattle.bl_serve.specs.Courses.{HasNoSettles, IsCovered, IsAnswered, IsCourse, SpeaksAlone, StandAt, Course, asked_in}
 use Rattle.bl_serve.proofs.Admitted.{asked_more}
 use Rattle.bl_serve.proofs.Opened.{sessions_within}
 
@@ -94,29 +94,6 @@ first_subject (r ∷ told) = opened_by r
 module _ (names : KnownNames) (first q : PassView) (course : Course) (told : List Request) (t : IsCourse names first q course told) where
   pub gained_is : drop (length first.own) q.own ≡ t.gained
   gained_is = ap (drop (length first.own)) t.own ∙ drop-append_seam first.own t.gained
-
-  pub opened : HasOpened first q course.session
-  opened = (t.subject, subst (λ (l : List ℕ). IsOpenedAt l q course.session t.subject) (sym gained_is) t.opening)
-
-  pub is_own : IsOwn first q course.session
-  is_own = record { opened = opened; mine = subst (λ (l : List ℕ). AreOf l course.session q.seen) (sym gained_is) t.mine }
-
-  pub speaks : SpeaksForItsOwn first q
-  speaks = record {
-    gained = t.gained;
-    own = t.own;
-    within = t.within;
-    lines = λ i session k w some at. (t.subject, subst (λ (n : ℕ). IsOpenedAt t.gained q n t.subject) (sym (t.mine i session k w some at)) t.opening);
-  }
-
--- a pass that gained nothing
-pub speaks_for_none : (first q : PassView) → q.own ≡ first.own → SpeaksForItsOwn first q
-speaks_for_none first q same = record {
-  gained = [];
-  own = same ∙ sym (append-nil first.own);
-  within = λ i some. absurd (omega (arith, some));
-  lines = λ i session k w some at. absurd (omega (arith, some));
-}
 
 -- ---- the transcript
 

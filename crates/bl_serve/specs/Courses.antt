@@ -1,14 +1,14 @@
 -- How a session over a gate stands: what was admitted for it, what it was answered, and whether another pass spoke for it.
-use Rattle.std.specs.Prelude.{◌≡◌, ℕ, ◌+◌, ◌<◌, ◌≤◌, ⊤, true, false, List, [], ◌∷◌, ◌++◌, length, filter, All, Some, slice_get, drop}
+use Rattle.std.specs.Prelude.{◌≡◌, ℕ, ◌+◌, ◌<◌, ◌≤◌, ⊤, ◌⊎◌, true, false, List, [], ◌∷◌, ◌++◌, length, filter, All, Some, slice_get, drop}
 use Rattle.bl_work.specs.Names.{KnownNames}
 use Rattle.bl_work.specs.declared.work.Work.{Work}
 use Rattle.bl_order.specs.Labels.{tag}
-use Rattle.bl_order.specs.Machine.{State, Event, Opens, Admits, session_at, has_ended, weight_of}
+use Rattle.bl_order.specs.Machine.{State, Event, Opens, Admits, Starts, Ends, Loses, session_at, has_ended, weight_of}
 use Rattle.bl_order.specs.Room.{admitted_weight}
 use Rattle.bl_hall.specs.Chronicle.{HasTrail, state_now}
 use Rattle.bl_gate.specs.Counts.{StartsWith, times}
 use Rattle.bl_gate.specs.Gates.{PassView, Follows, hall_seen, hall_with, state_seen}
-use Rattle.bl_worker.specs.Turns.{AdmitsNoLine}
+use Rattle.bl_worker.specs.Turns.{Adds, AddsTurnsAlone}
 use Rattle.bl_wire.specs.Replies.{line_text}
 use Rattle.bl_engine.specs.declared.request.Request.TheVariants as request
 use Rattle.bl_engine.specs.declared.request.Request.{Request}
@@ -37,15 +37,22 @@ pub record IsOpenedAt (positions : List ℕ) (pass : PassView) (session subject 
 abbrev pub HasOpened : (before after : PassView) → ℕ → Type 0
 HasOpened before after session = (subject : ℕ) × IsOpenedAt (drop (length before.own) after.own) after session subject
 
--- each line of the trail that stands at one of these positions is of the session
-abbrev pub AreOf : List ℕ → ℕ → List Event → Type 0
-AreOf positions session trail =
-    (p other ordinal : ℕ) (work : Work) → 1 ≤ times p positions → slice_get trail p ≡ Some (Admits other ordinal work) → other ≡ session
+-- an event of a session that was opened at this position: that opening, a line of the session, or the start, the end or the loss of an entry
+abbrev pub IsOfSession : (session opening : ℕ) → ℕ → Event → Type 0
+IsOfSession session opening position (Opens subject) = position ≡ opening
+IsOfSession session opening position (Admits other ordinal work) = other ≡ session
+IsOfSession session opening position (Starts n) = Unit {0}
+IsOfSession session opening position (Ends n) = Unit {0}
+IsOfSession session opening position (Loses n) = Unit {0}
 
--- the pass opened the session since `before`, and spoke for no other one
+-- the pass opened the session since `before`, and made no event but those of this session: it opened and spoke for no other one
 pub record IsOwn (before after : PassView) (session : ℕ) : Type 0 where
   pub opened : HasOpened before after session
-  pub mine : AreOf (drop (length before.own) after.own) session after.seen
+  pub mine : Adds (IsOfSession session (length opened.1.front)) before after
+
+-- what the pass has gained since `before` is nothing, or the events of one session alone
+abbrev pub AddsOneSession : (before after : PassView) → Type 0
+AddsOneSession before after = (after.own ≡ before.own) ⊎ ((session : ℕ) × IsOwn before after session)
 
 -- The pass spoke for no session but one that it opened itself: it owns what it owned, each position that it has gained since `before` is
 -- one that it has seen, and a line there is of a session that was opened at one of them.
@@ -117,16 +124,15 @@ pub record IsCourse (names : KnownNames) (first pass : PassView) (course : Cours
   pub more : List Request
   pub opened : told ≡ request.Opens subject ∷ more
   pub opening : IsOpenedAt gained pass course.session subject
-  pub mine : AreOf gained course.session pass.seen
   pub subject_is : (session_at (state_seen pass) course.session).subject ≡ subject
   pub works : List (ℕ × Work)
   pub admits : AreAdmitted (state_seen pass) course.last (asked_in told) works
   pub covers : IsCovered course.upto told
   pub answered : names ≡ pass.gate.base.setup.names → StandAt gained course.session pass.seen → IsAnswered pass course.session course.upto works course.replies
 
--- What a session does to a pass while it keeps quiet: the pass follows what it was and admits no line, and where what it had seen was a
+-- What a session does to a pass while it keeps quiet: the pass follows what it was and takes turns alone, and where what it had seen was a
 -- trail it is one still.
 pub record KeepsQuiet (before after : PassView) : Type 0 where
   pub follows : Follows before after
-  pub lines : AdmitsNoLine before after
+  pub adds : AddsTurnsAlone before after
   pub trail : HasTrail (hall_seen before) → HasTrail (hall_seen after)

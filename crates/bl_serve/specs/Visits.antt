@@ -31,11 +31,11 @@ pub record IsSilent (first : PassView) (visit : Visit) (replies : List Reply) (t
 abbrev pub course_of : KnownNames → Visit → List Reply → ℕ → Course
 course_of names visit replies session = record { session = session; last = visit.last; upto = visit.upto; replies = told_text names replies }
 
--- without a session nothing was told, and with one this was told of it
+-- without a session nothing was told; with one this was told of it, and the pass has made no event but those of this session
 abbrev pub HasTold : GateId → PassView → Visit → List Reply → Option ℕ → List Request → Type 0
 HasTold gate first visit replies None told = IsSilent first visit replies told
 HasTold gate first visit replies (Some session) told =
-    IsCourse gate.base.setup.names first visit.pass (course_of gate.base.setup.names visit replies session) told
+    IsOwn first visit.pass session × IsCourse gate.base.setup.names first visit.pass (course_of gate.base.setup.names visit replies session) told
 
 -- what was told to the gate, and by it, brought the visit here
 pub record HasCome (gate : GateId) (first : PassView) (visit : Visit) (replies : List Reply) (told : List Request) : Type 0 where

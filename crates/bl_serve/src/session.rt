@@ -4,7 +4,7 @@ ghost use Rattle.bl_gate.specs.Gates.{Follows};
 ghost use Rattle.bl_wire.specs.Watch.{used};
 ghost use Rattle.bl_wire.specs.declared.fault.SessionFault.TheVariants.{Clash};
 ghost use Rattle.bl_serve.specs.Outcome.{IsServed, IsCutShort};
-ghost use Rattle.bl_serve.specs.Courses.{SpeaksForItsOwn};
+ghost use Rattle.bl_serve.specs.Courses.{AddsOneSession, SpeaksForItsOwn};
 ghost use Rattle.bl_serve.specs.Visits.{IsSpokenFor};
 
 use crate::talk::converse;
@@ -31,7 +31,7 @@ use std::sync::Wait;
 ///
 /// What is written is a transcript of the lines that were read, by all that the pass has seen at the end, where no other pass spoke for the
 /// session; and then `Clash` does not come. After a fault it begins one of the lines that were heard: all that were read, but perhaps
-/// the last. The pass spoke for no other session than its own.
+/// the last. The pass makes no event but its session's: it opens and speaks for no other one.
 pub fn serve<R: BufRead, W: Write, T: Wait>(
     rt: &T,
     alloc: Global,
@@ -45,6 +45,7 @@ pub fn serve<R: BufRead, W: Write, T: Wait>(
     requires reader { reader.old.failed ≡ false }
     requires writer { writer.old.failed ≡ false }
     ensures follows { Follows pass result.0 }
+    ensures events { AddsOneSession pass result.0 }
     ensures lines { SpeaksForItsOwn pass result.0 }
     ensures ok { OnOk result.1 (IsServed gate.now.base.setup.names pass result.0 (used R.remaining reader.old reader.new) (used W.contents writer.old writer.new)) }
     ensures fine { OnOk result.1 ((reader.new.failed ≡ false) × (writer.new.failed ≡ false) × (writer.new.unflushed ≡ false)) }
@@ -69,6 +70,7 @@ pub fn serve_with<R: BufRead, W: Write, P: Pause, T: Wait>(
     requires reader { reader.old.failed ≡ false }
     requires writer { writer.old.failed ≡ false }
     ensures follows { Follows pass result.0 }
+    ensures events { AddsOneSession pass result.0 }
     ensures lines { SpeaksForItsOwn pass result.0 }
     ensures ok { OnOk result.1 (IsServed gate.now.base.setup.names pass result.0 (used R.remaining reader.old reader.new) (used W.contents writer.old writer.new)) }
     ensures fine { OnOk result.1 ((reader.new.failed ≡ false) × (writer.new.failed ≡ false) × (writer.new.unflushed ≡ false)) }

@@ -2,7 +2,7 @@ use Rattle.std.proofs.Common.{sym, ap, subst, ◌∙◌}
 use Rattle.bl_gate.specs.Gates.{PassView}
 use Rattle.bl_serve.specs.Courses.{IsOwn, SpeaksAlone}
 use Rattle.bl_serve.proofs.Coming.{come_first}
-use Rattle.bl_serve.proofs.OutcomeLaws.{served, served_speaks, cut_short, cut_speaks}
+use Rattle.bl_serve.proofs.OutcomeLaws.{cut_adds, cut_short, served, served_adds, speaks}
 use Rattle.bl_serve.proofs.session.serve_with.Goals as goal
 
 pub converse-requires-clause-come : goal.converse-requires-clause-come
@@ -29,16 +29,22 @@ returns-clause-clash g c = λ e.
     let h = c.in-Err.ensures.clash e in
     (h.0, subst (λ (p : PassView). IsOwn p c.converse.new.visit.pass h.0) c.of.ensures h.1, λ alone. h.2 (subst (λ (p : PassView). SpeaksAlone p c.converse.new.visit.pass h.0) (sym c.of.ensures) alone))
 
-pub returns-in-Ok-clause-lines : goal.returns-in-Ok-clause-lines
-returns-in-Ok-clause-lines g c =
+pub returns-in-Ok-clause-events : goal.returns-in-Ok-clause-events
+returns-in-Ok-clause-events g c =
     let R = g.R.Read.remaining in
     let W = g.W.Write.contents in
-    served_speaks c.args.gate.now c.of.result.value c.args.pass c.converse.new.visit (R c.args.reader.now.inner) (R c.converse.new.reader.inner)
+    served_adds c.args.gate.now c.of.result.value c.args.pass c.converse.new.visit (R c.args.reader.now.inner) (R c.converse.new.reader.inner)
     (W c.args.writer.now.inner) (W c.converse.new.writer.inner) c.converse.new.reader.failed c.converse.new.writer.failed c.of.ensures c.in-Ok.ensures.ok
 
-pub returns-clause-lines : goal.returns-clause-lines
-returns-clause-lines g c =
+pub returns-in-Ok-clause-lines : goal.returns-in-Ok-clause-lines
+returns-in-Ok-clause-lines g c = speaks c.args.pass c.converse.new.visit.pass (returns-in-Ok-clause-events g c)
+
+pub returns-clause-events : goal.returns-clause-events
+returns-clause-events g c =
     let R = g.R.Read.remaining in
     let W = g.W.Write.contents in
-    cut_speaks c.args.gate.now c.of.result.value c.args.pass c.converse.new.visit (R c.args.reader.now.inner) (R c.converse.new.reader.inner)
+    cut_adds c.args.gate.now c.of.result.value c.args.pass c.converse.new.visit (R c.args.reader.now.inner) (R c.converse.new.reader.inner)
     (W c.args.writer.now.inner) (W c.converse.new.writer.inner) c.converse.new.reader.failed c.converse.new.writer.failed c.of.ensures c.in-Err.fault c.in-Err.ensures.err
+
+pub returns-clause-lines : goal.returns-clause-lines
+returns-clause-lines g c = speaks c.args.pass c.converse.new.visit.pass (returns-clause-events g c)

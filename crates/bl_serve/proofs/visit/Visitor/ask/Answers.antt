@@ -4,7 +4,7 @@ use Rattle.bl_gate.specs.Gates.{state_seen}
 use Rattle.bl_engine.specs.declared.request.Request.TheVariants as request
 use Rattle.bl_serve.proofs.Coming.{come_asked, come_full, come_no_more, come_quiet, not_full, own_here, spoken_for}
 use Rattle.bl_serve.proofs.Quiet.{quiet_once}
-use Rattle.bl_worker.proofs.Admitting.{admits_itself}
+use Rattle.bl_worker.proofs.Adding.{adds_itself}
 use Rattle.bl_serve.proofs.visit.Visitor.ask.Goals as goal
 
 pub returns-in-Ok-clause-come : goal.returns-in-Ok-clause-come
@@ -22,7 +22,7 @@ returns-in-Full-clause-come g c = λ replies told came.
 pub returns-clause-kept : goal.returns-clause-kept
 returns-clause-kept g c = λ replies told came.
     come_quiet c.args.self.now.gate.now c.args.self.now.first.value c.args.visit.now replies c.in-Some.session c.in-Some.is told came _
-    (quiet_once c.args.visit.now.pass c.line.new.pass c.line.ensures.follows (admits_itself c.args.visit.now.pass c.line.new.pass c.in-Err.ensures.err.0) c.line.ensures.trail) refl refl refl
+    (quiet_once c.args.visit.now.pass c.line.new.pass c.line.ensures.follows (adds_itself _ c.args.visit.now.pass c.line.new.pass c.in-Err.ensures.err.0) c.line.ensures.trail) refl refl refl
 
 pub returns-clause-why : goal.returns-clause-why
 returns-clause-why g c =

@@ -2,7 +2,7 @@ use Rattle.std.proofs.Common.{rules, ◌<◌, length, subst, arith}
 use Rattle.bl_hall.specs.Told.{IsUnanswered}
 use Rattle.bl_gate.specs.Gates.{state_seen}
 use Rattle.bl_serve.proofs.Going.{kept_session}
-use Rattle.bl_worker.proofs.Admitting.{admits_itself}
+use Rattle.bl_worker.proofs.Adding.{adds_alone, adds_itself}
 use Rattle.bl_serve.specs.Courses.{KeepsQuiet}
 use Rattle.bl_serve.proofs.Quiet.{quiet_once, quiet_then}
 use Rattle.bl_serve.proofs.visit.Visitor.hear.Goals as goal
@@ -10,7 +10,7 @@ use Rattle.bl_serve.proofs.visit.Visitor.hear.Goals as goal
 pub returns-in-Ok-Some-clause-quiet : goal.returns-in-Ok-Some-clause-quiet
 returns-in-Ok-Some-clause-quiet g c =
     quiet_then c.args.pass.now c.loop.pass c.answers.new.pass c.loop.invariant.2
-    (quiet_once c.loop.pass c.answers.new.pass c.answers.ensures.follows (admits_itself c.loop.pass c.answers.new.pass c.answers.ensures.own) c.answers.ensures.trail)
+    (quiet_once c.loop.pass c.answers.new.pass c.answers.ensures.follows (adds_itself _ c.loop.pass c.answers.new.pass c.answers.ensures.own) c.answers.ensures.trail)
 
 pub returns-in-Ok-Some-clause-told : goal.returns-in-Ok-Some-clause-told
 returns-in-Ok-Some-clause-told g c = search rules
@@ -20,7 +20,7 @@ pub unreachable-requires : goal.unreachable-requires
 unreachable-requires g c =
     let heard : KeepsQuiet c.args.pass.now c.answers.new.pass =
     quiet_then c.args.pass.now c.loop.pass c.answers.new.pass c.loop.invariant.2
-    (quiet_once c.loop.pass c.answers.new.pass c.answers.ensures.follows (admits_itself c.loop.pass c.answers.new.pass c.answers.ensures.own) c.answers.ensures.trail)
+    (quiet_once c.loop.pass c.answers.new.pass c.answers.ensures.follows (adds_itself _ c.loop.pass c.answers.new.pass c.answers.ensures.own) c.answers.ensures.trail)
     in
     let there : c.args.session < length (state_seen c.answers.new.pass).sessions = (kept_session c.args.pass.now c.answers.new.pass heard.follows c.answers.ensures.trail c.args.session c.requires.open).there in
     let closed = subst (IsUnanswered (state_seen c.answers.new.pass) c.args.session) c.in-Err-Session.field-0-is c.in-Err-Session.ensures.fault in
@@ -30,27 +30,27 @@ pub loop-preserved-then-not-tell : goal.loop-preserved-then-not-tell
 loop-preserved-then-not-tell g c =
     let heard : KeepsQuiet c.args.pass.now c.answers.new.pass =
     quiet_then c.args.pass.now c.loop.pass c.answers.new.pass c.loop.invariant.2
-    (quiet_once c.loop.pass c.answers.new.pass c.answers.ensures.follows (admits_itself c.loop.pass c.answers.new.pass c.answers.ensures.own) c.answers.ensures.trail)
+    (quiet_once c.loop.pass c.answers.new.pass c.answers.ensures.follows (adds_itself _ c.loop.pass c.answers.new.pass c.answers.ensures.own) c.answers.ensures.trail)
     in (
       tt,
       tt,
       quiet_then c.args.pass.now c.answers.new.pass c.work_once-turn.new.pass heard
-          (quiet_once c.answers.new.pass c.work_once-turn.new.pass c.work_once-turn.ensures.follows c.work_once-turn.ensures.lines c.work_once-turn.ensures.trail),
+          (quiet_once c.answers.new.pass c.work_once-turn.new.pass c.work_once-turn.ensures.follows (adds_alone _ c.answers.new.pass c.work_once-turn.new.pass c.work_once-turn.ensures.adds) c.work_once-turn.ensures.trail),
     )
 
 pub loop-preserved : goal.loop-preserved
 loop-preserved g c =
     let heard : KeepsQuiet c.args.pass.now c.answers.new.pass =
     quiet_then c.args.pass.now c.loop.pass c.answers.new.pass c.loop.invariant.2
-    (quiet_once c.loop.pass c.answers.new.pass c.answers.ensures.follows (admits_itself c.loop.pass c.answers.new.pass c.answers.ensures.own) c.answers.ensures.trail)
+    (quiet_once c.loop.pass c.answers.new.pass c.answers.ensures.follows (adds_itself _ c.loop.pass c.answers.new.pass c.answers.ensures.own) c.answers.ensures.trail)
     in (
       tt,
       tt,
       quiet_then c.args.pass.now c.answers.new.pass c.work_once-turn.new.pass heard
-          (quiet_once c.answers.new.pass c.work_once-turn.new.pass c.work_once-turn.ensures.follows c.work_once-turn.ensures.lines c.work_once-turn.ensures.trail),
+          (quiet_once c.answers.new.pass c.work_once-turn.new.pass c.work_once-turn.ensures.follows (adds_alone _ c.answers.new.pass c.work_once-turn.new.pass c.work_once-turn.ensures.adds) c.work_once-turn.ensures.trail),
     )
 
 pub returns-in-Err-Memory-clause-quiet : goal.returns-in-Err-Memory-clause-quiet
 returns-in-Err-Memory-clause-quiet g c =
     quiet_then c.args.pass.now c.loop.pass c.answers.new.pass c.loop.invariant.2
-    (quiet_once c.loop.pass c.answers.new.pass c.answers.ensures.follows (admits_itself c.loop.pass c.answers.new.pass c.answers.ensures.own) c.answers.ensures.trail)
+    (quiet_once c.loop.pass c.answers.new.pass c.answers.ensures.follows (adds_itself _ c.loop.pass c.answers.new.pass c.answers.ensures.own) c.answers.ensures.trail)
