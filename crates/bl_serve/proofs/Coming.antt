@@ -15,14 +15,13 @@ use Rattle.bl_hall.specs.Told.{AreAnswers, reply_of}
 use Rattle.bl_hall.specs.declared.reply.Reply as owned
 use Rattle.bl_gate.specs.Gates.{GateId, PassView, Calls, Follows, hall_seen, state_seen}
 use Rattle.bl_gate.proofs.Following.{base_stays, follows_itself, follows_then}
-use Rattle.bl_worker.specs.Turns.{IsNoLine}
-use Rattle.bl_worker.proofs.Adding.{adds_itself, adds_no_line}
+use Rattle.bl_worker.proofs.Adding.{adds_itself}
 use Rattle.bl_wire.specs.Replies.{line_or_full, line_text}
 use Rattle.bl_engine.specs.declared.request.Request.TheVariants as request
 use Rattle.bl_engine.specs.declared.request.Request.{Request}
 use Rattle.bl_engine.specs.Requests.{SameUpTo}
 use Rattle.bl_session.proofs.RunLaws.{setup_after}
-use Rattle.bl_serve.specs.Courses.{IsOwn, IsCourse, KeepsQuiet, SpeaksAlone, Course}
+use Rattle.bl_serve.specs.Courses.{IsNoLineOf, IsOwn, IsCourse, KeepsQuiet, SpeaksAlone, Course}
 use Rattle.bl_serve.specs.Told.{line_of, told_text, IsTold}
 use Rattle.bl_serve.specs.Visits.{HasCome, HasTold, IsOf, IsSilent, course_of}
 use Rattle.bl_serve.specs.declared.visit.Visit.{Visit}
@@ -30,32 +29,13 @@ use Rattle.bl_serve.proofs.Opened.{last_low}
 use Rattle.bl_serve.proofs.Going.{block_text, course_asked, course_full, course_on, course_opened, course_settled}
 use Rattle.bl_serve.proofs.Telling.{GoByLines}
 use Rattle.bl_serve.proofs.ToldLaws.{text_new, text_stays, told_on}
-use Rattle.bl_serve.proofs.Owning.{own_first, own_line, own_opened, own_then, own_turns}
+use Rattle.bl_serve.proofs.Owning.{own_first, own_line, own_opened, own_then, own_turns, turns_no_line_of}
 use Rattle.bl_serve.proofs.Transcribing.{heard}
 
 -- what holds whatever a call gave holds where it gave an error
 pub on_err : {A E P : Type 0} (r : Result A E) → P → OnErr r P
 on_err (Ok x) p = tt
 on_err (Err e) p = p
-
--- a course since a pass that owned as much
-from_first : (names : KnownNames) (first p q : PassView) (course : Course) (told : List Request) → p.own ≡ first.own → IsCourse names p q course told → IsCourse names first q course told
-from_first names first p q course told same t = record {
-  gained = t.gained;
-  own = t.own ∙ ap (λ l. l ++ t.gained) same;
-  within = t.within;
-  trail = t.trail;
-  there = t.there;
-  subject = t.subject;
-  more = t.more;
-  opened = t.opened;
-  opening = t.opening;
-  subject_is = t.subject_is;
-  works = t.works;
-  admits = t.admits;
-  covers = t.covers;
-  answered = t.answered;
-}
 
 -- a visit that has just begun
 pub come_first : (gate : GateId) (first : PassView) (visit : Visit) → Agree gate.base.setup → visit.pass.gate ≡ gate → first ≡ visit.pass → visit.session ≡ None → visit.last ≡ 0 → visit.upto ≡ 0 → HasCome gate first visit [] []
@@ -121,10 +101,10 @@ module _ (gate : GateId) (first : PassView) (old : Visit) (replies : List owned.
         own = of_later new c.own follows upto (subst (λ n. old.upto ≤ n) (sym last) c.own.within);
         course = subst (λ o. HasTold gate first new replies o (request.Opens u ∷ [])) (sym session) (
           own_first first old.pass new.pass s quiet.own (own_opened old.pass new.pass s u (base_stays old.pass new.pass follows) call),
-          from_first gate.base.setup.names first old.pass new.pass (course_of gate.base.setup.names new replies s) (request.Opens u ∷ []) quiet.own
-              (subst (λ t. IsCourse gate.base.setup.names old.pass new.pass t (request.Opens u ∷ []))
+          subst (λ t. IsCourse gate.base.setup.names first new.pass t (request.Opens u ∷ []))
               (λ i. record { session = s; last = sym (last ∙ quiet.last) i; upto = sym (upto ∙ zero_upto) i; replies = told_text gate.base.setup.names replies })
-              (course_opened gate.base.setup.names old.pass new.pass s u (told_text gate.base.setup.names replies) legal (base_stays old.pass new.pass follows) call (ap (λ l. told_text gate.base.setup.names l 0) quiet.quiet))),
+              (course_opened gate.base.setup.names first old.pass new.pass [] (quiet.own ∙ sym (append-nil first.own)) (λ i some. absurd (omega (arith, some)))
+              s u (told_text gate.base.setup.names replies) legal (base_stays old.pass new.pass follows) call (ap (λ l. told_text gate.base.setup.names l 0) quiet.quiet)),
         );
       }
 
@@ -147,7 +127,7 @@ module _ (gate : GateId) (first : PassView) (old : Visit) (replies : List owned.
         own_turns first old.pass new.pass s own_is quiet.follows quiet.adds,
         subst (λ t. IsCourse gate.base.setup.names first new.pass t told)
             (λ i. record { session = s; last = sym last i; upto = sym upto i; replies = told_text gate.base.setup.names replies })
-            (course_on old.pass new.pass quiet.follows (quiet.trail course_is.trail) gate.base.setup.names first (course_of gate.base.setup.names old replies s) told course_is (adds_no_line (λ n. Unit {0}) old.pass new.pass quiet.adds)),
+            (course_on old.pass new.pass quiet.follows (quiet.trail course_is.trail) gate.base.setup.names first (course_of gate.base.setup.names old replies s) told course_is (turns_no_line_of s old.pass new.pass quiet.adds)),
       );
     }
 
@@ -171,7 +151,7 @@ module _ (gate : GateId) (first : PassView) (old : Visit) (replies : List owned.
       -- a line was refused
       module _ (own : new.pass.own ≡ old.pass.own) where
         after_quiet : IsCourse gate.base.setup.names first new.pass (course_of gate.base.setup.names old replies s) told
-        after_quiet = course_on old.pass new.pass follows legal gate.base.setup.names first (course_of gate.base.setup.names old replies s) told course_is (adds_itself (λ _. IsNoLine) old.pass new.pass own)
+        after_quiet = course_on old.pass new.pass follows legal gate.base.setup.names first (course_of gate.base.setup.names old replies s) told course_is (adds_itself (λ _. IsNoLineOf s) old.pass new.pass own)
 
         -- the session is the pass's own still
         pub own_here : IsOwn first new.pass s
@@ -228,7 +208,7 @@ module _ (gate : GateId) (first : PassView) (old : Visit) (replies : List owned.
     }
       where
         after_quiet : IsCourse gate.base.setup.names first new.pass (course_of gate.base.setup.names old replies s) told
-        after_quiet = course_on old.pass new.pass quiet.follows legal gate.base.setup.names first (course_of gate.base.setup.names old replies s) told course_is (adds_no_line (λ n. Unit {0}) old.pass new.pass quiet.adds)
+        after_quiet = course_on old.pass new.pass quiet.follows legal gate.base.setup.names first (course_of gate.base.setup.names old replies s) told course_is (turns_no_line_of s old.pass new.pass quiet.adds)
 
         below_or_not : (a b : ℕ) → (a ≤ b) ⊎ (b < a)
         below_or_not a b = grind arith

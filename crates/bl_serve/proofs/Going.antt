@@ -1,8 +1,8 @@
 -- How a course goes on with what its pass sees: while it only quiet, where a line of it is admitted or refused, and where it is answered.
 use Rattle.std.proofs.Common.{◌≡◌, ℕ, ◌+◌, ◌<◌, ◌≤◌, ◌⊎◌, inl, inr, Bool, true, false, true≢false, cond, List, [], ◌∷◌, ◌++◌, length, map, refl, sym, ap, subst, ◌∙◌, arith, append-nil, append_assoc, length-append, Some, slice_index_or, drop}
-use Rattle.std.specs.Prelude.{All, ◌==◌, slice_get}
+use Rattle.std.specs.Prelude.{All, Contains, ◌==◌, slice_get}
 use Rattle.std.proofs.Math.Seq.{get_or-append_seam}
-use Rattle.std.proofs.lemmas.List.Elements.{All-nil, All-cons, All-weaker}
+use Rattle.std.proofs.lemmas.List.Elements.{All-nil, All-cons, All-weaker, Contains-append_left, Contains-push}
 use Rattle.std.proofs.lemmas.Bool.Decides.{eqb_tells, nat_tests}
 use Rattle.bl_work.specs.Names.{KnownNames}
 use Rattle.bl_work.specs.declared.work.Work.{Work}
@@ -19,7 +19,6 @@ use Rattle.bl_gate.specs.Gates.{PassView, Calls, Follows, hall_seen, hall_with, 
 use Rattle.bl_gate.proofs.Following.{base_stays}
 use Rattle.bl_gate.proofs.Totals.{times-append}
 use Rattle.bl_gate.proofs.Trails.{begins_length, begins_more, get_later, get_sooner}
-use Rattle.bl_worker.specs.Turns.{AdmitsNoLine}
 use Rattle.bl_gate.proofs.Passing.{after_parts, trail_front, trail_back}
 use Rattle.bl_worker.proofs.Settling.{call_inside, call_there, one_place}
 use Rattle.bl_gate.proofs.Halls.{sound_at}
@@ -30,11 +29,11 @@ use Rattle.bl_engine.specs.Requests.{SameUpTo}
 use Rattle.bl_session.specs.Transcripts.{admitted}
 use Rattle.bl_session.proofs.TranscriptLaws.{KeepsSession, KeepsWeight, admitted-append, sessions_kept, weights_kept}
 use Rattle.bl_serve.specs.Told.{line_of}
-use Rattle.bl_serve.specs.Courses.{AreAdmitted, HasNoSettles, IsCovered, IsAnswered, IsOpenedAt, IsOverUpTo, IsCourse, StandAt, Course, asked_in}
+use Rattle.bl_serve.specs.Courses.{AdmitsNoLineOf, AreAdmitted, HasNoSettles, HaveWorks, IsCovered, IsAnswered, IsOpenedAt, IsOverUpTo, IsCourse, StandAt, Course, asked_in}
 use Rattle.bl_serve.proofs.Admitted.{admitted_none, admitted_later, admitted_upto, admitted_one, admitted_full, asked_more}
 use Rattle.bl_serve.proofs.Alone.{either, get_inside, stood, none_came}
-use Rattle.bl_serve.proofs.Owning.{more_times, once}
-use Rattle.bl_serve.proofs.Opened.{AreBelow, all_below, none_unopened}
+use Rattle.bl_serve.proofs.Owning.{more_times, once, times_after}
+use Rattle.bl_serve.proofs.Opened.{AreBelow, all_below, line_open, none_unopened}
 use Rattle.bl_serve.proofs.Staying.{IsBehind, Stays, answers_stay, over_stays, replies_other, stays}
 use Rattle.bl_serve.proofs.Telling.{GoByLines, line_is}
 
@@ -67,7 +66,7 @@ covers_settled upto last told le low = record {
 
 -- ---- where the session was opened
 
-opening_on : (p q : PassView) (g h : List ℕ) (session u : ℕ) → Follows p q → IsOpenedAt g p session u → IsOpenedAt (g ++ h) q session u
+pub opening_on : (p q : PassView) (g h : List ℕ) (session u : ℕ) → Follows p q → IsOpenedAt g p session u → IsOpenedAt (g ++ h) q session u
 opening_on p q g h session u follows o = record {
   front = o.front;
   there = begins_more q.seen p.seen (o.front ++ Opens u ∷ []) follows.seen o.there;
@@ -128,6 +127,11 @@ module _ (p q : PassView) (follows : Follows p q) (legal : HasTrail (hall_seen q
       s = subst (Stays (state_seen p) session upto) (sym state_is)
           (stays (state_seen p) rest session upto sound trail_rest h.over (subst (All (IsBehind upto)) (sym are) above))
 
+  -- the works of lines at positions that the pass had
+  mine_on : (session : ℕ) (works : List (ℕ × Work)) (g : List ℕ) → HaveWorks g session p.seen works → ((i : ℕ) → 1 ≤ times i g → i < length p.seen)
+      → (i k : ℕ) (w : Work) → 1 ≤ times i g → slice_get q.seen i ≡ Some (Admits session k w) → Contains works (k, w)
+  mine_on session works g mine within i k w some at = mine i k w some (sym (get_sooner q.seen p.seen i follows.seen (within i some)) ∙ at)
+
   module _ (names : KnownNames) (first : PassView) (course : Course) (told : List Request) (t : IsCourse names first p course told) where
     names_then : names ≡ q.gate.base.setup.names → names ≡ p.gate.base.setup.names
     names_then e = e ∙ ap (λ (h : Chronicle). h.setup.names) (base_stays p q follows)
@@ -136,7 +140,7 @@ module _ (p q : PassView) (follows : Follows p q) (legal : HasTrail (hall_seen q
     length_on = begins_length q.seen p.seen follows.seen
 
     -- no line of it was admitted
-    pub course_on : AdmitsNoLine p q → IsCourse names first q course told
+    pub course_on : AdmitsNoLineOf course.session p q → IsCourse names first q course told
     course_on none = record {
       gained = t.gained ++ none.gained;
       own = none.own ∙ (ap (λ l. l ++ none.gained) t.own ∙ append_assoc first.own t.gained none.gained);
@@ -149,12 +153,13 @@ module _ (p q : PassView) (follows : Follows p q) (legal : HasTrail (hall_seen q
       opening = opening_on p q t.gained none.gained course.session t.subject follows t.opening;
       subject_is = (kept_session course.session t.there).subject ∙ t.subject_is;
       works = t.works;
+      mine = λ i k w some at. mine i k w (either i t.gained none.gained some) at;
       admits = admitted_later (state_seen p) (state_seen q) course.last (asked_in told) t.works kept_weight.limit kept_weight.weight t.admits;
       covers = t.covers;
       answered = λ is alone.
           let a : StandAt (t.gained ++ none.gained) course.session (p.seen ++ rest) = subst (StandAt (t.gained ++ none.gained) course.session) follows.seen.1 alone in
           let n : (i k : ℕ) (w : Work) → slice_get (p.seen ++ rest) i ≡ Some (Admits course.session k w) → 1 ≤ times i none.gained → ⊥ =
-          λ i k w at new. none.events i (Admits course.session k w) new (ap (λ (l : List Event). slice_get l i) follows.seen.1 ∙ at) in
+          λ i k w at new. none.events i (Admits course.session k w) new (ap (λ (l : List Event). slice_get l i) follows.seen.1 ∙ at) refl in
           subst (λ l. IsAnswered q course.session course.upto l course.replies) (append-nil t.works)
           (heard_on course.session course.upto t.works [] course.replies (t.answered (names_then is) (stood course.session t.gained none.gained p.seen rest a n t.within))
           (none_came course.session t.gained none.gained p.seen rest a n t.within) (All-nil (IsBehind course.upto)));
@@ -163,6 +168,10 @@ module _ (p q : PassView) (follows : Follows p q) (legal : HasTrail (hall_seen q
         within : (i : ℕ) → (1 ≤ times i t.gained) ⊎ (1 ≤ times i none.gained) → i < length q.seen
         within i (inl old) = omega (arith, t.within i old, length_on)
         within i (inr new) = none.within i new
+
+        mine : (i k : ℕ) (w : Work) → (1 ≤ times i t.gained) ⊎ (1 ≤ times i none.gained) → slice_get q.seen i ≡ Some (Admits course.session k w) → Contains t.works (k, w)
+        mine i k w (inl old) at = mine_on course.session t.works t.gained t.mine t.within i k w old at
+        mine i k w (inr new) at = absurd (none.events i (Admits course.session k w) new at refl)
 
     -- a line of it was admitted
     module _ (k : ℕ) (w : Work) (A : State → Type 0) (lt : course.last < k) (le : course.upto ≤ course.last) (call : Calls p (Admits course.session k w) A q) where
@@ -208,6 +217,7 @@ module _ (p q : PassView) (follows : Follows p q) (legal : HasTrail (hall_seen q
         opening = opening_on p q t.gained (length call.trail ∷ []) course.session t.subject follows t.opening;
         subject_is = (kept_session course.session t.there).subject ∙ t.subject_is;
         works = t.works ++ one;
+        mine = λ i j v some at. mine i j v (either i t.gained (length call.trail ∷ []) some) at;
         admits = subst (λ l. AreAdmitted (state_seen q) k l (t.works ++ one)) (sym (asked_more told (request.Admits k w ∷ [])))
             (admitted_one (state_seen p) (state_seen q) course.last (asked_in told) t.works kept_weight.limit kept_weight.weight t.admits k w lt);
         covers = covers_asked course.upto told k w t.covers;
@@ -222,6 +232,15 @@ module _ (p q : PassView) (follows : Follows p q) (legal : HasTrail (hall_seen q
           within : (i : ℕ) → (1 ≤ times i t.gained) ⊎ (1 ≤ times i (length call.trail ∷ [])) → i < length q.seen
           within i (inl old) = omega (arith, t.within i old, length_on)
           within i (inr new) = let l = call_inside p q event A call in let e = one_place i (length call.trail) new in omega (arith, l, e)
+
+          same_work : (j : ℕ) (v : Work) → Some event ≡ Some (Admits course.session j v) → ◌≡◌ {A = ℕ × Work} (k, w) (j, v)
+          same_work j v same = let h : event ≡ Admits course.session j v = cc in let hk : k ≡ j = cc in let hw : w ≡ v = cc in λ i. (hk i, hw i)
+
+          mine : (i j : ℕ) (v : Work) → (1 ≤ times i t.gained) ⊎ (1 ≤ times i (length call.trail ∷ [])) → slice_get q.seen i ≡ Some (Admits course.session j v) → Contains (t.works ++ one) (j, v)
+          mine i j v (inl old) at = Contains-append_left t.works one (j, v) (mine_on course.session t.works t.gained t.mine t.within i j v old at)
+          mine i j v (inr new) at =
+              let same = same_work j v (sym (call_there p q event A call) ∙ (ap (slice_get q.seen) (sym (one_place i (length call.trail) new)) ∙ at)) in
+              subst (λ (a : ℕ × Work). Contains (t.works ++ one) a) same (Contains-push t.works (k, w))
 
           same_rest : (xs a b : List Event) → xs ++ a ≡ xs ++ b → a ≡ b
           same_rest [] a b e = e
@@ -245,6 +264,7 @@ module _ (names : KnownNames) (first q : PassView) (course : Course) (told : Lis
     opening = t.opening;
     subject_is = t.subject_is;
     works = t.works;
+    mine = t.mine;
     admits = subst (λ l. AreAdmitted (state_seen q) k l t.works) (sym (asked_more told (request.Admits k w ∷ [])))
         (admitted_full (state_seen q) (state_seen q) course.last (asked_in told) t.works refl (omega arith) t.admits k w lt over);
     covers = covers_asked course.upto told k w t.covers;
@@ -267,6 +287,7 @@ module _ (names : KnownNames) (first q : PassView) (course : Course) (told : Lis
     opening = t.opening;
     subject_is = t.subject_is;
     works = t.works;
+    mine = t.mine;
     admits = subst (λ l. AreAdmitted (state_seen q) ordinal l t.works) (sym (asked_more told (request.Settles ∷ []) ∙ append-nil (asked_in told)))
         (admitted_upto (state_seen q) (state_seen q) course.last (asked_in told) t.works refl (omega arith) t.admits ordinal le);
     covers = covers_settled ordinal course.last told le t.admits.asked_low;
@@ -284,22 +305,24 @@ module _ (names : KnownNames) (first q : PassView) (course : Course) (told : Lis
 
 -- ---- the opening
 
-module _ (names : KnownNames) (first q : PassView) (session u : ℕ) (replies : ℕ → List ℕ) (legal : HasTrail (hall_seen q)) (base : q.gate.base ≡ first.gate.base)
-    (call : Calls first (Opens u) (λ x. session ≡ length x.sessions) q) (quiet : replies 0 ≡ line_or_full names 0 []) where
+-- where a pass has gained something since `first`, which stands within what it has seen
+module _ (names : KnownNames) (first p q : PassView) (g : List ℕ) (since : p.own ≡ first.own ++ g) (inside : (i : ℕ) → 1 ≤ times i g → i < length p.seen)
+    (session u : ℕ) (replies : ℕ → List ℕ) (legal : HasTrail (hall_seen q)) (base : q.gate.base ≡ p.gate.base)
+    (call : Calls p (Opens u) (λ x. session ≡ length x.sessions) q) (quiet : replies 0 ≡ line_or_full names 0 []) where
   abbrev before : State
-  before = state_now (hall_with first.gate.base call.trail)
+  before = state_now (hall_with p.gate.base call.trail)
 
-  hall_then : hall_seen q ≡ hall_with first.gate.base (call.trail ++ Opens u ∷ [])
+  hall_then : hall_seen q ≡ hall_with p.gate.base (call.trail ++ Opens u ∷ [])
   hall_then = λ i. hall_with (base i) (call.seen i)
 
   state_then : state_seen q ≡ change before (Opens u)
-  state_then = ap state_now hall_then ∙ after_parts (start first.gate.base.setup first.gate.base.limit) call.trail (Opens u ∷ [])
+  state_then = ap state_now hall_then ∙ after_parts (start p.gate.base.setup p.gate.base.limit) call.trail (Opens u ∷ [])
 
-  trail_before : IsTrail (start first.gate.base.setup first.gate.base.limit) call.trail
-  trail_before = trail_front (start first.gate.base.setup first.gate.base.limit) call.trail (Opens u ∷ []) (subst HasTrail hall_then legal)
+  trail_before : IsTrail (start p.gate.base.setup p.gate.base.limit) call.trail
+  trail_before = trail_front (start p.gate.base.setup p.gate.base.limit) call.trail (Opens u ∷ []) (subst HasTrail hall_then legal)
 
   below : AreBelow (length before.sessions) before.order
-  below = all_below (start first.gate.base.setup first.gate.base.limit) call.trail (sound-start first.gate.base.setup first.gate.base.limit) trail_before (λ p lt. absurd (omega (arith, lt)))
+  below = all_below (start p.gate.base.setup p.gate.base.limit) call.trail (sound-start p.gate.base.setup p.gate.base.limit) trail_before (λ p lt. absurd (omega (arith, lt)))
 
   not_mine : (p : ℕ) → p < length before.order → (tag before.order p).session ≡ session → ⊥
   not_mine p lt own = let b = below p lt in omega (arith, b, own, call.answered)
@@ -312,9 +335,9 @@ module _ (names : KnownNames) (first q : PassView) (session u : ℕ) (replies : 
 
   pub course_opened : IsCourse names first q (record { session = session; last = 0; upto = 0; replies = replies }) (request.Opens u ∷ [])
   course_opened = record {
-    gained = length call.trail ∷ [];
-    own = call.own;
-    within = λ i some. (let l = call_inside first q (Opens u) (λ y. session ≡ length y.sessions) call in let e = one_place i (length call.trail) some in omega (arith, l, e));
+    gained = g ++ length call.trail ∷ [];
+    own = call.own ∙ (ap (λ l. l ++ length call.trail ∷ []) since ∙ append_assoc first.own g (length call.trail ∷ []));
+    within = λ i some. within i (either i g (length call.trail ∷ []) some);
     trail = legal;
     there = omega (arith, call.answered, ap (λ (y : State). length y.sessions) state_then, length-append before.sessions (record { subject = u; last = 0 } ∷ []));
     subject = u;
@@ -324,23 +347,40 @@ module _ (names : KnownNames) (first q : PassView) (session u : ℕ) (replies : 
       front = call.trail;
       there = ([], call.seen ∙ sym (append-nil (call.trail ++ Opens u ∷ [])));
       number = call.answered ∙ ap (λ (b : Chronicle). length (state_now (hall_with b call.trail)).sessions) (sym base);
-      own = once (length call.trail);
+      own = times_after (length call.trail) g (length call.trail ∷ []) (once (length call.trail));
     };
     subject_is =
         ap (λ (y : State). (session_at y session).subject) state_then
         ∙ (ap (λ n. (slice_index_or (before.sessions ++ record { subject = u; last = 0 } ∷ []) n no_session).subject) call.answered
         ∙ ap (λ s. s.subject) (get_or-append_seam before.sessions (record { subject = u; last = 0 }) [] no_session));
     works = [];
+    mine = λ i k w some at. mine i k w (either i g (length call.trail ∷ []) some) at;
     admits = admitted_none (state_seen q) 0;
     covers = record { done = []; rest = request.Opens u ∷ []; split = refl; unsettled = tt; low = All-nil (λ (a : ℕ × Work). a.0 ≤ 0) };
     answered = λ is alone. record {
       lines = ap (admitted session) call.seen ∙ (admitted-append session call.trail (Opens u ∷ []) ∙ (append-nil (admitted session call.trail)
-          ∙ none_unopened (start first.gate.base.setup first.gate.base.limit) call.trail session trail_before (omega (arith, call.answered))));
+          ∙ none_unopened (start p.gate.base.setup p.gate.base.limit) call.trail session trail_before (omega (arith, call.answered))));
       over = subst (λ y. IsOverUpTo y session 0) (sym state_then) (λ p lt own low. absurd (not_mine p lt own));
       answers = λ k le. zero_only k le;
     };
   }
     where
+      longer_then : length p.seen ≤ length call.trail
+      longer_then = begins_length call.trail p.seen call.from
+
+      within : (i : ℕ) → (1 ≤ times i g) ⊎ (1 ≤ times i (length call.trail ∷ [])) → i < length q.seen
+      within i (inl old) = let l = inside i old in let n = begins_length q.seen call.trail (Opens u ∷ [], call.seen) in omega (arith, l, longer_then, n)
+      within i (inr new) = let l = call_inside p q (Opens u) (λ y. session ≡ length y.sessions) call in let e = one_place i (length call.trail) new in omega (arith, l, e)
+
+      -- no line of it stood there before
+      mine : (i k : ℕ) (w : Work) → (1 ≤ times i g) ⊎ (1 ≤ times i (length call.trail ∷ [])) → slice_get q.seen i ≡ Some (Admits session k w) → Contains {X = ℕ × Work} [] (k, w)
+      mine i k w (inl old) at =
+          let lt : i < length call.trail = (let l = inside i old in omega (arith, l, longer_then)) in
+          let there = line_open (start p.gate.base.setup p.gate.base.limit) call.trail i session k w trail_before (sym (get_sooner q.seen call.trail i (Opens u ∷ [], call.seen) lt) ∙ at) in
+          absurd (omega (arith, there, call.answered))
+      mine i k w (inr new) at =
+          absurd (no_line u session k w (sym (call_there p q (Opens u) (λ y. session ≡ length y.sessions) call) ∙ (ap (slice_get q.seen) (sym (one_place i (length call.trail) new)) ∙ at)))
+
       zero_only : (k : ℕ) → k ≤ 0 → line_text (state_seen q) session k ≡ replies k
       zero_only k le =
           let e : k ≡ 0 = omega (arith, le) in

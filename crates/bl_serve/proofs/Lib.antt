@@ -4,14 +4,15 @@ mod Staying
 mod Telling
 mod Alone
 mod Admitted
-mod Going
+pub mod Going
 mod Transcribing
 mod Quiet
-mod Owning
+pub mod Owning
 mod Cutting
 mod Coming
 mod OutcomeLaws
 mod Speaking
+pub mod Together
 mod Faults
 mod Asking
 mod TalkLaws

@@ -1,6 +1,6 @@
 -- What a trail says of its sessions: how many there are, whose each entry is, and the last ordinal of each.
-use Rattle.std.proofs.Common.{◌≡◌, ℕ, zero, suc, ◌+◌, ◌<◌, ◌≤◌, ◌⊎◌, inl, inr, Bool, true, false, cond, List, [], ◌∷◌, ◌++◌, length, refl, sym, ap, subst, ◌∙◌, arith, append-nil, length-append, slice_index_or, slice_set}
-use Rattle.std.specs.Prelude.{All, ◌==◌}
+use Rattle.std.proofs.Common.{◌≡◌, ℕ, zero, suc, ◌+◌, ◌<◌, ◌≤◌, ◌⊎◌, inl, inr, Bool, true, false, cond, List, [], ◌∷◌, ◌++◌, length, refl, sym, ap, subst, ◌∙◌, arith, append-nil, length-append, slice_index_or, slice_set, Some}
+use Rattle.std.specs.Prelude.{All, ◌==◌, slice_get}
 use Rattle.std.proofs.lemmas.Bool.Decides.{eqb_tells}
 use Rattle.std.proofs.lemmas.List.Elements.{All-head, All-tail}
 use Rattle.bl_work.specs.declared.work.Work.{Work}
@@ -11,7 +11,7 @@ use Rattle.bl_order.proofs.Sound.{IsSound}
 use Rattle.bl_order.proofs.Trails.{within, sound-step}
 use Rattle.bl_session.specs.Transcripts.{admitted}
 use Rattle.bl_session.proofs.OrderLaws.{tag-grown, tag-last, tag-child, longer, join}
-use Rattle.bl_session.proofs.TranscriptLaws.{length-set_session}
+use Rattle.bl_session.proofs.TranscriptLaws.{length-set_session, sessions_kept}
 
 -- ---- how many there are
 
@@ -49,6 +49,15 @@ none_unopened x (Admits i k w ∷ events) session trail le = go (none_unopened (
 none_unopened x (Starts n ∷ events) session trail le = none_unopened (change x (Starts n)) events session trail.1 le
 none_unopened x (Ends n ∷ events) session trail le = none_unopened (change x (Ends n)) events session trail.1 le
 none_unopened x (Loses n ∷ events) session trail le = none_unopened (change x (Loses n)) events session trail.1 le
+
+-- a line is of a session that is open
+pub line_open : (x : State) (events : List Event) (p session k : ℕ) (w : Work) → IsTrail x events → slice_get events p ≡ Some (Admits session k w) → session < length (state_after x events).sessions
+line_open x [] p session k w trail at = absurd (cc)
+line_open x (e ∷ events) zero session k w trail at =
+    let is : e ≡ Admits session k w = cc in
+    let needs = (subst (λ (f : Event). IsTrail x (f ∷ events)) is trail).0 in
+    subst (λ (f : Event). session < length (state_after x (f ∷ events)).sessions) (sym is) (sessions_kept x (Admits session k w ∷ events) session needs.0).there
+line_open x (e ∷ events) (suc p) session k w trail at = line_open (change x e) events p session k w trail.1 at
 
 -- ---- whose each entry is
 

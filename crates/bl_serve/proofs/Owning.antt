@@ -12,13 +12,16 @@ use Rattle.bl_gate.proofs.Totals.{times-append}
 use Rattle.bl_gate.proofs.Trails.{begins_more}
 use Rattle.bl_worker.specs.Turns.{Adds, AddsTurnsAlone, IsEventOf}
 use Rattle.bl_worker.proofs.Adding.{adds_as, adds_call, adds_then}
-use Rattle.bl_serve.specs.Courses.{IsOfSession, IsOpenedAt, IsOwn, SpeaksForItsOwn}
+use Rattle.bl_serve.specs.Courses.{AdmitsNoLineOf, IsNoLineOf, IsOfSession, IsOpenedAt, IsOwn, SpeaksForItsOwn}
 
 pub once : (k : ℕ) → 1 ≤ times k (k ∷ [])
 once k = grind (arith, nat_tests)
 
 pub more_times : (i : ℕ) (g h : List ℕ) → 1 ≤ times i g → 1 ≤ times i (g ++ h)
 more_times i g h some = omega (arith, times-append i g h, some)
+
+pub times_after : (i : ℕ) (g h : List ℕ) → 1 ≤ times i h → 1 ≤ times i (g ++ h)
+times_after i g h some = omega (arith, times-append i g h, some)
 
 -- the positions that a pass has gained
 pub gained_since : (before after gained : List ℕ) → after ≡ before ++ gained → drop (length before) after ≡ gained
@@ -92,6 +95,17 @@ own_turns p q r session o follows turns =
     of_turn i (Starts n) h = tt
     of_turn i (Ends n) h = tt
     of_turn i (Loses n) h = tt
+
+-- turns are no lines, whosever
+pub turns_no_line_of : (session : ℕ) (p q : PassView) → AddsTurnsAlone p q → AdmitsNoLineOf session p q
+turns_no_line_of session p q turns = adds_as (λ _. IsEventOf (λ n. Unit {0})) (λ _. IsNoLineOf session) p q turns (λ i. no_line)
+  where
+    no_line : (e : Event) → IsEventOf (λ n. Unit {0}) e → IsNoLineOf session e
+    no_line (Opens u) h = tt
+    no_line (Admits s k w) h = absurd h
+    no_line (Starts n) h = tt
+    no_line (Ends n) h = tt
+    no_line (Loses n) h = tt
 
 -- so it spoke for no other session
 pub own_speaks : (first q : PassView) (session : ℕ) → IsOwn first q session → SpeaksForItsOwn first q

@@ -19,6 +19,7 @@ use Rattle.bl_serve.specs.Courses.{HasOpened, IsOpenedAt, SpeaksAlone, SpeaksFor
 use Rattle.bl_serve.specs.Speakers.{HasMet, IsShare, IsSharedOut}
 use Rattle.bl_serve.proofs.Alone.{get_inside}
 use Rattle.bl_serve.proofs.Going.{no_line}
+use Rattle.bl_serve.proofs.Opened.{line_open}
 
 -- ---- shares
 
@@ -44,15 +45,6 @@ turn_share whole before after met none p session k w mine at =
     absurd (none.events p (Admits session k w) gained (sym (get_sooner whole.seen after.seen p met.seen (none.within p gained)) ∙ at))
 
 -- ---- sessions
-
--- a line is of a session that is open
-line_open : (x : State) (events : List Event) (p session k : ℕ) (w : Work) → IsTrail x events → slice_get events p ≡ Some (Admits session k w) → session < length (state_after x events).sessions
-line_open x [] p session k w trail at = absurd (cc)
-line_open x (e ∷ events) zero session k w trail at =
-    let is : e ≡ Admits session k w = cc in
-    let needs = (subst (λ (f : Event). IsTrail x (f ∷ events)) is trail).0 in
-    subst (λ (f : Event). session < length (state_after x (f ∷ events)).sessions) (sym is) (sessions_kept x (Admits session k w ∷ events) session needs.0).there
-line_open x (e ∷ events) (suc p) session k w trail at = line_open (change x e) events p session k w trail.1 at
 
 module _ (whole : PassView) (legal : HasTrail (hall_seen whole)) where
   abbrev first_state : State

@@ -1,5 +1,5 @@
 -- How a session over a gate stands: what was admitted for it, what it was answered, and whether another pass spoke for it.
-use Rattle.std.specs.Prelude.{◌≡◌, ℕ, ◌+◌, ◌<◌, ◌≤◌, ⊤, ◌⊎◌, true, false, List, [], ◌∷◌, ◌++◌, length, filter, All, Some, slice_get, drop}
+use Rattle.std.specs.Prelude.{◌≡◌, ◌≢◌, ℕ, ◌+◌, ◌<◌, ◌≤◌, ⊤, ◌⊎◌, true, false, List, [], ◌∷◌, ◌++◌, length, filter, All, Contains, Some, slice_get, drop}
 use Rattle.bl_work.specs.Names.{KnownNames}
 use Rattle.bl_work.specs.declared.work.Work.{Work}
 use Rattle.bl_order.specs.Labels.{tag}
@@ -104,6 +104,23 @@ pub record IsAnswered (pass : PassView) (session upto : ℕ) (works : List (ℕ 
   pub over : IsOverUpTo (state_seen pass) session upto
   pub answers : SameUpTo upto replies (line_text (state_seen pass) session)
 
+-- each line of the session that stands at one of these positions has one of these works
+abbrev pub HaveWorks : List ℕ → ℕ → List Event → List (ℕ × Work) → Type 0
+HaveWorks positions session trail works =
+    (p ordinal : ℕ) (work : Work) → 1 ≤ times p positions → slice_get trail p ≡ Some (Admits session ordinal work) → Contains works (ordinal, work)
+
+-- an event that is no line of the session
+abbrev pub IsNoLineOf : ℕ → Event → Type 0
+IsNoLineOf session (Opens subject) = Unit {0}
+IsNoLineOf session (Admits other ordinal work) = other ≢ session
+IsNoLineOf session (Starts n) = Unit {0}
+IsNoLineOf session (Ends n) = Unit {0}
+IsNoLineOf session (Loses n) = Unit {0}
+
+-- the pass has admitted no line of the session since then
+abbrev pub AdmitsNoLineOf : ℕ → PassView → PassView → Type 0
+AdmitsNoLineOf session before after = Adds (λ _. IsNoLineOf session) before after
+
 -- a session over a gate: its number, an ordinal up to which all lies that was asked, the one up to which it was answered, and the text of
 -- its replies
 pub record Course : Type 0 where
@@ -112,8 +129,9 @@ pub record Course : Type 0 where
   pub upto : ℕ
   pub replies : ℕ → List ℕ
 
--- The pass has opened the session since `first`, and this was told of it. Where no other pass spoke for it, and the names are the hall's,
--- it was answered what the trail leads to.
+-- The pass has opened the session since `first`, and this was told of it: each line of it that the pass has gained has one of the works that
+-- were admitted. Where no other pass spoke for it, and the names are the hall's, it was answered what the trail leads to. The pass may have
+-- gained events of other sessions too.
 pub record IsCourse (names : KnownNames) (first pass : PassView) (course : Course) (told : List Request) : Type 0 where
   pub gained : List ℕ
   pub own : pass.own ≡ first.own ++ gained
@@ -126,6 +144,7 @@ pub record IsCourse (names : KnownNames) (first pass : PassView) (course : Cours
   pub opening : IsOpenedAt gained pass course.session subject
   pub subject_is : (session_at (state_seen pass) course.session).subject ≡ subject
   pub works : List (ℕ × Work)
+  pub mine : HaveWorks gained course.session pass.seen works
   pub admits : AreAdmitted (state_seen pass) course.last (asked_in told) works
   pub covers : IsCovered course.upto told
   pub answered : names ≡ pass.gate.base.setup.names → StandAt gained course.session pass.seen → IsAnswered pass course.session course.upto works course.replies
