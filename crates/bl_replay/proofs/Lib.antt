@@ -17,3 +17,4 @@ pub mod Taking
 pub mod Naming
 pub mod Spawning
 pub mod Beginning
+pub mod Lossless

@@ -5,6 +5,7 @@ ghost use Rattle.bl_replay.specs.Marks.{AreMarked, Finding, is_marked_lost, mark
 
 use bl_trail::ask::{Ask, ask_of};
 use bl_trail::follow::first_line;
+use memchr::memmem;
 use std::alloc::{AllocError, Global};
 
 /// How many places an order has at most.
@@ -89,11 +90,14 @@ fn note(marks: &mut Vec<Mark>, n: u32, lost: bool) -> Result<(), AllocError>
     }
 }
 
-/// What becomes of each place: what the first line says that ends it.
+/// What becomes of each place: what the first line says that ends it. Where no line loses a place, which one search tells, none is marked.
 pub fn foretell(alloc: Global, text: &[u8]) -> Result<Vec<Mark>, AllocError>
     ensures { IfOk result (λ marks. (found : List Finding) × AreFindings text.now found × AreMarked marks.items found) }
 {
     let mut marks = Vec::new(alloc);
+    if memmem::find(text, b"lost ").is_none() {
+        return Ok(marks);
+    }
     let mut rest = text;
     'lines: loop {
         let Some((line, behind)) = first_line(rest) else {

@@ -18,10 +18,11 @@ use bl_queue::queues::Queues;
 use bl_setup::setup::Setup;
 use bl_setup::version::Version;
 use bl_trail::ask::{Ask, ask_of};
+use bl_trail::compare::{is_end, is_line, is_loss, is_open, is_start};
 use bl_trail::follow::Follows;
-use bl_trail::text::{Words, end_text, line_text, loss_text, open_text, start_text};
+use bl_trail::text::Words;
 use bl_trail::version::has_work;
-use bl_trail::work::{same_bytes, work_of};
+use bl_trail::work::work_of;
 use bl_work::answer::Answer;
 use bl_work::work::Work;
 use std::alloc::{AllocError, Global};
@@ -106,8 +107,7 @@ impl Replayer {
         if self.sessions.len() >= MOST_SESSIONS {
             return Ok(false);
         }
-        let text = open_text(self.alloc, self.setup.names(), subject)?;
-        if !same_bytes(&text, line) {
+        if !is_open(self.setup.names(), subject, line) {
             return Ok(false);
         }
         self.add_session(subject)?;
@@ -174,8 +174,7 @@ impl Replayer {
         if !self.may_admit(session, ordinal, &work) {
             return Ok(false);
         }
-        let whole = line_text(self.alloc, session, ordinal, text)?;
-        if !same_bytes(&whole, line) {
+        if !is_line(session, ordinal, text, line) {
             return Ok(false);
         }
         self.add_line(session, ordinal, work)?;
@@ -280,8 +279,7 @@ impl Replayer {
         let Some(words) = self.words(n) else {
             return Ok(false);
         };
-        let text = start_text(self.alloc, self.setup.names(), n, &words)?;
-        if !same_bytes(&text, line) {
+        if !is_start(self.setup.names(), n, &words, line) {
             return Ok(false);
         }
         self.begin(n, words.runs());
@@ -333,8 +331,7 @@ impl Replayer {
             return Ok(false);
         }
         self.feed_to(n)?;
-        let text = end_text(self.alloc, self.setup.names(), n, &self.answers[n as usize])?;
-        if !same_bytes(&text, line) {
+        if !is_end(self.setup.names(), n, &self.answers[n as usize], line) {
             return Ok(false);
         }
         self.finish(n)?;
@@ -363,8 +360,7 @@ impl Replayer {
         if !self.may_lose(n) {
             return Ok(false);
         }
-        let text = loss_text(self.alloc, n)?;
-        if !same_bytes(&text, line) {
+        if !is_loss(n, line) {
             return Ok(false);
         }
         self.drop_place(n);

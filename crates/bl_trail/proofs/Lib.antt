@@ -1,5 +1,6 @@
 mod Base
 mod Rows
+pub mod Numbers
 pub mod Words
 pub mod Following
 pub mod OneEventLaw
@@ -10,3 +11,4 @@ pub mod SmallTrails
 pub mod Heading
 pub mod Memory
 pub mod TrueTexts
+pub mod Comparing

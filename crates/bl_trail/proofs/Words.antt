@@ -1,5 +1,5 @@
 -- What stands before the first byte of a kind, and behind it.
-use Rattle.std.proofs.Common.{◌≡◌, ◌≢◌, ℕ, suc, ◌<◌, ◌≤◌, Bool, true, false, cond, List, [], ◌∷◌, ◌++◌, length, take, drop, refl, sym, ◌∙◌, ap, subst, inl, inr, arith, ◌⊎◌}
+use Rattle.std.proofs.Common.{◌≡◌, ◌≢◌, ℕ, zero, suc, ◌<◌, ◌≤◌, Bool, true, false, cond, List, [], ◌∷◌, ◌++◌, length, get_or, take, drop, refl, sym, ◌∙◌, ap, subst, inl, inr, arith, ◌⊎◌}
 use Rattle.std.specs.Prelude.{◌==◌, Some, None}
 use Rattle.std.proofs.lemmas.Bool.Decides.{eqb_tells}
 use Rattle.bl_trail.specs.Asks.{before, behind, HasNo}
@@ -84,3 +84,21 @@ module _ (sign : ℕ) where
           → (behind sign t ≡ None → HasNo sign t) → HasNo sign (b ∷ t)
       go (inl e) h deeper = absurd (let k : Some t ≡ None = sym (ap (λ c. cond c (Some t) (behind sign t)) e.0) ∙ h in cc)
       go (inr e) h deeper = (e.1, deeper (sym (ap (λ c. cond c (Some t) (behind sign t)) e.0) ∙ h))
+
+  -- the place that a search finds is the length of what stands before it
+  pub found-first : (t : List ℕ) (k : ℕ) → k < length t → (get_or t k 0 == sign) ≡ true → ((i : ℕ) → i < k → (get_or t i 0 == sign) ≡ true → ⊥) → length (before sign t) ≡ k
+  found-first [] k lt is none = absurd (omega arith)
+  found-first (b ∷ t) zero lt is none = ap (λ c. length (cond c [] (b ∷ before sign t))) is
+  found-first (b ∷ t) (suc k) lt is none = go (b == sign) refl (found-first t k (omega arith) is (λ i le hit. none (suc i) (omega arith) hit))
+    where
+      go : (c : Bool) → (b == sign) ≡ c → length (before sign t) ≡ k → length (cond c [] (b ∷ before sign t)) ≡ suc k
+      go true h deeper = absurd (none 0 (omega arith) h)
+      go false h deeper = ap suc deeper
+
+  pub found-none : (t : List ℕ) → ((i : ℕ) → i < length t → (get_or t i 0 == sign) ≡ true → ⊥) → length (before sign t) ≡ length t
+  found-none [] none = refl
+  found-none (b ∷ t) none = go (b == sign) refl (found-none t (λ i le hit. none (suc i) (omega arith) hit))
+    where
+      go : (c : Bool) → (b == sign) ≡ c → length (before sign t) ≡ length t → length (cond c [] (b ∷ before sign t)) ≡ suc (length t)
+      go true h deeper = absurd (none 0 (omega arith) h)
+      go false h deeper = ap suc deeper

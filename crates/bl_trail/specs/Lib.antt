@@ -8,3 +8,4 @@ pub mod WorkText
 pub mod Heads
 pub mod StartWords
 pub mod Versions
+pub mod Fronts

@@ -6,6 +6,11 @@ ghost use Rattle.bl_trail.specs.OneEvent.{IsSmall};
 ghost use Rattle.bl_trail.specs.Asking.{asked_for};
 ghost use Rattle.bl_trail.specs.Asks.{before, behind, ReadsNumber, ReadsNumbered, numbered_of, asked_of, IsAskedBy, IsAsked, admits};
 
+use memchr::memchr;
+
+/// The greatest number that is read.
+const MOST_NUMBER: u64 = 4_294_967_295;
+
 /// An event, as a line asks for it.
 #[derive(Clone, Copy)]
 pub enum Ask<'a> {
@@ -27,12 +32,10 @@ pub enum Ask<'a> {
 fn word_len(text: &[u8], sign: u8) -> usize
     ensures { result ≡ length (before sign text.now) }
 {
-    for (place, byte) in text.iter().enumerate() {
-        if *byte == sign {
-            return place;
-        }
+    match memchr(sign, text) {
+        Some(place) => place,
+        None => text.len(),
     }
-    text.len()
 }
 
 /// The bytes before the first one of this kind, and those behind it if there is one.
@@ -52,13 +55,17 @@ pub fn split_word(text: &[u8], sign: u8) -> (&[u8], Option<&[u8]>)
 pub fn number(text: &[u8]) -> Option<u32>
     ensures { ReadsNumber text.now result }
 {
-    match str::from_utf8(text) {
-        Ok(digits) => match digits.parse::<u32>() {
-            Ok(number) => Some(number),
-            Err(_) => None,
-        },
-        Err(_) => None,
+    let mut number = 0_u64;
+    for byte in text {
+        if !byte.is_ascii_digit() {
+            return None;
+        }
+        number = number * 10 + u64::from(*byte - b'0');
+        if number > MOST_NUMBER {
+            return None;
+        }
     }
+    Some(number as u32)
 }
 
 /// The number that the bytes begin with, and what stands behind the space behind it.

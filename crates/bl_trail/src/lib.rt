@@ -3,6 +3,7 @@
 //!     verdict    what a replay answers of a text
 //!     follow     the lines of a trail one after another, as whatever follows them takes them
 //!     ask        which event a line would be
+//!     compare    whether a line is the text of an event, piece by piece
 //!     work       the work whose canonical text a line has
 //!     head       the version and the limit
 //!     version    which setups and works the versions have
@@ -12,6 +13,7 @@
 #![tactic(auto)]
 
 pub mod ask;
+pub mod compare;
 pub mod follow;
 pub mod head;
 pub mod text;

@@ -1,4 +1,4 @@
-//! The texts of events without their LF: written piece by piece, or kept in memory.
+//! The texts of events without their LF, written piece by piece.
 ghost use Rattle.std.specs.Prelude.{◌≡◌, ◌<◌, ◌++◌, ◌∷◌, [], IfOk, codes, decimal, false, length, slice_index_or};
 ghost use Rattle.bl_wire.specs.Named.{NamesAnswer};
 ghost use Rattle.bl_wire.specs.Replies.{answer_text};
@@ -157,74 +157,11 @@ fn written(text: Watched<Vec<u8>>) -> Result<Vec<u8>, AllocError>
     Ok(text.into_inner())
 }
 
-/// The text of a limit. An error comes only where a growth is refused, here and in the texts of events.
+/// The text of a limit. An error comes only where a growth is refused.
 pub fn limit_text(alloc: Global, limit: u32) -> Result<Vec<u8>, AllocError>
     ensures { IfOk result (λ text. text.items ≡ codes "limit " ++ decimal limit) }
 {
     let mut text = Watched::new(Vec::new(alloc));
     put_limit(&mut text, limit);
-    written(text)
-}
-
-/// The text of an opening.
-pub fn open_text(alloc: Global, names: &Names, subject: SubjectId) -> Result<Vec<u8>, AllocError>
-    requires { subject < length names.now.subjects }
-    ensures { IfOk result (λ text. text.items ≡ codes "open " ++ slice_index_or names.now.subjects subject []) }
-{
-    let mut text = Watched::new(Vec::new(alloc));
-    put_open(&mut text, names, subject);
-    written(text)
-}
-
-/// The text of a session's line, whose work has this text.
-pub fn line_text(
-    alloc: Global,
-    session: u32,
-    ordinal: u32,
-    work: &[u8],
-) -> Result<Vec<u8>, AllocError>
-    ensures { IfOk result (λ text. text.items ≡ codes "line " ++ (decimal session ++ (32 ∷ (decimal ordinal ++ (32 ∷ work.now))))) }
-{
-    let mut text = Watched::new(Vec::with_capacity(alloc, work.len())?);
-    put_line(&mut text, session, ordinal, work);
-    written(text)
-}
-
-/// The text of a start.
-pub fn start_text(
-    alloc: Global,
-    names: &Names,
-    n: u32,
-    words: &Words,
-) -> Result<Vec<u8>, AllocError>
-    requires { NamesWords names.now words.now }
-    ensures { IfOk result (λ text. text.items ≡ codes "start " ++ (decimal n ++ words_text names.now words.now)) }
-{
-    let mut text = Watched::new(Vec::new(alloc));
-    put_start(&mut text, names, n, words);
-    written(text)
-}
-
-/// The text of an end.
-pub fn end_text(
-    alloc: Global,
-    names: &Names,
-    n: u32,
-    answer: &Answer,
-) -> Result<Vec<u8>, AllocError>
-    requires { NamesAnswer names.now answer.now }
-    ensures { IfOk result (λ text. text.items ≡ codes "end " ++ (decimal n ++ answer_text names.now answer.now)) }
-{
-    let mut text = Watched::new(Vec::new(alloc));
-    put_end(&mut text, names, n, answer);
-    written(text)
-}
-
-/// The text of a loss.
-pub fn loss_text(alloc: Global, n: u32) -> Result<Vec<u8>, AllocError>
-    ensures { IfOk result (λ text. text.items ≡ codes "lost " ++ decimal n) }
-{
-    let mut text = Watched::new(Vec::new(alloc));
-    put_loss(&mut text, n);
     written(text)
 }

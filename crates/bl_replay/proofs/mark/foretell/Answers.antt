@@ -1,9 +1,11 @@
-use Rattle.std.proofs.Common.{◌≡◌, ◌∷◌, [], ℕ, ◌<◌, Bool, sym, ◌∙◌, ap, arith}
-use Rattle.std.specs.Prelude.{Some, None}
+use Rattle.std.proofs.Common.{◌≡◌, ◌∷◌, [], ℕ, ◌<◌, Bool, false, not, length, codes, true≢false, sym, ◌∙◌, ap, arith}
+use Rattle.std.specs.Prelude.{Option, Some, None, is_some}
+use Rattle.memchr.specs.Find.{FindsNeedle, OccursAt}
 use Rattle.bl_order.specs.Machine.{State, Event, Needs}
 use Rattle.bl_trail.specs.OneEvent.{IsSmall}
-use Rattle.bl_replay.specs.Marks.{Finding, first_end, mark_in, unless_marked, ending_of}
+use Rattle.bl_replay.specs.Marks.{Finding, first_end, lost_later, mark_in, unless_marked, ending_of}
 use Rattle.bl_replay.proofs.Finding.{ends-small}
+use Rattle.bl_replay.proofs.Lossless.{lossless}
 use Rattle.bl_replay.proofs.Noting.{noted-finding, none-left}
 use Rattle.bl_replay.proofs.mark.foretell.Goals as goal
 
@@ -39,3 +41,12 @@ lines-preserved-else-n-lt-MOST_PLACES c more are =
 
 pub lines-preserved : goal.lines-preserved
 lines-preserved c more are = c.lines.invariant (None ∷ more) (c.in-Some.line.now, c.in-Some.behind.now, c.in-Some.ensures, c.in_default-ending_in.ensures, are)
+
+pub returns-then-is_none : goal.returns-then-is_none
+returns-then-is_none c =
+    let found = lossless (length c.args.text.now) c.args.text.now (omega arith) (no-loss c.find.result c.find.ensures (c.is_none.ensures ∙ ap not c.if-is_none.true)) in
+    (found.0, found.1, λ k. ap (λ l. lost_later l k) c.new-marks.ensures.items ∙ sym (found.2 k))
+  where
+    no-loss : (r : Option ℕ) → FindsNeedle c.args.text.now (codes "lost ") 0 r → is_some r ≡ false → (k : ℕ) → OccursAt c.args.text.now (codes "lost ") k → ⊥
+    no-loss None finds is k at = finds k (omega arith) (omega (arith, at.fits)) at
+    no-loss (Some i) finds is k at = true≢false is

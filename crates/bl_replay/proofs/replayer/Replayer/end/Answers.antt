@@ -22,8 +22,8 @@ feed_to-requires c =
     let running : IsTrue (runs c.requires.ready.0 c.args.n) = (c.is_running.ensures c.requires.ready.0 c.requires.ready.2.keeps).0 c.if-not-is_running.false in
     (c.requires.ready.0, c.requires.ready.2.keeps, told-before c.the_order_has_room.ensures.order c.requires.ready.0 c.args.self.now _ c.requires.ready.2, omega (arith, runs-within c.requires.ready.0 c.args.self.now c.requires.ready.2.keeps c.args.n running, many-places c.requires.ready.0 c.args.self.now c.requires.ready.2.keeps))
 
-pub end_text-requires : goal.end_text-requires
-end_text-requires c =
+pub is_end-requires : goal.is_end-requires
+is_end-requires c =
     let keeps : KeepsAt c.requires.ready.0 c.feed_to.new.self = c.in_ok-feed_to.ensures.keeps c.requires.ready.0 c.requires.ready.2.keeps in
     subst (λ (k : KnownNames). NamesAnswer k c.index.result.now) (sym (c.names.ensures.value ∙ ap (λ (s : Setup). s.names) keeps.setup))
     (names-answer c.requires.ready.0.setup keeps.agree c.index.result.now
@@ -49,8 +49,8 @@ returns-then-is_lost_later-clause-wrong c is x rest replays needs has text =
     true≢false (sym c.if-is_lost_later.true ∙ c.is_lost_later.ensures ∙ ap (λ l. lost_later l c.args.n) c.deref.ensures.value
     ∙ ends-open c.the_order_has_room.ensures.order x c.args.self.now c.args.line.now rest c.args.n c.requires.plain replays needs text)
 
-pub returns-then-not-same_bytes-clause-wrong : goal.returns-then-not-same_bytes-clause-wrong
-returns-then-not-same_bytes-clause-wrong c is x rest replays needs has text =
+pub returns-then-not-is_end-clause-wrong : goal.returns-then-not-is_end-clause-wrong
+returns-then-not-is_end-clause-wrong c is x rest replays needs has text =
     let keeps : KeepsAt x c.feed_to.new.self = c.in_ok-feed_to.ensures.keeps x replays.keeps in
     let foretold : AreForetold (lost_later c.feed_to.new.self.marks.items) x =
     subst (λ m. AreForetold (lost_later m.items) x) (sym c.in_ok-feed_to.ensures.marks) (told-before c.the_order_has_room.ensures.order x c.args.self.now _ replays) in
@@ -62,7 +62,7 @@ returns-then-not-same_bytes-clause-wrong c is x rest replays needs has text =
     let whole : codes "end " ++ (decimal c.args.n ++ answer_text c.names.result.now c.index.result.now) ≡ event_text x (Ends c.args.n) =
     ap (λ (k : KnownNames). codes "end " ++ (decimal c.args.n ++ answer_text k c.index.result.now)) (c.names.ensures.value ∙ ap (λ (s : Setup). s.names) keeps.setup)
     ∙ ap (λ (a : Answer). codes "end " ++ (decimal c.args.n ++ answer_text x.setup.names a)) said in
-    true≢false (sym (c.same_bytes.ensures.1 (text ∙ sym whole ∙ sym c.in_ok-text.ensures ∙ sym c.deref-2.ensures.value)) ∙ c.if-not-same_bytes.true)
+    true≢false (sym (c.is_end.ensures.1 (text ∙ sym whole)) ∙ c.if-not-is_end.true)
 
 pub returns-clause-right : goal.returns-clause-right
 returns-clause-right c is x rest replays =
@@ -80,6 +80,6 @@ returns-clause-right c is x rest replays =
     record {
       needs = running;
       has = tt;
-      text = c.same_bytes.ensures.0 c.if-not-same_bytes.false ∙ c.deref-2.ensures.value ∙ c.in_ok-text.ensures ∙ whole;
+      text = c.is_end.ensures.0 c.if-not-is_end.false ∙ whole;
       keeps = c.in_ok-finish.ensures.keeps x keeps foretold running;
     }

@@ -43,7 +43,7 @@ returns-clause-right c is x keeps =
       record {
         needs = may;
         has = subst (λ (s : Setup). HasWork s.version c.in-Some.work) keeps.setup (c.has_work.ensures.0 c.if-not-has_work.false);
-        text = c.same_bytes.ensures.0 c.if-not-same_bytes.false ∙ c.deref.ensures.value ∙ c.in_ok-whole.ensures
+        text = c.is_line.ensures.0 c.if-not-is_line.false
             ∙ ap (λ (t : List ℕ). codes "line " ++ (decimal c.args.session ++ (32 ∷ (decimal c.args.ordinal ++ (32 ∷ t)))))
             (said.canonical ∙ ap (λ (k : KnownNames). canonical_line k (asked.Work c.in-Some.work)) names);
         keeps = c.in_ok-add_line.ensures.keeps x keeps may;

@@ -1,4 +1,3 @@
-use Rattle.std.proofs.Common.{◌∙◌}
 use Rattle.bl_replay.proofs.replayer.Replayer.lose.Goals as goal
 
 pub drop_place-requires : goal.drop_place-requires
@@ -8,6 +7,6 @@ pub returns-clause-right : goal.returns-clause-right
 returns-clause-right c is x keeps = record {
   needs = (c.may_lose.ensures x keeps).0 c.if-not-may_lose.false;
   has = tt;
-  text = c.same_bytes.ensures.0 c.if-not-same_bytes.false ∙ c.deref.ensures.value ∙ c.in_ok-text.ensures;
+  text = c.is_loss.ensures.0 c.if-not-is_loss.false;
   keeps = c.drop_place.ensures.keeps x keeps ((c.may_lose.ensures x keeps).0 c.if-not-may_lose.false);
 }

@@ -5,11 +5,11 @@ use Rattle.bl_work.specs.Names.{KnownNames}
 use Rattle.bl_work.proofs.Widths.{name_is}
 use Rattle.bl_replay.proofs.replayer.Replayer.open.Goals as goal
 
-pub returns-then-not-same_bytes-clause-wrong : goal.returns-then-not-same_bytes-clause-wrong
-returns-then-not-same_bytes-clause-wrong c is x keeps subject named needs has text =
-    true≢false (sym (c.same_bytes.ensures.1
+pub returns-then-not-is_open-clause-wrong : goal.returns-then-not-is_open-clause-wrong
+returns-then-not-is_open-clause-wrong c is x keeps subject named needs has text =
+    true≢false (sym (c.is_open.ensures.1
     (text
     ∙ ap (λ (n : List ℕ). codes "open " ++ n) (sym named ∙ name_is c.args.self.now.setup.names.subjects c.args.name.now c.in-Some.subject
     (sym (sym c.in-Some.is ∙ c.subject.ensures.value ∙ ap (λ (k : KnownNames). place_of c.args.name.now k.subjects) c.names.ensures.value)))
     ∙ ap (λ (k : KnownNames). codes "open " ++ get_or k.subjects c.in-Some.subject []) (sym c.names-2.ensures.value)
-    ∙ sym c.in_ok-text.ensures ∙ sym c.deref.ensures.value)) ∙ c.if-not-same_bytes.true)
+    )) ∙ c.if-not-is_open.true)

@@ -18,8 +18,8 @@ feed_to-requires c =
 pub words-requires-clause-keeps : goal.words-requires-clause-keeps
 words-requires-clause-keeps c = (c.requires.ready.0, c.in_ok-feed_to.ensures.keeps c.requires.ready.0 c.requires.ready.2.keeps)
 
-pub start_text-requires : goal.start_text-requires
-start_text-requires c =
+pub is_start-requires : goal.is_start-requires
+is_start-requires c =
     subst (λ (k : KnownNames). NamesWords k c.in-Some.words) (sym c.names.ensures.value)
     (names-words c.feed_to.new.self.setup c.names.ensures.agree c.in-Some.words c.in-Some.ensures.known)
 
@@ -40,8 +40,8 @@ returns-in_default-clause-wrong c is x rest replays needs has text =
     let later : lost_later c.args.self.now.marks.items c.args.n ≡ true = ap (λ m. lost_later m.items c.args.n) (sym c.in_ok-feed_to.ensures.marks) ∙ none.0 in
     true≢false (sym (runs-later c.the_order_has_room.ensures.order x c.args.self.now c.args.line.now rest c.args.n c.requires.plain replays needs text later) ∙ none.1)
 
-pub returns-then-not-same_bytes-clause-wrong : goal.returns-then-not-same_bytes-clause-wrong
-returns-then-not-same_bytes-clause-wrong c is x rest replays needs has text =
+pub returns-then-not-is_start-clause-wrong : goal.returns-then-not-is_start-clause-wrong
+returns-then-not-is_start-clause-wrong c is x rest replays needs has text =
     let keeps : KeepsAt x c.feed_to.new.self = c.in_ok-feed_to.ensures.keeps x replays.keeps in
     let foretold : AreForetold (lost_later c.feed_to.new.self.marks.items) x =
     subst (λ m. AreForetold (lost_later m.items) x) (sym c.in_ok-feed_to.ensures.marks) (told-before c.the_order_has_room.ensures.order x c.args.self.now _ replays) in
@@ -49,7 +49,7 @@ returns-then-not-same_bytes-clause-wrong c is x rest replays needs has text =
     let whole : codes "start " ++ (decimal c.args.n ++ words_text c.names.result.now c.in-Some.words) ≡ event_text x (Starts c.args.n) =
     ap (λ (k : KnownNames). codes "start " ++ (decimal c.args.n ++ words_text k c.in-Some.words)) (c.names.ensures.value ∙ ap (λ (s : Setup). s.names) keeps.setup)
     ∙ ap (λ t. codes "start " ++ (decimal c.args.n ++ t)) (sym (says-words x.setup.names (past_at x c.args.n).answer c.in-Some.words said)) in
-    true≢false (sym (c.same_bytes.ensures.1 (text ∙ sym whole ∙ sym c.in_ok-text.ensures ∙ sym c.deref.ensures.value)) ∙ c.if-not-same_bytes.true)
+    true≢false (sym (c.is_start.ensures.1 (text ∙ sym whole)) ∙ c.if-not-is_start.true)
 
 pub returns-clause-right : goal.returns-clause-right
 returns-clause-right c is x rest replays =
@@ -64,6 +64,6 @@ returns-clause-right c is x rest replays =
     record {
       needs = may;
       has = tt;
-      text = c.same_bytes.ensures.0 c.if-not-same_bytes.false ∙ c.deref.ensures.value ∙ c.in_ok-text.ensures ∙ whole;
+      text = c.is_start.ensures.0 c.if-not-is_start.false ∙ whole;
       keeps = c.begin.ensures.keeps x keeps may (runs-words (past_at x c.args.n).answer c.in-Some.words said ∙ sym c.runs.ensures);
     }
