@@ -4,3 +4,4 @@ pub mod Texts
 pub mod WithoutLf
 pub mod Trails
 pub mod Telling
+pub mod Staying

@@ -1,10 +1,11 @@
 -- The lines of an order, and those that events admit.
-use Rattle.std.proofs.Common.{◌≡◌, ℕ, zero, suc, ◌+◌, ◌<◌, ◌≤◌, List, [], ◌∷◌, ◌++◌, length, drop, refl, sym, ◌∙◌, ap, arith, append-nil, append_assoc, add-one}
+use Rattle.std.proofs.Common.{◌≡◌, ℕ, zero, suc, ◌+◌, ◌<◌, ◌≤◌, List, [], ◌∷◌, ◌++◌, length, drop, refl, sym, ◌∙◌, ap, arith, append-nil, append_assoc, add-one, length-append}
+use Rattle.std.proofs.lemmas.List.{append_cancel_left, drop-append-le}
 use Rattle.std.specs.Prelude.{Some, None, option_and_then, slice_get}
 use Rattle.bl_work.specs.declared.work.Work.{Work}
 use Rattle.bl_setup.specs.Setup.{Setup}
 use Rattle.bl_order.specs.Order.{Entry, Line, Child}
-use Rattle.bl_order.specs.Machine.{State, Event, Opens, Admits, Starts, Ends, Loses, change, start, state_after}
+use Rattle.bl_order.specs.Machine.{State, Event, Opens, Admits, Starts, Ends, Loses, change, children_at, session_at, start, state_after}
 use Rattle.bl_core.specs.Origins.{work_asked}
 use Rattle.bl_hall.specs.Recalled.{works_of}
 use Rattle.bl_hall.proofs.Recalling.{new_works, same-setup, works-change}
@@ -26,6 +27,54 @@ works-after x (e ∷ es) =
 -- the lines that a trail admits stand in the order that it leads to
 pub lines-of-trail : (setup : Setup) (limit : ℕ) (es : List Event) → lines_from (state_after (start setup limit) es) 0 ≡ works_in es
 lines-of-trail setup limit es = works-after (start setup limit) es
+
+works-more : (A B : List Entry) → works_of (A ++ B) ≡ works_of A ++ works_of B
+works-more [] B = refl
+works-more (Line s k u w ∷ A) B = ap (λ l. w ∷ l) (works-more A B)
+works-more (Child p w ∷ A) B = works-more A B
+
+-- an order grows at its end
+grown : (x : State) (es : List Event) → (entries : List Entry) × ((state_after x es).order ≡ x.order ++ entries)
+grown x [] = ([], sym (append-nil x.order))
+grown x (e ∷ es) =
+    let now : (entries : List Entry) × ((change x e).order ≡ x.order ++ entries) = entered x e in
+    let later : (entries : List Entry) × ((state_after (change x e) es).order ≡ (change x e).order ++ entries) = grown (change x e) es in
+    (now.0 ++ later.0, later.1 ∙ ap (λ A. A ++ later.0) now.1 ∙ append_assoc x.order now.0 later.0)
+  where
+    entered : (x : State) (e : Event) → (entries : List Entry) × ((change x e).order ≡ x.order ++ entries)
+    entered x (Opens s) = ([], sym (append-nil x.order))
+    entered x (Admits i o w) = (Line i o (session_at x i).subject w ∷ [], refl)
+    entered x (Starts n) = ([], sym (append-nil x.order))
+    entered x (Ends n) = (children_at x n, refl)
+    entered x (Loses n) = ([], sym (append-nil x.order))
+
+-- the lines that events admit stand after those that stood
+pub lines-later : (x : State) (es : List Event) (n : ℕ) → n ≤ length x.order → lines_from (state_after x es) n ≡ lines_from x n ++ works_in es
+lines-later x es n le =
+    let more : (entries : List Entry) × ((state_after x es).order ≡ x.order ++ entries) = grown x es in
+    let new : works_of more.0 ≡ works_in es =
+    append_cancel_left (works_of x.order) (works_of more.0) (works_in es) (sym (works-more x.order more.0) ∙ sym (ap works_of more.1) ∙ works-after x es) in
+    ap (λ A. works_of (drop n A)) more.1
+    ∙ ap works_of (drop-append-le n x.order more.0 le)
+    ∙ works-more (drop n x.order) more.0
+    ∙ ap (λ l. works_of (drop n x.order) ++ l) new
+
+pub works-both : (es ds : List Event) → works_in (es ++ ds) ≡ works_in es ++ works_in ds
+works-both [] ds = refl
+works-both (Opens s ∷ es) ds = works-both es ds
+works-both (Admits i k w ∷ es) ds = ap (λ l. w ∷ l) (works-both es ds)
+works-both (Starts n ∷ es) ds = works-both es ds
+works-both (Ends n ∷ es) ds = works-both es ds
+works-both (Loses n ∷ es) ds = works-both es ds
+
+pub order-later : (x : State) (es : List Event) → length x.order ≤ length (state_after x es).order
+order-later x es =
+    let more : (entries : List Entry) × ((state_after x es).order ≡ x.order ++ entries) = grown x es in
+    omega (arith, ap length more.1, length-append x.order more.0)
+
+pub after-both : (x : State) (es ds : List Event) → state_after x (es ++ ds) ≡ state_after (state_after x es) ds
+after-both x [] ds = refl
+after-both x (e ∷ es) ds = after-both (change x e) es ds
 
 pub setup-later : (x : State) (es : List Event) → (state_after x es).setup ≡ x.setup
 setup-later x [] = refl
@@ -59,11 +108,11 @@ there [] n w some = absurd (cc)
 there (e ∷ A) zero w some = omega arith
 there (e ∷ A) (suc n) w some = omega (arith, there A n w some)
 
-none-behind : (A : List Entry) (n : ℕ) → length A ≤ n → works_of (drop n A) ≡ []
-none-behind [] zero le = refl
-none-behind [] (suc n) le = refl
-none-behind (e ∷ A) zero le = absurd (omega arith)
-none-behind (e ∷ A) (suc n) le = none-behind A n (omega (arith, le))
+none-after : (A : List Entry) (n : ℕ) → length A ≤ n → works_of (drop n A) ≡ []
+none-after [] zero le = refl
+none-after [] (suc n) le = refl
+none-after (e ∷ A) zero le = absurd (omega arith)
+none-after (e ∷ A) (suc n) le = none-after A n (omega (arith, le))
 
 pub no-lines : (x : State) (n : ℕ) → length x.order ≤ n → lines_from x n ≡ []
-no-lines x n le = none-behind x.order n le
+no-lines x n le = none-after x.order n le

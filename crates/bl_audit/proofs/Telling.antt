@@ -33,7 +33,7 @@ names-told s agree (Some a) known = go a.now known
     go (answer.Denied d) k = names-denial s agree d k
     go answer.Lost k = tt
 
--- three things that hold of what was answered
-pub ok-three : {T E : Type 0} (r : Result T E) (P Q R S : T → Type 0) → ((t : T) → P t → Q t → R t → S t) → IfOk r P → IfOk r Q → IfOk r R → IfOk r S
-ok-three (Ok t) P Q R S f p q r = f t p q r
-ok-three (Err e) P Q R S f p q r = tt
+-- four things that hold of what was answered
+pub ok-four : {T E : Type 0} (r : Result T E) (O P Q R S : T → Type 0) → ((t : T) → O t → P t → Q t → R t → S t) → IfOk r O → IfOk r P → IfOk r Q → IfOk r R → IfOk r S
+ok-four (Ok t) O P Q R S f o p q r = f t o p q r
+ok-four (Err e) O P Q R S f o p q r = tt

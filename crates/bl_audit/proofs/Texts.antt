@@ -1,5 +1,5 @@
 -- The line of each kind of event.
-use Rattle.std.proofs.Common.{◌≡◌, ℕ, ◌<◌, ◌^◌, List, [], ◌∷◌, ◌++◌, length, sym, ◌∙◌, ap, subst, arith}
+use Rattle.std.proofs.Common.{◌≡◌, ℕ, ◌<◌, ◌≤◌, ◌^◌, List, [], ◌∷◌, ◌++◌, length, sym, ◌∙◌, ap, subst, arith}
 use Rattle.std.specs.Prelude.{codes, decimal, slice_index_or, true}
 use Rattle.bl_work.specs.declared.answer.Answer.{Answer}
 use Rattle.bl_work.specs.declared.asked.Line.TheVariants as line
@@ -98,15 +98,17 @@ module _ (x : State) (later : List Event) (end : State) (at : ℕ) (old new : En
     plain = subst (λ (u : Setup). HasNoLf (codes "open " ++ slice_index_or u.names.subjects s [])) (same-setup x (Opens s) later end at comes)
         (plain-open (slice_index_or end.setup.names.subjects s []) (plain-subject end.setup.names are s
         (omega (arith, agree.subjects, comes.steps.0.0, ap (λ (u : Setup). length u.policy.subjects) (same-setup x (Opens s) later end at comes)))));
+    place = comes.place;
     rest = comes.lines;
   }
 
   pub admitted-line : (i k next : ℕ) (w : Work) → Comes x (Admits i k w) later end at → i < 2 ^ 32 → k < 2 ^ 32
       → Puts (codes "line " ++ (decimal i ++ (32 ∷ (decimal k ++ (32 ∷ canonical_line end.setup.names (line.Work w)))))) old new
-      → HasNoLf (canonical_line end.setup.names (line.Work w)) → lines_from end next ≡ works_in later → HasLine x (Admits i k w) later end next old new
-  admitted-line i k next w comes li lk puts plain more = record {
+      → HasNoLf (canonical_line end.setup.names (line.Work w)) → next ≤ length end.order → lines_from end next ≡ works_in later → HasLine x (Admits i k w) later end next old new
+  admitted-line i k next w comes li lk puts plain place more = record {
     text = subst (λ (u : Setup). Puts (codes "line " ++ (decimal i ++ (32 ∷ (decimal k ++ (32 ∷ canonical_line u.names (line.Work w)))))) old new) (same-setup x (Admits i k w) later end at comes) puts;
     plain = plain-line i k _ li lk (subst (λ (u : Setup). HasNoLf (canonical_line u.names (line.Work w))) (same-setup x (Admits i k w) later end at comes) plain);
+    place = place;
     rest = more;
   }
 
@@ -115,6 +117,7 @@ module _ (x : State) (later : List Event) (end : State) (at : ℕ) (old new : En
   start-line n comes lt are named puts = record {
     text = subst (λ t. Puts (codes "start " ++ (decimal n ++ t)) old new) (sym words) puts;
     plain = plain-start n _ lt (subst HasNoLf (sym words) (plain-words end.setup.names are (words_later (told_of end n)) named));
+    place = comes.place;
     rest = comes.lines;
   }
     where
@@ -128,6 +131,7 @@ module _ (x : State) (later : List Event) (end : State) (at : ℕ) (old new : En
   end-line n comes a is lt puts plain = record {
     text = subst (λ t. Puts (codes "end " ++ (decimal n ++ t)) old new) (sym told) puts;
     plain = plain-end n _ lt (subst HasNoLf (sym told) plain);
+    place = comes.place;
     rest = comes.lines;
   }
     where
@@ -135,4 +139,4 @@ module _ (x : State) (later : List Event) (end : State) (at : ℕ) (old new : En
       told = ap (answer_text x.setup.names) (sym (is ∙ (ended-so x later end at n comes).1)) ∙ ap (λ (u : Setup). answer_text u.names a) (sym (same-setup x (Ends n) later end at comes))
 
   pub loss-line : (n : ℕ) → Comes x (Loses n) later end at → n < 2 ^ 32 → Puts (codes "lost " ++ decimal n) old new → HasLine x (Loses n) later end at old new
-  loss-line n comes lt puts = record { text = puts; plain = plain-loss n lt; rest = comes.lines }
+  loss-line n comes lt puts = record { text = puts; plain = plain-loss n lt; place = comes.place; rest = comes.lines }

@@ -1,10 +1,10 @@
 -- A trail, event by event.
-use Rattle.std.proofs.Common.{◌≡◌, ℕ, zero, suc, ◌+◌, ◌<◌, ◌≤◌, List, [], ◌∷◌, ◌++◌, length, take, drop, get_or, refl, sym, ◌∙◌, ap, subst, arith, append-nil, append_assoc, add-one, take_all}
+use Rattle.std.proofs.Common.{◌≡◌, ℕ, zero, suc, ◌+◌, ◌-◌, ◌<◌, ◌≤◌, List, [], ◌∷◌, ◌++◌, length, take, drop, get_or, refl, sym, ◌∙◌, ap, subst, arith, append-nil, append_assoc, add-one, take_all, length-drop}
 use Rattle.std.specs.Prelude.{Option, Result, Ok, Err, OnErr, codes, map}
 use Rattle.std.specs.List.{AllByRecursion}
 use Rattle.std.specs.Io.KnownBytes.{Appends}
 use Rattle.std.proofs.KnownBytes.{Appends-nil, Appends-trans}
-use Rattle.std.proofs.lemmas.List.{take-append-drop}
+use Rattle.std.proofs.lemmas.List.{length-map, take-append-drop}
 use Rattle.bl_setup.specs.Setup.{by_version}
 use Rattle.bl_setup.specs.declared.version.Version.TheVariants.{Two}
 use Rattle.bl_order.specs.Headline.{IsReached}
@@ -18,14 +18,25 @@ use Rattle.bl_trail.specs.EventText.{event_text}
 use Rattle.bl_trail.specs.TrueText.{HasNoLf, IsLimit, IsTrueText, event_texts, head_lines, joined}
 use Rattle.bl_trail.proofs.Following.{all-append, joined-append, two-has-all}
 use Rattle.bl_trail.proofs.Heading.{version-plain}
+use Rattle.bl_audit.specs.Bookmarks.{IsBookmark, texts_after}
 use Rattle.bl_audit.specs.Comes.{Comes, lines_from, works_in}
+use Rattle.bl_audit.specs.declared.bookmark.Bookmark.{Bookmark}
 use Rattle.bl_audit.specs.Written.{AppendsPart, WroteLine, trail_text}
-use Rattle.bl_audit.proofs.Lines.{lines-of-trail}
 use Rattle.bl_audit.proofs.WithoutLf.{plain-limit, plain-stop}
 
--- the event of a place in a trail, and those behind it
+-- the event of a place in a trail, and those after it
 abbrev pub event_at : List Event → ℕ → Event
 event_at es i = get_or es i (Opens 0)
+
+drop-all : (es : List Event) (i : ℕ) → length es ≤ i → drop i es ≡ []
+drop-all [] zero le = refl
+drop-all [] (suc i) le = refl
+drop-all (e ∷ es) zero le = absurd (omega (arith, le))
+drop-all (e ∷ es) (suc i) le = drop-all es i (omega (arith, le))
+
+-- after all events none admits a line
+pub none-in : (es : List Event) (ks : List kept.Event) → length ks ≡ length es → works_in (drop (length ks) es) ≡ []
+none-in es ks all = ap works_in (drop-all es (length ks) (omega (arith, all)))
 
 cut : (es : List Event) (i : ℕ) → i < length es → drop i es ≡ event_at es i ∷ drop (suc i) es
 cut [] i lt = absurd (omega arith)
@@ -62,6 +73,21 @@ texts-next x [] i lt = absurd (omega (arith, lt))
 texts-next x (e ∷ es) zero lt = refl
 texts-next x (e ∷ es) (suc i) lt = ap (λ l. event_text x e ∷ l) (texts-next (change x e) es i (omega (arith, lt)))
 
+-- the events that stand after the first so many, as they are kept
+pub kept-after : (ks : List kept.Event) (n : ℕ) (es : List Event) → ks ≡ map kept_of es → take (length ks - n) (drop n ks) ≡ map kept_of (drop n es)
+kept-after ks n es all = whole ks n ∙ ap (drop n) all ∙ go n es
+  where
+    whole : (ks : List kept.Event) (n : ℕ) → take (length ks - n) (drop n ks) ≡ drop n ks
+    whole ks n = take_all (length ks - n) (drop n ks) (omega (arith, length-drop n ks))
+
+    go : (n : ℕ) (es : List Event) → drop n (map kept_of es) ≡ map kept_of (drop n es)
+    go zero es = refl
+    go (suc n) [] = refl
+    go (suc n) (e ∷ es) = go n es
+
+pub as-many-kept : (ks : List kept.Event) (n : ℕ) (es : List Event) → ks ≡ map kept_of es → length (take (length ks - n) (drop n ks)) ≡ length (drop n es)
+as-many-kept ks n es all = ap length (kept-after ks n es all) ∙ length-map (drop n es) kept_of
+
 pub kept-at : (es : List Event) (ks : List kept.Event) (i : ℕ) (k : kept.Event) → ks ≡ map kept_of es → i < length ks → k ≡ get_or ks i k
     → (i < length es) × (kept_of (event_at es i) ≡ k)
 kept-at es ks i k all lt is = go es i k (subst (λ l. i < length l) all lt) (is ∙ ap (λ l. get_or l i k) all)
@@ -71,71 +97,120 @@ kept-at es ks i k all lt is = go es i k (subst (λ l. i < length l) all lt) (is 
     go (e ∷ es) zero k lt is = (omega arith, sym is)
     go (e ∷ es) (suc i) k lt is = let t : (i < length es) × (kept_of (event_at es i) ≡ k) = go es i k (omega (arith, lt)) is in (omega (arith, t.0), t.1)
 
--- the lines of the first events were written, and the lines of sessions among the others stand from this place on
-pub record WroteFirst (h : Chronicle) (i at : ℕ) (old new : Option (List ℕ)) : Type 0 where
-  pub text : Appends old new (joined (event_texts (start h.setup h.limit) (take i h.trail)))
-  pub plain : AllByRecursion HasNoLf (event_texts (start h.setup h.limit) (take i h.trail))
-  pub lines : lines_from (state_now h) at ≡ works_in (drop i h.trail)
+-- The lines of the first events after a state were written, and the lines of sessions among the others stand from this place of the order on.
+pub record WroteFirst (x : State) (es : List Event) (i at : ℕ) (old new : Option (List ℕ)) : Type 0 where
+  pub text : Appends old new (joined (event_texts x (take i es)))
+  pub plain : AllByRecursion HasNoLf (event_texts x (take i es))
+  pub place : at ≤ length (state_after x es).order
+  pub lines : lines_from (state_after x es) at ≡ works_in (drop i es)
 
 one-line : (l : List ℕ) → joined (l ∷ []) ≡ l ++ 10 ∷ []
 one-line l = append-nil (l ++ 10 ∷ [])
+
+module _ (x : State) (es : List Event) where
+  -- the state that the event of a place finds
+  abbrev pub found : ℕ → State
+  found i = state_after x (take i es)
+
+  module _ (i at : ℕ) (old mid : Option (List ℕ)) (lt : i < length es) (wrote : WroteFirst x es i at old mid) where
+    pub comes : IsReached x → IsTrail x es → Comes (found i) (event_at es i) (drop (suc i) es) (state_after x es) at
+    comes reached steps = record {
+      reached = reached-at x es i reached steps;
+      steps = subst (IsTrail (found i)) (cut es i lt) (steps-at x es i steps);
+      leads = leads-at x es i ∙ ap (state_after (found i)) (cut es i lt);
+      place = wrote.place;
+      lines = wrote.lines ∙ ap works_in (cut es i lt);
+    }
+
+    pub wrote-next : (next : ℕ) (new : Option (List ℕ)) → WroteLine (found i) (event_at es i) (drop (suc i) es) (state_after x es) next mid new → WroteFirst x es (i + 1) next old new
+    wrote-next next new line = record {
+      text = subst (Appends old new)
+          (ap (λ l. joined (event_texts x (take i es)) ++ l) (sym (one-line text))
+          ∙ sym (joined-append (event_texts x (take i es)) (text ∷ [])) ∙ ap joined (sym (next-texts)))
+          (Appends-trans old mid new (joined (event_texts x (take i es))) (text ++ 10 ∷ []) wrote.text line.text);
+      plain = subst (AllByRecursion HasNoLf) (sym next-texts) (all-append HasNoLf (event_texts x (take i es)) (text ∷ []) wrote.plain (line.plain, tt));
+      place = line.place;
+      lines = line.rest ∙ ap (λ j. works_in (drop j es)) (sym (add-one i));
+    }
+      where
+        text : List ℕ
+        text = event_text (found i) (event_at es i)
+
+        next-texts : event_texts x (take (i + 1) es) ≡ event_texts x (take i es) ++ text ∷ []
+        next-texts = ap (λ j. event_texts x (take j es)) (add-one i) ∙ texts-next x es i lt
+
+    pub wrote-part : (new : Option (List ℕ)) → AppendsPart mid new (event_text (found i) (event_at es i) ++ 10 ∷ []) → AppendsPart old new (joined (event_texts x es))
+    wrote-part new part = (
+      joined (event_texts x (take i es)) ++ part.0,
+      part.1 ++ joined later,
+      Appends-trans old mid new (joined (event_texts x (take i es))) part.0 wrote.text part.2,
+      ap joined (texts-at x es i) ∙ joined-append (event_texts x (take i es)) (event_texts (found i) (drop i es))
+          ∙ ap (λ l. joined (event_texts x (take i es)) ++ l)
+          (ap (λ ds. joined (event_texts (found i) ds)) (cut es i lt) ∙ ap (λ l. l ++ joined later) part.3 ∙ append_assoc part.0 part.1 (joined later))
+          ∙ sym (append_assoc (joined (event_texts x (take i es))) part.0 (part.1 ++ joined later)),
+    )
+      where
+        later : List (List ℕ)
+        later = event_texts (change (found i) (event_at es i)) (drop (suc i) es)
+
+  module _ (at : ℕ) (old new : Option (List ℕ)) (i : ℕ) (le : length es ≤ i) (wrote : WroteFirst x es i at old new) where
+    pub wrote-text : Appends old new (joined (event_texts x es))
+    wrote-text = subst (λ ds. Appends old new (joined (event_texts x ds))) (take_all i es le) wrote.text
+
+    pub wrote-plain : AllByRecursion HasNoLf (event_texts x es)
+    wrote-plain = subst (λ ds. AllByRecursion HasNoLf (event_texts x ds)) (take_all i es le) wrote.plain
+
+    -- no lines are left
+    pub wrote-lines : lines_from (state_after x es) at ≡ []
+    wrote-lines = wrote.lines ∙ ap works_in (drop-all es i le)
 
 module _ (h : Chronicle) where
   abbrev pub first : State
   first = start h.setup h.limit
 
-  -- the state that the event of a place finds
-  abbrev pub found : ℕ → State
-  found i = state_after first (take i h.trail)
+  -- where the first so many events lead, and the others
+  abbrev pub state_at : ℕ → State
+  state_at n = state_after first (take n h.trail)
 
-  pub wrote-none : (old : Option (List ℕ)) → WroteFirst h 0 0 old old
-  wrote-none old = record { text = Appends-nil old; plain = tt; lines = lines-of-trail h.setup h.limit h.trail }
+  abbrev pub events_after : ℕ → List Event
+  events_after n = drop n h.trail
 
-  module _ (i at : ℕ) (old mid : Option (List ℕ)) (lt : i < length h.trail) (wrote : WroteFirst h i at old mid) where
-    pub comes : HasTrail h → Comes (found i) (event_at h.trail i) (drop (suc i) h.trail) (state_now h) at
-    comes trail = record {
-      reached = reached-at first h.trail i (reached-first h.setup h.limit) trail;
-      steps = subst (IsTrail (found i)) (cut h.trail i lt) (steps-at first h.trail i trail);
-      leads = leads-at first h.trail i ∙ ap (state_after (found i)) (cut h.trail i lt);
-      lines = wrote.lines ∙ ap works_in (cut h.trail i lt);
-    }
+  pub leads-on : (n : ℕ) → state_now h ≡ state_after (state_at n) (events_after n)
+  leads-on n = leads-at first h.trail n
 
-    pub wrote-next : (next : ℕ) (new : Option (List ℕ)) → WroteLine (found i) (event_at h.trail i) (drop (suc i) h.trail) (state_now h) next mid new → WroteFirst h (i + 1) next old new
-    wrote-next next new line = record {
-      text = subst (Appends old new)
-          (ap (λ l. joined (event_texts first (take i h.trail)) ++ l) (sym (one-line text))
-          ∙ sym (joined-append (event_texts first (take i h.trail)) (text ∷ [])) ∙ ap joined (sym (next-texts)))
-          (Appends-trans old mid new (joined (event_texts first (take i h.trail))) (text ++ 10 ∷ []) wrote.text line.text);
-      plain = subst (AllByRecursion HasNoLf) (sym next-texts) (all-append HasNoLf (event_texts first (take i h.trail)) (text ∷ []) wrote.plain (line.plain, tt));
-      lines = line.rest ∙ ap (λ j. works_in (drop j h.trail)) (sym (add-one i));
-    }
-      where
-        text : List ℕ
-        text = event_text (found i) (event_at h.trail i)
+  pub steps-on : (n : ℕ) → HasTrail h → IsTrail (state_at n) (events_after n)
+  steps-on n trail = steps-at first h.trail n trail
 
-        next-texts : event_texts first (take (i + 1) h.trail) ≡ event_texts first (take i h.trail) ++ text ∷ []
-        next-texts = ap (λ j. event_texts first (take j h.trail)) (add-one i) ∙ texts-next first h.trail i lt
+  pub reached-on : (n : ℕ) → HasTrail h → IsReached (state_at n)
+  reached-on n trail = reached-at first h.trail n (reached-first h.setup h.limit) trail
 
-    pub wrote-part : (new : Option (List ℕ)) → AppendsPart mid new (event_text (found i) (event_at h.trail i) ++ 10 ∷ []) → AppendsPart old new (joined (event_texts first h.trail))
-    wrote-part new part = (
-      joined (event_texts first (take i h.trail)) ++ part.0,
-      part.1 ++ joined later,
-      Appends-trans old mid new (joined (event_texts first (take i h.trail))) part.0 wrote.text part.2,
-      ap joined (texts-at first h.trail i) ∙ joined-append (event_texts first (take i h.trail)) (event_texts (found i) (drop i h.trail))
-          ∙ ap (λ l. joined (event_texts first (take i h.trail)) ++ l)
-          (ap (λ es. joined (event_texts (found i) es)) (cut h.trail i lt) ∙ ap (λ l. l ++ joined later) part.3 ∙ append_assoc part.0 part.1 (joined later))
-          ∙ sym (append_assoc (joined (event_texts first (take i h.trail))) part.0 (part.1 ++ joined later)),
-    )
-      where
-        later : List (List ℕ)
-        later = event_texts (change (found i) (event_at h.trail i)) (drop (suc i) h.trail)
+  pub wrote-none : (b : Bookmark) (old : Option (List ℕ)) → IsBookmark h b → WroteFirst (state_at b.written) (events_after b.written) 0 b.place old old
+  wrote-none b old is = record {
+    text = Appends-nil old;
+    plain = tt;
+    place = subst (λ (y : State). b.place ≤ length y.order) (leads-on b.written) is.place;
+    lines = subst (λ (y : State). lines_from y b.place ≡ works_in (events_after b.written)) (leads-on b.written) is.lines;
+  }
 
-  pub wrote-all : (at : ℕ) (old new : Option (List ℕ)) (i : ℕ) → length h.trail ≤ i → WroteFirst h i at old new
-      → Appends old new (joined (event_texts first h.trail)) × AllByRecursion HasNoLf (event_texts first h.trail)
-  wrote-all at old new i le wrote = (
-    subst (λ es. Appends old new (joined (event_texts first es))) (take_all i h.trail le) wrote.text,
-    subst (λ es. AllByRecursion HasNoLf (event_texts first es)) (take_all i h.trail le) wrote.plain,
-  )
+  pub nothing-after : events_after (length h.trail) ≡ []
+  nothing-after = drop-all h.trail (length h.trail) (omega arith)
+
+  -- when all lines after a bookmark were written, it stands at the end
+  pub at-end : (n at : ℕ) (old new : Option (List ℕ)) (i : ℕ) → length (events_after n) ≤ i → WroteFirst (state_at n) (events_after n) i at old new
+      → (b : Bookmark) → b.written ≡ length h.trail → b.place ≡ at → IsBookmark h b
+  at-end n at old new i le wrote b written place = record {
+    written = omega (arith, written);
+    place = subst (λ (y : State). b.place ≤ length y.order) (sym (leads-on n)) (subst (λ p. p ≤ length (state_after (state_at n) (events_after n)).order) (sym place) wrote.place);
+    lines = ap (lines_from (state_now h)) place
+        ∙ ap (λ (y : State). lines_from y at) (leads-on n)
+        ∙ wrote-lines (state_at n) (events_after n) at old new i le wrote
+        ∙ ap works_in (sym nothing-after)
+        ∙ ap (λ m. works_in (events_after m)) (sym written);
+  }
+
+  -- all texts are those after no event
+  pub all-after : (P : List (List ℕ) → Type 0) (n : ℕ) → n ≡ 0 → P (texts_after h n) → P (event_texts first h.trail)
+  all-after P n none p = subst (λ m. P (texts_after h m)) none p
 
   -- ---- the whole text
 

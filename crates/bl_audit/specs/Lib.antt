@@ -1,2 +1,3 @@
 pub mod Comes
 pub mod Written
+pub mod Bookmarks

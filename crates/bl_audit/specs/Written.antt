@@ -1,5 +1,5 @@
 -- What a writer of a trail has written.
-use Rattle.std.specs.Prelude.{◌≡◌, ℕ, Bool, true, false, List, [], ◌∷◌, ◌++◌, Option}
+use Rattle.std.specs.Prelude.{◌≡◌, ◌≤◌, ℕ, Bool, true, false, List, [], ◌∷◌, ◌++◌, length, Option}
 use Rattle.std.specs.Io.KnownBytes.{Appends}
 use Rattle.bl_setup.specs.Setup.{Setup}
 use Rattle.bl_setup.specs.declared.version.Version.TheVariants.{Two}
@@ -22,6 +22,7 @@ AppendsPart old new text = (part : List ℕ) × (rest : List ℕ) × Appends old
 pub record WroteLine (x : State) (event : Event) (later : List Event) (end : State) (next : ℕ) (old new : Option (List ℕ)) : Type 0 where
   pub text : Appends old new (event_text x event ++ 10 ∷ [])
   pub plain : HasNoLf (event_text x event)
+  pub place : next ≤ length end.order
   pub rest : lines_from end next ≡ works_in later
 
 -- whether the fault is the writer's

@@ -1,5 +1,5 @@
 //! The line of an event, written after the trail has ended: what the core knows then tells what was said at each start and end.
-ghost use Rattle.std.specs.Prelude.{◌≡◌, ◌+◌, ◌<◌, ◌^◌, ◌++◌, ◌∷◌, [], IfErr, IfOk, IfSome, List, MatchOption, OnErr, OnOk, codes, decimal, false, option_copied};
+ghost use Rattle.std.specs.Prelude.{◌≡◌, ◌+◌, ◌<◌, ◌≤◌, ◌^◌, ◌++◌, ◌∷◌, [], IfErr, IfOk, IfSome, List, MatchOption, OnErr, OnOk, codes, decimal, false, length, option_copied};
 ghost use Rattle.bl_work.specs.declared.asked.Line.TheVariants as asked;
 ghost use Rattle.bl_work.specs.declared.work.Work.{Work as AnyWork};
 ghost use Rattle.bl_work.specs.Readable.{IsReadable};
@@ -33,10 +33,11 @@ pub enum TrailFault {
     Memory,
 }
 
-/// The first line at or behind a place of the order, with its place.
+/// The first line at or after a place of the order, with its place.
 fn line_from(core: &Core, at: u32) -> Option<(u32, &Work)>
     ensures lines { MatchOption result (lines_from core.now at ≡ []) (λ found. lines_from core.now at ≡ found.1.now ∷ lines_from core.now (found.0 + 1)) }
     ensures few { IfSome result (λ found. found.0 + 1 < 2 ^ 32) }
+    ensures there { IfSome result (λ found. found.0 < length core.now.order) }
     ensures readable { IfSome result (λ found. IsReadable core.now.setup.names found.1.now) }
 {
     for n in at..core.entries() {
@@ -58,7 +59,7 @@ fn start_words(answer: Option<&Answer>) -> Words
     }
 }
 
-/// Writes the text of the next line of a session, which is the first one at or behind a place, and answers the place behind it. An
+/// Writes the text of the next line of a session, which is the first one at or after a place, and answers the place after it. An
 /// error comes only where a growth is refused, before anything is written.
 fn put_next_line<W: Write>(
     alloc: Global,
@@ -73,6 +74,7 @@ fn put_next_line<W: Write>(
         → Puts (codes "line " ++ (decimal session ++ (32 ∷ (decimal ordinal ++ (32 ∷ canonical_line core.now.setup.names (asked.Work work)))))) (end_state W.contents writer.old) (end_state W.contents writer.new)) }
     ensures plain { IfOk result (λ next. (work : AnyWork) (rest : List AnyWork) → lines_from core.now at ≡ work ∷ rest
         → HasNoLf (canonical_line core.now.setup.names (asked.Work work))) }
+    ensures place { IfOk result (λ next. next ≤ length core.now.order) }
     ensures next { IfOk result (λ next. (work : AnyWork) (rest : List AnyWork) → lines_from core.now at ≡ work ∷ rest → lines_from core.now next ≡ rest) }
     ensures err { OnErr result (writer.new ≡ writer.old) }
 {
@@ -107,7 +109,7 @@ fn numbers_fit(event: &Event)
     }
 }
 
-/// Writes the text of an event without its LF, and answers the place behind the last line that was written. An error comes only
+/// Writes the text of an event without its LF, and answers the place after the last line that was written. An error comes only
 /// where a growth is refused, before anything is written.
 fn put_text<W: Write>(
     alloc: Global,
@@ -152,7 +154,7 @@ fn put_text<W: Write>(
     }
 }
 
-/// Writes the line of an event, and answers the place behind the last line of a session that was written. At a fault a first part
+/// Writes the line of an event, and answers the place after the last line of a session that was written. At a fault a first part
 /// of it was written.
 pub(crate) fn put_event<W: Write>(
     alloc: Global,

@@ -2,13 +2,14 @@
 ghost use Rattle.std.specs.Prelude.{◌≡◌, IfErr, OnErr, OnOk, false, length};
 ghost use Rattle.std.specs.List.{AllByRecursion};
 ghost use Rattle.std.specs.Io.KnownBytes.{Appends};
-ghost use Rattle.bl_order.specs.Machine.{start};
 ghost use Rattle.bl_trail.specs.Follow.{IsVerdict};
-ghost use Rattle.bl_trail.specs.TrueText.{HasNoLf, IsTrueText, event_texts, joined};
+ghost use Rattle.bl_trail.specs.TrueText.{HasNoLf, IsTrueText, joined};
 ghost use Rattle.bl_trail.specs.declared.verdict.Verdict.{Verdict as AnyVerdict};
 ghost use Rattle.bl_trail.specs.declared.verdict.Verdict.TheVariants.{Accepted};
+ghost use Rattle.bl_audit.specs.Bookmarks.{IsBookmark, texts_after};
 ghost use Rattle.bl_audit.specs.Written.{AppendsPart, is_write, trail_text};
 
+use crate::bookmark::Bookmark;
 pub use crate::event::TrailFault;
 use crate::event::put_event;
 use bl_hall::hall::Hall;
@@ -19,26 +20,38 @@ use bl_wire::watched::Watched;
 use std::alloc::Global;
 use std::io::Write;
 
-/// Writes the line of each event.
-fn put_events<W: Write>(
+/// Writes the lines of the events after a bookmark, each with its LF, and moves it after the last of them.
+///
+/// At a fault a first part of these lines was written, and the bookmark stays: `Write` comes only where the writer failed in this
+/// call, and `Memory` only where a growth was refused.
+pub fn write_lines<W: Write>(
     alloc: Global,
     hall: &Hall,
+    bookmark: &mut Bookmark,
     writer: &mut Watched<W>,
 ) -> Result<(), TrailFault>
-    requires { writer.old.failed ≡ false }
+    requires bookmark { IsBookmark hall.now bookmark.old }
+    requires fine { writer.old.failed ≡ false }
     ensures text { OnOk result (Appends (W.contents writer.old.inner) (W.contents writer.new.inner)
-        (joined (event_texts (start hall.now.setup hall.now.limit) hall.now.trail))) }
-    ensures plain { OnOk result (AllByRecursion HasNoLf (event_texts (start hall.now.setup hall.now.limit) hall.now.trail)) }
+        (joined (texts_after hall.now bookmark.old.written))) }
+    ensures plain { OnOk result (AllByRecursion HasNoLf (texts_after hall.now bookmark.old.written)) }
+    ensures moved { OnOk result (IsBookmark hall.now bookmark.new × (bookmark.new.written ≡ length hall.now.trail)) }
+    ensures stays { OnErr result (bookmark.new ≡ bookmark.old) }
     ensures fine { OnOk result (writer.new.failed ≡ false) }
     ensures part { OnErr result (AppendsPart (W.contents writer.old.inner) (W.contents writer.new.inner)
-        (joined (event_texts (start hall.now.setup hall.now.limit) hall.now.trail))) }
+        (joined (texts_after hall.now bookmark.old.written))) }
     ensures fault { IfErr result (λ fault. writer.new.failed ≡ is_write fault) }
 {
     let core = hall.core();
-    let mut at = 0;
-    for event in hall.trail() {
-        at = put_event(alloc, writer, core, at, event)?;
+    let trail = hall.trail();
+    let mut place = bookmark.place;
+    for event in &trail[bookmark.written..] {
+        place = put_event(alloc, writer, core, place, event)?;
     }
+    *bookmark = Bookmark {
+        written: trail.len(),
+        place,
+    };
     Ok(())
 }
 
@@ -68,7 +81,8 @@ pub fn write_trail<W: Write>(
     if writer.failed() {
         return Err(TrailFault::Write);
     }
-    put_events(alloc, hall, writer)?;
+    let mut bookmark = Bookmark::first();
+    write_lines(alloc, hall, &mut bookmark, writer)?;
     if put_out(writer, b"stop\n") {
         Ok(())
     } else {

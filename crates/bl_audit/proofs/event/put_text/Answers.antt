@@ -1,4 +1,4 @@
-use Rattle.std.proofs.Common.{◌≡◌, ◌<◌, ◌++◌, ◌∷◌, [], ℕ, List, length, sym, ap, subst, ◌∙◌, codes, decimal, slice_index_or, true≢false}
+use Rattle.std.proofs.Common.{◌≡◌, ◌<◌, ◌≤◌, ◌++◌, ◌∷◌, [], ℕ, List, length, sym, ap, subst, ◌∙◌, codes, decimal, slice_index_or, true≢false}
 use Rattle.std.specs.Prelude.{IsSome, Option, option_copied}
 use Rattle.std.specs.Borrow.{Bor}
 use Rattle.bl_work.specs.declared.answer.Answer.{Answer}
@@ -19,7 +19,7 @@ use Rattle.bl_trail.specs.declared.text.Words.{Words}
 use Rattle.bl_audit.specs.Comes.{Comes, HasLine, NumbersFit, lines_from, words_later, works_in}
 use Rattle.bl_audit.proofs.Later.{told_of}
 use Rattle.bl_wire.proofs.Naming.{names-answer}
-use Rattle.bl_audit.proofs.Telling.{names-told, ok-three, told-is}
+use Rattle.bl_audit.proofs.Telling.{names-told, ok-four, told-is}
 use Rattle.bl_audit.proofs.Texts.{admitted-line, end-line, ended-so, is-end, is-line, is-loss, is-open, is-start, loss-line, open-line, start-line, subject-there}
 use Rattle.bl_audit.proofs.event.put_text.Goals as goal
 
@@ -65,19 +65,20 @@ returns-in-Line-clause-told g c =
     let end = c.args.core.now in
     let old = end_state g.W.Write.contents c.args.writer.now in
     let new = end_state g.W.Write.contents c.put_next_line.new.writer in
-    ok-three c.put_next_line.result
+    ok-four c.put_next_line.result
     (λ next. (w : Work) (rest : List Work) → lines_from end c.args.at ≡ w ∷ rest
     → Puts (codes "line " ++ (decimal i ++ (32 ∷ (decimal k ++ (32 ∷ canonical_line end.setup.names (asked.Work w)))))) old new)
     (λ next. (w : Work) (rest : List Work) → lines_from end c.args.at ≡ w ∷ rest → HasNoLf (canonical_line end.setup.names (asked.Work w)))
+    (λ next. next ≤ length end.order)
     (λ next. (w : Work) (rest : List Work) → lines_from end c.args.at ≡ w ∷ rest → lines_from end next ≡ rest)
     (λ next. (x : State) (e : Event) (later : List Event) → Comes x e later end c.args.at → kept_of e ≡ c.args.event.now → HasLine x e later end next old new)
-    (λ next puts plain more x e later comes kept.
+    (λ next puts plain place more x e later comes kept.
     let is = is-line e i k (kept ∙ c.in-Line.is) in
     let lines : lines_from end c.args.at ≡ is.0 ∷ works_in later = comes.lines ∙ ap (λ (d : Event). works_in (d ∷ later)) is.1 in
     as-line x e (Admits i k is.0) later end next old new is.1
     (admitted-line x later end c.args.at old new i k next is.0 (as-event x e (Admits i k is.0) later end c.args.at is.1 comes)
-    (subst NumbersFit c.in-Line.is c.numbers_fit.ensures).0 (subst NumbersFit c.in-Line.is c.numbers_fit.ensures).1 (puts is.0 (works_in later) lines) (plain is.0 (works_in later) lines) (more is.0 (works_in later) lines)))
-    c.put_next_line.ensures.text c.put_next_line.ensures.plain c.put_next_line.ensures.next
+    (subst NumbersFit c.in-Line.is c.numbers_fit.ensures).0 (subst NumbersFit c.in-Line.is c.numbers_fit.ensures).1 (puts is.0 (works_in later) lines) (plain is.0 (works_in later) lines) place (more is.0 (works_in later) lines)))
+    c.put_next_line.ensures.text c.put_next_line.ensures.plain c.put_next_line.ensures.place c.put_next_line.ensures.next
 
 pub put_start-requires : goal.put_start-requires
 put_start-requires g c =
