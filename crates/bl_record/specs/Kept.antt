@@ -1,0 +1,31 @@
+-- What a journal has kept of a hall, and what a crash leaves of it.
+use Rattle.std.specs.Prelude.{◌≡◌, List, ℕ, length, Option, Some, None}
+use Rattle.bl_audit.specs.Bookmarks.{IsBookmark}
+use Rattle.bl_audit.specs.declared.bookmark.Bookmark.{Bookmark}
+use Rattle.bl_disk.specs.File.{File, MayLeave, all_kept}
+use Rattle.bl_disk.specs.declared.device.DeviceError.{DeviceError}
+use Rattle.bl_hall.specs.Chronicle.{Chronicle}
+use Rattle.bl_journal.specs.Journals.{GoesOnFrom, IsHistory, IsRecovered, Journal, journal_text}
+use Rattle.bl_rebuild.specs.Rebuilds.{journal_of}
+use Rattle.bl_record.specs.declared.fault.JournalFault.{JournalFault}
+use Rattle.bl_record.specs.declared.fault.JournalFault.TheVariants.{Device, Memory}
+use Rattle.bl_setup.specs.Setup.{Setup}
+use Rattle.bl_setup.specs.declared.version.Version.TheVariants.{Two}
+
+-- The file has the text of the hall's trail and nothing else, all of it is on the disk for certain, and the bookmark stands after all of it.
+pub record IsKept (hall : Chronicle) (reached : Bookmark) (file : File) : Type 0 where
+  pub two : hall.setup.version ≡ Two
+  pub history : IsHistory hall.setup (journal_of hall)
+  pub text : file ≡ all_kept (journal_text hall.setup (journal_of hall))
+  pub bookmark : IsBookmark hall reached
+  pub all : reached.written ≡ length hall.trail
+
+-- whatever a crash leaves of the file, the journal that is recovered of it goes on from this one
+abbrev pub LosesNothing : Setup → Journal → File → Type 0
+LosesNothing setup kept file =
+    (left : List ℕ) (found : Journal) → MayLeave file left → IsRecovered setup left found → GoesOnFrom kept found
+
+-- by what a journal has failed, after a call that told this fault: want of memory is no failure of the device
+abbrev pub HasFailedBy : Option DeviceError → JournalFault → Type 0
+HasFailedBy failed (Device error) = failed ≡ Some error
+HasFailedBy failed Memory = failed ≡ None

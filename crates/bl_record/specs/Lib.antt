@@ -1,0 +1,6 @@
+pub mod Kept
+pub mod Ending
+pub mod Nearing
+pub mod Faults
+pub mod Recovering
+pub mod Completing

@@ -1,0 +1,171 @@
+//! The journal of a hall: the head of a trail and a line for each event, in a file, and at its end `stop`.
+ghost use Rattle.std.specs.Prelude.{◌≡◌, ◌++◌, [], codes, Err, false, IfErr, IfOk, IfSome, length, None, OnOk};
+ghost use Rattle.std.specs.List.{AllByRecursion};
+ghost use Rattle.bl_audit.specs.Bookmarks.{HasGrown, IsBookmark, texts_after};
+ghost use Rattle.bl_disk.specs.File.{Keeps, all_kept, seen};
+ghost use Rattle.bl_disk.specs.Moments.{Passes};
+ghost use Rattle.bl_hall.specs.Chronicle.{Chronicle};
+ghost use Rattle.bl_journal.specs.Journals.{journal_text};
+ghost use Rattle.bl_rebuild.specs.Rebuilds.{journal_of};
+ghost use Rattle.bl_record.specs.declared.fault.JournalFault.TheVariants.{Device as DeviceFault, Memory};
+ghost use Rattle.bl_record.specs.Kept.{HasFailedBy, IsKept, LosesNothing};
+ghost use Rattle.bl_setup.specs.Setup.{Setup};
+ghost use Rattle.bl_setup.specs.declared.version.Version.TheVariants.{Two};
+ghost use Rattle.bl_trail.specs.TrueText.{HasNoLf, IsLimit, IsTrueText, head_lines, joined};
+
+use crate::fault::JournalFault;
+use bl_audit::bookmark::Bookmark;
+use bl_audit::trail::write_lines;
+use bl_disk::device::{Device, DeviceError};
+use bl_disk::log::{Log, reopen};
+use bl_hall::hall::Hall;
+use bl_journal::laws::{a_crash_loses_nothing_that_was_kept, closed_journals_are_true};
+use bl_setup::version::Version;
+use bl_trail::text::put_head;
+use bl_wire::watched::Watched;
+use std::alloc::{AllocError, Global};
+
+/// A journal. Its file has the text of the trail of a hall, as far as it has kept up with that, and no `stop`.
+#[derive(Drop)]
+pub struct Journal<D: Device> {
+    /// The file.
+    pub log: Log<D>,
+    /// How far the trail was kept.
+    pub bookmark: Bookmark,
+    /// The fault of the device by which the journal has failed, if it has.
+    pub fault: Option<DeviceError>,
+}
+
+/// The head of a trail of version 2.
+fn head_text(alloc: Global, limit: u32) -> Result<Vec<u8>, AllocError>
+    ensures { IfOk result (λ text. text.items ≡ joined (head_lines Two limit)) }
+{
+    let mut text = Watched::new(Vec::new(alloc));
+    put_head(&mut text, Version::Two, limit);
+    if text.failed() {
+        return Err(AllocError);
+    }
+    Ok(text.into_inner())
+}
+
+/// The lines of the events after a bookmark, which is moved after them.
+fn lines_after(alloc: Global, hall: &Hall, bookmark: &mut Bookmark) -> Result<Vec<u8>, AllocError>
+    requires { IsBookmark hall.now bookmark.old }
+    ensures text { IfOk result (λ text. text.items ≡ joined (texts_after hall.now bookmark.old.written)) }
+    ensures plain { OnOk result (AllByRecursion HasNoLf (texts_after hall.now bookmark.old.written)) }
+    ensures moved { OnOk result (IsBookmark hall.now bookmark.new × (bookmark.new.written ≡ length hall.now.trail)) }
+{
+    let mut text = Watched::new(Vec::new(alloc));
+    match write_lines(alloc, hall, bookmark, &mut text) {
+        Ok(()) => Ok(text.into_inner()),
+        Err(_fault) => Err(AllocError),
+    }
+}
+
+/// Begins a journal under a limit, which is 1 to 100,000: its file has the head of a trail, on the disk. What was there is cut off, as
+/// a head that a crash has torn. `Memory` comes where a growth is refused, and then the file is as it was; the device is given back
+/// with each fault.
+pub fn begin<D: Device>(
+    alloc: Global,
+    limit: u32,
+    device: D,
+) -> Result<Journal<D>, (JournalFault, D)>
+    requires limit { IsLimit limit }
+    requires sound { D.has_failed device ≡ false }
+    ensures kept { IfOk result (λ journal. (setup : Setup) → setup.version ≡ Two
+        → IsKept (record { setup = setup; limit = limit; trail = [] }) journal.bookmark (D.now journal.log.device)) }
+    ensures fine { IfOk result (λ journal. journal.fault ≡ None) }
+    ensures sound { IfOk result (λ journal. D.has_failed journal.log.device ≡ false) }
+    ensures memory { IfErr result (λ failed. failed.0 ≡ Memory → failed.1 ≡ device) }
+{
+    let Ok(text) = head_text(alloc, limit) else {
+        return Err((JournalFault::Memory, device));
+    };
+    let mut log = match reopen(device, 0) {
+        Ok(log) => log,
+        Err((error, device)) => return Err((JournalFault::Device(error), device)),
+    };
+    match log.add(&text) {
+        Ok(()) => Ok(Journal {
+            log,
+            bookmark: Bookmark::first(),
+            fault: None,
+        }),
+        Err(error) => {
+            let Log { device } = log;
+            Err((JournalFault::Device(error), device))
+        }
+    }
+}
+
+impl<D: Device> Journal<D> {
+    /// Keeps up with a hall: writes the lines of all that has happened since, and has them on the disk before it answers. Whenever the
+    /// machine ends, in the call or after it, all that was kept before is recovered.
+    ///
+    /// `Memory` comes where a growth is refused: nothing has changed then, and the next call goes on. `Device` comes where the device
+    /// failed: the journal stays failed, and each later call tells that fault at once.
+    pub fn keep_up(&mut self, alloc: Global, hall: &Hall) -> Result<(), JournalFault>
+        requires sound { self.old.fault ≡ None → D.has_failed self.old.log.device ≡ false }
+        requires goes_on { self.old.fault ≡ None → (before : Chronicle) × IsKept before self.old.bookmark (D.now self.old.log.device) × HasGrown before hall.now }
+        ensures kept { OnOk result (IsKept hall.now self.new.bookmark (D.now self.new.log.device)) }
+        ensures any_moment { (before : Chronicle) → IsKept before self.old.bookmark (D.now self.old.log.device) → HasGrown before hall.now
+            → Passes D.now D.past self.old.log.device self.new.log.device (LosesNothing before.setup (journal_of before)) }
+        ensures fine { OnOk result (self.new.fault ≡ None) }
+        ensures sound { self.new.fault ≡ None → D.has_failed self.new.log.device ≡ false }
+        ensures fault { IfErr result (HasFailedBy self.new.fault) }
+        ensures memory { result ≡ Err Memory → self.new ≡ self.old }
+        ensures failed { IfSome self.old.fault (λ error. (result ≡ Err (DeviceFault error)) × (self.new ≡ self.old)) }
+    {
+        a_crash_loses_nothing_that_was_kept();
+        // asked for the proof alone: the names are those of the setup, which is of version 2
+        let setup = hall.core().setup();
+        let _version = setup.version();
+        let _scheme = setup.names().scheme();
+        if let Some(error) = self.fault {
+            return Err(JournalFault::Device(error));
+        }
+        let mut bookmark = self.bookmark;
+        let text = lines_after(alloc, hall, &mut bookmark)?;
+        match self.log.add(&text) {
+            Ok(()) => {
+                self.bookmark = bookmark;
+                Ok(())
+            }
+            Err(error) => {
+                self.fault = Some(error);
+                Err(JournalFault::Device(error))
+            }
+        }
+    }
+
+    /// Closes the journal: adds `stop`, and has it on the disk. What is there then is the true text of a trail, so who replays it accepts
+    /// it. Whenever the machine ends, all that was kept is recovered. A fault is the device's, in this call or before.
+    pub fn close(self) -> Result<D, (DeviceError, D)>
+        requires sound { self.fault ≡ None → D.has_failed self.log.device ≡ false }
+        ensures closed { IfOk result (λ device. (hall : Chronicle) → IsKept hall self.bookmark (D.now self.log.device)
+            → D.now device ≡ all_kept (journal_text hall.setup (journal_of hall) ++ codes "stop\n")) }
+        ensures true_text { IfOk result (λ device. (hall : Chronicle) → IsKept hall self.bookmark (D.now self.log.device)
+            → IsTrueText hall.setup (seen (D.now device)) (length hall.trail)) }
+        ensures any_moment { IfOk result (λ device. Passes D.now D.past self.log.device device (Keeps (D.now self.log.device).kept)) }
+        ensures any_moment_failed { IfErr result (λ failed. Passes D.now D.past self.log.device failed.1 (Keeps (D.now self.log.device).kept)) }
+        ensures failed { IfSome self.fault (λ error. result ≡ Err (error, self.log.device)) }
+    {
+        closed_journals_are_true();
+        let Journal {
+            log,
+            bookmark: _,
+            fault,
+        } = self;
+        let mut log = log;
+        if let Some(error) = fault {
+            let Log { device } = log;
+            return Err((error, device));
+        }
+        let added = log.add(b"stop\n");
+        let Log { device } = log;
+        match added {
+            Ok(()) => Ok(device),
+            Err(error) => Err((error, device)),
+        }
+    }
+}
