@@ -1,7 +1,7 @@
 -- A bookmark stays right while more happens.
-use Rattle.std.proofs.Common.{◌≡◌, ℕ, ◌≤◌, List, ◌++◌, length, drop, sym, ◌∙◌, ap, subst, arith, length-append}
+use Rattle.std.proofs.Common.{◌≡◌, ◌≤◌, ◌++◌, length, drop, sym, ◌∙◌, ap, subst, arith, length-append}
 use Rattle.std.proofs.lemmas.List.{drop-append-le}
-use Rattle.bl_order.specs.Machine.{State, Event, start, state_after}
+use Rattle.bl_order.specs.Machine.{State, start, state_after}
 use Rattle.bl_hall.specs.Chronicle.{Chronicle, state_now}
 use Rattle.bl_audit.specs.Bookmarks.{HasGrown, IsBookmark}
 use Rattle.bl_audit.specs.Comes.{lines_from, works_in}

@@ -1,13 +1,12 @@
 -- What a core tells of answers.
-use Rattle.std.proofs.Common.{◌≡◌, ℕ, ◌<◌, Bool, true, false, cond, length, refl, sym, ◌∙◌, ap, arith, true≢false}
+use Rattle.std.proofs.Common.{◌≡◌, ℕ, Bool, true, false, cond, refl, sym, ◌∙◌, ap, true≢false}
 use Rattle.std.specs.Prelude.{Option, Some, None, Result, Ok, Err, IfOk, IfSome, IsSome, IsTrue, ◌↔◌, option_copied}
 use Rattle.std.specs.Borrow.{Bor}
-use Rattle.bl_policy.specs.declared.denial.Denial.{Denial}
 use Rattle.bl_work.specs.declared.answer.Answer.{Answer}
 use Rattle.bl_work.specs.declared.answer.Answer.TheVariants as answer
 use Rattle.bl_setup.specs.Agreement.{Agree}
 use Rattle.bl_setup.specs.Setup.{Setup}
-use Rattle.bl_order.specs.Known.{KnowsAnswer, KnowsDenial}
+use Rattle.bl_order.specs.Known.{KnowsAnswer}
 use Rattle.bl_order.specs.Machine.{State, has_ended, past_at}
 use Rattle.bl_wire.proofs.Naming.{names-denial}
 use Rattle.bl_trail.specs.StartWords.{NamesWords}
