@@ -7,11 +7,10 @@ use Rattle.bl_disk.proofs.Fronts.{itself, take-behind, through}
 use Rattle.bl_disk.proofs.Passing.{goes-on, weaker}
 use Rattle.bl_disk.specs.File.{Begins, File, Keeps, MayLeave, all_kept, seen}
 use Rattle.bl_disk.specs.Moments.{Passes}
-use Rattle.bl_hall.specs.Chronicle.{Chronicle, HasTrail}
+use Rattle.bl_hall.specs.Chronicle.{Chronicle}
 use Rattle.bl_journal.specs.Journals.{GoesOnFrom, IsHistory, IsRecovered, Journal, first_state, journal_text, last_state, lines_of_events}
-use Rattle.bl_order.specs.Machine.{IsTrail}
 use Rattle.bl_rebuild.specs.Rebuilds.{journal_of}
-use Rattle.bl_record.proofs.Growing.{begins, texts-both}
+use Rattle.bl_record.proofs.Growing.{texts-both}
 use Rattle.bl_record.proofs.Keeping.{CrashLaw, keeps-loses}
 use Rattle.bl_record.specs.Kept.{IsKept, LosesNothing}
 use Rattle.bl_record.specs.Recovering.{LosesNoHistory}
@@ -40,10 +39,6 @@ begins-text setup kept found goes =
   where
     same : found ≡ record { version = kept.version; limit = kept.limit; events = kept.events ++ goes.events.0 }
     same = λ i. record { version = goes.version i; limit = goes.limit i; events = goes.events.1 i }
-
--- the events of a history are a trail of the hall
-pub trail-of : (h : Chronicle) → h.setup.version ≡ Two → IsHistory h.setup (journal_of h) → HasTrail h
-trail-of h two history = subst (λ x. IsTrail x h.trail) (begins h [] two) history.steps
 
 pub take-front : (a b : List ℕ) (n : ℕ) → n ≡ length a → take n (a ++ b) ≡ a
 take-front a b n is = ap (λ m. take m (a ++ b)) is ∙ go a

@@ -4,7 +4,7 @@ use Rattle.std.specs.Prelude.{codes}
 use Rattle.bl_audit.specs.declared.bookmark.Bookmark.{Bookmark}
 use Rattle.bl_disk.specs.File.{File, all_kept, seen}
 use Rattle.bl_hall.specs.Chronicle.{Chronicle}
-use Rattle.bl_journal.specs.Journals.{IsHistory, IsRecovered, journal_text}
+use Rattle.bl_journal.specs.Journals.{IsHistory, journal_text}
 use Rattle.bl_rebuild.specs.Rebuilds.{journal_of}
 use Rattle.bl_record.proofs.Histories.{take-front}
 use Rattle.bl_record.specs.Completing.{IsCompleted, IsRefused, MayGoOn}
@@ -14,7 +14,6 @@ use Rattle.bl_record.specs.declared.complete.Completed.{Completed}
 use Rattle.bl_record.specs.declared.fault.ResumeFault.{ResumeFault}
 use Rattle.bl_record.specs.declared.fault.ResumeFault.TheVariants.{Unrecovered, Over, Wrong}
 use Rattle.bl_record.specs.declared.recover.MayCut.{MayCut}
-use Rattle.bl_record.specs.declared.recover.MayCut.TheVariants.{OneLine}
 use Rattle.bl_setup.specs.Setup.{Setup}
 use Rattle.bl_trail.specs.TrueText.{IsTrueText}
 

@@ -25,7 +25,7 @@ abbrev pub LosesNothing : Setup → Journal → File → Type 0
 LosesNothing setup kept file =
     (left : List ℕ) (found : Journal) → MayLeave file left → IsRecovered setup left found → GoesOnFrom kept found
 
--- by what a journal has failed, after a call that told this fault: want of memory is no failure of the device
+-- by what a journal has failed, after a call that told this fault: where a growth was refused, the device has not failed
 abbrev pub HasFailedBy : Option DeviceError → JournalFault → Type 0
 HasFailedBy failed (Device error) = failed ≡ Some error
 HasFailedBy failed Memory = failed ≡ None

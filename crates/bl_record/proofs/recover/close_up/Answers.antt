@@ -1,4 +1,4 @@
-use Rattle.std.proofs.Common.{◌∙◌, ap, arith, length, subst}
+use Rattle.std.proofs.Common.{◌∙◌, ap, length, subst}
 use Rattle.std.proofs.lemmas.List.{length-map}
 use Rattle.bl_disk.specs.File.{seen}
 use Rattle.bl_hall.specs.Chronicle.{kept_of}
