@@ -13,6 +13,9 @@ use std::sync::Mutex;
 const BUFFER: usize = 1 << 16;
 const NONE: u32 = u32::MAX;
 
+/// What is called where many replies were told, so that they can be handed on before the block ends.
+type Spill<'a> = &'a mut dyn FnMut(&mut Vec<u8>);
+
 /// A line of the block.
 struct Pending {
     ordinal: u32,
@@ -66,7 +69,7 @@ impl Session<'_> {
     }
 
     /// Takes a line without its end: whether the session goes on.
-    fn line(&mut self, line: &[u8], out: &mut Vec<u8>) -> bool {
+    fn line(&mut self, line: &[u8], out: &mut Vec<u8>, spill: Spill<'_>) -> bool {
         let line = line.strip_suffix(b"\r").unwrap_or(line);
         if line.iter().all(|byte| matches!(byte, b' ' | b'\t')) {
             return true;
@@ -78,7 +81,7 @@ impl Session<'_> {
         }
         if let Ok(Line::Wait) = read {
             self.text.truncate(from);
-            self.run_block(out);
+            self.run_block(out, spill);
             out.put(b"ok\n");
             return true;
         }
@@ -141,7 +144,7 @@ impl Session<'_> {
     }
 
     /// Runs what is pending, and tells the replies.
-    fn run_block(&mut self, out: &mut Vec<u8>) {
+    fn run_block(&mut self, out: &mut Vec<u8>, spill: Spill<'_>) {
         if self.pending.is_empty() {
             return;
         }
@@ -166,6 +169,9 @@ impl Session<'_> {
                 Err(_) => {}
             }
             at += line.asks.is_ok() as usize;
+            if out.len() >= BUFFER {
+                spill(out);
+            }
         }
         while at < self.runs.len() {
             self.run_one(&mut state, at, &mut later);
@@ -323,15 +329,21 @@ fn entry(work: Work, place: u32, carried: Level) -> Run {
 /// A session from its first byte to its last. Where it is eager, what has come runs before each read that may wait.
 pub fn serve(mut session: Session<'_>, mut input: impl Read, mut output: impl Write, eager: bool) -> io::Result<()> {
     let (mut buffer, mut start, mut end) = (vec![0; BUFFER], 0, 0);
-    let mut out = Vec::with_capacity(BUFFER);
+    let mut out = Vec::with_capacity(2 * BUFFER);
     let mut goes_on = true;
     while goes_on {
+        // under the lock of others nothing is written
+        let mut spill = |out: &mut Vec<u8>| {
+            if !eager && output.write_all(out).is_ok() {
+                out.clear();
+            }
+        };
         while let Some(len) = find_byte(&buffer[start..end], b'\n').filter(|_| goes_on) {
-            goes_on = session.line(&buffer[start..start + len], &mut out);
+            goes_on = session.line(&buffer[start..start + len], &mut out, &mut spill);
             start += len + 1;
         }
         if eager {
-            session.run_block(&mut out);
+            session.run_block(&mut out, &mut spill);
         }
         output.write_all(&out)?;
         out.clear();
@@ -345,12 +357,16 @@ pub fn serve(mut session: Session<'_>, mut input: impl Read, mut output: impl Wr
         }
         let count = input.read(&mut buffer[end..])?;
         if count == 0 {
-            session.line(&buffer[..end], &mut out);
+            session.line(&buffer[..end], &mut out, &mut |_| {});
             break;
         }
         end += count;
     }
-    session.run_block(&mut out);
+    session.run_block(&mut out, &mut |out| {
+        if output.write_all(out).is_ok() {
+            out.clear();
+        }
+    });
     out.put(b"bye\n");
     output.write_all(&out)?;
     output.flush()
