@@ -78,7 +78,7 @@ SERVED = [
     Load("100 at once, 4 clients, one document", 2, 4, 225, 100, 'when write memo do set memo "x"; end'),
     Load("100 at once, 4 clients, three documents", 2, 4, 225, 100, 'when read note, write memo, append plan do set memo "x"; show note; end'),
 ]
-HEAVY = Load("heavy scripts (20 searches of 64 KB)", 2, 4, 10, 10, "when read wide do " + 'if wide has "wwwwwwwwwwwwwwwwwwwwx" then say "y"; end; ' * 20 + "end")
+HEAVY = Load("heavy scripts (20 searches of 64 KB)", 2, 4, 5, 5, "when read wide do " + 'if wide has "wwwwwwwwwwwwwwwwwwwwx" then say "y"; end; ' * 20 + "end")
 
 # trails of 100,000 entries, made by a session over the setup `base`
 REPLAYED = [
