@@ -1,27 +1,24 @@
 -- How a connection goes on.
-use Rattle.std.proofs.Common.{◌≡◌, ℕ, ◌<◌, ◌≤◌, ◌⊎◌, inl, inr, Bool, true, false, List, [], ◌++◌, length, refl, sym, ap, subst, ◌∙◌, append_assoc, append-nil, arith, Option, Some, None, OnSome, take, drop, take-append-drop}
+use Rattle.std.proofs.Common.{◌≡◌, ℕ, ◌≤◌, ◌⊎◌, inl, inr, Bool, true, false, List, [], ◌++◌, refl, sym, ap, subst, ◌∙◌, append_assoc, append-nil, arith, Option, Some, None, OnSome, take, drop, take-append-drop}
 use Rattle.std.specs.Io.KnownBytes.{Appends, Consumes, IsAtEnd, Keeps, prepend_known}
 use Rattle.std.proofs.KnownBytes.{Appends-nil, Appends-trans, Appends-kept, Consumes-nil, Consumes-trans, Consumes-kept}
 use Rattle.bl_work.specs.Names.{KnownNames}
-use Rattle.bl_wire.proofs.Parts.{known_on}
 use Rattle.bl_wire.specs.declared.turn.Turn.{Turn}
-use Rattle.bl_engine.specs.BlockText.{Begins}
 use Rattle.bl_engine.specs.Conversations.{Given, HasHeard, Hears, IsAt, IsOpenedAs, KeepsBlock, Says, Spoke, Talk, TellsWhole, asks, last_ordinal, need_at, need_of, talk_of}
 use Rattle.bl_engine.specs.Conversations.{IsAnswered as IsAnsweredOf}
 use Rattle.bl_engine.specs.Driving.{Exchange, nothing_yet, with_line}
 use Rattle.bl_engine.specs.Parts.{SameWithin}
 use Rattle.bl_engine.specs.Requests.{SameUpTo}
 use Rattle.bl_engine.specs.declared.request.Request.{Request}
-use Rattle.bl_engine.specs.declared.conversation.Conversation.{Conversation}
 use Rattle.bl_engine.specs.declared.conversation.Need.TheVariants as needs
 use Rattle.bl_engine.specs.declared.conversation.Opening.{Opening}
 use Rattle.bl_engine.specs.declared.conversation.Stage.{Stage}
 use Rattle.bl_engine.specs.declared.conversation.Stage.TheVariants as stages
 use Rattle.bl_engine.proofs.Endings.{so_far_at}
 use Rattle.bl_engine.proofs.Hearings.{no_input}
-use Rattle.bl_connection.specs.Connections.{Answers, HasHeardMore, HasPassed, IsConnected, to_hear, unheard, unwritten, with_said}
+use Rattle.bl_connection.specs.Connections.{Answers, HasHeardMore, IsConnected, to_hear, unheard, unwritten, with_said}
 use Rattle.bl_connection.specs.declared.connection.Connection.{Connection}
-use Rattle.bl_connection.proofs.Passing.{at_end, begins_on, consumes_heard, keeps_read, keeps_unread, on_some, said_on, stream_end_stays, end_stays}
+use Rattle.bl_connection.proofs.Passing.{at_end, begins_on, consumes_heard, keeps_read, keeps_unread, on_some, stream_end_stays, end_stays}
 
 -- where no lines are told, nothing is said of what is left of replies
 pub free_at : (ended : Bool) (stage : Stage) → (need_at ended stage ≡ needs.Room → ⊥) → (given : Given) (left other : ℕ → List ℕ) (talk : Talk) (turns : List Turn) (asked : List Request) (said : List ℕ)

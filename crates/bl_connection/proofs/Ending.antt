@@ -1,20 +1,17 @@
 -- How a connection ends.
-use Rattle.std.proofs.Common.{◌≡◌, ℕ, ◌≤◌, ◌⊎◌, inl, inr, Bool, true, false, List, [], ◌∷◌, ◌++◌, length, refl, sym, ap, subst, ◌∙◌, append_assoc, append-nil, arith, Option, Some, None, OnSome, take, drop}
+use Rattle.std.proofs.Common.{◌≡◌, ℕ, ◌⊎◌, inl, inr, Bool, true, false, List, [], ◌∷◌, ◌++◌, length, refl, sym, ap, subst, ◌∙◌, append_assoc, append-nil, arith, Option, Some, None, OnSome}
 use Rattle.std.specs.Io.KnownBytes.{Appends, Consumes, IsAtEnd, Keeps, prepend_known}
 use Rattle.std.proofs.KnownBytes.{Appends-trans, Consumes-kept}
 use Rattle.bl_work.specs.Names.{KnownNames}
 use Rattle.bl_wire.specs.Lines.{lines_of, AreLines}
 use Rattle.bl_wire.specs.Reads.{HasMore}
 use Rattle.bl_wire.specs.Texts.{session_text}
-use Rattle.bl_wire.specs.Turns.{AreTurns, IsRefusal}
+use Rattle.bl_wire.specs.Turns.{AreTurns}
 use Rattle.bl_wire.specs.declared.fault.SessionFault.TheVariants.{Read, Write, TooLong, Memory}
-use Rattle.bl_engine.specs.BlockText.{Begins}
-use Rattle.bl_engine.specs.Conversations.{AreSo, Given, HasHeard, IsAll, IsSoFar, Says, Spoke, TellsWhole, is_hearing, need_at, need_of, talk_of, whole_asked, whole_text}
+use Rattle.bl_engine.specs.Conversations.{AreSo, Given, HasHeard, IsSoFar, Says, Spoke, TellsWhole, need_of, whole_text}
 use Rattle.bl_engine.specs.Driving.{Exchange, IsDriven}
 use Rattle.bl_engine.specs.Outcome.{AreWholeLines, Broken, Finished, Stopped}
-use Rattle.bl_engine.specs.Parts.{SameWithin}
 use Rattle.bl_engine.specs.Requests.{SameUpTo}
-use Rattle.bl_engine.specs.declared.request.Request.{Request}
 use Rattle.bl_engine.specs.View.{ends}
 use Rattle.bl_engine.specs.declared.conversation.Conversation.{Conversation}
 use Rattle.bl_engine.specs.declared.conversation.Need.{Need}
@@ -22,13 +19,12 @@ use Rattle.bl_engine.specs.declared.conversation.Need.TheVariants as needs
 use Rattle.bl_engine.specs.declared.conversation.Opening.{Opening}
 use Rattle.bl_engine.specs.declared.conversation.Opening.TheVariants.{Open}
 use Rattle.bl_engine.proofs.Breaking.{broken_listening, broken_quiet, driven_finished}
-use Rattle.bl_engine.proofs.Driving.{hearing_by}
 use Rattle.bl_engine.proofs.Endings.{all_said, so_far_at}
 use Rattle.bl_engine.proofs.Hearings.{no_input}
 use Rattle.bl_engine.proofs.LineLaws.{lines-now}
 use Rattle.bl_engine.proofs.Stoppings.{given_by, nothing_behind}
 use Rattle.bl_engine.proofs.Texts.{same_refl}
-use Rattle.bl_connection.specs.Connections.{Answers, BeginsText, HasFinished, HasPassed, IsConnected, ends_of, to_hear, unheard, unwritten, view_of, with_said}
+use Rattle.bl_connection.specs.Connections.{Answers, BeginsText, HasFinished, IsConnected, ends_of, to_hear, unheard, unwritten, view_of, with_said}
 use Rattle.bl_connection.specs.declared.connection.Connection.{Connection}
 use Rattle.bl_connection.proofs.Connecting.{connected_free}
 use Rattle.bl_connection.proofs.Passing.{begins_front, end_stays, keeps_unread}

@@ -1,7 +1,7 @@
 -- Parts that are told one after the other.
-use Rattle.std.proofs.Common.{◌≡◌, ℕ, ◌+◌, List, [], ◌++◌, length, refl, sym, ap, subst, ◌∙◌, append_assoc, append-nil, take}
+use Rattle.std.proofs.Common.{ℕ, ◌+◌, List, [], ◌++◌, length, refl, sym, ap, subst, ◌∙◌, append_assoc, append-nil, take}
 use Rattle.std.proofs.Math.Seq.{take-append-add}
-use Rattle.bl_engine.specs.Conversations.{Says, Spoke, last_ordinal}
+use Rattle.bl_engine.specs.Conversations.{Says, Spoke}
 use Rattle.bl_engine.specs.declared.conversation.Conversation.{Conversation}
 use Rattle.bl_connection.specs.Tellings.{ToldOn, ToldShort}
 

@@ -1,5 +1,5 @@
 -- How far a connection has come.
-use Rattle.std.specs.Prelude.{◌≡◌, ℕ, ◌+◌, ◌≤◌, ◌⊎◌, ◌||◌, Bool, true, false, nat_lt, List, [], ◌++◌, length, drop, Option, OnSome, if◌then◌else◌}
+use Rattle.std.specs.Prelude.{◌≡◌, ℕ, ◌≤◌, ◌⊎◌, ◌||◌, Bool, true, false, nat_lt, List, [], ◌++◌, length, drop, Option, OnSome, if◌then◌else◌}
 use Rattle.std.specs.Io.KnownBytes.{Appends, Consumes, IsAtEnd, prepend_known}
 use Rattle.bl_work.specs.Names.{KnownNames}
 use Rattle.bl_wire.specs.Faults.{is_read, is_write}

@@ -1,5 +1,5 @@
-use Rattle.std.proofs.Common.{◌≡◌, ◌≤◌, ◌<◌, ◌∙◌, inl, inr, sym, arith}
-use Rattle.bl_engine.specs.Conversations.{need_of, waits_left, parts_left}
+use Rattle.std.proofs.Common.{◌≡◌, ◌≤◌, ◌∙◌, inl, inr, sym, arith}
+use Rattle.bl_engine.specs.Conversations.{need_of, waits_left}
 use Rattle.bl_engine.specs.declared.conversation.Need.TheVariants as needs
 use Rattle.bl_engine.proofs.Outcomes.{on_err-all}
 use Rattle.bl_connection.proofs.ToldParts.{told_then, told_then_short}

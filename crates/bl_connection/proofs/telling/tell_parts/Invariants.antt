@@ -1,4 +1,4 @@
-use Rattle.std.proofs.Common.{◌≡◌, ◌≤◌, ◌<◌, ◌+◌, ◌⊎◌, ℕ}
+use Rattle.std.proofs.Common.{◌≡◌, ◌≤◌, ◌+◌}
 use Rattle.bl_engine.specs.Parts.{MayTake}
 use Rattle.bl_engine.specs.Conversations.{need_of, waits_left, parts_left}
 use Rattle.bl_engine.specs.declared.conversation.Need.TheVariants as needs

@@ -1,4 +1,4 @@
-use Rattle.std.proofs.Common.{rules, ◌≡◌, ◌<◌, ◌∙◌, ◌++◌, ◌⊎◌, inl, inr, [], true, false, true≢false, refl, sym, ap, subst, length, take, drop, take-append-drop}
+use Rattle.std.proofs.Common.{rules, ◌≡◌, ◌∙◌, ◌++◌, ◌⊎◌, inl, inr, [], false, true≢false, refl, sym, ap, subst, take, take-append-drop}
 use Rattle.std.proofs.KnownBytes.{Keeps-refl}
 use Rattle.std.proofs.lemmas.List.{drop-drop}
 use Rattle.bl_wire.specs.Faults.{is_read, is_write}
@@ -7,7 +7,7 @@ use Rattle.bl_engine.specs.Outcome.{Stopped}
 use Rattle.bl_engine.specs.View.{ends}
 use Rattle.bl_engine.specs.declared.conversation.Need.TheVariants as needs
 use Rattle.bl_engine.proofs.Driving.{has_ended}
-use Rattle.bl_connection.specs.Connections.{to_hear, unheard, unwritten, view_of}
+use Rattle.bl_connection.specs.Connections.{to_hear, unheard, view_of}
 use Rattle.bl_connection.proofs.Connecting.{heard_more}
 use Rattle.bl_connection.proofs.Ending.{has_more, stops_long, stops_memory}
 use Rattle.bl_connection.proofs.Faults.{memory_alone, passes_on, rest_whole}

@@ -1,4 +1,4 @@
-use Rattle.std.proofs.Common.{◌≡◌, ◌∙◌, arith, sym, true, false, eqb, eqb-true, eq-eqb, true≢false}
+use Rattle.std.proofs.Common.{◌≡◌, ◌∙◌, arith, sym, eqb-true, eq-eqb, true≢false}
 use Rattle.bl_connection.proofs.States.{heard_all, heard_some}
 use Rattle.bl_connection.proofs.connection.Connection.is_heard.Goals as goal
 

@@ -1,9 +1,9 @@
-use Rattle.std.proofs.Common.{rules, ◌≡◌, ◌<◌, ◌==◌, ◌∙◌, ◌||◌, inl, true, false, refl, sym, ap, subst, length, take, drop, nat_lt, eqb-true, length-take, min, arith}
+use Rattle.std.proofs.Common.{rules, ◌≡◌, ◌<◌, ◌==◌, ◌∙◌, ◌||◌, inl, true, false, refl, sym, ap, subst, length, take, drop, nat_lt, eqb-true, length-take, arith}
 use Rattle.std.specs.Io.KnownBytes.{Consumes, prepend_known}
 use Rattle.std.proofs.KnownBytes.{Keeps-refl}
 use Rattle.bl_engine.specs.Conversations.{need_of}
 use Rattle.bl_engine.specs.declared.conversation.Need.TheVariants as needs
-use Rattle.bl_connection.specs.Connections.{Answers, to_hear, unheard, unwritten}
+use Rattle.bl_connection.specs.Connections.{Answers, to_hear, unheard}
 use Rattle.bl_connection.specs.declared.stream.Answer.TheVariants as answers
 use Rattle.bl_connection.proofs.Connecting.{connected_blocked, connected_read}
 use Rattle.bl_connection.proofs.Ending.{stops_memory, stops_read}

@@ -1,4 +1,4 @@
-use Rattle.std.proofs.Common.{◌≡◌, ◌∙◌, ◌++◌, refl, sym, ap, drop}
+use Rattle.std.proofs.Common.{◌≡◌, ◌∙◌, ◌++◌, refl, sym, ap}
 use Rattle.bl_connection.specs.Connections.{Answers, unwritten}
 use Rattle.bl_connection.proofs.Connecting.{connected_free, connected_told}
 use Rattle.bl_connection.proofs.Ending.{stops_told}

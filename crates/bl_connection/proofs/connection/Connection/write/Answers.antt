@@ -1,8 +1,8 @@
-use Rattle.std.proofs.Common.{rules, ◌≡◌, ◌∙◌, ◌-◌, [], refl, sym, ap, subst, length, take, drop}
+use Rattle.std.proofs.Common.{rules, ◌≡◌, ◌∙◌, ◌-◌, [], refl, sym, subst, length, take, drop}
 use Rattle.std.proofs.lemmas.List.{drop-drop}
 use Rattle.std.specs.Io.KnownBytes.{Appends, Keeps}
 use Rattle.std.proofs.KnownBytes.{Appends-kept, Appends-nil}
-use Rattle.bl_connection.specs.Connections.{Answers, unheard, unwritten}
+use Rattle.bl_connection.specs.Connections.{Answers, unwritten}
 use Rattle.bl_connection.proofs.Connecting.{connected_blocked, connected_written}
 use Rattle.bl_connection.proofs.Ending.{stops_stuck}
 use Rattle.bl_connection.proofs.Faults.{rest_whole}
