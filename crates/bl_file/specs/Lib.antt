@@ -1,0 +1,3 @@
+pub mod Stands
+pub mod Standing
+pub mod Files
