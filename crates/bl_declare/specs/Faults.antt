@@ -13,11 +13,11 @@ use Rattle.bl_work.specs.declared.names.NameFault.TheVariants as name
 use Rattle.bl_declare.specs.declared.fault.SetupFaultKind.{SetupFaultKind}
 use Rattle.bl_declare.specs.declared.fault.SetupFaultKind.TheVariants.{Syntax, Unknown, Repeated, CurrentAboveGreatest, TooMany, Memory}
 
--- the fault is want of memory, or this holds
+-- the fault is that of memory, or this holds
 abbrev pub UnlessMemory : SetupFaultKind → Type 0 → Type 0
 UnlessMemory kind P = (kind ≡ Memory) ⊎ P
 
--- the fault is want of memory, or one of syntax that means this
+-- the fault is that of memory, or one of syntax that means this
 abbrev pub OfSyntax : SetupFaultKind → Type 0 → Type 0
 OfSyntax kind P = (kind ≡ Memory) ⊎ ((kind ≡ Syntax) × P)
 

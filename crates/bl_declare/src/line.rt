@@ -12,7 +12,7 @@ use crate::parser::parse;
 use bl_level::lexer::lex;
 use std::alloc::Global;
 
-/// The declaration that a line spells. It fails where the line spells none, or for want of memory.
+/// The declaration that a line spells. It fails where the line spells none, or when out of memory.
 pub fn words_of<'a>(alloc: Global, line: &'a [u8]) -> Result<Words<'a>, SetupFaultKind>
     ensures spelled { IfOk result (λ w. Begins line.now (spell_declaration (declaration_of w)) []) }
     ensures proper { IfOk result (λ w. AreProper (spell_declaration (declaration_of w))) }

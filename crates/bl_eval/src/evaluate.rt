@@ -61,7 +61,7 @@ fn leave(entry: u32, script: Script, index: u8, grants: Grants) -> Unrun
 }
 
 /// Runs a behaviour. It waits for nobody, and its answer rests on what was lent alone: at `Ok` on what the behaviour does on
-/// that, and an `Unrun`, which comes only for want of memory, has what was lent.
+/// that, and an `Unrun`, which comes only when out of memory, has what was lent.
 pub fn eval(alloc: Global, lent: Lent) -> Result<Done, Unrun>
     ensures { MatchResult result (λ done. done ≡ lent) (λ unrun. unrun ≡ lent) }
 {

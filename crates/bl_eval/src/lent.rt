@@ -1,4 +1,4 @@
-//! A behaviour that was lent its grants, one that was done, and one that want of memory left undone.
+//! A behaviour that was lent its grants, one that was done, and one left undone when memory ran out.
 //!
 //! None of these types has `Drop`: each is taken apart.
 ghost use Rattle.std.specs.Prelude.{◌≡◌, ◌<◌, ◌↔◌, [], length, slice_index_or, IsTrue};
@@ -66,7 +66,7 @@ impl Model for Done {
     ghost invariant = { IsDone };
 }
 
-/// A behaviour that want of memory left undone, with its grants as they were lent. Its value is what was lent, and to whom.
+/// A behaviour left undone when memory ran out, with its grants as they were lent. Its value is what was lent, and to whom.
 pub struct Unrun {
     pub(crate) entry: u32,
     pub(crate) script: Script,

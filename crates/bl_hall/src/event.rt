@@ -13,6 +13,6 @@ pub enum Event {
     Start(u32),
     /// A running entry has ended, and its children have entered.
     End(u32),
-    /// An entry was lost to want of memory, before it started or while it ran.
+    /// An entry was lost, out of memory, before it started or while it ran.
     Lost(u32),
 }

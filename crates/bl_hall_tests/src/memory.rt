@@ -80,7 +80,7 @@ fn is_answered(replies: &[Reply]) -> bool {
 }
 
 /// It passes with ample memory, and with any one of its growths refused, one in each run (`rt try --test --fail-alloc N`): there is no
-/// hall then, or the entry is lost and its session is told so, or the replies are refused for want of memory.
+/// hall then, or the entry is lost and its session is told so, or the replies are refused when out of memory.
 #[test]
 fn starved_in_a_hall(rt: HostRuntime) {
     if let Some(hall) = admitted(rt.alloc()) {

@@ -461,7 +461,7 @@ pub struct Lexed<'a> {
     pub broken: Option<usize>,
 }
 
-/// The tokens of a text up to its first lexical fault. It fails only for want of memory.
+/// The tokens of a text up to its first lexical fault. It fails only when out of memory.
 pub fn lex<'a>(alloc: Global, bytes: &'a [u8]) -> Result<Lexed<'a>, AllocError>
     ensures cut { IfOk result (λ x. Cut (length bytes.now) bytes.now (toks x.tokens.items) x.places.items x.broken) }
     ensures proper { IfOk result (λ x. AreProper (toks x.tokens.items)) }

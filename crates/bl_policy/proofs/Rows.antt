@@ -16,7 +16,7 @@ allowed : first_fault base 0 lowest (record { mode = Read; doc = 0 } ∷ record 
 unfolding base
 allowed = refl
 
--- the second access is not, for want of its mode
+-- the second access is not, since its mode is missing
 refused : first_fault base 0 lowest (record { mode = Read; doc = 0 } ∷ record { mode = Append; doc = 0 } ∷ []) ≡ denied failing.Discretionary 0 0
 unfolding base
 refused = refl

@@ -24,7 +24,7 @@ pub record HasFault (names : KnownNames) (bytes : List ℕ) (fault : LineFault) 
   pub fault_is : IsFaultOf names spelled fault
 
 -- The fault of a line: it is too long; or it is not, and is spelled as no line; or it is spelled as one that has the fault.
--- Of want of memory nothing is said.
+-- Where memory runs out nothing is said.
 abbrev pub IsLineFault : KnownNames → List ℕ → LineFault → Type 0
 IsLineFault names bytes Long = most_line_bytes < length bytes
 IsLineFault names bytes (Syntax place) = (length bytes ≤ most_line_bytes) × SyntaxFault bytes place
@@ -38,7 +38,7 @@ IsLineFault names bytes Memory = Unit {0}
 abbrev pub IsWantOfMemory : LineFault → Type 0
 IsWantOfMemory fault = fault ≡ Memory
 
--- want of memory, or a fault of what the line asks
+-- out of memory, or a fault of what the line asks
 abbrev pub IsFaultOrMemory : KnownNames → SpelledLine → LineFault → Type 0
 IsFaultOrMemory names line Memory = Unit {0}
 IsFaultOrMemory names line fault = IsFaultOf names line fault

@@ -94,7 +94,7 @@ fn behaviour<'a>(
     Ok(Line::Work(Work::Behaviour(script)))
 }
 
-/// A line asks one thing, or has one fault; of want of memory nothing is said.
+/// A line asks one thing, or has one fault; where memory runs out nothing is said.
 pub fn one_answer()
     ensures asked { (names : KnownNames) (bytes : List ℕ) (l m : AskedLine) → LineOf names bytes l → LineOf names bytes m → l ≡ m }
     ensures fault { (names : KnownNames) (bytes : List ℕ) (f g : LineFault) → IsLineFault names bytes f → IsLineFault names bytes g

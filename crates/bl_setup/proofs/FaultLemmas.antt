@@ -31,7 +31,7 @@ fails_one (q ∷ qs) kind other (inl f) (inr g) = absurd (f.1 g.0)
 fails_one (q ∷ qs) kind other (inr f) (inl g) = absurd (g.1 f.0)
 fails_one (q ∷ qs) kind other (inr f) (inr g) = fails_one qs kind other f.1 g.1
 
--- no question fails for want of memory
+-- no question fails when out of memory
 pub fails_in_time : (qs : List Question) (kind : SetupFaultKind) → FirstFails qs kind → (kind ≡ Unknown) ⊎ (kind ≡ Repeated)
 fails_in_time [] kind f = absurd f
 fails_in_time (is_new others name ∷ qs) kind (inl f) = inr f.0

@@ -131,7 +131,7 @@ memory_not_next : (s : SoFar) (rest : List (List ℕ)) (kind : SetupFaultKind) �
 memory_not_next s [] kind m f = let e = f.0 in cc
 memory_not_next s (line ∷ lines) kind m f = memory_never s line kind m f.1
 
--- where reading stops is the first fault, unless for want of memory
+-- where reading stops is the first fault, unless memory runs out
 pub stopped_first : (bytes : List ℕ) (fault : SetupFault) → length bytes ≤ 16777216 → StopsAt (Stops fault.kind) nothing 0 (file_lines bytes) fault.line
     → UnlessMemory fault.kind (FirstSetupFault bytes fault)
 stopped_first bytes fault size s = go s.holds
@@ -140,7 +140,7 @@ stopped_first bytes fault size s = go s.holds
     go (inl m) = inl m.0
     go (inr f) = inr (inr (size, record { after = s.after; taken = s.taken; rest = s.rest; right = s.right; holds = f; is = s.is }))
 
--- and want of memory names a line that is read
+-- and a fault of memory names a line that is read
 pub stopped_memory : (bytes : List ℕ) (fault : SetupFault) → length bytes ≤ 16777216 → StopsAt (Stops fault.kind) nothing 0 (file_lines bytes) fault.line → fault.kind ≡ Memory
     → IsReadAt bytes fault.line
 stopped_memory bytes fault size s m = go s.holds

@@ -33,7 +33,7 @@ pub record EndsEarly (count : ℕ) (lines : List (List ℕ)) (fault : SetupFault
   pub kind : fault.kind ≡ Syntax
   pub line : fault.line ≡ suc last
 
--- want of memory in a line that is read, or the fault of the next line
+-- out of memory in a line that is read, or the fault of the next line
 abbrev pub Stops : SetupFaultKind → SoFar → List (List ℕ) → Type 0
 Stops kind before rest = ((kind ≡ Memory) × ReadsNext before rest) ⊎ FaultNext kind before rest
 

@@ -96,11 +96,11 @@ impl<'a> Lines<'a> {
 pub fn read_setup(alloc: Global, bytes: &[u8]) -> Result<Setup, SetupFault>
     ensures setup { IfOk result (IsSetup bytes.now) }
     ensures only { IfOk result (λ setup. (other : setups.Setup) → IsSetup bytes.now other → other ≡ setup) }
-    // Any fault but want of memory is the first of the text.
+    // Any fault but out of memory is the first of the text.
     ensures first { IfErr result (λ fault. UnlessMemory fault.kind (FirstSetupFault bytes.now fault)) }
     // Want of memory names a line that is read, and the lines before it are right.
     ensures memory { IfErr result (λ fault. fault.kind ≡ Memory → IsReadAt bytes.now fault.line) }
-    // Any fault but want of memory means that the text is no setup.
+    // Any fault but out of memory means that the text is no setup.
     ensures fault { IfErr result (λ fault. UnlessMemory fault.kind ((setup : setups.Setup) → IsSetup bytes.now setup → ⊥)) }
 {
     if bytes.len() > MOST_BYTES {

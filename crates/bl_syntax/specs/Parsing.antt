@@ -31,7 +31,7 @@ left c = tokens_from (front_view c.front)
 abbrev pub ending : Cursor → Front
 ending c = end_from (front_view c.front)
 
--- A fault is the first where these are due; of want of memory nothing is said. Before a line is over none tells what stands behind it.
+-- A fault is the first where these are due; where memory runs out nothing is said. Before a line is over none tells what stands behind it.
 abbrev pub Faults : List Due → List Tok → Stop → Type 0
 Faults want tokens Memory = Unit {0}
 Faults want tokens (At left) = Stops want tokens left
@@ -43,7 +43,7 @@ Gives P want tokens (Ok x) = P x
 Gives P want tokens (Err e) = Faults want tokens e
 
 -- A fault is the first of these bytes, which are to be a line: the first of their tokens at fault, or the place of a lexical fault.
--- Of want of memory nothing is said.
+-- Where memory runs out nothing is said.
 abbrev pub IsFirstFault : List ℕ → Stop → Type 0
 IsFirstFault bytes Memory = Unit {0}
 IsFirstFault bytes (At left) = FirstTokenAtFault (tokens_of bytes) left

@@ -33,7 +33,7 @@ answer_text names Lost = codes " lost"
 abbrev pub reply_text : KnownNames → Reply → List ℕ
 reply_text names reply = label_text reply.label ++ (answer_text names reply.answer ++ codes "\n")
 
--- a line that was not admitted was refused for want of room
+-- a line that was not admitted was refused since there was no room
 abbrev pub line_or_full : KnownNames → ℕ → List Reply → List ℕ
 line_or_full names ordinal [] = refusal ordinal (codes "full")
 line_or_full names ordinal (reply ∷ replies) = flat_map (reply_text names) (reply ∷ replies)

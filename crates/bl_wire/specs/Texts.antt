@@ -5,7 +5,7 @@ use Rattle.bl_work.specs.declared.asked.LineFault.TheVariants.{Long, Syntax, Dee
 use Rattle.bl_wire.specs.declared.turn.Turn.{Turn}
 use Rattle.bl_wire.specs.declared.turn.Turn.TheVariants.{Skip, Wait, Greets, Bad, Ask}
 
--- the words for a line's fault; want of memory is none, and no reply names it
+-- the words for a line's fault; that of memory has none, and no reply names it
 abbrev pub fault_words : LineFault → List ℕ
 fault_words Long = codes "long"
 fault_words (Syntax byte) = codes "syntax " ++ decimal byte

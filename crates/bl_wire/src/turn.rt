@@ -20,7 +20,7 @@ pub enum Turn {
     Wait,
     /// A `hello` of this subject.
     Greets(SubjectId),
-    /// A line with this fault, which is never want of memory.
+    /// A line with this fault, which is never that of memory.
     Bad(LineFault),
     /// A line that asks for this work.
     Ask(Work),
@@ -82,7 +82,7 @@ fn turn_of(line: Line) -> Turn
     }
 }
 
-/// What a line with this fault is, unless the fault is want of memory.
+/// What a line with this fault is, unless the fault is that of memory.
 fn turn_bad(fault: LineFault) -> Result<Turn, AllocError>
     ensures bad { IfOk result (λ turn. (turn ≡ Turn.Bad fault) × (fault ≢ LineFault.Memory)) }
     ensures memory { OnErr result (fault ≡ LineFault.Memory) }
