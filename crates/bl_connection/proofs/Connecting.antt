@@ -126,6 +126,7 @@ module _ {S : Type 0} (remaining contents : S → Option (List ℕ)) where
     bytes = bytes;
     more = (hears x.turns x.heard cut).more;
     few = (hears x.turns x.heard cut).few;
+    origin = (hears x.turns x.heard cut).origin;
     block = block;
     connected = λ opening replies upto left was.
         connected_heard names (Answers opening replies upto) left old new x bytes request first stream ended quiet before split end cut hears was;

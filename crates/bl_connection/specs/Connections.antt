@@ -1,12 +1,12 @@
 -- How far a connection has come.
-use Rattle.std.specs.Prelude.{◌≡◌, ℕ, ◌≤◌, ◌⊎◌, ◌||◌, Bool, true, false, nat_lt, List, [], ◌++◌, length, drop, Option, OnSome, if◌then◌else◌}
+use Rattle.std.specs.Prelude.{◌≡◌, ℕ, ◌≤◌, ◌⊎◌, ◌||◌, Bool, true, false, nat_lt, List, [], ◌++◌, length, drop, Option, OnSome, IfSome, if◌then◌else◌}
 use Rattle.std.specs.Io.KnownBytes.{Appends, Consumes, IsAtEnd, prepend_known}
 use Rattle.bl_work.specs.Names.{KnownNames}
 use Rattle.bl_wire.specs.Faults.{is_read, is_write}
 use Rattle.bl_wire.specs.declared.fault.SessionFault.{SessionFault}
 use Rattle.bl_wire.specs.declared.turn.Turn.{Turn}
 use Rattle.bl_engine.specs.BlockText.{Begins}
-use Rattle.bl_engine.specs.Conversations.{Given, HasHeard, KeepsBlock, Spoke, TellsWhole, asks, last_ordinal, need_of, whole_asked, whole_text}
+use Rattle.bl_engine.specs.Conversations.{Given, HasHeard, IsHeardOf, KeepsBlock, Spoke, TellsWhole, asks, last_ordinal, need_of, whole_asked, whole_text}
 use Rattle.bl_engine.specs.Driving.{Exchange, nothing_yet, with_line}
 use Rattle.bl_engine.specs.Outcome.{Finished, Stopped}
 use Rattle.bl_engine.specs.Parts.{SameWithin}
@@ -100,11 +100,12 @@ StaysConnected remaining contents old new =
     × ((names : KnownNames) (opening : Opening) (replies : ℕ → List ℕ) (upto : ℕ) (left : ℕ → List ℕ) (x : Exchange)
     → IsConnected remaining contents names (Answers opening replies upto) left old x → IsConnected remaining contents names (Answers opening replies upto) left new x)
 
--- One line more was heard at most, or a part of one, and this is asked at it.
+-- One line more was heard at most, or a part of one, and this is asked, which some line asks.
 pub record HasHeardMore {S : Type 0} (remaining contents : S → Option (List ℕ)) (names : KnownNames) (old new : Connection S) (request : Option Request) (x : Exchange) : Type 0 where
   pub bytes : List ℕ
   pub more : List Turn
   pub few : length more ≤ 1
+  pub origin : IfSome request (IsHeardOf names)
   pub block : KeepsBlock old.conv new.conv request
   pub connected : (opening : Opening) (replies : ℕ → List ℕ) (upto : ℕ) (left : ℕ → List ℕ)
       → IsConnected remaining contents names (Answers opening replies upto) left old x

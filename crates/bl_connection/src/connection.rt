@@ -65,9 +65,9 @@ pub struct Connection<S> {
 }
 
 impl<S: Stream> Connection<S> {
-    ghost use Rattle.std.specs.Prelude.{◌⊎◌, ◌+◌, ◌<◌, true, false, ℕ, List, IfOk, IfErr, OnOk, drop};
+    ghost use Rattle.std.specs.Prelude.{◌⊎◌, ◌+◌, ◌<◌, [], true, false, ℕ, List, IfOk, IfErr, OnOk, drop};
     ghost use Rattle.bl_wire.specs.declared.fault.SessionFault.TheVariants.{Read, Write, TooLong, Memory};
-    ghost use Rattle.bl_engine.specs.Conversations.{last_ordinal, need_of, waits_left};
+    ghost use Rattle.bl_engine.specs.Conversations.{GoesOnAlone, SameBlock, last_ordinal, need_of, waits_left};
     ghost use Rattle.bl_engine.specs.Parts.{MayTake};
     ghost use Rattle.bl_engine.specs.declared.conversation.Need.TheVariants as needs;
     ghost use Rattle.bl_connection.specs.Connections.{BeginsText, Finishes, HearsMore, IsAnswered, IsHeard, IsNew, OpensAs, SameBytes, StaysConnected, StopsAs, TellsMore, state_of, unheard, unwritten};
@@ -137,6 +137,7 @@ impl<S: Stream> Connection<S> {
     pub fn read(&mut self) -> Result<Progress, SessionFault>
         requires { state_of self.old ≡ states.Reads }
         ensures stays { StaysConnected S.remaining S.contents self.old self.new }
+        ensures block { self.new.conv ≡ self.old.conv }
         ensures moved { IfOk result (λ progress. progress ≡ Moved → S.reads self.old.stream (answers.Moved (length (unheard self.new))) self.new.stream) }
         ensures blocked { IfOk result (λ progress. progress ≡ Blocked → S.reads self.old.stream answers.WouldBlock self.new.stream) }
         ensures hears { IfOk result (λ progress. progress ≡ Moved → state_of self.new ≡ states.Hears) }
@@ -203,6 +204,7 @@ impl<S: Stream> Connection<S> {
     pub fn opened(&mut self, opening: Opening)
         requires { state_of self.old ≡ states.Opens }
         ensures opened { OpensAs S.remaining S.contents opening self.old self.new }
+        ensures block { SameBlock self.old.conv self.new.conv }
         ensures state { state_of self.new ≡ states.Tells }
     {
         self.conv.opened(opening);
@@ -212,6 +214,7 @@ impl<S: Stream> Connection<S> {
     pub fn answered(&mut self)
         requires { state_of self.old ≡ states.Settles }
         ensures answered { IsAnswered S.remaining S.contents self.old self.new }
+        ensures block { SameBlock self.old.conv self.new.conv }
         ensures state { state_of self.new ≡ states.Tells }
     {
         self.conv.answered();
@@ -224,6 +227,8 @@ impl<S: Stream> Connection<S> {
         requires stands { MayTake (B.stands block.old) (self.old.conv.after + self.old.conv.line + 1) }
         ensures told { OnOk result (TellsMore S.remaining S.contents (B.left block.old) (B.left block.new) self.old self.new) }
         ensures stands { need_of self.new.conv ≡ needs.Room → MayTake (B.stands block.new) (self.new.conv.after + self.new.conv.line + 1) }
+        ensures last { OnOk result (last_ordinal self.new.conv ≡ last_ordinal self.old.conv) }
+        ensures done { OnOk result ((need_of self.new.conv ≡ needs.Room → ⊥) → (self.new.conv.pending.items ≡ []) × GoesOnAlone 0 self.new.conv.stage) }
         ensures most { OnOk result (need_of self.new.conv ≡ needs.Room → 65536 ≤ length (unwritten self.new)) }
         ensures fault { IfErr result (λ fault. fault ≡ Memory) }
         ensures err { IfErr result (λ fault. StopsAs S.remaining S.contents Write (B.left block.old) self.old self.new) }
@@ -238,6 +243,7 @@ impl<S: Stream> Connection<S> {
     pub fn write(&mut self) -> Result<Progress, SessionFault>
         requires { state_of self.old ≡ states.Writes }
         ensures stays { StaysConnected S.remaining S.contents self.old self.new }
+        ensures block { self.new.conv ≡ self.old.conv }
         ensures moved { IfOk result (λ progress. progress ≡ Moved → (n : ℕ) × S.writes self.old.stream (unwritten self.old) (answers.Moved n) self.new.stream × (0 < n) × (unwritten self.new ≡ drop n (unwritten self.old))) }
         ensures blocked { IfOk result (λ progress. progress ≡ Blocked → S.writes self.old.stream (unwritten self.old) answers.WouldBlock self.new.stream) }
         ensures fault { IfErr result (λ fault. (fault ≡ Write) × (S.writes self.old.stream (unwritten self.old) answers.Failed self.new.stream ⊎ S.writes self.old.stream (unwritten self.old) (answers.Moved 0) self.new.stream)) }

@@ -2,3 +2,4 @@ pub mod Settling
 pub mod Working
 pub mod Adding
 pub mod Handing
+pub mod Batching

@@ -16,7 +16,7 @@ use Rattle.bl_worker.specs.Turns.{Settles}
 use Rattle.bl_gate.proofs.Passing.{Passes, passes_trail, after_parts, trail_front, trail_back}
 
 -- what holds from one point of a hall's trail to a later one
-passes_on : (h : Chronicle) (t s : List Event) → StartsWith t s → HasTrail (hall_with h t) → Passes (state_now (hall_with h s)) (state_now (hall_with h t))
+pub passes_on : (h : Chronicle) (t s : List Event) → StartsWith t s → HasTrail (hall_with h t) → Passes (state_now (hall_with h s)) (state_now (hall_with h t))
 passes_on h t s (rest, e) legal =
     let x : State = start h.setup h.limit in
     let whole : IsTrail x (s ++ rest) = subst (IsTrail x) e legal in

@@ -2,11 +2,13 @@
 //!
 //!     turn      one turn: an entry starts and ends
 //!     hand      what a worker has in hand from one turn at the gate to the next
+//!     batch     many entries in hand, from one turn at the gate to the next
 //!     pause     what a turn does between the start and the end
 //!     bell      how threads that have nothing to do are woken
 //!     worker    a worker, turn by turn
 #![tactic(auto)]
 
+pub mod batch;
 pub mod bell;
 pub(crate) mod hand;
 pub mod pause;

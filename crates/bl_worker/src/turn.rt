@@ -1,7 +1,7 @@
 //! One turn: an entry starts and ends.
 ghost use Rattle.std.specs.Prelude.{◌≡◌};
 ghost use Rattle.bl_hall.specs.Chronicle.{HasTrail};
-ghost use Rattle.bl_gate.specs.Gates.{Follows, HasLoanInHand, hall_seen, state_seen};
+ghost use Rattle.bl_gate.specs.Gates.{Follows, HasLoanInHand, KeepsInHand, hall_seen, state_seen};
 ghost use Rattle.bl_worker.specs.Turns.{AddsTurnsOf, AdmitsNoLine, Closes, HasRun, HasWorked, IsTurnOf, Settles, WasTaken};
 ghost use Rattle.bl_order.specs.Machine.{MayStart};
 ghost use Rattle.bl_worker.specs.Hands.{HasBegun, IsBegunOf, IsNoMiss, MissesNone};
@@ -74,6 +74,7 @@ pub(crate) enum Begun {
 fn lose_ready(turn: &mut AtGate<'_>, starved: Starved) -> Turn
     ensures follows { Follows turn.old turn.new }
     ensures trail { HasTrail (hall_seen turn.new) }
+    ensures in_hand { KeepsInHand turn.old turn.new }
     ensures adds { AddsTurnsOf (λ k. IsTurnOf k result) turn.old turn.new }
     ensures turn { IsTurnOf starved result }
     ensures worked { HasWorked turn.old turn.new result }
@@ -87,10 +88,11 @@ fn lose_ready(turn: &mut AtGate<'_>, starved: Starved) -> Turn
     }
 }
 
-/// Begins the entry `n`. `Missed` comes where it may not start, and `Lost` only after want of memory.
-fn begin(turn: &mut AtGate<'_>, n: u32) -> Begun
+/// Begins the entry `n`. `Missed` comes where it may not start, and `Lost` only when out of memory.
+pub(crate) fn begin(turn: &mut AtGate<'_>, n: u32) -> Begun
     ensures follows { Follows turn.old turn.new }
     ensures trail { HasTrail (hall_seen turn.new) }
+    ensures in_hand { KeepsInHand turn.old turn.new }
     ensures adds { AddsTurnsOf (λ k. IsBegunOf k result) turn.old turn.new }
     ensures entry { IsBegunOf n result }
     ensures begun { HasBegun turn.old turn.new result }
@@ -110,6 +112,7 @@ pub(crate) fn begin_next(turn: &mut AtGate<'_>) -> Begun
     requires { HasTrail (hall_seen turn.old) }
     ensures follows { Follows turn.old turn.new }
     ensures trail { HasTrail (hall_seen turn.new) }
+    ensures in_hand { KeepsInHand turn.old turn.new }
     ensures adds { AddsTurnsOf (λ k. IsBegunOf k result) turn.old turn.new }
     ensures begun { HasBegun turn.old turn.new result }
     ensures missed { MissesNone result }
@@ -146,7 +149,7 @@ fn run<P: Pause, R: Wait>(
 }
 
 /// One turn with the entry `n`: it starts, and where it runs it is evaluated with the gate free, and ends. `Missed` comes where it
-/// may not start, and `Lost` only after want of memory. The entry was missed or has ended, with an answer of the kind that the turn
+/// may not start, and `Lost` only when out of memory. The entry was missed or has ended, with an answer of the kind that the turn
 /// names.
 pub fn work_on<P: Pause, R: Wait>(
     rt: &R,

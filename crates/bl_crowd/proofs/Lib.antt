@@ -1,0 +1,6 @@
+pub mod Stages
+pub mod Streaming
+pub mod Passing
+pub mod Meeting
+pub mod Departing
+pub mod Crowding

@@ -1,0 +1,33 @@
+use Rattle.std.proofs.Common.{◌∙◌, ap, refl, sym, subst}
+use Rattle.bl_gate.specs.Gates.{PassView}
+use Rattle.bl_serve.proofs.Together.{no_line_of}
+use Rattle.bl_crowd.specs.Steps.{IsClash}
+use Rattle.bl_crowd.specs.declared.member.Reception.TheVariants.{Open}
+use Rattle.bl_crowd.proofs.Meeting.{admits_open, way_clash, way_entered}
+use Rattle.bl_crowd.proofs.member.Member.admit.Goals as goal
+
+pub unreachable-requires : goal.unreachable-requires
+unreachable-requires g c =
+    let way = c.requires.way in
+    let opens = admits_open g.S.Stream.remaining g.S.Stream.contents way.0 way.1 c.args.turn.now c.args.self.now c.args.ordinal c.args.work way.3 c.args.self.now.reception refl in
+    c.in_default.not-Open opens.0 opens.1
+
+pub returns-in-Err-clause-others : goal.returns-in-Err-clause-others
+returns-in-Err-clause-others g c session apart =
+    no_line_of session c.in-Open.session c.args.turn.now c.enter.new.turn (λ same. apart (c.in-Open.is ∙ ap Open same)) c.enter.ensures.own
+
+pub returns-in-Err-clause-clash : goal.returns-in-Err-clause-clash
+returns-in-Err-clause-clash g c names first home w =
+    let refused = c.in-Err.ensures.err in
+    let why = refused.2 in
+    subst (λ (p : PassView). IsClash first p c.args.self.now.reception) (sym refused.0)
+    (subst (IsClash first c.args.turn.now) (sym c.in-Open.is)
+    (way_clash g.S.Stream.remaining g.S.Stream.contents names first c.args.turn.now c.args.self.now c.args.ordinal c.args.work w c.in-Open.session c.in-Open.is why.0 home why.2 why.1))
+
+pub returns-clause-others : goal.returns-clause-others
+returns-clause-others g c session apart =
+    no_line_of session c.in-Open.session c.args.turn.now c.enter.new.turn (λ same. apart (c.in-Open.is ∙ ap Open same)) c.enter.ensures.own
+
+pub returns-clause-ok : goal.returns-clause-ok
+returns-clause-ok g c names first home speaks w =
+    way_entered g.S.Stream.remaining g.S.Stream.contents names first c.args.turn.now c.args.self.now c.args.ordinal c.args.work w c.in-Open.session c.in-Open.is c.enter.new.turn c.enter.ensures.goes c.in-Ok.ensures.ok speaks

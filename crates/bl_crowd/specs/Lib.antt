@@ -1,0 +1,6 @@
+pub mod Receptions
+pub mod Members
+pub mod Ways
+pub mod Steps
+pub mod Departures
+pub mod Crowds

@@ -1,0 +1,218 @@
+//! Many connections of one thread over one gate.
+ghost use Rattle.std.specs.Prelude.{◌≡◌, ◌<◌, ◌++◌, ◌∷◌, [], ℕ, Some, None, IsSome, OnOk, OnErr, length, get_or};
+ghost use Rattle.std.specs.Prelude.{vec_len};
+ghost use Rattle.std.specs.List.{remove};
+ghost use Rattle.bl_hall.specs.Chronicle.{HasTrail};
+ghost use Rattle.bl_gate.specs.Gates.{PassView, hall_seen};
+ghost use Rattle.bl_work.specs.Names.{KnownNames};
+ghost use Rattle.bl_serve.specs.Courses.{SpeaksForItsOwn};
+ghost use Rattle.bl_serve.specs.Together.{GoesOnTo};
+ghost use Rattle.bl_worker.specs.Turns.{HasWorked, Settles};
+ghost use Rattle.bl_crowd.specs.Crowds.{AreMet, IsCrowd};
+ghost use Rattle.bl_crowd.specs.Ways.{AreMembers};
+
+use crate::member::{Departed, Member, Next};
+use bl_connection::stream::Stream;
+use bl_gate::gate::Gate;
+use bl_gate::pass::Pass;
+use bl_gate::turn::Turn as AtGate;
+use bl_wire::fault::SessionFault;
+use bl_worker::pause::Pause;
+use bl_worker::turn::{Turn, work_once};
+use std::alloc::{AllocError, Global};
+use std::snapshot::Snapshot;
+use std::sync::Wait;
+
+/// The connections of one thread, which share one pass, and what the pass was at first. It opens the sessions of its
+/// members and speaks for no other one.
+#[derive(Drop)]
+pub struct Crowd<'a, S> {
+    pub(crate) alloc: Global,
+    pub(crate) gate: &'a Gate,
+    pub(crate) pass: Pass,
+    pub(crate) first: Snapshot<Pass>,
+    pub(crate) members: Vec<Member<'a, S>>,
+}
+
+/// Does at the gate what each member asks.
+fn meet_all<S: Stream>(turn: &mut AtGate<'_>, members: &mut Vec<Member<'_, S>>)
+    requires trail { HasTrail (hall_seen turn.old) }
+    requires members { (names : KnownNames) × (first : PassView)
+        × AreMembers S.remaining S.contents names first turn.old members.old.items }
+    ensures goes { GoesOnTo turn.old turn.new }
+    ensures members { (names : KnownNames) (first : PassView)
+        → AreMembers S.remaining S.contents names first turn.old members.old.items
+        → AreMembers S.remaining S.contents names first turn.new members.new.items }
+    ensures len { vec_len members.new ≡ vec_len members.old }
+    ensures met { (names : KnownNames) (first : PassView)
+        → AreMembers S.remaining S.contents names first turn.old members.old.items
+        → AreMet first turn.old turn.new members.old.items members.new.items (vec_len members.new) }
+{
+    for i in 0..members.len() {
+        let _ = members[i].meet(turn);
+    }
+}
+
+impl<'a, S: Stream> Crowd<'a, S> {
+    ghost use Rattle.bl_connection.specs.Connections.{state_of};
+    ghost use Rattle.bl_connection.specs.declared.connection.State.TheVariants as states;
+    ghost use Rattle.bl_crowd.specs.Departures.{Departs, IsServedAmong};
+    ghost use Rattle.bl_crowd.specs.Steps.{IsBlocked, IsFaultOf, IsGone};
+    ghost use Rattle.bl_crowd.specs.declared.member.Next.TheVariants as nexts;
+
+    /// A crowd of nobody.
+    pub fn new(alloc: Global, gate: &'a Gate, pass: Pass) -> Crowd<'a, S>
+        requires { pass.gate ≡ gate.now }
+        ensures crowd { IsCrowd S.remaining S.contents result }
+        ensures pass { (result.pass ≡ pass) × (result.first.value ≡ pass) × (result.gate.now ≡ gate.now) }
+        ensures none { result.members.items ≡ [] }
+    {
+        let _names = gate.names();
+        Crowd {
+            alloc,
+            gate,
+            first: Snapshot::of(&pass),
+            pass,
+            members: Vec::new(alloc),
+        }
+    }
+
+    /// How many members it has.
+    pub fn len(&self) -> usize
+        ensures { result ≡ vec_len self.now.members }
+    {
+        self.members.len()
+    }
+
+    /// Takes in a connection over a stream that nothing went through, as the last member. An error comes where memory
+    /// was refused, and leaves the crowd as it was.
+    pub fn join(&mut self, stream: S) -> Result<(), AllocError>
+    where
+        S: Drop,
+        requires crowd { IsCrowd S.remaining S.contents self.old }
+        ensures crowd { IsCrowd S.remaining S.contents self.new }
+        ensures ok { OnOk result ((member : Member S)
+            × (self.new.members.items ≡ self.old.members.items ++ member ∷ [])
+            × (member.connection.first.value ≡ stream) × (member.connection.stream ≡ stream)) }
+        ensures err { OnErr result (self.new.members.items ≡ self.old.members.items) }
+        ensures same { (self.new.pass ≡ self.old.pass) × (self.new.first ≡ self.old.first)
+            × (self.new.gate ≡ self.old.gate) }
+    {
+        self.members.reserve(1)?;
+        let member = Member::new(self.alloc, self.gate.names(), stream)?;
+        self.members.push_reserved(member);
+        Ok(())
+    }
+
+    /// Does what is next for a member, once, over its stream.
+    pub fn step(&mut self, i: usize) -> Next
+        requires crowd { IsCrowd S.remaining S.contents self.old }
+        requires within { i < vec_len self.old.members }
+        ensures crowd { IsCrowd S.remaining S.contents self.new }
+        ensures len { vec_len self.new.members ≡ vec_len self.old.members }
+        ensures over { result ≡ nexts.Over → (d : Member S)
+            → (state_of (get_or self.new.members.items i d).connection ≡ states.Over)
+            × ((get_or self.new.members.items i d).fault ≡ None) }
+        ensures asks { result ≡ nexts.Asks → (d : Member S) → IsSome (get_or self.new.members.items i d).asked }
+        ensures goes { result ≡ nexts.Goes → (d : Member S)
+            → IsGone S.reads S.writes (get_or self.old.members.items i d).connection
+            (get_or self.new.members.items i d).connection }
+        ensures failed { (fault : SessionFault) → result ≡ nexts.Failed fault → (d : Member S)
+            → (get_or self.new.members.items i d).fault ≡ Some fault }
+        ensures fault { (fault : SessionFault) → result ≡ nexts.Failed fault → (d : Member S)
+            → (get_or self.old.members.items i d).fault ≡ None
+            → IsFaultOf S.reads S.writes (get_or self.old.members.items i d).connection
+            (get_or self.new.members.items i d).connection fault }
+        ensures blocked { result ≡ nexts.Blocked → (d : Member S)
+            → IsBlocked S.reads S.writes (get_or self.old.members.items i d).connection
+            (get_or self.new.members.items i d).connection }
+        ensures same { (self.new.pass ≡ self.old.pass) × (self.new.first ≡ self.old.first)
+            × (self.new.gate ≡ self.old.gate) }
+    {
+        self.members[i].step()
+    }
+
+    /// Does what each member asks of the machine, in one turn at the gate.
+    pub fn turn<R: Wait>(&mut self, rt: &R)
+        requires crowd { IsCrowd S.remaining S.contents self.old }
+        ensures crowd { IsCrowd S.remaining S.contents self.new }
+        ensures goes { GoesOnTo self.old.pass self.new.pass }
+        ensures met { AreMet self.old.first.value self.old.pass self.new.pass self.old.members.items
+            self.new.members.items (vec_len self.new.members) }
+        ensures len { vec_len self.new.members ≡ vec_len self.old.members }
+        ensures same { (self.new.first ≡ self.old.first) × (self.new.gate ≡ self.old.gate) }
+    {
+        let mut turn = self.gate.turn(rt, self.pass.take());
+        meet_all(&mut turn, &mut self.members);
+        self.pass = turn.leave();
+    }
+
+    /// Takes a turn with an entry that is ready, as `work_once` does, with the crowd's pass.
+    pub fn work<P: Pause, R: Wait>(&mut self, rt: &R, pause: &P) -> Turn
+        requires crowd { IsCrowd S.remaining S.contents self.old }
+        ensures crowd { IsCrowd S.remaining S.contents self.new }
+        ensures goes { GoesOnTo self.old.pass self.new.pass }
+        ensures worked { HasWorked self.old.pass self.new.pass result }
+        ensures settles { Settles self.old.pass self.new.pass }
+        ensures same { (self.new.members ≡ self.old.members) × (self.new.first ≡ self.old.first)
+            × (self.new.gate ≡ self.old.gate) }
+    {
+        work_once(rt, self.alloc, self.gate, &mut self.pass, pause)
+    }
+
+    /// Has a member leave, at any moment, and gives its stream. What the stream gave and took since it joined is a
+    /// session, as far as it came, and begins a transcript by all that the pass has seen.
+    pub fn leave(&mut self, i: usize) -> Departed<S>
+        requires crowd { IsCrowd S.remaining S.contents self.old }
+        requires within { i < vec_len self.old.members }
+        ensures crowd { IsCrowd S.remaining S.contents self.new }
+        ensures members { self.new.members.items ≡ remove self.old.members.items i }
+        ensures departs { (d : Member S)
+            → Departs S.remaining S.contents self.old.gate.now.base.setup.names self.old.first.value self.old.pass
+            (get_or self.old.members.items i d).connection (get_or self.old.members.items i d).reception result.fault }
+        ensures stream { (d : Member S) → (result.stream ≡ (get_or self.old.members.items i d).connection.stream)
+            × (result.fault ≡ (get_or self.old.members.items i d).fault) }
+        ensures same { (self.new.pass ≡ self.old.pass) × (self.new.first ≡ self.old.first)
+            × (self.new.gate ≡ self.old.gate) }
+    {
+        self.members.remove(i).leave()
+    }
+
+    /// Has a member leave whose session is over, and gives its stream, for its owner to shut. What the stream gave
+    /// and took since it joined is a whole session, and a transcript by all that the pass has seen.
+    pub fn finish(&mut self, i: usize) -> S
+        requires crowd { IsCrowd S.remaining S.contents self.old }
+        requires within { i < vec_len self.old.members }
+        requires over { (d : Member S) → (state_of (get_or self.old.members.items i d).connection ≡ states.Over)
+            × ((get_or self.old.members.items i d).fault ≡ None) }
+        ensures crowd { IsCrowd S.remaining S.contents self.new }
+        ensures members { self.new.members.items ≡ remove self.old.members.items i }
+        ensures served { (d : Member S)
+            → IsServedAmong S.remaining S.contents self.old.gate.now.base.setup.names self.old.first.value
+            self.old.pass (get_or self.old.members.items i d).connection }
+        ensures stream { (d : Member S) → result ≡ (get_or self.old.members.items i d).connection.stream }
+        ensures same { (self.new.pass ≡ self.old.pass) × (self.new.first ≡ self.old.first)
+            × (self.new.gate ≡ self.old.gate) }
+    {
+        self.members.remove(i).finish()
+    }
+
+    /// Gives the pass back. Streams of members that have not left are dropped.
+    pub fn close(self) -> Pass
+    where
+        S: Drop,
+        requires crowd { IsCrowd S.remaining S.contents self }
+        ensures pass { result ≡ self.entry.pass }
+        ensures speaks { SpeaksForItsOwn self.entry.first.value result }
+    {
+        let Crowd {
+            alloc: _,
+            gate: _,
+            pass,
+            first: _,
+            members,
+        } = self;
+        drop(members);
+        pass
+    }
+}

@@ -1,0 +1,484 @@
+//! A connection of a crowd, with its session.
+ghost use Rattle.std.specs.Prelude.{◌≡◌, ◌≢◌, ◌<◌, ◌⊎◌, [], ℕ, length, Option, Some, None, Ok, IsSome, IfOk, IfErr};
+ghost use Rattle.std.specs.Prelude.{OnOk, OnErr, true, false};
+ghost use Rattle.bl_work.specs.Names.{KnownNames};
+ghost use Rattle.bl_hall.specs.Chronicle.{HasTrail};
+ghost use Rattle.bl_gate.specs.Gates.{PassView, hall_seen};
+ghost use Rattle.bl_wire.specs.declared.fault.SessionFault.TheVariants as faults;
+ghost use Rattle.bl_engine.specs.declared.request.Request.TheVariants as requests;
+ghost use Rattle.bl_serve.specs.Courses.{AdmitsNoLineOf, SpeaksForItsOwn};
+ghost use Rattle.bl_serve.specs.Together.{GoesOnTo, SpeaksForNoOther};
+ghost use Rattle.bl_worker.specs.Turns.{AdmitsNoLine};
+ghost use Rattle.bl_crowd.specs.Receptions.{HasEntered, HasReceived, IsRefused};
+
+use bl_connection::connection::{Connection, Progress, State};
+use bl_connection::stream::Stream;
+use bl_core::refusal::{Cause, OpenRefused, Refused};
+use bl_core::session::SessionNo;
+use bl_engine::conversation::Opening;
+use bl_engine::request::Request;
+use bl_gate::turn::Turn as AtGate;
+use bl_hall::laws::replies_go_by_lines;
+use bl_hall::reply::{AnswersFault, Reply};
+use bl_policy::id::SubjectId;
+use bl_serve::talk::Told;
+use bl_serve::told::count_up_to;
+use bl_wire::fault::SessionFault;
+use bl_work::names::Names;
+use bl_work::work::Work;
+use std::alloc::{AllocError, Global};
+
+/// How the machine has received the subject of a connection.
+#[derive(Clone, Copy, Debug, PartialEq, Eq)]
+pub enum Reception {
+    /// It was not asked yet.
+    Awaited,
+    /// The session with this number is open.
+    Open(u32),
+    /// There were as many sessions as there may be.
+    Full,
+}
+
+impl Reception {
+    ghost use Rattle.bl_crowd.specs.Receptions.{opening_of};
+
+    /// How the machine has taken the subject, once it was asked.
+    fn opening(self) -> Opening
+        ensures { result ≡ opening_of self }
+    {
+        match self {
+            Reception::Awaited | Reception::Open(_) => Opening::Open,
+            Reception::Full => Opening::Full,
+        }
+    }
+}
+
+/// What a step of a connection came to.
+#[derive(Clone, Copy, Debug, PartialEq, Eq)]
+pub enum Next {
+    /// It went on, and may go on at once.
+    Goes,
+    /// Its stream would block.
+    Blocked,
+    /// Something is asked of the machine: a turn at the gate is next.
+    Asks,
+    /// All was said and written.
+    Over,
+    /// It has failed, and is to leave.
+    Failed(SessionFault),
+}
+
+/// What a turn at the gate came to.
+#[derive(Clone, Copy, Debug, PartialEq, Eq)]
+pub enum Met {
+    /// Nothing is asked any more.
+    Done,
+    /// Some entry of the session has not ended.
+    Waits,
+    /// It has failed, and is to leave.
+    Failed(SessionFault),
+}
+
+/// A connection of a crowd: the replies that it tells, what is asked and still to be done, how its subject was
+/// received, an ordinal up to which all lies that was asked, the one up to which it was answered, and why it is to
+/// leave.
+#[derive(Drop)]
+pub struct Member<'a, S> {
+    pub(crate) alloc: Global,
+    pub(crate) names: &'a Names,
+    pub(crate) connection: Connection<S>,
+    pub(crate) told: Told<'a>,
+    pub(crate) asked: Option<Request>,
+    pub(crate) reception: Reception,
+    pub(crate) last: u32,
+    pub(crate) upto: u32,
+    pub(crate) fault: Option<SessionFault>,
+}
+
+/// The stream of a member that has left, and why it had to.
+#[derive(Drop)]
+pub struct Departed<S> {
+    pub stream: S,
+    pub fault: Option<SessionFault>,
+}
+
+/// No replies.
+fn none_told(alloc: Global, names: &Names) -> Told<'_>
+    ensures names { result.names.now ≡ names.now }
+    ensures none { (result.replies.items ≡ []) × (result.next ≡ 0) × (result.upto ≡ 0) }
+{
+    Told {
+        names,
+        replies: Vec::new(alloc),
+        next: 0,
+        upto: 0,
+    }
+}
+
+/// Opens a session for a subject, or finds that there are as many as there may be.
+fn receive(turn: &mut AtGate<'_>, subject: SubjectId) -> Reception
+    requires { subject < length turn.old.gate.base.setup.policy.subjects }
+    ensures goes { GoesOnTo turn.old turn.new }
+    ensures lines { AdmitsNoLine turn.old turn.new }
+    ensures received { HasReceived turn.old turn.new subject result }
+{
+    match turn.open(subject) {
+        Ok(session) => Reception::Open(session.number()),
+        Err(OpenRefused::SessionsFull) => Reception::Full,
+        // the subject was read in the names of the gate, which are the hall's
+        Err(OpenRefused::Stranger) => unreachable!(),
+    }
+}
+
+/// Admits a work, or finds no room for it. The work comes back for any other cause, and then nothing was admitted.
+fn enter(turn: &mut AtGate<'_>, session: u32, ordinal: u32, work: Work) -> Result<(), Work>
+    ensures goes { GoesOnTo turn.old turn.new }
+    ensures own { SpeaksForNoOther session turn.old turn.new }
+    ensures ok { OnOk result (HasEntered turn.old turn.new session ordinal work) }
+    ensures err { IfErr result (λ back. (turn.new ≡ turn.old) × (back ≡ work)
+        × IsRefused turn.old session ordinal work) }
+{
+    let Refused { cause, work } = match turn.line(SessionNo::new(session), ordinal, work) {
+        Ok(_) => return Ok(()),
+        Err(refused) => refused,
+    };
+    match cause {
+        Cause::Full => Ok(()),
+        Cause::Stranger | Cause::Session | Cause::Ordinal => Err(work),
+    }
+}
+
+fn next_after(progress: Progress) -> Next
+    ensures moved { result ≡ Next.Goes → progress ≡ Progress.Moved }
+    ensures blocked { result ≡ Next.Blocked → progress ≡ Progress.Blocked }
+    ensures no_other { (result ≡ Next.Goes) ⊎ (result ≡ Next.Blocked) }
+{
+    match progress {
+        Progress::Moved => Next::Goes,
+        Progress::Blocked => Next::Blocked,
+    }
+}
+
+impl<'a, S: Stream> Member<'a, S> {
+    ghost use Rattle.bl_engine.specs.Conversations.{waits_left};
+    ghost use Rattle.bl_connection.specs.Connections.{state_of};
+    ghost use Rattle.bl_connection.specs.declared.connection.State.TheVariants as states;
+    ghost use Rattle.bl_crowd.specs.Steps.{IsBlocked, IsClash, IsFaultOf, IsGone, IsNewSession, IsOfStream, IsWaiting};
+    ghost use Rattle.bl_crowd.specs.Ways.{HasFailed, IsHome, IsMember, IsUnderWay};
+    ghost use Rattle.bl_crowd.specs.Departures.{Departs, IsServedAmong};
+    ghost use Rattle.bl_crowd.specs.declared.member.Met.TheVariants as mets;
+    ghost use Rattle.bl_crowd.specs.declared.member.Next.TheVariants as nexts;
+    ghost use Rattle.bl_crowd.specs.declared.member.Reception.TheVariants as receptions;
+
+    /// A connection over a stream that nothing went through. An error comes where memory was refused.
+    pub fn new(alloc: Global, names: &'a Names, stream: S) -> Result<Member<'a, S>, AllocError>
+    where
+        S: Drop,
+        ensures member { IfOk result (λ member. (first pass : PassView)
+            → IsMember S.remaining S.contents names.now first pass member) }
+        ensures stream { IfOk result (λ member. (member.connection.stream ≡ stream)
+            × (member.connection.first.value ≡ stream)) }
+        ensures awaited { IfOk result (λ member. member.reception ≡ receptions.Awaited) }
+    {
+        let connection = Connection::new(alloc, stream)?;
+        Ok(Member {
+            alloc,
+            names,
+            connection,
+            told: none_told(alloc, names),
+            asked: None,
+            reception: Reception::Awaited,
+            last: 0,
+            upto: 0,
+            fault: None,
+        })
+    }
+
+    /// Hears one line more of what was read.
+    fn hear(&mut self) -> Result<(), SessionFault>
+        requires state { state_of self.old.connection ≡ states.Hears }
+        requires way { (names : KnownNames) × (first : PassView) × (pass : PassView)
+            × IsUnderWay S.remaining S.contents names first pass self.old None }
+        ensures ok { OnOk result ((names : KnownNames) (first pass : PassView)
+            → IsUnderWay S.remaining S.contents names first pass self.old None
+            → IsUnderWay S.remaining S.contents names first pass self.new self.new.asked) }
+        ensures err { IfErr result (λ fault. (names : KnownNames) (first pass : PassView)
+            → IsUnderWay S.remaining S.contents names first pass self.old None
+            → HasFailed S.remaining S.contents names first pass self.new fault) }
+        ensures same { (self.new.reception ≡ self.old.reception) × (self.new.fault ≡ self.old.fault) }
+        ensures nearer { OnOk result (waits_left self.new.connection.conv < waits_left self.old.connection.conv) }
+        ensures fault { IfErr result (IsFaultOf S.reads S.writes self.old.connection self.new.connection) }
+    {
+        self.asked = self.connection.hear(self.names)?;
+        self.told = none_told(self.alloc, self.names);
+        Ok(())
+    }
+
+    /// Does what is next, once, where nothing is asked.
+    fn go_on(&mut self) -> Result<Next, SessionFault>
+        requires none { self.old.asked ≡ None }
+        requires way { (names : KnownNames) × (first : PassView) × (pass : PassView)
+            × IsUnderWay S.remaining S.contents names first pass self.old None }
+        ensures ok { OnOk result ((names : KnownNames) (first pass : PassView)
+            → IsUnderWay S.remaining S.contents names first pass self.old None
+            → IsUnderWay S.remaining S.contents names first pass self.new self.new.asked) }
+        ensures err { IfErr result (λ fault. (names : KnownNames) (first pass : PassView)
+            → IsUnderWay S.remaining S.contents names first pass self.old None
+            → HasFailed S.remaining S.contents names first pass self.new fault) }
+        ensures same { (self.new.reception ≡ self.old.reception) × (self.new.fault ≡ self.old.fault) }
+        ensures over { IfOk result (λ next. next ≡ nexts.Over → (self.new ≡ self.old)
+            × (state_of self.old.connection ≡ states.Over)) }
+        ensures blocked { IfOk result (λ next. next ≡ nexts.Blocked
+            → IsBlocked S.reads S.writes self.old.connection self.new.connection) }
+        ensures goes { IfOk result (λ next. next ≡ nexts.Goes
+            → IsGone S.reads S.writes self.old.connection self.new.connection) }
+        ensures fault { IfErr result (IsFaultOf S.reads S.writes self.old.connection self.new.connection) }
+        ensures no_other { IfOk result IsOfStream }
+    {
+        match self.connection.state() {
+            State::Reads => Ok(next_after(self.connection.read()?)),
+            State::Writes => Ok(next_after(self.connection.write()?)),
+            State::Hears => {
+                self.hear()?;
+                Ok(Next::Goes)
+            }
+            State::Tells => {
+                self.connection.tell(&mut self.told)?;
+                Ok(Next::Goes)
+            }
+            State::Opens | State::Settles => unreachable!(),
+            State::Over => Ok(Next::Over),
+        }
+    }
+
+    /// Does what is next, once: it reads, hears a line, tells or writes. After a fault it does nothing more.
+    pub fn step(&mut self) -> Next
+        requires way { (names : KnownNames) × (first : PassView) × (pass : PassView)
+            × IsMember S.remaining S.contents names first pass self.old }
+        ensures way { (names : KnownNames) (first pass : PassView)
+            → IsMember S.remaining S.contents names first pass self.old
+            → IsMember S.remaining S.contents names first pass self.new }
+        ensures same { self.new.reception ≡ self.old.reception }
+        ensures asks { result ≡ nexts.Asks → (self.new ≡ self.old) × IsSome self.old.asked }
+        ensures over { result ≡ nexts.Over → (self.new ≡ self.old) × (state_of self.old.connection ≡ states.Over)
+            × (self.old.fault ≡ None) }
+        ensures blocked { result ≡ nexts.Blocked → IsBlocked S.reads S.writes self.old.connection self.new.connection }
+        ensures goes { result ≡ nexts.Goes → IsGone S.reads S.writes self.old.connection self.new.connection }
+        ensures failed { (fault : SessionFault) → result ≡ nexts.Failed fault → self.new.fault ≡ Some fault }
+        ensures fault { (fault : SessionFault) → self.old.fault ≡ None → result ≡ nexts.Failed fault
+            → IsFaultOf S.reads S.writes self.old.connection self.new.connection fault }
+        ensures kept { (fault : SessionFault) → self.old.fault ≡ Some fault → self.new ≡ self.old }
+    {
+        if let Some(fault) = self.fault {
+            return Next::Failed(fault);
+        }
+        if self.asked.is_some() {
+            return Next::Asks;
+        }
+        match self.go_on() {
+            Ok(next) => next,
+            Err(fault) => {
+                self.fault = Some(fault);
+                Next::Failed(fault)
+            }
+        }
+    }
+
+    /// Opens the session for a subject, or finds that there are as many as there may be.
+    fn open(&mut self, turn: &mut AtGate<'_>, subject: SubjectId)
+        requires way { (names : KnownNames) × (first : PassView) × IsHome names turn.old
+            × IsUnderWay S.remaining S.contents names first turn.old self.old (Some (requests.Opens subject)) }
+        ensures way { (names : KnownNames) (first : PassView) → IsHome names turn.old
+            → SpeaksForItsOwn first turn.old
+            → IsUnderWay S.remaining S.contents names first turn.old self.old (Some (requests.Opens subject))
+            → IsUnderWay S.remaining S.contents names first turn.new self.new None × SpeaksForItsOwn first turn.new }
+        ensures goes { GoesOnTo turn.old turn.new }
+        ensures lines { AdmitsNoLine turn.old turn.new }
+        ensures new { IsNewSession turn.old self.new.reception }
+        ensures same { (self.new.asked ≡ self.old.asked) × (self.new.fault ≡ self.old.fault) }
+    {
+        self.reception = receive(turn, subject);
+        self.told = none_told(self.alloc, self.names);
+        self.connection.opened(self.reception.opening());
+    }
+
+    /// Admits a work, or finds no room for it. The work comes back where somebody else spoke for the session; then
+    /// nothing was admitted.
+    fn admit(&mut self, turn: &mut AtGate<'_>, ordinal: u32, work: Work) -> Result<(), Work>
+        requires way { (names : KnownNames) × (first : PassView) × IsHome names turn.old
+            × IsUnderWay S.remaining S.contents names first turn.old self.old (Some (requests.Admits ordinal work)) }
+        ensures ok { OnOk result ((names : KnownNames) (first : PassView) → IsHome names turn.old
+            → SpeaksForItsOwn first turn.old
+            → IsUnderWay S.remaining S.contents names first turn.old self.old (Some (requests.Admits ordinal work))
+            → IsUnderWay S.remaining S.contents names first turn.new self.new None × SpeaksForItsOwn first turn.new) }
+        ensures goes { GoesOnTo turn.old turn.new }
+        ensures others { (session : ℕ) → self.old.reception ≢ receptions.Open session
+            → AdmitsNoLineOf session turn.old turn.new }
+        ensures same { (self.new.reception ≡ self.old.reception) × (self.new.asked ≡ self.old.asked)
+            × (self.new.fault ≡ self.old.fault) }
+        ensures back { IfErr result (λ back. (turn.new ≡ turn.old) × (self.new ≡ self.old) × (back ≡ work)) }
+        ensures clash { OnErr result ((names : KnownNames) (first : PassView) → IsHome names turn.old
+            → IsUnderWay S.remaining S.contents names first turn.old self.old (Some (requests.Admits ordinal work))
+            → IsClash first turn.new self.new.reception) }
+    {
+        let Reception::Open(session) = self.reception else {
+            unreachable!()
+        };
+        match enter(turn, session, ordinal, work) {
+            Ok(()) => {}
+            Err(back) => return Err(back),
+        }
+        self.last = ordinal;
+        Ok(())
+    }
+
+    /// Has its block answered, and says whether it is: not while an entry of the session has not ended. An error
+    /// comes where memory was refused.
+    fn settle(&mut self, turn: &AtGate<'_>) -> Result<bool, AllocError>
+        requires way { (names : KnownNames) × (first : PassView) × IsHome names turn.now
+            × IsUnderWay S.remaining S.contents names first turn.now self.old (Some requests.Settles) }
+        ensures way { result ≡ Ok true → (names : KnownNames) (first : PassView) → IsHome names turn.now
+            → IsUnderWay S.remaining S.contents names first turn.now self.old (Some requests.Settles)
+            → IsUnderWay S.remaining S.contents names first turn.now self.new None }
+        ensures waits { result ≡ Ok false → (self.new ≡ self.old) × IsWaiting turn.now self.old.reception }
+        ensures kept { OnErr result (self.new ≡ self.old) }
+        ensures same { (self.new.reception ≡ self.old.reception) × (self.new.asked ≡ self.old.asked)
+            × (self.new.fault ≡ self.old.fault) }
+    {
+        let Reception::Open(session) = self.reception else {
+            unreachable!()
+        };
+        replies_go_by_lines();
+        let mut replies = match turn.answers(SessionNo::new(session), self.upto) {
+            Ok(Some(replies)) => replies,
+            Ok(None) => return Ok(false),
+            Err(AnswersFault::Memory) => return Err(AllocError),
+            Err(AnswersFault::Session) => unreachable!(),
+        };
+        let ordinal = self.connection.ordinal();
+        // a reply to a later line comes only where somebody else spoke for the session, whose next line then finds that
+        let count = count_up_to(ordinal, &replies);
+        replies.truncate(count);
+        self.told = Told {
+            names: self.names,
+            replies,
+            next: 0,
+            upto: self.connection.after(),
+        };
+        self.upto = ordinal;
+        self.last = ordinal;
+        self.connection.answered();
+        Ok(true)
+    }
+
+    /// Does at the gate what is asked at the last line. `Waits` comes while the block is not answered, `Memory` where
+    /// memory was refused, and `Clash` only where somebody else spoke for the session; then what is asked stays so.
+    pub fn meet(&mut self, turn: &mut AtGate<'_>) -> Met
+        requires trail { HasTrail (hall_seen turn.old) }
+        requires way { (names : KnownNames) × (first : PassView) × IsHome names turn.old
+            × IsMember S.remaining S.contents names first turn.old self.old }
+        ensures way { (names : KnownNames) (first : PassView) → IsHome names turn.old
+            → SpeaksForItsOwn first turn.old → IsMember S.remaining S.contents names first turn.old self.old
+            → IsMember S.remaining S.contents names first turn.new self.new × SpeaksForItsOwn first turn.new }
+        ensures goes { GoesOnTo turn.old turn.new }
+        ensures others { (session : ℕ) → self.new.reception ≢ receptions.Open session
+            → AdmitsNoLineOf session turn.old turn.new }
+        ensures new { (self.new.reception ≡ self.old.reception) ⊎ IsNewSession turn.old self.new.reception }
+        ensures done { result ≡ mets.Done → self.new.asked ≡ None }
+        ensures waits { result ≡ mets.Waits → (self.new ≡ self.old) × (turn.new ≡ turn.old)
+            × IsWaiting turn.old self.old.reception }
+        ensures failed { (fault : SessionFault) → result ≡ mets.Failed fault → self.new.fault ≡ Some fault }
+        ensures kept { (fault : SessionFault) → self.old.fault ≡ Some fault → self.new ≡ self.old }
+        ensures fault { (fault : SessionFault) → self.old.fault ≡ None → result ≡ mets.Failed fault
+            → (fault ≡ faults.Memory) ⊎ ((fault ≡ faults.Clash)
+            × ((names : KnownNames) (first : PassView) → IsHome names turn.old
+            → IsMember S.remaining S.contents names first turn.old self.old
+            → IsClash first turn.new self.new.reception)) }
+    {
+        if let Some(fault) = self.fault {
+            return Met::Failed(fault);
+        }
+        let Some(request) = self.asked.take() else {
+            return Met::Done;
+        };
+        match request {
+            Request::Opens(subject) => {
+                self.open(turn, subject);
+                Met::Done
+            }
+            Request::Admits { ordinal, work } => match self.admit(turn, ordinal, work) {
+                Ok(()) => Met::Done,
+                Err(work) => {
+                    self.asked = Some(Request::Admits { ordinal, work });
+                    self.fault = Some(SessionFault::Clash);
+                    Met::Failed(SessionFault::Clash)
+                }
+            },
+            Request::Settles => match self.settle(turn) {
+                Ok(true) => Met::Done,
+                Ok(false) => {
+                    self.asked = Some(Request::Settles);
+                    Met::Waits
+                }
+                Err(_) => {
+                    self.asked = Some(Request::Settles);
+                    self.fault = Some(SessionFault::Memory);
+                    Met::Failed(SessionFault::Memory)
+                }
+            },
+        }
+    }
+
+    /// Gives the stream at any moment, after a fault too.
+    pub fn leave(self) -> Departed<S>
+        ensures stream { result.stream ≡ self.entry.connection.stream }
+        ensures fault { result.fault ≡ self.entry.fault }
+        ensures departs { (names : KnownNames) (first pass : PassView) → IsHome names pass
+            → IsMember S.remaining S.contents names first pass self.entry
+            → Departs S.remaining S.contents names first pass self.entry.connection self.entry.reception
+            self.entry.fault }
+    {
+        let Member {
+            alloc: _,
+            names: _,
+            connection,
+            told,
+            asked,
+            reception: _,
+            last: _,
+            upto: _,
+            fault,
+        } = self;
+        drop(told);
+        drop(asked);
+        Departed {
+            stream: connection.leave(),
+            fault,
+        }
+    }
+
+    /// Gives the stream of a session that is over, for its owner to shut.
+    pub fn finish(self) -> S
+        requires over { state_of self.connection ≡ states.Over }
+        requires fine { self.fault ≡ None }
+        ensures stream { result ≡ self.entry.connection.stream }
+        ensures served { (names : KnownNames) (first pass : PassView) → IsHome names pass
+            → IsMember S.remaining S.contents names first pass self.entry
+            → IsServedAmong S.remaining S.contents names first pass self.entry.connection }
+    {
+        let Member {
+            alloc: _,
+            names: _,
+            connection,
+            told,
+            asked,
+            reception: _,
+            last: _,
+            upto: _,
+            fault: _,
+        } = self;
+        drop(told);
+        drop(asked);
+        connection.finish()
+    }
+}

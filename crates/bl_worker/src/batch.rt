@@ -1,0 +1,167 @@
+//! Many entries in hand, from one turn at the gate to the next.
+ghost use Rattle.std.specs.Prelude.{◌≡◌, ◌<◌, ◌≤◌, ◌↔◌, ◌++◌, ◌∷◌, [], IfOk, IsTrue, List, length, vec_len};
+ghost use Rattle.bl_hall.specs.Chronicle.{HasTrail};
+ghost use Rattle.bl_gate.specs.Gates.{PassView, HasLoanInHand, hall_seen};
+ghost use Rattle.bl_eval.specs.Loan.{Loan};
+ghost use Rattle.bl_worker.specs.Batches.{HasRoom, AllRan, IsBatch, IsIdle, NoneRan, lent_by, loan_of, loans_in};
+
+use crate::pause::Pause;
+use crate::turn::{Begun, Turn, begin, begin_next};
+use bl_eval::evaluate::eval;
+use bl_eval::lent::{Done, Lent, Unrun};
+use bl_gate::turn::Turn as AtGate;
+use std::alloc::{AllocError, Global};
+
+/// What a thread has in hand from one turn at the gate to the next: entries that run, and those that it has run, or could not run, and
+/// has yet to end. It has to be closed with nothing in hand.
+pub struct Batch {
+    pub(crate) lents: Vec<Lent>,
+    pub(crate) ran: Vec<Result<Done, Unrun>>,
+    pub(crate) most: usize,
+}
+
+/// Ends an entry that was run, or could not be.
+fn end(turn: &mut AtGate<'_>, run: Result<Done, Unrun>)
+    requires { HasLoanInHand turn.old (loan_of run) }
+    ensures trail { HasTrail (hall_seen turn.new) }
+    ensures batch { (first : PassView) (loans : List Loan) → IsBatch first turn.old (loan_of run ∷ loans) → IsBatch first turn.new loans }
+{
+    match run {
+        Ok(done) => turn.finish(done),
+        Err(unrun) => turn.lose(unrun),
+    }
+}
+
+/// Whether the turn has ended an entry.
+fn ends(turn: Turn) -> bool {
+    match turn {
+        Turn::Idle | Turn::Missed(_) => false,
+        Turn::Denied(_) | Turn::Done(_) | Turn::Lost(_) => true,
+    }
+}
+
+impl Batch {
+    /// Nothing in hand, and room for so many entries at once.
+    pub fn new(alloc: Global, most: usize) -> Result<Batch, AllocError>
+        requires { 0 < most }
+        ensures { IfOk result (λ batch. IsIdle batch × HasRoom batch) }
+    {
+        let lents = Vec::with_capacity(alloc, most)?;
+        match Vec::with_capacity(alloc, most) {
+            Ok(ran) => Ok(Batch { lents, ran, most }),
+            Err(e) => {
+                lents.destroy_empty();
+                Err(e)
+            }
+        }
+    }
+
+    /// Whether nothing is in hand.
+    pub fn is_idle(&self) -> bool
+        ensures { IsTrue result ↔ IsIdle self.now }
+    {
+        self.lents.is_empty() && self.ran.is_empty()
+    }
+
+    /// Ends all that was run, and says whether there was any.
+    pub fn end_all(&mut self, turn: &mut AtGate<'_>) -> bool
+        requires trail { HasTrail (hall_seen turn.old) }
+        requires ran { AllRan self.old }
+        requires room { HasRoom self.old }
+        requires batch { (first : PassView) × IsBatch first turn.old (loans_in self.old) }
+        ensures trail { HasTrail (hall_seen turn.new) }
+        ensures batch { (first : PassView) → IsBatch first turn.old (loans_in self.old) → IsBatch first turn.new (loans_in self.new) }
+        ensures idle { IsIdle self.new }
+        ensures room { HasRoom self.new }
+    {
+        let some = !self.ran.is_empty();
+        while let Some(run) = self.ran.pop() {
+            end(turn, run);
+        }
+        some
+    }
+
+    /// Takes in hand what runs of an entry that was begun, and says whether it has ended instead.
+    fn hold(&mut self, begun: Begun) -> bool
+        requires ran { NoneRan self.old }
+        requires room { HasRoom self.old }
+        requires space { vec_len self.old.lents < self.old.most }
+        ensures loans { loans_in self.new ≡ loans_in self.old ++ lent_by begun }
+        ensures ran { NoneRan self.new }
+        ensures room { HasRoom self.new }
+    {
+        match begun {
+            Begun::Over(turn) => ends(turn),
+            Begun::Runs(lent) => {
+                self.lents.push_reserved(lent);
+                false
+            }
+        }
+    }
+
+    /// Begins these entries in their order, each that may start, until as many are in hand as may be. Says how many it has tried, and
+    /// whether one of them has ended.
+    pub fn begin_all(&mut self, turn: &mut AtGate<'_>, entries: &[u32]) -> (usize, bool)
+        requires trail { HasTrail (hall_seen turn.old) }
+        requires ran { NoneRan self.old }
+        requires room { HasRoom self.old }
+        ensures trail { HasTrail (hall_seen turn.new) }
+        ensures batch { (first : PassView) → IsBatch first turn.old (loans_in self.old) → IsBatch first turn.new (loans_in self.new) }
+        ensures ran { NoneRan self.new }
+        ensures room { HasRoom self.new }
+        ensures within { result.0 ≤ length entries.now }
+        ensures full { result.0 < length entries.now → self.new.most ≤ vec_len self.new.lents }
+    {
+        let mut over = false;
+        for (i, n) in entries.iter().enumerate() {
+            if self.lents.len() >= self.most {
+                return (i, over);
+            }
+            let begun = begin(turn, *n);
+            if self.hold(begun) {
+                over = true;
+            }
+        }
+        (entries.len(), over)
+    }
+
+    /// Begins an entry that is ready, whosever, where nothing is in hand, and says whether it has ended.
+    pub fn begin_next(&mut self, turn: &mut AtGate<'_>) -> bool
+        requires trail { HasTrail (hall_seen turn.old) }
+        requires idle { IsIdle self.old }
+        requires room { HasRoom self.old }
+        ensures trail { HasTrail (hall_seen turn.new) }
+        ensures batch { (first : PassView) → IsBatch first turn.old (loans_in self.old) → IsBatch first turn.new (loans_in self.new) }
+        ensures ran { NoneRan self.new }
+        ensures room { HasRoom self.new }
+    {
+        let begun = begin_next(turn);
+        self.hold(begun)
+    }
+
+    /// Runs all that is in hand with the gate free. What could not be run is in hand still.
+    pub fn run<P: Pause>(&mut self, alloc: Global, pause: &P)
+        requires room { HasRoom self.old }
+        ensures loans { loans_in self.new ≡ loans_in self.old }
+        ensures ran { AllRan self.new }
+        ensures room { HasRoom self.new }
+    {
+        while let Some(lent) = self.lents.pop() {
+            pause.between(lent.entry());
+            self.ran.push_reserved(eval(alloc, lent));
+        }
+    }
+
+    /// Closes it.
+    pub fn close(self)
+        requires { IsIdle self }
+    {
+        let Batch {
+            lents,
+            ran,
+            most: _,
+        } = self;
+        lents.destroy_empty();
+        ran.destroy_empty();
+    }
+}
