@@ -130,6 +130,13 @@ impl<'a> Turn<'a> {
         self.hall.lose_ready(starved)
     }
 
+    /// The hall as it is in the turn. Nothing is changed by it.
+    pub fn hall(&self) -> &Hall
+        ensures { result.now ≡ hall_seen self.now }
+    {
+        &self.hall
+    }
+
     /// Some entry that may start; none only where no entry may.
     pub fn ready(&self) -> Option<u32>
         ensures some { IfSome result (λ n. MayStart (state_seen self.now) n) }

@@ -7,7 +7,9 @@ use crate::desk::Desk;
 use crate::post::{Post, Share};
 use bl_gate::gate::Gate;
 use bl_gate::pass::Pass;
+use bl_keeper::keep::Keep;
 use bl_worker::pause::Pause;
+use std::net::{Net, TcpListener, TcpStream};
 use std::snapshot::Snapshot;
 use std::sync::Wait;
 use std::thread::{Promise, PromisedHandle, Scope, Threads};
@@ -24,11 +26,13 @@ impl Promise<Share> for Back {
 pub(crate) type Member = PromisedHandle<Share, Back>;
 
 /// Starts a worker, with one part of the pass; `None` where no thread can be made.
-pub(crate) fn start_worker<'s, E, P: Pause + Sync, T: Threads + Wait + Sync>(
-    scope: &Scope<'s, E>,
-    post: &Post<'s, P, T>,
-    pass: &mut Pass,
-) -> Option<Member>
+pub(crate) fn start_worker<
+    's,
+    E,
+    P: Pause + Sync,
+    K: Keep + Sync,
+    T: Threads + Net<Listener = TcpListener, Stream = TcpStream> + Wait + Sync,
+>(scope: &Scope<'s, E>, post: &Post<'s, P, K, T>, pass: &mut Pass) -> Option<Member>
     requires gate { pass.old.gate ≡ post.now.gate.now }
     requires some { 1 < pass.old.parts }
     ensures rest { Remains pass.old pass.new }
@@ -37,7 +41,8 @@ pub(crate) fn start_worker<'s, E, P: Pause + Sync, T: Threads + Wait + Sync>(
 {
     let part = post.gate.split_pass(pass);
     let promise = Back(Snapshot::of(&part));
-    let (rt, alloc, gate, bell, pause) = (post.rt, post.alloc, post.gate, post.bell, post.pause);
+    let (rt, alloc, gate) = (post.rt, post.alloc, post.gate);
+    let (bell, pause, keep) = (post.bell, post.pause, post.keep);
     let started = scope.spawn_with(
         promise,
         move || -> Share
@@ -50,6 +55,7 @@ pub(crate) fn start_worker<'s, E, P: Pause + Sync, T: Threads + Wait + Sync>(
                 gate,
                 bell,
                 pause,
+                keep,
             };
             post.work(part)
         },
@@ -58,12 +64,13 @@ pub(crate) fn start_worker<'s, E, P: Pause + Sync, T: Threads + Wait + Sync>(
 }
 
 /// Starts a session thread, with one part of the pass; `None` where no thread can be made.
-pub(crate) fn start_session<'s, E, P: Pause + Sync, T: Threads + Wait + Sync>(
-    scope: &Scope<'s, E>,
-    post: &Post<'s, P, T>,
-    pass: &mut Pass,
-    desk: &'s Desk,
-) -> Option<Member>
+pub(crate) fn start_session<
+    's,
+    E,
+    P: Pause + Sync,
+    K: Keep + Sync,
+    T: Threads + Net<Listener = TcpListener, Stream = TcpStream> + Wait + Sync,
+>(scope: &Scope<'s, E>, post: &Post<'s, P, K, T>, pass: &mut Pass, desk: &'s Desk) -> Option<Member>
     requires gate { pass.old.gate ≡ post.now.gate.now }
     requires some { 1 < pass.old.parts }
     ensures rest { Remains pass.old pass.new }
@@ -72,7 +79,8 @@ pub(crate) fn start_session<'s, E, P: Pause + Sync, T: Threads + Wait + Sync>(
 {
     let part = post.gate.split_pass(pass);
     let promise = Back(Snapshot::of(&part));
-    let (rt, alloc, gate, bell, pause) = (post.rt, post.alloc, post.gate, post.bell, post.pause);
+    let (rt, alloc, gate) = (post.rt, post.alloc, post.gate);
+    let (bell, pause, keep) = (post.bell, post.pause, post.keep);
     let started = scope.spawn_with(
         promise,
         move || -> Share
@@ -85,6 +93,7 @@ pub(crate) fn start_session<'s, E, P: Pause + Sync, T: Threads + Wait + Sync>(
                 gate,
                 bell,
                 pause,
+                keep,
             };
             post.attend(part, desk)
         },
@@ -93,9 +102,15 @@ pub(crate) fn start_session<'s, E, P: Pause + Sync, T: Threads + Wait + Sync>(
 }
 
 /// Starts so many workers, and says whether all were started. After one that was not, no other is.
-pub(crate) fn start_workers<'s, E, P: Pause + Sync, T: Threads + Wait + Sync>(
+pub(crate) fn start_workers<
+    's,
+    E,
+    P: Pause + Sync,
+    K: Keep + Sync,
+    T: Threads + Net<Listener = TcpListener, Stream = TcpStream> + Wait + Sync,
+>(
     scope: &Scope<'s, E>,
-    post: &Post<'s, P, T>,
+    post: &Post<'s, P, K, T>,
     pass: &mut Pass,
     count: u32,
     crew: &mut Vec<Member>,
@@ -120,9 +135,15 @@ pub(crate) fn start_workers<'s, E, P: Pause + Sync, T: Threads + Wait + Sync>(
 }
 
 /// Starts so many session threads, and says whether all were started. After one that was not, no other is.
-pub(crate) fn start_sessions<'s, E, P: Pause + Sync, T: Threads + Wait + Sync>(
+pub(crate) fn start_sessions<
+    's,
+    E,
+    P: Pause + Sync,
+    K: Keep + Sync,
+    T: Threads + Net<Listener = TcpListener, Stream = TcpStream> + Wait + Sync,
+>(
     scope: &Scope<'s, E>,
-    post: &Post<'s, P, T>,
+    post: &Post<'s, P, K, T>,
     pass: &mut Pass,
     count: u32,
     desk: &'s Desk,

@@ -1,5 +1,5 @@
 //! Sessions over TCP in threads, round one gate.
-ghost use Rattle.std.specs.Prelude.{◌≡◌, true};
+ghost use Rattle.std.specs.Prelude.{◌≡◌, ◌<◌, true};
 ghost use Rattle.bl_gate.specs.Gates.{Follows};
 
 use crate::crew::{join_crew, start_sessions, start_workers};
@@ -9,26 +9,28 @@ use crate::options::Options;
 use crate::post::Post;
 use bl_gate::gate::Gate;
 use bl_gate::pass::Pass;
+use bl_keeper::keep::Keep;
 use bl_worker::bell::Bell;
 use bl_worker::pause::Pause;
 use crossbeam_channel::Receiver;
 use std::alloc::Global;
-use std::net::TcpListener;
+use std::net::{Net, TcpListener, TcpStream};
 use std::sync::Wait;
 use std::thread::{self, Scope, Threads};
 
-/// What sessions are hosted with: the runtime, where memory comes from, the gate, and what each turn does between a start
-/// and an end.
+/// What sessions are hosted with: the runtime, where memory comes from, the gate, what each turn does between a start
+/// and an end, and what keeps all that has happened before a session is told.
 #[derive(Drop)]
-pub struct Site<'a, P, T> {
+pub struct Site<'a, P, K, T> {
     pub rt: &'a T,
     pub alloc: Global,
     pub gate: &'a Gate,
     pub pause: &'a P,
+    pub keep: &'a K,
 }
 
 /// What is left after all sessions: the pass; those that ended early, in the order in which that was told; whether each thread was
-/// started, so that all parts of the pass are back; and whether something could not be told for want of memory.
+/// started, so that all parts of the pass are back; and whether something could not be told, out of memory.
 #[derive(Drop)]
 pub struct Hosted {
     pub pass: Pass,
@@ -46,15 +48,21 @@ struct Crews {
 }
 
 /// Starts the workers and then the session threads, and waits for them: for the sessions first, then closes the bell.
-fn run_crews<'s, E, P: Pause + Sync, T: Threads + Wait + Sync>(
+fn run_crews<
+    's,
+    E,
+    P: Pause + Sync,
+    K: Keep + Sync,
+    T: Threads + Net<Listener = TcpListener, Stream = TcpStream> + Wait + Sync,
+>(
     scope: &Scope<'s, E>,
-    post: &Post<'s, P, T>,
+    post: &Post<'s, P, K, T>,
     mut pass: Pass,
     desk: &'s Desk,
     options: Options,
 ) -> Crews
     requires gate { pass.gate ≡ post.now.gate.now }
-    requires parts { pass.parts ≡ 64 }
+    requires parts { 32 < pass.parts }
     ensures gate { result.pass.gate ≡ pass.gate }
     ensures whole { result.whole ≡ true → Follows pass result.pass }
 {
@@ -76,24 +84,23 @@ fn run_crews<'s, E, P: Pause + Sync, T: Threads + Wait + Sync>(
 }
 
 /// Starts the threads in a scope of their own, and waits for them.
-fn run_scope<P: Pause + Sync, T: Threads + Wait + Sync>(
-    site: &Site<'_, P, T>,
-    bell: &Bell,
-    desk: &Desk,
-    pass: Pass,
-    options: Options,
-) -> Crews
+fn run_scope<
+    P: Pause + Sync,
+    K: Keep + Sync,
+    T: Threads + Net<Listener = TcpListener, Stream = TcpStream> + Wait + Sync,
+>(site: &Site<'_, P, K, T>, bell: &Bell, desk: &Desk, pass: Pass, options: Options) -> Crews
     requires gate { pass.gate ≡ site.now.gate.now }
-    requires parts { pass.parts ≡ 64 }
+    requires parts { 32 < pass.parts }
     ensures gate { result.pass.gate ≡ pass.gate }
     ensures whole { result.whole ≡ true → Follows pass result.pass }
 {
-    let (rt, alloc, gate, pause) = (site.rt, site.alloc, site.gate, site.pause);
+    let (rt, alloc, gate) = (site.rt, site.alloc, site.gate);
+    let (pause, keep) = (site.pause, site.keep);
     thread::scope(
         thread::scope_env(),
         rt,
         |scope| -> Crews
-            requires { (pass.gate ≡ gate.now) × (pass.parts ≡ 64) }
+            requires { (pass.gate ≡ gate.now) × (32 < pass.parts) }
             ensures { (result.pass.gate ≡ pass.gate) × (result.whole ≡ true → Follows pass result.pass) }
         {
             let post = Post {
@@ -102,6 +109,7 @@ fn run_scope<P: Pause + Sync, T: Threads + Wait + Sync>(
                 gate,
                 bell,
                 pause,
+                keep,
             };
             run_crews(scope, &post, pass, desk, options)
         },
@@ -122,16 +130,16 @@ fn gather<T: Wait>(rt: &T, alloc: Global, told: &Receiver<Ended, Global>) -> (Ve
 /// Takes so many connections at the listener, serves the session of each on a thread of its own, and lets the workers run what is ready meanwhile. It
 /// returns once all sessions are over, all threads have ended, and what was admitted has run.
 ///
-/// The pass has all parts of the right to close the gate, and has them again where each thread could be started. Where one could not, no
-/// further one is, and those that were started run to their end.
-pub fn host<P: Pause + Sync, T: Threads + Wait + Sync>(
-    site: &Site<'_, P, T>,
-    listener: TcpListener,
-    pass: Pass,
-    options: Options,
-) -> Hosted
+/// The pass has at least 33 parts of the right to close the gate, one for each thread and one that stays, and has as
+/// many again where each thread could be started. Where one could not, no further one is, and those that were started
+/// run to their end. Once nothing more is kept, no further connection is taken.
+pub fn host<
+    P: Pause + Sync,
+    K: Keep + Sync,
+    T: Threads + Net<Listener = TcpListener, Stream = TcpStream> + Wait + Sync,
+>(site: &Site<'_, P, K, T>, listener: TcpListener, pass: Pass, options: Options) -> Hosted
     requires gate { pass.gate ≡ site.now.gate.now }
-    requires parts { pass.parts ≡ 64 }
+    requires parts { 32 < pass.parts }
     ensures gate { result.pass.gate ≡ pass.gate }
     ensures whole { result.whole ≡ true → Follows pass result.pass }
 {

@@ -132,7 +132,7 @@ fn begins_as_trail<F: Read + Drop>(alloc: Global, file: F) -> io::Result<bool>
 }
 
 /// Whether a plain file stands under this name that begins as a trail does. No link is followed.
-pub(crate) fn is_trail<R: Files>(rt: &R, alloc: Global, name: &str) -> bool {
+pub fn is_trail<R: Files>(rt: &R, alloc: Global, name: &str) -> bool {
     let Ok(found) = fs::symlink_metadata(rt, name) else {
         return false;
     };
@@ -146,7 +146,7 @@ pub(crate) fn is_trail<R: Files>(rt: &R, alloc: Global, name: &str) -> bool {
 }
 
 /// Whether a trail can take this name as things stand: nothing is there, or a trail that may be replaced.
-fn is_free<R: Files>(rt: &R, alloc: Global, trail: &TrailFile<'_>) -> bool {
+pub fn is_free<R: Files>(rt: &R, alloc: Global, trail: &TrailFile<'_>) -> bool {
     match fs::symlink_metadata(rt, trail.name) {
         Ok(_) => trail.replaces && is_trail(rt, alloc, trail.name),
         Err(error) => error.kind() == ErrorKind::NotFound && !trail.name.is_empty(),

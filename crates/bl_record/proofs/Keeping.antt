@@ -14,7 +14,8 @@ use Rattle.bl_journal.specs.Journals.{GoesOnFrom, IsHistory, IsRecovered, Journa
 use Rattle.bl_order.specs.Machine.{State, Event}
 use Rattle.bl_rebuild.specs.Rebuilds.{journal_of}
 use Rattle.bl_record.proofs.Growing.{as-longer, longer, longer-history, longer-text}
-use Rattle.bl_record.specs.Kept.{IsKept, LosesNothing}
+use Rattle.bl_record.specs.Kept.{AreLines, IsKept, LosesNothing}
+use Rattle.bl_record.specs.declared.journal.Lines.{Lines}
 use Rattle.bl_setup.specs.Agreement.{Agree}
 use Rattle.bl_setup.specs.Setup.{Setup}
 use Rattle.bl_setup.specs.declared.version.Version.TheVariants.{Two}
@@ -46,6 +47,24 @@ kept-on before after b c file later grown kept =
     subst (λ (h : Chronicle). IsBookmark h c → c.written ≡ length h.trail → HasTrail h → AllByRecursion HasNoLf (texts_after h b.written)
     → later ≡ all_kept (seen file ++ joined (texts_after h b.written)) → IsKept h c later) (sym (as-longer before after grown))
     (kept-longer before grown.more b c file later kept)
+
+-- lines that were written have been kept
+pub written : (before after : Chronicle) (b : Bookmark) (lines : Lines) (file later : File) → HasGrown before after → IsKept before b file → AreLines after b lines
+    → later ≡ all_kept (seen file ++ lines.text.items) → IsKept after lines.bookmark later
+written before after b lines file later grown kept are is =
+    kept-on before after b lines.bookmark file later grown kept are.bookmark are.all are.trail are.plain (is ∙ ap (λ text. all_kept (seen file ++ text)) are.text)
+
+-- and where there are none, all has been
+pub unwritten : (before after : Chronicle) (b : Bookmark) (lines : Lines) (file : File) → HasGrown before after → IsKept before b file → AreLines after b lines
+    → lines.text.items ≡ [] → IsKept after lines.bookmark file
+unwritten before after b lines file grown kept are none =
+    let text = journal_text before.setup (journal_of before) in
+    written before after b lines file file grown kept are (
+    kept.text
+    ∙ ap all_kept (sym (append-nil text) ∙ sym (append-nil (text ++ [])))
+    ∙ ap (λ (f : File). all_kept (seen f ++ [])) (sym kept.text)
+    ∙ ap (λ t. all_kept (seen file ++ t)) (sym none)
+    )
 
 -- the law of what a crash leaves
 abbrev pub CrashLaw : Type 0

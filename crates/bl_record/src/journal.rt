@@ -1,17 +1,18 @@
 //! The journal of a hall: the head of a trail and a line for each event, in a file, and at its end `stop`.
-ghost use Rattle.std.specs.Prelude.{◌≡◌, ◌++◌, [], codes, Err, false, IfErr, IfOk, IfSome, length, None, OnOk};
-ghost use Rattle.std.specs.List.{AllByRecursion};
-ghost use Rattle.bl_audit.specs.Bookmarks.{HasGrown, IsBookmark, texts_after};
+ghost use Rattle.std.specs.Prelude.{◌≡◌, ◌≢◌, ◌++◌, [], codes, Err, false, IfErr, IfOk, IfSome, IsOk, length, None};
+ghost use Rattle.std.specs.Prelude.{OnOk, Some, true};
+ghost use Rattle.bl_audit.specs.Bookmarks.{HasGrown, IsBookmark};
+ghost use Rattle.bl_disk.specs.declared.device.DeviceError.TheVariants.{Memory as NoRoom};
 ghost use Rattle.bl_disk.specs.File.{Keeps, all_kept, seen};
 ghost use Rattle.bl_disk.specs.Moments.{Passes};
 ghost use Rattle.bl_hall.specs.Chronicle.{Chronicle};
 ghost use Rattle.bl_journal.specs.Journals.{journal_text};
 ghost use Rattle.bl_rebuild.specs.Rebuilds.{journal_of};
 ghost use Rattle.bl_record.specs.declared.fault.JournalFault.TheVariants.{Device as DeviceFault, Memory};
-ghost use Rattle.bl_record.specs.Kept.{HasFailedBy, IsKept, LosesNothing};
+ghost use Rattle.bl_record.specs.Kept.{AreLines, HasFailedBy, IsKept, LosesNothing};
 ghost use Rattle.bl_setup.specs.Setup.{Setup};
 ghost use Rattle.bl_setup.specs.declared.version.Version.TheVariants.{Two};
-ghost use Rattle.bl_trail.specs.TrueText.{HasNoLf, IsLimit, IsTrueText, head_lines, joined};
+ghost use Rattle.bl_trail.specs.TrueText.{IsLimit, IsTrueText, head_lines, joined};
 
 use crate::fault::JournalFault;
 use bl_audit::bookmark::Bookmark;
@@ -36,6 +37,16 @@ pub struct Journal<D: Device> {
     pub fault: Option<DeviceError>,
 }
 
+/// Lines that a journal is to have next, each with its LF: those of all that has happened in a hall since the journal
+/// kept up with it.
+#[derive(Drop)]
+pub struct Lines {
+    /// The lines.
+    pub text: Vec<u8>,
+    /// How far the trail is kept once they are.
+    pub bookmark: Bookmark,
+}
+
 /// The head of a trail of version 2.
 fn head_text(alloc: Global, limit: u32) -> Result<Vec<u8>, AllocError>
     ensures { IfOk result (λ text. text.items ≡ joined (head_lines Two limit)) }
@@ -48,16 +59,20 @@ fn head_text(alloc: Global, limit: u32) -> Result<Vec<u8>, AllocError>
     Ok(text.into_inner())
 }
 
-/// The lines of the events after a bookmark, which is moved after them.
-fn lines_after(alloc: Global, hall: &Hall, bookmark: &mut Bookmark) -> Result<Vec<u8>, AllocError>
-    requires { IsBookmark hall.now bookmark.old }
-    ensures text { IfOk result (λ text. text.items ≡ joined (texts_after hall.now bookmark.old.written)) }
-    ensures plain { OnOk result (AllByRecursion HasNoLf (texts_after hall.now bookmark.old.written)) }
-    ensures moved { OnOk result (IsBookmark hall.now bookmark.new × (bookmark.new.written ≡ length hall.now.trail)) }
+/// The lines of all that has happened in a hall since a bookmark. An error comes only where a growth is refused.
+fn lines_after(alloc: Global, hall: &Hall, reached: Bookmark) -> Result<Lines, AllocError>
+    requires { IsBookmark hall.now reached }
+    ensures { IfOk result (AreLines hall.now reached) }
 {
+    // asked for the proof alone: the events of a hall are a trail
+    let _core = hall.core();
+    let mut bookmark = reached;
     let mut text = Watched::new(Vec::new(alloc));
-    match write_lines(alloc, hall, bookmark, &mut text) {
-        Ok(()) => Ok(text.into_inner()),
+    match write_lines(alloc, hall, &mut bookmark, &mut text) {
+        Ok(()) => Ok(Lines {
+            text: text.into_inner(),
+            bookmark,
+        }),
         Err(_fault) => Err(AllocError),
     }
 }
@@ -99,6 +114,62 @@ pub fn begin<D: Device>(
 }
 
 impl<D: Device> Journal<D> {
+    /// The lines of all that has happened in a hall since the journal kept up with it, in memory: the file is not
+    /// touched.
+    ///
+    /// `Memory` comes where a growth is refused, and `Device` where the device has failed before.
+    pub fn lines(&self, alloc: Global, hall: &Hall) -> Result<Lines, JournalFault>
+        requires { self.now.fault ≡ None → IsBookmark hall.now self.now.bookmark }
+        ensures lines { IfOk result (AreLines hall.now self.now.bookmark) }
+        ensures fine { OnOk result (self.now.fault ≡ None) }
+        ensures fault { IfErr result (HasFailedBy self.now.fault) }
+    {
+        match self.fault {
+            Some(error) => Err(JournalFault::Device(error)),
+            None => Ok(lines_after(alloc, hall, self.bookmark)?),
+        }
+    }
+
+    /// Writes lines that were made of a hall, and has them on the disk before it answers. Where there are none the file
+    /// has all already, and is not touched. Whenever the machine ends, in the call or after it, all that was on the
+    /// disk before is there.
+    ///
+    /// An error comes where the device failed: the journal stays failed, and each later call tells that fault at once.
+    pub fn write(&mut self, lines: Lines) -> Result<(), DeviceError>
+        requires { self.old.fault ≡ None → D.has_failed self.old.log.device ≡ false }
+        ensures kept { OnOk result ((before hall : Chronicle) → IsKept before self.old.bookmark
+            (D.now self.old.log.device) → HasGrown before hall → AreLines hall self.old.bookmark lines
+            → IsKept hall self.new.bookmark (D.now self.new.log.device)) }
+        ensures idle { self.old.fault ≡ None → lines.text.items ≡ [] → IsOk result × (self.new.log ≡ self.old.log) }
+        ensures any_moment { Passes D.now D.past self.old.log.device self.new.log.device
+            (Keeps (D.now self.old.log.device).kept) }
+        ensures fine { OnOk result ((self.old.fault ≡ None) × (self.new.fault ≡ None)) }
+        ensures sound { self.new.fault ≡ None → D.has_failed self.new.log.device ≡ false }
+        ensures fault { IfErr result (λ error. self.new.fault ≡ Some error) }
+        ensures cause { IfErr result (λ error. self.old.fault ≡ None → error ≢ NoRoom
+            → D.has_failed self.new.log.device ≡ true) }
+        ensures failed { IfSome self.old.fault (λ error. (result ≡ Err error) × (self.new ≡ self.old)) }
+    {
+        if let Some(error) = self.fault {
+            return Err(error);
+        }
+        if lines.text.is_empty() {
+            self.bookmark = lines.bookmark;
+            return Ok(());
+        }
+        let Lines { text, bookmark } = lines;
+        match self.log.add(&text) {
+            Ok(()) => {
+                self.bookmark = bookmark;
+                Ok(())
+            }
+            Err(error) => {
+                self.fault = Some(error);
+                Err(error)
+            }
+        }
+    }
+
     /// Keeps up with a hall: writes the lines of all that has happened since, and has them on the disk before it answers. Whenever the
     /// machine ends, in the call or after it, all that was kept before is recovered.
     ///
@@ -117,24 +188,13 @@ impl<D: Device> Journal<D> {
         ensures failed { IfSome self.old.fault (λ error. (result ≡ Err (DeviceFault error)) × (self.new ≡ self.old)) }
     {
         a_crash_loses_nothing_that_was_kept();
-        // asked for the proof alone: the names are those of the setup, which is of version 2
+        // asked for the proof alone: the names are those of the setup
         let setup = hall.core().setup();
-        let _version = setup.version();
         let _scheme = setup.names().scheme();
-        if let Some(error) = self.fault {
-            return Err(JournalFault::Device(error));
-        }
-        let mut bookmark = self.bookmark;
-        let text = lines_after(alloc, hall, &mut bookmark)?;
-        match self.log.add(&text) {
-            Ok(()) => {
-                self.bookmark = bookmark;
-                Ok(())
-            }
-            Err(error) => {
-                self.fault = Some(error);
-                Err(JournalFault::Device(error))
-            }
+        let lines = self.lines(alloc, hall)?;
+        match self.write(lines) {
+            Ok(()) => Ok(()),
+            Err(error) => Err(JournalFault::Device(error)),
         }
     }
 

@@ -15,7 +15,7 @@ use Rattle.bl_wire.specs.declared.fault.SessionFault.TheVariants as failing
 use Rattle.bl_run.specs.declared.fault.ProgramFault.{ProgramFault}
 use Rattle.bl_run.specs.declared.fault.ProgramFault.TheVariants.{CannotReadSetup, Setup, CannotReadTrail, CannotWriteTrail, CannotListen, Read, Write, TooLong, NoMemory}
 
--- the words for a kind of fault; want of memory has none, and is told without a line
+-- the words for a kind of fault; that of memory has none, and is told without a line
 abbrev pub kind_words : SetupFaultKind → List ℕ
 kind_words kinds.Syntax = codes "syntax"
 kind_words kinds.Unknown = codes "unknown"

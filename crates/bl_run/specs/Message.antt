@@ -3,7 +3,7 @@ use Rattle.std.specs.Prelude.{ℕ, List, [], ◌∷◌, ◌++◌, codes, decimal
 use Rattle.bl_wire.specs.declared.fault.SessionFault.TheVariants as failing
 use Rattle.bl_host.specs.declared.ended.Ended.{Ended}
 use Rattle.bl_host.specs.declared.ended.Why.{Why}
-use Rattle.bl_host.specs.declared.ended.Why.TheVariants.{Accept, Session}
+use Rattle.bl_host.specs.declared.ended.Why.TheVariants.{Accept, NotKept, Session}
 use Rattle.bl_run.specs.declared.fault.ProgramFault.{ProgramFault}
 use Rattle.bl_run.specs.declared.fault.ProgramFault.TheVariants.{CannotReadSetup, Setup, CannotReadTrail, CannotWriteTrail, CannotListen, Read, Write, TooLong, NoMemory}
 
@@ -38,6 +38,7 @@ fault_line fault = message_of fault ++ 10 ∷ []
 -- own choice: the words for how a session of `serve` ended
 abbrev pub ended_words : Why → List ℕ
 ended_words Accept = codes "accept fault"
+ended_words NotKept = codes "not kept"
 ended_words (Session failing.Read) = codes "read fault"
 ended_words (Session failing.Write) = codes "write fault"
 ended_words (Session failing.TooLong) = codes "too long"

@@ -5,7 +5,7 @@ use Rattle.bl_trail.specs.declared.verdict.Verdict.TheVariants.{Accepted, Reject
 use Rattle.bl_run.specs.declared.fault.ProgramFault.{ProgramFault}
 use Rattle.bl_run.specs.declared.fault.ProgramFault.TheVariants.{CannotReadSetup, Setup, CannotReadTrail, CannotWriteTrail, CannotListen, Read, Write, TooLong, NoMemory}
 
--- 4 for want of memory, and 3 for anything else
+-- 4 when out of memory, and 3 for anything else
 abbrev pub status_of : ProgramFault → ℕ
 status_of CannotReadSetup = 3
 status_of (Setup line kind) = 3
@@ -17,7 +17,7 @@ status_of Write = 3
 status_of TooLong = 3
 status_of NoMemory = 4
 
--- done, a fault, or want of memory
+-- done, a fault, or out of memory
 abbrev pub IsEnd : ℕ → Type 0
 IsEnd status = (status ≡ 0) ⊎ ((status ≡ 3) ⊎ (status ≡ 4))
 
@@ -26,7 +26,7 @@ abbrev pub status_by : Verdict → ℕ
 status_by (Accepted count) = 0
 status_by (Rejected number) = 1
 
--- a trail was rejected; bad arguments; or done, a fault, or want of memory
+-- a trail was rejected; bad arguments; or done, a fault, or out of memory
 abbrev pub IsStatus : ℕ → Type 0
 IsStatus status = (status ≡ 1) ⊎ ((status ≡ 2) ⊎ IsEnd status)
 

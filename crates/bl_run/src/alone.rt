@@ -62,7 +62,7 @@ fn serve_setup<R: BufRead, W: Write>(
 /// One session over a reader and a writer, after the setup of these bytes: the command `alone`. The limit is 1 to 100,000.
 ///
 /// The result is the status of the run: 0 where the session was served, 3 for a fault of the setup
-/// or of the session, and 4 for want of memory. The words of a fault go to `errors` and nothing else
+/// or of the session, and 4 when out of memory. The words of a fault go to `errors` and nothing else
 /// does. Where the bytes are no setup nothing is read or written, and the words name the first fault
 /// of the text, its line and what is wrong with it; after a fault of the session what was written
 /// begins a transcript.

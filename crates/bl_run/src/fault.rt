@@ -84,7 +84,7 @@ impl ProgramFault {
         }
     }
 
-    /// The status that a run ends with: 4 for want of memory, and 3 for anything else.
+    /// The status that a run ends with: 4 when out of memory, and 3 for anything else.
     pub fn status(&self) -> u8
         ensures status { result ≡ status_of self.now }
         ensures range { (result ≡ 3) ⊎ (result ≡ 4) }
@@ -103,7 +103,7 @@ impl ProgramFault {
     }
 }
 
-/// What a fault of the setup file is to the program: want of memory is `NoMemory`, and any other
+/// What a fault of the setup file is to the program: out of memory is `NoMemory`, and any other
 /// fault is told with its line and the words for its kind.
 pub fn of_setup(fault: SetupFault) -> ProgramFault
     ensures { IsOfSetup fault result }
@@ -146,7 +146,7 @@ pub fn of_keep(fault: KeepFault) -> ProgramFault
     }
 }
 
-/// What a failure to read or to write a file is to the program: want of memory, or `other`.
+/// What a failure to read or to write a file is to the program: out of memory, or `other`.
 pub fn of_file(error: &io::Error, other: ProgramFault) -> ProgramFault
     ensures memory { error_kind error.now ≡ ErrorKind.OutOfMemory → result ≡ ProgramFault.NoMemory }
     ensures other { error_kind error.now ≢ ErrorKind.OutOfMemory → result ≡ other }

@@ -94,7 +94,7 @@ fn judge<W: Write>(
 ///
 /// The verdict is told on `writer`, as `accepted N` with the number of events or `rejected N` with the number of the first
 /// line that is not right. The result is the status of the run: 0 where the trail is accepted, 1 where it is rejected, 3 for
-/// a fault of the setup or of the output, and 4 for want of memory. The words of a fault go to `errors` and nothing else does.
+/// a fault of the setup or of the output, and 4 when out of memory. The words of a fault go to `errors` and nothing else does.
 pub fn replay_on<W: Write, E: Write>(
     alloc: Global,
     setup: &[u8],

@@ -22,6 +22,7 @@ use bl_keep::keep::keep;
 use bl_keep::named::Kept;
 use bl_keep::part::{PartFile, TrailFile, claim, give_back};
 use bl_keep::whole::Unkept;
+use bl_keeper::keep::NoKeep;
 use bl_setup::reader::read_setup;
 use bl_setup::setup::Setup;
 use bl_wire::put::put_out;
@@ -29,7 +30,7 @@ use bl_wire::watched::Watched;
 use bl_worker::pause::Pause;
 use std::alloc::Global;
 use std::io::Write;
-use std::net::TcpListener;
+use std::net::{Net, TcpListener, TcpStream};
 use std::rt::Files;
 use std::sync::Wait;
 use std::thread::Threads;
@@ -167,7 +168,12 @@ fn tell_sessions<E: Write>(errors: &mut Watched<E>, ended: &[Ended])
 
 /// Tells what was found by the end of the threads, in this order: that one was not started, the sessions that ended early, and that
 /// there was no memory to tell one. The result is the status by that.
-fn tell_hosted<E: Write>(errors: &mut Watched<E>, whole: bool, ended: &[Ended], memory: bool) -> u8
+pub fn tell_hosted<E: Write>(
+    errors: &mut Watched<E>,
+    whole: bool,
+    ended: &[Ended],
+    memory: bool,
+) -> u8
     ensures puts { Puts (hosted_text whole ended.now memory) (end_state E.contents errors.old) (end_state E.contents errors.new) }
     ensures status { result ≡ status_after 0 (faults_found whole memory) }
     ensures rises { whole ≡ false → 0 < result }
@@ -237,7 +243,11 @@ pub(crate) fn tell_trail<E: Write>(
 
 /// All after `listening`: the sessions are served, what was found is told, and the trail is kept where each thread was started. The status is 0
 /// only where it was kept.
-fn host_on<P: Pause + Sync, T: Threads + Wait + Files + Sync, E: Write>(
+fn host_on<
+    P: Pause + Sync,
+    T: Threads + Wait + Files + Net<Listener = TcpListener, Stream = TcpStream> + Sync,
+    E: Write,
+>(
     ground: &Ground<'_, P, T>,
     listener: TcpListener,
     prepared: Prepared<T::File>,
@@ -260,6 +270,7 @@ fn host_on<P: Pause + Sync, T: Threads + Wait + Files + Sync, E: Write>(
         alloc: ground.alloc,
         gate: &gate,
         pause: ground.pause,
+        keep: &NoKeep,
     };
     let Hosted {
         pass,
@@ -282,9 +293,14 @@ fn host_on<P: Pause + Sync, T: Threads + Wait + Files + Sync, E: Write>(
 /// Sessions over TCP at a listener, after the setup of these bytes: the command `serve`.
 ///
 /// `listening` is told on `writer` before the first session is served. The status of the run is 0 where all was done and the trail was kept, 3 for a
-/// fault of the setup, of the output or of the trail file, and 4 for want of memory. A session that ends early is told and
+/// fault of the setup, of the output or of the trail file, and 4 when out of memory. A session that ends early is told and
 /// changes no status. Where several faults were found all are told, and the first gives the status.
-pub fn serve_on<P: Pause + Sync, T: Threads + Wait + Files + Sync, W: Write, E: Write>(
+pub fn serve_on<
+    P: Pause + Sync,
+    T: Threads + Wait + Files + Net<Listener = TcpListener, Stream = TcpStream> + Sync,
+    W: Write,
+    E: Write,
+>(
     ground: &Ground<'_, P, T>,
     listener: TcpListener,
     setup: &[u8],

@@ -55,6 +55,7 @@ fn ended_words(why: Why) -> &'static str
 {
     match why {
         Why::Accept => "accept fault",
+        Why::NotKept => "not kept",
         Why::Session(SessionFault::Read) => "read fault",
         Why::Session(SessionFault::Write) => "write fault",
         Why::Session(SessionFault::TooLong) => "too long",

@@ -65,13 +65,10 @@ pub(crate) struct Served {
 }
 
 /// A run of `serve` over the base setup.
-pub(crate) fn serve<P: Pause + Sync, R: Threads + Wait + Files + Sync>(
-    rt: &R,
-    alloc: Global,
-    listener: TcpListener,
-    run: &ServeRun<'_>,
-    pause: &P,
-) -> Served {
+pub(crate) fn serve<
+    P: Pause + Sync,
+    R: Threads + Wait + Files + Net<Listener = TcpListener, Stream = TcpStream> + Sync,
+>(rt: &R, alloc: Global, listener: TcpListener, run: &ServeRun<'_>, pause: &P) -> Served {
     let ground = Ground { rt, alloc, pause };
     let mut writer = Watched::new(Vec::new(alloc));
     let mut errors = Watched::new(Vec::new(alloc));

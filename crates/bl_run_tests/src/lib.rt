@@ -5,6 +5,7 @@
 //!     ends        sessions that end early, and trails that cannot be kept
 //!     trails      trail files
 //!     failing     a file system whose files fail
+//!     unkept      a server that can keep no more
 #![tactic(auto)]
 
 #[cfg(test)]
@@ -17,3 +18,5 @@ mod failing;
 mod overlaps;
 #[cfg(test)]
 mod trails;
+#[cfg(test)]
+mod unkept;

@@ -104,7 +104,7 @@ module _ (x y : State) (last : ℕ) (asked works : List (ℕ × Work)) (limit : 
       works_low = low_more works a.works_low;
     }
 
-    -- another work was refused, for want of room
+    -- another work was refused, since there was no room
     pub admitted_full : y.limit < admitted_weight y + weight_of w → AreAdmitted y k (asked ++ one ∷ []) works
     admitted_full over = record {
       are = a.are

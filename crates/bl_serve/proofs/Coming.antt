@@ -63,7 +63,7 @@ is_full cause.Session = false
 is_full cause.Ordinal = false
 is_full cause.Full = true
 
--- a cause other than want of room
+-- a cause other than that there is no room
 pub not_full : (why : Cause) → (why ≡ cause.Stranger) ⊎ ((why ≡ cause.Session) ⊎ (why ≡ cause.Ordinal)) → why ≡ cause.Full → ⊥
 not_full why (inl is) full = true≢false (sym (ap is_full full) ∙ ap is_full is)
 not_full why (inr (inl is)) full = true≢false (sym (ap is_full full) ∙ ap is_full is)
@@ -157,7 +157,7 @@ module _ (gate : GateId) (first : PassView) (old : Visit) (replies : List owned.
         pub own_here : IsOwn first new.pass s
         own_here = own_then first old.pass new.pass s own_is follows (adds_itself _ old.pass new.pass own)
 
-        -- for want of room
+        -- since there was no room
         pub come_full : IsCause (state_seen new.pass) s k w cause.Full → new.last ≡ k → HasCome gate first new replies (told ++ request.Admits k w ∷ [])
         come_full is last = record {
           own = of_later new c.own follows upto (omega (arith, c.own.within, lt, last));

@@ -249,7 +249,7 @@ module _ (p q : PassView) (follows : Follows p q) (legal : HasTrail (hall_seen q
 -- ---- at one moment of a pass
 
 module _ (names : KnownNames) (first q : PassView) (course : Course) (told : List Request) (t : IsCourse names first q course told) where
-  -- a line of it was refused, for want of room
+  -- a line of it was refused, since there was no room
   pub course_full : (k : ℕ) (w : Work) → course.last < k → (state_seen q).limit < admitted_weight (state_seen q) + weight_of w
       → IsCourse names first q (record { session = course.session; last = k; upto = course.upto; replies = course.replies }) (told ++ request.Admits k w ∷ [])
   course_full k w lt over = record {

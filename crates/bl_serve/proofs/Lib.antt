@@ -1,19 +1,19 @@
-mod ToldLaws
-mod Opened
+pub mod ToldLaws
+pub mod Opened
 mod Staying
-mod Telling
+pub mod Telling
 mod Alone
 mod Admitted
 pub mod Going
-mod Transcribing
+pub mod Transcribing
 mod Quiet
 pub mod Owning
-mod Cutting
-mod Coming
-mod OutcomeLaws
+pub mod Cutting
+pub mod Coming
+pub mod OutcomeLaws
 mod Speaking
 pub mod Together
 mod Faults
-mod Asking
+pub mod Asking
 mod TalkLaws
 mod TalkEnds

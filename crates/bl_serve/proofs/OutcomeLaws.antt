@@ -104,7 +104,7 @@ not_settles (Bad fault ∷ turns) = refl
 not_settles (Ask work ∷ turns) = refl
 
 -- lines do not begin by settling
-only_settles : (turns : List Turn) (n : ℕ) → told_by turns ≡ replicate n request.Settles → told_by turns ≡ []
+pub only_settles : (turns : List Turn) (n : ℕ) → told_by turns ≡ replicate n request.Settles → told_by turns ≡ []
 only_settles turns zero is = is
 only_settles turns (suc n) is = absurd (true≢false (sym (ap is_settles is) ∙ not_settles turns))
 

@@ -14,7 +14,7 @@ ordinal_of reply = slice_index_or reply.label.items 0 0
 abbrev pub line_of : ℕ → List owned.Reply → List owned.Reply
 line_of k told = filter (λ reply. ordinal_of reply == k) told
 
--- what is written for a line whose work was asked for: its replies, or where there are none that it was refused for want of room
+-- what is written for a line whose work was asked for: its replies, or where there are none that it was refused since there was no room
 abbrev pub told_text : KnownNames → List owned.Reply → ℕ → List ℕ
 told_text names told k = line_or_full names k (map reply_of (line_of k told))
 

@@ -10,5 +10,5 @@
 pub mod laws;
 pub mod session;
 pub mod talk;
-mod told;
+pub mod told;
 pub mod visit;

@@ -27,7 +27,7 @@ fn ordinal_of(reply: &Reply) -> u32
 }
 
 /// How many replies stand before the first one to a line above an ordinal.
-pub(crate) fn count_up_to(upto: u32, replies: &[Reply]) -> usize
+pub fn count_up_to(upto: u32, replies: &[Reply]) -> usize
     ensures within { result ≤ length replies.now }
     ensures low { All (λ reply. ordinal_of reply ≤ upto) (take result replies.now) }
     ensures next { BeginsAbove upto (drop result replies.now) }

@@ -8,3 +8,4 @@ pub mod ServeLaws
 pub mod TalkLaws
 pub mod TrailLaws
 pub mod TranscriptLaws
+pub mod KeepLaws

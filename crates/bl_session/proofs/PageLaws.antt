@@ -20,6 +20,7 @@ use Rattle.bl_engine.specs.declared.request.Request.TheVariants.{Opens, Admits, 
 use Rattle.bl_engine.specs.Requests.{SameUpTo, told_by}
 use Rattle.bl_session.specs.declared.entries.Pages.{Pages}
 use Rattle.bl_session.specs.One.{Fate, Kept, Starved, Unrun, started_then, events_by, place_events, run_from, settling, fits, events_of, one_state}
+use Rattle.bl_session.specs.Keeping.{IsFrontOf}
 use Rattle.bl_session.specs.Pages.{AreLater, RanUpTo, Stands, Came, HasEnded, HasHad, HaveRun, with_events}
 use Rattle.bl_session.proofs.OrderLaws.{later-line, text-stands}
 use Rattle.bl_session.proofs.PhaseLaws.{more_waiting}
@@ -159,6 +160,10 @@ module _ (h after : Chronicle) (from to : ℕ) (before : RanUpTo from (state_now
       trail : after.trail ≡ h.trail ++ run_from run.fate (to - from) (state_now h) from
       trail = sym (append-nil after.trail) ∙ run.led run.fate (λ k low high. refl) 0 ∙ ap (λ k. h.trail ++ run_from run.fate k (state_now h) from) count
 
+  -- the events of the places are added
+  pub run_front : IsFrontOf h after
+  run_front = (run_from run.fate (to - from) (state_now h) from, run_is)
+
   run_state : state_now after ≡ state_after (state_now h) (run_from run.fate (to - from) (state_now h) from)
   run_state = ap state_now run_is ∙ state_with h (run_from run.fate (to - from) (state_now h) from)
 
@@ -183,7 +188,7 @@ asked_settled x e k n w ran lt later =
     let grown : AreLater e (change x (machine.Admits 0 k w)).order n = later-line x.order e k (session_at x 0).subject n w later lt in
     (grown, text-stands x (change x (machine.Admits 0 k w)) (Line 0 k (session_at x 0).subject w ∷ []) e n refl refl (λ p low. ap is_gone (more_waiting x.phases 1 p)) ran.within grown)
 
--- what is read by the setup's names, of a session that is open, with an ordinal above its last one, is refused for want of room alone
+-- what is read by the setup's names, of a session that is open, with an ordinal above its last one, is refused only since there is no room
 pub only_full : (x : State) (k : ℕ) (w : Work) (why : Cause) → 0 < length x.sessions → IsReadable x.setup.names w → (session_at x 0).last < k → IsCause x 0 k w why
     → (why ≡ cause.Stranger) ⊎ ((why ≡ cause.Session) ⊎ (why ≡ cause.Ordinal)) → ⊥
 only_full x k w why there readable last is (inl e) = subst (IsCause x 0 k w) e is readable

@@ -30,7 +30,7 @@ use Rattle.bl_engine.specs.View.{seen}
 use Rattle.bl_engine.proofs.LineLaws.{AreLines-nil}
 use Rattle.bl_session.specs.declared.entries.Pages.{Pages}
 use Rattle.bl_session.specs.One.{Kept, one_state}
-use Rattle.bl_session.specs.Outcome.{IsServed, IsCutShort}
+use Rattle.bl_session.specs.Outcome.{IsServed, IsServedIn, IsCutShort}
 use Rattle.bl_session.specs.Pages.{AreLater, Came}
 use Rattle.bl_session.specs.Transcript.{transcript}
 use Rattle.bl_session.proofs.PageLaws.{one_whole, one_part}
@@ -71,6 +71,20 @@ module _ (setup : Setup) (limit : ℕ) (s : Pages) (start rest first kept : Opti
     fate = done.came.fate;
     put = subst (λ (f : ℕ → List ℕ). Appends first kept (session_text f done.turns)) (fun_ext (one_whole setup limit s done.turns done.came)) done.put;
     fine = (reader, writer);
+  }
+
+  -- whose trail the hall has
+  pub served_in : (Settled : ℕ → Type 0) → Finished setup.names (ends start rest first kept) (seen (line_text (state_now s.hall) 0) Settled (Came setup limit s))
+      → (read_failed write_failed : Bool) → read_failed ≡ false → write_failed ≡ false
+      → IsServedIn setup limit s.hall (record { before = start; after = rest; failed = read_failed }) (record { before = first; after = kept; failed = write_failed })
+  unfolding served_whole
+  served_in Settled done read_failed write_failed reader writer = record {
+    served = served_whole Settled done read_failed write_failed reader writer;
+    hall_is = λ i. record {
+      setup = done.came.stands.setup_is i;
+      limit = done.came.stands.limit_is i;
+      trail = done.came.led done.came.fate (λ n lt. refl) i;
+    };
   }
 
   -- a session that ended early

@@ -3,8 +3,6 @@ use Rattle.std.proofs.Common.{◌≡◌, ℕ, ◌<◌, ◌≤◌, inl, inr, ◌�
 use Rattle.std.proofs.lemmas.Bool.Decides.{nat_tests}
 use Rattle.std.specs.Prelude.{Result, Ok, Err, IfErr}
 use Rattle.std.specs.Result.{IsErrAnd}
-use Rattle.bl_wire.specs.declared.fault.SessionFault.{SessionFault}
-use Rattle.bl_wire.specs.declared.fault.SessionFault.TheVariants.{Memory}
 use Rattle.bl_work.specs.Names.{KnownNames}
 use Rattle.bl_work.specs.Readable.{IsReadable}
 use Rattle.bl_work.specs.declared.work.Work.{Work}
@@ -85,15 +83,10 @@ all_left x upto k lt = let e : nat_le k upto ≡ false = grind (arith, nat_tests
 pub asking_is : (setup : Setup) (limit : ℕ) (e : Ends) (conv : Conversation) (s : Pages) (q r : Option Request) → q ≡ r → IsAsking setup limit e conv q s → IsAsking setup limit e conv r s
 asking_is setup limit e conv s q r is a = subst (λ (o : Option Request). IsAsking setup limit e conv o s) is a
 
--- what refuses memory alone
-pub memory_alone : {T : Type 0} (r : Result T SessionFault) (P : SessionFault → Type 0) → IsErrAnd r (λ fault. fault ≡ Memory) → P Memory → IfErr r P
-memory_alone (Ok x) P is p = tt
-memory_alone (Err fault) P is p = subst P (sym is) p
-
 -- a fault that is handed on
-pub passes_on : {T : Type 0} (r : Result T SessionFault) (fault : SessionFault) (P : SessionFault → Type 0) → IsErrAnd r (λ f. f ≡ fault) → P fault → IfErr r P
-passes_on (Ok x) fault P is p = tt
-passes_on (Err f) fault P is p = subst P (sym is) p
+pub passes_on : {T E : Type 0} (r : Result T E) (e : E) (P : E → Type 0) → IsErrAnd r (λ f. f ≡ e) → P e → IfErr r P
+passes_on (Ok x) e P is p = tt
+passes_on (Err f) e P is p = subst P (sym is) p
 
 alone_input : (ended : Bool) (n : ℕ) (stage : Stage) → need_at ended stage ≡ needs.Input → GoesOnAlone n stage
 alone_input ended n stages.Greets is = tt
@@ -314,6 +307,10 @@ module _ (setup : Setup) (limit : ℕ) (start r first w : Option (List ℕ)) (co
     };
   }
 
+  -- words end no line
+  pub after_told : (other : ℕ → List ℕ) (new : Conversation) (w' : Option (List ℕ)) → need_of conv ≡ needs.Room → ToldAll (λ k. []) other conv new w w' → new.after ≡ conv.after
+  after_told other new w' need told = omega (arith, told.last, ap (λ l. length l) told.none, nothing_told conv.ended (length conv.pending.items) conv.stage need u.alone)
+
   -- words were told
   pub has_told : (other : ℕ → List ℕ) (new : Conversation) (w' : Option (List ℕ)) → need_of conv ≡ needs.Room → ToldAll (λ k. []) other conv new w w' → IsUnderWay setup limit (ends start r first w') new s
   has_told other new w' need told = record {
@@ -331,7 +328,7 @@ module _ (setup : Setup) (limit : ℕ) (start r first w : Option (List ℕ)) (co
   }
     where
       after : new.after ≡ conv.after
-      after = omega (arith, told.last, ap (λ l. length l) told.none, nothing_told conv.ended (length conv.pending.items) conv.stage need u.alone)
+      after = after_told other new w' need told
 
 -- ---- a block is settled
 

@@ -7,3 +7,5 @@ pub mod Pages
 pub mod Blocks
 pub mod Talks
 pub mod Telling
+pub mod Keeping
+pub mod Reaching

@@ -9,7 +9,7 @@ use Rattle.bl_engine.specs.declared.request.Request.{Request}
 use Rattle.bl_engine.specs.declared.request.Request.TheVariants.{Opens, Admits, Settles}
 use Rattle.bl_engine.specs.Requests.{told_by}
 
--- what becomes of a place: it is not lost; it is lost for want of memory to start it; or for want of memory to run it
+-- what becomes of a place: it is not lost; it is lost since memory ran out as it started; or as it ran
 pub data Fate : Type 0 where
   Kept : Fate
   Starved : Fate

@@ -10,7 +10,8 @@ use Rattle.bl_wire.specs.Turns.{AreTurns, IsRefusal, StopsAtRefusal}
 use Rattle.bl_engine.specs.BlockText.{Begins}
 use Rattle.bl_engine.specs.Outcome.{Broken, IsPutAt, WereHeard}
 use Rattle.bl_wire.specs.Replies.{line_text}
-use Rattle.bl_session.specs.One.{Fate, one_state}
+use Rattle.bl_hall.specs.Chronicle.{Chronicle}
+use Rattle.bl_session.specs.One.{Fate, one, one_state}
 use Rattle.bl_session.specs.Transcript.{transcript}
 
 -- The input was read to its end, or to the end of a first line that was refused and no further, and its transcript is written,
@@ -26,6 +27,11 @@ pub record IsServed (setup : Setup) (limit : ℕ) (reader writer : Use) : Type 0
   pub fate : ℕ → Fate
   pub put : Appends writer.before writer.after (transcript setup limit fate turns)
   pub fine : (reader.failed ≡ false) × (writer.failed ≡ false)
+
+-- the hall has the trail of the session that was served
+pub record IsServedIn (setup : Setup) (limit : ℕ) (hall : Chronicle) (reader writer : Use) : Type 0 where
+  pub served : IsServed setup limit reader writer
+  pub hall_is : hall ≡ record { setup = setup; limit = limit; trail = one setup limit served.fate served.turns }
 
 -- The session ended early. What is written begins the transcript of the lines that were heard: all that were read, but where memory
 -- was refused perhaps not the last. Where reading failed it is all blocks whose `wait` came. Where memory was refused it is they as well, but the block that the last

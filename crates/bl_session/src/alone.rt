@@ -1,11 +1,14 @@
 //! A session with one worker, in one thread: lines are admitted without being run, and at each
 //! `wait` and at the end of the input they are run in admission order, over a hall of their own.
-ghost use Rattle.std.specs.Prelude.{◌≡◌, ◌≢◌, ◌≤◌, false, OnOk, IfErr, IsSome};
+ghost use Rattle.std.specs.Prelude.{◌≡◌, ◌≢◌, ◌≤◌, [], false, OnOk, IfErr, IfSome, IsSome};
+ghost use Rattle.bl_hall.specs.Chronicle.{Chronicle};
 ghost use Rattle.bl_wire.specs.Watch.{used};
-ghost use Rattle.bl_session.specs.Outcome.{IsServed, IsCutShort};
+ghost use Rattle.bl_session.specs.Keeping.{IsFrontOf, IsHeld, IsToldOf, MayStop, fault_of};
+ghost use Rattle.bl_session.specs.Outcome.{IsServed, IsServedIn, IsCutShort};
 ghost use Rattle.bl_wire.specs.declared.fault.SessionFault.TheVariants.{Clash};
 
 use crate::entries::{Alone, Pages, begin};
+use crate::keep::{Keep, NoKeep, Stop};
 use crate::talk::converse_alone;
 use bl_hall::hall::Hall;
 use bl_setup::setup::Setup;
@@ -78,9 +81,49 @@ pub fn serve_and_keep<R: BufRead, W: Write>(
     ensures never { IfErr result.0 (λ fault. fault ≢ Clash) }
     ensures kept { OnOk result.0 (IsSome result.1) }
 {
+    let (served, kept) = serve_keeping(alloc, setup, limit, &mut NoKeep, reader, writer);
+    match served {
+        Ok(()) => (Ok(()), kept),
+        Err(Stop::Fault(fault)) => (Err(fault), kept),
+        Err(Stop::NotKept) => unreachable!(),
+    }
+}
+
+/// Serves one session as `serve_and_keep` does, and has its trail kept before any of it is told: that it is open, and
+/// the replies to each block. Who keeps it has come as far as a hall in which nothing has happened.
+///
+/// All that is written was told of a trail that is kept, also after a fault, and the hall that is handed back has
+/// gone on from there, so that it may be reached next. `NotKept` comes where the trail was not kept and cannot be;
+/// what is written is as where memory was refused. `Memory` comes also where a growth was refused to who keeps it.
+pub fn serve_keeping<K: Keep, R: BufRead, W: Write>(
+    alloc: Global,
+    setup: Setup,
+    limit: u32,
+    keep: &mut K,
+    reader: &mut Watched<R>,
+    writer: &mut Watched<W>,
+) -> (Result<(), Stop>, Option<Kept>)
+    requires some { 1 ≤ limit }
+    requires most { limit ≤ 100000 }
+    requires reached { K.reached keep.old (record { setup = setup; limit = limit; trail = [] }) }
+    requires reader { reader.old.failed ≡ false }
+    requires writer { writer.old.failed ≡ false }
+    ensures ok { OnOk result.0 (IsServed setup limit
+        (used R.remaining reader.old reader.new) (used W.contents writer.old writer.new)) }
+    ensures handed_on { OnOk result.0 (writer.new.unflushed ≡ false) }
+    ensures err { IfErr result.0 (λ stop. IsCutShort setup limit (fault_of stop)
+        (used R.remaining reader.old reader.new) (used W.contents writer.old writer.new)) }
+    ensures never { IfErr result.0 (MayStop K.may_fail) }
+    ensures kept { OnOk result.0 (IsSome result.1) }
+    ensures own { OnOk result.0 (IfSome result.1 (λ session. IsServedIn setup limit session.pages.hall
+        (used R.remaining reader.old reader.new) (used W.contents writer.old writer.new))) }
+    ensures told { (kept : Chronicle) × IsHeld (K.reached keep.new) (K.has_kept keep.new) result.0 kept
+        × IfSome result.1 (λ session. IsFrontOf kept session.pages.hall)
+        × IsToldOf setup limit kept (used R.remaining reader.old reader.new) (used W.contents writer.old writer.new) }
+{
     let Ok((behind, mut pages)) = begin(alloc, setup, limit) else {
-        return (Err(SessionFault::Memory), None);
+        return (Err(Stop::Fault(SessionFault::Memory)), None);
     };
-    let served = converse_alone(&behind, &mut pages, reader, writer);
+    let served = converse_alone(&behind, &mut pages, keep, reader, writer);
     (served, Some(Kept { behind, pages }))
 }

@@ -14,6 +14,7 @@ ghost use Rattle.bl_wire.specs.Watch.{end_state, Puts};
 ghost use Rattle.bl_engine.specs.declared.request.Request.{Request};
 ghost use Rattle.bl_engine.specs.declared.request.Request.TheVariants.{Opens, Admits, Settles};
 ghost use Rattle.bl_session.specs.Blocks.{Gives};
+ghost use Rattle.bl_session.specs.Keeping.{IsFrontOf};
 ghost use Rattle.bl_session.specs.Pages.{AreLater, Came, HasEnded, HasHad, HaveRun, IsOpen, RanUpTo, StillAnswers};
 
 use crate::block::Block;
@@ -180,6 +181,7 @@ impl Alone {
         ensures came { Came self.now.setup self.now.limit pages.new (Opens subject ∷ []) }
         ensures last { (session_at (state_now pages.new.hall) 0).last ≡ 0 }
         ensures settled { (n : ℕ) → AreLater pages.new.next (state_now pages.new.hall).order n }
+        ensures front { IsFrontOf pages.old.hall pages.new.hall }
     {
         match pages.hall.open(subject) {
             Ok(_) => {}
@@ -197,6 +199,7 @@ impl Alone {
         ensures came { (told : List Request) → Came self.now.setup self.now.limit pages.old told → Came self.now.setup self.now.limit pages.new (told ++ Admits ordinal work ∷ []) }
         ensures last { (session_at (state_now pages.new.hall) 0).last ≤ ordinal }
         ensures settled { (n : ℕ) → n < ordinal → AreLater pages.old.next (state_now pages.old.hall).order n → StillAnswers n pages.old pages.new }
+        ensures front { IsFrontOf pages.old.hall pages.new.hall }
     {
         match pages.hall.line(SessionNo::new(SESSION), ordinal, work) {
             Ok(_) => {}
@@ -217,6 +220,7 @@ impl Alone {
         ensures settled { (n : ℕ) → AreLater pages.old.next (state_now pages.old.hall).order n → StillAnswers n pages.old pages.new }
         ensures done { (n : ℕ) → AreLater pages.new.next (state_now pages.new.hall).order n }
         ensures block { IfOk result (λ block. Gives (state_now pages.new.hall) block after) }
+        ensures front { IsFrontOf pages.old.hall pages.new.hall }
     {
         the_order_has_room();
         run(self.alloc, pages);

@@ -1,18 +1,19 @@
 //! The conversation of a session with one worker: it hears what the reader shows, what it asks is done by the hall, and what it tells
 //! is written. What was written is handed on before a read that may wait.
-ghost use Rattle.std.specs.Prelude.{◌≡◌, ◌≢◌, ◌≤◌, [], ℕ, false, Option, Some, List, OnOk, IfErr};
+ghost use Rattle.std.specs.Prelude.{◌≡◌, ◌≤◌, [], ℕ, false, Option, Some, List, OnOk, IfErr, Err};
 ghost use Rattle.bl_setup.specs.Agreement.{Agree};
 ghost use Rattle.bl_hall.specs.Chronicle.{state_now};
-ghost use Rattle.bl_wire.specs.declared.fault.SessionFault.TheVariants.{Clash};
 ghost use Rattle.bl_engine.specs.Conversations.{waits_left};
 ghost use Rattle.bl_engine.specs.declared.request.Request.TheVariants.{Settles};
-ghost use Rattle.bl_engine.specs.Outcome.{Finished, Stopped};
 ghost use Rattle.bl_engine.specs.View.{ends};
+ghost use Rattle.bl_session.specs.Keeping.{IsHeld, MayStop};
 ghost use Rattle.bl_session.specs.Pages.{AreLater, Came};
-ghost use Rattle.bl_session.specs.Talks.{IsAsking, IsUnderWay, seen_of};
+ghost use Rattle.bl_session.specs.Reaching.{FinishesKept, IsReachedTo, StopsKept};
+ghost use Rattle.bl_session.specs.Talks.{IsAsking, IsUnderWay};
 
 use crate::block::Block;
 use crate::entries::{Alone, Pages};
+use crate::keep::{Keep, Stop};
 use bl_engine::block::{NoReplies, Replies};
 use bl_engine::conversation::{Conversation, Need, Opening};
 use bl_engine::driver::{Listener, listen, tell_all};
@@ -45,25 +46,30 @@ impl Replies for Told<'_> {
     }
 }
 
-/// Has the block answered, and tells it.
-fn settle<W: Write>(
+/// Has the block answered, and tells it once that is kept.
+fn settle<K: Keep, W: Write>(
     behind: &Alone,
     pages: &mut Pages,
     conv: &mut Conversation,
+    keep: &mut K,
     writer: &mut Watched<W>,
-) -> Result<(), SessionFault>
+) -> Result<(), Stop>
     requires writer { writer.old.failed ≡ false }
     requires asks { (start rest first : Option (List ℕ)) × IsAsking behind.now.setup behind.now.limit (ends start rest first (W.contents writer.old.inner)) conv.old (Some Settles) pages.old }
+    requires reached { IsReachedTo (K.reached keep.old) conv.old.after pages.old }
     ensures ok { OnOk result ((start rest first : Option (List ℕ)) → IsAsking behind.now.setup behind.now.limit (ends start rest first (W.contents writer.old.inner)) conv.old (Some Settles) pages.old
         → IsUnderWay behind.now.setup behind.now.limit (ends start rest first (W.contents writer.new.inner)) conv.new pages.new) }
     ensures fine { OnOk result (writer.new.failed ≡ false) }
     ensures nearer { OnOk result (waits_left conv.new ≤ waits_left conv.old) }
-    ensures err { IfErr result (λ fault. (start rest first : Option (List ℕ)) → IsAsking behind.now.setup behind.now.limit (ends start rest first (W.contents writer.old.inner)) conv.old (Some Settles) pages.old
-        → Stopped fault behind.now.setup.names (ends start rest first (W.contents writer.new.inner)) false writer.new.failed (seen_of behind.now.setup behind.now.limit pages.new)) }
-    ensures never { IfErr result (λ fault. fault ≢ Clash) }
+    ensures reached { OnOk result (IsReachedTo (K.reached keep.new) conv.new.after pages.new) }
+    ensures err { IfErr result (λ stop. (start rest first : Option (List ℕ)) → IsAsking behind.now.setup behind.now.limit (ends start rest first (W.contents writer.old.inner)) conv.old (Some Settles) pages.old
+        → StopsKept (IsHeld (K.reached keep.new) (K.has_kept keep.new) (Err stop)) behind.now.setup behind.now.limit
+        stop (ends start rest first (W.contents writer.new.inner)) false writer.new.failed pages.new) }
+    ensures never { IfErr result (MayStop K.may_fail) }
 {
     let after = conv.after();
     let block = behind.settle(pages, after)?;
+    keep.reach(&pages.hall)?;
     conv.answered();
     let mut told = Told {
         behind,
@@ -71,27 +77,32 @@ fn settle<W: Write>(
         block,
         upto: after,
     };
-    tell_all(conv, &mut told, writer)
+    tell_all(conv, &mut told, writer)?;
+    Ok(())
 }
 
 /// Has done what was asked at the last line.
-fn meet<W: Write>(
+fn meet<K: Keep, W: Write>(
     behind: &Alone,
     pages: &mut Pages,
     talk: &mut Listener<'_>,
+    keep: &mut K,
     writer: &mut Watched<W>,
-) -> Result<(), SessionFault>
+) -> Result<(), Stop>
     requires writer { writer.old.failed ≡ false }
     requires agree { Agree behind.now.setup }
     requires asks { (start rest first : Option (List ℕ)) × IsAsking behind.now.setup behind.now.limit (ends start rest first (W.contents writer.old.inner)) talk.old.conv talk.old.request pages.old }
+    requires reached { IsReachedTo (K.reached keep.old) talk.old.conv.after pages.old }
     ensures ok { OnOk result ((start rest first : Option (List ℕ)) → IsAsking behind.now.setup behind.now.limit (ends start rest first (W.contents writer.old.inner)) talk.old.conv talk.old.request pages.old
         → IsUnderWay behind.now.setup behind.now.limit (ends start rest first (W.contents writer.new.inner)) talk.new.conv pages.new) }
     ensures fine { OnOk result (writer.new.failed ≡ false) }
     ensures names { talk.new.names ≡ talk.old.names }
     ensures nearer { OnOk result (waits_left talk.new.conv ≤ waits_left talk.old.conv) }
-    ensures err { IfErr result (λ fault. (start rest first : Option (List ℕ)) → IsAsking behind.now.setup behind.now.limit (ends start rest first (W.contents writer.old.inner)) talk.old.conv talk.old.request pages.old
-        → Stopped fault behind.now.setup.names (ends start rest first (W.contents writer.new.inner)) false writer.new.failed (seen_of behind.now.setup behind.now.limit pages.new)) }
-    ensures never { IfErr result (λ fault. fault ≢ Clash) }
+    ensures reached { OnOk result (IsReachedTo (K.reached keep.new) talk.new.conv.after pages.new) }
+    ensures err { IfErr result (λ stop. (start rest first : Option (List ℕ)) → IsAsking behind.now.setup behind.now.limit (ends start rest first (W.contents writer.old.inner)) talk.old.conv talk.old.request pages.old
+        → StopsKept (IsHeld (K.reached keep.new) (K.has_kept keep.new) (Err stop)) behind.now.setup behind.now.limit
+        stop (ends start rest first (W.contents writer.new.inner)) false writer.new.failed pages.new) }
+    ensures never { IfErr result (MayStop K.may_fail) }
 {
     let Some(request) = talk.request.take() else {
         return Ok(());
@@ -99,6 +110,7 @@ fn meet<W: Write>(
     match request {
         Request::Opens(subject) => {
             behind.open(pages, subject);
+            keep.reach(&pages.hall)?;
             talk.conv.opened(Opening::Open);
             Ok(())
         }
@@ -106,25 +118,32 @@ fn meet<W: Write>(
             behind.ask(pages, ordinal, work);
             Ok(())
         }
-        Request::Settles => settle(behind, pages, &mut talk.conv, writer),
+        Request::Settles => settle(behind, pages, &mut talk.conv, keep, writer),
     }
 }
 
-/// A whole session over the hall of one worker.
-pub fn converse_alone<R: BufRead, W: Write>(
+/// A whole session over the hall of one worker. That the session is open, and the replies to each block, are told
+/// once they are kept.
+pub fn converse_alone<K: Keep, R: BufRead, W: Write>(
     behind: &Alone,
     pages: &mut Pages,
+    keep: &mut K,
     reader: &mut Watched<R>,
     writer: &mut Watched<W>,
-) -> Result<(), SessionFault>
+) -> Result<(), Stop>
     requires fine { (reader.old.failed ≡ false) × (writer.old.failed ≡ false) }
     requires came { Came behind.now.setup behind.now.limit pages.old [] }
     requires settled { AreLater pages.old.next (state_now pages.old.hall).order 0 }
-    ensures ok { OnOk result (Finished behind.now.setup.names (ends (R.remaining reader.old.inner) (R.remaining reader.new.inner) (W.contents writer.old.inner) (W.contents writer.new.inner)) (seen_of behind.now.setup behind.now.limit pages.new)) }
+    requires reached { K.reached keep.old pages.old.hall }
+    ensures ok { OnOk result (FinishesKept (K.reached keep.new) behind.now.setup behind.now.limit
+        (ends (R.remaining reader.old.inner) (R.remaining reader.new.inner)
+        (W.contents writer.old.inner) (W.contents writer.new.inner)) pages.new) }
     ensures fine { OnOk result ((reader.new.failed ≡ false) × (writer.new.failed ≡ false) × (writer.new.unflushed ≡ false)) }
-    ensures err { IfErr result (λ fault. Stopped fault behind.now.setup.names (ends (R.remaining reader.old.inner) (R.remaining reader.new.inner) (W.contents writer.old.inner) (W.contents writer.new.inner))
-        reader.new.failed writer.new.failed (seen_of behind.now.setup behind.now.limit pages.new)) }
-    ensures never { IfErr result (λ fault. fault ≢ Clash) }
+    ensures err { IfErr result (λ stop. StopsKept (IsHeld (K.reached keep.new) (K.has_kept keep.new) (Err stop))
+        behind.now.setup behind.now.limit stop
+        (ends (R.remaining reader.old.inner) (R.remaining reader.new.inner)
+        (W.contents writer.old.inner) (W.contents writer.new.inner)) reader.new.failed writer.new.failed pages.new) }
+    ensures never { IfErr result (MayStop K.may_fail) }
 {
     let names = behind.setup.names();
     let mut talk = Listener {
@@ -137,11 +156,11 @@ pub fn converse_alone<R: BufRead, W: Write>(
         match talk.conv.need() {
             Need::Input => {
                 listen(&mut talk, reader, writer)?;
-                meet(behind, pages, &mut talk, writer)?;
+                meet(behind, pages, &mut talk, keep, writer)?;
             }
             Need::End => {
                 talk.request = talk.conv.end(behind.alloc, names)?;
-                meet(behind, pages, &mut talk, writer)?;
+                meet(behind, pages, &mut talk, keep, writer)?;
             }
             Need::Room => {
                 let mut none = NoReplies;
@@ -154,6 +173,6 @@ pub fn converse_alone<R: BufRead, W: Write>(
     if writer.flush() {
         Ok(())
     } else {
-        Err(SessionFault::Write)
+        Err(Stop::Fault(SessionFault::Write))
     }
 }

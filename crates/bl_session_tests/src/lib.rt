@@ -14,6 +14,7 @@
 //!     limits       long input
 //!     ends         readers and writers that fail
 //!     flushes      that replies are flushed before a read that may wait, and together
+//!     kept         what is told where a trail is kept, and where that fails
 //!     memory       what is answered where a growth is refused
 #![tactic(auto)]
 
@@ -35,6 +36,8 @@ mod ends;
 mod flushes;
 #[cfg(test)]
 mod greetings;
+#[cfg(test)]
+mod kept;
 #[cfg(test)]
 mod limits;
 #[cfg(test)]

@@ -8,6 +8,7 @@ use Rattle.bl_host.proofs.crew.start_session.Goals as goal
 pub spawn_with-started-requires-send-F : goal.spawn_with-started-requires-send-F
 spawn_with-started-requires-send-F g c κs within =
     let pause = c.type_bounds.sync-P in
+    let keep = c.type_bounds.sync-K in
     let runtime = c.type_bounds.sync-T in
     search (pass_send, gate_sync, bells.the_sync, desks.the_sync, crosses, sendable) depth 60 fits 20000
 

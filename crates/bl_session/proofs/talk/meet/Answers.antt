@@ -1,8 +1,19 @@
-use Rattle.std.proofs.Common.{◌∙◌, sym, ap, subst, arith, Some}
+use Rattle.std.proofs.Common.{◌∙◌, ◌<◌, false, refl, sym, ap, subst, arith, Some}
+use Rattle.bl_hall.specs.Chronicle.{state_now}
+use Rattle.bl_wire.specs.Replies.{line_text}
+use Rattle.bl_wire.specs.declared.fault.SessionFault.TheVariants.{Memory}
+use Rattle.bl_engine.specs.Conversations.{last_ordinal}
+use Rattle.bl_engine.specs.Outcome.{Stopped}
 use Rattle.bl_engine.specs.View.{Ends, ends}
+use Rattle.bl_engine.specs.declared.request.Request.TheVariants.{Opens}
+use Rattle.bl_engine.proofs.Breaking.{broken_asked}
 use Rattle.bl_engine.proofs.Outcomes.{if_err-map, on_ok-map}
+use Rattle.bl_session.specs.Keeping.{stop_of}
 use Rattle.bl_session.specs.Pages.{Came}
-use Rattle.bl_session.proofs.TalkLaws.{admitting_open, asking_is, goes_on, has_asked, has_opened, names_subject, names_work, opening_first, room_alone}
+use Rattle.bl_session.specs.Reaching.{CameBy, StandsBy, seen_by}
+use Rattle.bl_session.specs.Talks.{MayGive}
+use Rattle.bl_session.proofs.KeepLaws.{came_by, front_on, held_unreached, may_stop_unreached, reached_before, reached_now, stopped_unreached}
+use Rattle.bl_session.proofs.TalkLaws.{admitting_open, asking_is, goes_on, has_asked, has_opened, may_later, names_subject, names_work, opening_first, passes_on, room_alone}
 use Rattle.bl_session.proofs.talk.meet.Goals as goal
 
 pub returns-in_default-clause-ok : goal.returns-in_default-clause-ok
@@ -80,8 +91,8 @@ settle-requires-clause-asks g c =
     let a = asking_is setup limit e conv s _ _ (sym c.take.ensures.value ∙ (c.in-Some.is ∙ ap (λ q. Some q) c.in-Settles.is)) asks.3 in
     (asks.0, asks.1, asks.2, a)
 
-pub returns-in-Opens-clause-ok : goal.returns-in-Opens-clause-ok
-returns-in-Opens-clause-ok g c start rest first was =
+pub returns-in_ok-reach-in-Opens-clause-ok : goal.returns-in_ok-reach-in-Opens-clause-ok
+returns-in_ok-reach-in-Opens-clause-ok g c start rest first was =
     let setup = c.args.behind.now.setup in
     let limit = c.args.behind.now.limit in
     let conv = c.args.talk.now.conv in
@@ -122,3 +133,58 @@ returns-in-Settles-clause-err g c =
     broken start rest first
     (asking_is setup limit (ends start rest first (g.W.Write.contents c.args.writer.now.inner)) conv s _ _ (sym c.take.ensures.value ∙ (c.in-Some.is ∙ ap (λ q. Some q) c.in-Settles.is)) was))
     c.settle.ensures.err
+
+pub returns-in_default-clause-reached : goal.returns-in_default-clause-reached
+returns-in_default-clause-reached g c = c.requires.reached
+
+pub reach-requires : goal.reach-requires
+reach-requires g c =
+    let k = c.requires.reached in
+    (k.kept, k.reached, front_on k.kept c.args.pages.now.hall c.open.new.pages.hall k.front c.open.ensures.front)
+
+pub returns-in_err-reach-in-Opens-clause-err : goal.returns-in_err-reach-in-Opens-clause-err
+returns-in_err-reach-in-Opens-clause-err g c =
+    let setup = c.args.behind.now.setup in
+    let limit = c.args.behind.now.limit in
+    let conv = c.args.talk.now.conv in
+    let s = c.args.pages.now in
+    let w = g.W.Write.contents c.args.writer.now.inner in
+    let reached = g.K.Keep.reached in
+    let k = c.requires.reached in
+    let front = front_on k.kept s.hall c.open.new.pages.hall k.front c.open.ensures.front in
+    let why = c.in_err-reach-in-Opens.field-0.0 in
+    passes_on c.from_residual.result (stop_of why) _ c.from_residual.ensures.1 (λ start rest first was.
+    let a = asking_is setup limit (ends start rest first w) conv s _ _ (sym c.take.ensures.value ∙ (c.in-Some.is ∙ ap (λ q. Some q) c.in-Opens.is)) was in
+    record {
+      kept = k.kept;
+      held = held_unreached reached g.K.Keep.has_kept c.args.keep.now c.reach.new.self why k.kept k.reached c.in_err-reach-in-Opens.ensures.memory
+          (c.in_err-reach-in-Opens.ensures.kept k.kept k.reached front);
+      front = front;
+      at = s;
+      began = k.front;
+      stopped = stopped_unreached (λ fault. Stopped fault setup.names (ends start rest first w) false c.args.writer.now.failed (seen_by setup limit k.kept s)) why
+          (broken_asked setup.names start rest first w (MayGive s conv.after) (line_text (state_now s.hall) 0) (λ n. StandsBy k.kept s n) (λ told. CameBy setup limit k.kept s told)
+          conv.after (a.done.settled, k.same) (may_later s conv.after) Memory false c.args.writer.now.failed conv (Some (Opens c.in-Opens.subject)) a.so_far a.on
+          (came_by (reached c.args.keep.now) setup limit conv.after (last_ordinal a.on.old) conv.after s a.so_far.asked k a.done) refl refl (refl, c.requires.writer));
+    })
+
+pub returns-in_err-reach-in-Opens-clause-never : goal.returns-in_err-reach-in-Opens-clause-never
+returns-in_err-reach-in-Opens-clause-never g c =
+    let why = c.in_err-reach-in-Opens.field-0.0 in
+    passes_on c.from_residual.result (stop_of why) _ c.from_residual.ensures.1 (may_stop_unreached g.K.Keep.may_fail why c.in_err-reach-in-Opens.ensures.never)
+
+pub returns-in_ok-reach-in-Opens-clause-reached : goal.returns-in_ok-reach-in-Opens-clause-reached
+returns-in_ok-reach-in-Opens-clause-reached g c = reached_now (g.K.Keep.reached c.reach.new.self) c.open.new.pages c.opened.new.self.after c.in_ok-reach-in-Opens.ensures.reached
+
+pub returns-in-Admits-clause-reached : goal.returns-in-Admits-clause-reached
+returns-in-Admits-clause-reached g c =
+    let setup = c.args.behind.now.setup in
+    let limit = c.args.behind.now.limit in
+    let conv = c.args.talk.now.conv in
+    let s = c.args.pages.now in
+    let asks = c.requires.asks in
+    let e : Ends = ends asks.0 asks.1 asks.2 (g.W.Write.contents c.args.writer.now.inner) in
+    let a = asking_is setup limit e conv s _ _ (sym c.take.ensures.value ∙ (c.in-Some.is ∙ ap (λ q. Some q) c.in-Admits.is)) asks.3 in
+    let new : conv.after < c.in-Admits.ordinal = omega (arith, a.on.block.after, a.on.block.number.1) in
+    reached_before (g.K.Keep.reached c.args.keep.now) s c.ask.new.pages conv.after c.requires.reached
+    (admitting_open setup limit e conv s c.in-Admits.ordinal c.in-Admits.work a).there c.ask.ensures.front (c.ask.ensures.settled conv.after new a.done.settled)

@@ -2,7 +2,7 @@ use Rattle.std.proofs.Common.{ap, subst, ◌∙◌, arith, slice_index_or, refl,
 use Rattle.bl_order.specs.Machine.{no_session}
 use Rattle.bl_hall.specs.Chronicle.{state_now}
 use Rattle.bl_hall.proofs.Trails.{reached-now}
-use Rattle.bl_session.proofs.PageLaws.{run_start, run_settled, run_sessions, came_settled}
+use Rattle.bl_session.proofs.PageLaws.{run_front, run_start, run_settled, run_sessions, came_settled}
 use Rattle.bl_hall.specs.Told.{IsUnanswered, replies_above}
 use Rattle.bl_session.specs.declared.block.Block.{Block}
 use Rattle.bl_session.proofs.BlockLaws.{gives_new}
@@ -100,3 +100,15 @@ returns-in-Ok-Some-clause-block c =
     let ended = rw c.in-Ok-Some.field-0-is at c.in-Ok-Some.ensures.ended in
     let block : Block = record { places = c.in-Ok-Some.places; next = 0 } in
     gives_new x c.args.after c.in-Ok-Some.places.items block refl refl ended (told.are ∙ ap (λ j. replies_above x j c.args.after (length x.order)) c.new.ensures)
+
+pub returns-in-Ok-Some-clause-front : goal.returns-in-Ok-Some-clause-front
+returns-in-Ok-Some-clause-front c =
+    let s = c.args.pages.now in
+    let t = c.run.new.pages in
+    run_front s.hall t.hall s.next t.next c.requires.opened.stands.ran c.run.ensures.ran
+
+pub returns-in-Err-Memory-clause-front : goal.returns-in-Err-Memory-clause-front
+returns-in-Err-Memory-clause-front c =
+    let s = c.args.pages.now in
+    let t = c.run.new.pages in
+    run_front s.hall t.hall s.next t.next c.requires.opened.stands.ran c.run.ensures.ran

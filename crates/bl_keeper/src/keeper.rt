@@ -1,0 +1,80 @@
+//! The journal of a gate, under a lock.
+use crate::held::Held;
+use crate::keep::Keep;
+use crate::receipt::Receipt;
+use crate::which::Which;
+use bl_disk::device::Device;
+use bl_gate::gate::Gate;
+use bl_gate::pass::Pass;
+use bl_record::fault::JournalFault;
+use bl_record::journal::Journal;
+use std::alloc::Global;
+use std::marker::Model;
+use std::sync::{Mutex, Wait};
+
+/// The journal of a gate. Many threads have it keep up, one at a time: who comes while another's lines are written
+/// finds all kept that had happened by then, and often nothing more to write. It sees the trail with one part of a
+/// pass. Its value is the gate.
+#[derive(Drop)]
+pub struct Keeper<'a, G: Which, D: Device> {
+    gate: &'a Gate,
+    held: Mutex<Held<G, D>>,
+}
+
+impl<'a, G: Which, D: Device> Model for Keeper<'a, G, D> {
+    ghost use Rattle.std.specs.Prelude.{◌≡◌};
+    ghost use Rattle.std.specs.Coded.{codes};
+    ghost use Rattle.bl_policy.specs.Codes.{matrix_code};
+    ghost use Rattle.bl_hall.specs.EventCodes.{coded_event};
+    ghost use Rattle.bl_gate.specs.Gates.{GateId};
+
+    ghost Value = { GateId };
+
+    ghost coded = { Prim.hlevel (codes, matrix_code, coded_event) };
+
+    ghost view = { λ keeper. keeper.gate.now };
+
+    ghost invariant = { λ keeper. keeper.gate.now ≡ G.gate };
+}
+
+impl<'a, G: Which, D: Device> Keeper<'a, G, D> {
+    ghost use Rattle.std.specs.Prelude.{◌≡◌, false, None};
+    ghost use Rattle.bl_gate.specs.Gates.{hall_seen};
+    ghost use Rattle.bl_keeper.specs.Keeping.{HasKept};
+
+    /// A keeper with this journal, which has kept what this part of the pass has seen, or what came before that.
+    pub fn new(gate: &'a Gate, pass: Pass, journal: Journal<D>) -> Keeper<'a, G, D>
+        requires gate { (gate.now ≡ G.gate) × (pass.gate ≡ G.gate) }
+        requires part { pass.parts ≡ 1 }
+        requires sound { journal.fault ≡ None → D.has_failed journal.log.device ≡ false }
+        requires kept { journal.fault ≡ None → HasKept (hall_seen pass) journal.bookmark (D.now journal.log.device) }
+    {
+        Keeper {
+            gate,
+            held: Mutex::new(Held::new(pass, journal)),
+        }
+    }
+
+    /// The journal and the part of the pass, once nobody has it keep up any more. Where it has not failed, it has kept
+    /// what the pass has seen, or what came before that where the last growth was refused.
+    pub fn finish(self) -> (Journal<D>, Pass)
+        ensures gate { result.1.gate ≡ G.gate }
+        ensures part { result.1.parts ≡ 1 }
+        ensures sound { result.0.fault ≡ None → D.has_failed result.0.log.device ≡ false }
+        ensures kept { result.0.fault ≡ None
+            → HasKept (hall_seen result.1) result.0.bookmark (D.now result.0.log.device) }
+    {
+        let Keeper { gate: _, held } = self;
+        held.into_inner().into_parts()
+    }
+}
+
+impl<G: Which, D: Device> Keep for Keeper<'_, G, D> {
+    ghost use Rattle.bl_keeper.specs.Keeping.{ShowsKept};
+
+    ghost shows = { ShowsKept D.now };
+
+    fn keep_up<R: Wait>(&self, rt: &R, alloc: Global) -> Result<Receipt, JournalFault> {
+        self.held.lock(rt).keep_up(rt, alloc, self.gate)
+    }
+}

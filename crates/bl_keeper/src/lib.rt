@@ -1,0 +1,21 @@
+//! A journal that many threads keep up with, and writers that write only what may be told: what is told was kept
+//! before.
+//!
+//!     which     which gate something is of, for proofs alone
+//!     receipt   what shows that a hall was kept
+//!     keep      what is asked to keep up, before bytes are written
+//!     catch     a journal that keeps up with a gate
+//!     held      such a journal with its pass
+//!     keeper    the journal of a gate, under a lock
+//!     sealed    a writer that takes bytes for a receipt alone
+//!     writer    a writer that has all kept before it writes
+#![tactic(auto)]
+
+pub mod catch;
+mod held;
+pub mod keep;
+pub mod keeper;
+pub mod receipt;
+mod sealed;
+pub mod which;
+pub mod writer;

@@ -1,0 +1,17 @@
+//! The tests of `bl_keeper`: threads that add events and have them kept, files that fail, and what is written before
+//! anything is kept.
+//!
+//!     base       a gate, its keeper, and what the tests ask of both
+//!     threads    threads that add events and have them kept
+//!     faults     files that are full or fail
+//!     order      nothing is written before it was kept
+#![tactic(auto)]
+
+#[cfg(test)]
+mod base;
+#[cfg(test)]
+mod faults;
+#[cfg(test)]
+mod order;
+#[cfg(test)]
+mod threads;

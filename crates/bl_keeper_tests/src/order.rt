@@ -1,0 +1,70 @@
+//! Nothing is written before it was kept.
+use bl_keeper::keep::Keep;
+use bl_keeper::receipt::Receipt;
+use bl_keeper::writer::KeptWriter;
+use bl_record::fault::JournalFault;
+use std::alloc::Global;
+use std::io;
+use std::io::Write;
+use std::sync::Wait;
+use std::sync::atomic::{AtomicU64, Ordering};
+
+/// Counts how often it was asked to keep up.
+#[derive(Drop)]
+struct Counts {
+    kept: AtomicU64,
+}
+
+impl Keep for Counts {
+    ghost use Rattle.std.specs.Prelude.{◌≡◌};
+    ghost use Rattle.bl_keeper.specs.declared.receipt.Receipt.TheVariants.{Nothing};
+
+    ghost shows = { λ receipt. receipt ≡ Nothing };
+
+    fn keep_up<R: Wait>(&self, rt: &R, alloc: Global) -> Result<Receipt, JournalFault> {
+        let _ = rt;
+        let _ = alloc;
+        self.kept.fetch_add(1, Ordering::SeqCst);
+        Ok(Receipt::Nothing)
+    }
+}
+
+/// Notes at each write how often had been kept by then.
+#[derive(Drop)]
+struct Notes<'a> {
+    counts: &'a Counts,
+    writes: u64,
+    in_order: bool,
+}
+
+impl Write for Notes<'_> {
+    fn write(&mut self, buf: &[u8]) -> io::Result<usize> {
+        self.writes = self.writes.saturating_add(1);
+        self.in_order &= self.counts.kept.load(Ordering::SeqCst) == self.writes;
+        Ok(buf.len())
+    }
+
+    fn flush(&mut self) -> io::Result<()> {
+        Ok(())
+    }
+}
+
+#[test]
+fn each_write_comes_after_a_keep_of_its_own(rt: HostRuntime) {
+    let counts = Counts {
+        kept: AtomicU64::new(0),
+    };
+    let notes = Notes {
+        counts: &counts,
+        writes: 0,
+        in_order: true,
+    };
+    let mut writer = KeptWriter::new(&rt, rt.alloc(), &counts, notes);
+    for _ in 0..3u32 {
+        assert!(rt; writer.write_all(b"ok\n").is_ok());
+        assert!(rt; writer.flush().is_ok());
+    }
+    let (notes, _) = writer.into_parts();
+    assert!(rt; notes.writes == 3);
+    assert!(rt; notes.in_order);
+}

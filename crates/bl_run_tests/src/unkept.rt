@@ -1,0 +1,136 @@
+//! A server that can keep no more.
+use super::base::{BASE, connect, listen};
+use bl_disk::device::DeviceError;
+use bl_gate::gate::Gate;
+use bl_hall::hall::Hall;
+use bl_host::ended::{Ended, Why};
+use bl_host::host::{Site, host};
+use bl_host::options::Options;
+use bl_keeper::keep::Keep;
+use bl_keeper::receipt::Receipt;
+use bl_record::fault::JournalFault;
+use bl_setup::reader::read_setup;
+use bl_worker::pause::NoPause;
+use std::alloc::{AllocGlobal, Global};
+use std::io::{Read, Write};
+use std::net::{Net, Shutdown, SocketAddr, TcpListener, TcpStream};
+use std::process::Abort;
+use std::sync::Wait;
+use std::sync::atomic::{AtomicU64, Ordering};
+use std::thread::Threads;
+use std::{io, thread};
+
+/// Keeps once, and has failed from then on.
+#[derive(Drop)]
+struct Once {
+    asked: AtomicU64,
+}
+
+impl Keep for Once {
+    ghost use Rattle.std.specs.Prelude.{◌≡◌};
+    ghost use Rattle.bl_keeper.specs.declared.receipt.Receipt.TheVariants.{Nothing};
+
+    ghost shows = { λ receipt. receipt ≡ Nothing };
+
+    fn keep_up<R: Wait>(&self, rt: &R, alloc: Global) -> Result<Receipt, JournalFault> {
+        let _ = rt;
+        let _ = alloc;
+        if self.asked.fetch_add(1, Ordering::SeqCst) == 0 {
+            Ok(Receipt::Nothing)
+        } else {
+            Err(JournalFault::Device(DeviceError::Full))
+        }
+    }
+}
+
+/// What came of a server: whether each thread was started, the parts that came back, and the sessions that ended early.
+#[derive(Drop)]
+struct Left {
+    whole: bool,
+    parts: u32,
+    ended: Vec<Ended>,
+}
+
+/// Hosts three connections with two session threads, as long as something is kept.
+fn host_three<
+    R: AllocGlobal
+        + Abort
+        + Threads
+        + Wait
+        + Net<Listener = TcpListener, Stream = TcpStream>
+        + Sync,
+>(rt: &R, listener: TcpListener, keep: &Once) -> Left {
+    let alloc = rt.alloc();
+    let Ok(setup) = read_setup(alloc, BASE) else {
+        panic!(rt; "no setup");
+    };
+    let Ok(hall) = Hall::new(alloc, setup, 10_000) else {
+        panic!(rt; "no hall");
+    };
+    let Ok((gate, pass)) = Gate::new(hall) else {
+        panic!(rt; "no gate");
+    };
+    let site = Site {
+        rt,
+        alloc,
+        gate: &gate,
+        pause: &NoPause,
+        keep,
+    };
+    let options = Options {
+        workers: 1,
+        session_threads: 2,
+        sessions: 3,
+    };
+    let hosted = host(&site, listener, pass, options);
+    Left {
+        whole: hosted.whole,
+        parts: hosted.pass.parts(),
+        ended: hosted.ended,
+    }
+}
+
+/// Greets, and once that is answered asks for more; what is heard after the answer.
+fn ask<R: Net<Listener = TcpListener, Stream = TcpStream>>(
+    rt: &R,
+    alloc: Global,
+    at: SocketAddr,
+) -> io::Result<Vec<u8>> {
+    let mut stream = connect(rt, at)?;
+    stream.write_all(b"hello ann\n")?;
+    let mut greeted = [0u8; 3];
+    stream.read_exact(&mut greeted)?;
+    stream.write_all(b"when read memo do show memo; end\nwait\n")?;
+    stream.shutdown(Shutdown::Write)?;
+    let mut heard = Vec::new(alloc);
+    stream.read_to_end(&mut heard)?;
+    Ok(heard)
+}
+
+/// What was kept is told, and no more. No further connection is taken then, so the server ends, though two more were
+/// asked for.
+#[test]
+fn what_is_not_kept_is_not_told(rt: HostRuntime) {
+    let alloc = rt.alloc();
+    let Ok((listener, at)) = listen(&rt) else {
+        panic!(rt; "no port");
+    };
+    let keep = Once {
+        asked: AtomicU64::new(0),
+    };
+    let handle = &rt;
+    let (heard, left) = thread::join(
+        handle,
+        move || ask(handle, alloc, at),
+        || host_three(handle, listener, &keep),
+    );
+    let Ok(heard) = heard else {
+        panic!(rt; "not greeted");
+    };
+    assert!(rt; heard.is_empty());
+    assert!(rt; left.whole);
+    assert_eq!(rt; left.parts, 64);
+    assert_eq!(rt; left.ended.len(), 1);
+    assert!(rt; left.ended[0].session == 1);
+    assert!(rt; left.ended[0].why == Why::NotKept);
+}

@@ -1,0 +1,67 @@
+-- How far the conversation of a session that is kept has come.
+use Rattle.std.specs.Prelude.{ℕ, ◌<◌, Bool, List, length}
+use Rattle.bl_setup.specs.Setup.{Setup}
+use Rattle.bl_hall.specs.Chronicle.{Chronicle, state_now}
+use Rattle.bl_wire.specs.Replies.{line_text}
+use Rattle.bl_engine.specs.Outcome.{Finished, Stopped}
+use Rattle.bl_engine.specs.Requests.{SameUpTo}
+use Rattle.bl_engine.specs.declared.request.Request.{Request}
+use Rattle.bl_engine.specs.View.{Ends, View}
+use Rattle.bl_session.specs.Keeping.{IsFrontOf, IsOpenIn, fault_of}
+use Rattle.bl_session.specs.Pages.{AreLater, Came}
+use Rattle.bl_session.specs.Talks.{seen_of}
+use Rattle.bl_session.specs.declared.entries.Pages.{Pages}
+use Rattle.bl_session.specs.declared.keep.Stop.{Stop}
+
+-- A front of the hall's trail was reached: it has the session once the hall has it, and what is answered up to an
+-- ordinal is answered so by it.
+pub record IsReachedTo (Reached : Chronicle → Type 0) (n : ℕ) (s : Pages) : Type 0 where
+  pub kept : Chronicle
+  pub reached : Reached kept
+  pub front : IsFrontOf kept s.hall
+  pub opened : 0 < length (state_now s.hall).sessions → 0 < length (state_now kept).sessions
+  pub same : SameUpTo n (line_text (state_now kept) 0) (line_text (state_now s.hall) 0)
+
+-- what stands for good up to an ordinal is answered so by what is kept
+abbrev pub StandsBy : Chronicle → Pages → ℕ → Type 0
+StandsBy kept s n = AreLater s.next (state_now s.hall).order n
+    × SameUpTo n (line_text (state_now kept) 0) (line_text (state_now s.hall) 0)
+
+-- what was told brought the pages here, and a session that was asked for is kept
+abbrev pub CameBy : Setup → ℕ → Chronicle → Pages → List Request → Type 0
+CameBy setup limit kept s told = Came setup limit s told × IsOpenIn kept told
+
+-- what is seen of the machine, beside what is kept
+abbrev pub seen_by : Setup → ℕ → Chronicle → Pages → View
+seen_by setup limit kept s = record {
+  replies = line_text (state_now s.hall) 0;
+  settled = λ n. StandsBy kept s n;
+  came = λ told. CameBy setup limit kept s told;
+}
+
+-- what is seen of what is kept
+abbrev pub seen_in : Setup → ℕ → Chronicle → Pages → View
+seen_in setup limit kept s = record {
+  replies = line_text (state_now kept) 0;
+  settled = λ n. AreLater s.next (state_now s.hall).order n;
+  came = λ told. CameBy setup limit kept s told;
+}
+
+-- The session ended early, and all that was told was kept. It is seen as it stood then, or before a last request.
+pub record StopsKept (Held : Chronicle → Type 0) (setup : Setup) (limit : ℕ) (stop : Stop) (ends : Ends)
+    (read_failed write_failed : Bool) (s : Pages) : Type 0 where
+  pub kept : Chronicle
+  pub held : Held kept
+  pub front : IsFrontOf kept s.hall
+  pub at : Pages
+  pub began : IsFrontOf kept at.hall
+  pub stopped : Stopped (fault_of stop) setup.names ends read_failed write_failed (seen_by setup limit kept at)
+
+-- all was told, and was kept
+pub record FinishesKept (Reached : Chronicle → Type 0) (setup : Setup) (limit : ℕ) (ends : Ends) (s : Pages) :
+    Type 0 where
+  pub kept : Chronicle
+  pub reached : Reached kept
+  pub front : IsFrontOf kept s.hall
+  pub told : Finished setup.names ends (seen_in setup limit kept s)
+  pub finished : Finished setup.names ends (seen_of setup limit s)
