@@ -1,5 +1,5 @@
-pub mod Words
-pub mod Status
-pub mod CommandLine
+pub use Rattle.bl_words.specs.CommandLine
+pub use Rattle.bl_words.specs.Words
+pub use Rattle.bl_words.specs.Status
 pub mod Runs
 pub mod Files

@@ -2,14 +2,14 @@
 use Rattle.std.specs.Prelude.{◌≡◌, ◌⊎◌, ℕ, List, Some, None, Result, Ok, Err}
 use Rattle.std.specs.Io.KnownBytes.{Keeps}
 use Rattle.bl_run.specs.declared.fault.ProgramFault.{ProgramFault}
-use Rattle.bl_run.specs.declared.fault.ProgramFault.TheVariants.{CannotListen, CannotWriteTrail, NoMemory}
+use Rattle.bl_run.specs.declared.fault.ProgramFault.TheVariants.{CannotListen, CannotReadTrail, CannotWriteTrail, NoMemory}
 use Rattle.clap.specs.declared.error.kind.ErrorKind.{ErrorKind}
 use Rattle.clap.specs.declared.error.kind.ErrorKind.TheVariants.{DisplayHelp, DisplayVersion}
 use Rattle.bl_wire.specs.Watch.{Use}
-use Rattle.bl_command.specs.Status.{status_for}
+use Rattle.bl_words.specs.Status.{status_for}
 use Rattle.bl_run.specs.Runs.{HasTold, IsReplayOn, IsRun, Run}
-use Rattle.bl_command.specs.declared.command.Command.{Command}
-use Rattle.bl_command.specs.declared.command.Command.TheVariants.{Alone, Serve, Replay}
+use Rattle.bl_words.specs.declared.command.Command.{Command}
+use Rattle.bl_words.specs.declared.command.Command.TheVariants.{Alone, Serve, Replay, Recover}
 use Rattle.bl_command.specs.declared.run.Files.{Files}
 
 -- a replay reads nothing of its input
@@ -21,12 +21,14 @@ pub record IsReplay (setup trail : List ℕ) (run : Run) : Type 0 where
 abbrev pub HasOnlyTold : ProgramFault → Run → Type 0
 HasOnlyTold fault run = HasTold fault run.status run.errors × Keeps run.input.before run.input.after × Keeps run.output.before run.output.after
 
--- a run of this command, after its files had these bytes; without a listener nothing can be served over TCP, and without files no trail kept
+-- a run of this command, after its files had these bytes; without a listener nothing can be served over TCP, and without
+-- files no trail kept or recovered
 abbrev pub IsRunOf : Command → Files → Run → Type 0
-IsRunOf (Alone path limit None) files run = IsRun files.setup.items limit run
-IsRunOf (Alone path limit (Some trail)) files run = HasOnlyTold CannotWriteTrail run
+IsRunOf (Alone path limit None keeping) files run = IsRun files.setup.items limit run
+IsRunOf (Alone path limit (Some trail) keeping) files run = HasOnlyTold CannotWriteTrail run
 IsRunOf (Serve path hosting) files run = HasOnlyTold CannotListen run
 IsRunOf (Replay path name) files run = IsReplay files.setup.items files.trail.items run
+IsRunOf (Recover path name) files run = HasOnlyTold CannotReadTrail run
 
 -- a run of this command, where its files have these bytes, or could not be read for this fault
 abbrev pub IsRunAfter : Command → Result Files ProgramFault → Run → Type 0

@@ -4,9 +4,9 @@ ghost use Rattle.std.specs.IoError.{error_kind};
 ghost use Rattle.bl_setup.specs.Grammar.{most_setup_bytes};
 ghost use Rattle.bl_command.specs.Files.{most_trail_bytes};
 
-use crate::command::Command;
 use crate::run::Files;
 use bl_run::fault::{ProgramFault, of_file};
+use bl_words::command::Command;
 use std::alloc::Global;
 use std::io::{ErrorKind, Read};
 use std::rt::Files as OpensFiles;

@@ -1,12 +1,15 @@
-//! The program's commands: the words of its command line, and its runs.
+//! The program's commands: the runs of those that its words name, and what they take from the system.
 //!
-//!     command    the command line
+//!     command    the command line, of `bl_words`
 //!     run        a run over the ends that it is given
 //!     files      the files that a command reads
+//!     recorded   runs whose trail is written as they go
 //!     shell      what the program takes from the system
 #![tactic(auto)]
 
-pub mod command;
 pub mod files;
+mod recorded;
 pub mod run;
 pub mod shell;
+
+pub use bl_words::command;

@@ -5,15 +5,15 @@ ghost use Rattle.clap.specs.Words.{kind_of};
 ghost use Rattle.bl_wire.specs.Watch.{used};
 ghost use Rattle.bl_run.specs.Status.{IsStatus};
 ghost use Rattle.bl_command.specs.Runs.{IsRefused, IsRunAfter, IsRunOf};
-ghost use Rattle.bl_command.specs.Words.{IsInRange};
+ghost use Rattle.bl_words.specs.Words.{IsInRange};
 
-use crate::command::{Command, status_of};
 use bl_run::alone::alone_on;
 use bl_run::fault::ProgramFault;
 use bl_run::replay::replay_on;
 use bl_run::told::tell;
 use bl_wire::put::put_out;
 use bl_wire::watched::Watched;
+use bl_words::command::{Command, status_of};
 use clap::Error;
 use std::alloc::Global;
 use std::io;
@@ -27,8 +27,8 @@ pub struct Files {
     pub trail: Vec<u8>,
 }
 
-/// A run of a command over its files. The result is the status of the run. There is no listener here, so `serve` cannot listen, and no place for a
-/// file, so a trail cannot be kept.
+/// A run of a command over its files. The result is the status of the run. There is no listener here, so `serve` cannot
+/// listen, and no place for a file, so a trail cannot be kept or recovered.
 fn run_over<R: BufRead, W: Write, E: Write>(
     alloc: Global,
     command: &Command<'_>,
@@ -58,6 +58,7 @@ fn run_over<R: BufRead, W: Write, E: Write>(
         Command::Alone { trail: Some(_), .. } => tell(errors, &ProgramFault::CannotWriteTrail),
         Command::Serve { .. } => tell(errors, &ProgramFault::CannotListen),
         Command::Replay { .. } => replay_on(alloc, &files.setup, &files.trail, writer, errors),
+        Command::Recover { .. } => tell(errors, &ProgramFault::CannotReadTrail),
     }
 }
 
@@ -144,7 +145,7 @@ pub fn run_asked<R: BufRead, W: Write, E: Write>(
     }
 }
 
-/// A run whose words cannot be read: want of memory is told and ends with 4, and anything else ends
+/// A run whose words cannot be read: that memory ran out is told and ends with 4, and anything else ends
 /// with 2 and is not told.
 pub fn run_unread<E: Write>(error: &io::Error, errors: &mut Watched<E>) -> u8
     requires { errors.old.failed ≡ false }

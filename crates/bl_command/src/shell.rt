@@ -2,18 +2,22 @@
 ghost use Rattle.std.specs.Prelude.{◌≡◌, ◌≢◌, ◌≤◌, [], ◌∷◌, false, Err, IfErr, IfOk, IsSome, Ok};
 ghost use Rattle.std.specs.IoError.{error_kind};
 ghost use Rattle.std.specs.Net.Addr.{ipv4_octets};
-ghost use Rattle.bl_wire.specs.Watch.{used};
+ghost use Rattle.bl_recover.specs.Recoveries.{IsRecoverRun};
+ghost use Rattle.bl_wire.specs.Watch.{end_state, used};
 ghost use Rattle.bl_run.specs.AloneKept.{IsAloneKept};
 ghost use Rattle.bl_run.specs.Runs.{HasTold};
 ghost use Rattle.bl_run.specs.Serving.{IsServe};
 ghost use Rattle.bl_run.specs.Status.{IsEnd, IsStatus};
-ghost use Rattle.bl_command.specs.Words.{IsHostingInRange, IsInRange};
+ghost use Rattle.bl_words.specs.Words.{IsHostingInRange, IsInRange};
 
-use crate::command::{Command, Hosting, read_words};
 use crate::files::{read_files, read_setup_file};
+use crate::recorded::{RecordedAlone, outlives, serve_recorded, sit_recorded};
 use crate::run::{Files, run_asked, run_unread};
+use bl_alone::run::RecordedRun;
+use bl_file::lock::Lock;
 use bl_host::options::Options;
 use bl_host::rest::hand_on_rest;
+use bl_recover::recover::recover_on;
 use bl_run::alone::alone_kept_on;
 use bl_run::alone_run::AloneRun;
 use bl_run::fault::{ProgramFault, of_file};
@@ -21,6 +25,7 @@ use bl_run::serve::{Finished, Ground, ServeRun, end_with, serve_on};
 use bl_run::told::tell;
 use bl_wire::put::put_out;
 use bl_wire::watched::Watched;
+use bl_words::command::{Command, Hosting, read_words};
 use bl_worker::pause::NoPause;
 use clap::Error;
 use std::io::{BufRead, BufReader, BufWriter, ErrorKind, IsTerminal, Write};
@@ -133,7 +138,16 @@ fn read_and_listen<R: AllocGlobal + OpensFiles + Net<Listener = TcpListener, Str
 }
 
 /// A run of what is hosted, once its setup file was read and its port is listened on, or a fault was found, which is told.
-fn serve_found<R: AllocGlobal + OpensFiles + Threads + Wait + Sync, W: Write, E: Write>(
+fn serve_found<
+    R: AllocGlobal
+        + OpensFiles
+        + Threads
+        + Wait
+        + Net<Listener = TcpListener, Stream = TcpStream>
+        + Sync,
+    W: Write,
+    E: Write,
+>(
     rt: &R,
     found: Result<(Vec<u8>, TcpListener), ProgramFault>,
     hosting: &Hosting<'_>,
@@ -171,6 +185,8 @@ fn run_serve<
         + Sync,
     E: Write,
 >(rt: &R, path: &str, hosting: &Hosting<'_>, errors: &mut Watched<E>) -> u8
+where
+    R::File: Lock + Send,
     requires { IsHostingInRange hosting.now }
     ensures { IsStatus result }
 {
@@ -179,7 +195,12 @@ fn run_serve<
         return tell(errors, &ProgramFault::NoMemory);
     };
     let mut writer = Watched::new(writer);
-    let status = serve_found(rt, found, hosting, &mut writer, errors).status;
+    let status = match (found, outlives(hosting.keeping)) {
+        (Ok(taken), Some(keeping)) => {
+            serve_recorded(rt, taken, hosting, keeping, &mut writer, errors)
+        }
+        (found, _) => serve_found(rt, found, hosting, &mut writer, errors).status,
+    };
     let _ = hand_on_rest(writer);
     status
 }
@@ -216,7 +237,31 @@ fn tell_hint<R: Eprint>(rt: &R) {
     put_out(&mut Watched::new(StandardError { rt }), HINT);
 }
 
-/// A run of `alone` or `replay`, or of words that name no command, over a reader and a writer. The result is the status of the run.
+/// A recovery, once its setup file was read, or a fault was found, which is told. The result is the status of the run.
+fn recover_read<T: AllocGlobal + OpensFiles, W: Write, E: Write>(
+    rt: &T,
+    setup: Result<Vec<u8>, ProgramFault>,
+    trail: &str,
+    writer: &mut Watched<W>,
+    errors: &mut Watched<E>,
+) -> u8
+where
+    T::File: Lock,
+    requires writer { writer.old.failed ≡ false }
+    ensures fault { IfErr setup (λ fault. HasTold fault result (used E.contents errors.old errors.new)) }
+    ensures run { IfOk setup (λ _. IsRecoverRun trail.now result (used W.contents writer.old writer.new)
+        (end_state E.contents errors.old) (end_state E.contents errors.new)) }
+    ensures handed_on { result ≡ 0 → writer.new.unflushed ≡ false }
+    ensures status { IsEnd result }
+{
+    match setup {
+        Ok(setup) => recover_on(rt, rt.alloc(), setup.as_slice(), trail, writer, errors),
+        Err(fault) => tell(errors, &fault),
+    }
+}
+
+/// A run of `alone`, `replay` or `recover`, or of words that name no command, over a reader and a writer. The result is
+/// the status of the run.
 fn sit<T: AllocGlobal + OpensFiles, R: BufRead, W: Write, E: Write>(
     rt: &T,
     asked: Result<Command<'_>, Error>,
@@ -224,6 +269,8 @@ fn sit<T: AllocGlobal + OpensFiles, R: BufRead, W: Write, E: Write>(
     writer: &mut Watched<W>,
     errors: &mut Watched<E>,
 ) -> u8
+where
+    T::File: Lock,
     requires range { IfOk asked IsInRange }
     requires reader { reader.old.failed ≡ false }
     requires writer { writer.old.failed ≡ false }
@@ -231,14 +278,32 @@ fn sit<T: AllocGlobal + OpensFiles, R: BufRead, W: Write, E: Write>(
     ensures { IsStatus result }
 {
     let alloc = rt.alloc();
+    if let Ok(Command::Recover { setup, trail }) = &asked {
+        let setup = read_setup_file(rt, setup);
+        return recover_read(rt, setup, trail, writer, errors);
+    }
     if let Ok(
         Command::Alone {
             setup,
             limit,
             trail: Some(trail),
+            keeping,
         },
     ) = &asked
     {
+        if let Some(keeping) = outlives(*keeping) {
+            let run = RecordedRun {
+                alloc,
+                limit: *limit,
+            };
+            let asked = RecordedAlone {
+                run,
+                trail: *trail,
+                keeping,
+            };
+            let setup = read_setup_file(rt, setup);
+            return sit_recorded(rt, setup, &asked, reader, writer, errors);
+        }
         let run = AloneRun {
             alloc,
             limit: *limit,
@@ -265,6 +330,7 @@ fn run_sitting<R: AllocGlobal + OpensFiles + Print + Eprint + Input, E: Write>(
 ) -> u8
 where
     R::Reader: IsTerminal,
+    R::File: Lock,
     requires range { IfOk asked IsInRange }
     requires errors { errors.old.failed ≡ false }
     ensures { IsStatus result }
@@ -287,7 +353,7 @@ where
 }
 
 /// A run of the program. The result is its status: 0 where all was done, or help or the version was asked for, 1 for a trail
-/// that was rejected, 2 for bad arguments, 3 for a fault of the setup, of a file, of the port or of the session, and 4 for want of memory.
+/// that was rejected, 2 for bad arguments, 3 for a fault of the setup, of a file, of the port or of the session, and 4 when out of memory.
 pub fn run<
     R: AllocGlobal
         + Env
@@ -302,6 +368,7 @@ pub fn run<
 >(rt: &R) -> u8
 where
     R::Reader: IsTerminal,
+    R::File: Lock + Send,
     ensures { IsStatus result }
 {
     let mut errors = Watched::new(StandardError { rt });

@@ -1,5 +1,5 @@
 //! What the program takes from the system: its files and its port.
-use bl_command::command::Command;
+use bl_command::command::{Command, TrailKeeping};
 use bl_command::files::read_files;
 use bl_command::shell::listen;
 use bl_run::fault::ProgramFault;
@@ -46,6 +46,7 @@ fn reads_one_byte_past_a_setup(rt: HostRuntime) -> Result<(), Fail> {
             setup,
             limit,
             trail,
+            keeping: TrailKeeping::AtEnd,
         },
     );
     let _ = fs::remove_file(&rt, "large.setup");

@@ -1,5 +1,5 @@
 //! The words of a command line.
-use bl_command::command::{Command, Hosting, read_words, status_of};
+use bl_command::command::{Command, Hosting, TrailKeeping, read_words, status_of};
 use bl_keep::part::TrailFile;
 use std::alloc::Global;
 use std::test::Fail;
@@ -22,6 +22,7 @@ fn name_alone(alloc: Global, text: &str, most: u32) -> Result<bool, Fail> {
                 setup,
                 limit,
                 trail: None,
+                keeping: TrailKeeping::AtEnd,
             },
         ) => setup == "base.txt" && limit == most,
         Ok(_) | Err(_) => false,
@@ -58,6 +59,8 @@ fn is_same(one: &Hosting<'_>, other: &Hosting<'_>) -> bool {
         && one.trail.name == other.trail.name
         && one.trail.replaces == other.trail.replaces
         && one.trail.claims == other.trail.claims
+        && one.keeping == other.keeping
+        && one.resumes == other.resumes
 }
 
 /// What is hosted at port 7654 with the trail `run.trail`, where nothing else is said.
@@ -69,6 +72,8 @@ const PLAIN: Hosting<'static> = Hosting {
         replaces: false,
         claims: false,
     },
+    keeping: TrailKeeping::AtEnd,
+    resumes: false,
     workers: 2,
     session_threads: 2,
     sessions: 1,
@@ -80,7 +85,7 @@ fn reads_serve(rt: HostRuntime) -> Result<(), Fail> {
     assert!(rt; name_serve(rt.alloc(), least, &PLAIN)?);
     let all =
         "bl_server serve --sessions 1000 --claim-trail --limit 7 --session-threads 3 --trail other.trail \
-        --workers 16 --replace --port 65535 --setup base.txt";
+        --keep synced --workers 16 --replace --resume --port 65535 --setup base.txt";
     let wanted = Hosting {
         limit: 7,
         port: 65_535,
@@ -89,6 +94,8 @@ fn reads_serve(rt: HostRuntime) -> Result<(), Fail> {
             replaces: true,
             claims: true,
         },
+        keeping: TrailKeeping::Synced,
+        resumes: true,
         workers: 16,
         session_threads: 3,
         sessions: 1000,
@@ -143,6 +150,9 @@ fn refuses_serve_without_a_place(rt: HostRuntime) -> Result<(), Fail> {
         "bl_server serve --setup base.txt --trail run.trail",
         "bl_server serve --setup base.txt --port 7654",
         "bl_server serve --setup base.txt --port 7654 --trail run.trail --replace --replace",
+        "bl_server serve --setup base.txt --port 7654 --trail run.trail --resume",
+        "bl_server serve --setup base.txt --port 7654 --trail run.trail --resume --keep end",
+        "bl_server alone --setup base.txt --keep written",
     ];
     for text in given {
         let ended = status_without_a_command(rt.alloc(), text)?;
@@ -175,6 +185,31 @@ fn reads_alone_with_a_trail(rt: HostRuntime) -> Result<(), Fail> {
             Ok(_) | Err(_) => false,
         };
         assert!(rt; read, "at {text}");
+    }
+    Ok(())
+}
+
+/// How the trail of `alone` is kept, where one is named, and that it is kept at the end where nothing is said.
+#[test]
+fn reads_how_a_trail_is_kept(rt: HostRuntime) -> Result<(), Fail> {
+    let given = [
+        ("", Some(TrailKeeping::AtEnd)),
+        ("--keep end", Some(TrailKeeping::AtEnd)),
+        ("--keep written", Some(TrailKeeping::Written)),
+        ("--keep synced", Some(TrailKeeping::Synced)),
+        ("--keep Synced", None),
+        ("--keep end --keep written", None),
+    ];
+    for (more, wanted) in given {
+        let text = format!(in rt.alloc();
+            "bl_server alone --setup base.txt --trail run.trail {more}"
+        )?;
+        let given = words(rt.alloc(), text.as_str())?;
+        let read = match read_words(rt.alloc(), given.as_slice()) {
+            Ok(Command::Alone { keeping, .. }) => Some(keeping),
+            Ok(_) | Err(_) => None,
+        };
+        assert!(rt; read == wanted, "at {text}");
     }
     Ok(())
 }
@@ -273,5 +308,19 @@ fn reads_replay(rt: HostRuntime) -> Result<(), Fail> {
         };
         assert!(rt; read, "at {text}");
     }
+    Ok(())
+}
+
+#[test]
+fn reads_recover(rt: HostRuntime) -> Result<(), Fail> {
+    let given = words(
+        rt.alloc(),
+        "bl_server recover --trail day.trail --setup base.txt",
+    )?;
+    let read = match read_words(rt.alloc(), given.as_slice()) {
+        Ok(Command::Recover { setup, trail }) => setup == "base.txt" && trail == "day.trail",
+        Ok(_) | Err(_) => false,
+    };
+    assert!(rt; read);
     Ok(())
 }

@@ -1,0 +1,37 @@
+use Rattle.std.proofs.Common.{sym, subst}
+use Rattle.bl_setup.specs.Agreement.{Agree}
+use Rattle.bl_setup.specs.Setup.{Setup}
+use Rattle.bl_wire.proofs.PutLaws.{puts-all}
+use Rattle.bl_work.specs.Names.{AreNames}
+use Rattle.bl_alone.specs.Recording.{IsLeft, hall_of}
+use Rattle.bl_alone.proofs.Leaving.{ended_as}
+use Rattle.bl_alone.proofs.run.sit.Goals as goal
+
+-- how the session ended, what is left of its trail, and what was told of both
+pub returns-clause-run : goal.returns-clause-run
+returns-clause-run g c text is =
+    let setup = c.args.setup in
+    let served = c.serve_keeping-served in
+    let kept = served.ensures.told in
+    let session = hall_of served.result.1 in
+    let left = c.close_after-left.result in
+    let told = c.tell_recorded.ensures.told in
+    record {
+      begun = setup;
+      is = is;
+      served = served.result.0;
+      session = session;
+      ended = ended_as setup c.args.run.now.limit _ _ served.result.0 served.result.1 served.ensures.kept served.ensures.own served.ensures.err;
+      kept = kept.0;
+      told = kept.3;
+      trail = left.1;
+      left = subst (λ d. IsLeft kept.0 session left.1 (g.D.Device.now d)) (sym c.tell_recorded.ensures.device)
+          (c.close_after-left.ensures.left kept.0 kept.1 kept.2 (subst Agree (sym kept.3.setup_is) c.names.ensures.agree)
+          (subst (λ (s : Setup). AreNames s.names) (sym kept.3.setup_is) (subst AreNames c.names.ensures.value c.scheme-scheme.ensures.names)));
+      cut = c.close_after-left.ensures.cut;
+      whole = c.tell_recorded.ensures.whole;
+      stopped = told.0;
+      stopped_is = told.1;
+      status_is = told.2;
+      said = λ fine. puts-all _ _ _ told.3 fine;
+    }

@@ -1,0 +1,3 @@
+pub mod Recording
+pub mod Telling
+pub mod Sessions

@@ -1,0 +1,50 @@
+-- What a journal has kept of a session, and what is left of it.
+use Rattle.std.specs.Prelude.{◌≡◌, ◌⊎◌, ℕ, Bool, false, [], ◌++◌, codes, length, Option, Some, None, IfSome}
+use Rattle.std.specs.Option.{option_map}
+use Rattle.bl_disk.specs.File.{File, all_kept, seen}
+use Rattle.bl_hall.specs.Chronicle.{Chronicle}
+use Rattle.bl_journal.specs.Journals.{journal_text}
+use Rattle.bl_rebuild.specs.Rebuilds.{journal_of}
+use Rattle.bl_record.specs.Kept.{IsKept, LosesNothing}
+use Rattle.bl_record.specs.declared.journal.Journal.{Journal}
+use Rattle.bl_run.specs.declared.fault.ProgramFault.TheVariants.{NoMemory}
+use Rattle.bl_session.specs.Keeping.{IsFrontOf}
+use Rattle.bl_session.specs.declared.alone.Kept.{Kept}
+use Rattle.bl_setup.specs.Setup.{Setup}
+use Rattle.bl_trail.specs.TrueText.{IsTrueText}
+use Rattle.bl_alone.specs.declared.fault.AloneFault.{AloneFault}
+use Rattle.bl_alone.specs.declared.fault.AloneFault.TheVariants.{Program, CutShort}
+
+-- a hall in which nothing has happened
+abbrev pub new_hall : Setup → ℕ → Chronicle
+new_hall setup limit = record { setup = setup; limit = limit; trail = [] }
+
+-- the journal has not failed, and has kept all of the hall's trail
+abbrev pub HasRecorded : {D : Type 0} → (D → File) → (D → Bool) → Journal D → Chronicle → Type 0
+HasRecorded now has_failed journal hall =
+    (journal.fault ≡ None) × (has_failed journal.log.device ≡ false) × IsKept hall journal.bookmark (now
+    journal.log.device)
+
+-- whatever a crash leaves of the file, what is recovered goes on from the hall's trail
+abbrev pub IsSafe : Chronicle → File → Type 0
+IsSafe hall file = LosesNothing hall.setup (journal_of hall) file
+
+-- the file has the hall's trail, whole, and all of it is on the disk
+pub record IsWhole (hall : Chronicle) (file : File) : Type 0 where
+  pub there : file ≡ all_kept (journal_text hall.setup (journal_of hall) ++ codes "stop\n")
+  pub true_text : IsTrueText hall.setup (seen file) (length hall.trail)
+
+-- the hall that a session kept
+abbrev pub hall_of : Option Kept → Option Chronicle
+hall_of session = option_map (λ (one : Kept). one.pages.hall) session
+
+-- the file took no more, or a growth was refused
+abbrev pub IsOfTrail : AloneFault → Type 0
+IsOfTrail fault = (fault ≡ CutShort) ⊎ (fault ≡ Program NoMemory)
+
+-- What is left of a trail of which so much was kept while the session was served: it is whole, and that of the
+-- session's hall; or there is a fault, and what was kept is safe.
+abbrev pub IsLeft : Chronicle → Option Chronicle → Option AloneFault → File → Type 0
+IsLeft kept session None file = (hall : Chronicle) × IsFrontOf kept hall × IfSome session (λ one. hall ≡ one) ×
+    IsWhole hall file
+IsLeft kept session (Some fault) file = IsOfTrail fault × IsSafe kept file

@@ -1,0 +1,109 @@
+//! Closes a journal after its session.
+ghost use Rattle.std.specs.Prelude.{◌≡◌, Err, IfSome, Some};
+ghost use Rattle.bl_hall.specs.Chronicle.{Chronicle};
+ghost use Rattle.bl_session.specs.Keeping.{IsFrontOf, IsHeld};
+ghost use Rattle.bl_session.specs.declared.keep.Stop.TheVariants.{NotKept};
+ghost use Rattle.bl_setup.specs.Agreement.{Agree};
+ghost use Rattle.bl_work.specs.Names.{AreNames};
+ghost use Rattle.bl_alone.specs.Recording.{HasRecorded, IsLeft, IsSafe, hall_of};
+ghost use Rattle.bl_alone.specs.declared.fault.AloneFault.TheVariants.{CutShort};
+
+use crate::fault::AloneFault;
+use crate::recorder::Recorder;
+use bl_disk::device::Device;
+use bl_disk::log::Log;
+use bl_journal::laws::a_crash_loses_nothing_that_was_kept;
+use bl_record::journal::Journal;
+use bl_run::fault::ProgramFault;
+use bl_session::alone::Kept;
+use bl_session::keep::{Keep, Stop, Unreached};
+
+/// The file of a journal that is left as it is.
+fn file_of<D: Device>(recorder: Recorder<D>) -> D
+    ensures { result ≡ recorder.journal.log.device }
+{
+    let Recorder { journal, .. } = recorder;
+    let Journal { log, .. } = journal;
+    let Log { device } = log;
+    device
+}
+
+/// Closes a journal that has kept all.
+fn close<D: Device>(recorder: Recorder<D>) -> (D, Option<AloneFault>)
+    requires { (hall : Chronicle) × HasRecorded D.now D.has_failed recorder.journal hall }
+    ensures left { (hall : Chronicle) → HasRecorded D.now D.has_failed recorder.journal hall
+        → Agree hall.setup → AreNames hall.setup.names → IsLeft hall (Some hall) result.1 (D.now result.0) }
+{
+    a_crash_loses_nothing_that_was_kept();
+    let Recorder { journal, .. } = recorder;
+    match journal.close() {
+        Ok(device) => (device, None),
+        Err((_, device)) => (device, Some(AloneFault::CutShort)),
+    }
+}
+
+/// Closes a journal, once it has kept what happened last in the hall of a session, where there is one.
+fn close_up<D: Device>(recorder: Recorder<D>, session: &Option<Kept>) -> (D, Option<AloneFault>)
+    requires { (kept : Chronicle) × HasRecorded D.now D.has_failed recorder.journal kept
+        × IfSome session.now (λ one. IsFrontOf kept one.pages.hall) }
+    ensures left { (kept : Chronicle) → HasRecorded D.now D.has_failed recorder.journal kept
+        → IfSome session.now (λ one. IsFrontOf kept one.pages.hall) → Agree kept.setup → AreNames kept.setup.names
+        → IsLeft kept (hall_of session.now) result.1 (D.now result.0) }
+{
+    let Some(session) = session else {
+        return close(recorder);
+    };
+    let mut recorder = recorder;
+    match recorder.reach(session.hall()) {
+        Ok(()) => close(recorder),
+        Err(Unreached::Memory) => (
+            file_of(recorder),
+            Some(AloneFault::Program(ProgramFault::NoMemory)),
+        ),
+        Err(Unreached::Failed) => (file_of(recorder), Some(AloneFault::CutShort)),
+    }
+}
+
+/// Closes the journal of a session that has stopped, once it has kept what happened last; it stays as it is where the
+/// session stopped since its trail was not kept.
+fn close_stopped<D: Device>(
+    recorder: Recorder<D>,
+    stop: Stop,
+    session: &Option<Kept>,
+) -> (D, Option<AloneFault>)
+    requires { (kept : Chronicle) × IsHeld (HasRecorded D.now D.has_failed recorder.journal)
+        (λ hall. IsSafe hall (D.now recorder.journal.log.device)) (Err stop) kept
+        × IfSome session.now (λ one. IsFrontOf kept one.pages.hall) }
+    ensures left { (kept : Chronicle) → IsHeld (HasRecorded D.now D.has_failed recorder.journal)
+        (λ hall. IsSafe hall (D.now recorder.journal.log.device)) (Err stop) kept
+        → IfSome session.now (λ one. IsFrontOf kept one.pages.hall) → Agree kept.setup → AreNames kept.setup.names
+        → IsLeft kept (hall_of session.now) result.1 (D.now result.0) }
+    ensures cut { stop ≡ NotKept → result.1 ≡ Some CutShort }
+{
+    match stop {
+        Stop::Fault(_) => close_up(recorder, session),
+        Stop::NotKept => (file_of(recorder), Some(AloneFault::CutShort)),
+    }
+}
+
+/// Closes the journal of a session that has ended so, once it has kept what happened last. It stays as it is where
+/// the session ended since its trail was not kept. The file is handed back, with the fault where it is not closed.
+pub(crate) fn close_after<D: Device>(
+    recorder: Recorder<D>,
+    served: &Result<(), Stop>,
+    session: &Option<Kept>,
+) -> (D, Option<AloneFault>)
+    requires { (kept : Chronicle) × IsHeld (HasRecorded D.now D.has_failed recorder.journal)
+        (λ hall. IsSafe hall (D.now recorder.journal.log.device)) served.now kept
+        × IfSome session.now (λ one. IsFrontOf kept one.pages.hall) }
+    ensures left { (kept : Chronicle) → IsHeld (HasRecorded D.now D.has_failed recorder.journal)
+        (λ hall. IsSafe hall (D.now recorder.journal.log.device)) served.now kept
+        → IfSome session.now (λ one. IsFrontOf kept one.pages.hall) → Agree kept.setup → AreNames kept.setup.names
+        → IsLeft kept (hall_of session.now) result.1 (D.now result.0) }
+    ensures cut { served.now ≡ Err NotKept → result.1 ≡ Some CutShort }
+{
+    match served {
+        Ok(()) => close_up(recorder, session),
+        Err(stop) => close_stopped(recorder, *stop, session),
+    }
+}

@@ -1,0 +1,199 @@
+//! The run.
+ghost use Rattle.std.specs.Prelude.{◌≡◌, ◌≤◌, ◌↔◌, ◌⊎◌, ◌++◌, ℕ, List, Option, IfErr, IsOk, None, false, true};
+ghost use Rattle.std.specs.Option.{option_to_list};
+ghost use Rattle.bl_setup.specs.Grammar.{IsSetup};
+ghost use Rattle.bl_wire.specs.Watch.{Puts, end_state, used};
+ghost use Rattle.bl_run.specs.Runs.{HasTold};
+ghost use Rattle.bl_run.specs.Status.{IsEnd};
+ghost use Rattle.bl_session.specs.Keeping.{MayStop};
+ghost use Rattle.bl_alone.specs.Recording.{HasRecorded, new_hall};
+ghost use Rattle.bl_alone.specs.Sessions.{HasSat, IsRecorded};
+ghost use Rattle.bl_alone.specs.declared.fault.AloneFault.{AloneFault as AnyFault};
+ghost use Rattle.bl_alone.specs.Telling.{IsOfSessionEnd, status_of_all, text_of_all};
+
+use crate::close::close_after;
+use crate::fault::{AloneFault, fault_of_session, tell_any};
+use crate::recorder::Recorder;
+use bl_disk::device::{Device, DeviceError};
+use bl_record::fault::JournalFault;
+use bl_record::journal::{Journal, begin};
+use bl_run::fault::{ProgramFault, of_setup};
+use bl_run::told::tell;
+use bl_session::alone::serve_keeping;
+use bl_session::keep::Stop;
+use bl_setup::reader::read_setup;
+use bl_setup::setup::Setup;
+use bl_wire::watched::Watched;
+use std::alloc::Global;
+use std::io::{BufRead, Write};
+use std::mem;
+
+/// What a run was asked for: where memory comes from, and the weight of the lines that are admitted at most, 1 to
+/// 100,000.
+#[derive(Clone, Copy)]
+pub struct RecordedRun {
+    pub alloc: Global,
+    pub limit: u32,
+    pub ghost limited: { (1 ≤ limit) × (limit ≤ 100000) },
+}
+
+/// How a run ended: its status, its file, and whether the trail in that is whole.
+#[derive(Drop)]
+pub struct Recorded<D: Device> {
+    pub status: u8,
+    pub device: D,
+    pub is_whole: bool,
+}
+
+/// What a fault at the beginning of a journal is to the run: a growth was refused, or its file cannot be written.
+fn of_begin(fault: JournalFault) -> ProgramFault
+    ensures { (result ≡ ProgramFault.CannotWriteTrail) ⊎ (result ≡ ProgramFault.NoMemory) }
+{
+    match fault {
+        JournalFault::Memory | JournalFault::Device(DeviceError::Memory) => ProgramFault::NoMemory,
+        JournalFault::Device(DeviceError::Full | DeviceError::Failed) => {
+            ProgramFault::CannotWriteTrail
+        }
+    }
+}
+
+/// Ends a run that has no session with this fault, which is told.
+fn end_with<D: Device, E: Write>(
+    errors: &mut Watched<E>,
+    fault: ProgramFault,
+    device: D,
+) -> Recorded<D>
+    ensures told { HasTold fault result.status (used E.contents errors.old errors.new) }
+    ensures status { (result.status ≡ 3) ⊎ (result.status ≡ 4) }
+    ensures device { result.device ≡ device }
+    ensures part { result.is_whole ≡ false }
+{
+    let status = tell(errors, &fault);
+    Recorded {
+        status,
+        device,
+        is_whole: false,
+    }
+}
+
+/// The status of two faults, each 0 where there is none: that of the first.
+fn first_of(status: u8, later: u8) -> u8
+    ensures none { status ≡ 0 → result ≡ later }
+    ensures some { (status ≡ 0 → ⊥) → result ≡ status }
+{
+    if status == 0 { later } else { status }
+}
+
+/// Tells how the session ended, where it ended early, and then the fault of its trail, where it has one. The first
+/// gives the status.
+fn tell_recorded<D: Device, E: Write>(
+    errors: &mut Watched<E>,
+    served: &Result<(), Stop>,
+    left: (D, Option<AloneFault>),
+) -> Recorded<D>
+    requires { IfErr served.now (MayStop (Unit {0})) }
+    ensures told { (stopped : Option AnyFault) × IsOfSessionEnd served.now stopped
+        × (result.status ≡ status_of_all (option_to_list stopped ++ option_to_list left.1))
+        × Puts (text_of_all (option_to_list stopped ++ option_to_list left.1))
+        (end_state E.contents errors.old) (end_state E.contents errors.new) }
+    ensures status { IsEnd result.status }
+    ensures device { result.device ≡ left.0 }
+    ensures whole { (result.is_whole ≡ true) ↔ (left.1 ≡ None) }
+    ensures fine { result.status ≡ 0 → IsOk served.now × (left.1 ≡ None) }
+{
+    let stopped = fault_of_session(served);
+    let status = tell_any(errors, &stopped);
+    let (device, fault) = left;
+    let later = tell_any(errors, &fault);
+    Recorded {
+        status: first_of(status, later),
+        device,
+        is_whole: fault.is_none(),
+    }
+}
+
+/// One session over a reader and a writer, whose trail is kept in a journal that has begun.
+fn sit<D: Device, R: BufRead, W: Write, E: Write>(
+    run: &RecordedRun,
+    setup: Setup,
+    journal: Journal<D>,
+    reader: &mut Watched<R>,
+    writer: &mut Watched<W>,
+    errors: &mut Watched<E>,
+) -> Recorded<D>
+    requires journal { HasRecorded D.now D.has_failed journal (new_hall setup run.now.limit) }
+    requires reader { reader.old.failed ≡ false }
+    requires writer { writer.old.failed ≡ false }
+    ensures run { (text : List ℕ) → IsSetup text setup → HasSat text run.now.limit result.is_whole (D.now result.device) (record {
+      status = result.status;
+      input = used R.remaining reader.old reader.new;
+      output = used W.contents writer.old writer.new;
+      errors = used E.contents errors.old errors.new;
+    }) }
+    ensures whole { result.status ≡ 0 → result.is_whole ≡ true }
+    ensures handed_on { result.status ≡ 0 → writer.new.unflushed ≡ false }
+    ensures status { IsEnd result.status }
+{
+    // asked for the proof alone: what the names of a setup are
+    let _scheme = setup.names().scheme();
+    let mut recorder = Recorder {
+        alloc: run.alloc,
+        journal,
+    };
+    let (served, session) = serve_keeping(
+        run.alloc,
+        setup,
+        run.limit,
+        &mut recorder,
+        reader,
+        writer,
+    );
+    let left = close_after(recorder, &served, &session);
+    // the process ends next, and what the session kept goes with its memory
+    mem::forget(session);
+    tell_recorded(errors, &served, left)
+}
+
+/// One session over a reader and a writer, after the setup of these bytes, whose trail is kept in a file before any
+/// of it is told: the command `alone` with `--trail` and `--keep`. What stands in the file is cut off.
+///
+/// The result is the status of the run: 0 where the session was served and the trail is whole, 3 for a fault of the
+/// setup, of the session or of the trail, and 4 when out of memory. The words of each fault go to `errors`, first
+/// that of the session, and the first gives the status. Where the bytes are no setup or the file cannot be written,
+/// nothing is read or written. Where the trail was not kept the session ends, and nothing more is told; the file has
+/// all by which what was told was told. It is handed back.
+pub fn alone_recorded_on<D: Device, R: BufRead, W: Write, E: Write>(
+    run: &RecordedRun,
+    setup: &[u8],
+    device: D,
+    reader: &mut Watched<R>,
+    writer: &mut Watched<W>,
+    errors: &mut Watched<E>,
+) -> Recorded<D>
+    requires sound { D.has_failed device ≡ false }
+    requires reader { reader.old.failed ≡ false }
+    requires writer { writer.old.failed ≡ false }
+    ensures run { IsRecorded setup.now run.now.limit result.is_whole (D.now result.device) (record {
+      status = result.status;
+      input = used R.remaining reader.old reader.new;
+      output = used W.contents writer.old writer.new;
+      errors = used E.contents errors.old errors.new;
+    }) }
+    ensures whole { result.status ≡ 0 → result.is_whole ≡ true }
+    ensures handed_on { result.status ≡ 0 → writer.new.unflushed ≡ false }
+    ensures status { IsEnd result.status }
+{
+    let setup = match read_setup(run.alloc, setup) {
+        Ok(setup) => setup,
+        Err(fault) => return end_with(errors, of_setup(fault), device),
+    };
+    // asked for the proof alone: a setup is of version 2
+    let _version = setup.version();
+    match begin(run.alloc, run.limit, device) {
+        Ok(journal) => sit(run, setup, journal, reader, writer, errors),
+        Err((fault, device)) => {
+            drop(setup);
+            end_with(errors, of_begin(fault), device)
+        }
+    }
+}

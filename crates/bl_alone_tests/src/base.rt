@@ -1,0 +1,92 @@
+//! A run over the base setup, and its trail.
+use bl_alone::run::{RecordedRun, alone_recorded_on};
+use bl_disk_tests::torn::Torn;
+use bl_wire::watched::Watched;
+use std::alloc::{AllocError, Global};
+
+/// The setup of the worked examples.
+const BASE: &[u8] = b"ranks u c s t\ncategories nato crypto\n\
+    subject ann greatest s{nato} current s{nato}\n\
+    subject bob greatest s{nato} current u\n\
+    subject cat greatest s{crypto} current s{crypto}\n\
+    subject root greatest t{nato,crypto} current u trusted admin\n\
+    document memo s{nato} \"m1\"\n\
+    document note u \"n1\"\n\
+    document log t{nato,crypto} \"\"\n\
+    allow ann memo r w\nallow ann note r w\nallow ann log r a\n\
+    allow bob memo r w a\nallow bob note r w\nallow cat memo r\nallow root note r w\n";
+
+/// A session of two blocks.
+pub(crate) const LINES: &[u8] =
+    b"hello ann\nwhen read memo do show memo; end\nwait\nwhen read note do show note; end\n";
+
+/// What is told of it, in order, and what of its trail has to be kept before each.
+pub(crate) const TOLD: [(&str, &str); 3] = [
+    ("ok\n", "trail 2\nlimit 10000\nopen ann\n"),
+    (
+        "1 done \"m1\"\nok\n",
+        "line 0 1 when read memo do show memo;end\nstart 0 run\nend 0 done \"m1\"\n",
+    ),
+    (
+        "2 done \"n1\"\nbye\n",
+        "line 0 2 when read note do show note;end\nstart 1 run\nend 1 done \"n1\"\n",
+    ),
+];
+
+/// All that is told of it.
+pub(crate) const OUTPUT: &[u8] = b"ok\n1 done \"m1\"\nok\n2 done \"n1\"\nbye\n";
+
+/// Its trail.
+pub(crate) const TRAIL: &[u8] = b"trail 2\nlimit 10000\nopen ann\n\
+    line 0 1 when read memo do show memo;end\nstart 0 run\nend 0 done \"m1\"\n\
+    line 0 2 when read note do show note;end\nstart 1 run\nend 1 done \"n1\"\nstop\n";
+
+/// For so many bytes a file has room, and so many of its syncs succeed, where nothing is to fail.
+pub(crate) const AMPLE: usize = 100_000;
+
+/// How a run ended, what it told and said, and what is kept in its file.
+#[derive(Drop)]
+pub(crate) struct Ran {
+    pub(crate) status: u8,
+    pub(crate) is_whole: bool,
+    pub(crate) told: Vec<u8>,
+    pub(crate) said: Vec<u8>,
+    pub(crate) kept: Vec<u8>,
+}
+
+/// A run over a file with these bytes, which has room for so many more, and of which so many syncs succeed.
+pub(crate) fn run_over(
+    alloc: Global,
+    setup: &[u8],
+    bytes: &[u8],
+    room: usize,
+    syncs: usize,
+) -> Result<Ran, AllocError> {
+    let run = RecordedRun {
+        alloc,
+        limit: 10_000,
+    };
+    let torn = Torn::new(alloc, bytes, room, syncs)?;
+    let mut reader = Watched::new(LINES);
+    let mut writer = Watched::new(Vec::new(alloc));
+    let mut errors = Watched::new(Vec::new(alloc));
+    let recorded = alone_recorded_on(&run, setup, torn, &mut reader, &mut writer, &mut errors);
+    let kept = recorded.device.now().kept.to_vec(alloc)?;
+    Ok(Ran {
+        status: recorded.status,
+        is_whole: recorded.is_whole,
+        told: writer.into_inner(),
+        said: errors.into_inner(),
+        kept,
+    })
+}
+
+/// A run over the base setup and an empty file.
+pub(crate) fn run_base(alloc: Global, room: usize, syncs: usize) -> Result<Ran, AllocError> {
+    run_over(alloc, BASE, b"", room, syncs)
+}
+
+/// A run over the base setup and a file with these bytes.
+pub(crate) fn run_after(alloc: Global, bytes: &[u8]) -> Result<Ran, AllocError> {
+    run_over(alloc, BASE, bytes, AMPLE, AMPLE)
+}

@@ -1,0 +1,32 @@
+use Rattle.std.proofs.Common.{◌++◌, List, ℕ, subst, sym, Result, Err}
+use Rattle.bl_keep.specs.declared.fault.KeepFault.{KeepFault}
+use Rattle.bl_wire.specs.Watch.{Puts, end_state}
+use Rattle.bl_wire.proofs.PutLaws.{puts-append}
+use Rattle.bl_run.specs.Message.{fault_line}
+use Rattle.bl_run.specs.Unkept.{unkept_fault}
+use Rattle.bl_recover.specs.Telling.{left_text}
+use Rattle.bl_journal_files.specs.Naming.{naming_text}
+use Rattle.bl_journal_files.proofs.naming.tell_name.Goals as goal
+
+-- the fault is told, and then where the trail is
+pub returns-then-status-eq0-clause-puts : goal.returns-then-status-eq0-clause-puts
+returns-then-status-eq0-clause-puts g c =
+    let old = end_state g.E.Write.contents c.args.errors.now in
+    let told = end_state g.E.Write.contents c.tell-own.new.errors in
+    let new = end_state g.E.Write.contents c.tell_left.new.errors in
+    let fault = c.in-Err.fault in
+    let part = c.args.part.now in
+    subst (λ (named : Result (Unit {0}) KeepFault). Puts (naming_text part named) old new) (sym c.in-Err.is)
+    (puts-append (fault_line (unkept_fault fault)) (left_text part) old told new
+    (subst (λ f. Puts (fault_line f) old told) c.of_keep.ensures c.tell-own.ensures.puts) c.tell_left.ensures.puts)
+
+pub returns-else-status-eq0-clause-puts : goal.returns-else-status-eq0-clause-puts
+returns-else-status-eq0-clause-puts g c =
+    let old = end_state g.E.Write.contents c.args.errors.now in
+    let told = end_state g.E.Write.contents c.tell-own.new.errors in
+    let new = end_state g.E.Write.contents c.tell_left.new.errors in
+    let fault = c.in-Err.fault in
+    let part = c.args.part.now in
+    subst (λ (named : Result (Unit {0}) KeepFault). Puts (naming_text part named) old new) (sym c.in-Err.is)
+    (puts-append (fault_line (unkept_fault fault)) (left_text part) old told new
+    (subst (λ f. Puts (fault_line f) old told) c.of_keep.ensures c.tell-own.ensures.puts) c.tell_left.ensures.puts)

@@ -1,0 +1,8 @@
+//! The files of a run that keeps a journal.
+//!
+//!     make      the files of a new run
+//!     naming    the closed journal gets the name of its trail
+#![tactic(auto)]
+
+pub mod make;
+pub mod naming;

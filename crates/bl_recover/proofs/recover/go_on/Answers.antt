@@ -1,0 +1,12 @@
+use Rattle.std.proofs.KnownBytes.{Keeps-refl}
+use Rattle.bl_recover.specs.declared.recover.RecoveryEnd.TheVariants.{Refused}
+use Rattle.bl_recover.proofs.recover.go_on.Goals as goal
+
+-- nothing is gone on with
+pub returns-in-Err-clause-run : goal.returns-in-Err-clause-run
+returns-in-Err-clause-run g c trail beside = record {
+  end = Refused c.in-Err.fault;
+  written = Keeps-refl _;
+  said = c.tell_fault.ensures.puts;
+  status_is = c.tell_fault.ensures.status;
+}

@@ -1,0 +1,64 @@
+-- What a recovery says, and the status that it ends with.
+use Rattle.std.specs.Prelude.{ℕ, zero, suc, List, [], ◌∷◌, ◌++◌, codes, decimal}
+use Rattle.bl_disk.specs.declared.device.DeviceError.TheVariants as devices
+use Rattle.bl_record.specs.declared.fault.RecoverFault.{RecoverFault}
+use Rattle.bl_record.specs.declared.fault.RecoverFault.TheVariants as recovering
+use Rattle.bl_run.specs.Message.{fault_line}
+use Rattle.bl_run.specs.Message as messages
+use Rattle.bl_run.specs.Status.{status_of}
+use Rattle.bl_run.specs.declared.fault.ProgramFault.TheVariants.{CannotWriteTrail, NoMemory}
+use Rattle.bl_recover.specs.declared.fault.RecoveryFault.{RecoveryFault}
+use Rattle.bl_recover.specs.declared.fault.RecoveryFault.TheVariants.{NoTrail, TrailIsThere, InUse, OtherSetup}
+use Rattle.bl_recover.specs.declared.fault.RecoveryFault.TheVariants.{OldVersion, WrongAt, Program}
+
+-- own choice: the words for each fault
+abbrev pub words_by : RecoveryFault → List ℕ
+words_by NoTrail = codes "no trail to resume"
+words_by TrailIsThere = codes "trail is there"
+words_by InUse = codes "trail is in use"
+words_by OtherSetup = codes "not this setup's trail"
+words_by OldVersion = codes "trail of version 1"
+words_by (WrongAt line) = codes "trail wrong"
+words_by (Program fault) = messages.words_of fault
+
+-- what is said of a fault, on a line of its own: of a trail that is wrong also at which line
+abbrev pub fault_text : RecoveryFault → List ℕ
+fault_text NoTrail = words_by NoTrail ++ 10 ∷ []
+fault_text TrailIsThere = words_by TrailIsThere ++ 10 ∷ []
+fault_text InUse = words_by InUse ++ 10 ∷ []
+fault_text OtherSetup = words_by OtherSetup ++ 10 ∷ []
+fault_text OldVersion = words_by OldVersion ++ 10 ∷ []
+fault_text (WrongAt line) = codes "trail wrong at line " ++ (decimal line ++ codes "\n")
+fault_text (Program fault) = fault_line fault
+
+-- 4 where the run is out of memory, and 3 for anything else
+abbrev pub status_by : RecoveryFault → ℕ
+status_by NoTrail = 3
+status_by TrailIsThere = 3
+status_by InUse = 3
+status_by OtherSetup = 3
+status_by OldVersion = 3
+status_by (WrongAt line) = 3
+status_by (Program fault) = status_of fault
+
+-- what each fault of a recovery is to its run
+abbrev pub recover_fault : RecoverFault → RecoveryFault
+recover_fault (recovering.Head line) = WrongAt line
+recover_fault recovering.OldVersion = OldVersion
+recover_fault recovering.Memory = Program NoMemory
+recover_fault (recovering.Device devices.Memory) = Program NoMemory
+recover_fault (recovering.Device devices.Full) = Program CannotWriteTrail
+recover_fault (recovering.Device devices.Failed) = Program CannotWriteTrail
+
+-- own choice: how many bytes were cut off is told where some were
+abbrev pub cut_line : ℕ → List ℕ
+cut_line zero = []
+cut_line (suc n) = codes "cut " ++ (decimal (suc n) ++ codes " bytes\n")
+
+-- own choice: where a whole trail is left that could not have its name
+abbrev pub left_text : List ℕ → List ℕ
+left_text part = codes "the whole trail is in " ++ (part ++ codes "\n")
+
+-- own choice: how many events the trail has that was recovered
+abbrev pub recovered_line : ℕ → List ℕ
+recovered_line events = codes "recovered " ++ (decimal events ++ codes "\n")

@@ -1,0 +1,88 @@
+//! Why a journal in a file is not gone on with.
+ghost use Rattle.std.specs.Prelude.{◌≡◌};
+ghost use Rattle.bl_recover.specs.Telling.{recover_fault, words_by};
+
+use bl_disk::device::DeviceError;
+use bl_file::open::OpenFault;
+use bl_record::fault::RecoverFault;
+use bl_run::fault::ProgramFault;
+
+/// Why the journal that a run left is not gone on with.
+#[derive(Debug, PartialEq, Eq, Drop)]
+pub enum RecoveryFault {
+    /// No file is there that a run left.
+    NoTrail,
+    /// Something stands under the name that the trail is to have.
+    TrailIsThere,
+    /// Another program has the file.
+    InUse,
+    /// The run began with another setup, or it does not stand beside the file with which it began.
+    OtherSetup,
+    /// The trail is of version 1.
+    OldVersion,
+    /// The head of the trail is torn or wrong: the number of its first line that is not right.
+    WrongAt(u64),
+    /// Any other fault of the run.
+    Program(ProgramFault),
+}
+
+impl From<ProgramFault> for RecoveryFault {
+    ghost use Rattle.std.specs.Prelude.{◌≡◌};
+    ghost use Rattle.bl_recover.specs.declared.fault.RecoveryFault.TheVariants.{Program};
+
+    ghost from_gives = { λ program fault. fault ≡ Program program };
+
+    fn from(fault: ProgramFault) -> RecoveryFault {
+        RecoveryFault::Program(fault)
+    }
+}
+
+impl RecoveryFault {
+    /// The words for the fault; of a setup those for what is wrong with its line.
+    pub fn words(&self) -> &'static str
+        ensures { result.now ≡ words_by self.now }
+    {
+        match self {
+            RecoveryFault::NoTrail => "no trail to resume",
+            RecoveryFault::TrailIsThere => "trail is there",
+            RecoveryFault::InUse => "trail is in use",
+            RecoveryFault::OtherSetup => "not this setup's trail",
+            RecoveryFault::OldVersion => "trail of version 1",
+            RecoveryFault::WrongAt(_) => "trail wrong",
+            RecoveryFault::Program(fault) => fault.words(),
+        }
+    }
+}
+
+/// What a fault of a recovery is to its run.
+pub fn of_recover(fault: RecoverFault) -> RecoveryFault
+    ensures { result ≡ recover_fault fault }
+{
+    match fault {
+        RecoverFault::Head(line) => RecoveryFault::WrongAt(line),
+        RecoverFault::OldVersion => RecoveryFault::OldVersion,
+        RecoverFault::Memory | RecoverFault::Device(DeviceError::Memory) => {
+            RecoveryFault::Program(ProgramFault::NoMemory)
+        }
+        RecoverFault::Device(DeviceError::Full | DeviceError::Failed) => {
+            RecoveryFault::Program(ProgramFault::CannotWriteTrail)
+        }
+    }
+}
+
+/// What is told of a file that a run left and that cannot be opened.
+pub fn of_open(fault: OpenFault) -> RecoveryFault
+    ensures missing { fault ≡ OpenFault.Missing → result ≡ RecoveryFault.NoTrail }
+    ensures in_use { fault ≡ OpenFault.InUse → result ≡ RecoveryFault.InUse }
+    ensures memory { fault ≡ OpenFault.Memory → result ≡ RecoveryFault.Program ProgramFault.NoMemory }
+    ensures taken { fault ≡ OpenFault.Taken → result ≡ RecoveryFault.TrailIsThere }
+    ensures refused { fault ≡ OpenFault.Refused → result ≡ RecoveryFault.Program ProgramFault.CannotReadTrail }
+{
+    match fault {
+        OpenFault::Missing => RecoveryFault::NoTrail,
+        OpenFault::InUse => RecoveryFault::InUse,
+        OpenFault::Taken => RecoveryFault::TrailIsThere,
+        OpenFault::Memory => RecoveryFault::Program(ProgramFault::NoMemory),
+        OpenFault::Refused => RecoveryFault::Program(ProgramFault::CannotReadTrail),
+    }
+}

@@ -1,0 +1,23 @@
+//! The names of a journal's files.
+ghost use Rattle.std.specs.Prelude.{◌≡◌, ◌++◌, codes, string_bytes, IfOk};
+
+use std::alloc::{AllocError, Global};
+
+/// The names of a journal's files, beside the name that its trail is to have.
+#[derive(Debug, PartialEq, Eq, Drop)]
+pub struct Places {
+    /// The file that the journal is written to.
+    pub part: String,
+    /// The file that has the bytes of the setup that the run began with.
+    pub setup: String,
+}
+
+/// The names beside that of a trail: with `.part` after it, and with `.setup`.
+pub fn places_of(alloc: Global, trail: &str) -> Result<Places, AllocError>
+    ensures part { IfOk result (λ places. string_bytes places.part ≡ trail.now ++ codes ".part") }
+    ensures setup { IfOk result (λ places. string_bytes places.setup ≡ trail.now ++ codes ".setup") }
+{
+    let part = format!(in alloc; "{trail}.part")?;
+    let setup = format!(in alloc; "{trail}.setup")?;
+    Ok(Places { part, setup })
+}

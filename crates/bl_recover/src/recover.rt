@@ -1,0 +1,244 @@
+//! The run of the command `recover`.
+ghost use Rattle.std.specs.Prelude.{◌≡◌, ◌++◌, List, ℕ, codes, false, string_bytes, IfOk};
+ghost use Rattle.bl_disk.specs.File.{seen};
+ghost use Rattle.bl_record.specs.Recovering.{LosesNoHistory};
+ghost use Rattle.bl_wire.specs.Watch.{Puts, end_state, used};
+ghost use Rattle.bl_run.specs.Status.{IsEnd};
+ghost use Rattle.bl_recover.specs.Recoveries.{HasEnded, HasWritten, IsOfClosed, IsRecoverRun};
+ghost use Rattle.bl_recover.specs.Recoveries.{after_cut, said_of, status_of_end};
+
+use crate::fault::{RecoveryFault, of_recover};
+use crate::find::{Found, find};
+use crate::finish::finish_found;
+use crate::name::give_name;
+use crate::told::{tell_cut, tell_fault, tell_left, tell_recovered};
+use bl_disk::device::Device;
+use bl_file::device::Keeping;
+use bl_file::lock::Lock;
+use bl_keep::fault::KeepFault;
+use bl_record::recover::{Recovered, recover};
+use bl_run::fault::{ProgramFault, of_keep, of_setup};
+use bl_run::told::tell;
+use bl_setup::reader::read_setup;
+use bl_setup::setup::Setup;
+use bl_wire::watched::Watched;
+use std::alloc::Global;
+use std::io::Write;
+use std::rt::Files;
+
+/// How a recovery ended.
+#[derive(Debug, PartialEq, Eq, Drop)]
+pub enum RecoveryEnd {
+    /// The trail is closed and has its name, and that was told.
+    Recovered {
+        /// How many events it has.
+        events: usize,
+        /// How many bytes were cut off.
+        cut: usize,
+    },
+    /// The trail is closed and has its name, and the output failed before all of that was told.
+    Untold {
+        /// How many events it has.
+        events: usize,
+        /// How many bytes were cut off.
+        cut: usize,
+    },
+    /// The trail is closed, and stays in its file, since it could not have its name.
+    Unnamed {
+        /// How many events it has.
+        events: usize,
+        /// How many bytes were cut off.
+        cut: usize,
+        /// Why it could not.
+        fault: KeepFault,
+    },
+    /// Nothing was closed.
+    Refused(RecoveryFault),
+}
+
+/// How a recovery ended, its status, and the file.
+#[derive(Drop)]
+pub struct Recovery<D: Device> {
+    pub end: RecoveryEnd,
+    pub status: u8,
+    pub device: D,
+}
+
+/// A trail that is closed in the file of this name: how many events it has, and how many bytes were cut off.
+#[derive(Drop)]
+pub(crate) struct Closed<'a> {
+    pub(crate) events: usize,
+    pub(crate) cut: usize,
+    pub(crate) part: &'a str,
+}
+
+/// Tells what came of a trail that is closed and has its name: how many events it has.
+fn tell_named<W: Write, E: Write>(
+    events: usize,
+    cut: usize,
+    writer: &mut Watched<W>,
+    errors: &mut Watched<E>,
+) -> (RecoveryEnd, u8)
+    requires { writer.old.failed ≡ false }
+    ensures closed { IsOfClosed events cut result.0 }
+    ensures written { HasWritten result.0 (used W.contents writer.old writer.new) }
+    ensures said { (part : List ℕ) → Puts (after_cut part result.0) (end_state E.contents errors.old)
+        (end_state E.contents errors.new) }
+    ensures handed_on { result.1 ≡ 0 → writer.new.unflushed ≡ false }
+    ensures status { result.1 ≡ status_of_end result.0 }
+{
+    if tell_recovered(writer, events) {
+        (RecoveryEnd::Recovered { events, cut }, 0)
+    } else {
+        let status = tell(errors, &ProgramFault::Write);
+        (RecoveryEnd::Untold { events, cut }, status)
+    }
+}
+
+/// Tells what came of a trail that is closed in the file of this name.
+pub(crate) fn tell_closed<W: Write, E: Write>(
+    closed: &Closed<'_>,
+    named: Result<(), KeepFault>,
+    writer: &mut Watched<W>,
+    errors: &mut Watched<E>,
+) -> (RecoveryEnd, u8)
+    requires { writer.old.failed ≡ false }
+    ensures closed { IsOfClosed closed.now.events closed.now.cut result.0 }
+    ensures written { HasWritten result.0 (used W.contents writer.old writer.new) }
+    ensures said { Puts (said_of closed.now.part.now result.0) (end_state E.contents errors.old)
+        (end_state E.contents errors.new) }
+    ensures handed_on { result.1 ≡ 0 → writer.new.unflushed ≡ false }
+    ensures status { result.1 ≡ status_of_end result.0 }
+{
+    let Closed { events, cut, part } = *closed;
+    tell_cut(errors, cut);
+    match named {
+        Ok(()) => tell_named(events, cut, writer, errors),
+        Err(fault) => {
+            let status = tell(errors, &of_keep(fault));
+            tell_left(errors, part);
+            (RecoveryEnd::Unnamed { events, cut, fault }, status)
+        }
+    }
+}
+
+/// Closes the journal that a run left, and gives the trail its name, which is told: how many events it has, and on
+/// standard error how many bytes were cut off, where some were.
+///
+/// The status is 0 where that was done and told, 3 where the trail could not have its name, and stays in its file,
+/// where the output failed, or where nothing was recovered, and 4 where a growth was refused. Whenever the machine ends
+/// on the way, what was kept before is recovered again.
+pub fn recover_found<R: Files, D: Device, W: Write, E: Write>(
+    rt: &R,
+    alloc: Global,
+    setup: &Setup,
+    found: Found<'_, D>,
+    writer: &mut Watched<W>,
+    errors: &mut Watched<E>,
+) -> Recovery<D>
+    requires sound { D.has_failed found.device ≡ false }
+    requires writer { writer.old.failed ≡ false }
+    ensures ended { HasEnded setup.now (seen (D.now found.entry.device)) result.end (D.now result.device) }
+    ensures any_moment { LosesNoHistory D.now D.past setup.now found.entry.device result.device }
+    ensures written { HasWritten result.end (used W.contents writer.old writer.new) }
+    ensures said { Puts (said_of (string_bytes found.entry.part) result.end) (end_state E.contents errors.old)
+        (end_state E.contents errors.new) }
+    ensures handed_on { result.status ≡ 0 → writer.new.unflushed ≡ false }
+    ensures status { result.status ≡ status_of_end result.end }
+    ensures range { IsEnd result.status }
+{
+    let Found {
+        device,
+        part,
+        trail,
+        is_named: _,
+    } = found;
+    match recover(alloc, setup, device) {
+        Ok(
+            Recovered {
+                events,
+                cut,
+                device,
+            },
+        ) => {
+            let part = part.as_str();
+            let named = give_name(rt, part, trail);
+            let closed = Closed { events, cut, part };
+            let (end, status) = tell_closed(&closed, named, writer, errors);
+            Recovery {
+                end,
+                status,
+                device,
+            }
+        }
+        Err((fault, device)) => {
+            let fault = of_recover(fault);
+            let status = tell_fault(errors, &fault);
+            let end = RecoveryEnd::Refused(fault);
+            Recovery {
+                end,
+                status,
+                device,
+            }
+        }
+    }
+}
+
+/// Goes on with a journal that was found, or tells why none is gone on with. The result is the status of the run.
+fn go_on<R: Files, D: Device + Drop, W: Write, E: Write>(
+    rt: &R,
+    alloc: Global,
+    setup: &Setup,
+    found: Result<Found<'_, D>, RecoveryFault>,
+    writer: &mut Watched<W>,
+    errors: &mut Watched<E>,
+) -> u8
+    requires sound { IfOk found (λ found. D.has_failed found.device ≡ false) }
+    requires writer { writer.old.failed ≡ false }
+    ensures run { (trail : List ℕ) → IfOk found.entry (λ found. string_bytes found.part ≡ trail ++ codes ".part")
+        → IsRecoverRun trail result (used W.contents writer.old writer.new) (end_state E.contents errors.old)
+        (end_state E.contents errors.new) }
+    ensures handed_on { result ≡ 0 → writer.new.unflushed ≡ false }
+    ensures status { IsEnd result }
+{
+    let found = match found {
+        Ok(found) => found,
+        Err(fault) => return tell_fault(errors, &fault),
+    };
+    if found.is_named {
+        finish_found(rt, alloc, setup, found, writer, errors).status
+    } else {
+        recover_found(rt, alloc, setup, found, writer, errors).status
+    }
+}
+
+/// Closes the journal that a run left under the name of this trail, which began with the setup of these bytes: the
+/// command `recover`.
+///
+/// Where there is none, or it is not gone on with, that is told, and nothing is changed. Else it goes as
+/// `recover_found` says, or, where the trail has its name already beside that of the journal, as `finish_found` does.
+pub fn recover_on<R: Files, W: Write, E: Write>(
+    rt: &R,
+    alloc: Global,
+    setup: &[u8],
+    trail: &str,
+    writer: &mut Watched<W>,
+    errors: &mut Watched<E>,
+) -> u8
+where
+    R::File: Lock,
+    requires { writer.old.failed ≡ false }
+    ensures run { IsRecoverRun trail.now result (used W.contents writer.old writer.new)
+        (end_state E.contents errors.old) (end_state E.contents errors.new) }
+    ensures handed_on { result ≡ 0 → writer.new.unflushed ≡ false }
+    ensures status { IsEnd result }
+{
+    let begun = match read_setup(alloc, setup) {
+        Ok(begun) => begun,
+        Err(fault) => return tell(errors, &of_setup(fault)),
+    };
+    let found = find(rt, alloc, setup, trail, Keeping::Synced);
+    let status = go_on(rt, alloc, &begun, found, writer, errors);
+    drop(begun);
+    status
+}

@@ -1,0 +1,55 @@
+use Rattle.std.proofs.Common.{rules, ◌≡◌, ◌++◌, ◌∙◌, true, false, ap, append-nil, refl, sym, subst, None}
+use Rattle.bl_wire.specs.Watch.{end_state}
+use Rattle.bl_wire.proofs.PutLaws.{puts-append, puts-is}
+use Rattle.bl_disk.specs.File.{File}
+use Rattle.bl_gate.specs.Gates.{hall_seen}
+use Rattle.bl_run.specs.Serving.{hosted_text}
+use Rattle.bl_serving.specs.Hosted.{IsLeft, status_with}
+use Rattle.bl_serving.specs.Telling.{trail_text}
+use Rattle.bl_serving.proofs.run.host_on.Goals as goal
+
+pub host_kept-hosted-requires-clause-gate : goal.host_kept-hosted-requires-clause-gate
+host_kept-hosted-requires-clause-gate g c κs within = (refl, c.requires.gate)
+
+-- a thread was not started, and the journal is left as it is
+pub returns-then-not-whole-clause-run : goal.returns-then-not-whole-clause-run
+returns-then-not-whole-clause-run g c =
+    let h = c.host_kept-hosted.result.hosted in
+    let ended = c.as_slice.result.now in
+    let told = c.tell_hosted-status.ensures in
+    let unstarted : h.whole ≡ false = search rules in
+    record {
+      threads = h.whole;
+      ended = ended;
+      memory = h.memory;
+      trail = None;
+      left = λ whole. let bad : true ≡ false = sym whole ∙ unstarted in cc;
+      unclosed = λ _. refl;
+      whole = (λ whole. cc, λ both. let bad : true ≡ false = sym both.0 ∙ unstarted in cc);
+      status_is = told.status;
+      said = puts-is (hosted_text h.whole ended h.memory) (hosted_text h.whole ended h.memory ++ trail_text None) _ _ (sym (append-nil _)) told.puts;
+    }
+
+-- the journal was closed, or why not is told
+pub returns-clause-run : goal.returns-clause-run
+returns-clause-run g c =
+    let h = c.host_kept-hosted.result.hosted in
+    let ended = c.as_slice.result.now in
+    let told = c.tell_hosted-status.ensures in
+    let left = c.close_after-left.result in
+    let end = c.tell_end.ensures in
+    let started : h.whole ≡ true = search rules in
+    let now = g.D.Device.now in
+    let begun = hall_seen c.args.made.1 in
+    record {
+      threads = h.whole;
+      ended = ended;
+      memory = h.memory;
+      trail = left.1;
+      left = λ whole. subst (λ (d : _). IsLeft begun left.1 (now d)) (sym end.device)
+          (c.close_after-left.ensures.left begun (c.host_kept-hosted.ensures.grown started));
+      unclosed = λ unstarted. let bad : true ≡ false = sym started ∙ unstarted in cc;
+      whole = (λ whole. (started, end.whole.0 whole), λ both. end.whole.1 both.1);
+      status_is = end.status ∙ ap (λ s. status_with s left.1) told.status;
+      said = puts-append (hosted_text h.whole ended h.memory) (trail_text left.1) _ _ _ told.puts end.puts;
+    }

@@ -1,0 +1,70 @@
+use Rattle.std.proofs.Common.{rules, ◌≡◌, ◌∙◌, ap, false, inl, inr, refl, sym, subst}
+use Rattle.std.proofs.KnownBytes.{Keeps-refl}
+use Rattle.std.specs.Prelude.{not}
+use Rattle.bl_wire.specs.Watch.{end_state}
+use Rattle.bl_wire.proofs.PutLaws.{puts-append}
+use Rattle.bl_hall.specs.Chronicle.{Chronicle}
+use Rattle.bl_alone.specs.Recording.{HasRecorded}
+use Rattle.bl_recover.specs.Telling.{cut_line}
+use Rattle.bl_serving.specs.Hosted.{HasHosted}
+use Rattle.bl_serving.specs.Telling.{words_by}
+use Rattle.bl_recover.specs.declared.fault.RecoveryFault.TheVariants.{Program}
+use Rattle.bl_run.specs.declared.fault.ProgramFault.TheVariants.{NoMemory, Write}
+use Rattle.bl_serving.specs.declared.fault.ServingFault.TheVariants.{Recovery}
+use Rattle.bl_serving.proofs.Hosting.{hall_of_new}
+use Rattle.bl_serving.proofs.run.serve_recorded_on.Goals as goal
+
+-- nothing was begun
+pub returns-in-Err-clause-run : goal.returns-in-Err-clause-run
+returns-in-Err-clause-run g c =
+    inr (c.in-Err.fault, c.end_with.ensures.part, (c.end_with.ensures.status, inl (Keeps-refl _, c.end_with.ensures.puts, inl c.in-Err.ensures.err)))
+
+-- a growth was refused for the gate
+pub returns-in-Err-new-clause-run : goal.returns-in-Err-new-clause-run
+returns-in-Err-new-clause-run g c =
+    inr (Recovery (Program NoMemory), c.end_with-in-Err-new.ensures.part, (c.end_with-in-Err-new.ensures.status, inl (Keeps-refl _, c.end_with-in-Err-new.ensures.puts, inr refl)))
+
+-- `listening` was not told
+pub returns-then-not-put_out-clause-run : goal.returns-then-not-put_out-clause-run
+returns-then-not-put_out-clause-run g c =
+    let begun = c.in-Ok.begun in
+    let fault = Recovery (Program Write) in
+    let untold : c.put_out.result ≡ false = search rules in
+    inr (
+      fault,
+      c.end_with-then-not-put_out.ensures.part,
+      (
+        c.end_with-then-not-put_out.ensures.status,
+        inr (
+          refl,
+          c.put_out.ensures.failed ∙ ap not untold,
+          c.put_out.ensures.some,
+          (begun.hall, begun.cut, c.in-Ok.ensures.begins, puts-append (cut_line begun.cut) (words_by fault) _ _ _ c.tell_cut.ensures.puts c.end_with-then-not-put_out.ensures.puts),
+        ),
+      ),
+    )
+
+pub host_on-requires-clause-recorded : goal.host_on-requires-clause-recorded
+host_on-requires-clause-recorded g c κs within =
+    let begun = c.in-Ok.begun in
+    let made = c.in-Ok-new.made in
+    subst (λ (h : Chronicle). HasRecorded g.D.Device.now g.D.Device.has_failed begun.journal h)
+    (sym (hall_of_new made.1 made.0 begun.hall c.in-Ok-new.ensures.gate.0 c.in-Ok-new.ensures.gate.1 c.in-Ok-new.ensures.seen.0)) c.in-Ok.ensures.recorded
+
+-- sessions were served
+pub returns-clause-run : goal.returns-clause-run
+returns-clause-run g c =
+    let begun = c.in-Ok.begun in
+    let made = c.in-Ok-new.made in
+    let served = c.host_on in
+    inl (record {
+      begun = begun.hall;
+      cut = begun.cut;
+      begins = c.in-Ok.ensures.begins;
+      listens = c.put_out.ensures.all (search rules);
+      between = end_state g.E.Write.contents c.tell_cut.new.errors;
+      told = c.tell_cut.ensures.puts;
+      hosted = subst (λ (h : Chronicle). HasHosted h served.result.status served.result.is_whole (g.D.Device.now served.result.device)
+          (end_state g.E.Write.contents c.tell_cut.new.errors) (end_state g.E.Write.contents served.new.errors))
+          (hall_of_new made.1 made.0 begun.hall c.in-Ok-new.ensures.gate.0 c.in-Ok-new.ensures.gate.1 c.in-Ok-new.ensures.seen.0) served.ensures.run;
+    })

@@ -1,0 +1,66 @@
+-- How a run of `serve` ends whose trail is kept as it goes.
+use Rattle.std.specs.Prelude.{◌≡◌, ◌⊎◌, ◌↔◌, ℕ, zero, suc, Bool, true, false, List, ◌++◌, Option, Some, None, take}
+use Rattle.std.specs.Io.KnownBytes.{Appends, Keeps}
+use Rattle.bl_alone.specs.Recording.{IsWhole}
+use Rattle.bl_audit.specs.Bookmarks.{HasGrown}
+use Rattle.bl_disk.specs.File.{File}
+use Rattle.bl_hall.specs.Chronicle.{Chronicle}
+use Rattle.bl_host.specs.declared.ended.Ended.{Ended}
+use Rattle.bl_recover.specs.Telling.{cut_line}
+use Rattle.bl_recover.specs.declared.fault.RecoveryFault.TheVariants.{Program}
+use Rattle.bl_run.specs.Serving.{faults_found, hosted_text, listening}
+use Rattle.bl_run.specs.Status.{status_after}
+use Rattle.bl_run.specs.declared.fault.ProgramFault.TheVariants.{NoMemory, Write}
+use Rattle.bl_setup.specs.Setup.{Setup}
+use Rattle.bl_wire.specs.Watch.{EndState, Puts, Use}
+use Rattle.bl_serving.specs.Beginning.{Begins, IsUnbegun}
+use Rattle.bl_serving.specs.Telling.{status_by, trail_text, words_by}
+use Rattle.bl_serving.specs.declared.fault.ServingFault.{ServingFault}
+use Rattle.bl_serving.specs.declared.fault.ServingFault.TheVariants.{Recovery}
+
+-- what is left of the trail of a run that began in this hall: it is whole, and that of the hall later; or there is a fault
+abbrev pub IsLeft : Chronicle → Option ServingFault → File → Type 0
+IsLeft begun None file = (hall : Chronicle) × HasGrown begun hall × IsWhole hall file
+IsLeft begun (Some fault) file = Unit {0}
+
+-- the status after the fault of the trail: the first fault gives it
+abbrev pub status_with : ℕ → Option ServingFault → ℕ
+status_with status None = status
+status_with zero (Some fault) = status_by fault
+status_with (suc n) (Some fault) = suc n
+
+-- Sessions were served in the hall that the run began with. What was found is told in its order, the trail's fault last, and the first fault
+-- gives the status. Where each thread was started the trail is whole, or has a fault; where one was not, it is left as it is.
+pub record HasHosted (begun : Chronicle) (status : ℕ) (is_whole : Bool) (file : File) (before after : EndState) : Type 0 where
+  pub threads : Bool
+  pub ended : List Ended
+  pub memory : Bool
+  pub trail : Option ServingFault
+  pub left : threads ≡ true → IsLeft begun trail file
+  pub unclosed : threads ≡ false → trail ≡ None
+  pub whole : (is_whole ≡ true) ↔ ((threads ≡ true) × (trail ≡ None))
+  pub status_is : status ≡ status_with (status_after 0 (faults_found threads memory)) trail
+  pub said : Puts (hosted_text threads ended memory ++ trail_text trail) before after
+
+-- Sessions were served: after what was cut off was told, and `listening`.
+pub record HasServed (resumes : Bool) (setup : Setup) (limit : ℕ) (text : List ℕ) (status : ℕ) (is_whole : Bool) (file : File) (output : Use) (before after : EndState) : Type 0 where
+  pub begun : Chronicle
+  pub cut : ℕ
+  pub begins : Begins resumes setup limit text begun cut
+  pub listens : Appends output.before output.after listening
+  pub between : EndState
+  pub told : Puts (cut_line cut) before between
+  pub hosted : HasHosted begun status is_whole file between after
+
+-- No session was served, since nothing was begun; or a growth was refused for the gate; or `listening` could not be told. The fault is told.
+abbrev pub IsUnserved : Bool → Setup → ℕ → List ℕ → ServingFault → ℕ → Use → EndState → EndState → Type 0
+IsUnserved resumes setup limit text fault status output before after = (status ≡ status_by fault)
+    × ((Keeps output.before output.after × Puts (words_by fault) before after × (IsUnbegun resumes setup text fault ⊎ (fault ≡ Recovery (Program NoMemory))))
+    ⊎ ((fault ≡ Recovery (Program Write)) × (output.failed ≡ true) × ((n : ℕ) × Appends output.before output.after (take n listening))
+    × ((begun : Chronicle) × (cut : ℕ) × Begins resumes setup limit text begun cut × Puts (cut_line cut ++ words_by fault) before after)))
+
+-- sessions were served, or none was
+abbrev pub IsServing : Bool → Setup → ℕ → List ℕ → ℕ → Bool → File → Use → EndState → EndState → Type 0
+IsServing resumes setup limit text status is_whole file output before after =
+    HasServed resumes setup limit text status is_whole file output before after
+    ⊎ ((fault : ServingFault) × (is_whole ≡ false) × IsUnserved resumes setup limit text fault status output before after)

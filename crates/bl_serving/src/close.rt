@@ -1,0 +1,64 @@
+//! Closes a journal after the sessions.
+ghost use Rattle.std.specs.Prelude.{◌≡◌, false, None};
+ghost use Rattle.bl_gate.specs.Gates.{hall_seen};
+ghost use Rattle.bl_audit.specs.Bookmarks.{HasGrown};
+ghost use Rattle.bl_hall.specs.Chronicle.{Chronicle};
+ghost use Rattle.bl_keeper.specs.Keeping.{HasKept};
+ghost use Rattle.bl_alone.specs.Recording.{HasRecorded};
+ghost use Rattle.bl_serving.specs.Hosted.{IsLeft};
+
+use crate::fault::{ServingFault, of_end};
+use bl_disk::device::Device;
+use bl_disk::log::Log;
+use bl_gate::gate::Gate;
+use bl_gate::pass::Pass;
+use bl_record::journal::Journal;
+use std::alloc::Global;
+
+/// The file of a journal that is left as it is.
+pub(crate) fn file_of<D: Device>(journal: Journal<D>) -> D
+    ensures { result ≡ journal.log.device }
+{
+    let Journal { log, .. } = journal;
+    let Log { device } = log;
+    device
+}
+
+/// Closes a journal that has kept all.
+fn close<D: Device>(journal: Journal<D>) -> (D, Option<ServingFault>)
+    requires { (hall : Chronicle) × HasRecorded D.now D.has_failed journal hall }
+    ensures left { (hall begun : Chronicle) → HasRecorded D.now D.has_failed journal hall → HasGrown begun hall → IsLeft begun result.1 (D.now result.0) }
+{
+    match journal.close() {
+        Ok(device) => (device, None),
+        Err((_, device)) => (device, Some(ServingFault::CutShort)),
+    }
+}
+
+/// Closes the gate, has the journal keep what happened last, and closes it. The file is handed back, with the fault where it is not closed.
+pub(crate) fn close_after<D: Device>(
+    alloc: Global,
+    gate: Gate,
+    pass: Pass,
+    journal: Journal<D>,
+) -> (D, Option<ServingFault>)
+    requires gate { pass.gate ≡ gate }
+    requires all { pass.parts ≡ 64 }
+    requires sound { journal.fault ≡ None → D.has_failed journal.log.device ≡ false }
+    requires kept { journal.fault ≡ None → HasKept (hall_seen pass) journal.bookmark (D.now journal.log.device) }
+    ensures left { (begun : Chronicle) → HasGrown begun (hall_seen pass) → IsLeft begun result.1 (D.now result.0) }
+{
+    let hall = gate.close(pass);
+    let mut journal = journal;
+    let kept = journal.keep_up(alloc, &hall);
+    match kept {
+        Ok(()) => {
+            drop(hall);
+            close(journal)
+        }
+        Err(fault) => {
+            drop(hall);
+            (file_of(journal), Some(of_end(fault)))
+        }
+    }
+}

@@ -1,0 +1,236 @@
+//! The run.
+ghost use Rattle.std.specs.Prelude.{◌≡◌, ◌≤◌, ◌↔◌, false, true, None};
+ghost use Rattle.bl_audit.specs.Bookmarks.{HasGrown};
+ghost use Rattle.bl_disk.specs.File.{seen};
+ghost use Rattle.bl_gate.specs.Gates.{hall_seen};
+ghost use Rattle.bl_hall.specs.Chronicle.{Chronicle};
+ghost use Rattle.bl_keeper.specs.Keeping.{HasKept};
+ghost use Rattle.bl_run.specs.Status.{IsEnd};
+ghost use Rattle.bl_wire.specs.Watch.{Puts, end_state, used};
+ghost use Rattle.bl_alone.specs.Recording.{HasRecorded};
+ghost use Rattle.bl_serving.specs.Hosted.{HasHosted, IsServing, status_with};
+ghost use Rattle.bl_serving.specs.Telling.{status_by, trail_text, words_by};
+
+use crate::begin::{Begun, Start, begin_in};
+use crate::close::{close_after, file_of};
+use crate::fault::{ServingFault, tell_serving};
+use bl_alone::run::Recorded;
+use bl_disk::device::Device;
+use bl_gate::gate::Gate;
+use bl_gate::pass::Pass;
+use bl_host::host::{Hosted, Site, host};
+use bl_host::options::Options;
+use bl_keeper::keeper::Keeper;
+use bl_keeper::which::Which;
+use bl_record::journal::Journal;
+use bl_recover::fault::RecoveryFault;
+use bl_recover::told::tell_cut;
+use bl_run::fault::ProgramFault;
+use bl_run::serve::{Ground, tell_hosted};
+use bl_wire::put::put_out;
+use bl_wire::watched::Watched;
+use bl_worker::pause::Pause;
+use std::io::Write;
+use std::marker::Brand;
+use std::net::{Net, TcpListener, TcpStream};
+use std::sync::Wait;
+use std::thread::Threads;
+
+/// What a run was asked for: the weight of the lines that are admitted at most, 1 to 100,000, and how many threads and sessions there are.
+#[derive(Clone, Copy)]
+pub struct ServingRun {
+    pub limit: u32,
+    pub options: Options,
+    pub ghost limited: { (1 ≤ limit) × (limit ≤ 100000) },
+}
+
+/// Ends a run that has served nobody with this fault, which is told.
+fn end_with<D: Device, E: Write>(
+    errors: &mut Watched<E>,
+    fault: &ServingFault,
+    device: D,
+) -> Recorded<D>
+    ensures puts { Puts (words_by fault.now) (end_state E.contents errors.old) (end_state E.contents errors.new) }
+    ensures status { result.status ≡ status_by fault.now }
+    ensures range { IsEnd result.status }
+    ensures part { result.is_whole ≡ false }
+{
+    let status = tell_serving(errors, fault);
+    Recorded {
+        status,
+        device,
+        is_whole: false,
+    }
+}
+
+/// What is left after the sessions: what the host says, and the journal.
+#[derive(Drop)]
+struct Hosting<D: Device> {
+    hosted: Hosted,
+    journal: Journal<D>,
+}
+
+/// Hosts the sessions of a gate whose trail is kept in this journal.
+fn host_kept<
+    G: Which + Send,
+    D: Device + Send,
+    P: Pause + Sync,
+    T: Threads + Wait + Net<Listener = TcpListener, Stream = TcpStream> + Sync,
+>(
+    ground: &Ground<'_, P, T>,
+    listener: TcpListener,
+    gate: &Gate,
+    pass: Pass,
+    journal: Journal<D>,
+    options: Options,
+) -> Hosting<D>
+    requires gate { (gate.now ≡ G.gate) × (pass.gate ≡ G.gate) }
+    requires parts { pass.parts ≡ 64 }
+    requires recorded { HasRecorded D.now D.has_failed journal (hall_seen pass) }
+    ensures gate { result.hosted.pass.gate ≡ pass.gate }
+    ensures parts { result.hosted.whole ≡ true → result.hosted.pass.parts ≡ 64 }
+    ensures grown { result.hosted.whole ≡ true → HasGrown (hall_seen pass) (hall_seen result.hosted.pass) }
+    ensures sound { result.journal.fault ≡ None → D.has_failed result.journal.log.device ≡ false }
+    ensures kept { result.journal.fault ≡ None → HasKept (hall_seen result.hosted.pass) result.journal.bookmark (D.now result.journal.log.device) }
+{
+    let mut pass = pass;
+    let part = gate.split_pass(&mut pass);
+    let keeper = Keeper::<G, D>::new(gate, part, journal);
+    let site = Site {
+        rt: ground.rt,
+        alloc: ground.alloc,
+        gate,
+        pause: ground.pause,
+        keep: &keeper,
+    };
+    let mut hosted = host(&site, listener, pass, options);
+    let (journal, part) = keeper.finish();
+    gate.meet(&mut hosted.pass, part);
+    Hosting { hosted, journal }
+}
+
+/// Tells the fault of the trail after what was found before, where it has one. The first fault gives the status.
+fn tell_end<D: Device, E: Write>(
+    errors: &mut Watched<E>,
+    status: u8,
+    left: (D, Option<ServingFault>),
+) -> Recorded<D>
+    ensures puts { Puts (trail_text left.1) (end_state E.contents errors.old) (end_state E.contents errors.new) }
+    ensures status { result.status ≡ status_with status left.1 }
+    ensures range { IsEnd status → IsEnd result.status }
+    ensures device { result.device ≡ left.0 }
+    ensures whole { (result.is_whole ≡ true) ↔ (left.1 ≡ None) }
+    ensures fine { result.status ≡ 0 → (status ≡ 0) × (left.1 ≡ None) }
+{
+    let (device, fault) = left;
+    let Some(fault) = fault else {
+        return Recorded {
+            status,
+            device,
+            is_whole: true,
+        };
+    };
+    let own = tell_serving(errors, &fault);
+    Recorded {
+        status: if status == 0 { own } else { status },
+        device,
+        is_whole: false,
+    }
+}
+
+/// All after `listening`: the sessions are served, what was found is told, and the journal is closed where each thread was started.
+fn host_on<
+    D: Device + Send,
+    P: Pause + Sync,
+    T: Threads + Wait + Net<Listener = TcpListener, Stream = TcpStream> + Sync,
+    E: Write,
+>(
+    ground: &Ground<'_, P, T>,
+    listener: TcpListener,
+    made: (Gate, Pass),
+    journal: Journal<D>,
+    options: Options,
+    errors: &mut Watched<E>,
+) -> Recorded<D>
+    requires gate { made.1.gate ≡ made.0 }
+    requires parts { made.1.parts ≡ 64 }
+    requires recorded { HasRecorded D.now D.has_failed journal (hall_seen made.1) }
+    ensures run { HasHosted (hall_seen made.1) result.status result.is_whole (D.now result.device) (end_state E.contents errors.old) (end_state E.contents errors.new) }
+    ensures whole { result.status ≡ 0 → result.is_whole ≡ true }
+    ensures range { IsEnd result.status }
+{
+    let (gate, pass) = made;
+    let Hosting { hosted, journal } = host_kept::<Brand, D, P, T>(
+        ground, listener, &gate, pass, journal, options,
+    );
+    let Hosted {
+        pass,
+        ended,
+        whole,
+        memory,
+    } = hosted;
+    let status = tell_hosted(errors, whole, ended.as_slice(), memory);
+    drop(ended);
+    if !whole {
+        drop(pass);
+        drop(gate);
+        return Recorded {
+            status,
+            device: file_of(journal),
+            is_whole: false,
+        };
+    }
+    let left = close_after(ground.alloc, gate, pass, journal);
+    tell_end(errors, status, left)
+}
+
+/// Sessions over TCP at a listener, over a setup, whose trail is kept in a file before any of it is told: the command
+/// `serve` with `--keep`.
+///
+/// `listening` is told on `writer` before the first session is served; before that the file has the head of the trail, or, where the run
+/// goes on from another, all that this had admitted has ended. The status is 0 where all was done and the trail is whole, 3 for a fault of the
+/// setup, of the output or of the trail, and 4 when out of memory. A session that ends early is told and changes no status. The file is handed
+/// back.
+pub fn serve_recorded_on<
+    D: Device + Send,
+    P: Pause + Sync,
+    T: Threads + Wait + Net<Listener = TcpListener, Stream = TcpStream> + Sync,
+    W: Write,
+    E: Write,
+>(
+    ground: &Ground<'_, P, T>,
+    listener: TcpListener,
+    run: &ServingRun,
+    start: Start<D>,
+    writer: &mut Watched<W>,
+    errors: &mut Watched<E>,
+) -> Recorded<D>
+    requires sound { D.has_failed start.device ≡ false }
+    requires writer { writer.old.failed ≡ false }
+    ensures run { IsServing start.resumes start.setup run.now.limit (seen (D.now start.device)) result.status result.is_whole (D.now result.device)
+        (used W.contents writer.old writer.new) (end_state E.contents errors.old) (end_state E.contents errors.new) }
+    ensures whole { result.status ≡ 0 → result.is_whole ≡ true }
+    ensures handed_on { result.status ≡ 0 → writer.new.unflushed ≡ false }
+    ensures status { IsEnd result.status }
+{
+    let begun = match begin_in(ground.alloc, run.limit, start) {
+        Ok(begun) => begun,
+        Err((fault, device)) => return end_with(errors, &fault, device),
+    };
+    let Begun { hall, journal, cut } = begun;
+    let made = match Gate::new(hall) {
+        Ok(made) => made,
+        Err(refused) => {
+            drop(refused);
+            let fault = ServingFault::Recovery(RecoveryFault::Program(ProgramFault::NoMemory));
+            return end_with(errors, &fault, file_of(journal));
+        }
+    };
+    tell_cut(errors, cut);
+    if !put_out(writer, b"listening\n") {
+        drop(made);
+        let fault = ServingFault::Recovery(RecoveryFault::Program(ProgramFault::Write));
+        return end_with(errors, &fault, file_of(journal));
+    }
+    host_on(ground, listener, made, journal, run.options, errors)
+}

@@ -1,0 +1,171 @@
+-- The matches of the program's command line are those of its words.
+use Rattle.std.proofs.Common.{◌≡◌, ◌≤◌, ◌∙◌, [], ◌∷◌, List, ℕ, Bool, true, Option, Some, None, arith, codes, get_or, refl, sym, ap, subst}
+use Rattle.std.specs.Prelude.{Box, IfNone, option_map}
+use Rattle.std.specs.Box.{box_value}
+use Rattle.clap.specs.Faults.{fault_of, is_simple_and_free}
+use Rattle.clap.specs.Kinds.{HasKind}
+use Rattle.clap.specs.declared.error.Error.{Error}
+use Rattle.clap.specs.Simple.{App, HasMatchesOf, is_simple, subcommand_of, subcommand_rows, subcommand_rows_of}
+use Rattle.clap.specs.declared.parser.matches.ArgMatches.{ArgMatches}
+use Rattle.clap.specs.declared.parser.matches.ArgMatches.TheViews.{out-ArgMatches, out-SubCommand}
+use Rattle.clap.specs.declared.parser.matches.SubCommand.{SubCommand}
+use Rattle.clap.proofs.OnLiterals.{clap_on_literals}
+use Rattle.clap.proofs.WalkLemmas.{first_value-rows, one_text-rows}
+use Rattle.clap.specs.Matches.{first_value, found_of, one_text, subcommand_name_of}
+use Rattle.clap.specs.Walk.{Row, first_of, one_of, rows_of}
+use Rattle.bl_keep.specs.declared.part.TrailFile.{TrailFile}
+use Rattle.bl_words.specs.CommandLine.{server_app}
+use Rattle.bl_words.specs.Words.{HasFlag, HasHosting, HasKeeping, HasNoCommand, HasNumber, HasOptions, HasResume, HasTrail, IsHostingInRange, IsInRange, IsOf, entered_by, faults_of, word_of}
+use Rattle.bl_words.specs.declared.command.Command.{Command}
+use Rattle.bl_words.specs.declared.command.Hosting.{Hosting}
+use Rattle.bl_words.specs.declared.command.TrailKeeping.{TrailKeeping}
+use Rattle.bl_words.specs.declared.command.Command.TheVariants.{Alone, Serve, Replay, Recover}
+
+server_is_simple : is_simple server_app ≡ true
+unfolding clap_on_literals
+server_is_simple = refl
+
+entered_by_is : (words : List (List ℕ)) → subcommand_of server_app words ≡ entered_by words
+unfolding entered_by
+entered_by_is words = refl
+
+pub matches_are_entered : (app : App) (words : List (List ℕ)) (m : ArgMatches) → app ≡ server_app → HasMatchesOf app words m
+    → subcommand_rows_of m ≡ entered_by words
+matches_are_entered app words m is has =
+    (has (ap is_simple is ∙ server_is_simple)).1 ∙ ap (λ (a : App). subcommand_of a words) is ∙ entered_by_is words
+
+server_is_free : is_simple_and_free server_app ≡ true
+unfolding clap_on_literals
+server_is_free = refl
+
+faults_of_is : (words : List (List ℕ)) → fault_of server_app words ≡ faults_of words
+unfolding faults_of
+faults_of_is words = refl
+
+module _ (app : App) (words : List (List ℕ)) (is : app ≡ server_app) where
+  kinds_are : fault_of app words ≡ faults_of words
+  kinds_are = ap (λ (a : App). fault_of a words) is ∙ faults_of_is words
+
+  free : is_simple_and_free app ≡ true
+  free = ap is_simple_and_free is ∙ server_is_free
+
+  -- words that were parsed have no fault
+  pub faultless : (is_simple_and_free app ≡ true → fault_of app words ≡ []) → faults_of words ≡ []
+  faultless none' = sym kinds_are ∙ none' free
+
+  -- words that were refused have one of their faults
+  pub has_fault : (e told : Error) → told ≡ e → (is_simple_and_free app ≡ true → HasKind (fault_of app words) e) → HasKind (faults_of words) told
+  has_fault e told same kind = subst (HasKind (faults_of words)) (sym same) (subst (λ kinds. HasKind kinds e) kinds_are (kind free))
+
+-- options with the same rows have the same texts
+module _ (a b : ArgMatches) (same : rows_of (found_of a) ≡ rows_of (found_of b)) where
+  first_same : (id : List ℕ) → first_value (found_of b) id ≡ first_value (found_of a) id
+  first_same id = first_value-rows (found_of b) id ∙ ap (first_of id) (sym same) ∙ sym (first_value-rows (found_of a) id)
+
+  one_same : (id : List ℕ) → one_text (found_of b) id ≡ one_text (found_of a) id
+  one_same id = one_text-rows (found_of b) id ∙ ap (one_of id) (sym same) ∙ sym (one_text-rows (found_of a) id)
+
+  number_same : (id : List ℕ) (n : ℕ) → HasNumber a id n → HasNumber b id n
+  number_same id n has = (has.0, one_same id ∙ has.1, has.2)
+
+  flag_same : (id : List ℕ) (given : Bool) → HasFlag a id given → HasFlag b id given
+  flag_same id given has = record {
+    yes = λ e. has.yes (sym (one_same id) ∙ e);
+    no = λ e. has.no (sym (one_same id) ∙ e);
+    none = λ e. has.none (sym (one_same id) ∙ e);
+  }
+
+  resume_same : (given : Bool) → HasResume a given → HasResume b given
+  resume_same given has = (λ e. first_same (codes "resume") ∙ has.0 e, λ e. has.1 (sym (first_same (codes "resume")) ∙ e))
+
+  trail_same : (trail : Option TrailFile) → HasTrail a trail → HasTrail b trail
+  trail_same None has = first_same (codes "trail") ∙ has
+  trail_same (Some file) has = (
+    has.0,
+    first_same (codes "trail") ∙ has.1,
+    record {
+      name_is = has.2.name_is;
+      replaces = flag_same (codes "replace") file.replaces has.2.replaces;
+      claims = flag_same (codes "claim-trail") file.claims has.2.claims;
+    },
+  )
+
+  -- and are those of the same commands
+  pub options_same : (command : Command) → HasOptions a command → HasOptions b command
+  options_same (Alone setup limit trail keeping) has = (
+    first_same (codes "setup") ∙ has.0,
+    number_same (codes "limit") limit has.1,
+    trail_same trail has.2,
+    first_same (codes "keep") ∙ has.3,
+  )
+  options_same (Serve setup hosting) has = (
+    first_same (codes "setup") ∙ has.0,
+    record {
+      limit = number_same (codes "limit") hosting.limit has.1.limit;
+      port = number_same (codes "port") hosting.port has.1.port;
+      trail = trail_same (Some hosting.trail) has.1.trail;
+      workers = number_same (codes "workers") hosting.workers has.1.workers;
+      threads = number_same (codes "session-threads") hosting.session_threads has.1.threads;
+      sessions = number_same (codes "sessions") hosting.sessions has.1.sessions;
+      keeping = first_same (codes "keep") ∙ has.1.keeping;
+      resumes = resume_same hosting.resumes has.1.resumes;
+    },
+  )
+  options_same (Replay setup trail) has = (first_same (codes "setup") ∙ has.0, first_same (codes "trail") ∙ has.1)
+  options_same (Recover setup trail) has = (first_same (codes "setup") ∙ has.0, first_same (codes "trail") ∙ has.1)
+
+-- what holds anyway holds where there is nothing
+pub at_none : {T : Type 0} (o : Option T) (P : Type 0) → P → IfNone o P
+at_none (Some x) P p = tt
+at_none None P p = p
+
+none_weaker : {T : Type 0} (o : Option T) (P Q : Type 0) → (P → Q) → IfNone o P → IfNone o Q
+none_weaker (Some x) P Q f p = tt
+none_weaker None P Q f p = f p
+
+-- no two commands have one word
+words_differ : (a b : ℕ) (as' bs : List ℕ) → (a ≡ b → ⊥) → a ∷ as' ≡ b ∷ bs → ⊥
+words_differ a b as' bs differ same = differ (ap (λ (l : List ℕ). get_or l 0 0) same)
+
+-- without a limit in its range there is no command `alone`, and without what is hosted no `serve`
+pub alone_none : (options : ArgMatches) → ((n : ℕ) → HasNumber options (codes "limit") n → 1 ≤ n → n ≤ 100000 → ⊥) → HasNoCommand (codes "alone") options
+alone_none options none' (Alone setup limit trail keeping) is range = none' limit is.has.1 range.0.0 range.0.1
+alone_none options none' (Serve setup hosting) is range = words_differ 115 97 _ _ (λ e. omega arith) is.word_is
+alone_none options none' (Replay setup trail) is range = words_differ 114 97 _ _ (λ e. omega arith) is.word_is
+alone_none options none' (Recover setup trail) is range = words_differ 114 97 _ _ (λ e. omega arith) is.word_is
+
+pub serve_none : (options : ArgMatches) → ((hosting : Hosting) → HasHosting options hosting → IsHostingInRange hosting → ⊥) → HasNoCommand (codes "serve") options
+serve_none options none' (Alone setup limit trail keeping) is range = words_differ 97 115 _ _ (λ e. omega arith) is.word_is
+serve_none options none' (Serve setup hosting) is range = none' hosting is.has.1 range
+serve_none options none' (Replay setup trail) is range = words_differ 114 115 _ _ (λ e. omega arith) is.word_is
+serve_none options none' (Recover setup trail) is range = words_differ 114 115 _ _ (λ e. omega arith) is.word_is
+
+some_same : {T : Type 0} (a b : T) → Some a ≡ Some b → a ≡ b
+some_same a b e = cc
+
+-- with no word for how a trail is kept there is no command `alone`
+pub unkept_none : (options : ArgMatches) → ((keeping : TrailKeeping) → HasKeeping options keeping → ⊥) → HasNoCommand (codes "alone") options
+unkept_none options none' (Alone setup limit trail keeping) is range = none' keeping is.has.3
+unkept_none options none' (Serve setup hosting) is range = words_differ 115 97 _ _ (λ e. omega arith) is.word_is
+unkept_none options none' (Replay setup trail) is range = words_differ 114 97 _ _ (λ e. omega arith) is.word_is
+unkept_none options none' (Recover setup trail) is range = words_differ 114 97 _ _ (λ e. omega arith) is.word_is
+
+module _ {Z : Type 0} where
+  -- the subcommand's name is that of its rows
+  name_of_rows : (sub : Option (Box SubCommand Z))
+      → option_map (λ b. (out-SubCommand (box_value b)).name.now) sub ≡ option_map (λ (p : List ℕ × List Row). p.0) (subcommand_rows sub)
+  name_of_rows None = refl
+  name_of_rows (Some b) = refl
+
+-- where no command with the word has the options, the matches are of none
+pub entered_none : (found options : ArgMatches) (name word : List ℕ) → Some name ≡ subcommand_name_of found
+    → Some (rows_of (found_of options)) ≡ option_map (λ (p : List ℕ × List Row). p.1) (subcommand_rows_of found) → name ≡ word
+    → {T : Type 0} (o : Option T) → IfNone o (HasNoCommand word options) → IfNone o ((command : Command) → IsOf found command → IsInRange command → ⊥)
+entered_none found options name word named rows is o =
+    none_weaker o (HasNoCommand word options) ((command : Command) → IsOf found command → IsInRange command → ⊥) (λ none' command of range.
+    none' command (record {
+      word_is = sym (some_same name (word_of command)
+          (named ∙ name_of_rows (out-ArgMatches found).subcommand ∙ ap (option_map (λ (p : List ℕ × List Row). p.0)) of.1)) ∙ is;
+      has = options_same of.0 options
+          (sym (some_same (rows_of (found_of options)) (rows_of (found_of of.0)) (rows ∙ ap (option_map (λ (p : List ℕ × List Row). p.1)) of.1))) command of.2;
+    }) range)

@@ -1,0 +1,22 @@
+use Rattle.bl_words.proofs.CommandLine.{entered_none}
+use Rattle.bl_words.proofs.command.command_of.Goals as goal
+
+pub returns-in-alone-clause-none : goal.returns-in-alone-clause-none
+returns-in-alone-clause-none c =
+    entered_none c.args.found.now c.in_ok-name.options.now c.in_ok-name.name.now _ c.in_ok-name.ensures.name c.in_ok-name.ensures.rows c.in-alone.is
+    c.alone_of.result c.alone_of.ensures.none
+
+pub returns-in-serve-clause-none : goal.returns-in-serve-clause-none
+returns-in-serve-clause-none c =
+    entered_none c.args.found.now c.in_ok-name.options.now c.in_ok-name.name.now _ c.in_ok-name.ensures.name c.in_ok-name.ensures.rows c.in-serve.is
+    c.serve_of.result c.serve_of.ensures.none
+
+pub returns-in-replay-clause-none : goal.returns-in-replay-clause-none
+returns-in-replay-clause-none c =
+    entered_none c.args.found.now c.in_ok-name.options.now c.in_ok-name.name.now _ c.in_ok-name.ensures.name c.in_ok-name.ensures.rows c.in-replay.is
+    c.replay_of.result c.replay_of.ensures.none
+
+pub returns-in-recover-clause-none : goal.returns-in-recover-clause-none
+returns-in-recover-clause-none c =
+    entered_none c.args.found.now c.in_ok-name.options.now c.in_ok-name.name.now _ c.in_ok-name.ensures.name c.in_ok-name.ensures.rows c.in-recover.is
+    c.recover_of.result c.recover_of.ensures.none

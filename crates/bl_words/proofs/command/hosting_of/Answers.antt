@@ -1,0 +1,28 @@
+use Rattle.bl_words.specs.Words.{HasHosting, IsHostingInRange}
+use Rattle.bl_words.specs.declared.command.Hosting.{Hosting}
+use Rattle.bl_words.proofs.CommandLine.{at_none}
+use Rattle.bl_words.proofs.command.hosting_of.Goals as goal
+
+pub returns-in_err-limit-clause-none : goal.returns-in_err-limit-clause-none
+returns-in_err-limit-clause-none c =
+    at_none _ ((hosting : Hosting) → HasHosting c.args.options.now hosting → IsHostingInRange hosting → ⊥) (λ hosting has range. c.in_err-limit.ensures.none hosting.limit has.limit range.limit.0 range.limit.1)
+
+pub returns-in_err-port-clause-none : goal.returns-in_err-port-clause-none
+returns-in_err-port-clause-none c =
+    at_none _ ((hosting : Hosting) → HasHosting c.args.options.now hosting → IsHostingInRange hosting → ⊥) (λ hosting has range. c.in_err-port.ensures.none hosting.port has.port range.port.0 range.port.1)
+
+pub returns-in_err-workers-clause-none : goal.returns-in_err-workers-clause-none
+returns-in_err-workers-clause-none c =
+    at_none _ ((hosting : Hosting) → HasHosting c.args.options.now hosting → IsHostingInRange hosting → ⊥) (λ hosting has range. c.in_err-workers.ensures.none hosting.workers has.workers range.workers.0 range.workers.1)
+
+pub returns-in_err-session_threads-clause-none : goal.returns-in_err-session_threads-clause-none
+returns-in_err-session_threads-clause-none c =
+    at_none _ ((hosting : Hosting) → HasHosting c.args.options.now hosting → IsHostingInRange hosting → ⊥) (λ hosting has range. c.in_err-session_threads.ensures.none hosting.session_threads has.threads range.threads.0 range.threads.1)
+
+pub returns-in_err-sessions-clause-none : goal.returns-in_err-sessions-clause-none
+returns-in_err-sessions-clause-none c =
+    at_none _ ((hosting : Hosting) → HasHosting c.args.options.now hosting → IsHostingInRange hosting → ⊥) (λ hosting has range. c.in_err-sessions.ensures.none hosting.sessions has.sessions range.sessions.0 range.sessions.1)
+
+pub returns-in_err-keeping-clause-none : goal.returns-in_err-keeping-clause-none
+returns-in_err-keeping-clause-none c =
+    at_none _ ((hosting : Hosting) → HasHosting c.args.options.now hosting → IsHostingInRange hosting → ⊥) (λ hosting has range. c.in_err-keeping.ensures.none hosting.keeping has.keeping)

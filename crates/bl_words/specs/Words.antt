@@ -1,0 +1,148 @@
+-- What the words of a command line name.
+use Rattle.std.specs.Prelude.{◌≡◌, ◌≢◌, ◌≤◌, ◌↔◌, ℕ, Bool, true, false, List, Option, Some, None, codes}
+use Rattle.std.specs.Str.Parse.{IsNumeral, digits_value, without_leading_plus}
+use Rattle.clap.specs.Matches.{found_of, first_value, one_text}
+use Rattle.clap.specs.Faults.{fault_of}
+use Rattle.clap.specs.Kinds.{Kinds}
+use Rattle.clap.specs.Simple.{subcommand_of, subcommand_rows_of}
+use Rattle.clap.specs.Walk.{Row, rows_of}
+use Rattle.clap.specs.declared.parser.matches.ArgMatches.{ArgMatches}
+use Rattle.bl_keep.specs.declared.part.TrailFile.{TrailFile}
+use Rattle.bl_words.specs.CommandLine.{server_app}
+use Rattle.bl_words.specs.declared.command.Command.{Command}
+use Rattle.bl_words.specs.declared.command.Hosting.{Hosting}
+use Rattle.bl_words.specs.declared.command.TrailKeeping.{TrailKeeping}
+use Rattle.bl_words.specs.declared.command.TrailKeeping.TheVariants.{AtEnd, Written, Synced}
+use Rattle.bl_words.specs.declared.command.Command.TheVariants.{Alone, Serve, Replay, Recover}
+
+-- each number of what is hosted is in its range, and a run is resumed only with a trail that is written while it goes on
+pub record IsHostingInRange (hosting : Hosting) : Type 0 where
+  pub limit : (1 ≤ hosting.limit) × (hosting.limit ≤ 100000)
+  pub port : (1 ≤ hosting.port) × (hosting.port ≤ 65535)
+  pub workers : (1 ≤ hosting.workers) × (hosting.workers ≤ 16)
+  pub threads : (1 ≤ hosting.session_threads) × (hosting.session_threads ≤ 16)
+  pub sessions : (1 ≤ hosting.sessions) × (hosting.sessions ≤ 1000)
+  pub resumes : hosting.resumes ≡ true → hosting.keeping ≢ AtEnd
+
+-- each number is in its range, and only a trail that is kept is written while the run goes on
+abbrev pub IsInRange : Command → Type 0
+IsInRange (Alone setup limit trail keeping) = ((1 ≤ limit) × (limit ≤ 100000)) × (trail ≡ None → keeping ≡ AtEnd)
+IsInRange (Serve setup hosting) = IsHostingInRange hosting
+IsInRange (Replay setup trail) = Unit {0}
+IsInRange (Recover setup trail) = Unit {0}
+
+-- the text is a decimal numeral, before which a plus may stand, and this is the number that it writes
+abbrev pub Writes : List ℕ → ℕ → Type 0
+Writes text n = IsNumeral 10 (without_leading_plus text) × (n ≡ digits_value 10 (without_leading_plus text))
+
+-- the option of this name has a text, the user's or the default, and it writes this number
+abbrev pub HasNumber : ArgMatches → List ℕ → ℕ → Type 0
+HasNumber options name n = (text : List ℕ) × (one_text (found_of options) name ≡ Some text) × Writes text n
+
+-- the name of a command's setup file
+abbrev pub setup_of : Command → List ℕ
+setup_of (Alone setup limit trail keeping) = setup.now
+setup_of (Serve setup hosting) = setup.now
+setup_of (Replay setup trail) = setup.now
+setup_of (Recover setup trail) = setup.now
+
+-- the name of the trail file that a command reads
+abbrev pub read_trail_of : Command → Option (List ℕ)
+read_trail_of (Alone setup limit trail keeping) = None
+read_trail_of (Serve setup hosting) = None
+read_trail_of (Replay setup trail) = Some trail.now
+read_trail_of (Recover setup trail) = None
+
+-- the word for a command
+abbrev pub word_of : Command → List ℕ
+word_of (Alone setup limit trail keeping) = codes "alone"
+word_of (Serve setup hosting) = codes "serve"
+word_of (Replay setup trail) = codes "replay"
+word_of (Recover setup trail) = codes "recover"
+
+-- the flag of this name was given, or was not
+pub record HasFlag (options : ArgMatches) (name : List ℕ) (given : Bool) : Type 0 where
+  pub yes : one_text (found_of options) name ≡ Some (codes "true") → given ≡ true
+  pub no : one_text (found_of options) name ≡ Some (codes "false") → given ≡ false
+  pub none : one_text (found_of options) name ≡ None → given ≡ false
+
+-- the trail file has this name, and what the options say of it
+pub record HasTrailFile (options : ArgMatches) (name : List ℕ) (file : TrailFile) : Type 0 where
+  pub name_is : file.name.now ≡ name
+  pub replaces : HasFlag options (codes "replace") file.replaces
+  pub claims : HasFlag options (codes "claim-trail") file.claims
+
+-- the options name this trail file, or none
+abbrev pub HasTrail : ArgMatches → Option TrailFile → Type 0
+HasTrail options None = first_value (found_of options) (codes "trail") ≡ None
+HasTrail options (Some file) = (name : List ℕ) × (first_value (found_of options) (codes "trail") ≡ Some name) × HasTrailFile options name file
+
+-- own choice: the word for how a trail is kept
+abbrev pub keeping_word : TrailKeeping → List ℕ
+keeping_word AtEnd = codes "end"
+keeping_word Written = codes "written"
+keeping_word Synced = codes "synced"
+
+-- the options say that a trail is kept so
+abbrev pub HasKeeping : ArgMatches → TrailKeeping → Type 0
+HasKeeping options keeping = first_value (found_of options) (codes "keep") ≡ Some (keeping_word keeping)
+
+-- the options say whether the run goes on from one that was cut off
+abbrev pub HasResume : ArgMatches → Bool → Type 0
+HasResume options resumes = (resumes ≡ true) ↔ (first_value (found_of options) (codes "resume") ≡ Some (codes "true"))
+
+-- the options of `serve` say this of its sessions and its trail
+pub record HasHosting (options : ArgMatches) (hosting : Hosting) : Type 0 where
+  pub limit : HasNumber options (codes "limit") hosting.limit
+  pub port : HasNumber options (codes "port") hosting.port
+  pub trail : HasTrail options (Some hosting.trail)
+  pub workers : HasNumber options (codes "workers") hosting.workers
+  pub threads : HasNumber options (codes "session-threads") hosting.session_threads
+  pub sessions : HasNumber options (codes "sessions") hosting.sessions
+  pub keeping : HasKeeping options hosting.keeping
+  pub resumes : HasResume options hosting.resumes
+
+-- the options of a command are these
+abbrev pub HasOptions : ArgMatches → Command → Type 0
+HasOptions options (Alone setup limit trail keeping) =
+    (first_value (found_of options) (codes "setup") ≡ Some setup.now) × HasNumber options (codes "limit") limit × HasTrail options trail × HasKeeping options keeping
+HasOptions options (Serve setup hosting) =
+    (first_value (found_of options) (codes "setup") ≡ Some setup.now) × HasHosting options hosting
+HasOptions options (Replay setup trail) =
+    (first_value (found_of options) (codes "setup") ≡ Some setup.now) × (first_value (found_of options) (codes "trail") ≡ Some trail.now)
+HasOptions options (Recover setup trail) =
+    (first_value (found_of options) (codes "setup") ≡ Some setup.now) × (first_value (found_of options) (codes "trail") ≡ Some trail.now)
+
+-- the command has this word and these options
+pub record IsOfOptions (word : List ℕ) (options : ArgMatches) (command : Command) : Type 0 where
+  pub word_is : word_of command ≡ word
+  pub has : HasOptions options command
+
+-- no command with this word has these options, and its numbers in their ranges
+abbrev pub HasNoCommand : List ℕ → ArgMatches → Type 0
+HasNoCommand word options = (command : Command) → IsOfOptions word options command → IsInRange command → ⊥
+
+-- a subcommand's word and what was found of its options are those of the command
+abbrev pub IsEntered : Option (List ℕ × List Row) → Command → Type 0
+IsEntered entered command = (options : ArgMatches)
+    × (entered ≡ Some (word_of command, rows_of (found_of options))) × HasOptions options command
+
+-- the matches of a command line are of the command
+abbrev pub IsOf : ArgMatches → Command → Type 0
+IsOf found command = IsEntered (subcommand_rows_of found) command
+
+-- the subcommand that the program's command line has in these words, of which the first is the program's name
+unfoldable pub entered_by : List (List ℕ) → Option (List ℕ × List Row)
+entered_by words = subcommand_of server_app words
+
+-- the words name the command
+abbrev pub Name : List (List ℕ) → Command → Type 0
+Name words command = IsEntered (entered_by words) command
+
+-- the words name no command whose numbers are in their ranges
+abbrev pub NameNone : List (List ℕ) → Type 0
+NameNone words = (command : Command) → Name words command → IsInRange command → ⊥
+
+-- the kinds of error that the program's command line may give at these words; none where they name a command
+unfoldable pub faults_of : List (List ℕ) → Kinds
+faults_of words = fault_of server_app words

@@ -1,0 +1,588 @@
+//! The command line.
+ghost use Rattle.std.specs.Prelude.{◌≡◌, ◌≤◌, ◌⊎◌, ℕ, [], ◌∷◌, false, codes, map, option_copied, string_bytes, IfErr, IfNone, IfOk, IfSome, OnOk};
+ghost use Rattle.clap.specs.Kinds.{HasKind};
+ghost use Rattle.clap.specs.Words.{kind_of, rule_of, app_of};
+ghost use Rattle.clap.specs.declared.builder.command.Command.TheViews.{out-Command as fields_of};
+ghost use Rattle.bl_words.specs.CommandLine.{setup_rule, limit_rule, trail_rule, kept_trail_rule, replace_rule, claim_rule, keep_rule, resume_rule, port_rule, workers_rule, threads_rule, sessions_rule, session_app, named_app, alone_app, places_app, crews_app, counts_app, files_app, serve_app, replay_app, recover_app, root_app, server_app};
+ghost use Rattle.bl_run.specs.Status.{IsStatus};
+ghost use Rattle.bl_words.specs.Status.{status_for};
+ghost use Rattle.bl_words.specs.Words.{HasHosting, HasKeeping, HasNoCommand, HasNumber, HasResume, HasTrail, HasTrailFile, IsHostingInRange, IsInRange, IsOf, IsOfOptions, Name, NameNone, faults_of, setup_of, read_trail_of};
+ghost use Rattle.bl_words.specs.declared.command.Command.{Command as AnyCommand};
+ghost use Rattle.bl_words.specs.declared.command.Hosting.{Hosting as AnyHosting};
+ghost use Rattle.bl_words.specs.declared.command.TrailKeeping.{TrailKeeping as AnyKeeping};
+
+use bl_keep::part::TrailFile;
+use clap::error::ErrorKind;
+use clap::{Arg, ArgAction, ArgMatches, Command as Parser, Error, value_parser};
+use std::alloc::{AllocError, Global};
+
+/// When the lines of a trail are written, and what they outlive then.
+#[derive(Clone, Copy, Debug, PartialEq, Eq)]
+pub enum TrailKeeping {
+    /// At the end of the run.
+    AtEnd,
+    /// Before a reply shows them; they outlive the end of the program.
+    Written,
+    /// The same, and they are on the disk by then; they outlive the end of the machine.
+    Synced,
+}
+
+/// What a run of `serve` hosts, and where it keeps the trail.
+#[derive(Clone, Copy, Debug)]
+pub struct Hosting<'a> {
+    /// The weight of the lines that are admitted at most, 1 to 100,000.
+    pub limit: u32,
+    /// The port that is listened on, 1 to 65,535.
+    pub port: u32,
+    /// Where the trail is kept.
+    pub trail: TrailFile<'a>,
+    /// How it is kept.
+    pub keeping: TrailKeeping,
+    /// Whether the run goes on from the trail of one that was cut off; never where the trail is written at the end.
+    pub resumes: bool,
+    /// How many workers there are, 1 to 16.
+    pub workers: u32,
+    /// How many session threads there are, 1 to 16.
+    pub session_threads: u32,
+    /// How many sessions are taken, 1 to 1,000.
+    pub sessions: u32,
+}
+
+/// A command of the program, with its options.
+#[derive(Debug, Drop)]
+pub enum Command<'a> {
+    /// One session on standard input and output.
+    Alone {
+        /// The name of the setup file.
+        setup: &'a str,
+        /// The weight of the lines that are admitted at most, 1 to 100,000.
+        limit: u32,
+        /// Where the trail is kept; `None` where it is not.
+        trail: Option<TrailFile<'a>>,
+        /// How it is kept; where it is not, at the end.
+        keeping: TrailKeeping,
+    },
+    /// Sessions over TCP on 127.0.0.1.
+    Serve {
+        /// The name of the setup file.
+        setup: &'a str,
+        /// What is hosted.
+        hosting: Hosting<'a>,
+    },
+    /// A replay of the trail of a run, over the setup that the run began with.
+    Replay {
+        /// The name of the setup file.
+        setup: &'a str,
+        /// The name of the trail file.
+        trail: &'a str,
+    },
+    /// A recovery of the trail of a run that was cut off, over the setup that the run began with.
+    Recover {
+        /// The name of the setup file.
+        setup: &'a str,
+        /// The name that the trail file is to have.
+        trail: &'a str,
+    },
+}
+
+/// The weight of the lines that may be admitted in one run, at most.
+const MOST_LIMIT: u32 = 100_000;
+
+/// The greatest port.
+const MOST_PORT: u32 = 65_535;
+
+/// How many threads of one kind there are at most.
+const MOST_THREADS: u32 = 16;
+
+/// How many sessions are taken in one run at most.
+const MOST_SESSIONS: u32 = 1000;
+
+/// What help says behind the options.
+const MORE: &str = "Exit status:\n  \
+    0  done; lines that are refused or denied do not change it\n  \
+    1  the trail was rejected\n  \
+    2  bad arguments\n  \
+    3  a fault of a file, of the port, or of the input or output\n  \
+    4  out of memory, or a thread could not be started\n\n\
+    `alone` reads its session from standard input and writes its replies to standard output.\n\
+    The repository's docs/FORMATS.md describes the lines of a session, the setup file and the trail.";
+
+fn setup_option<'a>(alloc: Global) -> Arg<'a>
+    ensures rule { rule_of result ≡ setup_rule }
+    ensures own { result.global ≡ false }
+{
+    Arg::new(alloc, "setup")
+        .long("setup")
+        .required(true)
+        .action(ArgAction::Set)
+        .value_name("FILE")
+        .help("The setup file")
+}
+
+fn limit_option<'a>(alloc: Global) -> Arg<'a>
+    ensures rule { rule_of result ≡ limit_rule }
+    ensures own { result.global ≡ false }
+{
+    Arg::new(alloc, "limit")
+        .long("limit")
+        .action(ArgAction::Set)
+        .value_parser(value_parser!(u32).range(1..=100_000))
+        .default_value("10000")
+        .value_name("N")
+        .help("The weight of the lines that are admitted, 1 to 100000")
+}
+
+fn trail_option<'a>(alloc: Global) -> Arg<'a>
+    ensures rule { rule_of result ≡ trail_rule }
+    ensures own { result.global ≡ false }
+{
+    Arg::new(alloc, "trail")
+        .long("trail")
+        .required(true)
+        .action(ArgAction::Set)
+        .value_name("FILE")
+        .help("The trail file")
+}
+
+/// `--trail` of a command that keeps a trail where it is asked to.
+fn kept_trail_option<'a>(alloc: Global) -> Arg<'a>
+    ensures rule { rule_of result ≡ kept_trail_rule }
+    ensures own { result.global ≡ false }
+{
+    Arg::new(alloc, "trail")
+        .long("trail")
+        .action(ArgAction::Set)
+        .value_name("FILE")
+        .help("The trail file; without it no trail is kept")
+}
+
+fn replace_option<'a>(alloc: Global) -> Arg<'a>
+    ensures rule { rule_of result ≡ replace_rule }
+    ensures own { result.global ≡ false }
+{
+    Arg::new(alloc, "replace")
+        .long("replace")
+        .action(ArgAction::SetTrue)
+        .help("Lets an old trail of that name be replaced")
+}
+
+fn claim_option<'a>(alloc: Global) -> Arg<'a>
+    ensures rule { rule_of result ≡ claim_rule }
+    ensures own { result.global ≡ false }
+{
+    Arg::new(alloc, "claim-trail")
+        .long("claim-trail")
+        .action(ArgAction::SetTrue)
+        .help("Makes the trail file first, and ends at once where that fails")
+}
+
+fn keep_option<'a>(alloc: Global) -> Arg<'a>
+    ensures rule { rule_of result ≡ keep_rule }
+    ensures own { result.global ≡ false }
+{
+    Arg::new(alloc, "keep")
+        .long("keep")
+        .action(ArgAction::Set)
+        .default_value("end")
+        .value_name("HOW")
+        .help("When the trail is written: end, written or synced")
+}
+
+fn resume_option<'a>(alloc: Global) -> Arg<'a>
+    ensures rule { rule_of result ≡ resume_rule }
+    ensures own { result.global ≡ false }
+{
+    Arg::new(alloc, "resume")
+        .long("resume")
+        .action(ArgAction::SetTrue)
+        .help("Goes on from a run that was cut off, with its limit")
+}
+
+fn port_option<'a>(alloc: Global) -> Arg<'a>
+    ensures rule { rule_of result ≡ port_rule }
+    ensures own { result.global ≡ false }
+{
+    Arg::new(alloc, "port")
+        .long("port")
+        .required(true)
+        .action(ArgAction::Set)
+        .value_parser(value_parser!(u32).range(1..=65_535))
+        .value_name("N")
+        .help("The port that is listened on, 1 to 65535")
+}
+
+fn workers_option<'a>(alloc: Global) -> Arg<'a>
+    ensures rule { rule_of result ≡ workers_rule }
+    ensures own { result.global ≡ false }
+{
+    Arg::new(alloc, "workers")
+        .long("workers")
+        .action(ArgAction::Set)
+        .value_parser(value_parser!(u32).range(1..=16))
+        .default_value("2")
+        .value_name("N")
+        .help("How many workers there are, 1 to 16")
+}
+
+fn threads_option<'a>(alloc: Global) -> Arg<'a>
+    ensures rule { rule_of result ≡ threads_rule }
+    ensures own { result.global ≡ false }
+{
+    Arg::new(alloc, "session-threads")
+        .long("session-threads")
+        .action(ArgAction::Set)
+        .value_parser(value_parser!(u32).range(1..=16))
+        .default_value("2")
+        .value_name("N")
+        .help("How many threads serve sessions, 1 to 16")
+}
+
+fn sessions_option<'a>(alloc: Global) -> Arg<'a>
+    ensures rule { rule_of result ≡ sessions_rule }
+    ensures own { result.global ≡ false }
+{
+    Arg::new(alloc, "sessions")
+        .long("sessions")
+        .action(ArgAction::Set)
+        .value_parser(value_parser!(u32).range(1..=1000))
+        .default_value("1")
+        .value_name("N")
+        .help("How many sessions are taken, 1 to 1000")
+}
+
+/// The command `alone`, with what it has to be given and its limit.
+fn session_parser<'a>(alloc: Global) -> Result<Parser<'a>, AllocError>
+    ensures app { IfOk result (λ parser. app_of parser ≡ session_app) }
+    ensures own { IfOk result (λ parser. (fields_of parser).has_globals ≡ false) }
+{
+    Parser::new(alloc, "alone")
+        .about("One session on standard input and output")
+        .after_help(MORE)
+        .arg(setup_option(alloc))?
+        .arg(limit_option(alloc))
+}
+
+/// The same, and it may have a trail.
+fn named_parser<'a>(alloc: Global) -> Result<Parser<'a>, AllocError>
+    ensures app { IfOk result (λ parser. app_of parser ≡ named_app) }
+    ensures own { IfOk result (λ parser. (fields_of parser).has_globals ≡ false) }
+{
+    session_parser(alloc)?
+        .arg(kept_trail_option(alloc))?
+        .arg(replace_option(alloc))
+}
+
+fn alone_parser<'a>(alloc: Global) -> Result<Parser<'a>, AllocError>
+    ensures app { IfOk result (λ parser. app_of parser ≡ alone_app) }
+    ensures own { IfOk result (λ parser. (fields_of parser).has_globals ≡ false) }
+{
+    named_parser(alloc)?
+        .arg(claim_option(alloc))?
+        .arg(keep_option(alloc))
+}
+
+/// The command `serve`, with what it has to be given.
+fn places_parser<'a>(alloc: Global) -> Result<Parser<'a>, AllocError>
+    ensures app { IfOk result (λ parser. app_of parser ≡ places_app) }
+    ensures own { IfOk result (λ parser. (fields_of parser).has_globals ≡ false) }
+{
+    Parser::new(alloc, "serve")
+        .about("Sessions over TCP on 127.0.0.1")
+        .after_help(MORE)
+        .arg(setup_option(alloc))?
+        .arg(port_option(alloc))?
+        .arg(trail_option(alloc))
+}
+
+/// The same, with the numbers of its threads.
+fn crews_parser<'a>(alloc: Global) -> Result<Parser<'a>, AllocError>
+    ensures app { IfOk result (λ parser. app_of parser ≡ crews_app) }
+    ensures own { IfOk result (λ parser. (fields_of parser).has_globals ≡ false) }
+{
+    places_parser(alloc)?
+        .arg(workers_option(alloc))?
+        .arg(threads_option(alloc))
+}
+
+/// The same, with the numbers of its sessions and of their weight.
+fn counts_parser<'a>(alloc: Global) -> Result<Parser<'a>, AllocError>
+    ensures app { IfOk result (λ parser. app_of parser ≡ counts_app) }
+    ensures own { IfOk result (λ parser. (fields_of parser).has_globals ≡ false) }
+{
+    crews_parser(alloc)?
+        .arg(sessions_option(alloc))?
+        .arg(limit_option(alloc))
+}
+
+/// The same, with what is said of the trail's file.
+fn files_parser<'a>(alloc: Global) -> Result<Parser<'a>, AllocError>
+    ensures app { IfOk result (λ parser. app_of parser ≡ files_app) }
+    ensures own { IfOk result (λ parser. (fields_of parser).has_globals ≡ false) }
+{
+    counts_parser(alloc)?
+        .arg(replace_option(alloc))?
+        .arg(claim_option(alloc))
+}
+
+fn serve_parser<'a>(alloc: Global) -> Result<Parser<'a>, AllocError>
+    ensures app { IfOk result (λ parser. app_of parser ≡ serve_app) }
+    ensures own { IfOk result (λ parser. (fields_of parser).has_globals ≡ false) }
+{
+    files_parser(alloc)?
+        .arg(keep_option(alloc))?
+        .arg(resume_option(alloc))
+}
+
+fn replay_parser<'a>(alloc: Global) -> Result<Parser<'a>, AllocError>
+    ensures app { IfOk result (λ parser. app_of parser ≡ replay_app) }
+    ensures own { IfOk result (λ parser. (fields_of parser).has_globals ≡ false) }
+{
+    Parser::new(alloc, "replay")
+        .about("The verdict on a trail")
+        .after_help(MORE)
+        .arg(setup_option(alloc))?
+        .arg(trail_option(alloc))
+}
+
+fn recover_parser<'a>(alloc: Global) -> Result<Parser<'a>, AllocError>
+    ensures app { IfOk result (λ parser. app_of parser ≡ recover_app) }
+    ensures own { IfOk result (λ parser. (fields_of parser).has_globals ≡ false) }
+{
+    Parser::new(alloc, "recover")
+        .about("Closes the trail of a run that was cut off")
+        .after_help(MORE)
+        .arg(setup_option(alloc))?
+        .arg(trail_option(alloc))
+}
+
+/// The program, with its first command.
+fn root_parser<'a>(alloc: Global) -> Result<Parser<'a>, AllocError>
+    ensures { IfOk result (λ parser. app_of parser ≡ root_app) }
+{
+    Parser::new(alloc, "bl_server")
+        .version("0.1.0")
+        .about("A document server that enforces Bell and La Padula")
+        .after_help(MORE)
+        .subcommand_required(true)
+        .subcommand(alone_parser(alloc)?)
+}
+
+fn parser<'a>(alloc: Global) -> Result<Parser<'a>, AllocError>
+    ensures { IfOk result (λ parser. app_of parser ≡ server_app) }
+{
+    root_parser(alloc)?
+        .subcommand(serve_parser(alloc)?)?
+        .subcommand(replay_parser(alloc)?)?
+        .subcommand(recover_parser(alloc)?)
+}
+
+/// The number of an option, where it is 1 to `most`.
+fn number(found: &ArgMatches<'_>, name: &str, most: u32) -> Option<u32>
+    ensures range { IfSome result (λ n. (1 ≤ n) × (n ≤ most)) }
+    ensures written { IfSome result (HasNumber found.now name.now) }
+    ensures none { IfNone result ((n : ℕ) → HasNumber found.now name.now n → 1 ≤ n → n ≤ most → ⊥) }
+{
+    let number = found.get_one::<u32>(name)?;
+    if number < 1 || number > most {
+        return None;
+    }
+    Some(number)
+}
+
+/// The file of this name, with what the options say of it.
+fn trail_file<'a>(options: &ArgMatches<'_>, name: &'a str) -> TrailFile<'a>
+    ensures { HasTrailFile options.now name.entry.now result }
+{
+    TrailFile {
+        name,
+        replaces: options.get_flag("replace"),
+        claims: options.get_flag("claim-trail"),
+    }
+}
+
+/// The trail file that the options name; `None` where they name none.
+fn trail_of<'a>(options: &ArgMatches<'a>) -> Option<TrailFile<'a>>
+    ensures { HasTrail options.now result }
+{
+    match options.get_str("trail") {
+        Some(name) => Some(trail_file(options, name)),
+        None => None,
+    }
+}
+
+/// How the options say that a trail is kept; `None` where they say it by no word for that.
+fn keeping_of(options: &ArgMatches<'_>) -> Option<TrailKeeping>
+    ensures written { IfSome result (HasKeeping options.now) }
+    ensures none { IfNone result ((keeping : AnyKeeping) → HasKeeping options.now keeping → ⊥) }
+{
+    match options.get_str("keep")? {
+        "end" => Some(TrailKeeping::AtEnd),
+        "written" => Some(TrailKeeping::Written),
+        "synced" => Some(TrailKeeping::Synced),
+        _ => None,
+    }
+}
+
+/// Whether the options say that the run goes on from one that was cut off.
+fn resumes(options: &ArgMatches<'_>) -> bool
+    ensures { HasResume options.now result }
+{
+    options.get_str("resume") == Some("true")
+}
+
+/// What the options of `serve` say of its sessions and its trail.
+fn hosting_of<'a>(options: &ArgMatches<'a>) -> Option<Hosting<'a>>
+    ensures range { IfSome result IsHostingInRange }
+    ensures written { IfSome result (HasHosting options.now) }
+    ensures none { IfNone result ((hosting : AnyHosting) → HasHosting options.now hosting → IsHostingInRange hosting → ⊥) }
+{
+    let limit = number(options, "limit", MOST_LIMIT)?;
+    let port = number(options, "port", MOST_PORT)?;
+    let trail = trail_of(options)?;
+    let workers = number(options, "workers", MOST_THREADS)?;
+    let session_threads = number(options, "session-threads", MOST_THREADS)?;
+    let sessions = number(options, "sessions", MOST_SESSIONS)?;
+    let keeping = keeping_of(options)?;
+    let resumes = resumes(options);
+    if resumes && keeping == TrailKeeping::AtEnd {
+        return None;
+    }
+    Some(Hosting {
+        limit,
+        port,
+        trail,
+        keeping,
+        resumes,
+        workers,
+        session_threads,
+        sessions,
+    })
+}
+
+/// The command `alone` with these options.
+fn alone_of<'a>(options: &ArgMatches<'a>) -> Option<Command<'a>>
+    ensures range { IfSome result IsInRange }
+    ensures written { IfSome result (IsOfOptions (codes "alone") options.now) }
+    ensures none { IfNone result (HasNoCommand (codes "alone") options.now) }
+{
+    let setup = options.get_str("setup")?;
+    let limit = number(options, "limit", MOST_LIMIT)?;
+    let trail = trail_of(options);
+    let keeping = keeping_of(options)?;
+    if trail.is_none() && keeping != TrailKeeping::AtEnd {
+        return None;
+    }
+    Some(Command::Alone {
+        setup,
+        limit,
+        trail,
+        keeping,
+    })
+}
+
+/// The command `serve` with these options.
+fn serve_of<'a>(options: &ArgMatches<'a>) -> Option<Command<'a>>
+    ensures range { IfSome result IsInRange }
+    ensures written { IfSome result (IsOfOptions (codes "serve") options.now) }
+    ensures none { IfNone result (HasNoCommand (codes "serve") options.now) }
+{
+    let setup = options.get_str("setup")?;
+    let hosting = hosting_of(options)?;
+    Some(Command::Serve { setup, hosting })
+}
+
+/// The command `replay` with these options.
+fn replay_of<'a>(options: &ArgMatches<'a>) -> Option<Command<'a>>
+    ensures range { IfSome result IsInRange }
+    ensures written { IfSome result (IsOfOptions (codes "replay") options.now) }
+    ensures none { IfNone result (HasNoCommand (codes "replay") options.now) }
+{
+    let setup = options.get_str("setup")?;
+    let trail = options.get_str("trail")?;
+    Some(Command::Replay { setup, trail })
+}
+
+/// The command `recover` with these options.
+fn recover_of<'a>(options: &ArgMatches<'a>) -> Option<Command<'a>>
+    ensures range { IfSome result IsInRange }
+    ensures written { IfSome result (IsOfOptions (codes "recover") options.now) }
+    ensures none { IfNone result (HasNoCommand (codes "recover") options.now) }
+{
+    let setup = options.get_str("setup")?;
+    let trail = options.get_str("trail")?;
+    Some(Command::Recover { setup, trail })
+}
+
+/// The command that the matches name, where they are matches of `parser`.
+fn command_of<'a>(found: &ArgMatches<'a>) -> Option<Command<'a>>
+    ensures range { IfSome result IsInRange }
+    ensures written { IfSome result (IsOf found.now) }
+    ensures none { IfNone result ((command : AnyCommand) → IsOf found.now command → IsInRange command → ⊥) }
+{
+    let (name, options) = found.subcommand()?;
+    match name {
+        "alone" => alone_of(options),
+        "serve" => serve_of(options),
+        "replay" => replay_of(options),
+        "recover" => recover_of(options),
+        _ => None,
+    }
+}
+
+impl<'a> Command<'a> {
+    /// The name of the command's setup file.
+    pub fn setup(&self) -> &'a str
+        ensures { result.now ≡ setup_of self.now }
+    {
+        match self {
+            Command::Alone { setup, .. }
+            | Command::Serve { setup, .. }
+            | Command::Replay { setup, .. }
+            | Command::Recover { setup, .. } => setup,
+        }
+    }
+
+    /// The name of the trail file that the command reads; `None` for a command that reads none.
+    pub fn read_trail(&self) -> Option<&'a str>
+        ensures { option_copied result ≡ read_trail_of self.now }
+    {
+        match self {
+            Command::Alone { .. } | Command::Serve { .. } | Command::Recover { .. } => None,
+            Command::Replay { trail, .. } => Some(trail),
+        }
+    }
+}
+
+/// Reads the words of a command line, of which the first is the program's name. The error's text
+/// is for whoever gave the words, and `status_of` is the status that the run then ends with; a call
+/// for help or for the version is an error too, and only such words as ask for them give one.
+pub fn read_words<'a>(alloc: Global, words: &'a [String]) -> Result<Command<'a>, Error>
+    ensures range { IfOk result IsInRange }
+    ensures written { IfOk result (Name (map (λ word. string_bytes word) words.entry.now)) }
+    ensures faultless { OnOk result (faults_of (map (λ word. string_bytes word) words.entry.now) ≡ []) }
+    // Words that were parsed and not read name no command with its numbers in their ranges.
+    ensures faults { IfErr result (λ error. HasKind (faults_of (map (λ word. string_bytes word) words.entry.now)) error
+        ⊎ ((kind_of error ≡ ErrorKind.InvalidValue) × NameNone (map (λ word. string_bytes word) words.entry.now))) }
+{
+    let matches = parser(alloc)?.try_get_matches_from(words)?;
+    match command_of(&matches) {
+        Some(command) => Ok(command),
+        None => Err(parser(alloc)?.error(
+            ErrorKind::InvalidValue,
+            "no such command: --keep takes end, written or synced, and goes with --trail; --resume goes with the last two",
+        )?),
+    }
+}
+
+/// The status of a run that ends with this error: 4 when out of memory, 0 for a call for help or for
+/// the version, and 2 for anything else.
+pub fn status_of(error: &Error) -> u8
+    ensures status { result ≡ status_for (kind_of error.now) }
+    ensures range { IsStatus result }
+{
+    match error.kind() {
+        ErrorKind::OutOfMemory => 4,
+        ErrorKind::DisplayHelp | ErrorKind::DisplayVersion => 0,
+        _ => 2,
+    }
+}
