@@ -129,6 +129,7 @@ where
             workers: hosting.workers,
             session_threads: hosting.session_threads,
             sessions: hosting.sessions,
+            clients: hosting.clients,
         },
     };
     let start = Start {

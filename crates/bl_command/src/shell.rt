@@ -100,11 +100,13 @@ fn options_of(hosting: &Hosting<'_>) -> Options
     ensures workers { result.workers ≡ hosting.now.workers }
     ensures threads { result.session_threads ≡ hosting.now.session_threads }
     ensures sessions { result.sessions ≡ hosting.now.sessions }
+    ensures clients { result.clients ≡ hosting.now.clients }
 {
     Options {
         workers: hosting.workers,
         session_threads: hosting.session_threads,
         sessions: hosting.sessions,
+        clients: hosting.clients,
     }
 }
 
@@ -115,6 +117,7 @@ fn run_of<'a>(hosting: &Hosting<'a>) -> ServeRun<'a>
     ensures workers { result.options.workers ≡ hosting.now.workers }
     ensures threads { result.options.session_threads ≡ hosting.now.session_threads }
     ensures sessions { result.options.sessions ≡ hosting.now.sessions }
+    ensures clients { result.options.clients ≡ hosting.now.clients }
     ensures trail { result.trail ≡ hosting.now.trail }
 {
     ServeRun {

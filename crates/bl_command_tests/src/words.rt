@@ -56,6 +56,7 @@ fn is_same(one: &Hosting<'_>, other: &Hosting<'_>) -> bool {
         && one.workers == other.workers
         && one.session_threads == other.session_threads
         && one.sessions == other.sessions
+        && one.clients == other.clients
         && one.trail.name == other.trail.name
         && one.trail.replaces == other.trail.replaces
         && one.trail.claims == other.trail.claims
@@ -77,6 +78,7 @@ const PLAIN: Hosting<'static> = Hosting {
     workers: 2,
     session_threads: 2,
     sessions: 1,
+    clients: 1000,
 };
 
 #[test]
@@ -84,7 +86,7 @@ fn reads_serve(rt: HostRuntime) -> Result<(), Fail> {
     let least = "bl_server serve --setup base.txt --port 7654 --trail run.trail";
     assert!(rt; name_serve(rt.alloc(), least, &PLAIN)?);
     let all =
-        "bl_server serve --sessions 1000 --claim-trail --limit 7 --session-threads 3 --trail other.trail \
+        "bl_server serve --sessions 1000 --clients 200 --claim-trail --limit 7 --session-threads 3 --trail other.trail \
         --keep synced --workers 16 --replace --resume --port 65535 --setup base.txt";
     let wanted = Hosting {
         limit: 7,
@@ -99,6 +101,7 @@ fn reads_serve(rt: HostRuntime) -> Result<(), Fail> {
         workers: 16,
         session_threads: 3,
         sessions: 1000,
+        clients: 200,
     };
     assert!(rt; name_serve(rt.alloc(), all, &wanted)?);
     Ok(())
@@ -118,6 +121,12 @@ fn reads_numbers_in_their_ranges(rt: HostRuntime) -> Result<(), Fail> {
         ),
         (
             "--trail run.trail --port 7654 --sessions",
+            "1",
+            "1000",
+            "1001",
+        ),
+        (
+            "--trail run.trail --port 7654 --clients",
             "1",
             "1000",
             "1001",

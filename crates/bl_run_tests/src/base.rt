@@ -93,6 +93,7 @@ pub(crate) fn two_of_each(sessions: u32, trail: &str) -> ServeRun<'_> {
             workers: 2,
             session_threads: 2,
             sessions,
+            clients: 1000,
         },
         trail: TrailFile {
             name: trail,

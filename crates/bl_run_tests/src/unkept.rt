@@ -81,6 +81,7 @@ fn host_three<
         workers: 1,
         session_threads: 2,
         sessions: 3,
+        clients: 1000,
     };
     let hosted = host(&site, listener, pass, options);
     Left {

@@ -107,6 +107,7 @@ module _ (a b : ArgMatches) (same : rows_of (found_of a) ≡ rows_of (found_of b
       workers = number_same (codes "workers") hosting.workers has.1.workers;
       threads = number_same (codes "session-threads") hosting.session_threads has.1.threads;
       sessions = number_same (codes "sessions") hosting.sessions has.1.sessions;
+      clients = number_same (codes "clients") hosting.clients has.1.clients;
       keeping = first_same (codes "keep") ∙ has.1.keeping;
       resumes = resume_same hosting.resumes has.1.resumes;
     },

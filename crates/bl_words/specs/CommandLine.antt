@@ -109,6 +109,16 @@ sessions_rule = record (new_rule (codes "sessions")) {
   defaults = codes "1" ∷ [];
 }
 
+-- own choice: `--clients` takes a number from 1 to 1,000, and without it the number is 1,000
+abbrev pub clients_rule : Rule
+clients_rule = record (new_rule (codes "clients")) {
+  long = Some (codes "clients");
+  action = Some Set;
+  value_names = 1;
+  parser = Some (Signed (pos 1) (pos 1000));
+  defaults = codes "1000" ∷ [];
+}
+
 -- the command `serve` has a setup, a port and a trail
 abbrev pub places_app : App
 places_app = with_rule (with_rule (with_rule (new_app (codes "serve")) setup_rule) port_rule) trail_rule
@@ -121,9 +131,13 @@ crews_app = with_rule (with_rule places_app workers_rule) threads_rule
 abbrev pub counts_app : App
 counts_app = with_rule (with_rule crews_app sessions_rule) limit_rule
 
+-- and the number of clients at once
+abbrev pub clients_app : App
+clients_app = with_rule counts_app clients_rule
+
 -- and what is said of its trail
 abbrev pub files_app : App
-files_app = with_rule (with_rule counts_app replace_rule) claim_rule
+files_app = with_rule (with_rule clients_app replace_rule) claim_rule
 
 abbrev pub serve_app : App
 serve_app = with_rule (with_rule files_app keep_rule) resume_rule

@@ -22,6 +22,7 @@ pub record IsHostingInRange (hosting : Hosting) : Type 0 where
   pub workers : (1 ≤ hosting.workers) × (hosting.workers ≤ 16)
   pub threads : (1 ≤ hosting.session_threads) × (hosting.session_threads ≤ 16)
   pub sessions : (1 ≤ hosting.sessions) × (hosting.sessions ≤ 1000)
+  pub clients : (1 ≤ hosting.clients) × (hosting.clients ≤ 1000)
   pub resumes : hosting.resumes ≡ true → hosting.keeping ≢ AtEnd
 
 -- each number is in its range, and only a trail that is kept is written while the run goes on
@@ -99,6 +100,7 @@ pub record HasHosting (options : ArgMatches) (hosting : Hosting) : Type 0 where
   pub workers : HasNumber options (codes "workers") hosting.workers
   pub threads : HasNumber options (codes "session-threads") hosting.session_threads
   pub sessions : HasNumber options (codes "sessions") hosting.sessions
+  pub clients : HasNumber options (codes "clients") hosting.clients
   pub keeping : HasKeeping options hosting.keeping
   pub resumes : HasResume options hosting.resumes
 

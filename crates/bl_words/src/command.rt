@@ -3,7 +3,7 @@ ghost use Rattle.std.specs.Prelude.{◌≡◌, ◌≤◌, ◌⊎◌, ℕ, [], �
 ghost use Rattle.clap.specs.Kinds.{HasKind};
 ghost use Rattle.clap.specs.Words.{kind_of, rule_of, app_of};
 ghost use Rattle.clap.specs.declared.builder.command.Command.TheViews.{out-Command as fields_of};
-ghost use Rattle.bl_words.specs.CommandLine.{setup_rule, limit_rule, trail_rule, kept_trail_rule, replace_rule, claim_rule, keep_rule, resume_rule, port_rule, workers_rule, threads_rule, sessions_rule, session_app, named_app, alone_app, places_app, crews_app, counts_app, files_app, serve_app, replay_app, recover_app, root_app, server_app};
+ghost use Rattle.bl_words.specs.CommandLine.{setup_rule, limit_rule, trail_rule, kept_trail_rule, replace_rule, claim_rule, keep_rule, resume_rule, port_rule, workers_rule, threads_rule, sessions_rule, clients_rule, session_app, named_app, alone_app, places_app, crews_app, counts_app, clients_app, files_app, serve_app, replay_app, recover_app, root_app, server_app};
 ghost use Rattle.bl_run.specs.Status.{IsStatus};
 ghost use Rattle.bl_words.specs.Status.{status_for};
 ghost use Rattle.bl_words.specs.Words.{HasHosting, HasKeeping, HasNoCommand, HasNumber, HasResume, HasTrail, HasTrailFile, IsHostingInRange, IsInRange, IsOf, IsOfOptions, Name, NameNone, faults_of, setup_of, read_trail_of};
@@ -46,6 +46,8 @@ pub struct Hosting<'a> {
     pub session_threads: u32,
     /// How many sessions are taken, 1 to 1,000.
     pub sessions: u32,
+    /// How many connections are open at once at most, 1 to 1,000.
+    pub clients: u32,
 }
 
 /// A command of the program, with its options.
@@ -96,6 +98,9 @@ const MOST_THREADS: u32 = 16;
 
 /// How many sessions are taken in one run at most.
 const MOST_SESSIONS: u32 = 1000;
+
+/// How many connections are open at once at most.
+const MOST_CLIENTS: u32 = 1000;
 
 /// What help says behind the options.
 const MORE: &str = "Exit status:\n  \
@@ -250,6 +255,19 @@ fn sessions_option<'a>(alloc: Global) -> Arg<'a>
         .help("How many sessions are taken, 1 to 1000")
 }
 
+fn clients_option<'a>(alloc: Global) -> Arg<'a>
+    ensures rule { rule_of result ≡ clients_rule }
+    ensures own { result.global ≡ false }
+{
+    Arg::new(alloc, "clients")
+        .long("clients")
+        .action(ArgAction::Set)
+        .value_parser(value_parser!(u32).range(1..=1000))
+        .default_value("1000")
+        .value_name("N")
+        .help("How many clients are connected at once, 1 to 1000")
+}
+
 /// The command `alone`, with what it has to be given and its limit.
 fn session_parser<'a>(alloc: Global) -> Result<Parser<'a>, AllocError>
     ensures app { IfOk result (λ parser. app_of parser ≡ session_app) }
@@ -314,12 +332,20 @@ fn counts_parser<'a>(alloc: Global) -> Result<Parser<'a>, AllocError>
         .arg(limit_option(alloc))
 }
 
+/// The same, with the number of clients at once.
+fn clients_parser<'a>(alloc: Global) -> Result<Parser<'a>, AllocError>
+    ensures app { IfOk result (λ parser. app_of parser ≡ clients_app) }
+    ensures own { IfOk result (λ parser. (fields_of parser).has_globals ≡ false) }
+{
+    counts_parser(alloc)?.arg(clients_option(alloc))
+}
+
 /// The same, with what is said of the trail's file.
 fn files_parser<'a>(alloc: Global) -> Result<Parser<'a>, AllocError>
     ensures app { IfOk result (λ parser. app_of parser ≡ files_app) }
     ensures own { IfOk result (λ parser. (fields_of parser).has_globals ≡ false) }
 {
-    counts_parser(alloc)?
+    clients_parser(alloc)?
         .arg(replace_option(alloc))?
         .arg(claim_option(alloc))
 }
@@ -442,6 +468,7 @@ fn hosting_of<'a>(options: &ArgMatches<'a>) -> Option<Hosting<'a>>
     let workers = number(options, "workers", MOST_THREADS)?;
     let session_threads = number(options, "session-threads", MOST_THREADS)?;
     let sessions = number(options, "sessions", MOST_SESSIONS)?;
+    let clients = number(options, "clients", MOST_CLIENTS)?;
     let keeping = keeping_of(options)?;
     let resumes = resumes(options);
     if resumes && keeping == TrailKeeping::AtEnd {
@@ -456,6 +483,7 @@ fn hosting_of<'a>(options: &ArgMatches<'a>) -> Option<Hosting<'a>>
         workers,
         session_threads,
         sessions,
+        clients,
     })
 }
 

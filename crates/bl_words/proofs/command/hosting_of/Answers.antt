@@ -23,6 +23,10 @@ pub returns-in_err-sessions-clause-none : goal.returns-in_err-sessions-clause-no
 returns-in_err-sessions-clause-none c =
     at_none _ ((hosting : Hosting) → HasHosting c.args.options.now hosting → IsHostingInRange hosting → ⊥) (λ hosting has range. c.in_err-sessions.ensures.none hosting.sessions has.sessions range.sessions.0 range.sessions.1)
 
+pub returns-in_err-clients-clause-none : goal.returns-in_err-clients-clause-none
+returns-in_err-clients-clause-none c =
+    at_none _ ((hosting : Hosting) → HasHosting c.args.options.now hosting → IsHostingInRange hosting → ⊥) (λ hosting has range. c.in_err-clients.ensures.none hosting.clients has.clients range.clients.0 range.clients.1)
+
 pub returns-in_err-keeping-clause-none : goal.returns-in_err-keeping-clause-none
 returns-in_err-keeping-clause-none c =
     at_none _ ((hosting : Hosting) → HasHosting c.args.options.now hosting → IsHostingInRange hosting → ⊥) (λ hosting has range. c.in_err-keeping.ensures.none hosting.keeping has.keeping)
