@@ -1,9 +1,9 @@
 -- Batches of entries in hand, step by step.
-use Rattle.std.proofs.Common.{◌≡◌, ◌≢◌, ℕ, ◌+◌, ◌≤◌, ◌⊎◌, inl, inr, List, [], ◌∷◌, ◌++◌, map, Some, true, refl, sym, ap, ◌∙◌, subst, arith, append_assoc, append-nil}
-use Rattle.std.specs.Prelude.{◌==◌, All, IsTrue, MatchResult, reverse, Result, Ok, Err}
+use Rattle.std.proofs.Common.{◌≡◌, ◌≢◌, ℕ, ◌+◌, ◌<◌, ◌≤◌, ◌⊎◌, ◌||◌, Bool, get_or, length, inl, inr, List, [], ◌∷◌, ◌++◌, map, true, false, refl, sym, ap, ◌∙◌, subst, arith, append_assoc, append-nil}
+use Rattle.std.specs.Prelude.{◌==◌, All, IsTrue, MatchBool, MatchResult, reverse, Result, Ok, Err}
 use Rattle.std.proofs.lemmas.Bool.Decides.{nat_tests}
 use Rattle.std.proofs.lemmas.List.{map-append, reverse-append}
-use Rattle.std.proofs.lemmas.List.Elements.{All-nil, All-cons, All-head, All-tail, All-pop, All-push, All-weaker}
+use Rattle.std.proofs.lemmas.List.Elements.{All-nil, All-cons, All-head, All-tail, All-push, All-weaker}
 use Rattle.bl_order.specs.Machine.{State, Starts, MayStart, has_ended, phase_at, runs, start}
 use Rattle.bl_order.proofs.Sound.{has_begun}
 use Rattle.bl_order.proofs.Conflicts.{or_left}
@@ -14,14 +14,15 @@ use Rattle.bl_gate.specs.Gates.{PassView, Calls, Follows, HasLoanInHand, InHand,
 use Rattle.bl_gate.proofs.Following.{base_stays, follows_itself, follows_then}
 use Rattle.bl_gate.proofs.Lending.{begun_once}
 use Rattle.bl_gate.proofs.Passing.{trail_front, trail_back}
-use Rattle.bl_worker.specs.Batches.{IsBatch, lent_by, loan_of, times_lent}
-use Rattle.bl_worker.specs.Turns.{AddsTurnsAlone, IsEventOf, Settles}
-use Rattle.bl_worker.specs.Hands.{HasBegun}
+use Rattle.bl_worker.specs.Batches.{EndsNone, IsBatch, IsTried, lent_by, loan_of, times_lent}
+use Rattle.bl_worker.specs.Turns.{HasWorked, IsTurnOf, Settles}
+use Rattle.bl_worker.specs.Hands.{HasBegun, HasMade, IsBegunOf, MissesNone, events_of}
+use Rattle.bl_worker.specs.declared.turn.Turn.{Turn}
+use Rattle.bl_worker.specs.declared.turn.Turn.TheVariants.{Idle, Missed, Denied, Done, Lost}
 use Rattle.bl_worker.specs.declared.turn.Begun.{Begun}
 use Rattle.bl_worker.specs.declared.turn.Begun.TheVariants.{Over, Runs}
-use Rattle.bl_worker.proofs.Adding.{adds_itself, adds_then}
 use Rattle.bl_worker.proofs.Handing.{all_settled, but_on, begun_settles, held_as, settled_all}
-use Rattle.bl_worker.proofs.Settling.{one_place, passes_on, settles_itself}
+use Rattle.bl_worker.proofs.Settling.{one_place, passes_later, passes_on, settles_itself}
 
 -- ---- counting
 
@@ -94,7 +95,6 @@ Held loans n = 1 ≤ times_lent n loans
 pub batch_itself : (p : PassView) → IsBatch p p []
 batch_itself p = record {
   follows = follows_itself p;
-  adds = adds_itself (λ _. IsEventOf (λ n. Unit {0})) p p refl;
   held = All-nil (HasLoanInHand p);
   apart = λ n. omega arith;
   settles = all_settled (λ n. 1 ≤ times_lent n []) p p (settles_itself p p refl);
@@ -105,22 +105,20 @@ pub batch_settles : (first p : PassView) → IsBatch first p [] → Settles firs
 batch_settles first p b = settled_all (λ n. 1 ≤ times_lent n []) first p b.settles (λ n h. absurd (omega arith))
 
 -- turns that leave what is in hand alone
-pub batch_goes : (first p q : PassView) (loans : List Loan) → IsBatch first p loans → Follows p q → HasTrail (hall_seen q) → AddsTurnsAlone p q → Settles p q
+pub batch_goes : (first p q : PassView) (loans : List Loan) → IsBatch first p loans → Follows p q → HasTrail (hall_seen q) → Settles p q
     → KeepsInHand p q → IsBatch first q loans
-batch_goes first p q loans b follows legal adds settles keeps = record {
+batch_goes first p q loans b follows legal settles keeps = record {
   follows = follows_then first p q b.follows follows;
-  adds = adds_then (λ _. IsEventOf (λ n. Unit {0})) first p q b.adds adds follows;
   held = All-weaker (HasLoanInHand p) (HasLoanInHand q) keeps loans b.held;
   apart = b.apart;
   settles = but_on (Held loans) (Held loans) first p q b.settles (all_settled (Held loans) p q settles) follows legal (λ n h. inr h);
 }
 
 -- an end of what is in hand
-pub batch_ends : (first p q : PassView) (loans : List Loan) (loan : Loan) → IsBatch first p (loan ∷ loans) → Follows p q → HasTrail (hall_seen q) → AddsTurnsAlone p q
+pub batch_ends : (first p q : PassView) (loans : List Loan) (loan : Loan) → IsBatch first p (loan ∷ loans) → Follows p q → HasTrail (hall_seen q)
     → Settles p q → KeepsInHandBut loan.entry p q → has_ended (state_seen q) loan.entry ≡ true → IsBatch first q loans
-batch_ends first p q loans loan b follows legal adds settles keeps ended = record {
+batch_ends first p q loans loan b follows legal settles keeps ended = record {
   follows = follows_then first p q b.follows follows;
-  adds = adds_then (λ _. IsEventOf (λ n. Unit {0})) first p q b.adds adds follows;
   held = held_but loan.entry p q keeps loans none (All-tail (HasLoanInHand p) loan loans b.held);
   apart = λ n. (let a = b.apart n in omega arith);
   settles = but_on (Held (loan ∷ loans)) (Held loans) first p q b.settles (all_settled (Held loans) p q settles) follows legal
@@ -135,11 +133,10 @@ batch_ends first p q loans loan b follows legal adds settles keeps ended = recor
     by n (inr h) = inr h
 
 -- an entry that begins to run
-pub batch_begins : (first p q : PassView) (loans : List Loan) (lent : Loan) → IsBatch first p loans → Follows p q → HasTrail (hall_seen q) → AddsTurnsAlone p q
+pub batch_begins : (first p q : PassView) (loans : List Loan) (lent : Loan) → IsBatch first p loans → Follows p q → HasTrail (hall_seen q)
     → HasBegun p q (Runs lent) → KeepsInHand p q → IsBatch first q (loans ++ lent ∷ [])
-batch_begins first p q loans lent b follows legal adds begun keeps = record {
+batch_begins first p q loans lent b follows legal begun keeps = record {
   follows = follows_then first p q b.follows follows;
-  adds = adds_then (λ _. IsEventOf (λ n. Unit {0})) first p q b.adds adds follows;
   held = All-push (HasLoanInHand q) loans lent (All-weaker (HasLoanInHand p) (HasLoanInHand q) keeps loans b.held) begun.0;
   apart = λ n. apart n (one_or_none lent.entry n);
   settles = but_on (Held loans) (Held (loans ++ lent ∷ [])) first p q b.settles (held_as (λ k. lent.entry ≡ k) (Held (loans ++ lent ∷ [])) p q (begun_settles p q (Runs lent) begun) (λ n is. or_held n loans lent (inr is)))
@@ -164,14 +161,14 @@ batch_begins first p q loans lent b follows legal adds begun keeps = record {
 -- a turn at the gate that begins
 pub batch_enters : (first p t : PassView) (loans : List Loan) → IsBatch first p loans → Follows p t → HasTrail (hall_seen t) → t.own ≡ p.own → KeepsInHand p t → IsBatch first t loans
 batch_enters first p t loans b follows legal own keeps =
-    batch_goes first p t loans b follows legal (adds_itself (λ _. IsEventOf (λ n. Unit {0})) p t own) (settles_itself p t own) keeps
+    batch_goes first p t loans b follows legal (settles_itself p t own) keeps
 
 -- an entry that was begun
-pub batch_begun : (first p q : PassView) (loans : List Loan) (begun : Begun) → IsBatch first p loans → Follows p q → HasTrail (hall_seen q) → AddsTurnsAlone p q
+pub batch_begun : (first p q : PassView) (loans : List Loan) (begun : Begun) → IsBatch first p loans → Follows p q → HasTrail (hall_seen q)
     → HasBegun p q begun → KeepsInHand p q → IsBatch first q (loans ++ lent_by begun)
-batch_begun first p q loans (Over turn) b follows legal adds begun keeps =
-    subst (IsBatch first q) (sym (append-nil loans)) (batch_goes first p q loans b follows legal adds begun.1 keeps)
-batch_begun first p q loans (Runs lent) b follows legal adds begun keeps = batch_begins first p q loans lent b follows legal adds begun keeps
+batch_begun first p q loans (Over turn) b follows legal begun keeps =
+    subst (IsBatch first q) (sym (append-nil loans)) (batch_goes first p q loans b follows legal begun.1 keeps)
+batch_begun first p q loans (Runs lent) b follows legal begun keeps = batch_begins first p q loans lent b follows legal begun keeps
 
 -- ---- what was run
 
@@ -218,3 +215,80 @@ more_in lents ran lent none =
     ap (λ (l : List Loan). (lents ++ lent ∷ []) ++ l) (ran_none ran none)
     ∙ (append-nil (lents ++ lent ∷ [])
     ∙ (ap (λ (l : List Loan). l ++ lent ∷ []) (sym (append-nil lents)) ∙ ap (λ (l : List Loan). (lents ++ l) ++ lent ∷ []) (sym (ran_none ran none))))
+
+-- ---- what was tried
+
+or_right : (a b : Bool) → b ≡ true → (a || b) ≡ true
+or_right a b is = grind arith
+
+module _ (first p q : PassView) (n : ℕ) where
+  tried_over : (turn : Turn) → IsTurnOf n turn → HasWorked p q turn → Follows first p → Follows p q → IsTried first q n
+  tried_over Idle of work from to = absurd of
+  tried_over (Missed m) of work from to = inr (q, follows_then first p q from to, follows_itself q, subst (λ k. ¬ MayStart (state_seen q) k) of work.1)
+  tried_over (Denied m) of work from to = inl (subst (λ k. (runs (state_seen q) k || has_ended (state_seen q) k) ≡ true) of (or_right (runs (state_seen q) m) (has_ended (state_seen q) m) work.ended))
+  tried_over (Done m) of work from to = inl (subst (λ k. (runs (state_seen q) k || has_ended (state_seen q) k) ≡ true) of (or_right (runs (state_seen q) m) (has_ended (state_seen q) m) work.ended))
+  tried_over (Lost m) of work from to = inl (subst (λ k. (runs (state_seen q) k || has_ended (state_seen q) k) ≡ true) of (or_right (runs (state_seen q) m) (has_ended (state_seen q) m) work.ended))
+
+  pub tried_now : (begun : Begun) → IsBegunOf n begun → HasBegun p q begun → Follows first p → Follows p q → IsTried first q n
+  tried_now (Over turn) of begun from to = tried_over turn of begun.0 from to
+  tried_now (Runs lent) of begun from to = inl (subst (λ k. (runs (state_seen q) k || has_ended (state_seen q) k) ≡ true) of (or_left (runs (state_seen q) lent.entry) (has_ended (state_seen q) lent.entry) begun.0.entry.running))
+
+  tried_on : IsTried first p n → Follows p q → HasTrail (hall_seen q) → IsTried first q n
+  tried_on (inl begun) to legal = inl ((passes_later p q to legal).begun n begun)
+  tried_on (inr (at, from, until, unready)) to legal = inr (at, from, follows_then at p q until to, unready)
+
+-- one more was tried
+pub tried_more : (first p q : PassView) (entries : List ℕ) (i : ℕ) → Follows p q → HasTrail (hall_seen q) → ((d : ℕ) → IsTried first q (get_or entries i d))
+    → ((k d : ℕ) → k < i → IsTried first p (get_or entries k d)) → (k d : ℕ) → k < i + 1 → IsTried first q (get_or entries k d)
+tried_more first p q entries i to legal new were k d low = go (side k i)
+  where
+    side : (a b : ℕ) → (a ≡ b) ⊎ ((a < b) ⊎ (b < a))
+    side a b = grind arith
+
+    go : (k ≡ i) ⊎ ((k < i) ⊎ (i < k)) → IsTried first q (get_or entries k d)
+    go (inl is) = subst (λ j. IsTried first q (get_or entries j d)) (sym is) (new d)
+    go (inr (inl lt)) = tried_on first p q (get_or entries k d) (were k d lt) to legal
+    go (inr (inr gt)) = absurd (omega (arith, gt, low))
+
+-- ---- what was ready
+
+-- what was begun of an entry that might start made one event
+pub one_event : (n : ℕ) (begun : Begun) → IsBegunOf n begun → MissesNone begun → events_of begun ≡ 1
+one_event n (Over Idle) of misses = absurd of
+one_event n (Over (Missed m)) of misses = absurd misses
+one_event n (Over (Denied m)) of misses = refl
+one_event n (Over (Done m)) of misses = refl
+one_event n (Over (Lost m)) of misses = refl
+one_event n (Runs lent) of misses = refl
+
+-- one event more
+pub one_made : (first p q : PassView) (begun : Begun) (count : ℕ) → events_of begun ≡ 1 → HasMade (events_of begun) p q → HasMade count first p → HasMade (count + 1) first q
+one_made first p q begun count one made before = omega (arith, one, made, before)
+
+-- what has ended is not in hand
+pub ended_none : (begun : Begun) (ended : Bool) → MatchBool ended (lent_by begun ≡ []) (EndsNone begun) → ended ≡ true → length (lent_by begun) ≡ 0
+ended_none begun ended ends is = ap length (subst (λ (b : Bool). MatchBool b (lent_by begun ≡ []) (EndsNone begun)) is ends)
+
+-- and what has not is
+pub runs_one : (begun : Begun) → EndsNone begun → events_of begun ≡ 1 → length (lent_by begun) ≡ 1
+runs_one (Over Idle) ends one = absurd (omega (arith, one))
+runs_one (Over (Missed m)) ends one = absurd (omega (arith, one))
+runs_one (Over (Denied m)) ends one = absurd ends
+runs_one (Over (Done m)) ends one = absurd ends
+runs_one (Over (Lost m)) ends one = absurd ends
+runs_one (Runs lent) ends one = refl
+
+pub held_one : (begun : Begun) (ended : Bool) → MatchBool ended (lent_by begun ≡ []) (EndsNone begun) → ended ≡ false → events_of begun ≡ 1 → length (lent_by begun) ≡ 1
+held_one begun ended ends is one = runs_one begun (subst (λ (b : Bool). MatchBool b (lent_by begun ≡ []) (EndsNone begun)) is ends) one
+
+-- how many of those that were begun are in hand: all, unless one has ended
+abbrev pub AreInHand : Bool → (now was count : ℕ) → Type 0
+AreInHand over now was count = MatchBool over (now < was + count) (now ≡ was + count)
+
+pub one_ended : (over : Bool) (now was count more after : ℕ) → AreInHand over now was count → more ≡ 0 → after ≡ now + more → AreInHand true after was (count + 1)
+one_ended true now was count more after before none is = omega (arith, before, none, is)
+one_ended false now was count more after before none is = omega (arith, before, none, is)
+
+pub one_held : (over : Bool) (now was count more after : ℕ) → AreInHand over now was count → more ≡ 1 → after ≡ now + more → AreInHand over after was (count + 1)
+one_held true now was count more after before one is = omega (arith, before, one, is)
+one_held false now was count more after before one is = omega (arith, before, one, is)

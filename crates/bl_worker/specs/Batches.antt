@@ -1,14 +1,18 @@
 -- What a pass has in hand of many entries at once.
-use Rattle.std.specs.Prelude.{◌≡◌, ℕ, ◌+◌, ◌<◌, ◌≤◌, ◌==◌, All, List, [], ◌∷◌, ◌++◌, map, reverse, Result, Ok, Err, vec_len}
+use Rattle.std.specs.Prelude.{◌≡◌, ℕ, ◌+◌, ◌<◌, ◌≤◌, ◌==◌, ◌⊎◌, IsTrue, All, List, [], ◌∷◌, ◌++◌, map, reverse}
+use Rattle.std.specs.Prelude.{Result, Ok, Err, vec_len}
 use Rattle.std.specs.Vec.{vec_capacity}
 use Rattle.bl_eval.specs.Loan.{Loan}
 use Rattle.bl_gate.specs.Counts.{one_if}
-use Rattle.bl_gate.specs.Gates.{PassView, Follows, HasLoanInHand}
-use Rattle.bl_worker.specs.Turns.{AddsTurnsAlone}
+use Rattle.bl_order.specs.Machine.{MayStart}
+use Rattle.bl_gate.specs.Gates.{PassView, Follows, HasLoanInHand, state_seen}
+use Rattle.bl_worker.specs.Turns.{has_begun}
 use Rattle.bl_worker.specs.Hands.{SettlesBut}
 use Rattle.bl_worker.specs.declared.batch.Batch.{Batch}
 use Rattle.bl_worker.specs.declared.turn.Begun.{Begun}
 use Rattle.bl_worker.specs.declared.turn.Begun.TheVariants.{Over, Runs}
+use Rattle.bl_worker.specs.declared.turn.Turn.{Turn}
+use Rattle.bl_worker.specs.declared.turn.Turn.TheVariants.{Idle, Missed, Denied, Done, Lost}
 
 -- the loan of what was run, or could not be
 abbrev pub loan_of : Result Loan Loan → Loan
@@ -48,10 +52,27 @@ abbrev pub times_lent : ℕ → List Loan → ℕ
 times_lent n [] = 0
 times_lent n (loan ∷ loans) = one_if (loan.entry == n) + times_lent n loans
 
--- The pass has taken turns alone since then. These loans are in its hand, no two of one entry, and all else that it started has ended.
+-- The same pass later: these loans are in its hand, no two of one entry, and all else that it has started since then
+-- has ended.
 pub record IsBatch (before after : PassView) (loans : List Loan) : Type 0 where
   pub follows : Follows before after
-  pub adds : AddsTurnsAlone before after
   pub held : All (HasLoanInHand after) loans
   pub apart : (n : ℕ) → times_lent n loans ≤ 1
   pub settles : SettlesBut (λ n. 1 ≤ times_lent n loans) before after
+
+-- the entry has begun by then, or at some moment in between it might not start
+abbrev pub IsTried : (before after : PassView) → ℕ → Type 0
+IsTried before after n = (IsTrue (has_begun (state_seen after) n))
+    ⊎ ((at : PassView) × Follows before at × Follows at after × ¬ MayStart (state_seen at) n)
+
+-- the turn has ended no entry
+abbrev pub IsNoEnd : Turn → Type 0
+IsNoEnd Idle = Unit {0}
+IsNoEnd (Missed n) = Unit {0}
+IsNoEnd (Denied n) = ⊥
+IsNoEnd (Done n) = ⊥
+IsNoEnd (Lost n) = ⊥
+
+abbrev pub EndsNone : Begun → Type 0
+EndsNone (Over turn) = IsNoEnd turn
+EndsNone (Runs lent) = Unit {0}

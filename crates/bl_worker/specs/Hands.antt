@@ -1,5 +1,5 @@
 -- What came of an entry that was begun, and what a worker has in hand.
-use Rattle.std.specs.Prelude.{◌≡◌, ℕ, ◌<◌, ◌≤◌, ◌⊎◌, IsTrue, List, ◌++◌, length, Some, slice_get}
+use Rattle.std.specs.Prelude.{◌≡◌, ℕ, ◌+◌, ◌<◌, ◌≤◌, ◌⊎◌, IsTrue, List, ◌++◌, length, Some, slice_get}
 use Rattle.bl_order.specs.Machine.{Starts, has_ended}
 use Rattle.bl_eval.specs.Loan.{Loan}
 use Rattle.bl_gate.specs.Counts.{times}
@@ -32,6 +32,22 @@ IsNoMiss (Lost n) = Unit {0}
 abbrev pub MissesNone : Begun → Type 0
 MissesNone (Over turn) = IsNoMiss turn
 MissesNone (Runs lent) = Unit {0}
+
+-- how many events came of it: none where nothing was ready, or the entry was missed
+abbrev pub events_in : Turn → ℕ
+events_in Idle = 0
+events_in (Missed n) = 0
+events_in (Denied n) = 1
+events_in (Done n) = 1
+events_in (Lost n) = 1
+
+abbrev pub events_of : Begun → ℕ
+events_of (Over turn) = events_in turn
+events_of (Runs lent) = 1
+
+-- the pass has made so many events since then
+abbrev pub HasMade : ℕ → PassView → PassView → Type 0
+HasMade count before after = length after.own ≡ length before.own + count
 
 -- the entry that runs
 abbrev pub RunsEntry : Begun → ℕ → Type 0
@@ -66,4 +82,5 @@ pub record SettlesBut (Held : ℕ → Type 0) (before after : PassView) : Type 0
   pub gained : List ℕ
   pub own : after.own ≡ before.own ++ gained
   pub within : (p : ℕ) → 1 ≤ times p gained → p < length after.seen
-  pub settled : (p n : ℕ) → 1 ≤ times p gained → slice_get after.seen p ≡ Some (Starts n) → (IsTrue (has_ended (state_seen after) n)) ⊎ Held n
+  pub settled : (p n : ℕ) → 1 ≤ times p gained → slice_get after.seen p ≡ Some (Starts n)
+      → (IsTrue (has_ended (state_seen after) n)) ⊎ Held n

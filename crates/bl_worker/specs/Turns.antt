@@ -40,8 +40,8 @@ pub record HasEndedAs (x : State) (n : ℕ) (Kind : Answer → Type 0) : Type 0 
   pub ended : IsTrue (has_ended x n)
   pub kind : Kind (past_at x n).answer
 
--- What a turn did, by what its pass was before and after. It was idle, and nothing may start there; or it missed an entry, which may
--- not start there; and then it was no event. Or it ended an entry, as it says.
+-- What a turn did, by what its pass was before and after. It was idle, and nothing may start there; or it missed an
+-- entry, which may not start there; and then it was no event. Or it ended an entry, as it says.
 abbrev pub HasWorked : PassView → PassView → Turn → Type 0
 HasWorked before after Idle = (after.own ≡ before.own) × ((n : ℕ) → ¬ MayStart (state_seen after) n)
 HasWorked before after (Missed n) = (after.own ≡ before.own) × (¬ MayStart (state_seen after) n)
@@ -76,16 +76,17 @@ WasTaken before after (Denied n) = Unit {0}
 WasTaken before after (Done n) = Unit {0}
 WasTaken before after (Lost n) = Unit {0}
 
--- Every entry that the pass has started since then has ended: each of its new positions is one that it has seen, and where a start
--- stands there, that entry has ended.
+-- Every entry that the pass has started since then has ended: each of its new positions is one that it has seen, and
+-- where a start stands there, that entry has ended.
 pub record Settles (before after : PassView) : Type 0 where
   pub gained : List ℕ
   pub own : after.own ≡ before.own ++ gained
   pub within : (p : ℕ) → 1 ≤ times p gained → p < length after.seen
-  pub settled : (p n : ℕ) → 1 ≤ times p gained → slice_get after.seen p ≡ Some (Starts n) → IsTrue (has_ended (state_seen after) n)
+  pub settled : (p n : ℕ) → 1 ≤ times p gained → slice_get after.seen p ≡ Some (Starts n)
+      → IsTrue (has_ended (state_seen after) n)
 
--- The pass has made no event since then but such ones: each of its new positions is one that it has seen, and the event that stands there
--- is such a one at that position.
+-- The pass has made no event since then but such ones: each of its new positions is one that it has seen, and the event
+-- that stands there is such a one at that position.
 pub record Adds (Such : ℕ → Event → Type 0) (before after : PassView) : Type 0 where
   pub gained : List ℕ
   pub own : after.own ≡ before.own ++ gained

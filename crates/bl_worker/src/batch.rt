@@ -1,19 +1,24 @@
 //! Many entries in hand, from one turn at the gate to the next.
-ghost use Rattle.std.specs.Prelude.{◌≡◌, ◌<◌, ◌≤◌, ◌↔◌, ◌++◌, ◌∷◌, [], IfOk, IsTrue, List, length, vec_len};
+ghost use Rattle.std.specs.Prelude.{◌≡◌, ◌<◌, ◌≤◌, ◌+◌, ◌↔◌, ◌++◌, ◌∷◌, [], false, ℕ, IfOk, IsTrue, List, MatchBool};
+ghost use Rattle.std.specs.Prelude.{get_or, length, vec_len};
 ghost use Rattle.bl_hall.specs.Chronicle.{HasTrail};
-ghost use Rattle.bl_gate.specs.Gates.{PassView, HasLoanInHand, hall_seen};
+ghost use Rattle.bl_order.specs.Machine.{MayStart};
+ghost use Rattle.bl_gate.specs.Gates.{Follows, PassView, HasLoanInHand, hall_seen, state_seen};
 ghost use Rattle.bl_eval.specs.Loan.{Loan};
-ghost use Rattle.bl_worker.specs.Batches.{HasRoom, AllRan, IsBatch, IsIdle, NoneRan, lent_by, loan_of, loans_in};
+ghost use Rattle.bl_worker.specs.Batches.{AllRan, EndsNone, HasRoom, IsBatch, IsIdle, IsNoEnd, IsTried, NoneRan};
+ghost use Rattle.bl_worker.specs.Batches.{lent_by, loan_of, loans_in};
+ghost use Rattle.bl_worker.specs.Hands.{HasMade};
+ghost use Rattle.bl_worker.specs.Turns.{AddsTurnsAlone, Settles};
 
 use crate::pause::Pause;
-use crate::turn::{Begun, Turn, begin, begin_next};
+use crate::turn::{Begun, Turn, begin};
 use bl_eval::evaluate::eval;
 use bl_eval::lent::{Done, Lent, Unrun};
 use bl_gate::turn::Turn as AtGate;
 use std::alloc::{AllocError, Global};
 
-/// What a thread has in hand from one turn at the gate to the next: entries that run, and those that it has run, or could not run, and
-/// has yet to end. It has to be closed with nothing in hand.
+/// What a thread has in hand from one turn at the gate to the next: entries that run, and those that it has run, or
+/// could not run, and has yet to end. It has to be closed with nothing in hand.
 pub struct Batch {
     pub(crate) lents: Vec<Lent>,
     pub(crate) ran: Vec<Result<Done, Unrun>>,
@@ -23,8 +28,11 @@ pub struct Batch {
 /// Ends an entry that was run, or could not be.
 fn end(turn: &mut AtGate<'_>, run: Result<Done, Unrun>)
     requires { HasLoanInHand turn.old (loan_of run) }
+    ensures follows { Follows turn.old turn.new }
     ensures trail { HasTrail (hall_seen turn.new) }
-    ensures batch { (first : PassView) (loans : List Loan) → IsBatch first turn.old (loan_of run ∷ loans) → IsBatch first turn.new loans }
+    ensures adds { AddsTurnsAlone turn.old turn.new }
+    ensures batch { (first : PassView) (loans : List Loan) → IsBatch first turn.old (loan_of run ∷ loans)
+        → IsBatch first turn.new loans }
 {
     match run {
         Ok(done) => turn.finish(done),
@@ -33,7 +41,9 @@ fn end(turn: &mut AtGate<'_>, run: Result<Done, Unrun>)
 }
 
 /// Whether the turn has ended an entry.
-fn ends(turn: Turn) -> bool {
+fn ends(turn: Turn) -> bool
+    ensures { result ≡ false → IsNoEnd turn }
+{
     match turn {
         Turn::Idle | Turn::Missed(_) => false,
         Turn::Denied(_) | Turn::Done(_) | Turn::Lost(_) => true,
@@ -44,7 +54,8 @@ impl Batch {
     /// Nothing in hand, and room for so many entries at once.
     pub fn new(alloc: Global, most: usize) -> Result<Batch, AllocError>
         requires { 0 < most }
-        ensures { IfOk result (λ batch. IsIdle batch × HasRoom batch) }
+        ensures idle { IfOk result (λ batch. IsIdle batch × HasRoom batch × (batch.most ≡ most)) }
+        ensures batch { IfOk result (λ batch. (pass : PassView) → IsBatch pass pass (loans_in batch)) }
     {
         let lents = Vec::with_capacity(alloc, most)?;
         match Vec::with_capacity(alloc, most) {
@@ -69,10 +80,15 @@ impl Batch {
         requires ran { AllRan self.old }
         requires room { HasRoom self.old }
         requires batch { (first : PassView) × IsBatch first turn.old (loans_in self.old) }
+        ensures follows { Follows turn.old turn.new }
         ensures trail { HasTrail (hall_seen turn.new) }
-        ensures batch { (first : PassView) → IsBatch first turn.old (loans_in self.old) → IsBatch first turn.new (loans_in self.new) }
+        ensures adds { AddsTurnsAlone turn.old turn.new }
+        ensures batch { (first : PassView) → IsBatch first turn.old (loans_in self.old)
+            → IsBatch first turn.new (loans_in self.new) }
         ensures idle { IsIdle self.new }
         ensures room { HasRoom self.new }
+        ensures most { self.new.most ≡ self.old.most }
+        ensures some { IsTrue result ↔ (0 < vec_len self.old.ran) }
     {
         let some = !self.ran.is_empty();
         while let Some(run) = self.ran.pop() {
@@ -87,8 +103,11 @@ impl Batch {
         requires room { HasRoom self.old }
         requires space { vec_len self.old.lents < self.old.most }
         ensures loans { loans_in self.new ≡ loans_in self.old ++ lent_by begun }
+        ensures lent { vec_len self.new.lents ≡ vec_len self.old.lents + length (lent_by begun) }
+        ensures ends { MatchBool result (lent_by begun ≡ []) (EndsNone begun) }
         ensures ran { NoneRan self.new }
         ensures room { HasRoom self.new }
+        ensures most { self.new.most ≡ self.old.most }
     {
         match begun {
             Begun::Over(turn) => ends(turn),
@@ -99,25 +118,31 @@ impl Batch {
         }
     }
 
-    /// Begins these entries in their order, each that may start, until as many are in hand as may be. Says how many it has tried, and
-    /// whether one of them has ended.
+    /// Begins these entries in their order, each that may start, until as many are in hand as may be. Says how many
+    /// it has tried, and whether one of them has ended: each that was tried has begun by then, or might not start at
+    /// its turn.
     pub fn begin_all(&mut self, turn: &mut AtGate<'_>, entries: &[u32]) -> (usize, bool)
         requires trail { HasTrail (hall_seen turn.old) }
         requires ran { NoneRan self.old }
         requires room { HasRoom self.old }
+        ensures follows { Follows turn.old turn.new }
         ensures trail { HasTrail (hall_seen turn.new) }
-        ensures batch { (first : PassView) → IsBatch first turn.old (loans_in self.old) → IsBatch first turn.new (loans_in self.new) }
+        ensures adds { AddsTurnsAlone turn.old turn.new }
+        ensures batch { (first : PassView) → IsBatch first turn.old (loans_in self.old)
+            → IsBatch first turn.new (loans_in self.new) }
         ensures ran { NoneRan self.new }
         ensures room { HasRoom self.new }
+        ensures most { self.new.most ≡ self.old.most }
+        ensures tried { (i d : ℕ) → i < result.0 → IsTried turn.old turn.new (get_or entries.now i d) }
         ensures within { result.0 ≤ length entries.now }
         ensures full { result.0 < length entries.now → self.new.most ≤ vec_len self.new.lents }
     {
         let mut over = false;
-        for (i, n) in entries.iter().enumerate() {
+        for i in 0..entries.len() {
             if self.lents.len() >= self.most {
                 return (i, over);
             }
-            let begun = begin(turn, *n);
+            let begun = begin(turn, entries[i]);
             if self.hold(begun) {
                 over = true;
             }
@@ -125,18 +150,40 @@ impl Batch {
         (entries.len(), over)
     }
 
-    /// Begins an entry that is ready, whosever, where nothing is in hand, and says whether it has ended.
-    pub fn begin_next(&mut self, turn: &mut AtGate<'_>) -> bool
+    /// Begins entries that are ready, whosever, until as many are in hand as may be, as many were begun, or none is
+    /// ready. Says how many it has begun, each by one event, and whether one of them has ended and is not in hand.
+    pub fn begin_ready(&mut self, turn: &mut AtGate<'_>) -> (usize, bool)
         requires trail { HasTrail (hall_seen turn.old) }
-        requires idle { IsIdle self.old }
+        requires ran { NoneRan self.old }
         requires room { HasRoom self.old }
+        ensures follows { Follows turn.old turn.new }
         ensures trail { HasTrail (hall_seen turn.new) }
-        ensures batch { (first : PassView) → IsBatch first turn.old (loans_in self.old) → IsBatch first turn.new (loans_in self.new) }
+        ensures adds { AddsTurnsAlone turn.old turn.new }
+        ensures batch { (first : PassView) → IsBatch first turn.old (loans_in self.old)
+            → IsBatch first turn.new (loans_in self.new) }
         ensures ran { NoneRan self.new }
         ensures room { HasRoom self.new }
+        ensures most { self.new.most ≡ self.old.most }
+        ensures made { HasMade result.0 turn.old turn.new }
+        ensures ended { MatchBool result.1 (vec_len self.new.lents < vec_len self.old.lents + result.0)
+            (vec_len self.new.lents ≡ vec_len self.old.lents + result.0) }
+        ensures none { result.0 < self.new.most → vec_len self.new.lents < self.new.most
+            → (n : ℕ) → ¬ MayStart (state_seen turn.new) n }
     {
-        let begun = begin_next(turn);
-        self.hold(begun)
+        let mut over = false;
+        for count in 0..self.most {
+            if self.lents.len() >= self.most {
+                return (count, over);
+            }
+            let Some(n) = turn.ready() else {
+                return (count, over);
+            };
+            let begun = begin(turn, n);
+            if self.hold(begun) {
+                over = true;
+            }
+        }
+        (self.most, over)
     }
 
     /// Runs all that is in hand with the gate free. What could not be run is in hand still.
@@ -145,6 +192,7 @@ impl Batch {
         ensures loans { loans_in self.new ≡ loans_in self.old }
         ensures ran { AllRan self.new }
         ensures room { HasRoom self.new }
+        ensures most { self.new.most ≡ self.old.most }
     {
         while let Some(lent) = self.lents.pop() {
             pause.between(lent.entry());
@@ -152,9 +200,10 @@ impl Batch {
         }
     }
 
-    /// Closes it.
+    /// Closes it: all that a pass has started with it has ended.
     pub fn close(self)
         requires { IsIdle self }
+        ensures { (first pass : PassView) → IsBatch first pass (loans_in self) → Settles first pass }
     {
         let Batch {
             lents,

@@ -2,6 +2,20 @@
 use std::sync::atomic::{AtomicBool, AtomicU64, Ordering};
 use std::sync::{Condvar, Mutex, Wait};
 
+/// What a worker asks of a bell. Who is woken beside the threads that wait at one, as threads that sleep elsewhere, has
+/// a bell of its own.
+pub trait WorkerBell {
+    /// How often workers were called; the count may wrap.
+    fn calls(&self) -> u64;
+
+    /// Wakes those who wait for an entry to end, since one has ended.
+    fn ring_end<R: Wait>(&self, rt: &R);
+
+    /// Waits for a call to work, until the count of calls is not `seen` or the bell is closed, and says whether it is
+    /// closed.
+    fn wait_work<R: Wait>(&self, rt: &R, seen: u64) -> bool;
+}
+
 /// Threads that wait for the same: how often it came, whether some may wait, and how they are woken.
 #[derive(Drop)]
 struct Bench {
@@ -53,9 +67,9 @@ impl Bench {
     }
 }
 
-/// A bell that is rung where there is something new: for workers, that they are called to work, and for who waits for replies, that an
-/// entry has ended. Who waits reads the count of rings before it looks, so that it misses no ring. Whom a ring wakes, and when, is not
-/// proved.
+/// A bell that is rung where there is something new: for workers, that they are called to work, and for who waits for
+/// replies, that an entry has ended. Who waits reads the count of rings before it looks, so that it misses no ring.
+/// Whom a ring wakes, and when, is not proved.
 #[derive(Drop)]
 pub struct Bell {
     closed: Mutex<bool>,
@@ -100,13 +114,29 @@ impl Bell {
         self.ends.wake(rt, &self.closed);
     }
 
-    /// Waits for a call to work, until the count of calls is not `seen` or the bell is closed, and says whether it is closed.
+    /// Waits for a call to work, until the count of calls is not `seen` or the bell is closed, and says whether it is
+    /// closed.
     pub fn wait_work<R: Wait>(&self, rt: &R, seen: u64) -> bool {
         self.work.wait(rt, &self.closed, seen)
     }
 
-    /// Waits for an entry to end, until the count of ends is not `seen` or the bell is closed, and says whether it is closed.
+    /// Waits for an entry to end, until the count of ends is not `seen` or the bell is closed, and says whether it is
+    /// closed.
     pub fn wait_end<R: Wait>(&self, rt: &R, seen: u64) -> bool {
         self.ends.wait(rt, &self.closed, seen)
+    }
+}
+
+impl WorkerBell for Bell {
+    fn calls(&self) -> u64 {
+        Bell::calls(self)
+    }
+
+    fn ring_end<R: Wait>(&self, rt: &R) {
+        Bell::ring_end(self, rt);
+    }
+
+    fn wait_work<R: Wait>(&self, rt: &R, seen: u64) -> bool {
+        Bell::wait_work(self, rt, seen)
     }
 }

@@ -52,7 +52,8 @@ fn put_down(turn: &mut AtGate<'_>, hand: Hand) -> bool
     true
 }
 
-/// A worker's turn at the gate: it ends the entry in hand, and begins one that is ready, if there is one. Says whether an entry has ended.
+/// A worker's turn at the gate: it ends the entry in hand, and begins one that is ready, if there is one. Says whether
+/// an entry has ended.
 pub(crate) fn take_turn<R: Wait>(rt: &R, gate: &Gate, pass: &mut Pass, hand: Hand) -> (bool, Begun)
     requires gate { pass.old.gate ≡ gate.now }
     requires held { HasInHand pass.old hand }

@@ -2,9 +2,10 @@
 ghost use Rattle.std.specs.Prelude.{◌≡◌};
 ghost use Rattle.bl_hall.specs.Chronicle.{HasTrail};
 ghost use Rattle.bl_gate.specs.Gates.{Follows, HasLoanInHand, KeepsInHand, hall_seen, state_seen};
-ghost use Rattle.bl_worker.specs.Turns.{AddsTurnsOf, AdmitsNoLine, Closes, HasRun, HasWorked, IsTurnOf, Settles, WasTaken};
+ghost use Rattle.bl_worker.specs.Turns.{AddsTurnsOf, AdmitsNoLine, Closes, HasRun, HasWorked, IsTurnOf, Settles};
+ghost use Rattle.bl_worker.specs.Turns.{WasTaken};
 ghost use Rattle.bl_order.specs.Machine.{MayStart};
-ghost use Rattle.bl_worker.specs.Hands.{HasBegun, IsBegunOf, IsNoMiss, MissesNone};
+ghost use Rattle.bl_worker.specs.Hands.{HasBegun, HasMade, IsBegunOf, IsNoMiss, MissesNone, events_in, events_of};
 
 use crate::pause::Pause;
 use bl_core::machine::Started;
@@ -64,7 +65,8 @@ fn lose<R: Wait>(rt: &R, gate: &Gate, pass: &mut Pass, unrun: Unrun) -> Turn
     Turn::Lost(n)
 }
 
-/// What came of an entry that was begun in a turn at the gate: nothing is left to do, or it runs, and this was lent to it.
+/// What came of an entry that was begun in a turn at the gate: nothing is left to do, or it runs, and this was lent to
+/// it.
 pub(crate) enum Begun {
     Over(Turn),
     Runs(Lent),
@@ -80,6 +82,7 @@ fn lose_ready(turn: &mut AtGate<'_>, starved: Starved) -> Turn
     ensures worked { HasWorked turn.old turn.new result }
     ensures settles { Settles turn.old turn.new }
     ensures missed { MayStart (state_seen turn.old) starved → IsNoMiss result }
+    ensures made { HasMade (events_in result) turn.old turn.new }
 {
     let n = starved.entry();
     match turn.lose_ready(starved) {
@@ -97,6 +100,7 @@ pub(crate) fn begin(turn: &mut AtGate<'_>, n: u32) -> Begun
     ensures entry { IsBegunOf n result }
     ensures begun { HasBegun turn.old turn.new result }
     ensures missed { MayStart (state_seen turn.old) n → MissesNone result }
+    ensures made { HasMade (events_of result) turn.old turn.new }
 {
     match turn.start(n) {
         Ok(Started::Denied(_)) => Begun::Over(Turn::Denied(n)),
@@ -116,6 +120,7 @@ pub(crate) fn begin_next(turn: &mut AtGate<'_>) -> Begun
     ensures adds { AddsTurnsOf (λ k. IsBegunOf k result) turn.old turn.new }
     ensures begun { HasBegun turn.old turn.new result }
     ensures missed { MissesNone result }
+    ensures made { HasMade (events_of result) turn.old turn.new }
 {
     match turn.ready() {
         Some(n) => begin(turn, n),
@@ -148,9 +153,9 @@ fn run<P: Pause, R: Wait>(
     }
 }
 
-/// One turn with the entry `n`: it starts, and where it runs it is evaluated with the gate free, and ends. `Missed` comes where it
-/// may not start, and `Lost` only when out of memory. The entry was missed or has ended, with an answer of the kind that the turn
-/// names.
+/// One turn with the entry `n`: it starts, and where it runs it is evaluated with the gate free, and ends. `Missed`
+/// comes where it may not start, and `Lost` only when out of memory. The entry was missed or has ended, with an answer
+/// of the kind that the turn names.
 pub fn work_on<P: Pause, R: Wait>(
     rt: &R,
     alloc: Global,
@@ -177,8 +182,8 @@ pub fn work_on<P: Pause, R: Wait>(
     }
 }
 
-/// One turn with an entry that is ready, as `work_on` takes it; `Idle` where none is. An entry that was missed had not begun where
-/// the turn began, and another has begun it. Every entry that the turn started has ended.
+/// One turn with an entry that is ready, as `work_on` takes it; `Idle` where none is. An entry that was missed had not
+/// begun where the turn began, and another has begun it. Every entry that the turn started has ended.
 pub fn work_once<P: Pause, R: Wait>(
     rt: &R,
     alloc: Global,

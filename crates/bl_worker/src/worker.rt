@@ -3,7 +3,7 @@ ghost use Rattle.std.specs.Prelude.{◌≡◌};
 ghost use Rattle.bl_gate.specs.Gates.{Follows};
 ghost use Rattle.bl_worker.specs.Turns.{AddsTurnsAlone, AdmitsNoLine, Settles};
 
-use crate::bell::Bell;
+use crate::bell::WorkerBell;
 use crate::hand::{Hand, evaluate, take_turn};
 use crate::pause::Pause;
 use crate::turn::{Begun, Turn};
@@ -13,9 +13,9 @@ use crossbeam_utils::Backoff;
 use std::alloc::Global;
 use std::sync::Wait;
 
-/// Waits a moment where there was nothing to do: at first for another thread's step, and then at the bell. Says whether the bell is
-/// closed.
-fn rest<R: Wait>(rt: &R, bell: &Bell, backoff: &Backoff, seen: u64) -> bool {
+/// Waits a moment where there was nothing to do: at first for another thread's step, and then at the bell. Says whether
+/// the bell is closed.
+fn rest<B: WorkerBell, R: Wait>(rt: &R, bell: &B, backoff: &Backoff, seen: u64) -> bool {
     for _ in rt.forever() {
         if backoff.is_completed() {
             break;
@@ -28,16 +28,17 @@ fn rest<R: Wait>(rt: &R, bell: &Bell, backoff: &Backoff, seen: u64) -> bool {
     bell.wait_work(rt, seen)
 }
 
-/// Takes turns at the gate until the bell is closed and nothing is ready, and rings after each in which an entry has ended. In one turn
-/// it ends the entry that it has run and begins the next one, which it runs with the gate free. While there is nothing to do it sleeps at
-/// the bell, until workers are called. When it returns, every entry that it started has ended.
-pub fn run_worker<P: Pause, R: Wait>(
+/// Takes turns at the gate until the bell is closed and nothing is ready, and rings after each in which an entry has
+/// ended. In one turn it ends the entry that it has run and begins the next one, which it runs with the gate free.
+/// While there is nothing to do it sleeps at the bell, until workers are called. When it returns, every entry that it
+/// started has ended.
+pub fn run_worker<P: Pause, B: WorkerBell, R: Wait>(
     rt: &R,
     alloc: Global,
     gate: &Gate,
     pass: &mut Pass,
     pause: &P,
-    bell: &Bell,
+    bell: &B,
 )
     requires gate { pass.old.gate ≡ gate.now }
     ensures follows { Follows pass.old pass.new }

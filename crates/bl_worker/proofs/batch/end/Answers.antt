@@ -13,7 +13,6 @@ pub returns-in-Ok-clause-batch : goal.returns-in-Ok-clause-batch
 returns-in-Ok-clause-batch c first loans b =
     batch_ends first c.args.turn.now c.finish.new.self loans c.in-Ok.done (subst (λ (r : Result Loan Loan). IsBatch first c.args.turn.now (loan_of r ∷ loans)) c.in-Ok.is b)
     c.finish.ensures.follows c.finish.ensures.trail
-    (adds_call (λ _. IsEventOf (λ (n : ℕ). Unit {0})) c.args.turn.now c.finish.new.self (Ends c.in-Ok.done.entry) _ c.finish.ensures.calls tt)
     (settles_end c.args.turn.now c.finish.new.self c.in-Ok.done.entry _ c.finish.ensures.calls)
     c.finish.ensures.in_hand
     (finished c.args.turn.now c.finish.new.self c.in-Ok.done.entry _ c.finish.ensures.calls c.finish.ensures.follows c.finish.ensures.trail).ended
@@ -22,7 +21,12 @@ pub returns-in-Err-clause-batch : goal.returns-in-Err-clause-batch
 returns-in-Err-clause-batch c first loans b =
     batch_ends first c.args.turn.now c.lose.new.self loans c.in-Err.unrun (subst (λ (r : Result Loan Loan). IsBatch first c.args.turn.now (loan_of r ∷ loans)) c.in-Err.is b)
     c.lose.ensures.follows c.lose.ensures.trail
-    (adds_call (λ _. IsEventOf (λ (n : ℕ). Unit {0})) c.args.turn.now c.lose.new.self (Loses c.in-Err.unrun.entry) _ c.lose.ensures.calls tt)
     (settles_loss c.args.turn.now c.lose.new.self c.in-Err.unrun.entry _ c.lose.ensures.calls)
     c.lose.ensures.in_hand
     (gone c.args.turn.now c.lose.new.self c.in-Err.unrun.entry _ c.lose.ensures.calls c.lose.ensures.follows c.lose.ensures.trail).ended
+
+pub returns-in-Ok-clause-adds : goal.returns-in-Ok-clause-adds
+returns-in-Ok-clause-adds c = adds_call (λ _. IsEventOf (λ (n : ℕ). Unit {0})) c.args.turn.now c.finish.new.self (Ends c.in-Ok.done.entry) _ c.finish.ensures.calls tt
+
+pub returns-in-Err-clause-adds : goal.returns-in-Err-clause-adds
+returns-in-Err-clause-adds c = adds_call (λ _. IsEventOf (λ (n : ℕ). Unit {0})) c.args.turn.now c.lose.new.self (Loses c.in-Err.unrun.entry) _ c.lose.ensures.calls tt

@@ -1,12 +1,21 @@
-use Rattle.std.proofs.Common.{◌≡◌, List, [], rules, sym, ap, ◌∙◌, subst, arith}
+use Rattle.std.proofs.Common.{◌≡◌, [], rules, refl, sym, ◌∙◌, subst, arith}
 use Rattle.std.proofs.lemmas.List.{nil_from_length}
-use Rattle.bl_eval.specs.Loan.{Loan}
 use Rattle.bl_worker.specs.Batches.{IsBatch, loan_of}
+use Rattle.bl_gate.proofs.Following.{follows_itself, follows_then}
+use Rattle.bl_worker.proofs.Adding.{adds_itself, adds_then}
 use Rattle.bl_worker.proofs.Batching.{first_held, last_in, none_in}
 use Rattle.bl_worker.proofs.batch.Batch.end_all.Goals as goal
 
 pub loop-run-init : goal.loop-run-init
-loop-run-init c = record { trail = c.requires.trail; ran = c.requires.ran; batch = λ first b. b; room = c.requires.room }
+loop-run-init c = record {
+  follows = follows_itself c.args.turn.now;
+  trail = c.requires.trail;
+  adds = adds_itself _ c.args.turn.now c.args.turn.now refl;
+  ran = c.requires.ran;
+  batch = λ first b. b;
+  room = c.requires.room;
+  most = refl;
+}
 
 pub end-requires : goal.end-requires
 end-requires c =
@@ -17,7 +26,9 @@ end-requires c =
 
 pub loop-run-preserved : goal.loop-run-preserved
 loop-run-preserved c = record {
+  follows = follows_then c.args.turn.now c.loop-run.turn c.end.new.turn c.loop-run.invariant.follows c.end.ensures.follows;
   trail = c.end.ensures.trail;
+  adds = adds_then _ c.args.turn.now c.loop-run.turn c.end.new.turn c.loop-run.invariant.adds c.end.ensures.adds c.end.ensures.follows;
   ran = c.loop-run.invariant.ran;
   batch = λ first b. c.end.ensures.batch first _
       (subst (IsBatch first c.loop-run.turn)
@@ -28,6 +39,7 @@ loop-run-preserved c = record {
     lents = c.loop-run.invariant.room.lents;
     ran = omega (arith, c.pop.ensures.capacity, c.loop-run.invariant.room.ran);
   };
+  most = c.loop-run.invariant.most;
 }
 
 pub returns-clause-batch : goal.returns-clause-batch

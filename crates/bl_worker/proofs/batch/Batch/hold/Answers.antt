@@ -1,4 +1,4 @@
-use Rattle.std.proofs.Common.{◌≡◌, List, [], ◌++◌, ◌∷◌, map, length, vec_len, sym, ap, ◌∙◌, append-nil, arith}
+use Rattle.std.proofs.Common.{◌≡◌, List, ◌++◌, map, length, vec_len, sym, ap, ◌∙◌, append-nil, arith}
 use Rattle.std.specs.Prelude.{reverse}
 use Rattle.bl_eval.specs.Loan.{Loan}
 use Rattle.bl_worker.specs.Batches.{lent_by, loan_of, loans_in}

@@ -1,4 +1,4 @@
-use Rattle.std.proofs.Common.{◌≡◌, List, [], ◌++◌, ◌∷◌, map, refl, sym, ap, ◌∙◌, arith}
+use Rattle.std.proofs.Common.{List, ◌++◌, map, refl, sym, ap, ◌∙◌, arith}
 use Rattle.std.specs.Prelude.{reverse, Result}
 use Rattle.bl_eval.specs.Loan.{Loan}
 use Rattle.bl_worker.specs.Batches.{loan_of}
@@ -6,7 +6,7 @@ use Rattle.bl_worker.proofs.Batching.{ran_is, run_next}
 use Rattle.bl_worker.proofs.batch.Batch.run.Goals as goal
 
 pub loop-lent-init : goal.loop-lent-init
-loop-lent-init g c = record { loans = refl; room = c.requires.room }
+loop-lent-init g c = record { loans = refl; room = c.requires.room; most = refl }
 
 pub loop-lent-preserved : goal.loop-lent-preserved
 loop-lent-preserved g c = record {
@@ -20,4 +20,5 @@ loop-lent-preserved g c = record {
     lents = omega (arith, c.pop.ensures.capacity, c.loop-lent.invariant.room.lents);
     ran = omega (arith, c.push_reserved.ensures.capacity, c.loop-lent.invariant.room.ran);
   };
+  most = c.loop-lent.invariant.most;
 }

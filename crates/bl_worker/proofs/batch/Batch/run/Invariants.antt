@@ -7,6 +7,7 @@ abbrev pub invariant-loop-lent : goal.invariant-loop-lent
 invariant-loop-lent g l = record {
   loans : loans_in l.self ≡ loans_in l.initial.self;
   room : HasRoom l.self;
+  most : l.self.most ≡ l.initial.self.most;
 }
 
 abbrev pub decreases-loop-lent : goal.decreases-loop-lent
