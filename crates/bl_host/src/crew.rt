@@ -8,6 +8,7 @@ use crate::post::{Post, Share};
 use bl_gate::gate::Gate;
 use bl_gate::pass::Pass;
 use bl_keeper::keep::Keep;
+use bl_rounds::watch::Watch;
 use bl_worker::pause::Pause;
 use std::net::{Net, TcpListener, TcpStream};
 use std::snapshot::Snapshot;
@@ -42,7 +43,7 @@ pub(crate) fn start_worker<
     let part = post.gate.split_pass(pass);
     let promise = Back(Snapshot::of(&part));
     let (rt, alloc, gate) = (post.rt, post.alloc, post.gate);
-    let (bell, pause, keep) = (post.bell, post.pause, post.keep);
+    let (bell, alarms, pause, keep) = (post.bell, post.alarms, post.pause, post.keep);
     let started = scope.spawn_with(
         promise,
         move || -> Share
@@ -54,6 +55,7 @@ pub(crate) fn start_worker<
                 alloc,
                 gate,
                 bell,
+                alarms,
                 pause,
                 keep,
             };
@@ -70,7 +72,14 @@ pub(crate) fn start_session<
     P: Pause + Sync,
     K: Keep + Sync,
     T: Threads + Net<Listener = TcpListener, Stream = TcpStream> + Wait + Sync,
->(scope: &Scope<'s, E>, post: &Post<'s, P, K, T>, pass: &mut Pass, desk: &'s Desk) -> Option<Member>
+>(
+    scope: &Scope<'s, E>,
+    post: &Post<'s, P, K, T>,
+    pass: &mut Pass,
+    desk: &'s Desk,
+    thread: usize,
+    watch: Watch,
+) -> Option<Member>
     requires gate { pass.old.gate ≡ post.now.gate.now }
     requires some { 1 < pass.old.parts }
     ensures rest { Remains pass.old pass.new }
@@ -80,7 +89,7 @@ pub(crate) fn start_session<
     let part = post.gate.split_pass(pass);
     let promise = Back(Snapshot::of(&part));
     let (rt, alloc, gate) = (post.rt, post.alloc, post.gate);
-    let (bell, pause, keep) = (post.bell, post.pause, post.keep);
+    let (bell, alarms, pause, keep) = (post.bell, post.alarms, post.pause, post.keep);
     let started = scope.spawn_with(
         promise,
         move || -> Share
@@ -92,10 +101,11 @@ pub(crate) fn start_session<
                 alloc,
                 gate,
                 bell,
+                alarms,
                 pause,
                 keep,
             };
-            post.attend(part, desk)
+            post.attend(part, desk, thread, watch)
         },
     );
     started.ok()
@@ -134,7 +144,8 @@ pub(crate) fn start_workers<
     true
 }
 
-/// Starts so many session threads, and says whether all were started. After one that was not, no other is.
+/// Starts a session thread for each place where one waits, and says whether all were started. After one that was not, no
+/// other is.
 pub(crate) fn start_sessions<
     's,
     E,
@@ -145,19 +156,20 @@ pub(crate) fn start_sessions<
     scope: &Scope<'s, E>,
     post: &Post<'s, P, K, T>,
     pass: &mut Pass,
-    count: u32,
+    mut watches: Vec<Watch>,
     desk: &'s Desk,
     crew: &mut Vec<Member>,
 ) -> bool
     requires gate { pass.old.gate ≡ post.now.gate.now }
-    requires some { count < pass.old.parts }
+    requires some { vec_len watches < pass.old.parts }
     requires crew { All (λ member. IsPart post.now.gate.now member.promise.0.value) crew.old.items }
     ensures rest { Remains pass.old pass.new }
     ensures whole { result ≡ true → pass.new.parts + vec_len crew.new ≡ pass.old.parts + vec_len crew.old }
     ensures crew { All (λ member. IsPart post.now.gate.now member.promise.0.value) crew.new.items }
 {
-    for _ in 0..count {
-        let Some(member) = start_session(scope, post, pass, desk) else {
+    while let Some(watch) = watches.pop() {
+        let thread = watches.len();
+        let Some(member) = start_session(scope, post, pass, desk, thread, watch) else {
             return false;
         };
         if crew.push(member).is_err() {

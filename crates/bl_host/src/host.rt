@@ -1,5 +1,5 @@
 //! Sessions over TCP in threads, round one gate.
-ghost use Rattle.std.specs.Prelude.{◌≡◌, ◌<◌, true};
+ghost use Rattle.std.specs.Prelude.{◌≡◌, ◌<◌, ◌≤◌, true, vec_len};
 ghost use Rattle.bl_gate.specs.Gates.{Follows};
 
 use crate::crew::{join_crew, start_sessions, start_workers};
@@ -10,6 +10,8 @@ use crate::post::Post;
 use bl_gate::gate::Gate;
 use bl_gate::pass::Pass;
 use bl_keeper::keep::Keep;
+use bl_rounds::alarm::Alarms;
+use bl_rounds::watch::Watch;
 use bl_worker::bell::Bell;
 use bl_worker::pause::Pause;
 use crossbeam_channel::Receiver;
@@ -59,28 +61,56 @@ fn run_crews<
     post: &Post<'s, P, K, T>,
     mut pass: Pass,
     desk: &'s Desk,
+    watches: Vec<Watch>,
     options: Options,
 ) -> Crews
     requires gate { pass.gate ≡ post.now.gate.now }
     requires parts { 32 < pass.parts }
+    requires watches { vec_len watches ≤ options.session_threads }
     ensures gate { result.pass.gate ≡ pass.gate }
     ensures whole { result.whole ≡ true → Follows pass result.pass }
 {
     let mut workers = Vec::new(post.alloc);
     let mut sessions = Vec::new(post.alloc);
+    let all = watches.len() == options.session_threads as usize;
     let whole = start_workers(scope, post, &mut pass, options.workers, &mut workers)
-        && start_sessions(
-            scope,
-            post,
-            &mut pass,
-            options.session_threads,
-            desk,
-            &mut sessions,
-        );
+        && start_sessions(scope, post, &mut pass, watches, desk, &mut sessions)
+        && all;
     let told = join_crew(post.rt, post.gate, &mut pass, sessions);
     post.bell.close(post.rt);
     let _ = join_crew(post.rt, post.gate, &mut pass, workers);
     Crews { pass, whole, told }
+}
+
+/// What session threads wait at, and how they are woken.
+#[derive(Drop)]
+struct Waiting {
+    watches: Vec<Watch>,
+    alarms: Alarms,
+}
+
+/// A place to wait for each of so many session threads, or fewer where memory or a descriptor was refused. The listener
+/// waits no more.
+fn make_watches<R: Net>(rt: &R, alloc: Global, listener: &TcpListener, count: u32) -> Waiting
+    ensures { vec_len result.watches ≤ count }
+{
+    let mut watches = Vec::new(alloc);
+    let mut alarms = Alarms::new(alloc);
+    if listener.set_nonblocking(true).is_err() {
+        return Waiting { watches, alarms };
+    }
+    for _ in 0..count {
+        let Ok(watch) = Watch::new(rt, alloc, listener) else {
+            break;
+        };
+        let Ok(waker) = watch.waker() else {
+            break;
+        };
+        if alarms.add(waker).is_err() || watches.push(watch).is_err() {
+            break;
+        }
+    }
+    Waiting { watches, alarms }
 }
 
 /// Starts the threads in a scope of their own, and waits for them.
@@ -88,19 +118,29 @@ fn run_scope<
     P: Pause + Sync,
     K: Keep + Sync,
     T: Threads + Net<Listener = TcpListener, Stream = TcpStream> + Wait + Sync,
->(site: &Site<'_, P, K, T>, bell: &Bell, desk: &Desk, pass: Pass, options: Options) -> Crews
+>(
+    site: &Site<'_, P, K, T>,
+    desk: &Desk,
+    waiting: Waiting,
+    pass: Pass,
+    options: Options,
+) -> Crews
     requires gate { pass.gate ≡ site.now.gate.now }
     requires parts { 32 < pass.parts }
+    requires watches { vec_len waiting.watches ≤ options.session_threads }
     ensures gate { result.pass.gate ≡ pass.gate }
     ensures whole { result.whole ≡ true → Follows pass result.pass }
 {
     let (rt, alloc, gate) = (site.rt, site.alloc, site.gate);
     let (pause, keep) = (site.pause, site.keep);
+    let Waiting { watches, alarms } = waiting;
+    let bell = &Bell::new();
+    let alarms = &alarms;
     thread::scope(
         thread::scope_env(),
         rt,
         |scope| -> Crews
-            requires { (pass.gate ≡ gate.now) × (32 < pass.parts) }
+            requires { (pass.gate ≡ gate.now) × (32 < pass.parts) × (vec_len watches ≤ options.session_threads) }
             ensures { (result.pass.gate ≡ pass.gate) × (result.whole ≡ true → Follows pass result.pass) }
         {
             let post = Post {
@@ -108,10 +148,11 @@ fn run_scope<
                 alloc,
                 gate,
                 bell,
+                alarms,
                 pause,
                 keep,
             };
-            run_crews(scope, &post, pass, desk, options)
+            run_crews(scope, &post, pass, desk, watches, options)
         },
     )
 }
@@ -127,8 +168,9 @@ fn gather<T: Wait>(rt: &T, alloc: Global, told: &Receiver<Ended, Global>) -> (Ve
     (ended, true)
 }
 
-/// Takes so many connections at the listener, serves the session of each on a thread of its own, and lets the workers run what is ready meanwhile. It
-/// returns once all sessions are over, all threads have ended, and what was admitted has run.
+/// Takes so many connections at the listener, serves their sessions on so many threads, each of which has many at once,
+/// and lets the workers run what is ready meanwhile. It returns once all sessions are over, all threads have ended, and
+/// what was admitted has run.
 ///
 /// The pass has at least 33 parts of the right to close the gate, one for each thread and one that stays, and has as
 /// many again where each thread could be started. Where one could not, no further one is, and those that were started
@@ -143,7 +185,8 @@ pub fn host<
     ensures gate { result.pass.gate ≡ pass.gate }
     ensures whole { result.whole ≡ true → Follows pass result.pass }
 {
-    let Ok((desk, told)) = Desk::new(site.alloc, listener, options.sessions) else {
+    let waiting = make_watches(site.rt, site.alloc, &listener, options.session_threads);
+    let Ok((desk, told)) = Desk::new(site.alloc, listener, options) else {
         let ended = Vec::new(site.alloc);
         return Hosted {
             pass,
@@ -152,8 +195,7 @@ pub fn host<
             memory: false,
         };
     };
-    let bell = Bell::new();
-    let crews = run_scope(site, &bell, &desk, pass, options);
+    let crews = run_scope(site, &desk, waiting, pass, options);
     let (ended, heard) = gather(site.rt, site.alloc, &told);
     Hosted {
         pass: crews.pass,

@@ -1,4 +1,4 @@
-//! A journal that many threads keep up with, and writers that write only what may be told: what is told was kept
+//! A journal that many threads keep up with, and streams that are written only what may be told: what is told was kept
 //! before.
 //!
 //!     which     which gate something is of, for proofs alone
@@ -7,8 +7,8 @@
 //!     catch     a journal that keeps up with a gate
 //!     held      such a journal with its pass
 //!     keeper    the journal of a gate, under a lock
-//!     sealed    a writer that takes bytes for a receipt alone
-//!     writer    a writer that has all kept before it writes
+//!     sealed    a stream that takes bytes for a receipt alone
+//!     stream    a stream that has all kept before it is written to
 #![tactic(auto)]
 
 pub mod catch;
@@ -17,5 +17,5 @@ pub mod keep;
 pub mod keeper;
 pub mod receipt;
 mod sealed;
+pub mod stream;
 pub mod which;
-pub mod writer;

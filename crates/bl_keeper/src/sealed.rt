@@ -1,46 +1,48 @@
-//! A writer that takes bytes for a receipt alone.
+//! A stream that takes bytes for a receipt alone.
 ghost use Rattle.std.specs.Prelude.{◌≡◌};
-ghost use Rattle.std.specs.Io.{WritesAtMost};
-ghost use Rattle.std.specs.Io.KnownBytes.{Keeps, WriteAppends};
+ghost use Rattle.std.specs.Io.KnownBytes.{Keeps};
+ghost use Rattle.bl_connection.specs.Answers.{Gives, Takes};
 
 use crate::keep::Keep;
 use crate::receipt::Receipt;
-use std::io;
-use std::io::Write;
+use bl_connection::stream::{Answer, Stream};
 
-/// A writer that takes bytes for a receipt alone: nobody else has it.
+/// A stream that takes bytes for a receipt alone: nobody else has it.
 #[derive(Drop)]
-pub(crate) struct Sealed<W> {
-    inner: W,
+pub(crate) struct Sealed<S> {
+    inner: S,
 }
 
-impl<W: Write> Sealed<W> {
-    /// Seals a writer.
-    pub(crate) fn new(inner: W) -> Sealed<W>
+impl<S: Stream> Sealed<S> {
+    /// Seals a stream.
+    pub(crate) fn new(inner: S) -> Sealed<S>
         ensures { result.inner ≡ inner }
     {
         Sealed { inner }
     }
 
-    /// Writes bytes, as the writer does, for a receipt of this keep.
-    pub(crate) fn write_for<K: Keep>(&mut self, receipt: Receipt, bytes: &[u8]) -> io::Result<usize>
+    /// Reads, as the stream does.
+    pub(crate) fn read(&mut self, room: &mut [u8]) -> Answer
+        ensures bytes { Gives (S.remaining self.old.inner) (S.remaining self.new.inner) result room.new }
+        ensures others { Keeps (S.contents self.old.inner) (S.contents self.new.inner) }
+        ensures answer { S.reads self.old.inner result self.new.inner }
+    {
+        self.inner.read(room)
+    }
+
+    /// Writes bytes, as the stream does, for a receipt of this keep.
+    pub(crate) fn write_for<K: Keep>(&mut self, receipt: Receipt, bytes: &[u8]) -> Answer
         requires { K.shows receipt }
-        ensures bound { WritesAtMost result bytes.now }
-        ensures bytes { WriteAppends (W.contents self.old.inner) (W.contents self.new.inner) result bytes.now }
+        ensures bytes { Takes (S.contents self.old.inner) (S.contents self.new.inner) result bytes.now }
+        ensures others { Keeps (S.remaining self.old.inner) (S.remaining self.new.inner) }
+        ensures answer { S.writes self.old.inner bytes.now result self.new.inner }
     {
         drop(receipt);
         self.inner.write(bytes)
     }
 
-    /// Hands on what was written, as the writer does.
-    pub(crate) fn flush(&mut self) -> io::Result<()>
-        ensures { Keeps (W.contents self.old.inner) (W.contents self.new.inner) }
-    {
-        self.inner.flush()
-    }
-
-    /// The writer, unsealed.
-    pub(crate) fn into_inner(self) -> W
+    /// The stream, unsealed.
+    pub(crate) fn into_inner(self) -> S
         ensures { result ≡ self.inner }
     {
         let Sealed { inner } = self;

@@ -5,20 +5,28 @@ ghost use Rattle.bl_keeper.specs.Keeping.{HasKept};
 
 use super::base::{Begun, HEAD, OPENED, begin_in, open, text_of, torn};
 use bl_disk::device::{Device, DeviceError};
+use bl_connection::stream::{Answer, Ends, Stream};
 use bl_gate::gate::Gate;
 use bl_gate::pass::Pass;
 use bl_keeper::keep::{Keep, NoKeep};
 use bl_keeper::keeper::Keeper;
 use bl_keeper::receipt::Receipt;
 use bl_keeper::which::Which;
-use bl_keeper::writer::KeptWriter;
+use bl_keeper::stream::KeptStream;
 use bl_record::fault::JournalFault;
 use bl_record::journal::Journal;
 use std::alloc::AllocGlobal;
-use std::io::Write;
 use std::marker::Brand;
 use std::process::Abort;
 use std::sync::Wait;
+
+/// A stream that gives nothing, and keeps what it is written.
+fn to_list<R: AllocGlobal>(rt: &R) -> Ends<&'static [u8], Vec<u8>> {
+    Ends {
+        reader: b"",
+        writer: Vec::new(rt.alloc()),
+    }
+}
 
 /// What came of three writes, each after a session was opened: the journal, what was written, and how often that was
 /// refused.
@@ -29,7 +37,7 @@ struct Written<D: Device> {
     refused: u32,
 }
 
-/// Opens three sessions, and writes `ok` after each through a writer that has that kept before.
+/// Opens three sessions, and writes `ok` after each to a stream that has that kept before.
 fn write_thrice<G: Which, D: Device, R: AllocGlobal + Abort + Wait>(
     rt: &R,
     gate: &Gate,
@@ -44,21 +52,21 @@ fn write_thrice<G: Which, D: Device, R: AllocGlobal + Abort + Wait>(
 {
     let part = gate.split_pass(&mut pass);
     let keeper = Keeper::<G, D>::new(gate, part, journal);
-    let mut writer = KeptWriter::new(rt, rt.alloc(), &keeper, Vec::new(rt.alloc()));
+    let mut stream = KeptStream::new(rt, rt.alloc(), &keeper, to_list(rt));
     let mut refused = 0;
     for _ in 0..3u32 {
         open(rt, gate, &mut pass);
-        if writer.write(b"ok\n").is_err() {
-            assert!(rt; writer.refused == Some(fault));
+        if stream.write(b"ok\n") == Answer::Failed {
+            assert!(rt; stream.refused == Some(fault));
             refused += 1;
         }
     }
-    let (told, _) = writer.into_parts();
+    let (ends, _) = stream.into_parts();
     let (journal, part) = keeper.finish();
     gate.meet(&mut pass, part);
     Written {
         journal,
-        told,
+        told: ends.writer,
         refused,
     }
 }
@@ -139,10 +147,9 @@ fn keep_twice<G: Which, D: Device, R: AllocGlobal + Abort + Wait>(
 #[test]
 fn all_is_written_where_nothing_is_to_be_kept(rt: HostRuntime) {
     assert!(rt; matches!(NoKeep.keep_up(&rt, rt.alloc()), Ok(Receipt::Nothing)));
-    let mut writer = KeptWriter::new(&rt, rt.alloc(), &NoKeep, Vec::new(rt.alloc()));
-    assert!(rt; writer.write_all(b"ok\n").is_ok());
-    assert!(rt; writer.flush().is_ok());
-    let (told, refused) = writer.into_parts();
-    assert!(rt; told.as_slice() == b"ok\n".as_slice());
+    let mut stream = KeptStream::new(&rt, rt.alloc(), &NoKeep, to_list(&rt));
+    assert!(rt; stream.write(b"ok\n") == Answer::Moved(3));
+    let (ends, refused) = stream.into_parts();
+    assert!(rt; ends.writer.as_slice() == b"ok\n".as_slice());
     assert!(rt; refused.is_none());
 }

@@ -1,11 +1,10 @@
 //! Nothing is written before it was kept.
+use bl_connection::stream::{Answer, Stream};
 use bl_keeper::keep::Keep;
 use bl_keeper::receipt::Receipt;
-use bl_keeper::writer::KeptWriter;
+use bl_keeper::stream::KeptStream;
 use bl_record::fault::JournalFault;
 use std::alloc::Global;
-use std::io;
-use std::io::Write;
 use std::sync::Wait;
 use std::sync::atomic::{AtomicU64, Ordering};
 
@@ -37,15 +36,26 @@ struct Notes<'a> {
     in_order: bool,
 }
 
-impl Write for Notes<'_> {
-    fn write(&mut self, buf: &[u8]) -> io::Result<usize> {
-        self.writes = self.writes.saturating_add(1);
-        self.in_order &= self.counts.kept.load(Ordering::SeqCst) == self.writes;
-        Ok(buf.len())
+impl Stream for Notes<'_> {
+    ghost use Rattle.std.specs.Prelude.{None, ⊤};
+
+    ghost remaining = { λ _. None };
+
+    ghost contents = { λ _. None };
+
+    ghost reads = { λ _ _ _. ⊤ };
+
+    ghost writes = { λ _ _ _ _. ⊤ };
+
+    fn read(&mut self, room: &mut [u8]) -> Answer {
+        let _ = room;
+        Answer::WouldBlock
     }
 
-    fn flush(&mut self) -> io::Result<()> {
-        Ok(())
+    fn write(&mut self, bytes: &[u8]) -> Answer {
+        self.writes = self.writes.saturating_add(1);
+        self.in_order &= self.counts.kept.load(Ordering::SeqCst) == self.writes;
+        Answer::Moved(bytes.len())
     }
 }
 
@@ -59,12 +69,11 @@ fn each_write_comes_after_a_keep_of_its_own(rt: HostRuntime) {
         writes: 0,
         in_order: true,
     };
-    let mut writer = KeptWriter::new(&rt, rt.alloc(), &counts, notes);
+    let mut stream = KeptStream::new(&rt, rt.alloc(), &counts, notes);
     for _ in 0..3u32 {
-        assert!(rt; writer.write_all(b"ok\n").is_ok());
-        assert!(rt; writer.flush().is_ok());
+        assert!(rt; stream.write(b"ok\n") == Answer::Moved(3));
     }
-    let (notes, _) = writer.into_parts();
+    let (notes, _) = stream.into_parts();
     assert!(rt; notes.writes == 3);
     assert!(rt; notes.in_order);
 }

@@ -1,12 +1,15 @@
-use Rattle.std.proofs.Common.{◌≡◌, ◌+◌}
+use Rattle.std.proofs.Common.{◌≡◌, ◌+◌, ◌≤◌}
 use Rattle.std.specs.Prelude.{All, vec_len}
 use Rattle.bl_host.specs.Crews.{IsPart, Remains}
 use Rattle.bl_host.proofs.crew.start_sessions.Given as goal
 
 -- each thread that was started has a part of the pass
-abbrev pub invariant-loop : goal.invariant-loop
-invariant-loop g l =
+abbrev pub invariant-loop-watch : goal.invariant-loop-watch
+invariant-loop-watch g l =
     Remains l.initial.pass l.pass
-    × (l.pass.parts + l.counter ≡ l.initial.pass.parts)
-    × (vec_len l.crew ≡ vec_len l.initial.crew + l.counter)
+    × (l.pass.parts + vec_len l.initial.watches ≡ l.initial.pass.parts + vec_len l.watches)
+    × (vec_len l.crew + vec_len l.watches ≡ vec_len l.initial.crew + vec_len l.initial.watches)
     × All (λ member. IsPart l.initial.pass.gate member.promise.0.value) l.crew.items
+
+abbrev pub decreases-loop-watch : goal.decreases-loop-watch
+decreases-loop-watch g l = vec_len l.watches

@@ -1,0 +1,71 @@
+//! What wakes a thread that waits.
+use bl_connection::stream::{Answer, Stream};
+use bl_rounds::alarm::Alarms;
+use bl_rounds::socket::Socket;
+use bl_rounds::watch::{Found, Watch, found_by};
+use std::io;
+use std::io::Write;
+use std::net::{Ipv4Addr, Net, Shutdown, TcpListener, TcpStream};
+use std::process::Abort;
+
+/// What came where no fault may come.
+fn right<T>(rt: &impl Abort, outcome: io::Result<T>) -> T {
+    match outcome {
+        Ok(value) => value,
+        Err(_fault) => panic!(rt; "a fault"),
+    }
+}
+
+/// A listener that does not wait, at some free port of this machine.
+fn listen<R: Net<Listener = TcpListener> + Abort>(rt: &R) -> TcpListener {
+    let listener = right(rt, TcpListener::bind(rt, (Ipv4Addr::LOCALHOST, 0)));
+    right(rt, listener.set_nonblocking(true));
+    listener
+}
+
+/// A thread that may sleep is woken by the next end, and one that has missed none only.
+#[test]
+fn an_end_wakes_who_waits_for_one(rt: HostRuntime) {
+    let listener = listen(&rt);
+    let mut watch = right(&rt, Watch::new(&rt, rt.alloc(), &listener));
+    let mut alarms = Alarms::new(rt.alloc());
+    assert!(rt; alarms.add(right(&rt, watch.waker())).is_ok());
+    let seen = alarms.ends();
+    alarms.ring_end();
+    assert!(rt; !alarms.arm(0, seen));
+    assert!(rt; alarms.arm(0, seen + 1));
+    assert!(rt; !alarms.arm(1, seen + 1));
+    alarms.ring_end();
+    assert!(rt; watch.wait(true));
+    let mut calls = 0u32;
+    for event in watch.events() {
+        assert!(rt; found_by(event) == Found::Call);
+        calls += 1;
+    }
+    assert!(rt; calls == 1);
+    assert!(rt; watch.wait(false));
+    assert!(rt; watch.events().next().is_none());
+}
+
+/// A socket would block until its peer sends, is then found under its number, and gives the end once the peer has
+/// ended.
+#[test]
+fn a_socket_is_found_ready(rt: HostRuntime) {
+    let listener = listen(&rt);
+    let at = right(&rt, listener.local_addr());
+    let mut watch = right(&rt, Watch::new(&rt, rt.alloc(), &listener));
+    let mut peer = right(&rt, TcpStream::connect(&rt, at));
+    assert!(rt; watch.wait(true));
+    let (stream, _) = right(&rt, listener.accept());
+    let mut socket = right(&rt, Socket::new(stream));
+    let mut room = [0u8; 8];
+    assert!(rt; socket.read(&mut room) == Answer::WouldBlock);
+    assert!(rt; watch.add(&mut socket, 7).is_ok());
+    assert!(rt; peer.write_all(b"hello").is_ok());
+    assert!(rt; peer.shutdown(Shutdown::Write).is_ok());
+    assert!(rt; watch.wait(true));
+    assert!(rt; watch.events().any(|event| found_by(event) == Found::Ready(7)));
+    assert!(rt; socket.read(&mut room) == Answer::Moved(5));
+    assert!(rt; &room[..5] == b"hello".as_slice());
+    assert!(rt; socket.read(&mut room) == Answer::Moved(0));
+}
