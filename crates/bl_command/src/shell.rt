@@ -29,7 +29,7 @@ use bl_words::command::{Command, Hosting, read_words};
 use bl_worker::pause::NoPause;
 use clap::Error;
 use std::io::{BufRead, BufReader, BufWriter, ErrorKind, IsTerminal, Write};
-use std::net::{Ipv4Addr, Net, TcpListener, TcpStream};
+use std::net::{Ipv4Addr, Net, SocketAddr, TcpListener, TcpStream};
 use std::rt::{Env, Files as OpensFiles};
 use std::sync::Wait;
 use std::thread::Threads;
@@ -84,6 +84,13 @@ fn listening(bound: io::Result<TcpListener>) -> Result<TcpListener, ProgramFault
     }
 }
 
+/// Listens at an address. As many may wait there to be taken as the system allows; the library's own listener has room
+/// for 128.
+fn bind<R: Net>(rt: &R, address: (Ipv4Addr, u16)) -> io::Result<TcpListener> {
+    let listener = mio::net::TcpListener::bind(rt, SocketAddr::from(address))?;
+    Ok(TcpListener::from(listener))
+}
+
 /// A listener on a port of 127.0.0.1.
 pub fn listen<R: Net<Listener = TcpListener, Stream = TcpStream>>(
     rt: &R,
@@ -91,7 +98,7 @@ pub fn listen<R: Net<Listener = TcpListener, Stream = TcpStream>>(
 ) -> Result<TcpListener, ProgramFault>
     requires { port ≤ 65535 }
 {
-    listening(TcpListener::bind(rt, address_of(port)))
+    listening(bind(rt, address_of(port)))
 }
 
 /// How many threads and sessions there are, by what is hosted.
