@@ -118,13 +118,7 @@ fn run_scope<
     P: Pause + Sync,
     K: Keep + Sync,
     T: Threads + Net<Listener = TcpListener, Stream = TcpStream> + Wait + Sync,
->(
-    site: &Site<'_, P, K, T>,
-    desk: &Desk,
-    waiting: Waiting,
-    pass: Pass,
-    options: Options,
-) -> Crews
+>(site: &Site<'_, P, K, T>, desk: &Desk, waiting: Waiting, pass: Pass, options: Options) -> Crews
     requires gate { pass.gate ≡ site.now.gate.now }
     requires parts { 32 < pass.parts }
     requires watches { vec_len waiting.watches ≤ options.session_threads }

@@ -4,15 +4,15 @@ ghost use Rattle.bl_gate.specs.Gates.{hall_seen};
 ghost use Rattle.bl_keeper.specs.Keeping.{HasKept};
 
 use super::base::{Begun, HEAD, OPENED, begin_in, open, text_of, torn};
-use bl_disk::device::{Device, DeviceError};
 use bl_connection::stream::{Answer, Ends, Stream};
+use bl_disk::device::{Device, DeviceError};
 use bl_gate::gate::Gate;
 use bl_gate::pass::Pass;
 use bl_keeper::keep::{Keep, NoKeep};
 use bl_keeper::keeper::Keeper;
 use bl_keeper::receipt::Receipt;
-use bl_keeper::which::Which;
 use bl_keeper::stream::KeptStream;
+use bl_keeper::which::Which;
 use bl_record::fault::JournalFault;
 use bl_record::journal::Journal;
 use std::alloc::AllocGlobal;

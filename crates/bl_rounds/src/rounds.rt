@@ -167,10 +167,7 @@ impl<'a, S: Stream> Rounds<'a, S> {
         ensures same { (self.new.crowd.first ≡ self.old.crowd.first) × (self.new.crowd.gate ≡ self.old.crowd.gate) }
         ensures numbers { numbers self.new.seats.items ≡ numbers self.old.seats.items }
     {
-        if let Ok(i) = self
-            .seats
-            .binary_search_by_key(&number, |seat| seat.number)
-        {
+        if let Ok(i) = self.seats.binary_search_by_key(&number, |seat| seat.number) {
             if self.seats[i].stage == Stage::Sleeps {
                 self.seats[i].stage = Stage::Goes;
             }

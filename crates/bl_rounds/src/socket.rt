@@ -1,10 +1,9 @@
 //! A connection over TCP that does not wait.
 use bl_connection::stream::{Answer, Stream, answer_of};
 use mio::net::TcpStream;
-use std::io;
 use std::io::{Read, Write};
-use std::net;
 use std::net::Shutdown;
+use std::{io, net};
 
 /// A connection over TCP whose reads and writes answer that they would block where they would wait. Which bytes it
 /// gives and takes no clause of the system's says.

@@ -64,7 +64,11 @@ fn a_socket_is_found_ready(rt: HostRuntime) {
     assert!(rt; peer.write_all(b"hello").is_ok());
     assert!(rt; peer.shutdown(Shutdown::Write).is_ok());
     assert!(rt; watch.wait(true));
-    assert!(rt; watch.events().any(|event| found_by(event) == Found::Ready(7)));
+    assert!(rt;
+        watch
+            .events()
+            .any(|event| found_by(event) == Found::Ready(7))
+    );
     assert!(rt; socket.read(&mut room) == Answer::Moved(5));
     assert!(rt; &room[..5] == b"hello".as_slice());
     assert!(rt; socket.read(&mut room) == Answer::Moved(0));
