@@ -1,7 +1,8 @@
 //! The crowd of a thread, round by round.
-ghost use Rattle.std.specs.Prelude.{◌≡◌, ◌<◌, vec_len};
+ghost use Rattle.std.specs.Prelude.{◌≡◌, ◌<◌, ◌+◌, IfNone, IfSome, OnSome, vec_len};
 ghost use Rattle.bl_gate.specs.Gates.{Follows};
 ghost use Rattle.bl_crowd.specs.Crowds.{IsCrowd};
+ghost use Rattle.bl_rounds.specs.Leaving.{HasGone};
 ghost use Rattle.bl_rounds.specs.Seats.{numbers};
 
 use crate::alarm::Alarms;
@@ -116,11 +117,42 @@ fn go_after_turn<S: Stream>(crowd: &mut Crowd<'_, S>, i: usize) -> Stage
     }
 }
 
+/// Parts with a member whose session is over or has failed.
+fn part_with<S: Stream>(crowd: &mut Crowd<'_, S>, i: usize, number: u32) -> Option<Gone<S>>
+    requires crowd { IsCrowd S.remaining S.contents crowd.old }
+    requires within { i < vec_len crowd.old.members }
+    ensures crowd { IsCrowd S.remaining S.contents crowd.new }
+    ensures gone { IfSome result (HasGone S.remaining S.contents crowd.old.gate.now.base.setup.names
+        crowd.old.first.value crowd.old.pass) }
+    ensures number { IfSome result (λ gone. gone.number ≡ number) }
+    ensures less { OnSome result (vec_len crowd.new.members + 1 ≡ vec_len crowd.old.members) }
+    ensures none { IfNone result (vec_len crowd.new.members ≡ vec_len crowd.old.members) }
+    ensures same { (crowd.new.pass ≡ crowd.old.pass) × (crowd.new.first ≡ crowd.old.first)
+        × (crowd.new.gate ≡ crowd.old.gate) }
+{
+    match crowd.step(i) {
+        Next::Over => Some(Gone {
+            number,
+            stream: crowd.finish(i),
+            fault: None,
+        }),
+        Next::Failed(_) => {
+            let departed = crowd.leave(i);
+            Some(Gone {
+                number,
+                stream: departed.stream,
+                fault: departed.fault,
+            })
+        }
+        Next::Goes | Next::Blocked | Next::Asks => None,
+    }
+}
+
 impl<'a, S: Stream> Rounds<'a, S> {
-    ghost use Rattle.std.specs.Prelude.{◌++◌, ◌∷◌, [], OnOk, OnErr, IfSome, IfNone};
+    ghost use Rattle.std.specs.Prelude.{◌++◌, ◌∷◌, [], OnOk, OnErr};
     ghost use Rattle.bl_serve.specs.Courses.{SpeaksForItsOwn};
     ghost use Rattle.bl_crowd.specs.declared.member.Member.{Member};
-    ghost use Rattle.bl_rounds.specs.Leaving.{HasGone, IsOneOut};
+    ghost use Rattle.bl_rounds.specs.Leaving.{IsOneOut};
 
     /// A thread with no connection.
     pub fn new(alloc: Global, gate: &'a Gate, pass: Pass) -> Rounds<'a, S>
@@ -288,6 +320,15 @@ impl<'a, S: Stream> Rounds<'a, S> {
         !self.has(Stage::Waits) || (!self.busy && alarms.arm(thread, self.seen))
     }
 
+    /// The place of a connection that is to leave.
+    fn leaver(&self) -> Option<usize>
+        ensures { IfSome result (λ i. i < vec_len self.now.seats) }
+    {
+        self.seats
+            .iter()
+            .position(|seat| seat.stage == Stage::Leaves)
+    }
+
     /// The next connection that leaves, with its stream, for its owner to shut; none where none does. What went
     /// through the stream is a transcript, or begins one where a fault ended the session.
     pub fn leave(&mut self) -> Option<Gone<S>>
@@ -299,31 +340,13 @@ impl<'a, S: Stream> Rounds<'a, S> {
             (numbers self.new.seats.items)) }
         ensures none { IfNone result (numbers self.new.seats.items ≡ numbers self.old.seats.items) }
     {
-        let i = self
-            .seats
-            .iter()
-            .position(|seat| seat.stage == Stage::Leaves)?;
-        let number = self.seats[i].number;
-        match self.crowd.step(i) {
-            Next::Over => {
+        let i = self.leaver()?;
+        match part_with(&mut self.crowd, i, self.seats[i].number) {
+            Some(gone) => {
                 let _seat = self.seats.remove(i);
-                let stream = self.crowd.finish(i);
-                Some(Gone {
-                    number,
-                    stream,
-                    fault: None,
-                })
+                Some(gone)
             }
-            Next::Failed(_) => {
-                let _seat = self.seats.remove(i);
-                let departed = self.crowd.leave(i);
-                Some(Gone {
-                    number,
-                    stream: departed.stream,
-                    fault: departed.fault,
-                })
-            }
-            Next::Goes | Next::Blocked | Next::Asks => {
+            None => {
                 self.seats[i].stage = Stage::Goes;
                 None
             }
