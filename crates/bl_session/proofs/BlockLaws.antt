@@ -34,25 +34,25 @@ both true b is = is
 both false b is = absurd (true≢false (sym is))
 
 -- the replies to a line are to that line
-to_line : (x : State) (k n : ℕ) → Lines (λ h. h ≡ k) (replies_to x 0 k n)
-to_line x k zero = tt
-to_line x k (suc n) = go (is_of 0 k (tag x.order n)) refl (to_line x k n)
+to_line : (x : State) (i k n : ℕ) → Lines (λ h. h ≡ k) (replies_to x i k n)
+to_line x i k zero = tt
+to_line x i k (suc n) = go (is_of i k (tag x.order n)) refl (to_line x i k n)
   where
-    go : (b : Bool) → is_of 0 k (tag x.order n) ≡ b → Lines (λ h. h ≡ k) (replies_to x 0 k n) → Lines (λ h. h ≡ k) (cond b (put_in (reply_in x n) (replies_to x 0 k n)) (replies_to x 0 k n))
+    go : (b : Bool) → is_of i k (tag x.order n) ≡ b → Lines (λ h. h ≡ k) (replies_to x i k n) → Lines (λ h. h ≡ k) (cond b (put_in (reply_in x n) (replies_to x i k n)) (replies_to x i k n))
     go true is rest =
         let t : Tag = tag x.order n in
-        lines-put (λ h. h ≡ k) (reply_in x n) (replies_to x 0 k n) (eqb-true (slice_index_or t.label 0 0) k (both (t.session == 0) (slice_index_or t.label 0 0 == k) is)) rest
+        lines-put (λ h. h ≡ k) (reply_in x n) (replies_to x i k n) (eqb-true (slice_index_or t.label 0 0) k (both (t.session == i) (slice_index_or t.label 0 0 == k) is)) rest
     go false is rest = rest
 
 -- the replies above an ordinal are to lines above it
-above_line : (x : State) (a n : ℕ) → Lines (λ h. a < h) (replies_above x 0 a n)
-above_line x a zero = tt
-above_line x a (suc n) = go (is_above 0 a (tag x.order n)) refl (above_line x a n)
+above_line : (x : State) (i a n : ℕ) → Lines (λ h. a < h) (replies_above x i a n)
+above_line x i a zero = tt
+above_line x i a (suc n) = go (is_above i a (tag x.order n)) refl (above_line x i a n)
   where
-    go : (b : Bool) → is_above 0 a (tag x.order n) ≡ b → Lines (λ h. a < h) (replies_above x 0 a n) → Lines (λ h. a < h) (cond b (put_in (reply_in x n) (replies_above x 0 a n)) (replies_above x 0 a n))
+    go : (b : Bool) → is_above i a (tag x.order n) ≡ b → Lines (λ h. a < h) (replies_above x i a n) → Lines (λ h. a < h) (cond b (put_in (reply_in x n) (replies_above x i a n)) (replies_above x i a n))
     go true is rest =
         let t : Tag = tag x.order n in
-        lines-put (λ h. a < h) (reply_in x n) (replies_above x 0 a n) (ltb-true a (slice_index_or t.label 0 0) (both (t.session == 0) (nat_lt a (slice_index_or t.label 0 0)) is)) rest
+        lines-put (λ h. a < h) (reply_in x n) (replies_above x i a n) (ltb-true a (slice_index_or t.label 0 0) (both (t.session == i) (nat_lt a (slice_index_or t.label 0 0)) is)) rest
     go false is rest = rest
 
 -- ---- in front and behind
@@ -104,58 +104,58 @@ abbrev pub GoByLines : Type 0
 GoByLines = (x : State) (session after : ℕ) → replies_above x session after (length x.order)
     ≡ replies_to x session (after + 1) (length x.order) ++ replies_above x session (after + 1) (length x.order)
 
-module _ (by_lines : GoByLines) (x : State) where
+module _ (by_lines : GoByLines) (x : State) (i : ℕ) where
   -- passing the lines up to a later one
-  above_pass : (d a : ℕ) → behind (a + d) (replies_above x 0 a (length x.order)) ≡ replies_above x 0 (a + d) (length x.order)
+  above_pass : (d a : ℕ) → behind (a + d) (replies_above x i a (length x.order)) ≡ replies_above x i (a + d) (length x.order)
   above_pass zero a =
       let e : a + 0 ≡ a = omega arith in
-      ap (λ k. behind k (replies_above x 0 a (length x.order))) e ∙ behind_high a (replies_above x 0 a (length x.order)) (above_line x a (length x.order)) ∙ ap (λ k. replies_above x 0 k (length x.order)) (sym e)
+      ap (λ k. behind k (replies_above x i a (length x.order))) e ∙ behind_high a (replies_above x i a (length x.order)) (above_line x i a (length x.order)) ∙ ap (λ k. replies_above x i k (length x.order)) (sym e)
   above_pass (suc d) a =
       let e : a + suc d ≡ (a + 1) + d = omega arith in
-      ap (λ k. behind k (replies_above x 0 a (length x.order))) e
-      ∙ ap (behind ((a + 1) + d)) (by_lines x 0 a)
-      ∙ behind_low ((a + 1) + d) (replies_to x 0 (a + 1) (length x.order)) (replies_above x 0 (a + 1) (length x.order))
-      (lines-as (λ h. h ≡ a + 1) (λ h. h ≤ (a + 1) + d) (replies_to x 0 (a + 1) (length x.order)) (λ h is. omega (arith, is)) (to_line x (a + 1) (length x.order)))
+      ap (λ k. behind k (replies_above x i a (length x.order))) e
+      ∙ ap (behind ((a + 1) + d)) (by_lines x i a)
+      ∙ behind_low ((a + 1) + d) (replies_to x i (a + 1) (length x.order)) (replies_above x i (a + 1) (length x.order))
+      (lines-as (λ h. h ≡ a + 1) (λ h. h ≤ (a + 1) + d) (replies_to x i (a + 1) (length x.order)) (λ h is. omega (arith, is)) (to_line x i (a + 1) (length x.order)))
       ∙ above_pass d (a + 1)
-      ∙ ap (λ k. replies_above x 0 k (length x.order)) (sym e)
+      ∙ ap (λ k. replies_above x i k (length x.order)) (sym e)
 
   -- of what a block gives, the replies up to the line before one are passed; those to the line come next
-  module _ (block passed : Block) (n k : ℕ) (lt : n < k) (g : Gives x block n) (left : left_in x passed ≡ behind (k - 1) (left_in x block)) where
-    left_is : left_in x passed ≡ replies_to x 0 k (length x.order) ++ replies_above x 0 k (length x.order)
+  module _ (block passed : Block) (n k : ℕ) (lt : n < k) (g : Gives x i block n) (left : left_in x passed ≡ behind (k - 1) (left_in x block)) where
+    left_is : left_in x passed ≡ replies_to x i k (length x.order) ++ replies_above x i k (length x.order)
     left_is =
         let e : n + (k - 1 - n) ≡ k - 1 = omega (arith, lt) in
         let f : (k - 1) + 1 ≡ k = omega (arith, lt) in
         left
         ∙ sym (behind_twice n (k - 1) (left_in x block) (omega (arith, lt)))
         ∙ ap (behind (k - 1)) g.replies
-        ∙ ap (λ j. behind j (replies_above x 0 n (length x.order))) (sym e)
+        ∙ ap (λ j. behind j (replies_above x i n (length x.order))) (sym e)
         ∙ above_pass (k - 1 - n) n
-        ∙ ap (λ j. replies_above x 0 j (length x.order)) e
-        ∙ by_lines x 0 (k - 1)
-        ∙ ap (λ j. replies_to x 0 j (length x.order) ++ replies_above x 0 j (length x.order)) f
+        ∙ ap (λ j. replies_above x i j (length x.order)) e
+        ∙ by_lines x i (k - 1)
+        ∙ ap (λ j. replies_to x i j (length x.order) ++ replies_above x i j (length x.order)) f
 
-    pub line_is : up_to k (left_in x passed) ≡ replies_to x 0 k (length x.order)
+    pub line_is : up_to k (left_in x passed) ≡ replies_to x i k (length x.order)
     line_is =
         ap (up_to k) left_is
-        ∙ up_to_split k (replies_to x 0 k (length x.order)) (replies_above x 0 k (length x.order))
-        (lines-as (λ h. h ≡ k) (λ h. h ≤ k) (replies_to x 0 k (length x.order)) (λ h is. omega (arith, is)) (to_line x k (length x.order))) (above_line x k (length x.order))
+        ∙ up_to_split k (replies_to x i k (length x.order)) (replies_above x i k (length x.order))
+        (lines-as (λ h. h ≡ k) (λ h. h ≤ k) (replies_to x i k (length x.order)) (λ h is. omega (arith, is)) (to_line x i k (length x.order))) (above_line x i k (length x.order))
 
-    pub rest_is : behind k (left_in x passed) ≡ replies_above x 0 k (length x.order)
+    pub rest_is : behind k (left_in x passed) ≡ replies_above x i k (length x.order)
     rest_is =
         ap (behind k) left_is
-        ∙ behind_low k (replies_to x 0 k (length x.order)) (replies_above x 0 k (length x.order))
-        (lines-as (λ h. h ≡ k) (λ h. h ≤ k) (replies_to x 0 k (length x.order)) (λ h is. omega (arith, is)) (to_line x k (length x.order)))
-        ∙ behind_high k (replies_above x 0 k (length x.order)) (above_line x k (length x.order))
+        ∙ behind_low k (replies_to x i k (length x.order)) (replies_above x i k (length x.order))
+        (lines-as (λ h. h ≡ k) (λ h. h ≤ k) (replies_to x i k (length x.order)) (λ h is. omega (arith, is)) (to_line x i k (length x.order)))
+        ∙ behind_high k (replies_above x i k (length x.order)) (above_line x i k (length x.order))
 
 -- what a new block gives
-pub gives_new : (x : State) (after : ℕ) (places : List ℕ) (block : Block) → block.places.items ≡ places → block.next ≡ 0 → All (λ p. IsTrue (has_ended x p)) places
-    → map (reply_in x) places ≡ replies_above x 0 after (length x.order) → Gives x block after
-gives_new x after places block is next ended are =
-    let left : left_in x block ≡ replies_above x 0 after (length x.order) = ap (λ k. map (reply_in x) (drop k block.places.items)) next ∙ ap (map (reply_in x)) is ∙ are in
+pub gives_new : (x : State) (i after : ℕ) (places : List ℕ) (block : Block) → block.places.items ≡ places → block.next ≡ 0 → All (λ p. IsTrue (has_ended x p)) places
+    → map (reply_in x) places ≡ replies_above x i after (length x.order) → Gives x i block after
+gives_new x i after places block is next ended are =
+    let left : left_in x block ≡ replies_above x i after (length x.order) = ap (λ k. map (reply_in x) (drop k block.places.items)) next ∙ ap (map (reply_in x)) is ∙ are in
     record {
       ended = subst (All (λ p. IsTrue (has_ended x p))) (sym is) ended;
       within = omega (arith, next);
-      replies = ap (behind after) left ∙ behind_high after (replies_above x 0 after (length x.order)) (above_line x after (length x.order));
+      replies = ap (behind after) left ∙ behind_high after (replies_above x i after (length x.order)) (above_line x i after (length x.order));
     }
 
 -- ---- one place after the other

@@ -1,6 +1,6 @@
 -- What of a session was kept, as it goes on.
 use Rattle.std.proofs.Common.{◌≡◌, ℕ, zero, suc, ◌<◌, ◌≤◌, inl, inr, Bool, List, [], ◌∷◌, ◌++◌, length, refl, sym, ap, subst, ◌∙◌, arith, append-nil, append_assoc, replicate, Option}
-use Rattle.std.specs.Io.KnownBytes.{Consumes}
+use Rattle.std.specs.Io.KnownBytes.{Appends, Consumes}
 use Rattle.std.proofs.KnownBytes.{Appends-nil, Consumes-nil}
 use Rattle.std.specs.Prelude.{Result, Ok, Err, IfErr, OnOk}
 use Rattle.bl_setup.specs.Setup.{Setup}
@@ -21,8 +21,9 @@ use Rattle.bl_session.specs.declared.entries.Pages.{Pages}
 use Rattle.bl_session.specs.declared.keep.Stop.{Stop}
 use Rattle.bl_session.specs.declared.keep.Unreached.{Unreached}
 use Rattle.bl_session.specs.declared.keep.Unreached.TheVariants.{Memory, Failed}
-use Rattle.bl_session.specs.Keeping.{IsFrontOf, IsHeld, IsToldOf, MayStop, fault_of, stop_of}
-use Rattle.bl_session.specs.Pages.{StillAnswers, with_events}
+use Rattle.bl_session.specs.Keeping.{IsFrontOf, IsHeld, IsOpenIn, IsToldAfter, MayStop, fault_of, stop_of}
+use Rattle.bl_session.specs.One.{next_session}
+use Rattle.bl_session.specs.Pages.{Came, StillAnswers, with_events}
 use Rattle.bl_session.specs.Reaching.{CameBy, FinishesKept, IsReachedTo, StopsKept, seen_by, seen_in}
 use Rattle.bl_session.specs.Talks.{HasDone, seen_of}
 
@@ -39,27 +40,32 @@ front_on a b c first then = (
 
 -- ---- how far a keep has come
 
-module _ (reached : Chronicle → Type 0) where
+module _ (reached : Chronicle → Type 0) (begun : Chronicle) where
   -- as far as the hall
-  pub reached_now : (s : Pages) (n : ℕ) → reached s.hall → IsReachedTo reached n s
-  reached_now s n is = record { kept = s.hall; reached = is; front = front_self s.hall; opened = λ there. there; same = λ k le. refl }
+  pub reached_now : (s : Pages) (n : ℕ) → reached s.hall → IsFrontOf begun s.hall → IsReachedTo reached begun n s
+  reached_now s n is since = record { kept = s.hall; reached = is; since = since; front = front_self s.hall; opened = λ there. there; same = λ k le. refl }
 
-  pub reached_to : (s : Pages) (m n : ℕ) → n ≤ m → IsReachedTo reached m s → IsReachedTo reached n s
-  reached_to s m n le k = record { kept = k.kept; reached = k.reached; front = k.front; opened = k.opened; same = λ j low. k.same j (omega (arith, low, le)) }
+  pub reached_to : (s : Pages) (m n : ℕ) → n ≤ m → IsReachedTo reached begun m s → IsReachedTo reached begun n s
+  reached_to s m n le k = record { kept = k.kept; reached = k.reached; since = k.since; front = k.front; opened = k.opened; same = λ j low. k.same j (omega (arith, low, le)) }
+
+  -- the hall goes on from the one that the session began in
+  pub since_hall : (s : Pages) (n : ℕ) → IsReachedTo reached begun n s → IsFrontOf begun s.hall
+  since_hall s n k = front_on begun k.kept s.hall k.since k.front
 
   -- where the hall goes on, and what was answered is answered so still
-  pub reached_before : (s t : Pages) (n : ℕ) → IsReachedTo reached n s → 0 < length (state_now s.hall).sessions → IsFrontOf s.hall t.hall → StillAnswers n s t → IsReachedTo reached n t
+  pub reached_before : (s t : Pages) (n : ℕ) → IsReachedTo reached begun n s → s.session < length (state_now s.hall).sessions → IsFrontOf s.hall t.hall → StillAnswers n s t → IsReachedTo reached begun n t
   reached_before s t n k there front still = record {
     kept = k.kept;
     reached = k.reached;
+    since = k.since;
     front = front_on k.kept s.hall t.hall k.front front;
-    opened = λ now. k.opened there;
-    same = λ j low. still.same j low ∙ k.same j low;
+    opened = λ now. let kept = k.opened there in omega (arith, still.number, kept);
+    same = λ j low. still.same j low ∙ k.same j low ∙ ap (λ i. line_text (state_now k.kept) i j) (sym still.number);
   }
 
   -- what was asked is so by what is kept
-  pub came_by : (setup : Setup) (limit after last n : ℕ) (s : Pages) (asked : List Request) (k : IsReachedTo reached n s) → HasDone setup limit after last s asked → CameBy setup limit k.kept s asked
-  came_by setup limit after last n s asked k done = (done.came, elim done.there [ inl none ↦ inl none | inr there ↦ inr (k.opened there.there) ])
+  pub came_by : (setup : Setup) (after last n : ℕ) (s : Pages) (asked : List Request) (k : IsReachedTo reached begun n s) → HasDone setup begun after last s asked → CameBy setup begun k.kept s asked
+  came_by setup after last n s asked k done = (done.came, elim done.there [ inl none ↦ inl none | inr there ↦ inr (k.opened there.there) ])
 
 -- ---- a trail that is not kept
 
@@ -96,31 +102,38 @@ few_heard faults.TooLong heard turns are = ([], omega arith, sym are ∙ sym (ap
 few_heard faults.Memory heard turns are = are
 few_heard faults.Clash heard turns are = are
 
-module _ (setup : Setup) (limit : ℕ) (start rest first after : Option (List ℕ)) (kept : Chronicle) (s : Pages) (front : IsFrontOf kept s.hall) where
-  pub stopped_told : (fault : SessionFault) (read_failed write_failed : Bool) → Stopped fault setup.names (ends start rest first after) read_failed write_failed (seen_by setup limit kept s)
-      → IsToldOf setup limit kept (record { before = start; after = rest; failed = read_failed }) (record { before = first; after = after; failed = write_failed })
-  stopped_told fault read_failed write_failed off = record {
-    setup_is = sym (ap (λ (h : Chronicle). h.setup) front.1) ∙ off.came.0.stands.setup_is;
-    limit_is = sym (ap (λ (h : Chronicle). h.limit) front.1) ∙ off.came.0.stands.limit_is;
-    bytes = off.read.bytes;
-    part = off.read.part;
-    took = off.read.took;
-    turns = off.turns;
-    are = off.read.are;
-    heard = off.heard;
-    few = few_heard fault off.heard off.turns off.heard_is;
-    opened = elim off.came.1 [
-      | inl none ↦ inl (told_none off.heard off.settles (off.told_is ∙ ap (λ l. l ++ replicate off.settles Settles) none))
-      | inr there ↦ inr there
-    ];
-    written = off.written;
-    put = off.put;
-    begins = off.begins (line_text (state_now kept) 0) (λ k low. sym (off.settled.1 k low));
-  }
+module _ (begun : Chronicle) (start rest first after : Option (List ℕ)) (kept : Chronicle) (s : Pages) (front : IsFrontOf kept s.hall) where
+  -- where the session is, by the number that it has
+  opened_next : (told : List Request) → Came begun.setup begun s told → IsOpenIn s.session kept told → IsOpenIn (next_session (state_now begun)) kept told
+  opened_next told c is = subst (λ i. IsOpenIn i kept told) c.began.session_is is
+
+  pub stopped_told : (fault : SessionFault) (read_failed write_failed : Bool) → Stopped fault begun.setup.names (ends start rest first after) read_failed write_failed (seen_by begun.setup begun kept s)
+      → IsToldAfter begun kept (record { before = start; after = rest; failed = read_failed }) (record { before = first; after = after; failed = write_failed })
+  stopped_told fault read_failed write_failed off =
+      let number : s.session ≡ next_session (state_now begun) = off.came.0.began.session_is in
+      let f : ℕ → List ℕ = line_text (state_now kept) (next_session (state_now begun)) in
+      record {
+        setup_is = sym (ap (λ (h : Chronicle). h.setup) front.1) ∙ off.came.0.stands.setup_is;
+        limit_is = sym (ap (λ (h : Chronicle). h.limit) front.1) ∙ off.came.0.began.limit_is;
+        bytes = off.read.bytes;
+        part = off.read.part;
+        took = off.read.took;
+        turns = off.turns;
+        are = off.read.are;
+        heard = off.heard;
+        few = few_heard fault off.heard off.turns off.heard_is;
+        opened = elim (opened_next off.told off.came.0 off.came.1) [
+          | inl none ↦ inl (told_none off.heard off.settles (off.told_is ∙ ap (λ l. l ++ replicate off.settles Settles) none))
+          | inr there ↦ inr there
+        ];
+        written = off.written;
+        put = off.put;
+        begins = off.begins f (λ k low. ap (λ i. line_text (state_now kept) i k) (sym number) ∙ sym (off.settled.1 k low));
+      }
 
   -- without what is kept
-  pub stopped_seen : (fault : SessionFault) (read_failed write_failed : Bool) → Stopped fault setup.names (ends start rest first after) read_failed write_failed (seen_by setup limit kept s)
-      → Stopped fault setup.names (ends start rest first after) read_failed write_failed (seen_of setup limit s)
+  pub stopped_seen : (fault : SessionFault) (read_failed write_failed : Bool) → Stopped fault begun.setup.names (ends start rest first after) read_failed write_failed (seen_by begun.setup begun kept s)
+      → Stopped fault begun.setup.names (ends start rest first after) read_failed write_failed (seen_of begun.setup begun s)
   stopped_seen fault read_failed write_failed off = record {
     turns = off.turns;
     read = off.read;
@@ -140,30 +153,33 @@ module _ (setup : Setup) (limit : ℕ) (start rest first after : Option (List �
     closed = off.closed;
   }
 
-  pub finished_told : (read_failed write_failed : Bool) → Finished setup.names (ends start rest first after) (seen_in setup limit kept s)
-      → IsToldOf setup limit kept (record { before = start; after = rest; failed = read_failed }) (record { before = first; after = after; failed = write_failed })
-  finished_told read_failed write_failed done = record {
-    setup_is = sym (ap (λ (h : Chronicle). h.setup) front.1) ∙ done.came.0.stands.setup_is;
-    limit_is = sym (ap (λ (h : Chronicle). h.limit) front.1) ∙ done.came.0.stands.limit_is;
-    bytes = done.bytes;
-    part = [];
-    took = subst (Consumes start rest) (sym (append-nil done.bytes)) done.took;
-    turns = done.turns;
-    are = done.are;
-    heard = done.turns;
-    few = ([], omega arith, sym (append-nil done.turns));
-    opened = done.came.1;
-    written = session_text (line_text (state_now kept) 0) done.turns;
-    put = done.put;
-    begins = ([], sym (append-nil (session_text (line_text (state_now kept) 0) done.turns)));
-  }
+  pub finished_told : (read_failed write_failed : Bool) → Finished begun.setup.names (ends start rest first after) (seen_in begun.setup begun kept s)
+      → IsToldAfter begun kept (record { before = start; after = rest; failed = read_failed }) (record { before = first; after = after; failed = write_failed })
+  finished_told read_failed write_failed done =
+      let number : s.session ≡ next_session (state_now begun) = done.came.0.began.session_is in
+      let f : ℕ → List ℕ = line_text (state_now kept) (next_session (state_now begun)) in
+      record {
+        setup_is = sym (ap (λ (h : Chronicle). h.setup) front.1) ∙ done.came.0.stands.setup_is;
+        limit_is = sym (ap (λ (h : Chronicle). h.limit) front.1) ∙ done.came.0.began.limit_is;
+        bytes = done.bytes;
+        part = [];
+        took = subst (Consumes start rest) (sym (append-nil done.bytes)) done.took;
+        turns = done.turns;
+        are = done.are;
+        heard = done.turns;
+        few = ([], omega arith, sym (append-nil done.turns));
+        opened = opened_next (told_by done.turns) done.came.0 done.came.1;
+        written = session_text f done.turns;
+        put = subst (λ i. Appends first after (session_text (line_text (state_now kept) i) done.turns)) number done.put;
+        begins = ([], sym (append-nil (session_text f done.turns)));
+      }
 
 -- before anything was heard
-pub told_first : (setup : Setup) (limit : ℕ) (kept : Chronicle) → kept.setup ≡ setup → kept.limit ≡ limit → (start first : Option (List ℕ)) (read_failed write_failed : Bool)
-    → IsToldOf setup limit kept (record { before = start; after = start; failed = read_failed }) (record { before = first; after = first; failed = write_failed })
-told_first setup limit kept setup_is limit_is start first read_failed write_failed = record {
-  setup_is = setup_is;
-  limit_is = limit_is;
+pub told_first : (begun : Chronicle) (start first : Option (List ℕ)) (read_failed write_failed : Bool)
+    → IsToldAfter begun begun (record { before = start; after = start; failed = read_failed }) (record { before = first; after = first; failed = write_failed })
+told_first begun start first read_failed write_failed = record {
+  setup_is = refl;
+  limit_is = refl;
   bytes = [];
   part = [];
   took = Consumes-nil start;
@@ -174,12 +190,12 @@ told_first setup limit kept setup_is limit_is start first read_failed write_fail
   opened = inl refl;
   written = [];
   put = Appends-nil first;
-  begins = (session_text (line_text (state_now kept) 0) [], refl);
+  begins = (session_text (line_text (state_now begun) (next_session (state_now begun))) [], refl);
 }
 
 -- ---- what a session with its keep ends with
 
-module _ {K : Type 0} (reached has_kept : K → Chronicle → Type 0) (keep : K) (setup : Setup) (limit : ℕ) (s : Pages) (start rest first after : Option (List ℕ)) (reader_failed writer_failed : Bool) where
+module _ {K : Type 0} (reached has_kept : K → Chronicle → Type 0) (keep : K) (begun : Chronicle) (s : Pages) (start rest first after : Option (List ℕ)) (reader_failed writer_failed : Bool) where
   abbrev reader : Use
   reader = record { before = start; after = rest; failed = reader_failed }
 
@@ -187,9 +203,9 @@ module _ {K : Type 0} (reached has_kept : K → Chronicle → Type 0) (keep : K)
   writer = record { before = first; after = after; failed = writer_failed }
 
   -- the front of the hall that was kept, of which all was told
-  pub told_of_kept : (result : Result (Unit {0}) Stop) → OnOk result (FinishesKept (reached keep) setup limit (ends start rest first after) s)
-      → IfErr result (λ stop. StopsKept (IsHeld (reached keep) (has_kept keep) (Err stop)) setup limit stop (ends start rest first after) reader_failed writer_failed s)
-      → (kept : Chronicle) × IsHeld (reached keep) (has_kept keep) result kept × IsFrontOf kept s.hall × IsToldOf setup limit kept reader writer
-  told_of_kept (Ok done) ok err = (ok.kept, ok.reached, ok.front, finished_told setup limit start rest first after ok.kept s ok.front reader_failed writer_failed ok.told)
+  pub told_of_kept : (result : Result (Unit {0}) Stop) → OnOk result (FinishesKept (reached keep) begun.setup begun (ends start rest first after) s)
+      → IfErr result (λ stop. StopsKept (IsHeld (reached keep) (has_kept keep) (Err stop)) begun.setup begun stop (ends start rest first after) reader_failed writer_failed s)
+      → (kept : Chronicle) × IsHeld (reached keep) (has_kept keep) result kept × IsFrontOf begun kept × IsFrontOf kept s.hall × IsToldAfter begun kept reader writer
+  told_of_kept (Ok done) ok err = (ok.kept, ok.reached, ok.since, ok.front, finished_told begun start rest first after ok.kept s ok.front reader_failed writer_failed ok.told)
   told_of_kept (Err stop) ok err =
-      (err.kept, err.held, err.front, stopped_told setup limit start rest first after err.kept err.at err.began (fault_of stop) reader_failed writer_failed err.stopped)
+      (err.kept, err.held, err.since, err.front, stopped_told begun start rest first after err.kept err.at err.began (fault_of stop) reader_failed writer_failed err.stopped)

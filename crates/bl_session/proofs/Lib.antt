@@ -9,3 +9,4 @@ pub mod TalkLaws
 pub mod TrailLaws
 pub mod TranscriptLaws
 pub mod KeepLaws
+pub mod OpeningLaws

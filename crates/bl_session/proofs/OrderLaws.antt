@@ -61,8 +61,8 @@ tag-before A (suc n) k lt = go (eqb_tells k (length (tags_to A n))) (tag-before 
     go (inl t) deeper = ap (λ b. cond b (tag A n) (tag_at h k)) t.0 ∙ ap (tag A) (sym (t.1 ∙ length-tags A n))
     go (inr t) deeper = ap (λ b. cond b (tag A n) (tag_at h k)) t.0 ∙ deeper (omega (arith, length-tags A n))
 
-pub tag-line : (A : List Entry) (ordinal subject : ℕ) (w : Work) → tag (A ++ Line 0 ordinal subject w ∷ []) (length A) ≡ record { session = 0; label = ordinal ∷ [] }
-tag-line A ordinal subject w = tag-last A (Line 0 ordinal subject w)
+pub tag-line : (A : List Entry) (i ordinal subject : ℕ) (w : Work) → tag (A ++ Line i ordinal subject w ∷ []) (length A) ≡ record { session = i; label = ordinal ∷ [] }
+tag-line A i ordinal subject w = tag-last A (Line i ordinal subject w)
 
 pub tag-child : (A : List Entry) (p w : ℕ) → p < length A → tag (A ++ Child p w ∷ []) (length A) ≡ record { session = (tag A p).session; label = (tag A p).label ++ w ∷ [] }
 tag-child A p w lt =
@@ -74,39 +74,39 @@ and_false : (b : Bool) → (b && false) ≡ false
 and_false true = refl
 and_false false = refl
 
-not_of : (k : ℕ) (t : Tag) → ordinal_of t ≢ k → is_of 0 k t ≡ false
-not_of k t other = ap (λ b. (t.session == 0) && b) (ne_eqb (ordinal_of t) k other) ∙ and_false (t.session == 0)
+not_of : (i k : ℕ) (t : Tag) → ordinal_of t ≢ k → is_of i k t ≡ false
+not_of i k t other = ap (λ b. (t.session == i) && b) (ne_eqb (ordinal_of t) k other) ∙ and_false (t.session == i)
 
-abbrev put_at : State → ℕ → ℕ → List Reply → List Reply
-put_at x k n rest = cond (is_of 0 k (tag x.order n)) (put_in (record { label = (tag x.order n).label; answer = (past_at x n).answer }) rest) rest
+abbrev put_at : State → ℕ → ℕ → ℕ → List Reply → List Reply
+put_at x i k n rest = cond (is_of i k (tag x.order n)) (put_in (record { label = (tag x.order n).label; answer = (past_at x n).answer }) rest) rest
 
 -- places of other lines add nothing to the replies to a line
-replies-other : (x : State) (k from n : ℕ) → ((p : ℕ) → from ≤ p → p < from + n → ordinal_of (tag x.order p) ≢ k) → replies_to x 0 k (from + n) ≡ replies_to x 0 k from
-replies-other x k from zero other = ap (replies_to x 0 k) (omega arith)
-replies-other x k from (suc n) other =
+replies-other : (x : State) (i k from n : ℕ) → ((p : ℕ) → from ≤ p → p < from + n → ordinal_of (tag x.order p) ≢ k) → replies_to x i k (from + n) ≡ replies_to x i k from
+replies-other x i k from zero other = ap (replies_to x i k) (omega arith)
+replies-other x i k from (suc n) other =
     let e : from + suc n ≡ suc (from + n) = omega arith in
     let r : Reply = record { label = (tag x.order (from + n)).label; answer = (past_at x (from + n)).answer } in
-    ap (replies_to x 0 k) e
-    ∙ ap (λ b. cond b (put_in r (replies_to x 0 k (from + n))) (replies_to x 0 k (from + n))) (not_of k (tag x.order (from + n)) (other (from + n) (omega arith) (omega arith)))
-    ∙ replies-other x k from n (λ p low high. other p low (omega (arith, high)))
+    ap (replies_to x i k) e
+    ∙ ap (λ b. cond b (put_in r (replies_to x i k (from + n))) (replies_to x i k (from + n))) (not_of i k (tag x.order (from + n)) (other (from + n) (omega arith) (omega arith)))
+    ∙ replies-other x i k from n (λ p low high. other p low (omega (arith, high)))
 
 -- places with the same tags and records have the same replies
-replies-alike : (x y : State) (k n : ℕ) → ((p : ℕ) → p < n → tag y.order p ≡ tag x.order p) → ((p : ℕ) → p < n → past_at y p ≡ past_at x p) → replies_to y 0 k n ≡ replies_to x 0 k n
-replies-alike x y k zero tags pasts = refl
-replies-alike x y k (suc n) tags pasts =
-    ap (λ (t : Tag). cond (is_of 0 k t) (put_in (record { label = t.label; answer = (past_at y n).answer }) (replies_to y 0 k n)) (replies_to y 0 k n)) (tags n (omega arith))
-    ∙ ap (λ (p : Past). cond (is_of 0 k (tag x.order n)) (put_in (record { label = (tag x.order n).label; answer = p.answer }) (replies_to y 0 k n)) (replies_to y 0 k n)) (pasts n (omega arith))
-    ∙ ap (put_at x k n) (replies-alike x y k n (λ p lt. tags p (omega arith)) (λ p lt. pasts p (omega arith)))
+replies-alike : (x y : State) (i k n : ℕ) → ((p : ℕ) → p < n → tag y.order p ≡ tag x.order p) → ((p : ℕ) → p < n → past_at y p ≡ past_at x p) → replies_to y i k n ≡ replies_to x i k n
+replies-alike x y i k zero tags pasts = refl
+replies-alike x y i k (suc n) tags pasts =
+    ap (λ (t : Tag). cond (is_of i k t) (put_in (record { label = t.label; answer = (past_at y n).answer }) (replies_to y i k n)) (replies_to y i k n)) (tags n (omega arith))
+    ∙ ap (λ (p : Past). cond (is_of i k (tag x.order n)) (put_in (record { label = (tag x.order n).label; answer = p.answer }) (replies_to y i k n)) (replies_to y i k n)) (pasts n (omega arith))
+    ∙ ap (put_at x i k n) (replies-alike x y i k n (λ p lt. tags p (omega arith)) (λ p lt. pasts p (omega arith)))
 
 -- where an order grows, and the first places stand as they stood, and all others are of later lines, the replies up to that line stand
-pub text-stands : (x y : State) (more : List Entry) (ended n : ℕ) → y.setup ≡ x.setup → y.order ≡ x.order ++ more → ((p : ℕ) → p < ended → is_lost y p ≡ is_lost x p) → ended ≤ length x.order
-    → AreLater ended y.order n → SameUpTo n (line_text x 0) (line_text y 0)
-text-stands x y more ended n setup order lost within later k le =
-    ap (λ s. line_or_full s.names k (replies_to y 0 k (length y.order))) setup
+pub text-stands : (x y : State) (i : ℕ) (more : List Entry) (ended n : ℕ) → y.setup ≡ x.setup → y.order ≡ x.order ++ more → ((p : ℕ) → p < ended → is_lost y p ≡ is_lost x p) → ended ≤ length x.order
+    → AreLater ended y.order n → SameUpTo n (line_text x i) (line_text y i)
+text-stands x y i more ended n setup order lost within later k le =
+    ap (λ s. line_or_full s.names k (replies_to y i k (length y.order))) setup
     ∙ ap (line_or_full x.setup.names k)
-    (ap (replies_to y 0 k) long_y ∙ replies-other y k ended (length y.order - ended) (λ p low high e. let far = later p low (omega (arith, high, long_y)) in omega (arith, far, e, le))
-    ∙ replies-alike x y k ended tags pasts
-    ∙ sym (ap (replies_to x 0 k) long_x ∙ replies-other x k ended (length x.order - ended) (λ p low high e. let far = later_x p low (omega (arith, high, long_x)) in omega (arith, far, e, le))))
+    (ap (replies_to y i k) long_y ∙ replies-other y i k ended (length y.order - ended) (λ p low high e. let far = later p low (omega (arith, high, long_y)) in omega (arith, far, e, le))
+    ∙ replies-alike x y i k ended tags pasts
+    ∙ sym (ap (replies_to x i k) long_x ∙ replies-other x i k ended (length x.order - ended) (λ p low high e. let far = later_x p low (omega (arith, high, long_x)) in omega (arith, far, e, le))))
   where
     grown : length y.order ≡ length x.order + length more
     grown = ap length order ∙ length-append x.order more
@@ -134,16 +134,16 @@ text-stands x y more ended n setup order lost within later k le =
         ∙ place-lost x.setup (is_lost y) (is_lost x) x.order p (λ k low. lost k (omega (arith, low, lt)))
 
 -- one line more
-pub later-line : (A : List Entry) (from ordinal subject n : ℕ) (w : Work) → AreLater from A n → n < ordinal → AreLater from (A ++ Line 0 ordinal subject w ∷ []) n
-later-line A from ordinal subject n w later above p low high = go (eqb_tells p (length A))
+pub later-line : (A : List Entry) (from i ordinal subject n : ℕ) (w : Work) → AreLater from A n → n < ordinal → AreLater from (A ++ Line i ordinal subject w ∷ []) n
+later-line A from i ordinal subject n w later above p low high = go (eqb_tells p (length A))
   where
     new : List Entry
-    new = Line 0 ordinal subject w ∷ []
+    new = Line i ordinal subject w ∷ []
 
     go : (((p == length A) ≡ true) × (p ≡ length A)) ⊎ (((p == length A) ≡ false) × (p ≡ length A → ⊥)) → n < ordinal_of (tag (A ++ new) p)
-    go (inl t) = subst (λ q. n < ordinal_of (tag (A ++ new) q)) (sym t.1) (subst (λ (t : Tag). n < ordinal_of t) (sym (tag-line A ordinal subject w)) above)
+    go (inl t) = subst (λ q. n < ordinal_of (tag (A ++ new) q)) (sym t.1) (subst (λ (t : Tag). n < ordinal_of t) (sym (tag-line A i ordinal subject w)) above)
     go (inr t) =
-        let lt : p < length A = omega (arith, high, longer A (Line 0 ordinal subject w), t.1) in
+        let lt : p < length A = omega (arith, high, longer A (Line i ordinal subject w), t.1) in
         subst (λ (t : Tag). n < ordinal_of t) (sym (tag-grown A new p lt)) (later p low lt)
 
 -- a label that has a number keeps its first one where another is added

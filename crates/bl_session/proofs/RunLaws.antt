@@ -109,11 +109,11 @@ module _ (x : State) (ended n : ℕ) (over : (p : ℕ) → p < ended → has_end
           (further (state_after y (place_events (fate p) y p)) (goes_place (fate p) y p g (ltb-true p (length y.order) lt)))
       go false ge further = g
 
-  pub goes_settles : (fate : ℕ → Fate) (times : ℕ) (y : State) → GoesOn x ended n y → GoesOn x ended n (state_after y (events_of fate y (replicate times Settles)))
-  goes_settles fate zero y g = g
-  goes_settles fate (suc times) y g =
-      subst (GoesOn x ended n) (sym (state_after-append y (settling fate y) (events_of fate (state_after y (settling fate y)) (replicate times Settles))))
-      (goes_settles fate times (state_after y (settling fate y)) (goes_run fate y.limit y 0 g))
+  pub goes_settles : (i : ℕ) (fate : ℕ → Fate) (times : ℕ) (y : State) → GoesOn x ended n y → GoesOn x ended n (state_after y (events_of i fate y (replicate times Settles)))
+  goes_settles i fate zero y g = g
+  goes_settles i fate (suc times) y g =
+      subst (GoesOn x ended n) (sym (state_after-append y (settling fate y) (events_of i fate (state_after y (settling fate y)) (replicate times Settles))))
+      (goes_settles i fate times (state_after y (settling fate y)) (goes_run fate y.limit y 0 g))
 
 -- it goes on from itself
 pub goes_from : (x : State) (ended n : ℕ) → RanUpTo ended x → AreLater ended x.order n → GoesOn x ended n x
@@ -128,8 +128,8 @@ goes_from x ended n ran later = record {
 }
 
 -- the replies to the lines up to n stand
-pub goes_same : (x : State) (ended n : ℕ) (y : State) → ended ≤ length x.order → GoesOn x ended n y → SameUpTo n (line_text x 0) (line_text y 0)
-goes_same x ended n y le g = text-stands x y g.more ended n g.setup_is g.order_is (λ p lt. ap is_gone (g.phases p lt)) le g.later
+pub goes_same : (x : State) (i ended n : ℕ) (y : State) → ended ≤ length x.order → GoesOn x ended n y → SameUpTo n (line_text x i) (line_text y i)
+goes_same x i ended n y le g = text-stands x y i g.more ended n g.setup_is g.order_is (λ p lt. ap is_gone (g.phases p lt)) le g.later
 
 -- ---- a place after the other
 
@@ -220,26 +220,26 @@ module _ (fate : ℕ → Fate) where
       ap (λ b. cond b (place_events (fate (length x.order)) x (length x.order) ++ run_from fate most (state_after x (place_events (fate (length x.order)) x (length x.order))) (suc (length x.order))) []) b
 
   -- what is told in two parts
-  pub told_append : (told more : List Request) (x : State) → events_of fate x (told ++ more) ≡ events_of fate x told ++ events_of fate (state_after x (events_of fate x told)) more
-  told_append [] more x = refl
-  told_append (Opens subject ∷ told) more x = ap (λ l. machine.Opens subject ∷ l) (told_append told more (change x (machine.Opens subject)))
-  told_append (Admits ordinal work ∷ told) more x = go (fits x work) (told_append told more (change x (machine.Admits 0 ordinal work))) (told_append told more x)
+  pub told_append : (i : ℕ) (told more : List Request) (x : State) → events_of i fate x (told ++ more) ≡ events_of i fate x told ++ events_of i fate (state_after x (events_of i fate x told)) more
+  told_append i [] more x = refl
+  told_append i (Opens subject ∷ told) more x = ap (λ l. machine.Opens subject ∷ l) (told_append i told more (change x (machine.Opens subject)))
+  told_append i (Admits ordinal work ∷ told) more x = go (fits x work) (told_append i told more (change x (machine.Admits i ordinal work))) (told_append i told more x)
     where
       A : State
-      A = change x (machine.Admits 0 ordinal work)
+      A = change x (machine.Admits i ordinal work)
 
-      go : (b : Bool) → events_of fate A (told ++ more) ≡ events_of fate A told ++ events_of fate (state_after A (events_of fate A told)) more
-          → events_of fate x (told ++ more) ≡ events_of fate x told ++ events_of fate (state_after x (events_of fate x told)) more
-          → cond b (machine.Admits 0 ordinal work ∷ events_of fate A (told ++ more)) (events_of fate x (told ++ more))
-          ≡ cond b (machine.Admits 0 ordinal work ∷ events_of fate A told) (events_of fate x told)
-          ++ events_of fate (state_after x (cond b (machine.Admits 0 ordinal work ∷ events_of fate A told) (events_of fate x told))) more
-      go true one other = ap (λ l. machine.Admits 0 ordinal work ∷ l) one
+      go : (b : Bool) → events_of i fate A (told ++ more) ≡ events_of i fate A told ++ events_of i fate (state_after A (events_of i fate A told)) more
+          → events_of i fate x (told ++ more) ≡ events_of i fate x told ++ events_of i fate (state_after x (events_of i fate x told)) more
+          → cond b (machine.Admits i ordinal work ∷ events_of i fate A (told ++ more)) (events_of i fate x (told ++ more))
+          ≡ cond b (machine.Admits i ordinal work ∷ events_of i fate A told) (events_of i fate x told)
+          ++ events_of i fate (state_after x (cond b (machine.Admits i ordinal work ∷ events_of i fate A told) (events_of i fate x told))) more
+      go true one other = ap (λ l. machine.Admits i ordinal work ∷ l) one
       go false one other = other
-  told_append (Settles ∷ told) more x =
+  told_append i (Settles ∷ told) more x =
       let S : State = state_after x (settling fate x) in
-      ap (λ l. settling fate x ++ l) (told_append told more S)
-      ∙ sym (append_assoc (settling fate x) (events_of fate S told) (events_of fate (state_after S (events_of fate S told)) more))
-      ∙ ap (λ (y : State). (settling fate x ++ events_of fate S told) ++ events_of fate y more) (sym (state_after-append x (settling fate x) (events_of fate S told)))
+      ap (λ l. settling fate x ++ l) (told_append i told more S)
+      ∙ sym (append_assoc (settling fate x) (events_of i fate S told) (events_of i fate (state_after S (events_of i fate S told)) more))
+      ∙ ap (λ (y : State). (settling fate x ++ events_of i fate S told) ++ events_of i fate y more) (sym (state_after-append x (settling fate x) (events_of i fate S told)))
 
 -- one line more
 pub ran_line : (x : State) (ended session ordinal : ℕ) (work : Work) → RanUpTo ended x → RanUpTo ended (change x (machine.Admits session ordinal work))

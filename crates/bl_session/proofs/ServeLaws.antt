@@ -1,5 +1,5 @@
 -- What is asked of the machine of one worker, and what is written.
-use Rattle.std.proofs.Common.{◌≡◌, ℕ, ◌<◌, Bool, false, ◌⊎◌, inl, inr, List, [], length, refl, subst, arith, Option, Some}
+use Rattle.std.proofs.Common.{◌≡◌, ℕ, ◌<◌, Bool, false, ◌⊎◌, inl, inr, List, [], ◌++◌, length, refl, ap, ◌∙◌, subst, arith, Option, Some}
 use Rattle.std.specs.Prelude.{Result, Ok, Err, OnOk, IfErr}
 use mathlib.Core.Path.{fun_ext}
 use Rattle.std.specs.Io.KnownBytes.{Appends}
@@ -15,7 +15,8 @@ use Rattle.bl_work.specs.LineGrammar.{Means}
 use Rattle.bl_work.specs.Readable.{IsReadable}
 use Rattle.bl_setup.specs.Agreement.{Agree}
 use Rattle.bl_setup.specs.Setup.{Setup}
-use Rattle.bl_hall.specs.Chronicle.{state_now}
+use Rattle.bl_order.specs.Machine.{state_after}
+use Rattle.bl_hall.specs.Chronicle.{Chronicle, state_now}
 use Rattle.bl_wire.specs.declared.turn.Turn.TheVariants.{Skip, Wait, Greets, Bad, Ask}
 use Rattle.bl_wire.specs.declared.fault.SessionFault.{SessionFault}
 use Rattle.bl_wire.specs.declared.fault.SessionFault.TheVariants.{Memory}
@@ -23,16 +24,16 @@ use Rattle.bl_wire.specs.Lines.{without_cr}
 use Rattle.bl_wire.specs.Turns.{AreServed}
 use Rattle.bl_wire.specs.Replies.{line_text}
 use Rattle.bl_wire.specs.Texts.{session_text}
-use Rattle.bl_engine.specs.Requests.{SameUpTo}
+use Rattle.bl_engine.specs.Requests.{SameUpTo, told_by}
 use Rattle.bl_engine.specs.View.{ends}
 use Rattle.bl_engine.specs.Outcome.{Finished, Stopped}
 use Rattle.bl_engine.specs.View.{seen}
 use Rattle.bl_engine.proofs.LineLaws.{AreLines-nil}
 use Rattle.bl_session.specs.declared.entries.Pages.{Pages}
-use Rattle.bl_session.specs.One.{Kept, one_state}
-use Rattle.bl_session.specs.Outcome.{IsServed, IsServedIn, IsCutShort}
+use Rattle.bl_session.specs.One.{Kept, events_of, next_session, one_after}
+use Rattle.bl_session.specs.Outcome.{IsServedAfter, IsServedInAfter, IsCutShortAfter}
 use Rattle.bl_session.specs.Pages.{AreLater, Came}
-use Rattle.bl_session.specs.Transcript.{transcript}
+use Rattle.bl_session.specs.Transcript.{transcript_after}
 use Rattle.bl_session.proofs.PageLaws.{one_whole, one_part}
 
 -- ---- what lines ask for is served
@@ -55,11 +56,11 @@ are_served setup agree l (Ask work) is = (without_cr l, is.1)
 
 -- ---- what is written
 
-module _ (setup : Setup) (limit : ℕ) (s : Pages) (start rest first kept : Option (List ℕ)) where
+module _ (begun : Chronicle) (s : Pages) (start rest first kept : Option (List ℕ)) where
   -- a session that was read to its end
-  pub served_whole : (Settled : ℕ → Type 0) → Finished setup.names (ends start rest first kept) (seen (line_text (state_now s.hall) 0) Settled (Came setup limit s))
+  pub served_whole : (Settled : ℕ → Type 0) → Finished begun.setup.names (ends start rest first kept) (seen (line_text (state_now s.hall) s.session) Settled (Came begun.setup begun s))
       → (read_failed write_failed : Bool) → read_failed ≡ false → write_failed ≡ false
-      → IsServed setup limit (record { before = start; after = rest; failed = read_failed }) (record { before = first; after = kept; failed = write_failed })
+      → IsServedAfter begun (record { before = start; after = rest; failed = read_failed }) (record { before = first; after = kept; failed = write_failed })
   served_whole Settled done read_failed write_failed reader writer = record {
     bytes = done.bytes;
     turns = done.turns;
@@ -69,31 +70,34 @@ module _ (setup : Setup) (limit : ℕ) (s : Pages) (start rest first kept : Opti
     stops = done.stops;
     are = done.are;
     fate = done.came.fate;
-    put = subst (λ (f : ℕ → List ℕ). Appends first kept (session_text f done.turns)) (fun_ext (one_whole setup limit s done.turns done.came)) done.put;
+    put = subst (λ (f : ℕ → List ℕ). Appends first kept (session_text f done.turns)) (fun_ext (one_whole begun.setup begun s done.turns done.came)) done.put;
     fine = (reader, writer);
   }
 
   -- whose trail the hall has
-  pub served_in : (Settled : ℕ → Type 0) → Finished setup.names (ends start rest first kept) (seen (line_text (state_now s.hall) 0) Settled (Came setup limit s))
+  pub served_in : (Settled : ℕ → Type 0) → Finished begun.setup.names (ends start rest first kept) (seen (line_text (state_now s.hall) s.session) Settled (Came begun.setup begun s))
       → (read_failed write_failed : Bool) → read_failed ≡ false → write_failed ≡ false
-      → IsServedIn setup limit s.hall (record { before = start; after = rest; failed = read_failed }) (record { before = first; after = kept; failed = write_failed })
+      → IsServedInAfter begun s.hall (record { before = start; after = rest; failed = read_failed }) (record { before = first; after = kept; failed = write_failed })
   unfolding served_whole
   served_in Settled done read_failed write_failed reader writer = record {
     served = served_whole Settled done read_failed write_failed reader writer;
     hall_is = λ i. record {
       setup = done.came.stands.setup_is i;
-      limit = done.came.stands.limit_is i;
-      trail = done.came.led done.came.fate (λ n lt. refl) i;
+      limit = done.came.began.limit_is i;
+      trail = trail i;
     };
   }
+    where
+      trail : s.hall.trail ≡ begun.trail ++ one_after (state_now begun) done.came.fate done.turns
+      trail = done.came.led done.came.fate (λ n lt. refl) ∙ ap (λ j. begun.trail ++ events_of j done.came.fate (state_now begun) (told_by done.turns)) done.came.began.session_is
 
   -- a session that ended early
   pub served_part : (fault : SessionFault) (read_failed write_failed : Bool)
-      → Stopped fault setup.names (ends start rest first kept) read_failed write_failed (seen (line_text (state_now s.hall) 0) (λ n. AreLater s.next (state_now s.hall).order n) (Came setup limit s))
-      → IsCutShort setup limit fault (record { before = start; after = rest; failed = read_failed }) (record { before = first; after = kept; failed = write_failed })
+      → Stopped fault begun.setup.names (ends start rest first kept) read_failed write_failed (seen (line_text (state_now s.hall) s.session) (λ n. AreLater s.next (state_now s.hall).order n) (Came begun.setup begun s))
+      → IsCutShortAfter begun fault (record { before = start; after = rest; failed = read_failed }) (record { before = first; after = kept; failed = write_failed })
   served_part fault read_failed write_failed off =
-      let same : SameUpTo off.upto (line_text (state_now s.hall) 0) (line_text (one_state setup limit off.came.fate off.heard) 0) =
-      one_part setup limit s off.upto off.settles off.told off.heard off.came off.settled off.told_is in
+      let same : SameUpTo off.upto (line_text (state_now s.hall) s.session) (line_text (state_after (state_now begun) (one_after (state_now begun) off.came.fate off.heard)) (next_session (state_now begun))) =
+      one_part begun.setup begun s off.upto off.settles off.told off.heard off.came off.settled off.told_is in
       record {
         turns = off.turns;
         read = off.read;
@@ -104,14 +108,14 @@ module _ (setup : Setup) (limit : ℕ) (s : Pages) (start rest first kept : Opti
         heard = off.heard;
         heard_is = off.heard_is;
         fate = off.came.fate;
-        begins = off.begins (line_text (one_state setup limit off.came.fate off.heard) 0) same;
-        closed = off.closed (line_text (one_state setup limit off.came.fate off.heard) 0) same;
+        begins = off.begins (line_text (state_after (state_now begun) (one_after (state_now begun) off.came.fate off.heard)) (next_session (state_now begun))) same;
+        closed = off.closed (line_text (state_after (state_now begun) (one_after (state_now begun) off.came.fate off.heard)) (next_session (state_now begun))) same;
       }
 
 -- a session for which memory was refused before it began
-pub unserved : (setup : Setup) (limit : ℕ) (start kept : Option (List ℕ)) (read_failed write_failed : Bool) → read_failed ≡ false → write_failed ≡ false
-    → IsCutShort setup limit Memory (record { before = start; after = start; failed = read_failed }) (record { before = kept; after = kept; failed = write_failed })
-unserved setup limit start kept read_failed write_failed reader writer = record {
+pub unserved : (begun : Chronicle) (start kept : Option (List ℕ)) (read_failed write_failed : Bool) → read_failed ≡ false → write_failed ≡ false
+    → IsCutShortAfter begun Memory (record { before = start; after = start; failed = read_failed }) (record { before = kept; after = kept; failed = write_failed })
+unserved begun start kept read_failed write_failed reader writer = record {
   turns = [];
   read = record {
     bytes = [];
@@ -130,7 +134,7 @@ unserved setup limit start kept read_failed write_failed reader writer = record 
   heard = [];
   heard_is = ([], omega arith, refl);
   fate = λ n. Kept;
-  begins = (transcript setup limit (λ n. Kept) [], refl);
+  begins = (transcript_after (state_now begun) (λ n. Kept) [], refl);
   closed = ([], [], omega arith, refl, inl (tt, refl));
 }
 

@@ -8,10 +8,10 @@ use Rattle.bl_work.specs.Readable.{IsReadable}
 use Rattle.bl_work.specs.declared.work.Work.{Work}
 use Rattle.bl_setup.specs.Agreement.{Agree}
 use Rattle.bl_setup.specs.Setup.{Setup}
-use Rattle.bl_order.specs.Machine.{State, session_at}
+use Rattle.bl_order.specs.Machine.{Session, State, session_at}
 use Rattle.bl_order.specs.Machine as machine
 use Rattle.std.specs.Io.KnownBytes.{Keeps}
-use Rattle.bl_hall.specs.Chronicle.{state_now}
+use Rattle.bl_hall.specs.Chronicle.{Chronicle, state_now}
 use Rattle.bl_wire.specs.Replies.{line_text}
 use Rattle.bl_wire.specs.declared.turn.Turn.{Turn}
 use Rattle.bl_wire.specs.declared.turn.Turn.TheVariants.{Greets, Ask}
@@ -35,18 +35,18 @@ use Rattle.bl_session.specs.Pages.{AreLater, Came, StillAnswers}
 use Rattle.bl_session.specs.Pages as pages
 use Rattle.bl_session.specs.Talks.{HasDone, IsAsking, IsUnderWay, MayGive}
 use Rattle.bl_session.specs.Telling.{left_above}
-use Rattle.bl_session.proofs.PageLaws.{came_state}
+use Rattle.bl_session.proofs.PageLaws.{came_state, session_none}
 use Rattle.bl_session.proofs.ServeLaws.{are_served}
 
 -- the machine opens the session, and answers as it does now
 abbrev pub now_given : Pages → Given
-now_given s = given_by (line_text (state_now s.hall) 0)
+now_given s = given_by (line_text (state_now s.hall) s.session)
 
 pub may_now : (s : Pages) (n : ℕ) → MayGive s n (now_given s)
 may_now s n = (refl, λ k low high. refl)
 
 -- what is answered later is what may be given
-pub may_later : (s : Pages) (n : ℕ) (later : ℕ → List ℕ) → SameUpTo n (line_text (state_now s.hall) 0) later → MayGive s n (given_by later)
+pub may_later : (s : Pages) (n : ℕ) (later : ℕ → List ℕ) → SameUpTo n (line_text (state_now s.hall) s.session) later → MayGive s n (given_by later)
 may_later s n later same = (refl, λ k low high. same k high)
 
 -- less may be given once more is answered
@@ -76,12 +76,12 @@ room_alone ended stages.Opens is = cc
 room_alone ended (stages.Settles closing) is = cc
 
 -- of a block of which nothing was told all is left
-pub all_left : (x : State) (upto k : ℕ) → upto < k → left_above x upto k ≡ line_text x 0 k
-all_left x upto k lt = let e : nat_le k upto ≡ false = grind (arith, nat_tests) in ap (λ b. cond b [] (line_text x 0 k)) e
+pub all_left : (x : State) (i upto k : ℕ) → upto < k → left_above x i upto k ≡ line_text x i k
+all_left x i upto k lt = let e : nat_le k upto ≡ false = grind (arith, nat_tests) in ap (λ b. cond b [] (line_text x i k)) e
 
 -- the same of what is asked, as it is known
-pub asking_is : (setup : Setup) (limit : ℕ) (e : Ends) (conv : Conversation) (s : Pages) (q r : Option Request) → q ≡ r → IsAsking setup limit e conv q s → IsAsking setup limit e conv r s
-asking_is setup limit e conv s q r is a = subst (λ (o : Option Request). IsAsking setup limit e conv o s) is a
+pub asking_is : (setup : Setup) (begun : Chronicle) (e : Ends) (conv : Conversation) (s : Pages) (q r : Option Request) → q ≡ r → IsAsking setup begun e conv q s → IsAsking setup begun e conv r s
+asking_is setup begun e conv s q r is a = subst (λ (o : Option Request). IsAsking setup begun e conv o s) is a
 
 -- a fault that is handed on
 pub passes_on : {T E : Type 0} (r : Result T E) (e : E) (P : E → Type 0) → IsErrAnd r (λ f. f ≡ e) → P e → IfErr r P
@@ -107,13 +107,17 @@ nothing_told ended n stages.Opens is alone = cc
 nothing_told ended n (stages.Settles closing) is alone = cc
 
 -- before anything was asked
-pub first_done : (setup : Setup) (limit : ℕ) (s : Pages) → Came setup limit s [] → (after last : ℕ) → HasDone setup limit after last s []
-first_done setup limit s came after last =
-    let none : state_now s.hall ≡ machine.start setup limit = came_state setup limit s [] came in
-    let fresh : (session_at (state_now s.hall) 0).last ≡ 0 = ap (λ (y : State). (session_at y 0).last) none in
+pub first_done : (setup : Setup) (begun : Chronicle) (s : Pages) → Came setup begun s [] → (after last : ℕ) → HasDone setup begun after last s []
+first_done setup begun s came after last =
+    let none : state_now s.hall ≡ state_now begun = came_state setup begun s [] came in
+    let fresh : (session_at (state_now s.hall) s.session).last ≡ 0 =
+    ap (λ (y : State). (session_at y s.session).last) none
+    ∙ ap (λ i. (session_at (state_now begun) i).last) came.began.session_is
+    ∙ ap (λ (r : Session). r.last) (session_none (state_now begun).sessions)
+    in
     record {
       came = came;
-      settled = λ p low lt. absurd (omega (arith, lt, ap (λ (y : State). length y.order) none));
+      settled = λ p low lt. absurd (omega (arith, low, lt, came.began.over, ap (λ (y : State). length y.order) none));
       last_is = omega (arith, fresh);
       there = inl refl;
     }
@@ -161,9 +165,9 @@ open_now : (A B : Type 0) → A ⊎ B → (A → ⊥) → B
 open_now A B (inl a) not = absurd (not a)
 open_now A B (inr b) not = b
 
-module _ (setup : Setup) (limit : ℕ) (e : Ends) (conv : Conversation) (s : Pages) where
+module _ (setup : Setup) (begun : Chronicle) (e : Ends) (conv : Conversation) (s : Pages) where
   -- the session is open where a block is to be settled, or a work admitted
-  pub settling_open : (a : IsAsking setup limit e conv (Some Settles) s) → pages.IsOpen setup limit s
+  pub settling_open : (a : IsAsking setup begun e conv (Some Settles) s) → pages.IsOpen setup s
   settling_open a =
       let x = a.so_far in
       let at = a.on.now.point (now_given s) (λ k. []) (may_now s conv.after) in
@@ -171,7 +175,7 @@ module _ (setup : Setup) (limit : ℕ) (e : Ends) (conv : Conversation) (s : Pag
       open_now _ _ a.done.there (settles_then (now_given s) (λ k. []) (talk_of conv) (x.turns ++ a.on.more) x.asked x.said stage.0
       (at_stage conv.stage (stages.Settles stage.0) (now_given s) (λ k. []) (talk_of conv) (x.turns ++ a.on.more) (x.asked ++ Settles ∷ []) x.said stage.1 at))
 
-  pub admitting_open : (ordinal : ℕ) (work : Work) (a : IsAsking setup limit e conv (Some (Admits ordinal work)) s) → pages.IsOpen setup limit s
+  pub admitting_open : (ordinal : ℕ) (work : Work) (a : IsAsking setup begun e conv (Some (Admits ordinal work)) s) → pages.IsOpen setup s
   admitting_open ordinal work a =
       let x = a.so_far in
       let at = a.on.now.point (now_given s) (λ k. []) (may_now s conv.after) in
@@ -179,7 +183,7 @@ module _ (setup : Setup) (limit : ℕ) (e : Ends) (conv : Conversation) (s : Pag
       (at_stage conv.stage stages.Listens (now_given s) (λ k. []) (talk_of conv) (x.turns ++ a.on.more) (x.asked ++ Admits ordinal work ∷ []) x.said a.on.block.awaits at))
 
   -- and nothing was asked before it is opened
-  pub opening_first : (subject : ℕ) (a : IsAsking setup limit e conv (Some (Opens subject)) s) → a.so_far.asked ≡ []
+  pub opening_first : (subject : ℕ) (a : IsAsking setup begun e conv (Some (Opens subject)) s) → a.so_far.asked ≡ []
   opening_first subject a =
       let x = a.so_far in
       let at = a.on.now.point (now_given s) (λ k. []) (may_now s conv.after) in
@@ -187,39 +191,39 @@ module _ (setup : Setup) (limit : ℕ) (e : Ends) (conv : Conversation) (s : Pag
       (at_stage conv.stage stages.Opens (now_given s) (λ k. []) (talk_of conv) (x.turns ++ a.on.more) (x.asked ++ Opens subject ∷ []) x.said a.on.block.awaits at)
 
   -- so it has no block yet
-  pub opening_fresh : (subject : ℕ) (a : IsAsking setup limit e conv (Some (Opens subject)) s) → conv.after ≡ 0
+  pub opening_fresh : (subject : ℕ) (a : IsAsking setup begun e conv (Some (Opens subject)) s) → conv.after ≡ 0
   opening_fresh subject a =
       let x = a.so_far in
       let at = a.on.now.point (now_given s) (λ k. []) (may_now s conv.after) in
       (at_stage conv.stage stages.Opens (now_given s) (λ k. []) (talk_of conv) (x.turns ++ a.on.more) (x.asked ++ Opens subject ∷ []) x.said a.on.block.awaits at).fresh.after
 
   -- nothing is to be done
-  pub goes_on : IsAsking setup limit e conv None s → IsUnderWay setup limit e conv s
+  pub goes_on : IsAsking setup begun e conv None s → IsUnderWay setup begun e conv s
   goes_on a =
       let on = driven_alone setup.names e (MayGive s conv.after) conv a.so_far a.on in
       record {
         so_far = on.0;
         driven = on.2;
         done = record {
-          came = subst (Came setup limit s) (sym on.1) a.done.came;
+          came = subst (Came setup begun s) (sym on.1) a.done.came;
           settled = a.done.settled;
           last_is = omega (arith, a.done.last_is, a.on.block.last);
-          there = subst (λ l. (l ≡ []) ⊎ pages.IsOpen setup limit s) (sym on.1) a.done.there;
+          there = subst (λ l. (l ≡ []) ⊎ pages.IsOpen setup s) (sym on.1) a.done.there;
         };
         alone = alone_less (last_ordinal conv) (length conv.pending.items) conv.stage (omega arith) a.on.block.awaits;
       }
 
   -- the session was opened
-  pub has_opened : (subject : ℕ) (new : Conversation) (t : Pages) → IsAsking setup limit e conv (Some (Opens subject)) s → IsOpenedAs Open conv new → SameBlock conv new → last_ordinal new ≡ 0
-      → GoesOnAlone 0 new.stage → pages.IsOpen setup limit t → Came setup limit t (Opens subject ∷ []) → (session_at (state_now t.hall) 0).last ≡ 0
-      → ((n : ℕ) → AreLater t.next (state_now t.hall).order n) → IsUnderWay setup limit e new t
+  pub has_opened : (subject : ℕ) (new : Conversation) (t : Pages) → IsAsking setup begun e conv (Some (Opens subject)) s → IsOpenedAs Open conv new → SameBlock conv new → last_ordinal new ≡ 0
+      → GoesOnAlone 0 new.stage → pages.IsOpen setup t → Came setup begun t (Opens subject ∷ []) → (session_at (state_now t.hall) t.session).last ≡ 0
+      → ((n : ℕ) → AreLater t.next (state_now t.hall).order n) → IsUnderWay setup begun e new t
   has_opened subject new t a opens block first alone there came last settled = record {
     so_far = with_line x a.on.bytes a.on.more (Opens subject ∷ []);
     driven = driven_opened setup.names e.start e.rest e.first e.kept (MayGive t new.after) conv new (with_line x a.on.bytes a.on.more (Opens subject ∷ []))
         (driven_narrow setup.names e (MayGive s conv.after) (MayGive t new.after) conv (with_line x a.on.bytes a.on.more (Opens subject ∷ [])) (may_any s t conv.after new.after (opening_fresh subject a)) a.on.now)
         Open (now_given t) (may_now t new.after) block.ended (λ given may. may.0) opens;
     done = record {
-      came = subst (λ l. Came setup limit t (l ++ Opens subject ∷ [])) (sym (opening_first subject a)) came;
+      came = subst (λ l. Came setup begun t (l ++ Opens subject ∷ [])) (sym (opening_first subject a)) came;
       settled = settled new.after;
       last_is = omega (arith, last);
       there = inr there;
@@ -231,9 +235,9 @@ module _ (setup : Setup) (limit : ℕ) (e : Ends) (conv : Conversation) (s : Pag
       x = a.so_far
 
   -- a work was asked for
-  pub has_asked : (ordinal : ℕ) (work : Work) (t : Pages) → IsAsking setup limit e conv (Some (Admits ordinal work)) s → pages.IsOpen setup limit t
-      → ((told : List Request) → Came setup limit s told → Came setup limit t (told ++ Admits ordinal work ∷ [])) → (session_at (state_now t.hall) 0).last ≤ ordinal
-      → ((n : ℕ) → n < ordinal → AreLater s.next (state_now s.hall).order n → StillAnswers n s t) → IsUnderWay setup limit e conv t
+  pub has_asked : (ordinal : ℕ) (work : Work) (t : Pages) → IsAsking setup begun e conv (Some (Admits ordinal work)) s → pages.IsOpen setup t
+      → ((told : List Request) → Came setup begun s told → Came setup begun t (told ++ Admits ordinal work ∷ [])) → (session_at (state_now t.hall) t.session).last ≤ ordinal
+      → ((n : ℕ) → n < ordinal → AreLater s.next (state_now s.hall).order n → StillAnswers n s t) → IsUnderWay setup begun e conv t
   has_asked ordinal work t a there came last settled = record {
     so_far = with_line x a.on.bytes a.on.more (Admits ordinal work ∷ []);
     driven = driven_narrow setup.names e (MayGive s conv.after) (MayGive t conv.after) conv (with_line x a.on.bytes a.on.more (Admits ordinal work ∷ []))
@@ -254,31 +258,31 @@ module _ (setup : Setup) (limit : ℕ) (e : Ends) (conv : Conversation) (s : Pag
       still = settled conv.after (omega (arith, a.on.block.after, a.on.block.number.1)) a.done.settled
 
   -- what is asked for may be asked
-  pub names_subject : Agree setup → (subject : ℕ) → IsAsking setup limit e conv (Some (Opens subject)) s → subject < length setup.policy.subjects
+  pub names_subject : Agree setup → (subject : ℕ) → IsAsking setup begun e conv (Some (Opens subject)) s → subject < length setup.policy.subjects
   names_subject agree subject a = are_served setup agree a.on.origin.0 (Greets subject) a.on.origin.1
 
-  pub names_work : Agree setup → (ordinal : ℕ) (work : Work) → IsAsking setup limit e conv (Some (Admits ordinal work)) s → IsReadable setup.names work
+  pub names_work : Agree setup → (ordinal : ℕ) (work : Work) → IsAsking setup begun e conv (Some (Admits ordinal work)) s → IsReadable setup.names work
   names_work agree ordinal work a = are_served setup agree a.on.origin.0 (Ask work) a.on.origin.1
 
 -- ---- between two waits
 
 -- before anything was heard
-pub begins_talk : (setup : Setup) (limit : ℕ) (r w : Option (List ℕ)) (conv : Conversation) (s : Pages) → Came setup limit s [] → need_of conv ≡ needs.Input
-    → ((names : KnownNames) (given : Given) (left : ℕ → List ℕ) → Spoke names given left conv [] [] [] []) → IsUnderWay setup limit (ends r r w w) conv s
-begins_talk setup limit r w conv s came need spoke = record {
+pub begins_talk : (setup : Setup) (begun : Chronicle) (r w : Option (List ℕ)) (conv : Conversation) (s : Pages) → Came setup begun s [] → need_of conv ≡ needs.Input
+    → ((names : KnownNames) (given : Given) (left : ℕ → List ℕ) → Spoke names given left conv [] [] [] []) → IsUnderWay setup begun (ends r r w w) conv s
+begins_talk setup begun r w conv s came need spoke = record {
   so_far = nothing_yet;
   driven = driven_new setup.names r w (MayGive s conv.after) conv need spoke;
-  done = first_done setup limit s came conv.after (last_ordinal conv);
+  done = first_done setup begun s came conv.after (last_ordinal conv);
   alone = alone_input conv.ended (length conv.pending.items) conv.stage need;
 }
 
-module _ (setup : Setup) (limit : ℕ) (start r first w : Option (List ℕ)) (conv : Conversation) (s : Pages) (u : IsUnderWay setup limit (ends start r first w) conv s) where
+module _ (setup : Setup) (begun : Chronicle) (start r first w : Option (List ℕ)) (conv : Conversation) (s : Pages) (u : IsUnderWay setup begun (ends start r first w) conv s) where
   still : StillAnswers conv.after s s
-  still = record { later = u.done.settled; same = λ k le. refl }
+  still = record { number = refl; later = u.done.settled; same = λ k le. refl }
 
   -- it has heard what the reader showed, or that the input is at its end
   pub has_heard : (names : KnownNames) (r' w' : Option (List ℕ)) (new : Conversation) (request : Option Request) → names ≡ setup.names → need_of conv ≡ needs.Input
-      → Listened names r r' conv new request → Keeps w w' → IsAsking setup limit (ends start r' first w') new request s
+      → Listened names r r' conv new request → Keeps w w' → IsAsking setup begun (ends start r' first w') new request s
   has_heard names r' w' new request is need on kept = record {
     so_far = u.so_far;
     on = listened_narrow setup.names (ends start r' first w') (MayGive s conv.after) (MayGive s new.after) new request u.so_far (may_less s s conv.after new.after (omega (arith, on.block.after)) still)
@@ -293,7 +297,7 @@ module _ (setup : Setup) (limit : ℕ) (start r first w : Option (List ℕ)) (co
   }
 
   pub has_heard_end : (names : KnownNames) (new : Conversation) (request : Option Request) → names ≡ setup.names → need_of conv ≡ needs.End → Hears names conv new [] request
-      → KeepsBlock conv new request → IsAsking setup limit (ends start r first w) new request s
+      → KeepsBlock conv new request → IsAsking setup begun (ends start r first w) new request s
   has_heard_end names new request is need hears block = record {
     so_far = u.so_far;
     on = listened_narrow setup.names (ends start r first w) (MayGive s conv.after) (MayGive s new.after) new request u.so_far (may_less s s conv.after new.after (omega (arith, block.after)) still)
@@ -312,7 +316,7 @@ module _ (setup : Setup) (limit : ℕ) (start r first w : Option (List ℕ)) (co
   after_told other new w' need told = omega (arith, told.last, ap (λ l. length l) told.none, nothing_told conv.ended (length conv.pending.items) conv.stage need u.alone)
 
   -- words were told
-  pub has_told : (other : ℕ → List ℕ) (new : Conversation) (w' : Option (List ℕ)) → need_of conv ≡ needs.Room → ToldAll (λ k. []) other conv new w w' → IsUnderWay setup limit (ends start r first w') new s
+  pub has_told : (other : ℕ → List ℕ) (new : Conversation) (w' : Option (List ℕ)) → need_of conv ≡ needs.Room → ToldAll (λ k. []) other conv new w w' → IsUnderWay setup begun (ends start r first w') new s
   has_told other new w' need told = record {
     so_far = with_said u.so_far told.more;
     driven = subst (λ n. IsDriven setup.names (ends start r first w') (MayGive s n) new (with_said u.so_far told.more)) (sym after)
@@ -332,9 +336,9 @@ module _ (setup : Setup) (limit : ℕ) (start r first w : Option (List ℕ)) (co
 
 -- ---- a block is settled
 
-module _ (setup : Setup) (limit : ℕ) (start rest first kept : Option (List ℕ)) (conv mid : Conversation) (s t : Pages) (a : IsAsking setup limit (ends start rest first kept) conv (Some Settles) s)
+module _ (setup : Setup) (begun : Chronicle) (start rest first kept : Option (List ℕ)) (conv mid : Conversation) (s t : Pages) (a : IsAsking setup begun (ends start rest first kept) conv (Some Settles) s)
     (still : (n : ℕ) → AreLater s.next (state_now s.hall).order n → StillAnswers n s t) (block : SameBlock conv mid) (answers : IsAnswered conv mid)
-    (left : ℕ → List ℕ) (left_is : (k : ℕ) → conv.after < k → left k ≡ line_text (state_now t.hall) 0 k) where
+    (left : ℕ → List ℕ) (left_is : (k : ℕ) → conv.after < k → left k ≡ line_text (state_now t.hall) t.session k) where
   abbrev pub x : Exchange
   x = with_line a.so_far a.on.bytes a.on.more (Settles ∷ [])
 
@@ -348,9 +352,9 @@ module _ (setup : Setup) (limit : ℕ) (start rest first kept : Option (List ℕ
       (λ given may k low high. left_is k low ∙ sym (may.1 k (omega arith) high)) answers
 
   -- it was told
-  pub has_settled : (other : ℕ → List ℕ) (new : Conversation) (kept' : Option (List ℕ)) → ToldAll left other mid new kept kept' → pages.IsOpen setup limit t
-      → ((told : List Request) → Came setup limit s told → Came setup limit t (told ++ Settles ∷ [])) → (session_at (state_now t.hall) 0).last ≡ (session_at (state_now s.hall) 0).last
-      → ((n : ℕ) → AreLater t.next (state_now t.hall).order n) → IsUnderWay setup limit (ends start rest first kept') new t
+  pub has_settled : (other : ℕ → List ℕ) (new : Conversation) (kept' : Option (List ℕ)) → ToldAll left other mid new kept kept' → pages.IsOpen setup t
+      → ((told : List Request) → Came setup begun s told → Came setup begun t (told ++ Settles ∷ [])) → (session_at (state_now t.hall) t.session).last ≡ (session_at (state_now s.hall) s.session).last
+      → ((n : ℕ) → AreLater t.next (state_now t.hall).order n) → IsUnderWay setup begun (ends start rest first kept') new t
   has_settled other new kept' told there came last settled = record {
     so_far = with_said x told.more;
     driven = subst (λ n. IsDriven setup.names (ends start rest first kept') (MayGive t n) new (with_said x told.more)) (sym after)

@@ -46,11 +46,12 @@ may_next x n ran lt = record {
 }
 
 -- a session's last ordinal is that of its last line
-pub last_set : (sessions : List Session) (k : ℕ) → 0 < length sessions
-    → (0 < length (slice_set sessions 0 (record (slice_index_or sessions 0 no_session) { last = k })))
-    × ((slice_index_or (slice_set sessions 0 (record (slice_index_or sessions 0 no_session) { last = k })) 0 no_session).last ≡ k)
-last_set [] k some = absurd (omega arith)
-last_set (s ∷ sessions) k some = (omega arith, refl)
+pub last_set : (sessions : List Session) (i k : ℕ) → i < length sessions
+    → (i < length (slice_set sessions i (record (slice_index_or sessions i no_session) { last = k })))
+    × ((slice_index_or (slice_set sessions i (record (slice_index_or sessions i no_session) { last = k })) i no_session).last ≡ k)
+last_set [] i k some = absurd (omega arith)
+last_set (s ∷ sessions) zero k some = (omega arith, refl)
+last_set (s ∷ sessions) (suc i) k some = let rest = last_set sessions i k (omega (arith, some)) in (omega (arith, rest.0), rest.1)
 
 module _ (lead : StepsLeadOn) (room : OrderHasRoom) (setup : Setup) (limit u : ℕ) (fate : ℕ → Fate) where
   -- between two turns: the first places have ended and the others wait, the session's ordinals are at most k, and a trail led here
@@ -185,7 +186,7 @@ module _ (lead : StepsLeadOn) (room : OrderHasRoom) (setup : Setup) (limit u : �
 
   admitted : (k ended : ℕ) (x : State) (w : Work) → Stands k ended x → Needs x (machine.Admits 0 (k + 1) w) → Stands (k + 1) ended (change x (machine.Admits 0 (k + 1) w))
   admitted k ended x w s needs =
-      let set = last_set x.sessions (k + 1) s.opened in
+      let set = last_set x.sessions 0 (k + 1) s.opened in
       record {
         ran = ran_line x ended 0 (k + 1) w s.ran;
         setup_is = s.setup_is;
@@ -197,7 +198,7 @@ module _ (lead : StepsLeadOn) (room : OrderHasRoom) (setup : Setup) (limit u : �
 
   -- what the turns after an ordinal tell, and then the end of the input
   told_settled : (turns : List Turn) (k ended : ℕ) (x : State) → All (StandsIn setup.names) turns → k + length turns < 2 ^ 32 → Stands k ended x
-      → (j : ℕ) × Settled j x (events_of fate x (told_of k turns ++ Settles ∷ []))
+      → (j : ℕ) × Settled j x (events_of 0 fate x (told_of k turns ++ Settles ∷ []))
   told_settled [] k ended x are small s =
       let all : Settled k x (settling fate x) = settled-whole k ended x s in
       (k, settled-append k x (settling fate x) [] all.trail (record { trail = tt; ended = all.ended; stands = all.stands; all = all.all }))
@@ -206,7 +207,7 @@ module _ (lead : StepsLeadOn) (room : OrderHasRoom) (setup : Setup) (limit u : �
   told_settled (Wait ∷ turns) k ended x are small s =
       let all : Settled k x (settling fate x) = settled-whole k ended x s in
       let rest = told_settled turns k all.ended (state_after x (settling fate x)) (All-tail (StandsIn setup.names) Wait turns are) (omega (arith, small)) all.stands in
-      (rest.0, settled-append rest.0 x (settling fate x) (events_of fate (state_after x (settling fate x)) (told_of k turns ++ Settles ∷ [])) all.trail rest.1)
+      (rest.0, settled-append rest.0 x (settling fate x) (events_of 0 fate (state_after x (settling fate x)) (told_of k turns ++ Settles ∷ [])) all.trail rest.1)
   told_settled (Greets subject ∷ turns) k ended x are small s =
       told_settled turns (k + 1) ended x (All-tail (StandsIn setup.names) (Greets subject) turns are) (omega (arith, small)) (later k (k + 1) ended x (omega arith) s)
   told_settled (Bad fault ∷ turns) k ended x are small s =
@@ -220,8 +221,8 @@ module _ (lead : StepsLeadOn) (room : OrderHasRoom) (setup : Setup) (limit u : �
       line = All-head (StandsIn setup.names) (Ask work) turns are
 
       go : (b : Bool) → fits x work ≡ b
-          → ((y : State) → All (StandsIn setup.names) turns → k + 1 + length turns < 2 ^ 32 → Stands (k + 1) ended y → (j : ℕ) × Settled j y (events_of fate y (told_of (k + 1) turns ++ Settles ∷ [])))
-          → (j : ℕ) × Settled j x (cond b (machine.Admits 0 (k + 1) work ∷ events_of fate (change x (machine.Admits 0 (k + 1) work)) (told_of (k + 1) turns ++ Settles ∷ [])) (events_of fate x (told_of (k + 1) turns ++ Settles ∷ [])))
+          → ((y : State) → All (StandsIn setup.names) turns → k + 1 + length turns < 2 ^ 32 → Stands (k + 1) ended y → (j : ℕ) × Settled j y (events_of 0 fate y (told_of (k + 1) turns ++ Settles ∷ [])))
+          → (j : ℕ) × Settled j x (cond b (machine.Admits 0 (k + 1) work ∷ events_of 0 fate (change x (machine.Admits 0 (k + 1) work)) (told_of (k + 1) turns ++ Settles ∷ [])) (events_of 0 fate x (told_of (k + 1) turns ++ Settles ∷ [])))
       go true fit further =
           let needs : Needs x (machine.Admits 0 (k + 1) work) = may_admit k ended x work s (without_cr line.0, line.1.1) (omega (arith, small)) fit in
           let rest = further (change x (machine.Admits 0 (k + 1) work)) tail (omega (arith, small)) (admitted k ended x work s needs) in

@@ -232,7 +232,7 @@ tells_after k turns x a b none t =
     (subst (Tells k turns (state_after x a).limit (state_after (state_after x a) b)) same t))
 
 told_tells : (fate : ℕ → Fate) (turns : List Turn) (k : ℕ) (x : State)
-    → Tells k turns x.limit (state_after x (events_of fate x (told_of k turns ++ Settles ∷ []))) (admitted 0 (events_of fate x (told_of k turns ++ Settles ∷ [])))
+    → Tells k turns x.limit (state_after x (events_of 0 fate x (told_of k turns ++ Settles ∷ []))) (admitted 0 (events_of 0 fate x (told_of k turns ++ Settles ∷ [])))
 told_tells fate [] k x =
     tells_after k [] x (settling fate x) [] (run_admits_none fate x.limit x 0 0)
     (record {
@@ -244,7 +244,7 @@ told_tells fate (Skip ∷ turns) k x =
     let t = told_tells fate turns k x in record { above = t.above; lines = t.lines; full = t.full }
 told_tells fate (Wait ∷ turns) k x =
     let t = told_tells fate turns k (state_after x (settling fate x)) in
-    tells_after k (Wait ∷ turns) x (settling fate x) (events_of fate (state_after x (settling fate x)) (told_of k turns ++ Settles ∷ [])) (run_admits_none fate x.limit x 0 0)
+    tells_after k (Wait ∷ turns) x (settling fate x) (events_of 0 fate (state_after x (settling fate x)) (told_of k turns ++ Settles ∷ [])) (run_admits_none fate x.limit x 0 0)
     (record { above = t.above; lines = t.lines; full = t.full })
 told_tells fate (Greets subject ∷ turns) k x = tells_on k turns _ _ _ (Greets subject) refl (told_tells fate turns (k + 1) x)
 told_tells fate (Bad fault ∷ turns) k x = tells_on k turns _ _ _ (Bad fault) refl (told_tells fate turns (k + 1) x)
@@ -254,13 +254,13 @@ told_tells fate (Ask work ∷ turns) k x = go (fits x work) refl (told_tells fat
     over b is none = let full : nat_le (sum_by entry_weight x.order + weight_of work) x.limit ≡ false = is ∙ none in grind (arith, nat_tests)
 
     go : (b : Bool) → fits x work ≡ b
-        → ((y : State) → Tells (k + 1) turns y.limit (state_after y (events_of fate y (told_of (k + 1) turns ++ Settles ∷ []))) (admitted 0 (events_of fate y (told_of (k + 1) turns ++ Settles ∷ []))))
+        → ((y : State) → Tells (k + 1) turns y.limit (state_after y (events_of 0 fate y (told_of (k + 1) turns ++ Settles ∷ []))) (admitted 0 (events_of 0 fate y (told_of (k + 1) turns ++ Settles ∷ []))))
         → Tells k (Ask work ∷ turns) x.limit
-        (state_after x (cond b (machine.Admits 0 (k + 1) work ∷ events_of fate (change x (machine.Admits 0 (k + 1) work)) (told_of (k + 1) turns ++ Settles ∷ [])) (events_of fate x (told_of (k + 1) turns ++ Settles ∷ []))))
-        (admitted 0 (cond b (machine.Admits 0 (k + 1) work ∷ events_of fate (change x (machine.Admits 0 (k + 1) work)) (told_of (k + 1) turns ++ Settles ∷ [])) (events_of fate x (told_of (k + 1) turns ++ Settles ∷ []))))
+        (state_after x (cond b (machine.Admits 0 (k + 1) work ∷ events_of 0 fate (change x (machine.Admits 0 (k + 1) work)) (told_of (k + 1) turns ++ Settles ∷ [])) (events_of 0 fate x (told_of (k + 1) turns ++ Settles ∷ []))))
+        (admitted 0 (cond b (machine.Admits 0 (k + 1) work ∷ events_of 0 fate (change x (machine.Admits 0 (k + 1) work)) (told_of (k + 1) turns ++ Settles ∷ [])) (events_of 0 fate x (told_of (k + 1) turns ++ Settles ∷ []))))
     go true is t = tells_admitted k work turns x.limit _ _ (t (change x (machine.Admits 0 (k + 1) work)))
     go false is t =
-        let kept = weights_kept x (events_of fate x (told_of (k + 1) turns ++ Settles ∷ [])) in
+        let kept = weights_kept x (events_of 0 fate x (told_of (k + 1) turns ++ Settles ∷ [])) in
         tells_full k work turns x.limit _ _ (t x) (omega (arith, over false is refl, kept.weight))
 
 -- ---- the whole
@@ -275,7 +275,7 @@ answers setup limit fate (Bad fault ∷ turns) x trail at is = refl
 answers setup limit fate (Ask work ∷ turns) x trail at is = refl
 answers setup limit fate (Greets subject ∷ turns) x trail at is =
     let opened : State = change (start setup limit) (machine.Opens subject) in
-    let told : List Event = events_of fate opened (told_of 0 turns ++ Settles ∷ []) in
+    let told : List Event = events_of 0 fate opened (told_of 0 turns ++ Settles ∷ []) in
     let t : Tells 0 turns limit (state_after opened told) (admitted 0 told) = told_tells fate turns 0 opened in
     let kept : KeepsSession opened (state_after opened told) 0 = sessions_kept opened told 0 (omega arith) in
     inr

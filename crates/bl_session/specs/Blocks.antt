@@ -23,11 +23,11 @@ behind n (reply ∷ replies) = if nat_le (line_of reply) n then behind n replies
 abbrev pub left_in : State → Block → List Reply
 left_in x block = map (reply_in x) (drop block.next block.places.items)
 
--- The replies to the lines above an ordinal are still to be taken from the block, behind those to earlier lines. Its places have ended.
-pub record Gives (x : State) (block : Block) (n : ℕ) : Type 0 where
+-- The replies to a session's lines above an ordinal are still to be taken from the block, behind those to earlier lines. Its places have ended.
+pub record Gives (x : State) (session : ℕ) (block : Block) (n : ℕ) : Type 0 where
   pub ended : All (λ p. IsTrue (has_ended x p)) block.places.items
   pub within : block.next ≤ length block.places.items
-  pub replies : behind n (left_in x block) ≡ replies_above x 0 n (length x.order)
+  pub replies : behind n (left_in x block) ≡ replies_above x session n (length x.order)
 
 -- the place at hand is the first of those that are left, and stands below a line up to an ordinal; or none is left that does
 abbrev pub IsInFront : State → Block → ℕ → Option ℕ → Type 0

@@ -16,6 +16,7 @@ use Rattle.bl_engine.specs.BlockText.{Begins}
 use Rattle.bl_engine.specs.Outcome.{LacksTheLast}
 use Rattle.bl_engine.specs.Requests.{told_by}
 use Rattle.bl_engine.specs.declared.request.Request.{Request}
+use Rattle.bl_session.specs.One.{new_hall, next_session}
 use Rattle.bl_session.specs.Pages.{with_events}
 use Rattle.bl_session.specs.declared.keep.Stop.{Stop}
 use Rattle.bl_session.specs.declared.keep.Stop.TheVariants.{Fault, NotKept}
@@ -47,24 +48,28 @@ IsHeld reached has_kept (Ok done) kept = reached kept
 IsHeld reached has_kept (Err (Fault fault)) kept = reached kept
 IsHeld reached has_kept (Err NotKept) kept = has_kept kept
 
--- no session was asked for, or the trail has it
-abbrev pub IsOpenIn : Chronicle → List Request → Type 0
-IsOpenIn kept told = (told ≡ []) ⊎ (0 < length (state_now kept).sessions)
+-- no session was asked for, or the trail has it under this number
+abbrev pub IsOpenIn : ℕ → Chronicle → List Request → Type 0
+IsOpenIn session kept told = (told ≡ []) ⊎ (session < length (state_now kept).sessions)
 
--- What is written was told of this trail, which is of this setup and limit: it begins the text of the lines that were
--- heard, by the state that the trail leads to, and where they ask for a session the trail has it. What was heard are
--- the lines that were read, but perhaps the last.
-pub record IsToldOf (setup : Setup) (limit : ℕ) (kept : Chronicle) (reader writer : Use) : Type 0 where
-  pub setup_is : kept.setup ≡ setup
-  pub limit_is : kept.limit ≡ limit
+-- What is written was told of this trail, which is of the setup and the limit of the hall that the session began in: it begins the text of
+-- the lines that were heard, by the state that the trail leads to, and where they ask for a session the trail has it, the next after those
+-- that were there. What was heard are the lines that were read, but perhaps the last.
+pub record IsToldAfter (begun kept : Chronicle) (reader writer : Use) : Type 0 where
+  pub setup_is : kept.setup ≡ begun.setup
+  pub limit_is : kept.limit ≡ begun.limit
   pub bytes : List ℕ
   pub part : List ℕ
   pub took : Consumes reader.before reader.after (bytes ++ part)
   pub turns : List Turn
-  pub are : AreTurns setup.names (lines_of bytes) turns
+  pub are : AreTurns begun.setup.names (lines_of bytes) turns
   pub heard : List Turn
   pub few : LacksTheLast heard turns
-  pub opened : IsOpenIn kept (told_by heard)
+  pub opened : IsOpenIn (next_session (state_now begun)) kept (told_by heard)
   pub written : List ℕ
   pub put : Appends writer.before writer.after written
-  pub begins : Begins written (session_text (line_text (state_now kept) 0) heard)
+  pub begins : Begins written (session_text (line_text (state_now kept) (next_session (state_now begun))) heard)
+
+-- where nothing had happened before
+abbrev pub IsToldOf : Setup → ℕ → Chronicle → Use → Use → Type 0
+IsToldOf setup limit kept reader writer = IsToldAfter (new_hall setup limit) kept reader writer

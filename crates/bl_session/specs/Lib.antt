@@ -1,3 +1,4 @@
+pub mod Openings
 pub mod One
 pub mod OneTrail
 pub mod Transcript

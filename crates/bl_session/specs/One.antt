@@ -4,6 +4,7 @@ use Rattle.bl_work.specs.declared.work.Work.{Work}
 use Rattle.bl_setup.specs.Setup.{Setup}
 use Rattle.bl_order.specs.Machine.{State, Event, runs, has_ended, change, start, state_after, weight_of, entry_weight}
 use Rattle.bl_order.specs.Machine as machine
+use Rattle.bl_hall.specs.Chronicle.{Chronicle}
 use Rattle.bl_wire.specs.declared.turn.Turn.{Turn}
 use Rattle.bl_engine.specs.declared.request.Request.{Request}
 use Rattle.bl_engine.specs.declared.request.Request.TheVariants.{Opens, Admits, Settles}
@@ -45,20 +46,35 @@ settling fate x = run_from fate x.limit x 0
 abbrev pub fits : State → Work → Bool
 fits x work = nat_le (sum_by entry_weight x.order + weight_of work) x.limit
 
--- the events that what is told leads to
-abbrev pub events_of : (ℕ → Fate) → State → List Request → List Event
-events_of fate x [] = []
-events_of fate x (Opens subject ∷ told) = machine.Opens subject ∷ events_of fate (change x (machine.Opens subject)) told
-events_of fate x (Admits ordinal work ∷ told) =
+-- the events that what is told leads to, of the session of this number
+abbrev pub events_of : ℕ → (ℕ → Fate) → State → List Request → List Event
+events_of i fate x [] = []
+events_of i fate x (Opens subject ∷ told) =
+    machine.Opens subject ∷ events_of i fate (change x (machine.Opens subject)) told
+events_of i fate x (Admits ordinal work ∷ told) =
     if fits x work
-    then machine.Admits 0 ordinal work ∷ events_of fate (change x (machine.Admits 0 ordinal work)) told
-    else events_of fate x told
-events_of fate x (Settles ∷ told) = settling fate x ++ events_of fate (state_after x (settling fate x)) told
+    then machine.Admits i ordinal work ∷ events_of i fate (change x (machine.Admits i ordinal work)) told
+    else events_of i fate x told
+events_of i fate x (Settles ∷ told) =
+    settling fate x ++ events_of i fate (state_after x (settling fate x)) told
 
--- where nothing opens a session the trail is empty; otherwise it opens the session, admits each line that fits, in order, and
--- at the end of each block starts and ends the unended entries by rising place, or loses those that are lost
+-- the number of the session that is opened next: how many were opened before
+abbrev pub next_session : State → ℕ
+next_session x = length x.sessions
+
+-- The events of one session and one worker that come after a state. Where nothing opens a session there are none;
+-- otherwise it is opened, each line that fits is admitted, in order, and at the end of each block the unended entries
+-- start and end by rising place, or are lost.
+abbrev pub one_after : State → (ℕ → Fate) → List Turn → List Event
+one_after x fate turns = events_of (next_session x) fate x (told_by turns)
+
+-- a hall in which nothing has happened
+abbrev pub new_hall : Setup → ℕ → Chronicle
+new_hall setup limit = record { setup = setup; limit = limit; trail = [] }
+
+-- the trail where nothing has happened before
 abbrev pub one : Setup → ℕ → (ℕ → Fate) → List Turn → List Event
-one setup limit fate turns = events_of fate (start setup limit) (told_by turns)
+one setup limit fate turns = one_after (start setup limit) fate turns
 
 -- where this trail leads
 abbrev pub one_state : Setup → ℕ → (ℕ → Fate) → List Turn → State

@@ -3,13 +3,13 @@ use Rattle.std.specs.Prelude.{◌≡◌, ℕ, ◌+◌, ◌-◌, ◌<◌, ◌≤�
 use Rattle.bl_setup.specs.Setup.{Setup}
 use Rattle.bl_order.specs.Labels.{Tag, tag}
 use Rattle.bl_order.specs.Order.{Entry}
-use Rattle.bl_order.specs.Machine.{State, Event, Ends, Loses, Waiting, phase_at, has_ended, start}
+use Rattle.bl_order.specs.Machine.{State, Event, Ends, Loses, Waiting, phase_at, has_ended, most_sessions}
 use Rattle.bl_hall.specs.Chronicle.{Chronicle, HasTrail, state_now, with_event}
 use Rattle.bl_engine.specs.declared.request.Request.{Request}
 use Rattle.bl_engine.specs.Requests.{SameUpTo}
 use Rattle.bl_wire.specs.Replies.{line_text}
 use Rattle.bl_session.specs.declared.entries.Pages.{Pages}
-use Rattle.bl_session.specs.One.{Fate, events_of, place_events, run_from}
+use Rattle.bl_session.specs.One.{Fate, events_of, next_session, place_events, run_from}
 
 -- the ordinal of the line that a place stands below
 abbrev pub ordinal_of : Tag → ℕ
@@ -26,28 +26,38 @@ pub record RanUpTo (n : ℕ) (x : State) : Type 0 where
   pub over : (p : ℕ) → p < n → has_ended x p ≡ true
   pub waits : (p : ℕ) → n ≤ p → phase_at x p ≡ Waiting
 
--- the hall is one over this setup and limit, whose places have run up to the next one
-pub record Stands (setup : Setup) (limit : ℕ) (s : Pages) : Type 0 where
+-- the hall is one over this setup, whose places have run up to the next one
+pub record Stands (setup : Setup) (s : Pages) : Type 0 where
   pub setup_is : s.hall.setup ≡ setup
-  pub limit_is : s.hall.limit ≡ limit
   pub trail : HasTrail s.hall
   pub ran : RanUpTo s.next (state_now s.hall)
 
 -- and its session is open
-pub record IsOpen (setup : Setup) (limit : ℕ) (s : Pages) : Type 0 where
-  pub stands : Stands setup limit s
-  pub there : 0 < length (state_now s.hall).sessions
+pub record IsOpen (setup : Setup) (s : Pages) : Type 0 where
+  pub stands : Stands setup s
+  pub there : s.session < length (state_now s.hall).sessions
 
 -- with more events
 abbrev pub with_events : Chronicle → List Event → Chronicle
 with_events h events = record { setup = h.setup; limit = h.limit; trail = h.trail ++ events }
 
--- What was told brought the pages here: the trail is One's for what became of the places that have run, whatever becomes of the
--- others.
-pub record Came (setup : Setup) (limit : ℕ) (s : Pages) (told : List Request) : Type 0 where
-  pub stands : Stands setup limit s
+-- The session began in this hall over the setup, as the next one that is opened there; it has room for one, and all
+-- that had entered it has run.
+pub record BeganIn (setup : Setup) (begun : Chronicle) (s : Pages) : Type 0 where
+  pub setup_is : begun.setup ≡ setup
+  pub limit_is : s.hall.limit ≡ begun.limit
+  pub session_is : s.session ≡ next_session (state_now begun)
+  pub room : s.session < most_sessions
+  pub over : length (state_now begun).order ≤ s.next
+
+-- What was told brought the pages here from the hall that the session began in: what has happened since is One's for what became of the
+-- places that have run, whatever becomes of the others.
+pub record Came (setup : Setup) (begun : Chronicle) (s : Pages) (told : List Request) : Type 0 where
+  pub stands : Stands setup s
+  pub began : BeganIn setup begun s
   pub fate : ℕ → Fate
-  pub led : (other : ℕ → Fate) → ((n : ℕ) → n < s.next → other n ≡ fate n) → s.hall.trail ≡ events_of other (start setup limit) told
+  pub led : (other : ℕ → Fate) → ((n : ℕ) → n < s.next → other n ≡ fate n)
+      → s.hall.trail ≡ begun.trail ++ events_of s.session other (state_now begun) told
 
 -- the running place has ended, or is lost
 pub record HasEnded (n : ℕ) (before after : Chronicle) : Type 0 where
@@ -71,7 +81,8 @@ pub record HaveRun (before : Chronicle) (from : ℕ) (after : Chronicle) (to : �
   pub led : (other : ℕ → Fate) → ((n : ℕ) → from ≤ n → n < to → other n ≡ fate n) → (most : ℕ)
       → after.trail ++ run_from other most (state_now after) to ≡ before.trail ++ run_from other ((to - from) + most) (state_now before) from
 
--- what was answered up to an ordinal stands, and is answered so still
+-- what was answered up to an ordinal stands, and is answered so still, to the same session
 pub record StillAnswers (n : ℕ) (before after : Pages) : Type 0 where
+  pub number : after.session ≡ before.session
   pub later : AreLater after.next (state_now after.hall).order n
-  pub same : SameUpTo n (line_text (state_now before.hall) 0) (line_text (state_now after.hall) 0)
+  pub same : SameUpTo n (line_text (state_now before.hall) before.session) (line_text (state_now after.hall) after.session)

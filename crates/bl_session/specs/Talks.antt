@@ -2,7 +2,7 @@
 use Rattle.std.specs.Prelude.{◌≡◌, ℕ, ◌≤◌, ◌⊎◌, Option, List, [], length}
 use Rattle.bl_setup.specs.Setup.{Setup}
 use Rattle.bl_order.specs.Machine.{session_at}
-use Rattle.bl_hall.specs.Chronicle.{state_now}
+use Rattle.bl_hall.specs.Chronicle.{Chronicle, state_now}
 use Rattle.bl_wire.specs.Replies.{line_text}
 use Rattle.bl_engine.specs.Conversations.{Given, GoesOnAlone, last_ordinal}
 use Rattle.bl_engine.specs.Driving.{Exchange, HasListened, IsDriven}
@@ -16,28 +16,28 @@ use Rattle.bl_session.specs.Pages.{AreLater, Came, IsOpen}
 
 -- what may be given yet: the session is opened, and what was answered up to an ordinal stands
 abbrev pub MayGive : Pages → ℕ → Given → Type 0
-MayGive s n given = (given.opening ≡ Open) × SameWithin 0 n (line_text (state_now s.hall) 0) given.replies
+MayGive s n given = (given.opening ≡ Open) × SameWithin 0 n (line_text (state_now s.hall) s.session) given.replies
 
 -- what is seen of the machine
-abbrev pub seen_of : Setup → ℕ → Pages → View
-seen_of setup limit s = record { replies = line_text (state_now s.hall) 0; settled = λ n. AreLater s.next (state_now s.hall).order n; came = Came setup limit s }
+abbrev pub seen_of : Setup → Chronicle → Pages → View
+seen_of setup begun s = record { replies = line_text (state_now s.hall) s.session; settled = λ n. AreLater s.next (state_now s.hall).order n; came = Came setup begun s }
 
 -- What was asked was done, the last block is answered, and no line has an ordinal above the last one.
-pub record HasDone (setup : Setup) (limit : ℕ) (after last : ℕ) (s : Pages) (asked : List Request) : Type 0 where
-  pub came : Came setup limit s asked
+pub record HasDone (setup : Setup) (begun : Chronicle) (after last : ℕ) (s : Pages) (asked : List Request) : Type 0 where
+  pub came : Came setup begun s asked
   pub settled : AreLater s.next (state_now s.hall).order after
-  pub last_is : (session_at (state_now s.hall) 0).last ≤ last
-  pub there : (asked ≡ []) ⊎ IsOpen setup limit s
+  pub last_is : (session_at (state_now s.hall) s.session).last ≤ last
+  pub there : (asked ≡ []) ⊎ IsOpen setup s
 
 -- The conversation waits for the reader, or for room to tell words.
-pub record IsUnderWay (setup : Setup) (limit : ℕ) (ends : Ends) (conv : Conversation) (s : Pages) : Type 0 where
+pub record IsUnderWay (setup : Setup) (begun : Chronicle) (ends : Ends) (conv : Conversation) (s : Pages) : Type 0 where
   pub so_far : Exchange
   pub driven : IsDriven setup.names ends (MayGive s conv.after) conv so_far
-  pub done : HasDone setup limit conv.after (last_ordinal conv) s so_far.asked
+  pub done : HasDone setup begun conv.after (last_ordinal conv) s so_far.asked
   pub alone : GoesOnAlone (length conv.pending.items) conv.stage
 
 -- It has heard one line more at most, and what is asked at that is still to be done.
-pub record IsAsking (setup : Setup) (limit : ℕ) (ends : Ends) (conv : Conversation) (request : Option Request) (s : Pages) : Type 0 where
+pub record IsAsking (setup : Setup) (begun : Chronicle) (ends : Ends) (conv : Conversation) (request : Option Request) (s : Pages) : Type 0 where
   pub so_far : Exchange
   pub on : HasListened setup.names ends (MayGive s conv.after) conv request so_far
-  pub done : HasDone setup limit conv.after (last_ordinal on.old) s so_far.asked
+  pub done : HasDone setup begun conv.after (last_ordinal on.old) s so_far.asked

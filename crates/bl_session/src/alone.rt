@@ -1,13 +1,15 @@
 //! A session with one worker, in one thread: lines are admitted without being run, and at each
 //! `wait` and at the end of the input they are run in admission order, over a hall of their own.
-ghost use Rattle.std.specs.Prelude.{◌≡◌, ◌≢◌, ◌≤◌, [], false, OnOk, IfErr, IfSome, IsSome};
-ghost use Rattle.bl_hall.specs.Chronicle.{Chronicle};
+ghost use Rattle.std.specs.Prelude.{◌≡◌, ◌≢◌, ◌<◌, ◌≤◌, ℕ, [], false, length, OnOk, IfErr, IfSome, IsSome, IsTrue};
+ghost use Rattle.bl_hall.specs.Chronicle.{Chronicle, state_now};
 ghost use Rattle.bl_wire.specs.Watch.{used};
-ghost use Rattle.bl_session.specs.Keeping.{IsFrontOf, IsHeld, IsToldOf, MayStop, fault_of};
-ghost use Rattle.bl_session.specs.Outcome.{IsServed, IsServedIn, IsCutShort};
+ghost use Rattle.bl_session.specs.Keeping.{IsFrontOf, IsHeld, IsToldAfter, IsToldOf, MayStop, fault_of};
+ghost use Rattle.bl_session.specs.Outcome.{IsCutShort, IsCutShortAfter, IsServed, IsServedAfter, IsServedIn, IsServedInAfter};
+ghost use Rattle.bl_order.specs.Machine.{has_ended, most_sessions};
 ghost use Rattle.bl_wire.specs.declared.fault.SessionFault.TheVariants.{Clash};
 
-use crate::entries::{Alone, Pages, begin};
+pub use crate::entries::sessions_in;
+use crate::entries::{Alone, Pages, begin, hall_over};
 use crate::keep::{Keep, NoKeep, Stop};
 use crate::talk::converse_alone;
 use bl_hall::hall::Hall;
@@ -89,6 +91,42 @@ pub fn serve_and_keep<R: BufRead, W: Write>(
     }
 }
 
+/// Serves one session in a hall that has a past, over its setup: all that had been admitted there has ended, and fewer than 1,000 sessions
+/// were opened. It is the next one after those, and has what room they have left. Its trail is kept before any of it is told: that it is open,
+/// and the replies to each block. Who keeps it has come as far as this hall.
+///
+/// The results are as `serve_keeping` has them, by what has happened since.
+pub fn serve_after<K: Keep, R: BufRead, W: Write>(
+    alloc: Global,
+    setup: Setup,
+    hall: Hall,
+    keep: &mut K,
+    reader: &mut Watched<R>,
+    writer: &mut Watched<W>,
+) -> (Result<(), Stop>, Kept)
+    requires setup { hall.setup ≡ setup }
+    requires ended { (n : ℕ) → n < length (state_now hall).order → IsTrue (has_ended (state_now hall) n) }
+    requires room { length (state_now hall).sessions < most_sessions }
+    requires reached { K.reached keep.old hall }
+    requires reader { reader.old.failed ≡ false }
+    requires writer { writer.old.failed ≡ false }
+    ensures ok { OnOk result.0 (IsServedAfter hall
+        (used R.remaining reader.old reader.new) (used W.contents writer.old writer.new)) }
+    ensures handed_on { OnOk result.0 (writer.new.unflushed ≡ false) }
+    ensures err { IfErr result.0 (λ stop. IsCutShortAfter hall (fault_of stop)
+        (used R.remaining reader.old reader.new) (used W.contents writer.old writer.new)) }
+    ensures never { IfErr result.0 (MayStop K.may_fail) }
+    ensures own { OnOk result.0 (IsServedInAfter hall result.1.pages.hall
+        (used R.remaining reader.old reader.new) (used W.contents writer.old writer.new)) }
+    ensures told { (kept : Chronicle) × IsHeld (K.reached keep.new) (K.has_kept keep.new) result.0 kept
+        × IsFrontOf hall kept × IsFrontOf kept result.1.pages.hall
+        × IsToldAfter hall kept (used R.remaining reader.old reader.new) (used W.contents writer.old writer.new) }
+{
+    let (behind, mut pages) = begin(alloc, setup, hall);
+    let served = converse_alone(&behind, &mut pages, keep, reader, writer);
+    (served, Kept { behind, pages })
+}
+
 /// Serves one session as `serve_and_keep` does, and has its trail kept before any of it is told: that it is open, and
 /// the replies to each block. Who keeps it has come as far as a hall in which nothing has happened.
 ///
@@ -121,9 +159,10 @@ pub fn serve_keeping<K: Keep, R: BufRead, W: Write>(
         × IfSome result.1 (λ session. IsFrontOf kept session.pages.hall)
         × IsToldOf setup limit kept (used R.remaining reader.old reader.new) (used W.contents writer.old writer.new) }
 {
-    let Ok((behind, mut pages)) = begin(alloc, setup, limit) else {
+    let Ok(hall) = hall_over(alloc, &setup, limit) else {
+        drop(setup);
         return (Err(Stop::Fault(SessionFault::Memory)), None);
     };
-    let served = converse_alone(&behind, &mut pages, keep, reader, writer);
-    (served, Some(Kept { behind, pages }))
+    let (served, kept) = serve_after(alloc, setup, hall, keep, reader, writer);
+    (served, Some(kept))
 }

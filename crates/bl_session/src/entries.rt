@@ -1,12 +1,12 @@
 //! The machine of one worker, over a hall. Lines enter the admission order without being run. When a block ends, the entries start
 //! and end by rising place, and the children of an entry enter at its end, behind all that entered before. An entry that finds no
 //! memory to start or to run is lost, and the others go on.
-ghost use Rattle.std.specs.Prelude.{◌≡◌, ◌<◌, ◌≤◌, ◌++◌, ◌∷◌, [], ℕ, List, length, IfOk, IsTrue};
+ghost use Rattle.std.specs.Prelude.{◌≡◌, ◌<◌, ◌≤◌, ◌++◌, ◌∷◌, [], ℕ, List, count_by, length, IfOk, IsTrue};
 ghost use Rattle.bl_order.specs.Headline.{IsReached};
 ghost use Rattle.bl_order.specs.Labels.{tag};
-ghost use Rattle.bl_order.specs.Machine.{MayStart, has_ended, session_at, runs};
+ghost use Rattle.bl_order.specs.Machine.{MayStart, has_ended, most_sessions, session_at, runs};
 ghost use Rattle.bl_core.specs.Answers.{loan_at};
-ghost use Rattle.bl_hall.specs.Chronicle.{state_now};
+ghost use Rattle.bl_hall.specs.Chronicle.{Chronicle, state_now};
 ghost use Rattle.bl_hall.specs.Told.{reply_in};
 ghost use Rattle.bl_work.specs.Readable.{IsReadable};
 ghost use Rattle.bl_wire.specs.Replies.{label_text, line_text, reply_text};
@@ -15,6 +15,7 @@ ghost use Rattle.bl_engine.specs.declared.request.Request.{Request};
 ghost use Rattle.bl_engine.specs.declared.request.Request.TheVariants.{Opens, Admits, Settles};
 ghost use Rattle.bl_session.specs.Blocks.{Gives};
 ghost use Rattle.bl_session.specs.Keeping.{IsFrontOf};
+ghost use Rattle.bl_session.specs.Openings.{is_opening};
 ghost use Rattle.bl_session.specs.Pages.{AreLater, Came, HasEnded, HasHad, HaveRun, IsOpen, RanUpTo, StillAnswers};
 
 use crate::block::Block;
@@ -24,10 +25,11 @@ use bl_core::refusal::{Cause, OpenRefused, StartFault, Starved};
 use bl_core::session::SessionNo;
 use bl_eval::evaluate::eval;
 use bl_eval::lent::Lent;
+use bl_hall::event::Event;
 use bl_hall::hall::Hall;
 use bl_hall::laws::replies_go_by_lines;
 use bl_hall::reply::AnswersFault;
-use bl_order::laws::the_order_has_room;
+use bl_order::laws::{each_place_has_a_phase, the_order_has_room};
 use bl_policy::id::SubjectId;
 use bl_setup::setup::Setup;
 use bl_wire::put::{put, put_number};
@@ -38,26 +40,23 @@ use bl_work::work::Work;
 use std::alloc::{AllocError, Global};
 use std::io::Write;
 
-/// The session of a hall that has one.
-const SESSION: u32 = 0;
-
-/// What stays while a session is served: the setup, and the greatest sum of the weights of admitted lines.
+/// What stays while a session is served: where memory comes from, and the setup.
 #[derive(Drop)]
 pub struct Alone {
     pub alloc: Global,
     pub setup: Setup,
-    pub limit: u32,
 }
 
-/// The hall, and the first place that has not been run.
+/// The hall, the first place that has not been run, and the number of the session.
 #[derive(Drop)]
 pub struct Pages {
     pub hall: Hall,
     pub next: u32,
+    pub session: u32,
 }
 
 /// A hall in which nothing has happened, over an equal setup.
-fn hall_over(alloc: Global, setup: &Setup, limit: u32) -> Result<Hall, AllocError>
+pub(crate) fn hall_over(alloc: Global, setup: &Setup, limit: u32) -> Result<Hall, AllocError>
     requires some { 1 ≤ limit }
     requires most { limit ≤ 100000 }
     ensures { IfOk result (λ hall. hall ≡ record { setup = setup.now; limit = limit; trail = [] }) }
@@ -65,27 +64,48 @@ fn hall_over(alloc: Global, setup: &Setup, limit: u32) -> Result<Hall, AllocErro
     Hall::new(alloc, setup.copy()?, limit)
 }
 
-/// What a session begins with: a hall of its own over the setup. An error comes only where a growth is refused.
-pub fn begin(alloc: Global, setup: Setup, limit: u32) -> Result<(Alone, Pages), AllocError>
-    requires some { 1 ≤ limit }
-    requires most { limit ≤ 100000 }
-    ensures alone { IfOk result (λ begun. (begun.0.setup ≡ setup) × (begun.0.limit ≡ limit)) }
-    ensures pages { IfOk result (λ begun. (begun.1.hall ≡ record { setup = setup; limit = limit; trail = [] }) × (begun.1.next ≡ 0)) }
+/// Whether an event opened a session.
+fn is_opening(event: &Event) -> bool
+    ensures { result ≡ is_opening event.now }
 {
-    match hall_over(alloc, &setup, limit) {
-        Ok(hall) => {
-            let behind = Alone {
-                alloc,
-                setup,
-                limit,
-            };
-            Ok((behind, Pages { hall, next: 0 }))
-        }
-        Err(refused) => {
-            drop(setup);
-            Err(refused)
-        }
-    }
+    matches!(event, Event::Open(_))
+}
+
+/// How many of some events opened a session.
+fn openings(events: &[Event]) -> usize
+    ensures { result ≡ count_by is_opening events.now }
+{
+    events.iter().filter(|event| is_opening(event)).count()
+}
+
+/// How many sessions were opened in a hall.
+pub fn sessions_in(hall: &Hall) -> u32
+    ensures { result ≡ length (state_now hall.now).sessions }
+{
+    openings(hall.trail()) as u32
+}
+
+/// What a session begins with in a hall over this setup, in which all has ended.
+pub fn begin(alloc: Global, setup: Setup, hall: Hall) -> (Alone, Pages)
+    requires setup { hall.setup ≡ setup }
+    requires ended { (n : ℕ) → n < length (state_now hall).order → IsTrue (has_ended (state_now hall) n) }
+    requires room { length (state_now hall).sessions < most_sessions }
+    ensures alone { result.0.setup ≡ setup }
+    ensures hall { result.1.hall ≡ hall }
+    ensures came { Came result.0.setup result.1.hall result.1 [] }
+    ensures settled { AreLater result.1.next (state_now result.1.hall).order 0 }
+{
+    each_place_has_a_phase();
+    let session = sessions_in(&hall);
+    let next = hall.core().entries();
+    (
+        Alone { alloc, setup },
+        Pages {
+            hall,
+            next,
+            session,
+        },
+    )
 }
 
 /// Runs an entry that has started, and ends it; where there is no memory to run it, it is lost.
@@ -131,6 +151,7 @@ fn run(alloc: Global, pages: &mut Pages)
     requires { HaveRun pages.old.hall pages.old.next pages.old.hall pages.old.next }
     ensures ran { HaveRun pages.old.hall pages.old.next pages.new.hall pages.new.next }
     ensures all { pages.new.next ≡ length (state_now pages.new.hall).order }
+    ensures session { pages.new.session ≡ pages.old.session }
 {
     'places: while pages.next < pages.hall.core().entries() {
         run_place(alloc, &mut pages.hall, pages.next);
@@ -176,10 +197,10 @@ impl Alone {
     /// Opens the session for a subject.
     pub fn open(&self, pages: &mut Pages, subject: SubjectId)
         requires subject { subject < length self.now.setup.policy.subjects }
-        requires came { Came self.now.setup self.now.limit pages.old [] }
-        ensures opened { IsOpen self.now.setup self.now.limit pages.new }
-        ensures came { Came self.now.setup self.now.limit pages.new (Opens subject ∷ []) }
-        ensures last { (session_at (state_now pages.new.hall) 0).last ≡ 0 }
+        requires came { (begun : Chronicle) × Came self.now.setup begun pages.old [] }
+        ensures opened { IsOpen self.now.setup pages.new }
+        ensures came { (begun : Chronicle) → Came self.now.setup begun pages.old [] → Came self.now.setup begun pages.new (Opens subject ∷ []) }
+        ensures last { (session_at (state_now pages.new.hall) pages.new.session).last ≡ 0 }
         ensures settled { (n : ℕ) → AreLater pages.new.next (state_now pages.new.hall).order n }
         ensures front { IsFrontOf pages.old.hall pages.new.hall }
     {
@@ -193,15 +214,18 @@ impl Alone {
     /// Admits a work, or finds no room for it, which its reply tells.
     pub fn ask(&self, pages: &mut Pages, ordinal: u32, work: Work)
         requires readable { IsReadable self.now.setup.names work }
-        requires opened { IsOpen self.now.setup self.now.limit pages.old }
-        requires last { (session_at (state_now pages.old.hall) 0).last < ordinal }
-        ensures opened { IsOpen self.now.setup self.now.limit pages.new }
-        ensures came { (told : List Request) → Came self.now.setup self.now.limit pages.old told → Came self.now.setup self.now.limit pages.new (told ++ Admits ordinal work ∷ []) }
-        ensures last { (session_at (state_now pages.new.hall) 0).last ≤ ordinal }
+        requires opened { IsOpen self.now.setup pages.old }
+        requires last { (session_at (state_now pages.old.hall) pages.old.session).last < ordinal }
+        ensures opened { IsOpen self.now.setup pages.new }
+        ensures came { (begun : Chronicle) (told : List Request) → Came self.now.setup begun pages.old told → Came self.now.setup begun pages.new (told ++ Admits ordinal work ∷ []) }
+        ensures last { (session_at (state_now pages.new.hall) pages.new.session).last ≤ ordinal }
         ensures settled { (n : ℕ) → n < ordinal → AreLater pages.old.next (state_now pages.old.hall).order n → StillAnswers n pages.old pages.new }
         ensures front { IsFrontOf pages.old.hall pages.new.hall }
     {
-        match pages.hall.line(SessionNo::new(SESSION), ordinal, work) {
+        match pages
+            .hall
+            .line(SessionNo::new(pages.session), ordinal, work)
+        {
             Ok(_) => {}
             Err(refused) => match refused.cause {
                 Cause::Full => {}
@@ -212,19 +236,19 @@ impl Alone {
 
     /// Runs all that was admitted. The block has the replies to the lines above `after`; an error comes where it was refused memory.
     pub fn settle(&self, pages: &mut Pages, after: u32) -> Result<Block, AllocError>
-        requires opened { IsOpen self.now.setup self.now.limit pages.old }
+        requires opened { IsOpen self.now.setup pages.old }
         requires settled { AreLater pages.old.next (state_now pages.old.hall).order after }
-        ensures opened { IsOpen self.now.setup self.now.limit pages.new }
-        ensures came { (told : List Request) → Came self.now.setup self.now.limit pages.old told → Came self.now.setup self.now.limit pages.new (told ++ Settles ∷ []) }
-        ensures last { (session_at (state_now pages.new.hall) 0).last ≡ (session_at (state_now pages.old.hall) 0).last }
+        ensures opened { IsOpen self.now.setup pages.new }
+        ensures came { (begun : Chronicle) (told : List Request) → Came self.now.setup begun pages.old told → Came self.now.setup begun pages.new (told ++ Settles ∷ []) }
+        ensures last { (session_at (state_now pages.new.hall) pages.new.session).last ≡ (session_at (state_now pages.old.hall) pages.old.session).last }
         ensures settled { (n : ℕ) → AreLater pages.old.next (state_now pages.old.hall).order n → StillAnswers n pages.old pages.new }
         ensures done { (n : ℕ) → AreLater pages.new.next (state_now pages.new.hall).order n }
-        ensures block { IfOk result (λ block. Gives (state_now pages.new.hall) block after) }
+        ensures block { IfOk result (λ block. Gives (state_now pages.new.hall) pages.new.session block after) }
         ensures front { IsFrontOf pages.old.hall pages.new.hall }
     {
         the_order_has_room();
         run(self.alloc, pages);
-        match pages.hall.places(SessionNo::new(SESSION), after) {
+        match pages.hall.places(SessionNo::new(pages.session), after) {
             Ok(Some(places)) => Ok(Block { places, next: 0 }),
             Ok(None) => unreachable!(),
             Err(AnswersFault::Session) => unreachable!(),
@@ -240,10 +264,10 @@ impl Alone {
         ordinal: u32,
         writer: &mut Watched<W>,
     )
-        requires opened { IsOpen self.now.setup self.now.limit pages.now }
-        requires gives { (n : ℕ) × (n < ordinal) × Gives (state_now pages.now.hall) block.old n }
-        ensures text { Puts (line_text (state_now pages.now.hall) 0 ordinal) (end_state W.contents writer.old) (end_state W.contents writer.new) }
-        ensures gives { Gives (state_now pages.now.hall) block.new ordinal }
+        requires opened { IsOpen self.now.setup pages.now }
+        requires gives { (n : ℕ) × (n < ordinal) × Gives (state_now pages.now.hall) pages.now.session block.old n }
+        ensures text { Puts (line_text (state_now pages.now.hall) pages.now.session ordinal) (end_state W.contents writer.old) (end_state W.contents writer.new) }
+        ensures gives { Gives (state_now pages.now.hall) pages.now.session block.new ordinal }
     {
         replies_go_by_lines();
         let hall = &pages.hall;

@@ -2,7 +2,7 @@
 //! is written. What was written is handed on before a read that may wait.
 ghost use Rattle.std.specs.Prelude.{◌≡◌, ◌≤◌, [], ℕ, false, Option, Some, List, OnOk, IfErr, Err};
 ghost use Rattle.bl_setup.specs.Agreement.{Agree};
-ghost use Rattle.bl_hall.specs.Chronicle.{state_now};
+ghost use Rattle.bl_hall.specs.Chronicle.{Chronicle, state_now};
 ghost use Rattle.bl_engine.specs.Conversations.{waits_left};
 ghost use Rattle.bl_engine.specs.declared.request.Request.TheVariants.{Settles};
 ghost use Rattle.bl_engine.specs.View.{ends};
@@ -55,15 +55,17 @@ fn settle<K: Keep, W: Write>(
     writer: &mut Watched<W>,
 ) -> Result<(), Stop>
     requires writer { writer.old.failed ≡ false }
-    requires asks { (start rest first : Option (List ℕ)) × IsAsking behind.now.setup behind.now.limit (ends start rest first (W.contents writer.old.inner)) conv.old (Some Settles) pages.old }
-    requires reached { IsReachedTo (K.reached keep.old) conv.old.after pages.old }
-    ensures ok { OnOk result ((start rest first : Option (List ℕ)) → IsAsking behind.now.setup behind.now.limit (ends start rest first (W.contents writer.old.inner)) conv.old (Some Settles) pages.old
-        → IsUnderWay behind.now.setup behind.now.limit (ends start rest first (W.contents writer.new.inner)) conv.new pages.new) }
+    requires asks { (start rest first : Option (List ℕ)) × (begun : Chronicle) × IsAsking behind.now.setup begun (ends start rest first (W.contents writer.old.inner)) conv.old (Some Settles) pages.old
+        × IsReachedTo (K.reached keep.old) begun conv.old.after pages.old }
+    ensures ok { OnOk result ((start rest first : Option (List ℕ)) (begun : Chronicle) → IsAsking behind.now.setup begun (ends start rest first (W.contents writer.old.inner)) conv.old (Some Settles) pages.old
+        → IsUnderWay behind.now.setup begun (ends start rest first (W.contents writer.new.inner)) conv.new pages.new) }
     ensures fine { OnOk result (writer.new.failed ≡ false) }
     ensures nearer { OnOk result (waits_left conv.new ≤ waits_left conv.old) }
-    ensures reached { OnOk result (IsReachedTo (K.reached keep.new) conv.new.after pages.new) }
-    ensures err { IfErr result (λ stop. (start rest first : Option (List ℕ)) → IsAsking behind.now.setup behind.now.limit (ends start rest first (W.contents writer.old.inner)) conv.old (Some Settles) pages.old
-        → StopsKept (IsHeld (K.reached keep.new) (K.has_kept keep.new) (Err stop)) behind.now.setup behind.now.limit
+    ensures reached { OnOk result ((begun : Chronicle) → IsReachedTo (K.reached keep.old) begun conv.old.after pages.old
+        → IsReachedTo (K.reached keep.new) begun conv.new.after pages.new) }
+    ensures err { IfErr result (λ stop. (start rest first : Option (List ℕ)) (begun : Chronicle) → IsAsking behind.now.setup begun (ends start rest first (W.contents writer.old.inner)) conv.old (Some Settles) pages.old
+        → IsReachedTo (K.reached keep.old) begun conv.old.after pages.old
+        → StopsKept (IsHeld (K.reached keep.new) (K.has_kept keep.new) (Err stop)) behind.now.setup begun
         stop (ends start rest first (W.contents writer.new.inner)) false writer.new.failed pages.new) }
     ensures never { IfErr result (MayStop K.may_fail) }
 {
@@ -91,16 +93,18 @@ fn meet<K: Keep, W: Write>(
 ) -> Result<(), Stop>
     requires writer { writer.old.failed ≡ false }
     requires agree { Agree behind.now.setup }
-    requires asks { (start rest first : Option (List ℕ)) × IsAsking behind.now.setup behind.now.limit (ends start rest first (W.contents writer.old.inner)) talk.old.conv talk.old.request pages.old }
-    requires reached { IsReachedTo (K.reached keep.old) talk.old.conv.after pages.old }
-    ensures ok { OnOk result ((start rest first : Option (List ℕ)) → IsAsking behind.now.setup behind.now.limit (ends start rest first (W.contents writer.old.inner)) talk.old.conv talk.old.request pages.old
-        → IsUnderWay behind.now.setup behind.now.limit (ends start rest first (W.contents writer.new.inner)) talk.new.conv pages.new) }
+    requires asks { (start rest first : Option (List ℕ)) × (begun : Chronicle) × IsAsking behind.now.setup begun (ends start rest first (W.contents writer.old.inner)) talk.old.conv talk.old.request pages.old
+        × IsReachedTo (K.reached keep.old) begun talk.old.conv.after pages.old }
+    ensures ok { OnOk result ((start rest first : Option (List ℕ)) (begun : Chronicle) → IsAsking behind.now.setup begun (ends start rest first (W.contents writer.old.inner)) talk.old.conv talk.old.request pages.old
+        → IsUnderWay behind.now.setup begun (ends start rest first (W.contents writer.new.inner)) talk.new.conv pages.new) }
     ensures fine { OnOk result (writer.new.failed ≡ false) }
     ensures names { talk.new.names ≡ talk.old.names }
     ensures nearer { OnOk result (waits_left talk.new.conv ≤ waits_left talk.old.conv) }
-    ensures reached { OnOk result (IsReachedTo (K.reached keep.new) talk.new.conv.after pages.new) }
-    ensures err { IfErr result (λ stop. (start rest first : Option (List ℕ)) → IsAsking behind.now.setup behind.now.limit (ends start rest first (W.contents writer.old.inner)) talk.old.conv talk.old.request pages.old
-        → StopsKept (IsHeld (K.reached keep.new) (K.has_kept keep.new) (Err stop)) behind.now.setup behind.now.limit
+    ensures reached { OnOk result ((begun : Chronicle) → IsReachedTo (K.reached keep.old) begun talk.old.conv.after pages.old
+        → IsReachedTo (K.reached keep.new) begun talk.new.conv.after pages.new) }
+    ensures err { IfErr result (λ stop. (start rest first : Option (List ℕ)) (begun : Chronicle) → IsAsking behind.now.setup begun (ends start rest first (W.contents writer.old.inner)) talk.old.conv talk.old.request pages.old
+        → IsReachedTo (K.reached keep.old) begun talk.old.conv.after pages.old
+        → StopsKept (IsHeld (K.reached keep.new) (K.has_kept keep.new) (Err stop)) behind.now.setup begun
         stop (ends start rest first (W.contents writer.new.inner)) false writer.new.failed pages.new) }
     ensures never { IfErr result (MayStop K.may_fail) }
 {
@@ -132,15 +136,15 @@ pub fn converse_alone<K: Keep, R: BufRead, W: Write>(
     writer: &mut Watched<W>,
 ) -> Result<(), Stop>
     requires fine { (reader.old.failed ≡ false) × (writer.old.failed ≡ false) }
-    requires came { Came behind.now.setup behind.now.limit pages.old [] }
+    requires came { Came behind.now.setup pages.old.hall pages.old [] }
     requires settled { AreLater pages.old.next (state_now pages.old.hall).order 0 }
     requires reached { K.reached keep.old pages.old.hall }
-    ensures ok { OnOk result (FinishesKept (K.reached keep.new) behind.now.setup behind.now.limit
+    ensures ok { OnOk result (FinishesKept (K.reached keep.new) behind.now.setup pages.old.hall
         (ends (R.remaining reader.old.inner) (R.remaining reader.new.inner)
         (W.contents writer.old.inner) (W.contents writer.new.inner)) pages.new) }
     ensures fine { OnOk result ((reader.new.failed ≡ false) × (writer.new.failed ≡ false) × (writer.new.unflushed ≡ false)) }
     ensures err { IfErr result (λ stop. StopsKept (IsHeld (K.reached keep.new) (K.has_kept keep.new) (Err stop))
-        behind.now.setup behind.now.limit stop
+        behind.now.setup pages.old.hall stop
         (ends (R.remaining reader.old.inner) (R.remaining reader.new.inner)
         (W.contents writer.old.inner) (W.contents writer.new.inner)) reader.new.failed writer.new.failed pages.new) }
     ensures never { IfErr result (MayStop K.may_fail) }

@@ -15,9 +15,11 @@ places-smaller c =
 
 pub places-preserved : goal.places-preserved
 places-preserved c =
-    let lt : c.places.pages.next < length (state_now c.places.pages.hall).order = omega (arith, c.places-test.true, c.entries.ensures.count, ap (λ (x : State). length x.order) c.core.ensures.value) in
-    subst (HaveRun c.args.pages.now.hall c.args.pages.now.next c.run_place.new.hall) (sym (add-one c.places.pages.next))
-    (run_step c.args.pages.now.hall c.places.pages.hall c.run_place.new.hall c.args.pages.now.next c.places.pages.next c.places.invariant lt c.run_place.ensures)
+    let lt : c.places.pages.next < length (state_now c.places.pages.hall).order = omega (arith, c.places-test.true, c.entries.ensures.count, ap (λ (x : State). length x.order) c.core.ensures.value) in (
+      subst (HaveRun c.args.pages.now.hall c.args.pages.now.next c.run_place.new.hall) (sym (add-one c.places.pages.next))
+          (run_step c.args.pages.now.hall c.places.pages.hall c.run_place.new.hall c.args.pages.now.next c.places.pages.next c.places.invariant.0 lt c.run_place.ensures),
+      c.places.invariant.1,
+    )
 
 pub overflow_add-pages : goal.overflow_add-pages
 overflow_add-pages c = search rules

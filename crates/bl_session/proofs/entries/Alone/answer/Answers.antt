@@ -20,7 +20,7 @@ returns-then-is_none-clause-text g c =
     let x = state_now c.args.pages.now.hall in
     let k = c.args.ordinal in
     let gives = c.requires.gives in
-    let line = line_is c.replies_go_by_lines.ensures x c.args.block.now c.pass.new.self gives.0 k gives.1 gives.2 c.pass.ensures.left in
+    let line = line_is c.replies_go_by_lines.ensures x c.args.pages.now.session c.args.block.now c.pass.new.self gives.0 k gives.1 gives.2 c.pass.ensures.left in
     let none = none_in_front x c.pass.new.self k c.front.result c.front.ensures c.if-is_none.ensures in
     puts-is _ _ _ _ (sym (ap (line_or_full x.setup.names k) (sym line ∙ none))) c.put_refused.ensures
 
@@ -32,7 +32,7 @@ returns-then-is_none-clause-gives g c =
     record {
       ended = subst (All (λ p. IsTrue (has_ended x p))) (sym c.pass.ensures.places) gives.2.ended;
       within = c.pass.ensures.within;
-      replies = rest_is c.replies_go_by_lines.ensures x c.args.block.now c.pass.new.self gives.0 k gives.1 gives.2 c.pass.ensures.left;
+      replies = rest_is c.replies_go_by_lines.ensures x c.args.pages.now.session c.args.block.now c.pass.new.self gives.0 k gives.1 gives.2 c.pass.ensures.left;
     }
 
 pub replies-init : goal.replies-init
@@ -42,8 +42,8 @@ replies-init g c =
     let gives = c.requires.gives in (
       [],
       puts-nil _ _ refl,
-      sym (line_is c.replies_go_by_lines.ensures x c.args.block.now c.pass.new.self gives.0 k gives.1 gives.2 c.pass.ensures.left),
-      rest_is c.replies_go_by_lines.ensures x c.args.block.now c.pass.new.self gives.0 k gives.1 gives.2 c.pass.ensures.left,
+      sym (line_is c.replies_go_by_lines.ensures x c.args.pages.now.session c.args.block.now c.pass.new.self gives.0 k gives.1 gives.2 c.pass.ensures.left),
+      rest_is c.replies_go_by_lines.ensures x c.args.pages.now.session c.args.block.now c.pass.new.self gives.0 k gives.1 gives.2 c.pass.ensures.left,
       c.pass.ensures.places,
       c.pass.ensures.within,
     )
@@ -82,10 +82,10 @@ returns-clause-text g c =
     let inv = c.replies.invariant in
     let said : List Reply = inv.0 in
     let none = rw c.in_default.is at c.front-in-replies.ensures in
-    let line = line_is c.replies_go_by_lines.ensures x c.args.block.now c.pass.new.self gives.0 k gives.1 gives.2 c.pass.ensures.left in
+    let line = line_is c.replies_go_by_lines.ensures x c.args.pages.now.session c.args.block.now c.pass.new.self gives.0 k gives.1 gives.2 c.pass.ensures.left in
     let same : c.args.self.now.setup ≡ x.setup = sym (setup_after (start h.setup h.limit) h.trail ∙ c.requires.opened.stands.setup_is) in
     puts-is _ _ _ _
     (ap (λ (s : Setup). flat_map (reply_text s.names) said) same
     ∙ ap (flat_map (reply_text x.setup.names)) (sym (inv.2 ∙ ap (λ l. said ++ l) none ∙ append-nil said))
-    ∙ sym (some_text x.setup.names k (replies_to x 0 k (length x.order)) (λ e. some_in_front x c.pass.new.self k c.front.result c.front.ensures c.if-is_none.ensures (line ∙ e))))
+    ∙ sym (some_text x.setup.names k (replies_to x c.args.pages.now.session k (length x.order)) (λ e. some_in_front x c.pass.new.self k c.front.result c.front.ensures c.if-is_none.ensures (line ∙ e))))
     inv.1

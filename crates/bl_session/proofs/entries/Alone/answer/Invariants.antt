@@ -12,8 +12,8 @@ abbrev pub invariant-replies : goal.invariant-replies
 invariant-replies g l =
     let x = state_now l.pages.hall in
     (said : List Reply) × Puts (flat_map (reply_text l.self.setup.names) said) (end_state g.W.Write.contents l.fn.writer) (end_state g.W.Write.contents l.writer)
-    × (replies_to x 0 l.ordinal (length x.order) ≡ said ++ up_to l.ordinal (left_in x l.block))
-    × (behind l.ordinal (left_in x l.block) ≡ replies_above x 0 l.ordinal (length x.order))
+    × (replies_to x l.pages.session l.ordinal (length x.order) ≡ said ++ up_to l.ordinal (left_in x l.block))
+    × (behind l.ordinal (left_in x l.block) ≡ replies_above x l.pages.session l.ordinal (length x.order))
     × (l.block.places.items ≡ l.fn.block.places.items)
     × (l.block.next ≤ length l.block.places.items)
 

@@ -18,21 +18,21 @@ returns-in-Ok-clause-opened c =
     let opened = c.requires.opened in
     let s = c.args.pages.now in
     let x = state_now s.hall in
-    let t : Pages = record { hall = c.line.new.self; next = s.next } in
+    let t : Pages = record { hall = c.line.new.self; next = s.next; session = s.session } in
     let hall = c.in-Ok.ensures.ok.1 ∙ ap (λ j. with_event s.hall (Admits j c.args.ordinal c.args.work)) c.new.ensures in
-    let at : state_now t.hall ≡ change x (Admits 0 c.args.ordinal c.args.work) = ap state_now hall ∙ state_next s.hall (Admits 0 c.args.ordinal c.args.work) in
+    let at : state_now t.hall ≡ change x (Admits s.session c.args.ordinal c.args.work) = ap state_now hall ∙ state_next s.hall (Admits s.session c.args.ordinal c.args.work) in
     record {
-      stands = asked_stands c.args.self.now.setup c.args.self.now.limit s t c.args.ordinal c.args.work opened.stands hall refl c.in-Ok.ensures.continues.trail;
-      there = subst (λ (y : State). 0 < length y.sessions) (sym at) (last_set x.sessions c.args.ordinal opened.there).0;
+      stands = asked_stands c.args.self.now.setup s.hall s t c.args.ordinal c.args.work opened.stands hall refl c.in-Ok.ensures.continues.trail;
+      there = subst (λ (y : State). s.session < length y.sessions) (sym at) (last_set x.sessions s.session c.args.ordinal opened.there).0;
     }
 
 pub returns-in-Ok-clause-came : goal.returns-in-Ok-clause-came
-returns-in-Ok-clause-came c told came =
+returns-in-Ok-clause-came c begun told came =
     let s = c.args.pages.now in
-    let t : Pages = record { hall = c.line.new.self; next = s.next } in
+    let t : Pages = record { hall = c.line.new.self; next = s.next; session = s.session } in
     let hall = c.in-Ok.ensures.ok.1 ∙ ap (λ j. with_event s.hall (Admits j c.args.ordinal c.args.work)) c.new.ensures in
     let needs = subst (λ j. Needs (state_now s.hall) (Admits j c.args.ordinal c.args.work)) c.new.ensures c.in-Ok.ensures.cause in
-    came_asked c.args.self.now.setup c.args.self.now.limit s t c.args.ordinal c.args.work told came hall refl c.in-Ok.ensures.continues.trail needs
+    came_asked c.args.self.now.setup begun s t c.args.ordinal c.args.work told came hall refl refl c.in-Ok.ensures.continues.trail needs
 
 pub returns-in-Ok-clause-last : goal.returns-in-Ok-clause-last
 returns-in-Ok-clause-last c =
@@ -40,7 +40,7 @@ returns-in-Ok-clause-last c =
     let x = state_now s.hall in
     let hall = c.in-Ok.ensures.ok.1 ∙ ap (λ j. with_event s.hall (Admits j c.args.ordinal c.args.work)) c.new.ensures in
     let needs = subst (λ j. Needs x (Admits j c.args.ordinal c.args.work)) c.new.ensures c.in-Ok.ensures.cause in
-    let last = ap (λ (y : State). (session_at y 0).last) (ap state_now hall ∙ state_next s.hall (Admits 0 c.args.ordinal c.args.work)) ∙ (last_set x.sessions c.args.ordinal needs.0).1 in
+    let last = ap (λ (y : State). (session_at y s.session).last) (ap state_now hall ∙ state_next s.hall (Admits s.session c.args.ordinal c.args.work)) ∙ (last_set x.sessions s.session c.args.ordinal needs.0).1 in
     omega (arith, last)
 
 pub returns-in-Ok-clause-settled : goal.returns-in-Ok-clause-settled
@@ -48,19 +48,20 @@ returns-in-Ok-clause-settled c n lt later =
     let s = c.args.pages.now in
     let x = state_now s.hall in
     let hall = c.in-Ok.ensures.ok.1 ∙ ap (λ j. with_event s.hall (Admits j c.args.ordinal c.args.work)) c.new.ensures in
-    let at : state_now c.line.new.self ≡ change x (Admits 0 c.args.ordinal c.args.work) = ap state_now hall ∙ state_next s.hall (Admits 0 c.args.ordinal c.args.work) in
-    let still = asked_settled x s.next c.args.ordinal n c.args.work c.requires.opened.stands.ran lt later in
+    let at : state_now c.line.new.self ≡ change x (Admits s.session c.args.ordinal c.args.work) = ap state_now hall ∙ state_next s.hall (Admits s.session c.args.ordinal c.args.work) in
+    let still = asked_settled x s.session s.next c.args.ordinal n c.args.work c.requires.opened.stands.ran lt later in
     record {
+      number = refl;
       later = subst (λ (y : State). AreLater s.next y.order n) (sym at) still.0;
-      same = subst (λ (y : State). SameUpTo n (line_text x 0) (line_text y 0)) (sym at) still.1;
+      same = subst (λ (y : State). SameUpTo n (line_text x s.session) (line_text y s.session)) (sym at) still.1;
     }
 
 pub returns-in-Full-clause-came : goal.returns-in-Full-clause-came
-returns-in-Full-clause-came c told came =
+returns-in-Full-clause-came c begun told came =
     let s = c.args.pages.now in
-    let t : Pages = record { hall = c.line.new.self; next = s.next } in
+    let t : Pages = record { hall = c.line.new.self; next = s.next; session = s.session } in
     let full = subst (IsCause (state_now s.hall) c.new.result c.args.ordinal c.args.work) c.in-Full.is c.in-Err.ensures.cause.0 in
-    came_full c.args.self.now.setup c.args.self.now.limit s t c.args.ordinal c.args.work told came c.in-Err.ensures.err refl full.3
+    came_full c.args.self.now.setup begun s t c.args.ordinal c.args.work told came c.in-Err.ensures.err refl refl full.3
 
 pub unreachable-requires : goal.unreachable-requires
 unreachable-requires c =
@@ -69,4 +70,4 @@ unreachable-requires c =
     let opened = c.requires.opened in
     let same : x.setup ≡ c.args.self.now.setup = setup_after (start s.hall.setup s.hall.limit) s.hall.trail ∙ opened.stands.setup_is in
     let why = subst (λ j. IsCause x j c.args.ordinal c.args.work c.in-Err.refused.cause) c.new.ensures c.in-Err.ensures.cause.0 in
-    only_full x c.args.ordinal c.args.work c.in-Err.refused.cause opened.there (subst (λ (k : Setup). IsReadable k.names c.args.work) (sym same) c.requires.readable) c.requires.last why c.in-Stranger.is
+    only_full x s.session c.args.ordinal c.args.work c.in-Err.refused.cause opened.there (subst (λ (k : Setup). IsReadable k.names c.args.work) (sym same) c.requires.readable) c.requires.last why c.in-Stranger.is
