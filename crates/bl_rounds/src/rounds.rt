@@ -1,7 +1,8 @@
 //! The crowd of a thread, round by round.
-ghost use Rattle.std.specs.Prelude.{◌≡◌, ◌<◌, ◌+◌, IfNone, IfSome, OnSome, vec_len};
+ghost use Rattle.std.specs.Prelude.{◌≡◌, ◌<◌, ◌+◌, IfNone, IfSome, OnSome, length, vec_len};
 ghost use Rattle.bl_gate.specs.Gates.{Follows};
 ghost use Rattle.bl_crowd.specs.Crowds.{IsCrowd};
+ghost use Rattle.bl_rounds.specs.Going.{GoesOn};
 ghost use Rattle.bl_rounds.specs.Leaving.{HasGone};
 ghost use Rattle.bl_rounds.specs.Seats.{numbers};
 
@@ -16,6 +17,7 @@ use bl_worker::bell::Bell;
 use bl_worker::pause::Pause;
 use bl_worker::turn::Turn;
 use std::alloc::{AllocError, Global};
+use std::marker::Model;
 use std::sync::Wait;
 
 /// How many steps a connection takes at most before the others have their turn.
@@ -64,20 +66,40 @@ pub struct Calls<'a> {
     pub bell: &'a Bell,
 }
 
-/// The connections of a thread: its crowd, and beside each member a seat, in the order of their numbers.
+/// What a thread keeps in mind from one round to the next: the count of ends before its last turn, whether there may be
+/// entries that nobody was called for, and whether it may have left entries that are ready.
+#[derive(Clone, Copy)]
+pub(crate) struct Marks {
+    seen: u64,
+    fresh: bool,
+    busy: bool,
+}
+
+/// The connections of a thread: its crowd, and beside each member a seat, in the order of their numbers. Its value is
+/// the pass that the thread was given, and those numbers.
 #[derive(Drop)]
 pub struct Rounds<'a, S: Stream> {
-    pub(crate) crowd: Crowd<'a, S>,
-    pub(crate) seats: Vec<Seat>,
-    /// The count of ends before the last turn.
-    seen: u64,
-    /// Whether there may be entries that nobody was called for.
-    fresh: bool,
-    /// Whether this thread may have left entries that are ready.
-    busy: bool,
-    ghost crowd_is: { IsCrowd S.remaining S.contents crowd },
-    ghost seated: { vec_len seats ≡ vec_len crowd.members },
-    ghost follows: { Follows crowd.first.value crowd.pass },
+    crowd: Crowd<'a, S>,
+    seats: Vec<Seat>,
+    marks: Marks,
+}
+
+impl<'a, S: Stream> Model for Rounds<'a, S> {
+    ghost use Rattle.std.specs.Prelude.{ℕ, List};
+    ghost use Rattle.std.specs.Coded.{codes};
+    ghost use Rattle.bl_policy.specs.Codes.{matrix_code};
+    ghost use Rattle.bl_hall.specs.EventCodes.{coded_event};
+    ghost use Rattle.bl_gate.specs.Gates.{PassView};
+    ghost use Rattle.bl_rounds.specs.Going.{AreSeated};
+    ghost use Rattle.bl_rounds.specs.Seats.{numbers};
+
+    ghost Value = { PassView × List ℕ };
+
+    ghost coded = { Prim.hlevel (codes, matrix_code, coded_event) };
+
+    ghost view = { λ rounds. (rounds.crowd.first.value, numbers rounds.seats.items) };
+
+    ghost invariant = { λ rounds. AreSeated S.remaining S.contents rounds.crowd rounds.seats.items };
 }
 
 /// A member goes on until it has to wait for something, or has had its part of the round.
@@ -117,13 +139,152 @@ fn go_after_turn<S: Stream>(crowd: &mut Crowd<'_, S>, i: usize) -> Stage
     }
 }
 
+/// Has a connection go to another stage.
+fn put_stage(seats: &mut Vec<Seat>, i: usize, stage: Stage)
+    requires { i < vec_len seats.old }
+    ensures numbers { numbers seats.new.items ≡ numbers seats.old.items }
+    ensures len { vec_len seats.new ≡ vec_len seats.old }
+{
+    let number = seats[i].number;
+    seats[i] = Seat { number, stage };
+}
+
+/// Whether a connection is in this stage.
+fn has(seats: &[Seat], stage: Stage) -> bool {
+    seats.iter().any(|seat| seat.stage == stage)
+}
+
+/// Has each connection go on that waits for its stream.
+fn stir_each(seats: &mut Vec<Seat>)
+    ensures numbers { numbers seats.new.items ≡ numbers seats.old.items }
+    ensures len { vec_len seats.new ≡ vec_len seats.old }
+{
+    for i in 0..seats.len() {
+        if seats[i].stage == Stage::Sleeps {
+            put_stage(seats, i, Stage::Goes);
+        }
+    }
+}
+
+/// Each connection that may goes on.
+fn go_each<S: Stream>(crowd: &mut Crowd<'_, S>, seats: &mut Vec<Seat>)
+    requires crowd { IsCrowd S.remaining S.contents crowd.old }
+    requires seated { vec_len seats.old ≡ vec_len crowd.old.members }
+    ensures { GoesOn S.remaining S.contents crowd.old crowd.new seats.old.items seats.new.items }
+{
+    for i in 0..seats.len() {
+        if seats[i].stage == Stage::Goes {
+            let stage = advance(crowd, i);
+            put_stage(seats, i, stage);
+        }
+    }
+}
+
+/// Each connection that has asked something, or waits, goes on as far as that was met. Says whether something was met
+/// that may have been a line.
+fn go_on_each<S: Stream>(crowd: &mut Crowd<'_, S>, seats: &mut Vec<Seat>) -> bool
+    requires crowd { IsCrowd S.remaining S.contents crowd.old }
+    requires seated { vec_len seats.old ≡ vec_len crowd.old.members }
+    ensures { GoesOn S.remaining S.contents crowd.old crowd.new seats.old.items seats.new.items }
+{
+    let mut fresh = false;
+    for i in 0..seats.len() {
+        let stage = seats[i].stage;
+        if stage == Stage::Asks || stage == Stage::Waits {
+            let next = go_after_turn(crowd, i);
+            if stage == Stage::Asks && next != Stage::Waits {
+                fresh = true;
+            }
+            put_stage(seats, i, next);
+        }
+    }
+    fresh
+}
+
+/// Runs entries that are ready, until none is or so many were tried, and says whether none is.
+fn run_ready<S: Stream, P: Pause, R: Wait>(
+    rt: &R,
+    pause: &P,
+    alarms: &Alarms,
+    crowd: &mut Crowd<'_, S>,
+    most: usize,
+) -> bool
+    requires { IsCrowd S.remaining S.contents crowd.old }
+    ensures crowd { IsCrowd S.remaining S.contents crowd.new }
+    ensures members { crowd.new.members ≡ crowd.old.members }
+    ensures same { (crowd.new.first ≡ crowd.old.first) × (crowd.new.gate ≡ crowd.old.gate) }
+    ensures follows { Follows crowd.old.pass crowd.new.pass }
+{
+    for _ in 0..most {
+        match crowd.work(rt, pause) {
+            Turn::Idle => return true,
+            Turn::Missed(_) => {}
+            Turn::Denied(_) | Turn::Done(_) | Turn::Lost(_) => alarms.ring_end(),
+        }
+    }
+    false
+}
+
+/// A turn at the gate for all, and then, if somebody waits, turns with what is ready.
+fn take_turn<S: Stream, P: Pause, R: Wait>(
+    rt: &R,
+    pause: &P,
+    alarms: &Alarms,
+    crowd: &mut Crowd<'_, S>,
+    seats: &mut Vec<Seat>,
+    marks: &mut Marks,
+)
+    requires crowd { IsCrowd S.remaining S.contents crowd.old }
+    requires seated { vec_len seats.old ≡ vec_len crowd.old.members }
+    ensures { GoesOn S.remaining S.contents crowd.old crowd.new seats.old.items seats.new.items }
+{
+    marks.seen = alarms.ends();
+    crowd.turn(rt);
+    marks.fresh |= go_on_each(crowd, seats);
+    marks.busy = false;
+    if has(seats, Stage::Waits) {
+        let most = seats.len().saturating_add(MORE_ENTRIES);
+        marks.busy = !run_ready(rt, pause, alarms, crowd, most);
+        marks.fresh = marks.busy;
+    }
+}
+
+/// Whether a turn at the gate may bring something: somebody has asked, or somebody waits and this thread has left
+/// entries ready, or an entry has ended since the last turn.
+fn is_called(seats: &[Seat], marks: &Marks, alarms: &Alarms) -> bool {
+    has(seats, Stage::Asks)
+        || (has(seats, Stage::Waits) && (marks.busy || alarms.ends() != marks.seen))
+}
+
+/// Each connection goes on as far as it can, and what they ask is done at the gate, again and again, but not for ever.
+fn go_round<S: Stream, P: Pause, R: Wait>(
+    rt: &R,
+    pause: &P,
+    alarms: &Alarms,
+    crowd: &mut Crowd<'_, S>,
+    seats: &mut Vec<Seat>,
+    marks: &mut Marks,
+)
+    requires crowd { IsCrowd S.remaining S.contents crowd.old }
+    requires seated { vec_len seats.old ≡ vec_len crowd.old.members }
+    ensures { GoesOn S.remaining S.contents crowd.old crowd.new seats.old.items seats.new.items }
+{
+    for _ in 0..MOST_TURNS {
+        go_each(crowd, seats);
+        if !is_called(seats, marks, alarms) {
+            return;
+        }
+        take_turn(rt, pause, alarms, crowd, seats, marks);
+    }
+}
+
 /// Parts with a member whose session is over or has failed.
 fn part_with<S: Stream>(crowd: &mut Crowd<'_, S>, i: usize, number: u32) -> Option<Gone<S>>
     requires crowd { IsCrowd S.remaining S.contents crowd.old }
     requires within { i < vec_len crowd.old.members }
+    requires follows { Follows crowd.old.first.value crowd.old.pass }
     ensures crowd { IsCrowd S.remaining S.contents crowd.new }
-    ensures gone { IfSome result (HasGone S.remaining S.contents crowd.old.gate.now.base.setup.names
-        crowd.old.first.value crowd.old.pass) }
+    ensures gone { IfSome result (HasGone S.remaining S.contents crowd.old.first.value) }
     ensures number { IfSome result (λ gone. gone.number ≡ number) }
     ensures less { OnSome result (vec_len crowd.new.members + 1 ≡ vec_len crowd.old.members) }
     ensures none { IfNone result (vec_len crowd.new.members ≡ vec_len crowd.old.members) }
@@ -148,30 +309,38 @@ fn part_with<S: Stream>(crowd: &mut Crowd<'_, S>, i: usize, number: u32) -> Opti
     }
 }
 
+/// The place of a connection that is to leave.
+fn leaver(seats: &[Seat]) -> Option<usize>
+    ensures { IfSome result (λ i. i < length seats.now) }
+{
+    seats.iter().position(|seat| seat.stage == Stage::Leaves)
+}
+
 impl<'a, S: Stream> Rounds<'a, S> {
     ghost use Rattle.std.specs.Prelude.{◌++◌, ◌∷◌, [], OnOk, OnErr};
     ghost use Rattle.bl_serve.specs.Courses.{SpeaksForItsOwn};
-    ghost use Rattle.bl_crowd.specs.declared.member.Member.{Member};
     ghost use Rattle.bl_rounds.specs.Leaving.{IsOneOut};
 
     /// A thread with no connection.
     pub fn new(alloc: Global, gate: &'a Gate, pass: Pass) -> Rounds<'a, S>
         requires { pass.gate ≡ gate.now }
-        ensures first { (result.crowd.first.value ≡ pass) × (result.crowd.gate.now ≡ gate.now) }
-        ensures none { numbers result.seats.items ≡ [] }
+        ensures pass { result.0 ≡ pass }
+        ensures none { result.1 ≡ [] }
     {
         Rounds {
             crowd: Crowd::new(alloc, gate, pass),
             seats: Vec::new(alloc),
-            seen: 0,
-            fresh: false,
-            busy: false,
+            marks: Marks {
+                seen: 0,
+                fresh: false,
+                busy: false,
+            },
         }
     }
 
     /// How many connections it has.
     pub fn len(&self) -> usize
-        ensures { result ≡ vec_len self.now.seats }
+        ensures { result ≡ length self.now.1 }
     {
         self.seats.len()
     }
@@ -181,11 +350,9 @@ impl<'a, S: Stream> Rounds<'a, S> {
     pub fn join(&mut self, stream: S, number: u32) -> Result<(), AllocError>
     where
         S: Drop,
-        ensures same { (self.new.crowd.first ≡ self.old.crowd.first) × (self.new.crowd.gate ≡ self.old.crowd.gate) }
-        ensures ok { OnOk result (numbers self.new.seats.items ≡ numbers self.old.seats.items ++ number ∷ []) }
-        ensures member { OnOk result ((member : Member S) × (member.connection.first.value ≡ stream)
-            × (self.new.crowd.members.items ≡ self.old.crowd.members.items ++ member ∷ [])) }
-        ensures err { OnErr result (numbers self.new.seats.items ≡ numbers self.old.seats.items) }
+        ensures pass { self.new.0 ≡ self.old.0 }
+        ensures ok { OnOk result (self.new.1 ≡ self.old.1 ++ number ∷ []) }
+        ensures err { OnErr result (self.new.1 ≡ self.old.1) }
     {
         self.seats.reserve(1)?;
         self.crowd.join(stream)?;
@@ -196,158 +363,66 @@ impl<'a, S: Stream> Rounds<'a, S> {
 
     /// Has the connection with this number go on, if it waits for its stream.
     pub fn stir(&mut self, number: u32)
-        ensures same { (self.new.crowd.first ≡ self.old.crowd.first) × (self.new.crowd.gate ≡ self.old.crowd.gate) }
-        ensures numbers { numbers self.new.seats.items ≡ numbers self.old.seats.items }
+        ensures { self.new ≡ self.old }
     {
         if let Ok(i) = self.seats.binary_search_by_key(&number, |seat| seat.number) {
             if self.seats[i].stage == Stage::Sleeps {
-                self.seats[i].stage = Stage::Goes;
+                put_stage(&mut self.seats, i, Stage::Goes);
             }
         }
     }
 
     /// Has each connection go on that waits for its stream.
     pub fn stir_all(&mut self)
-        ensures same { (self.new.crowd.first ≡ self.old.crowd.first) × (self.new.crowd.gate ≡ self.old.crowd.gate) }
-        ensures numbers { numbers self.new.seats.items ≡ numbers self.old.seats.items }
+        ensures { self.new ≡ self.old }
     {
-        for i in 0..self.seats.len() {
-            if self.seats[i].stage == Stage::Sleeps {
-                self.seats[i].stage = Stage::Goes;
-            }
-        }
-    }
-
-    /// Whether a connection is in this stage.
-    fn has(&self, stage: Stage) -> bool {
-        self.seats.iter().any(|seat| seat.stage == stage)
-    }
-
-    /// Each connection that may goes on.
-    fn go(&mut self)
-        ensures same { (self.new.crowd.first ≡ self.old.crowd.first) × (self.new.crowd.gate ≡ self.old.crowd.gate) }
-        ensures numbers { numbers self.new.seats.items ≡ numbers self.old.seats.items }
-    {
-        for i in 0..self.seats.len() {
-            if self.seats[i].stage == Stage::Goes {
-                self.seats[i].stage = advance(&mut self.crowd, i);
-            }
-        }
-    }
-
-    /// Each connection that has asked something, or waits, goes on as far as that was met.
-    fn go_on(&mut self)
-        ensures same { (self.new.crowd.first ≡ self.old.crowd.first) × (self.new.crowd.gate ≡ self.old.crowd.gate) }
-        ensures numbers { numbers self.new.seats.items ≡ numbers self.old.seats.items }
-    {
-        for i in 0..self.seats.len() {
-            let stage = self.seats[i].stage;
-            if stage == Stage::Asks || stage == Stage::Waits {
-                let next = go_after_turn(&mut self.crowd, i);
-                if stage == Stage::Asks && next != Stage::Waits {
-                    self.fresh = true;
-                }
-                self.seats[i].stage = next;
-            }
-        }
-    }
-
-    /// Whether a turn at the gate may bring something: somebody has asked, or somebody waits and this thread has left
-    /// entries ready, or an entry has ended since the last turn.
-    fn is_called(&self, alarms: &Alarms) -> bool {
-        self.has(Stage::Asks)
-            || (self.has(Stage::Waits) && (self.busy || alarms.ends() != self.seen))
-    }
-
-    /// Runs entries that are ready, until none is or it has run one for each connection and some more.
-    fn work<P: Pause, R: Wait>(&mut self, rt: &R, pause: &P, alarms: &Alarms)
-        ensures same { (self.new.crowd.first ≡ self.old.crowd.first) × (self.new.crowd.gate ≡ self.old.crowd.gate) }
-        ensures numbers { numbers self.new.seats.items ≡ numbers self.old.seats.items }
-    {
-        for _ in 0..self.seats.len().saturating_add(MORE_ENTRIES) {
-            match self.crowd.work(rt, pause) {
-                Turn::Idle => {
-                    self.busy = false;
-                    self.fresh = false;
-                    return;
-                }
-                Turn::Missed(_) => {}
-                Turn::Denied(_) | Turn::Done(_) | Turn::Lost(_) => alarms.ring_end(),
-            }
-        }
-        self.busy = true;
-        self.fresh = true;
-    }
-
-    /// A turn at the gate for all, and then, if somebody waits, turns with what is ready.
-    fn turn<P: Pause, R: Wait>(&mut self, rt: &R, pause: &P, alarms: &Alarms)
-        ensures same { (self.new.crowd.first ≡ self.old.crowd.first) × (self.new.crowd.gate ≡ self.old.crowd.gate) }
-        ensures numbers { numbers self.new.seats.items ≡ numbers self.old.seats.items }
-    {
-        self.seen = alarms.ends();
-        self.crowd.turn(rt);
-        self.go_on();
-        if self.has(Stage::Waits) {
-            self.work(rt, pause, alarms);
-        }
+        stir_each(&mut self.seats);
     }
 
     /// One round: each connection goes on as far as it can, and what they ask is done at the gate. Then workers are
     /// called, if there may be something for them.
     pub fn round<P: Pause, R: Wait>(&mut self, rt: &R, pause: &P, calls: Calls<'_>)
-        ensures same { (self.new.crowd.first ≡ self.old.crowd.first) × (self.new.crowd.gate ≡ self.old.crowd.gate) }
-        ensures numbers { numbers self.new.seats.items ≡ numbers self.old.seats.items }
+        ensures { self.new ≡ self.old }
     {
-        for _ in 0..MOST_TURNS {
-            self.go();
-            if !self.is_called(calls.alarms) {
-                break;
-            }
-            self.turn(rt, pause, calls.alarms);
-        }
-        if self.fresh {
+        go_round(
+            rt,
+            pause,
+            calls.alarms,
+            &mut self.crowd,
+            &mut self.seats,
+            &mut self.marks,
+        );
+        if self.marks.fresh {
             calls.bell.ring_work(rt);
-            self.fresh = false;
+            self.marks.fresh = false;
         }
     }
 
     /// Whether the thread may sleep: nobody can go on. Where somebody waits, the next end wakes the thread with this
     /// number.
     pub fn may_sleep(&self, alarms: &Alarms, thread: usize) -> bool {
-        if self.has(Stage::Goes) || self.has(Stage::Asks) {
+        if has(&self.seats, Stage::Goes) || has(&self.seats, Stage::Asks) {
             return false;
         }
-        !self.has(Stage::Waits) || (!self.busy && alarms.arm(thread, self.seen))
-    }
-
-    /// The place of a connection that is to leave.
-    fn leaver(&self) -> Option<usize>
-        ensures { IfSome result (λ i. i < vec_len self.now.seats) }
-    {
-        self.seats
-            .iter()
-            .position(|seat| seat.stage == Stage::Leaves)
+        !has(&self.seats, Stage::Waits) || (!self.marks.busy && alarms.arm(thread, self.marks.seen))
     }
 
     /// The next connection that leaves, with its stream, for its owner to shut; none where none does. What went
     /// through the stream is a transcript, or begins one where a fault ended the session.
     pub fn leave(&mut self) -> Option<Gone<S>>
-        ensures same { (self.new.crowd.first ≡ self.old.crowd.first) × (self.new.crowd.gate ≡ self.old.crowd.gate)
-            × (self.new.crowd.pass ≡ self.old.crowd.pass) }
-        ensures gone { IfSome result (HasGone S.remaining S.contents self.old.crowd.gate.now.base.setup.names
-            self.old.crowd.first.value self.old.crowd.pass) }
-        ensures number { IfSome result (λ gone. IsOneOut gone.number (numbers self.old.seats.items)
-            (numbers self.new.seats.items)) }
-        ensures none { IfNone result (numbers self.new.seats.items ≡ numbers self.old.seats.items) }
+        ensures pass { self.new.0 ≡ self.old.0 }
+        ensures gone { IfSome result (HasGone S.remaining S.contents self.old.0) }
+        ensures number { IfSome result (λ gone. IsOneOut gone.number self.old.1 self.new.1) }
+        ensures none { IfNone result (self.new.1 ≡ self.old.1) }
     {
-        let i = self.leaver()?;
+        let i = leaver(&self.seats)?;
         match part_with(&mut self.crowd, i, self.seats[i].number) {
             Some(gone) => {
                 let _seat = self.seats.remove(i);
                 Some(gone)
             }
             None => {
-                self.seats[i].stage = Stage::Goes;
+                put_stage(&mut self.seats, i, Stage::Goes);
                 None
             }
         }
@@ -357,15 +432,13 @@ impl<'a, S: Stream> Rounds<'a, S> {
     pub fn close(self) -> Pass
     where
         S: Drop,
-        ensures follows { Follows self.entry.crowd.first.value result }
-        ensures speaks { SpeaksForItsOwn self.entry.crowd.first.value result }
+        ensures follows { Follows self.entry.0 result }
+        ensures speaks { SpeaksForItsOwn self.entry.0 result }
     {
         let Rounds {
             crowd,
             seats,
-            seen: _,
-            fresh: _,
-            busy: _,
+            marks: _,
         } = self;
         drop(seats);
         crowd.close()
