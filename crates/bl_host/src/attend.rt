@@ -36,14 +36,14 @@ struct Attendant<'a, K: Keep, T: Wait> {
 impl<'a, K: Keep, T: Wait> Attendant<'a, K, T> {
     /// Tells that a session ended early.
     fn tell<P>(&mut self, post: &Post<'a, P, K, T>, desk: &Desk, number: u32, why: Why)
-        ensures { self.new.rounds.crowd.first ≡ self.old.rounds.crowd.first }
+        ensures { self.new.rounds.0 ≡ self.old.rounds.0 }
     {
         self.fine &= desk.tell(post.rt, number, why);
     }
 
     /// Takes connections from the listener, some at a time.
     fn take<P>(&mut self, post: &Post<'a, P, K, T>, desk: &Desk)
-        ensures { self.new.rounds.crowd.first ≡ self.old.rounds.crowd.first }
+        ensures { self.new.rounds.0 ≡ self.old.rounds.0 }
     {
         for _ in 0..MOST_TAKEN {
             match desk.take(post.rt, post.alarms, self.thread) {
@@ -59,7 +59,7 @@ impl<'a, K: Keep, T: Wait> Attendant<'a, K, T> {
 
     /// Takes up a connection that it was given.
     fn seat<P>(&mut self, post: &Post<'a, P, K, T>, guest: Guest) -> Result<(), Why>
-        ensures { self.new.rounds.crowd.first ≡ self.old.rounds.crowd.first }
+        ensures { self.new.rounds.0 ≡ self.old.rounds.0 }
     {
         let Guest { number, stream } = guest;
         let Ok(mut socket) = Socket::new(stream) else {
@@ -77,7 +77,7 @@ impl<'a, K: Keep, T: Wait> Attendant<'a, K, T> {
 
     /// Takes up the connections that it was given.
     fn welcome<P>(&mut self, post: &Post<'a, P, K, T>, desk: &Desk)
-        ensures { self.new.rounds.crowd.first ≡ self.old.rounds.crowd.first }
+        ensures { self.new.rounds.0 ≡ self.old.rounds.0 }
     {
         for guest in desk.guests(post.rt, post.alloc, self.thread) {
             let number = guest.number;
@@ -91,7 +91,7 @@ impl<'a, K: Keep, T: Wait> Attendant<'a, K, T> {
     /// Sees off a connection that leaves. Its output is ended where its session is over; where nothing more is kept, no
     /// further connection is taken.
     fn see_off<P>(&mut self, post: &Post<'a, P, K, T>, desk: &Desk, gone: Gone<Line<'a, K, T>>)
-        ensures { self.new.rounds.crowd.first ≡ self.old.rounds.crowd.first }
+        ensures { self.new.rounds.0 ≡ self.old.rounds.0 }
     {
         let Gone {
             number,
@@ -113,7 +113,7 @@ impl<'a, K: Keep, T: Wait> Attendant<'a, K, T> {
 
     /// Sees off all that leave.
     fn see_all_off<P>(&mut self, post: &Post<'a, P, K, T>, desk: &Desk)
-        ensures { self.new.rounds.crowd.first ≡ self.old.rounds.crowd.first }
+        ensures { self.new.rounds.0 ≡ self.old.rounds.0 }
     {
         for _ in 0..self.rounds.len() {
             match self.rounds.leave() {
@@ -125,7 +125,7 @@ impl<'a, K: Keep, T: Wait> Attendant<'a, K, T> {
 
     /// Waits until a socket is ready or the alarm is rung, if nobody can go on before, and notes who can go on.
     fn wait<P>(&mut self, post: &Post<'a, P, K, T>)
-        ensures { self.new.rounds.crowd.first ≡ self.old.rounds.crowd.first }
+        ensures { self.new.rounds.0 ≡ self.old.rounds.0 }
     {
         let sleeps = !self.called && self.rounds.may_sleep(post.alarms, self.thread);
         if !self.watch.wait(sleeps) {

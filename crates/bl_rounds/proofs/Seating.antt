@@ -1,9 +1,10 @@
 -- Seats of which one changes its stage, or is taken out.
-use Rattle.std.proofs.Common.{◌≡◌, ◌<◌, ℕ, List, [], ◌∷◌, ◌++◌, length, get_or, take, drop, map, sym, ◌∙◌, ap, arith}
-use Rattle.std.proofs.lemmas.List.{get_or_default, map-append, take-map, drop-map}
+use Rattle.std.proofs.Common.{◌≡◌, ◌<◌, ℕ, List, [], ◌∷◌, ◌++◌, length, get_or, take, drop, map, suc, subst, sym, ◌∙◌, ap, arith}
+use Rattle.std.proofs.lemmas.List.{get_or_default, get_or-map, length-map, map-append, take-map, drop-map}
 use Rattle.std.specs.List.{remove}
 use Rattle.std.proofs.Math.ListN.{set}
 use Rattle.std.proofs.Math.Seq.{map-set_same}
+use Rattle.bl_rounds.specs.Leaving.{IsOneOut}
 use Rattle.bl_rounds.specs.Seats.{numbers}
 use Rattle.bl_rounds.specs.declared.rounds.Seat.{Seat}
 
@@ -24,3 +25,15 @@ numbers_set seats i seat d same = map-set_same (λ (s : Seat). s.number) seats i
 
 pub numbers_push : (seats : List Seat) (seat : Seat) → numbers (seats ++ seat ∷ []) ≡ numbers seats ++ seat.number ∷ []
 numbers_push seats seat = map-append (λ (s : Seat). s.number) seats (seat ∷ [])
+
+-- one is taken out
+pub one_out : (seats after : List Seat) (i number : ℕ) (seat : Seat) (view : List ℕ) → view ≡ numbers seats → i < length seats → seat ≡ get_or seats i seat → number ≡ seat.number
+    → after ≡ remove seats i → IsOneOut number view (numbers after)
+one_out seats after i number seat view is lt there same out =
+    let f : Seat → ℕ = λ s. s.number in
+    record {
+      i = i;
+      within = subst (λ n. i < n) (sym (length-map seats f) ∙ ap length (sym is)) lt;
+      there = same ∙ (ap f there ∙ (sym (get_or-map f seats i seat number lt) ∙ ap (λ (v : List ℕ). get_or v i number) (sym is)));
+      out = ap numbers out ∙ (map_remove f seats i ∙ ap (λ (v : List ℕ). remove v i) (sym is));
+    }

@@ -1,6 +1,6 @@
 use Rattle.std.proofs.Common.{◌≡◌}
 use Rattle.bl_host.proofs.attend.Attendant.welcome.Given as goal
 
--- the crowd is the one that it was
+-- the pass that it was given is the same
 abbrev pub invariant-loop-guest : goal.invariant-loop-guest
-invariant-loop-guest g l = l.self.rounds.crowd.first ≡ l.initial.self.rounds.crowd.first
+invariant-loop-guest g l = l.self.rounds.0 ≡ l.initial.self.rounds.0

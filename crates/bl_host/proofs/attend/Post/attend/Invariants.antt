@@ -1,7 +1,7 @@
 use Rattle.std.proofs.Common.{◌≡◌}
 use Rattle.bl_host.proofs.attend.Post.attend.Given as goal
 
--- the crowd began with the pass
+-- it was given the pass
 abbrev pub invariant-loop : goal.invariant-loop
 invariant-loop g l =
-    (goal.iterator-loop g).can_next l.iterator' × (goal.iterator-loop g).is_finite l.iterator' × (l.attendant.rounds.crowd.first.value ≡ l.fn.pass)
+    (goal.iterator-loop g).can_next l.iterator' × (goal.iterator-loop g).is_finite l.iterator' × (l.attendant.rounds.0 ≡ l.fn.pass)
