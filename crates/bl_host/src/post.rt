@@ -9,7 +9,7 @@ use bl_rounds::alarm::Alarms;
 use bl_rounds::rounds::Calls;
 use bl_worker::bell::Bell;
 use bl_worker::pause::Pause;
-use bl_worker::turn::{Turn, work_once};
+use bl_worker::worker::run_worker;
 use std::alloc::Global;
 use std::sync::Wait;
 
@@ -48,16 +48,14 @@ impl<'a, P: Pause, K: Keep, T: Wait> Post<'a, P, K, T> {
         requires { pass.gate ≡ self.now.gate.now }
         ensures { Follows pass result.pass }
     {
-        let mut closed = false;
-        for _ in self.rt.forever() {
-            let seen = self.bell.calls();
-            match work_once(self.rt, self.alloc, self.gate, &mut pass, self.pause) {
-                Turn::Idle if closed => break,
-                Turn::Idle => closed = self.bell.wait_work(self.rt, seen),
-                Turn::Missed(_) => {}
-                Turn::Denied(_) | Turn::Done(_) | Turn::Lost(_) => self.alarms.ring_end(),
-            }
-        }
+        run_worker(
+            self.rt,
+            self.alloc,
+            self.gate,
+            &mut pass,
+            self.pause,
+            &self.calls(),
+        );
         Share { pass, fine: true }
     }
 }

@@ -55,7 +55,7 @@ module _ {S : Type 0} (remaining contents : S → Option (List ℕ)) (crowd : Cr
       → ((d : Member S) → (get_or crowd.members.items i d).fault ≡ Some fault) → ((d : Member S) → gone.stream ≡ (get_or crowd.members.items i d).connection.stream)
       → ((d : Member S) → gone.fault ≡ (get_or crowd.members.items i d).fault)
       → ((d : Member S) → Departs remaining contents crowd.gate.now.base.setup.names crowd.first.value crowd.pass (get_or crowd.members.items i d).connection
-          (get_or crowd.members.items i d).reception gone.fault)
+      (get_or crowd.members.items i d).reception gone.fault)
       → HasGone remaining contents crowd.first.value gone
   gone_failed gone fault is follows lt failed stream same departs =
       let there = at_index crowd.members.items i lt in

@@ -13,7 +13,7 @@ use bl_crowd::member::Next;
 use bl_gate::gate::Gate;
 use bl_gate::pass::Pass;
 use bl_wire::fault::SessionFault;
-use bl_worker::bell::Bell;
+use bl_worker::bell::{Bell, WorkerBell};
 use bl_worker::pause::Pause;
 use bl_worker::turn::Turn;
 use std::alloc::{AllocError, Global};
@@ -64,6 +64,21 @@ pub struct Gone<S> {
 pub struct Calls<'a> {
     pub alarms: &'a Alarms,
     pub bell: &'a Bell,
+}
+
+impl WorkerBell for Calls<'_> {
+    fn calls(&self) -> u64 {
+        self.bell.calls()
+    }
+
+    fn ring_end<R: Wait>(&self, rt: &R) {
+        let _ = rt;
+        self.alarms.ring_end();
+    }
+
+    fn wait_work<R: Wait>(&self, rt: &R, seen: u64) -> bool {
+        self.bell.wait_work(rt, seen)
+    }
 }
 
 /// What a thread keeps in mind from one round to the next: the count of ends before its last turn, whether there may be
