@@ -1,6 +1,6 @@
 -- A crowd while one of its members goes on, comes or leaves.
-use Rattle.std.proofs.Common.{◌≡◌, ◌≢◌, ℕ, ◌+◌, ◌<◌, ◌≤◌, ◌⊎◌, ◌==◌, inl, inr, true, false, List, [], ◌∷◌, ◌++◌, length, get_or, take, drop, suc, refl, sym, ap, subst, ◌∙◌, arith, eqb, Option, Some, None}
-use Rattle.std.specs.Prelude.{All, AllPairs, slice_index_or, slice_set}
+use Rattle.std.proofs.Common.{◌≡◌, ◌≢◌, ℕ, ◌+◌, ◌<◌, ◌≤◌, ◌⊎◌, inl, inr, true, false, List, [], ◌∷◌, ◌++◌, length, get_or, take, drop, suc, refl, sym, ap, subst, ◌∙◌, arith, eqb, Option, Some, None}
+use Rattle.std.specs.Prelude.{slice_index_or, slice_set}
 use Rattle.std.specs.List.{remove}
 use Rattle.std.proofs.lemmas.Bool.Decides.{eqb_tells}
 use Rattle.std.proofs.lemmas.Grind.{get_or-set_at}
@@ -19,12 +19,11 @@ use Rattle.bl_serve.proofs.Owning.{speaks_for_none}
 use Rattle.bl_crowd.specs.Members.{HasCourse}
 use Rattle.bl_crowd.specs.Crowds.{AreMet, IsMet, IsTurnFault}
 use Rattle.bl_crowd.specs.Steps.{IsClash, IsNewSession, IsWaiting}
-use Rattle.bl_crowd.specs.Ways.{AreApart, AreMembers, HasFailed, IsHome, IsMember, IsUnderWay, StandsSo, account_of}
+use Rattle.bl_crowd.specs.Ways.{AreApart, AreMembers, IsHome, IsMember, IsUnderWay, StandsSo, account_of}
 use Rattle.bl_crowd.specs.declared.member.Member.{Member}
 use Rattle.bl_crowd.specs.declared.member.Met.{Met}
 use Rattle.bl_crowd.specs.declared.member.Met.TheVariants as mets
-use Rattle.bl_crowd.specs.declared.member.Reception.{Reception}
-use Rattle.bl_crowd.specs.declared.member.Reception.TheVariants.{Awaited, Open, Full}
+use Rattle.bl_crowd.specs.declared.member.Reception.TheVariants.{Awaited, Open}
 use Rattle.bl_crowd.proofs.Passing.{home_on, member_goes, none_of, speaks_on}
 
 module _ {S : Type 0} (remaining contents : S → Option (List ℕ)) (names : KnownNames) (first p : PassView) where

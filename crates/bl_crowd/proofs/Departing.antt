@@ -1,38 +1,32 @@
 -- How a member leaves: what went through its stream is a session, and a transcript.
-use Rattle.std.proofs.Common.{◌≡◌, ℕ, ◌<◌, ◌≤◌, ◌⊎◌, inl, inr, Bool, true, false, List, [], ◌∷◌, ◌++◌, length, drop, replicate, refl, sym, ap, subst, ◌∙◌, arith, append-nil, Option, Some, None, OnSome}
+use Rattle.std.proofs.Common.{◌≡◌, ℕ, inl, inr, Bool, true, false, List, [], ◌∷◌, ◌++◌, replicate, refl, sym, ap, subst, ◌∙◌, arith, append-nil, Option, Some, None, OnSome}
 use Rattle.std.specs.Io.KnownBytes.{Appends, Consumes, IsAtEnd}
 use Rattle.bl_work.specs.Names.{KnownNames}
-use Rattle.bl_hall.specs.declared.reply.Reply.{Reply}
 use Rattle.bl_gate.specs.Gates.{PassView, state_seen}
 use Rattle.bl_wire.specs.Faults.{is_read, is_write}
 use Rattle.bl_wire.specs.Replies.{line_text}
-use Rattle.bl_wire.specs.Texts.{bye_line, session_text}
+use Rattle.bl_wire.specs.Texts.{session_text}
 use Rattle.bl_wire.specs.Turns.{IsOpening}
 use Rattle.bl_wire.specs.declared.fault.SessionFault.{SessionFault}
 use Rattle.bl_wire.specs.declared.turn.Turn.{Turn}
 use Rattle.bl_wire.specs.declared.turn.Turn.TheVariants.{Skip, Wait, Greets, Bad, Ask}
 use Rattle.bl_engine.specs.BlockText.{Begins}
 use Rattle.bl_engine.specs.Conversations.{AreSo, AwaitsAt, Given, HasHeard, full_text, need_at, whole_asked, whole_text}
-use Rattle.bl_engine.specs.Driving.{Exchange}
-use Rattle.bl_engine.specs.Outcome.{Cutting, Finished, LacksTheLast, Stopped, TurnedAway, refused_sessions}
+use Rattle.bl_engine.specs.Outcome.{Cutting, Finished, LacksTheLast, Stopped}
 use Rattle.bl_engine.specs.Requests.{SameUpTo, told_by}
-use Rattle.bl_engine.specs.View.{View, Ends}
-use Rattle.bl_engine.specs.declared.conversation.Conversation.{Conversation}
 use Rattle.bl_engine.specs.declared.conversation.Need.TheVariants as needs
 use Rattle.bl_engine.specs.declared.conversation.Opening.{Opening}
 use Rattle.bl_engine.specs.declared.conversation.Opening.TheVariants as openings
 use Rattle.bl_engine.specs.declared.conversation.Stage.{Stage}
-use Rattle.bl_engine.specs.declared.conversation.Stage.TheVariants as stages
 use Rattle.bl_engine.specs.declared.request.Request.{Request}
 use Rattle.bl_engine.specs.declared.request.Request.TheVariants.{Opens, Admits, Settles}
 use Rattle.bl_connection.specs.Connections.{Answers, Finishes, HasFinished, IsConnected, ends_of, state_of, to_hear, unwritten, view_of}
-use Rattle.bl_connection.specs.declared.connection.Connection.{Connection}
 use Rattle.bl_connection.specs.declared.connection.State.TheVariants as states
 use Rattle.bl_connection.proofs.Passing.{begins_front}
 use Rattle.bl_connection.proofs.States.{over_at}
 use Rattle.bl_session.specs.Transcripts.{IsTranscript}
-use Rattle.bl_serve.specs.Courses.{HasOpened, IsCourse, IsOpenedAt, SpeaksAlone}
-use Rattle.bl_serve.specs.Outcome.{BeginsSeen, IsSeen, replies_alone}
+use Rattle.bl_serve.specs.Courses.{HasOpened, IsCourse, IsOpenedAt}
+use Rattle.bl_serve.specs.Outcome.{IsSeen}
 use Rattle.bl_serve.specs.Talks.{full_words}
 use Rattle.bl_serve.specs.Telling.{left_of}
 use Rattle.bl_serve.specs.Told.{told_text}
@@ -41,7 +35,7 @@ use Rattle.bl_serve.proofs.ToldLaws.{all_named}
 use Rattle.bl_serve.proofs.Transcribing.{gained_is, nothing_told, replies_are, transcribed, turned_away, written_is}
 use Rattle.bl_crowd.specs.Departures.{BeginsAmong, Departs, HasLeft, IsCutShortAmong, IsServedAmong, IsTranscribedAmong}
 use Rattle.bl_crowd.specs.Members.{Account, BeginsAt, HasAnswered, HasAsked, HasCourse, MayGive, course_of}
-use Rattle.bl_crowd.specs.Ways.{HasFailed, IsHome, IsMember, IsReceived, IsUnderWay, StandsSo, account_of}
+use Rattle.bl_crowd.specs.Ways.{HasFailed, IsHome, IsReceived, IsUnderWay, StandsSo, account_of}
 use Rattle.bl_crowd.specs.declared.member.Member.{Member}
 use Rattle.bl_crowd.specs.declared.member.Reception.{Reception}
 use Rattle.bl_crowd.specs.declared.member.Reception.TheVariants.{Awaited, Open, Full}

@@ -4,3 +4,4 @@ pub mod Passing
 pub mod Meeting
 pub mod Departing
 pub mod Crowding
+pub mod Rounding

@@ -1,8 +1,8 @@
 -- What a member asks is done at the gate.
-use Rattle.std.proofs.Common.{◌≡◌, ℕ, ◌+◌, ◌<◌, ◌≤◌, ◌⊎◌, inl, inr, Bool, true, false, List, [], ◌∷◌, ◌++◌, length, map, take, drop, refl, sym, ap, subst, ◌∙◌, arith, append-nil, Option, Some, None, nat_le}
+use Rattle.std.proofs.Common.{◌≡◌, ℕ, ◌+◌, ◌<◌, ◌≤◌, ◌⊎◌, inl, inr, Bool, false, List, [], ◌∷◌, ◌++◌, length, map, take, drop, refl, sym, ap, subst, ◌∙◌, arith, Option, Some, None, nat_le}
 use Rattle.std.proofs.lemmas.Bool.Decides.{nat_tests}
 use Rattle.std.proofs.lemmas.List.Elements.{All-cons, All-nil}
-use Rattle.std.specs.Prelude.{All, ◌≢◌, if◌then◌else◌}
+use Rattle.std.specs.Prelude.{All, if◌then◌else◌}
 use Rattle.bl_work.specs.Names.{KnownNames}
 use Rattle.bl_work.specs.Readable.{IsReadable}
 use Rattle.bl_work.specs.declared.work.Work.{Work}
@@ -11,23 +11,21 @@ use Rattle.bl_setup.specs.Setup.{Setup}
 use Rattle.bl_order.specs.Known.{KnowsAnswer}
 use Rattle.bl_order.specs.Machine as machine
 use Rattle.bl_order.specs.Machine.{State, Event, start, most_sessions}
-use Rattle.bl_core.specs.Answers.{IsCause, IsNotOpened}
+use Rattle.bl_core.specs.Answers.{IsCause}
 use Rattle.bl_core.specs.declared.refusal.Cause.{Cause}
 use Rattle.bl_core.specs.declared.refusal.Cause.TheVariants as causes
-use Rattle.bl_core.specs.declared.refusal.OpenRefused.TheVariants as refusals
 use Rattle.bl_hall.specs.Chronicle.{state_now}
-use Rattle.bl_hall.specs.Told.{AreAnswers, Waits, reply_of}
+use Rattle.bl_hall.specs.Told.{AreAnswers, reply_of}
 use Rattle.bl_hall.specs.declared.reply.Reply.{Reply}
 use Rattle.bl_gate.specs.Gates.{PassView, Calls, hall_with, state_seen}
 use Rattle.bl_gate.proofs.Following.{base_stays}
 use Rattle.bl_gate.proofs.Passing.{after_parts}
-use Rattle.bl_worker.proofs.Adding.{adds_call, adds_itself}
+use Rattle.bl_worker.proofs.Adding.{adds_call}
 use Rattle.bl_wire.specs.Named.{NamesAnswer}
 use Rattle.bl_wire.specs.Replies.{line_or_full, line_text}
 use Rattle.bl_wire.specs.Turns.{IsTurn}
 use Rattle.bl_wire.specs.declared.turn.Turn.TheVariants.{Greets, Ask}
 use Rattle.bl_engine.specs.Conversations.{Given, IsAt, SameBlock, last_ordinal, need_at, need_of, talk_of}
-use Rattle.bl_engine.specs.Parts.{SameWithin}
 use Rattle.bl_engine.specs.Requests.{SameUpTo}
 use Rattle.bl_engine.specs.declared.conversation.Closing.{Closing}
 use Rattle.bl_engine.specs.declared.conversation.Need.TheVariants as needs
@@ -45,9 +43,9 @@ use Rattle.bl_connection.proofs.States.{tells_at}
 use Rattle.bl_session.proofs.RunLaws.{setup_after}
 use Rattle.bl_session.proofs.ServeLaws.{are_served}
 use Rattle.bl_serve.specs.Courses.{Course, IsCourse, SpeaksAlone, SpeaksForItsOwn}
-use Rattle.bl_serve.specs.Telling.{Stands, left_of}
+use Rattle.bl_serve.specs.Telling.{left_of}
 use Rattle.bl_serve.specs.Together.{AreOnCourse, GoesOnTo, IsNoLineBut, Standing, SpeaksForNoOther}
-use Rattle.bl_serve.specs.Told.{BeginsAbove, IsBlock, IsTold, line_of, ordinal_of, told_text}
+use Rattle.bl_serve.specs.Told.{BeginsAbove, IsBlock, line_of, ordinal_of, told_text}
 use Rattle.bl_serve.specs.Visits.{IsCrowded}
 use Rattle.bl_serve.specs.declared.talk.Told.{Told}
 use Rattle.bl_serve.proofs.Asking.{admits_then, at_stage, opens_first, settles_then}
@@ -58,14 +56,14 @@ use Rattle.bl_serve.proofs.Telling.{GoByLines}
 use Rattle.bl_serve.proofs.Together.{one_goes_on}
 use Rattle.bl_serve.proofs.ToldLaws.{all_named, page_first, text_new, text_stays, told_on}
 use Rattle.bl_serve.proofs.Transcribing.{heard}
-use Rattle.bl_crowd.specs.Members.{Account, AwaitsNothing, HasAnswered, HasCourse, HasNoSession, IsAsked, IsAtBlock, course_of}
+use Rattle.bl_crowd.specs.Members.{Account, HasAnswered, HasCourse, HasNoSession, IsAtBlock, course_of}
 use Rattle.bl_crowd.specs.Receptions.{HasEntered, HasReceived, opening_of}
 use Rattle.bl_crowd.specs.Steps.{IsNewSession}
 use Rattle.bl_crowd.specs.Ways.{IsHome, IsUnderWay, account_of}
 use Rattle.bl_crowd.specs.declared.member.Member.{Member}
 use Rattle.bl_crowd.specs.declared.member.Reception.{Reception}
 use Rattle.bl_crowd.specs.declared.member.Reception.TheVariants.{Awaited, Open, Full}
-use Rattle.bl_crowd.proofs.Stages.{listens_needs, opening_no_room, room_needs, stands_first, stands_none}
+use Rattle.bl_crowd.proofs.Stages.{listens_needs, room_needs, stands_first, stands_none}
 use Rattle.bl_crowd.proofs.Streaming.{answers_itself, some_answered}
 
 -- the setup stays
@@ -120,7 +118,7 @@ module _ {S : Type 0} (remaining contents : S → Option (List ℕ)) (names : Kn
         absurd (let o = c.opened in let n = nothing_done in cc)
     was_awaited Full is = absurd (not_full (Opens subject) w Full is refl)
 
-    awaited : (old.reception ≡ Awaited) × HasNoSession (account_of old w.replies w.done)
+    pub awaited : (old.reception ≡ Awaited) × HasNoSession (account_of old w.replies w.done)
     awaited = was_awaited old.reception refl
 
     pub serves : IsHome names p → subject < length p.gate.base.setup.policy.subjects

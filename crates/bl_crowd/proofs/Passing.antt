@@ -1,11 +1,11 @@
 -- A member stays where it is while its pass goes on for others.
-use Rattle.std.proofs.Common.{◌≡◌, ℕ, ◌≤◌, ◌⊎◌, inl, inr, List, [], ◌∷◌, length, refl, sym, ap, subst, ◌∙◌, arith, Option, Some, None}
+use Rattle.std.proofs.Common.{◌≡◌, ℕ, inl, inr, List, [], length, refl, sym, ap, subst, ◌∙◌, arith, Option, Some, None}
 use Rattle.std.proofs.lemmas.List.Elements.{All-nil}
 use Rattle.bl_work.specs.Names.{KnownNames}
 use Rattle.bl_setup.specs.Agreement.{Agree}
 use Rattle.bl_order.specs.Machine.{Event, Opens, Admits, Starts, Ends, Loses}
 use Rattle.bl_hall.specs.Chronicle.{Chronicle, HasTrail}
-use Rattle.bl_gate.specs.Gates.{GateId, PassView, Calls, Follows, hall_seen, state_seen}
+use Rattle.bl_gate.specs.Gates.{PassView, Follows, hall_seen, state_seen}
 use Rattle.bl_gate.proofs.Following.{base_stays, follows_itself, follows_then}
 use Rattle.bl_worker.specs.Turns.{AdmitsNoLine, IsNoLine}
 use Rattle.bl_worker.proofs.Adding.{adds_as}
@@ -13,12 +13,12 @@ use Rattle.bl_wire.specs.declared.fault.SessionFault.{SessionFault}
 use Rattle.bl_wire.specs.declared.turn.Turn.{Turn}
 use Rattle.bl_engine.specs.declared.request.Request.{Request}
 use Rattle.bl_serve.specs.Courses.{AdmitsNoLineOf, IsCourse, IsNoLineOf, SpeaksForItsOwn}
-use Rattle.bl_serve.specs.Together.{AreOnCourse, GoesOnTo, Standing, just_opened}
+use Rattle.bl_serve.specs.Together.{AreOnCourse, GoesOnTo, Standing}
 use Rattle.bl_serve.specs.Visits.{IsCrowded}
 use Rattle.bl_serve.proofs.Going.{state_is}
 use Rattle.bl_serve.proofs.Opened.{sessions_grow}
 use Rattle.bl_serve.proofs.Together.{all_stay, stays}
-use Rattle.bl_crowd.specs.Members.{Account, HasCourse, IsTurnedOff, course_of}
+use Rattle.bl_crowd.specs.Members.{Account, HasCourse, course_of}
 use Rattle.bl_crowd.specs.Ways.{HasFailed, IsHome, IsMember, IsUnderWay, StandsSo, account_of}
 use Rattle.bl_crowd.specs.declared.member.Member.{Member}
 use Rattle.bl_crowd.specs.declared.member.Reception.{Reception}

@@ -1,5 +1,5 @@
 -- A member over its stream, step by step.
-use Rattle.std.proofs.Common.{◌≡◌, ℕ, ◌+◌, ◌<◌, ◌≤◌, ◌⊎◌, inl, inr, Bool, true, false, List, [], ◌∷◌, ◌++◌, length, refl, sym, ap, subst, ◌∙◌, arith, append-nil, Option, Some, None}
+use Rattle.std.proofs.Common.{◌≡◌, ℕ, ◌+◌, ◌⊎◌, inl, inr, List, [], ◌∷◌, ◌++◌, length, refl, sym, ap, subst, ◌∙◌, arith, append-nil, Option, Some, None}
 use Rattle.std.proofs.lemmas.List.Elements.{All-nil}
 use Rattle.std.specs.Prelude.{All, replicate}
 use Rattle.bl_work.specs.Names.{KnownNames}
@@ -8,8 +8,7 @@ use Rattle.bl_gate.specs.Gates.{PassView}
 use Rattle.bl_wire.specs.Faults.{is_read, is_write}
 use Rattle.bl_wire.specs.declared.fault.SessionFault.{SessionFault}
 use Rattle.bl_wire.specs.declared.fault.SessionFault.TheVariants as faults
-use Rattle.bl_wire.specs.declared.turn.Turn.{Turn}
-use Rattle.bl_engine.specs.Conversations.{Given, GoesOnAlone, HasHeard, KeepsBlock, asks, last_ordinal, need_of, talk_of, whole_asked}
+use Rattle.bl_engine.specs.Conversations.{Given, GoesOnAlone, HasHeard, KeepsBlock, asks, last_ordinal, need_of, talk_of}
 use Rattle.bl_engine.specs.Driving.{Exchange, nothing_yet, with_line}
 use Rattle.bl_engine.specs.Outcome.{Stopped}
 use Rattle.bl_engine.specs.Parts.{MayTake}
@@ -19,7 +18,7 @@ use Rattle.bl_engine.specs.declared.conversation.Opening.TheVariants as openings
 use Rattle.bl_engine.specs.declared.request.Request.{Request}
 use Rattle.bl_engine.specs.declared.request.Request.TheVariants.{Opens, Admits, Settles}
 use Rattle.bl_engine.proofs.Endings.{so_far_at}
-use Rattle.bl_connection.specs.Connections.{Answers, HasHeardMore, HearsMore, IsConnected, IsNew, StaysConnected, StopsAs, TellsMore, ends_of, state_of, unwritten, view_of, with_said}
+use Rattle.bl_connection.specs.Connections.{Answers, HasHeardMore, HearsMore, IsNew, StaysConnected, StopsAs, TellsMore, ends_of, state_of, unwritten, view_of, with_said}
 use Rattle.bl_connection.specs.declared.connection.Connection.{Connection}
 use Rattle.bl_connection.specs.declared.connection.State.TheVariants as states
 use Rattle.bl_connection.specs.declared.stream.Answer.{Answer}
@@ -29,7 +28,7 @@ use Rattle.bl_connection.proofs.States.{hears_at}
 use Rattle.bl_serve.specs.Telling.{Stands, left_of}
 use Rattle.bl_serve.specs.Told.{IsTold, told_text}
 use Rattle.bl_serve.specs.declared.talk.Told.{Told}
-use Rattle.bl_crowd.specs.Members.{Account, AwaitsNothing, BeginsAt, HasAnswered, HasAsked, HasCourse, HasDone, IsAsked, IsAtBlock, IsJoined, IsNext, MayGive}
+use Rattle.bl_crowd.specs.Members.{Account, AwaitsNothing, BeginsAt, HasAnswered, HasAsked, HasCourse, IsAtBlock, IsJoined, IsNext, MayGive}
 use Rattle.bl_crowd.specs.Steps.{IsFaultOf}
 use Rattle.bl_crowd.specs.Ways.{HasFailed, IsEndOf, IsMember, IsReceived, IsUnderWay, StandsSo, account_of}
 use Rattle.bl_crowd.specs.declared.member.Member.{Member}

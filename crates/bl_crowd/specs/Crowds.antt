@@ -1,10 +1,16 @@
 -- The members of a crowd.
-use Rattle.std.specs.Prelude.{◌≡◌, ◌⊎◌, ℕ, ◌<◌, List, Option, Some, None, get_or}
+use Rattle.std.specs.Prelude.{◌≡◌, ◌⊎◌, ℕ, ◌+◌, ◌<◌, ◌≤◌, List, Option, Some, None, get_or}
+use Rattle.bl_work.specs.Names.{KnownNames}
 use Rattle.bl_wire.specs.declared.fault.SessionFault.{SessionFault}
-use Rattle.bl_wire.specs.declared.fault.SessionFault.TheVariants.{Memory, Clash}
+use Rattle.bl_wire.specs.declared.fault.SessionFault.TheVariants.{TooLong, Memory, Clash}
+use Rattle.bl_engine.specs.Conversations.{waits_left}
+use Rattle.bl_connection.specs.Connections.{state_of}
+use Rattle.bl_connection.specs.declared.connection.State.TheVariants.{Hears}
 use Rattle.bl_gate.specs.Gates.{Follows, PassView}
+use Rattle.bl_worker.specs.Hands.{HasMade}
+use Rattle.bl_worker.specs.Turns.{AddsTurnsAlone}
 use Rattle.bl_crowd.specs.Steps.{IsClash, IsWaiting}
-use Rattle.bl_crowd.specs.Ways.{AreMembers}
+use Rattle.bl_crowd.specs.Ways.{AreMembers, HasFailed}
 use Rattle.bl_crowd.specs.declared.crowd.Crowd.{Crowd}
 use Rattle.bl_crowd.specs.declared.member.Member.{Member}
 
@@ -31,3 +37,33 @@ IsMet first before after was now =
 abbrev pub AreMet : {S : Type 0} → (first before after : PassView) → (old new : List (Member S)) → ℕ → Type 0
 AreMet {S} first before after old new count = (i : ℕ) (d : Member S) → i < count
     → IsMet first before after (get_or old i d) (get_or new i d)
+
+-- ---- with the next lines of what was read
+
+-- The member has met, or a next line was longer than it may hear.
+abbrev pub IsMetOn : {S : Type 0} → (remaining contents : S → Option (List ℕ)) → KnownNames
+    → (first before after : PassView) → (was now : Member S) → Type 0
+IsMetOn remaining contents names first before after was now =
+    IsMet first before after was now
+    ⊎ ((now.fault ≡ Some TooLong) × ((at : PassView) × Follows before at × Follows at after
+    × HasFailed remaining contents names first at now TooLong))
+
+abbrev pub AreMetOn : {S : Type 0} → (remaining contents : S → Option (List ℕ)) → KnownNames
+    → (first before after : PassView) → (old new : List (Member S)) → ℕ → Type 0
+AreMetOn {S} remaining contents names first before after old new count = (i : ℕ) (d : Member S) → i < count
+    → IsMetOn remaining contents names first before after (get_or old i d) (get_or new i d)
+
+-- Where it asks nothing and still has something to hear it has heard so many lines, or parts of them: each is a step
+-- towards the end of what it may hear.
+abbrev pub HasHeardOn : {S : Type 0} → ℕ → (was now : Member S) → Type 0
+HasHeardOn most was now = now.fault ≡ None → now.asked ≡ None → state_of now.connection ≡ Hears
+    → most + waits_left now.connection.conv ≤ waits_left was.connection.conv
+
+abbrev pub HaveHeardOn : {S : Type 0} → ℕ → (old new : List (Member S)) → ℕ → Type 0
+HaveHeardOn {S} most old new count = (i : ℕ) (d : Member S) → i < count
+    → HasHeardOn most (get_or old i d) (get_or new i d)
+
+-- The last that the pass has done is that it took turns, with so many events.
+abbrev pub HasBegunLast : ℕ → (before after : PassView) → Type 0
+HasBegunLast count before after =
+    (at : PassView) × Follows before at × AddsTurnsAlone at after × HasMade count at after

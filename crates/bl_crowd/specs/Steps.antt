@@ -1,7 +1,8 @@
 -- What a step of a member came to.
 use Rattle.std.specs.Prelude.{◌≡◌, ◌<◌, ◌≤◌, ◌⊎◌, ⊤, ℕ, List, length}
 use Rattle.bl_hall.specs.Told.{Waits}
-use Rattle.bl_gate.specs.Gates.{PassView, state_seen}
+use Rattle.bl_gate.specs.Gates.{KeepsInHand, PassView, state_seen}
+use Rattle.bl_worker.specs.Turns.{Settles}
 use Rattle.bl_wire.specs.declared.fault.SessionFault.{SessionFault}
 use Rattle.bl_wire.specs.declared.fault.SessionFault.TheVariants.{Read, Write, TooLong, Memory, Clash}
 use Rattle.bl_engine.specs.Conversations.{need_of, waits_left}
@@ -67,3 +68,8 @@ abbrev pub IsClash : (first pass : PassView) → Reception → Type 0
 IsClash first pass Awaited = ⊥
 IsClash first pass (Open session) = SpeaksAlone first pass session → ⊥
 IsClash first pass Full = ⊥
+
+-- the pass has in hand all that it had, and what it has started since then has ended
+pub record KeepsHand (before after : PassView) : Type 0 where
+  pub in_hand : KeepsInHand before after
+  pub settles : Settles before after

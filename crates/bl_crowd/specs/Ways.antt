@@ -10,7 +10,8 @@ use Rattle.bl_wire.specs.declared.fault.SessionFault.TheVariants.{Memory, Write}
 use Rattle.bl_engine.specs.Driving.{Exchange}
 use Rattle.bl_engine.specs.Outcome.{Stopped}
 use Rattle.bl_engine.specs.declared.request.Request.{Request}
-use Rattle.bl_connection.specs.Connections.{ends_of, view_of}
+use Rattle.bl_connection.specs.Connections.{ends_of, state_of, view_of}
+use Rattle.bl_connection.specs.declared.connection.State.TheVariants as states
 use Rattle.bl_serve.specs.Told.{IsTold, told_text}
 use Rattle.bl_serve.specs.Courses.{SpeaksForItsOwn}
 use Rattle.bl_crowd.specs.Members.{Account, HasAsked, HasCourse, IsAtBlock, IsJoined, MayGive}
@@ -91,3 +92,9 @@ pub record AreMembers {S : Type 0} (remaining contents : S → Option (List ℕ)
   pub speaks : SpeaksForItsOwn first pass
   pub each : All (IsMember remaining contents names first pass) members
   pub differ : AllPairs AreApart members
+
+-- it has not failed and asks nothing, and is to read its stream
+pub record IsToRead {S : Type 0} (member : Member S) : Type 0 where
+  pub fine : member.fault ≡ None
+  pub none : member.asked ≡ None
+  pub state : state_of member.connection ≡ states.Reads

@@ -1,14 +1,17 @@
 //! Many connections of one thread over one gate.
-ghost use Rattle.std.specs.Prelude.{◌≡◌, ◌<◌, ◌++◌, ◌∷◌, [], ℕ, Some, None, IsSome, OnOk, OnErr, length, get_or};
-ghost use Rattle.std.specs.Prelude.{vec_len};
+ghost use Rattle.std.specs.Prelude.{◌≡◌, ◌<◌, ◌≤◌, ◌⊎◌, ◌↔◌, ◌++◌, ◌∷◌, [], ℕ, Some, None, IsSome, IsTrue};
+ghost use Rattle.std.specs.Prelude.{MatchBool, OnOk, OnErr, length, get_or, vec_len};
 ghost use Rattle.std.specs.List.{remove};
 ghost use Rattle.bl_hall.specs.Chronicle.{HasTrail};
-ghost use Rattle.bl_gate.specs.Gates.{PassView, hall_seen};
+ghost use Rattle.bl_order.specs.Machine.{MayStart};
+ghost use Rattle.bl_gate.specs.Gates.{PassView, hall_seen, state_seen};
 ghost use Rattle.bl_work.specs.Names.{KnownNames};
 ghost use Rattle.bl_serve.specs.Courses.{SpeaksForItsOwn};
 ghost use Rattle.bl_serve.specs.Together.{GoesOnTo};
+ghost use Rattle.bl_worker.specs.Batches.{AllRan, HasRoom, IsBatch, IsIdle, NoneRan, loans_in};
 ghost use Rattle.bl_worker.specs.Turns.{HasWorked, Settles};
-ghost use Rattle.bl_crowd.specs.Crowds.{AreMet, IsCrowd};
+ghost use Rattle.bl_crowd.specs.Crowds.{AreMet, AreMetOn, HasBegunLast, HaveHeardOn, IsCrowd};
+ghost use Rattle.bl_crowd.specs.Steps.{KeepsHand};
 ghost use Rattle.bl_crowd.specs.Ways.{AreMembers};
 
 use crate::member::{Departed, Member, Next};
@@ -17,6 +20,7 @@ use bl_gate::gate::Gate;
 use bl_gate::pass::Pass;
 use bl_gate::turn::Turn as AtGate;
 use bl_wire::fault::SessionFault;
+use bl_worker::batch::Batch;
 use bl_worker::pause::Pause;
 use bl_worker::turn::{Turn, work_once};
 use std::alloc::{AllocError, Global};
@@ -53,11 +57,45 @@ fn meet_all<S: Stream>(turn: &mut AtGate<'_>, members: &mut Vec<Member<'_, S>>)
     }
 }
 
+/// Does at the gate what each member asks, and what it asks at the next lines that it hears, so many at most.
+fn meet_on_all<S: Stream>(turn: &mut AtGate<'_>, members: &mut Vec<Member<'_, S>>, most: usize)
+    requires trail { HasTrail (hall_seen turn.old) }
+    requires members { (names : KnownNames) × (first : PassView)
+        × AreMembers S.remaining S.contents names first turn.old members.old.items }
+    ensures goes { GoesOnTo turn.old turn.new }
+    ensures hand { KeepsHand turn.old turn.new }
+    ensures members { (names : KnownNames) (first : PassView)
+        → AreMembers S.remaining S.contents names first turn.old members.old.items
+        → AreMembers S.remaining S.contents names first turn.new members.new.items }
+    ensures len { vec_len members.new ≡ vec_len members.old }
+    ensures met { (names : KnownNames) (first : PassView)
+        → AreMembers S.remaining S.contents names first turn.old members.old.items
+        → AreMetOn S.remaining S.contents names first turn.old turn.new members.old.items members.new.items
+        (vec_len members.new) }
+    ensures heard { HaveHeardOn most members.old.items members.new.items (vec_len members.new) }
+{
+    for i in 0..members.len() {
+        members[i].meet_on(turn, most);
+    }
+}
+
+/// What a round came to.
+#[derive(Clone, Copy, Debug, PartialEq, Eq)]
+pub struct Round {
+    /// How many entries it has begun.
+    pub begun: usize,
+    /// Whether an entry has ended.
+    pub ended: bool,
+    /// Whether an entry is ready that it has left to others.
+    pub left: bool,
+}
+
 impl<'a, S: Stream> Crowd<'a, S> {
     ghost use Rattle.bl_connection.specs.Connections.{state_of};
     ghost use Rattle.bl_connection.specs.declared.connection.State.TheVariants as states;
     ghost use Rattle.bl_crowd.specs.Departures.{Departs, IsServedAmong};
     ghost use Rattle.bl_crowd.specs.Steps.{IsBlocked, IsFaultOf, IsGone};
+    ghost use Rattle.bl_crowd.specs.Ways.{IsToRead};
     ghost use Rattle.bl_crowd.specs.declared.member.Next.TheVariants as nexts;
 
     /// A crowd of nobody.
@@ -132,6 +170,14 @@ impl<'a, S: Stream> Crowd<'a, S> {
         self.members[i].step()
     }
 
+    /// Whether a member is to read its stream next.
+    pub fn reads(&self, i: usize) -> bool
+        requires { i < vec_len self.now.members }
+        ensures { IsTrue result ↔ ((d : Member S) → IsToRead (get_or self.now.members.items i d)) }
+    {
+        self.members[i].reads()
+    }
+
     /// Does what each member asks of the machine, in one turn at the gate.
     pub fn turn<R: Wait>(&mut self, rt: &R)
         requires crowd { IsCrowd S.remaining S.contents self.old }
@@ -158,6 +204,69 @@ impl<'a, S: Stream> Crowd<'a, S> {
             × (self.new.gate ≡ self.old.gate) }
     {
         work_once(rt, self.alloc, self.gate, &mut self.pass, pause)
+    }
+
+    /// One turn at the gate with what is in hand. It ends what was run, does what each member asks, and what it asks
+    /// at the next lines of what was read, so many at most; and begins what is ready, until the batch is full, as
+    /// many were begun as it may have in hand, or nothing is ready. What was begun is to be run with the gate free, by
+    /// `Batch::run`, and ends in the next round.
+    pub fn round<R: Wait>(&mut self, rt: &R, batch: &mut Batch, most: usize) -> Round
+        requires crowd { IsCrowd S.remaining S.contents self.old }
+        requires ran { AllRan batch.old }
+        requires room { HasRoom batch.old }
+        requires batch { (since : PassView) × IsBatch since self.old.pass (loans_in batch.old) }
+        ensures crowd { IsCrowd S.remaining S.contents self.new }
+        ensures goes { GoesOnTo self.old.pass self.new.pass }
+        ensures batch { (since : PassView) → IsBatch since self.old.pass (loans_in batch.old)
+            → IsBatch since self.new.pass (loans_in batch.new) }
+        ensures ran { NoneRan batch.new }
+        ensures room { HasRoom batch.new × (batch.new.most ≡ batch.old.most) }
+        ensures met { AreMetOn S.remaining S.contents self.old.gate.now.base.setup.names self.old.first.value
+            self.old.pass self.new.pass self.old.members.items self.new.members.items (vec_len self.new.members) }
+        ensures heard { HaveHeardOn most self.old.members.items self.new.members.items (vec_len self.new.members) }
+        ensures begun { HasBegunLast result.begun self.old.pass self.new.pass }
+        ensures left { MatchBool result.left
+            ((batch.new.most ≤ result.begun) ⊎ (batch.new.most ≤ vec_len batch.new.lents))
+            ((n : ℕ) → ¬ MayStart (state_seen self.new.pass) n) }
+        ensures ended { IsTrue result.ended
+            ↔ ((0 < vec_len batch.old.ran) ⊎ (vec_len batch.new.lents < result.begun)) }
+        ensures len { vec_len self.new.members ≡ vec_len self.old.members }
+        ensures same { (self.new.first ≡ self.old.first) × (self.new.gate ≡ self.old.gate) }
+    {
+        let mut turn = self.gate.turn(rt, self.pass.take());
+        let some = batch.end_all(&mut turn);
+        meet_on_all(&mut turn, &mut self.members, most);
+        let (begun, over) = batch.begin_ready(&mut turn);
+        let left = turn.ready().is_some();
+        self.pass = turn.leave();
+        Round {
+            begun,
+            ended: some || over,
+            left,
+        }
+    }
+
+    /// Ends what was run, in one turn at the gate in which nothing is begun, and says whether there was any. Then
+    /// nothing is in hand.
+    pub fn put_down<R: Wait>(&mut self, rt: &R, batch: &mut Batch) -> bool
+        requires crowd { IsCrowd S.remaining S.contents self.old }
+        requires ran { AllRan batch.old }
+        requires room { HasRoom batch.old }
+        requires batch { (since : PassView) × IsBatch since self.old.pass (loans_in batch.old) }
+        ensures crowd { IsCrowd S.remaining S.contents self.new }
+        ensures goes { GoesOnTo self.old.pass self.new.pass }
+        ensures batch { (since : PassView) → IsBatch since self.old.pass (loans_in batch.old)
+            → IsBatch since self.new.pass (loans_in batch.new) }
+        ensures idle { IsIdle batch.new }
+        ensures room { HasRoom batch.new × (batch.new.most ≡ batch.old.most) }
+        ensures some { IsTrue result ↔ (0 < vec_len batch.old.ran) }
+        ensures same { (self.new.members ≡ self.old.members) × (self.new.first ≡ self.old.first)
+            × (self.new.gate ≡ self.old.gate) }
+    {
+        let mut turn = self.gate.turn(rt, self.pass.take());
+        let some = batch.end_all(&mut turn);
+        self.pass = turn.leave();
+        some
     }
 
     /// Has a member leave, at any moment, and gives its stream. What the stream gave and took since it joined is a

@@ -1,6 +1,6 @@
 //! A connection of a crowd, with its session.
-ghost use Rattle.std.specs.Prelude.{◌≡◌, ◌≢◌, ◌<◌, ◌⊎◌, [], ℕ, length, Option, Some, None, Ok, IsSome, IfOk, IfErr};
-ghost use Rattle.std.specs.Prelude.{OnOk, OnErr, true, false};
+ghost use Rattle.std.specs.Prelude.{◌≡◌, ◌≢◌, ◌<◌, ◌⊎◌, ◌↔◌, [], ℕ, length, Option, Some, None, Ok, Err, IsSome};
+ghost use Rattle.std.specs.Prelude.{IsTrue, IfOk, IfErr, OnOk, OnErr, true, false};
 ghost use Rattle.bl_work.specs.Names.{KnownNames};
 ghost use Rattle.bl_hall.specs.Chronicle.{HasTrail};
 ghost use Rattle.bl_gate.specs.Gates.{PassView, hall_seen};
@@ -10,6 +10,7 @@ ghost use Rattle.bl_serve.specs.Courses.{AdmitsNoLineOf, SpeaksForItsOwn};
 ghost use Rattle.bl_serve.specs.Together.{GoesOnTo, SpeaksForNoOther};
 ghost use Rattle.bl_worker.specs.Turns.{AdmitsNoLine};
 ghost use Rattle.bl_crowd.specs.Receptions.{HasEntered, HasReceived, IsRefused};
+ghost use Rattle.bl_crowd.specs.Steps.{KeepsHand};
 
 use bl_connection::connection::{Connection, Progress, State};
 use bl_connection::stream::Stream;
@@ -116,10 +117,12 @@ fn none_told(alloc: Global, names: &Names) -> Told<'_>
 }
 
 /// Opens a session for a subject, or finds that there are as many as there may be.
+#[tactic(auto, using(crate::proofs::Rounding::hand_opened, crate::proofs::Rounding::hand_quiet))]
 fn receive(turn: &mut AtGate<'_>, subject: SubjectId) -> Reception
     requires { subject < length turn.old.gate.base.setup.policy.subjects }
     ensures goes { GoesOnTo turn.old turn.new }
     ensures lines { AdmitsNoLine turn.old turn.new }
+    ensures hand { KeepsHand turn.old turn.new }
     ensures received { HasReceived turn.old turn.new subject result }
 {
     match turn.open(subject) {
@@ -131,9 +134,11 @@ fn receive(turn: &mut AtGate<'_>, subject: SubjectId) -> Reception
 }
 
 /// Admits a work, or finds no room for it. The work comes back for any other cause, and then nothing was admitted.
+#[tactic(auto, using(crate::proofs::Rounding::hand_admitted, crate::proofs::Rounding::hand_same))]
 fn enter(turn: &mut AtGate<'_>, session: u32, ordinal: u32, work: Work) -> Result<(), Work>
     ensures goes { GoesOnTo turn.old turn.new }
     ensures own { SpeaksForNoOther session turn.old turn.new }
+    ensures hand { KeepsHand turn.old turn.new }
     ensures ok { OnOk result (HasEntered turn.old turn.new session ordinal work) }
     ensures err { IfErr result (λ back. (turn.new ≡ turn.old) × (back ≡ work)
         × IsRefused turn.old session ordinal work) }
@@ -164,7 +169,8 @@ impl<'a, S: Stream> Member<'a, S> {
     ghost use Rattle.bl_connection.specs.Connections.{state_of};
     ghost use Rattle.bl_connection.specs.declared.connection.State.TheVariants as states;
     ghost use Rattle.bl_crowd.specs.Steps.{IsBlocked, IsClash, IsFaultOf, IsGone, IsNewSession, IsOfStream, IsWaiting};
-    ghost use Rattle.bl_crowd.specs.Ways.{HasFailed, IsHome, IsMember, IsUnderWay};
+    ghost use Rattle.bl_crowd.specs.Ways.{HasFailed, IsHome, IsMember, IsToRead, IsUnderWay};
+    ghost use Rattle.bl_crowd.specs.Crowds.{HasHeardOn, IsMetOn};
     ghost use Rattle.bl_crowd.specs.Departures.{Departs, IsServedAmong};
     ghost use Rattle.bl_crowd.specs.declared.member.Met.TheVariants as mets;
     ghost use Rattle.bl_crowd.specs.declared.member.Next.TheVariants as nexts;
@@ -208,6 +214,7 @@ impl<'a, S: Stream> Member<'a, S> {
         ensures same { (self.new.reception ≡ self.old.reception) × (self.new.fault ≡ self.old.fault) }
         ensures nearer { OnOk result (waits_left self.new.connection.conv < waits_left self.old.connection.conv) }
         ensures fault { IfErr result (IsFaultOf S.reads S.writes self.old.connection self.new.connection) }
+        ensures kind { IfErr result (λ fault. (fault ≡ faults.Memory) ⊎ (fault ≡ faults.TooLong)) }
     {
         self.asked = self.connection.hear(self.names)?;
         self.told = none_told(self.alloc, self.names);
@@ -284,6 +291,13 @@ impl<'a, S: Stream> Member<'a, S> {
         }
     }
 
+    /// Whether it is to read its stream next.
+    pub fn reads(&self) -> bool
+        ensures { IsTrue result ↔ IsToRead self.now }
+    {
+        self.fault.is_none() && self.asked.is_none() && self.connection.state() == State::Reads
+    }
+
     /// Opens the session for a subject, or finds that there are as many as there may be.
     fn open(&mut self, turn: &mut AtGate<'_>, subject: SubjectId)
         requires way { (names : KnownNames) × (first : PassView) × IsHome names turn.old
@@ -294,6 +308,9 @@ impl<'a, S: Stream> Member<'a, S> {
             → IsUnderWay S.remaining S.contents names first turn.new self.new None × SpeaksForItsOwn first turn.new }
         ensures goes { GoesOnTo turn.old turn.new }
         ensures lines { AdmitsNoLine turn.old turn.new }
+        ensures hand { KeepsHand turn.old turn.new }
+        ensures awaited { self.old.reception ≡ receptions.Awaited }
+        ensures tells { state_of self.new.connection ≡ states.Tells }
         ensures new { IsNewSession turn.old self.new.reception }
         ensures same { (self.new.asked ≡ self.old.asked) × (self.new.fault ≡ self.old.fault) }
     {
@@ -314,8 +331,10 @@ impl<'a, S: Stream> Member<'a, S> {
         ensures goes { GoesOnTo turn.old turn.new }
         ensures others { (session : ℕ) → self.old.reception ≢ receptions.Open session
             → AdmitsNoLineOf session turn.old turn.new }
+        ensures hand { KeepsHand turn.old turn.new }
         ensures same { (self.new.reception ≡ self.old.reception) × (self.new.asked ≡ self.old.asked)
             × (self.new.fault ≡ self.old.fault) }
+        ensures connection { self.new.connection ≡ self.old.connection }
         ensures back { IfErr result (λ back. (turn.new ≡ turn.old) × (self.new ≡ self.old) × (back ≡ work)) }
         ensures clash { OnErr result ((names : KnownNames) (first : PassView) → IsHome names turn.old
             → IsUnderWay S.remaining S.contents names first turn.old self.old (Some (requests.Admits ordinal work))
@@ -341,6 +360,7 @@ impl<'a, S: Stream> Member<'a, S> {
             → IsUnderWay S.remaining S.contents names first turn.now self.old (Some requests.Settles)
             → IsUnderWay S.remaining S.contents names first turn.now self.new None }
         ensures waits { result ≡ Ok false → (self.new ≡ self.old) × IsWaiting turn.now self.old.reception }
+        ensures tells { result ≡ Ok true → state_of self.new.connection ≡ states.Tells }
         ensures kept { OnErr result (self.new ≡ self.old) }
         ensures same { (self.new.reception ≡ self.old.reception) × (self.new.asked ≡ self.old.asked)
             × (self.new.fault ≡ self.old.fault) }
@@ -373,6 +393,7 @@ impl<'a, S: Stream> Member<'a, S> {
 
     /// Does at the gate what is asked at the last line. `Waits` comes while the block is not answered, `Memory` where
     /// memory was refused, and `Clash` only where somebody else spoke for the session; then what is asked stays so.
+    #[tactic(auto, using(crate::proofs::Rounding::hand_itself))]
     pub fn meet(&mut self, turn: &mut AtGate<'_>) -> Met
         requires trail { HasTrail (hall_seen turn.old) }
         requires way { (names : KnownNames) × (first : PassView) × IsHome names turn.old
@@ -383,10 +404,16 @@ impl<'a, S: Stream> Member<'a, S> {
         ensures goes { GoesOnTo turn.old turn.new }
         ensures others { (session : ℕ) → self.new.reception ≢ receptions.Open session
             → AdmitsNoLineOf session turn.old turn.new }
+        ensures hand { KeepsHand turn.old turn.new }
         ensures new { (self.new.reception ≡ self.old.reception) ⊎ IsNewSession turn.old self.new.reception }
+        ensures stays { (session : ℕ) → self.old.reception ≡ receptions.Open session
+            → self.new.reception ≡ self.old.reception }
         ensures done { result ≡ mets.Done → self.new.asked ≡ None }
+        ensures fine { result ≡ mets.Done → (self.old.fault ≡ None) × (self.new.fault ≡ None) }
+        ensures hears { state_of self.new.connection ≡ states.Hears → self.new.connection ≡ self.old.connection }
         ensures waits { result ≡ mets.Waits → (self.new ≡ self.old) × (turn.new ≡ turn.old)
             × IsWaiting turn.old self.old.reception }
+        ensures asks { result ≡ mets.Waits → IsSome self.old.asked }
         ensures failed { (fault : SessionFault) → result ≡ mets.Failed fault → self.new.fault ≡ Some fault }
         ensures kept { (fault : SessionFault) → self.old.fault ≡ Some fault → self.new ≡ self.old }
         ensures fault { (fault : SessionFault) → self.old.fault ≡ None → result ≡ mets.Failed fault
@@ -427,6 +454,72 @@ impl<'a, S: Stream> Member<'a, S> {
                 }
             },
         }
+    }
+
+    /// Hears one line more of what was read, and says whether there was something to hear. After an error it has
+    /// failed.
+    fn hear_more(&mut self) -> Result<bool, SessionFault>
+        requires fine { self.old.fault ≡ None }
+        requires none { self.old.asked ≡ None }
+        requires way { (names : KnownNames) × (first : PassView) × (pass : PassView)
+            × IsMember S.remaining S.contents names first pass self.old }
+        ensures way { (names : KnownNames) (first pass : PassView)
+            → IsMember S.remaining S.contents names first pass self.old
+            → IsMember S.remaining S.contents names first pass self.new }
+        ensures same { self.new.reception ≡ self.old.reception }
+        ensures heard { result ≡ Ok true → (self.new.fault ≡ None)
+            × (waits_left self.new.connection.conv < waits_left self.old.connection.conv)
+            × (state_of self.old.connection ≡ states.Hears) }
+        ensures nothing { result ≡ Ok false → (self.new ≡ self.old)
+            × (state_of self.old.connection ≢ states.Hears) }
+        ensures failed { (fault : SessionFault) → result ≡ Err fault → (self.new.fault ≡ Some fault)
+            × ((fault ≡ faults.Memory) ⊎ ((fault ≡ faults.TooLong)
+            × ((names : KnownNames) (first pass : PassView)
+            → IsMember S.remaining S.contents names first pass self.old
+            → HasFailed S.remaining S.contents names first pass self.new faults.TooLong))) }
+    {
+        if self.connection.state() != State::Hears {
+            return Ok(false);
+        }
+        match self.hear() {
+            Ok(()) => Ok(true),
+            Err(fault) => {
+                self.fault = Some(fault);
+                Err(fault)
+            }
+        }
+    }
+
+    /// Does at the gate what is asked at the last line, as `meet` does; and while all is done that is asked, hears a
+    /// next line of what was read and does what that asks, for so many lines at most.
+    pub fn meet_on(&mut self, turn: &mut AtGate<'_>, most: usize)
+        requires trail { HasTrail (hall_seen turn.old) }
+        requires way { (names : KnownNames) × (first : PassView) × IsHome names turn.old
+            × SpeaksForItsOwn first turn.old × IsMember S.remaining S.contents names first turn.old self.old }
+        ensures way { (names : KnownNames) (first : PassView) → IsHome names turn.old
+            → SpeaksForItsOwn first turn.old → IsMember S.remaining S.contents names first turn.old self.old
+            → IsMember S.remaining S.contents names first turn.new self.new × SpeaksForItsOwn first turn.new }
+        ensures goes { GoesOnTo turn.old turn.new }
+        ensures others { (session : ℕ) → self.new.reception ≢ receptions.Open session
+            → AdmitsNoLineOf session turn.old turn.new }
+        ensures hand { KeepsHand turn.old turn.new }
+        ensures new { (self.new.reception ≡ self.old.reception) ⊎ IsNewSession turn.old self.new.reception }
+        ensures met { (names : KnownNames) (first : PassView) → IsHome names turn.old
+            → SpeaksForItsOwn first turn.old → IsMember S.remaining S.contents names first turn.old self.old
+            → IsMetOn S.remaining S.contents names first turn.old turn.new self.old self.new }
+        ensures heard { HasHeardOn most self.old self.new }
+    {
+        for _heard in 0..most {
+            if self.meet(turn) != Met::Done {
+                return;
+            }
+            match self.hear_more() {
+                Ok(true) => {}
+                Ok(false) => return,
+                Err(_fault) => return,
+            }
+        }
+        let _ = self.meet(turn);
     }
 
     /// Gives the stream at any moment, after a fault too.

@@ -1,4 +1,4 @@
-use Rattle.std.proofs.Common.{rules, List, ◌≡◌, ◌++◌, ◌∷◌, [], sym, subst}
+use Rattle.std.proofs.Common.{rules, ◌≡◌, ◌++◌, ◌∷◌, [], sym, subst}
 use Rattle.bl_crowd.specs.Ways.{AreMembers, IsMember}
 use Rattle.bl_crowd.proofs.Crowding.{crowd_joins}
 use Rattle.bl_crowd.proofs.crowd.Crowd.join.Goals as goal

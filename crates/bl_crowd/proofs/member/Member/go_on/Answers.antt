@@ -1,4 +1,4 @@
-use Rattle.std.proofs.Common.{None, inl, inr, refl, sym, subst}
+use Rattle.std.proofs.Common.{inl, inr, refl, sym, subst}
 use Rattle.bl_wire.specs.declared.fault.SessionFault.TheVariants.{Write}
 use Rattle.bl_connection.proofs.Faults.{passes_on}
 use Rattle.bl_serve.specs.Telling.{left_of}

@@ -24,3 +24,6 @@ returns-in_err-self-clause-fault g c =
     let fault = c.in_err-self.field-0.0 in
     passes_on c.from_residual.result fault _ c.from_residual.ensures.1
     (hear_fault g.S.Stream.reads g.S.Stream.writes c.args.self.now.connection c.hear.new.self fault c.requires.state c.in_err-self.ensures.fault)
+
+pub returns-in_err-self-clause-kind : goal.returns-in_err-self-clause-kind
+returns-in_err-self-clause-kind g c = passes_on c.from_residual.result c.in_err-self.field-0.0 _ c.from_residual.ensures.1 c.in_err-self.ensures.fault

@@ -1,6 +1,6 @@
-use Rattle.std.proofs.Common.{sym, subst}
+use Rattle.std.proofs.Common.{subst}
 use Rattle.bl_connection.specs.Connections.{OpensAs}
-use Rattle.bl_crowd.proofs.Meeting.{new_received, serves, way_received}
+use Rattle.bl_crowd.proofs.Meeting.{awaited, new_received, serves, way_received}
 use Rattle.bl_crowd.proofs.Passing.{speaks_on}
 use Rattle.bl_crowd.proofs.Stages.{opens_state}
 use Rattle.bl_crowd.proofs.member.Member.open.Goals as goal
@@ -28,3 +28,8 @@ returns-clause-way g c names first home speaks w =
 
 pub returns-clause-new : goal.returns-clause-new
 returns-clause-new g c = new_received c.args.turn.now c.receive-self.new.turn c.args.subject c.receive-self.result c.receive-self.ensures.received
+
+pub returns-clause-awaited : goal.returns-clause-awaited
+returns-clause-awaited g c =
+    let way = c.requires.way in
+    (awaited g.S.Stream.remaining g.S.Stream.contents way.0 way.1 c.args.turn.now c.args.self.now c.args.subject way.3).0

@@ -1,0 +1,29 @@
+use Rattle.std.proofs.Common.{ℕ, rules, ap, subst}
+use Rattle.bl_core.specs.Answers.{IsCause}
+use Rattle.bl_gate.specs.Gates.{PassView, state_seen}
+use Rattle.bl_serve.specs.Together.{IsNoLineBut}
+use Rattle.bl_worker.proofs.Adding.{adds_itself}
+use Rattle.bl_crowd.proofs.Rounding.{hand_same}
+use Rattle.bl_crowd.proofs.member.enter.Goals as goal
+
+pub returns-in-Stranger : goal.returns-in-Stranger
+returns-in-Stranger c =
+    let p = c.args.turn.now in
+    let q = c.line.new.self in
+    let same = c.in-Err.ensures.err.0 in
+    record {
+      goes = record { follows = c.line.ensures.follows; trail = c.line.ensures.trail };
+      own = adds_itself (λ _. IsNoLineBut c.args.session) p q (ap (λ (v : PassView). v.own) same);
+      hand = hand_same p q same;
+      ok = tt;
+      err = (
+        same,
+        c.in-Err.ensures.back,
+        (
+          c.in-Err.refused.cause,
+          search rules,
+          subst (λ (n : ℕ). IsCause (state_seen p) n c.args.ordinal c.args.work c.in-Err.refused.cause) c.new.ensures
+              (subst (λ (v : PassView). IsCause (state_seen v) c.new.result c.args.ordinal c.args.work c.in-Err.refused.cause) same c.in-Err.ensures.err.1),
+        ),
+      );
+    }
