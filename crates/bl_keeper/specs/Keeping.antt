@@ -34,10 +34,5 @@ pub record WasKept {D : Type 0} (now : D → File) (hall : Chronicle) : Type 0 w
 
 -- the receipt names a hall that a device has kept
 abbrev pub ShowsKept : {D : Type 0} → (D → File) → Receipt → Type 0
-ShowsKept now (Kept seen) = WasKept now seen.value
+ShowsKept now (Kept seen) = WasKept now seen.value.value
 ShowsKept now Nothing = ⊥
-
--- the receipt names this hall
-abbrev pub IsFor : Chronicle → Receipt → Type 0
-IsFor hall (Kept seen) = seen.value ≡ hall
-IsFor hall Nothing = ⊥

@@ -5,14 +5,14 @@ ghost use Rattle.bl_disk.specs.declared.device.DeviceError.TheVariants.{Memory a
 ghost use Rattle.bl_disk.specs.File.{Keeps};
 ghost use Rattle.bl_disk.specs.Moments.{Passes};
 ghost use Rattle.bl_gate.specs.Gates.{Follows, hall_seen};
-ghost use Rattle.bl_keeper.specs.Keeping.{HasKept, IsFor};
+ghost use Rattle.bl_keeper.specs.Keeping.{HasKept};
 ghost use Rattle.bl_record.specs.declared.fault.JournalFault.TheVariants.{Device as DeviceFault, Memory};
 ghost use Rattle.bl_record.specs.Kept.{HasFailedBy, IsKept};
 
-use crate::receipt::Receipt;
 use bl_disk::device::Device;
 use bl_gate::gate::Gate;
 use bl_gate::pass::Pass;
+use bl_hall::hall::Hall;
 use bl_record::fault::JournalFault;
 use bl_record::journal::Journal;
 use std::alloc::Global;
@@ -20,7 +20,7 @@ use std::snapshot::Snapshot;
 use std::sync::Wait;
 
 /// Has a journal keep up with a gate's hall as it is at this point of the trail, which the pass has then seen, and
-/// gives a receipt for that. The hall is had while its lines are put into memory; it is free while the file is written.
+/// gives a snapshot of that. The hall is had while its lines are put into memory; it is free while the file is written.
 ///
 /// `Memory` comes where a growth is refused: the journal is as it was, and the next call goes on. `Device` comes where
 /// the device failed, in this call or before.
@@ -30,7 +30,7 @@ pub fn catch_up<D: Device, R: Wait>(
     gate: &Gate,
     pass: &mut Pass,
     journal: &mut Journal<D>,
-) -> Result<Receipt, JournalFault>
+) -> Result<Snapshot<Hall>, JournalFault>
     requires gate { pass.old.gate ≡ gate.now }
     requires sound { journal.old.fault ≡ None → D.has_failed journal.old.log.device ≡ false }
     requires kept { journal.old.fault ≡ None
@@ -41,7 +41,7 @@ pub fn catch_up<D: Device, R: Wait>(
         → HasKept (hall_seen pass.new) journal.new.bookmark (D.now journal.new.log.device) }
     ensures fine { OnOk result (journal.new.fault ≡ None) }
     ensures sound { journal.new.fault ≡ None → D.has_failed journal.new.log.device ≡ false }
-    ensures receipt { IfOk result (IsFor (hall_seen pass.new)) }
+    ensures receipt { IfOk result (λ seen. seen.value ≡ hall_seen pass.new) }
     ensures any_moment { Passes D.now D.past journal.old.log.device journal.new.log.device
         (Keeps (D.now journal.old.log.device).kept) }
     ensures fault { IfErr result (HasFailedBy journal.new.fault) }
@@ -60,7 +60,7 @@ pub fn catch_up<D: Device, R: Wait>(
     let lines = journal.lines(alloc, hall);
     *pass = turn.leave();
     match journal.write(lines?) {
-        Ok(()) => Ok(Receipt::Kept(seen)),
+        Ok(()) => Ok(seen),
         Err(error) => Err(JournalFault::Device(error)),
     }
 }

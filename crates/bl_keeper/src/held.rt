@@ -1,6 +1,6 @@
 //! A journal, and the pass that sees what it is to keep.
 use crate::catch::catch_up;
-use crate::receipt::Receipt;
+use crate::served::Served;
 use crate::which::Which;
 use bl_disk::device::Device;
 use bl_gate::gate::Gate;
@@ -38,7 +38,7 @@ impl<G: Which, D: Device> Model for Held<G, D> {
 impl<G: Which, D: Device> Held<G, D> {
     ghost use Rattle.std.specs.Prelude.{◌≡◌, false, IfOk, None};
     ghost use Rattle.bl_gate.specs.Gates.{Follows, hall_seen};
-    ghost use Rattle.bl_keeper.specs.Keeping.{HasKept, ShowsKept};
+    ghost use Rattle.bl_keeper.specs.Keeping.{HasKept};
 
     /// A journal that has kept what this part has seen, or what came before that.
     pub(crate) fn new(pass: Pass, journal: Journal<D>) -> Held<G, D>
@@ -55,18 +55,20 @@ impl<G: Which, D: Device> Held<G, D> {
         }
     }
 
-    /// Has the journal keep up, as `catch_up` does.
+    /// Has the journal keep up, as `catch_up` does. What is kept serves those that had asked before, so many.
     pub(crate) fn keep_up<R: Wait>(
         &mut self,
         rt: &R,
         alloc: Global,
         gate: &Gate,
-    ) -> Result<Receipt, JournalFault>
+        asked: u64,
+    ) -> Result<Served<D>, JournalFault>
         requires { gate.now ≡ G.gate }
         ensures follows { Follows self.old self.new }
-        ensures shows { IfOk result (ShowsKept D.now) }
+        ensures serves { IfOk result (λ served. served ≡ asked) }
     {
-        catch_up(rt, alloc, gate, &mut self.pass, &mut self.journal)
+        let seen = catch_up(rt, alloc, gate, &mut self.pass, &mut self.journal)?;
+        Ok(Served::new(asked, seen))
     }
 
     /// The journal and the part.

@@ -1,4 +1,5 @@
 //! The journal of a gate, under a lock.
+use crate::askers::Askers;
 use crate::held::Held;
 use crate::keep::Keep;
 use crate::receipt::Receipt;
@@ -12,13 +13,14 @@ use std::alloc::Global;
 use std::marker::Model;
 use std::sync::{Mutex, Wait};
 
-/// The journal of a gate. Many threads have it keep up, one at a time: who comes while another's lines are written
-/// finds all kept that had happened by then, and often nothing more to write. It sees the trail with one part of a
-/// pass. Its value is the gate.
+/// The journal of a gate. Many threads have it keep up, one at a time: those that ask while another's lines are
+/// written wait, and then one of them has the lines of all written at once. It sees the trail with one part of a pass.
+/// Its value is the gate.
 #[derive(Drop)]
 pub struct Keeper<'a, G: Which, D: Device> {
     gate: &'a Gate,
     held: Mutex<Held<G, D>>,
+    askers: Askers<D>,
 }
 
 impl<'a, G: Which, D: Device> Model for Keeper<'a, G, D> {
@@ -38,9 +40,9 @@ impl<'a, G: Which, D: Device> Model for Keeper<'a, G, D> {
 }
 
 impl<'a, G: Which, D: Device> Keeper<'a, G, D> {
-    ghost use Rattle.std.specs.Prelude.{◌≡◌, false, None};
+    ghost use Rattle.std.specs.Prelude.{◌≡◌, false, IfOk, None};
     ghost use Rattle.bl_gate.specs.Gates.{hall_seen};
-    ghost use Rattle.bl_keeper.specs.Keeping.{HasKept};
+    ghost use Rattle.bl_keeper.specs.Keeping.{HasKept, ShowsKept};
 
     /// A keeper with this journal, which has kept what this part of the pass has seen, or what came before that.
     pub fn new(gate: &'a Gate, pass: Pass, journal: Journal<D>) -> Keeper<'a, G, D>
@@ -52,6 +54,7 @@ impl<'a, G: Which, D: Device> Keeper<'a, G, D> {
         Keeper {
             gate,
             held: Mutex::new(Held::new(pass, journal)),
+            askers: Askers::new(),
         }
     }
 
@@ -64,8 +67,21 @@ impl<'a, G: Which, D: Device> Keeper<'a, G, D> {
         ensures kept { result.0.fault ≡ None
             → HasKept (hall_seen result.1) result.0.bookmark (D.now result.0.log.device) }
     {
-        let Keeper { gate: _, held } = self;
+        let Keeper {
+            gate: _,
+            held,
+            askers: _,
+        } = self;
         held.into_inner().into_parts()
+    }
+
+    /// Has the journal keep up for all that have asked by now, and tells them what came of it.
+    fn keep_up_for_all<R: Wait>(&self, rt: &R, alloc: Global) -> Result<Receipt, JournalFault>
+        ensures { IfOk result (ShowsKept D.now) }
+    {
+        let asked = self.askers.count();
+        let outcome = self.held.lock(rt).keep_up(rt, alloc, self.gate, asked);
+        self.askers.tell(rt, outcome)
     }
 }
 
@@ -75,6 +91,10 @@ impl<G: Which, D: Device> Keep for Keeper<'_, G, D> {
     ghost shows = { ShowsKept D.now };
 
     fn keep_up<R: Wait>(&self, rt: &R, alloc: Global) -> Result<Receipt, JournalFault> {
-        self.held.lock(rt).keep_up(rt, alloc, self.gate)
+        let number = self.askers.ask();
+        match self.askers.wait_for(rt, number) {
+            Some(receipt) => Ok(receipt),
+            None => self.keep_up_for_all(rt, alloc),
+        }
     }
 }

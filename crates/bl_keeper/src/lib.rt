@@ -6,16 +6,20 @@
 //!     keep      what is asked to keep up, before bytes are written
 //!     catch     a journal that keeps up with a gate
 //!     held      such a journal with its pass
+//!     served    what was kept, and whom that serves
+//!     askers    who has asked to have all kept, and who is served
 //!     keeper    the journal of a gate, under a lock
 //!     sealed    a stream that takes bytes for a receipt alone
 //!     stream    a stream that has all kept before it is written to
 #![tactic(auto)]
 
+mod askers;
 pub mod catch;
 mod held;
 pub mod keep;
 pub mod keeper;
 pub mod receipt;
 mod sealed;
+mod served;
 pub mod stream;
 pub mod which;

@@ -2,6 +2,8 @@
 //! anything is kept.
 //!
 //!     base       a gate, its keeper, and what the tests ask of both
+//!     crowded    a file whose syncs take until all threads have asked for one
+//!     overlap    threads that ask while others are served
 //!     threads    threads that add events and have them kept
 //!     faults     files that are full or fail
 //!     order      nothing is written before it was kept
@@ -10,8 +12,12 @@
 #[cfg(test)]
 mod base;
 #[cfg(test)]
+mod crowded;
+#[cfg(test)]
 mod faults;
 #[cfg(test)]
 mod order;
+#[cfg(test)]
+mod overlap;
 #[cfg(test)]
 mod threads;
