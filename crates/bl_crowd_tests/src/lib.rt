@@ -6,7 +6,8 @@
 //!     departures  members that leave early
 #![tactic(auto)]
 
-pub mod base;
+#[cfg(test)]
+mod base;
 #[cfg(test)]
 mod departures;
 #[cfg(test)]
