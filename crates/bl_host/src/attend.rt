@@ -5,6 +5,7 @@ ghost use Rattle.bl_gate.specs.Gates.{Follows};
 use crate::desk::{Desk, Guest, Taken};
 use crate::ended::{Why, why_refused};
 use crate::post::{Post, Share};
+use bl_connection::stream::Stream;
 use bl_gate::pass::Pass;
 use bl_keeper::keep::Keep;
 use bl_keeper::stream::KeptStream;
@@ -31,6 +32,20 @@ struct Attendant<'a, K: Keep, T: Wait> {
     rounds: Rounds<'a, Line<'a, K, T>>,
     called: bool,
     fine: bool,
+}
+
+/// Has each connection go on whose socket was found ready, and says whether the thread was called.
+fn stir_found<S: Stream>(rounds: &mut Rounds<'_, S>, watch: &Watch) -> bool
+    ensures { rounds.new ≡ rounds.old }
+{
+    let mut called = false;
+    for event in watch.events() {
+        match found_by(event) {
+            Found::Call => called = true,
+            Found::Ready(number) => rounds.stir(number),
+        }
+    }
+    called
 }
 
 impl<'a, K: Keep, T: Wait> Attendant<'a, K, T> {
@@ -134,12 +149,7 @@ impl<'a, K: Keep, T: Wait> Attendant<'a, K, T> {
             self.rounds.stir_all();
             return;
         }
-        for event in self.watch.events() {
-            match found_by(event) {
-                Found::Call => self.called = true,
-                Found::Ready(number) => self.rounds.stir(number),
-            }
-        }
+        self.called |= stir_found(&mut self.rounds, &self.watch);
     }
 }
 

@@ -1,5 +1,5 @@
 use Rattle.std.proofs.Common.{◌≡◌}
-use Rattle.bl_host.proofs.attend.Post.attend.Given as goal
+use Rattle.bl_host.proofs.post.Post.attend.Given as goal
 
 -- it was given the pass
 abbrev pub invariant-loop : goal.invariant-loop

@@ -1,0 +1,6 @@
+use Rattle.std.proofs.Common.{◌≡◌}
+use Rattle.bl_host.proofs.attend.stir_found.Given as goal
+
+-- the same connections are there
+abbrev pub invariant-loop-event : goal.invariant-loop-event
+invariant-loop-event g l = l.rounds ≡ l.initial.rounds
