@@ -30,19 +30,17 @@ fn an_end_wakes_who_waits_for_one(rt: HostRuntime) {
     let mut watch = right(&rt, Watch::new(&rt, rt.alloc(), &listener));
     let mut alarms = Alarms::new(rt.alloc());
     assert!(rt; alarms.add(right(&rt, watch.waker())).is_ok());
-    let seen = alarms.ends();
+    let none = alarms.ends();
     alarms.ring_end();
-    assert!(rt; !alarms.arm(0, seen));
-    assert!(rt; alarms.arm(0, seen + 1));
-    assert!(rt; !alarms.arm(1, seen + 1));
+    let one = alarms.ends();
+    assert!(rt; one != none);
+    assert!(rt; !alarms.arm(0, none));
+    assert!(rt; alarms.arm(0, one));
+    assert!(rt; !alarms.arm(1, one));
     alarms.ring_end();
     assert!(rt; watch.wait(true));
-    let mut calls = 0u32;
-    for event in watch.events() {
-        assert!(rt; found_by(event) == Found::Call);
-        calls += 1;
-    }
-    assert!(rt; calls == 1);
+    assert!(rt; watch.events().count() == 1);
+    assert!(rt; watch.events().all(|event| found_by(event) == Found::Call));
     assert!(rt; watch.wait(false));
     assert!(rt; watch.events().next().is_none());
 }
