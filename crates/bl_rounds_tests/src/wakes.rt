@@ -17,7 +17,7 @@ fn right<T>(rt: &impl Abort, outcome: io::Result<T>) -> T {
 }
 
 /// A listener that does not wait, at some free port of this machine.
-fn listen<R: Net<Listener = TcpListener> + Abort>(rt: &R) -> TcpListener {
+fn listen<R: Net<Listener = TcpListener, Stream = TcpStream> + Abort>(rt: &R) -> TcpListener {
     let listener = right(rt, TcpListener::bind(rt, (Ipv4Addr::LOCALHOST, 0)));
     right(rt, listener.set_nonblocking(true));
     listener
