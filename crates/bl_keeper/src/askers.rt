@@ -126,8 +126,8 @@ impl<D: Device> Board<D> {
         }
     }
 
-    /// Whether who has asked with this number has to wait: somebody has the journal keep up, and what was kept last does
-    /// not serve that one.
+    /// Whether who has asked with this number has to wait: somebody has the journal keep up, and what was kept last
+    /// does not serve that one.
     fn has_to_wait(&self, number: u64) -> bool {
         self.busy && self.receipt_for(number).is_none()
     }

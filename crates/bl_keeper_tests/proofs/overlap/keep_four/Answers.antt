@@ -4,11 +4,11 @@ use Rattle.bl_gate.proofs.Crossing.{pass_send, gate_sync}
 use Rattle.bl_keeper_tests.proofs.crowded.Meeting.TheSendSync as meetings
 use Rattle.bl_keeper_tests.proofs.overlap.keep_four.Goals as goal
 
-pub join-requires-send-F : goal.join-requires-send-F
-join-requires-send-F g c κs within =
+pub join-front-requires-send-F : goal.join-front-requires-send-F
+join-front-requires-send-F g c κs within =
     let keep = c.type_bounds.sync-K in
     let runtime = c.type_bounds.sync-R in
     search (pass_send, gate_sync, meetings.the_sync, crosses, sendable) depth 60 fits 20000
 
-pub join-requires-send-A : goal.join-requires-send-A
-join-requires-send-A g c κs within = search (pass_send, crosses, sendable) depth 60 fits 20000
+pub join-front-requires-send-A : goal.join-front-requires-send-A
+join-front-requires-send-A g c κs within = search (pass_send, crosses, sendable) depth 60 fits 20000
