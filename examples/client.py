@@ -57,7 +57,7 @@ class Session:
         return self._replies("ok")
 
     def close(self):
-        """Sends what is left, ends the session, and gives the last replies. A session that stays open keeps the server from its end."""
+        """Sends what is left, ends the session, and gives the last replies. A session that stays open keeps the server from ending."""
         with self.socket, self.reader:
             return self._replies("bye")
 
