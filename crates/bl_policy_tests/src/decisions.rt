@@ -1,6 +1,7 @@
 //! What a policy decides, and what it has.
 use crate::fixtures::{
-    Base, CRYPTO, NATO, allow, decide, decide_each, denied, fill_base, have_cells, level,
+    Base, CRYPTO, NATO, add_plain, add_present, allow, decide, decide_each, denied, empty_policy,
+    fill_base, have_cells, level,
 };
 use bitflags::Flags;
 use bl_policy::access::{Access, Mode, ModeSet};
@@ -8,11 +9,10 @@ use bl_policy::denial::Clause;
 use bl_policy::id::{DocId, SubjectId};
 use bl_policy::policy::{AddFault, MOST_DOCUMENTS, MOST_SUBJECTS, Policy};
 use std::process::Abort;
-use std::test::Fail;
 
 #[test]
-fn decisions(rt: HostRuntime) -> Result<(), Fail> {
-    let mut policy = Policy::new(rt.alloc())?;
+fn decisions(rt: HostRuntime) {
+    let mut policy = empty_policy(&rt);
     let Base {
         ann,
         bob,
@@ -21,7 +21,7 @@ fn decisions(rt: HostRuntime) -> Result<(), Fail> {
         memo,
         note,
         log,
-    } = fill_base(&rt, &mut policy)?;
+    } = fill_base(&rt, &mut policy);
     decide_each(
         &rt,
         &policy,
@@ -40,18 +40,18 @@ fn decisions(rt: HostRuntime) -> Result<(), Fail> {
             (cat, Mode::Read, memo, denied(Clause::Simple, cat, memo)),
         ],
     );
-    Ok(())
+    drop(policy);
 }
 
 #[test]
-fn first_failure_is_named(rt: HostRuntime) -> Result<(), Fail> {
-    let mut policy = Policy::new(rt.alloc())?;
+fn first_failure_is_named(rt: HostRuntime) {
+    let mut policy = empty_policy(&rt);
     let Base {
         ann,
         memo,
         note,
         ..
-    } = fill_base(&rt, &mut policy)?;
+    } = fill_base(&rt, &mut policy);
     let memo_then_note = [
         Access {
             mode: Mode::Write,
@@ -64,7 +64,7 @@ fn first_failure_is_named(rt: HostRuntime) -> Result<(), Fail> {
     ];
     let decided = decide(&rt, &policy, ann, &memo_then_note);
     assert_eq!(rt; decided, denied(Clause::Star, ann, note));
-    Ok(())
+    drop(policy);
 }
 
 fn hold(rt: &impl Abort, facts: &[(&str, bool)]) {
@@ -88,9 +88,9 @@ fn has_positions(rt: &impl Abort, policy: &Policy, base: &Base) {
     );
 }
 
-fn has_levels(rt: &impl Abort, policy: &Policy, base: &Base) -> Result<(), Fail> {
-    let nato = level(2, NATO)?;
-    let lowest = level(0, 0)?;
+fn has_levels(rt: &impl Abort, policy: &Policy, base: &Base) {
+    let nato = level(rt, 2, NATO);
+    let lowest = level(rt, 0, 0);
     assert!(rt; (base.bob.position() as usize) < policy.subjects());
     assert!(rt; (base.root.position() as usize) < policy.subjects());
     assert!(rt; (base.memo.position() as usize) < policy.documents());
@@ -106,15 +106,14 @@ fn has_levels(rt: &impl Abort, policy: &Policy, base: &Base) -> Result<(), Fail>
             ("the memo's level", policy.level(base.memo) == nato),
         ],
     );
-    Ok(())
 }
 
 #[test]
-fn what_was_added_is_there(rt: HostRuntime) -> Result<(), Fail> {
-    let mut policy = Policy::new(rt.alloc())?;
-    let base = fill_base(&rt, &mut policy)?;
+fn what_was_added_is_there(rt: HostRuntime) {
+    let mut policy = empty_policy(&rt);
+    let base = fill_base(&rt, &mut policy);
     has_positions(&rt, &policy, &base);
-    has_levels(&rt, &policy, &base)?;
+    has_levels(&rt, &policy, &base);
     have_cells(
         &rt,
         &policy,
@@ -124,59 +123,57 @@ fn what_was_added_is_there(rt: HostRuntime) -> Result<(), Fail> {
             (base.bob, base.memo, ModeSet::all()),
         ],
     );
-    Ok(())
+    drop(policy);
 }
 
-fn allow_modes_and_more(rt: &impl Abort, policy: &mut Policy) -> Result<(), Fail> {
-    let lowest = level(0, 0)?;
-    let subject = policy.add_subject(lowest, lowest, false, false)?;
-    let doc = policy.add_document(lowest)?;
+fn allow_modes_and_more(rt: &impl Abort, policy: &mut Policy) {
+    let lowest = level(rt, 0, 0);
+    let subject = add_plain(rt, policy, lowest, lowest);
+    let doc = add_present(rt, policy, lowest);
     for modes in [Mode::Append.into(), ModeSet::from_bits_retain(0xF8)] {
         allow(rt, policy, subject, doc, modes);
     }
     have_cells(rt, policy, &[(subject, doc, ModeSet::APPEND)]);
-    Ok(())
 }
 
 #[test]
-fn a_cell_holds_modes_alone(rt: HostRuntime) -> Result<(), Fail> {
-    let mut policy = Policy::new(rt.alloc())?;
-    allow_modes_and_more(&rt, &mut policy)
+fn a_cell_holds_modes_alone(rt: HostRuntime) {
+    let mut policy = empty_policy(&rt);
+    allow_modes_and_more(&rt, &mut policy);
+    drop(policy);
 }
 
-fn add_above_greatest(rt: &impl Abort, policy: &mut Policy) -> Result<(), Fail> {
-    let greatest = level(1, NATO)?;
-    let current = level(1, CRYPTO)?;
+fn add_above_greatest(rt: &impl Abort, policy: &mut Policy) {
+    let greatest = level(rt, 1, NATO);
+    let current = level(rt, 1, CRYPTO);
     let added = policy.add_subject(greatest, current, false, false);
     assert_eq!(rt; added, Err(AddFault::CurrentAboveGreatest));
     assert_eq!(rt; policy.subjects(), 0);
-    Ok(())
 }
 
 #[test]
-fn current_above_greatest(rt: HostRuntime) -> Result<(), Fail> {
-    let mut policy = Policy::new(rt.alloc())?;
-    add_above_greatest(&rt, &mut policy)
+fn current_above_greatest(rt: HostRuntime) {
+    let mut policy = empty_policy(&rt);
+    add_above_greatest(&rt, &mut policy);
+    drop(policy);
 }
 
-fn add_subjects_to_the_limit(rt: &impl Abort, policy: &mut Policy) -> Result<(), Fail> {
-    let lowest = level(0, 0)?;
-    let above = level(1, 0)?;
+fn add_subjects_to_the_limit(rt: &impl Abort, policy: &mut Policy) {
+    let lowest = level(rt, 0, 0);
+    let above = level(rt, 1, 0);
     for _ in 0..MOST_SUBJECTS {
-        policy.add_subject(lowest, lowest, false, false)?;
+        add_plain(rt, policy, lowest, lowest);
     }
     let added = policy.add_subject(lowest, above, false, false);
     assert_eq!(rt; added, Err(AddFault::TooMany));
-    Ok(())
 }
 
-fn add_documents_to_the_limit(rt: &impl Abort, policy: &mut Policy) -> Result<(), Fail> {
-    let lowest = level(0, 0)?;
+fn add_documents_to_the_limit(rt: &impl Abort, policy: &mut Policy) {
+    let lowest = level(rt, 0, 0);
     for _ in 0..MOST_DOCUMENTS {
-        policy.add_document(lowest)?;
+        add_present(rt, policy, lowest);
     }
     assert_eq!(rt; policy.add_document(lowest), Err(AddFault::TooMany));
-    Ok(())
 }
 
 fn use_the_last_cell(rt: &impl Abort, policy: &mut Policy) {
@@ -188,12 +185,12 @@ fn use_the_last_cell(rt: &impl Abort, policy: &mut Policy) {
 }
 
 #[test]
-fn limits(rt: HostRuntime) -> Result<(), Fail> {
-    let mut policy = Policy::new(rt.alloc())?;
-    add_subjects_to_the_limit(&rt, &mut policy)?;
-    add_documents_to_the_limit(&rt, &mut policy)?;
+fn limits(rt: HostRuntime) {
+    let mut policy = empty_policy(&rt);
+    add_subjects_to_the_limit(&rt, &mut policy);
+    add_documents_to_the_limit(&rt, &mut policy);
     use_the_last_cell(&rt, &mut policy);
-    Ok(())
+    drop(policy);
 }
 
 #[test]

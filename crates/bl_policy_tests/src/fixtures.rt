@@ -9,16 +9,53 @@ use bl_policy::id::{DocId, SubjectId};
 use bl_policy::policy::Policy;
 use bl_policy::policy::carry::lowest_level;
 use bl_policy::rule::Rule;
+use std::alloc::AllocGlobal;
 use std::process::Abort;
-use std::test::Fail;
 
 pub const NATO: u32 = 1;
 
 pub const CRYPTO: u32 = 2;
 
+/// What came where no fault may come.
+pub fn right<T, E>(rt: &impl Abort, outcome: Result<T, E>) -> T {
+    match outcome {
+        Ok(value) => value,
+        Err(_fault) => panic!(rt; "a fault"),
+    }
+}
+
 /// Ranks u, c, s and t are 0 to 3.
-pub fn level(rank: u8, categories: u32) -> Result<Level, Fail> {
-    Ok(Level::new(rank, categories).ok_or("no such rank")?)
+pub fn level(rt: &impl Abort, rank: u8, categories: u32) -> Level {
+    match Level::new(rank, categories) {
+        Some(level) => level,
+        None => panic!(rt; "no such rank"),
+    }
+}
+
+/// A policy with no subject and no document. It is let go by `drop`, which is proved once for all tests, and not at the
+/// end of a scope, where the proof takes it apart each time.
+pub fn empty_policy<R: AllocGlobal + Abort>(rt: &R) -> Policy {
+    right(rt, Policy::new(rt.alloc()))
+}
+
+/// Adds a subject that is neither trusted nor an administrator.
+pub fn add_plain(
+    rt: &impl Abort,
+    policy: &mut Policy,
+    greatest: Level,
+    current: Level,
+) -> SubjectId {
+    right(rt, policy.add_subject(greatest, current, false, false))
+}
+
+/// Adds a document that is there.
+pub fn add_present(rt: &impl Abort, policy: &mut Policy, level: Level) -> DocId {
+    right(rt, policy.add_document(level))
+}
+
+/// Adds a document that is not there yet.
+pub fn add_reserved(rt: &impl Abort, policy: &mut Policy, level: Level) -> DocId {
+    right(rt, policy.add_reserved(level))
 }
 
 /// The subjects and documents of the base policy.
@@ -34,25 +71,25 @@ pub struct Base {
 }
 
 /// Adds the subjects and documents of the base policy.
-fn add_base(policy: &mut Policy) -> Result<Base, Fail> {
-    let lowest = level(0, 0)?;
-    let nato = level(2, NATO)?;
-    let crypto = level(2, CRYPTO)?;
-    let top = level(3, NATO | CRYPTO)?;
-    Ok(Base {
-        ann: policy.add_subject(nato, nato, false, false)?,
-        bob: policy.add_subject(nato, lowest, false, false)?,
-        cat: policy.add_subject(crypto, crypto, false, false)?,
-        root: policy.add_subject(top, lowest, true, true)?,
-        memo: policy.add_document(nato)?,
-        note: policy.add_document(lowest)?,
-        log: policy.add_document(top)?,
-    })
+fn add_base(rt: &impl Abort, policy: &mut Policy) -> Base {
+    let lowest = level(rt, 0, 0);
+    let nato = level(rt, 2, NATO);
+    let crypto = level(rt, 2, CRYPTO);
+    let top = level(rt, 3, NATO | CRYPTO);
+    Base {
+        ann: add_plain(rt, policy, nato, nato),
+        bob: add_plain(rt, policy, nato, lowest),
+        cat: add_plain(rt, policy, crypto, crypto),
+        root: right(rt, policy.add_subject(top, lowest, true, true)),
+        memo: add_present(rt, policy, nato),
+        note: add_present(rt, policy, lowest),
+        log: add_present(rt, policy, top),
+    }
 }
 
 /// Fills a policy that is empty with the base policy.
-pub fn fill_base(rt: &impl Abort, policy: &mut Policy) -> Result<Base, Fail> {
-    let base = add_base(policy)?;
+pub fn fill_base(rt: &impl Abort, policy: &mut Policy) -> Base {
+    let base = add_base(rt, policy);
     let cells = [
         (base.ann, base.memo, ModeSet::READ | ModeSet::WRITE),
         (base.ann, base.note, ModeSet::READ),
@@ -66,7 +103,7 @@ pub fn fill_base(rt: &impl Abort, policy: &mut Policy) -> Result<Base, Fail> {
     for (subject, doc, modes) in cells {
         allow(rt, policy, subject, doc, modes);
     }
-    Ok(base)
+    base
 }
 
 pub fn allow(rt: &impl Abort, policy: &mut Policy, subject: SubjectId, doc: DocId, modes: ModeSet) {

@@ -1,5 +1,10 @@
-//! The tests of `bl_policy`.
+//! The tests of `bl_level` and `bl_policy`.
 //!
+//!     schemes       names, and the scheme of the base setup
+//!     levels        levels, and which dominates which
+//!     level_text    the text of a level, and the faults of a scheme
+//!     lexer         tokens, their places and lexical faults
+//!     table         a table of names
 //!     fixtures      the base policy, built by hand, and calls that ask first for what `bl_policy` requires
 //!     decisions     what a policy decides, and what it has
 //!     rules         rules, and what is decided after each of them
@@ -11,6 +16,16 @@ mod decisions;
 #[cfg(test)]
 mod fixtures;
 #[cfg(test)]
+mod level_text;
+#[cfg(test)]
+mod levels;
+#[cfg(test)]
+mod lexer;
+#[cfg(test)]
 mod presence;
 #[cfg(test)]
 mod rules;
+#[cfg(test)]
+mod schemes;
+#[cfg(test)]
+mod table;

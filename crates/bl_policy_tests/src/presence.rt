@@ -1,7 +1,8 @@
 //! Documents that come and go, over the base policy.
 use crate::fixtures::{
-    Base, NATO, apply_each, classify, create, decide, decide_each, delete, denied, fill_base,
-    follow, give, has_level, have_cells, have_presence, level,
+    Base, NATO, add_present, add_reserved, apply_each, classify, create, decide, decide_each,
+    delete, denied, empty_policy, fill_base, follow, give, has_level, have_cells, have_presence,
+    level, right,
 };
 use bitflags::Flags;
 use bl_policy::access::{Access, Mode, ModeSet};
@@ -9,7 +10,6 @@ use bl_policy::denial::{Clause, Denial};
 use bl_policy::id::{DocId, SubjectId};
 use bl_policy::policy::{AddFault, MOST_DOCUMENTS, Policy};
 use std::process::Abort;
-use std::test::Fail;
 
 /// The refusal of an access whose mode the matrix does not have.
 fn without_mode(subject: SubjectId, doc: DocId) -> Option<Denial> {
@@ -17,13 +17,13 @@ fn without_mode(subject: SubjectId, doc: DocId) -> Option<Denial> {
 }
 
 #[test]
-fn create_use_delete(rt: HostRuntime) -> Result<(), Fail> {
-    let unclassified = level(0, 0)?;
-    let top_secret = level(3, 0)?;
-    let mut policy = Policy::new(rt.alloc())?;
-    let Base { root, .. } = fill_base(&rt, &mut policy)?;
-    let draft = policy.add_reserved(unclassified)?;
-    let top = policy.add_reserved(top_secret)?;
+fn create_use_delete(rt: HostRuntime) {
+    let unclassified = level(&rt, 0, 0);
+    let top_secret = level(&rt, 3, 0);
+    let mut policy = empty_policy(&rt);
+    let Base { root, .. } = fill_base(&rt, &mut policy);
+    let draft = add_reserved(&rt, &mut policy, unclassified);
+    let top = add_reserved(&rt, &mut policy, top_secret);
     follow(
         &rt,
         &mut policy,
@@ -51,15 +51,15 @@ fn create_use_delete(rt: HostRuntime) -> Result<(), Fail> {
             (root, delete(top), denied(Clause::Absent, root, top)),
         ],
     );
-    Ok(())
+    drop(policy);
 }
 
 #[test]
-fn absent_named_first(rt: HostRuntime) -> Result<(), Fail> {
-    let top_secret = level(3, 0)?;
-    let mut policy = Policy::new(rt.alloc())?;
-    let Base { ann, note, .. } = fill_base(&rt, &mut policy)?;
-    let top = policy.add_reserved(top_secret)?;
+fn absent_named_first(rt: HostRuntime) {
+    let top_secret = level(&rt, 3, 0);
+    let mut policy = empty_policy(&rt);
+    let Base { ann, note, .. } = fill_base(&rt, &mut policy);
+    let top = add_reserved(&rt, &mut policy, top_secret);
     decide_each(
         &rt,
         &policy,
@@ -77,15 +77,15 @@ fn absent_named_first(rt: HostRuntime) -> Result<(), Fail> {
     ];
     let decided = decide(&rt, &policy, ann, &note_then_top);
     assert_eq!(rt; decided, denied(Clause::Star, ann, note));
-    Ok(())
+    drop(policy);
 }
 
 #[test]
-fn admin_asked_first(rt: HostRuntime) -> Result<(), Fail> {
-    let top_secret = level(3, 0)?;
-    let mut policy = Policy::new(rt.alloc())?;
-    let Base { ann, memo, .. } = fill_base(&rt, &mut policy)?;
-    let top = policy.add_reserved(top_secret)?;
+fn admin_asked_first(rt: HostRuntime) {
+    let top_secret = level(&rt, 3, 0);
+    let mut policy = empty_policy(&rt);
+    let Base { ann, memo, .. } = fill_base(&rt, &mut policy);
+    let top = add_reserved(&rt, &mut policy, top_secret);
     apply_each(
         &rt,
         &mut policy,
@@ -97,15 +97,15 @@ fn admin_asked_first(rt: HostRuntime) -> Result<(), Fail> {
         ],
     );
     have_presence(&rt, &policy, &[(memo, true), (top, false)]);
-    Ok(())
+    drop(policy);
 }
 
 #[test]
-fn cells_live_on_through_create(rt: HostRuntime) -> Result<(), Fail> {
-    let unclassified = level(0, 0)?;
-    let mut policy = Policy::new(rt.alloc())?;
-    let Base { bob, root, .. } = fill_base(&rt, &mut policy)?;
-    let draft = policy.add_reserved(unclassified)?;
+fn cells_live_on_through_create(rt: HostRuntime) {
+    let unclassified = level(&rt, 0, 0);
+    let mut policy = empty_policy(&rt);
+    let Base { bob, root, .. } = fill_base(&rt, &mut policy);
+    let draft = add_reserved(&rt, &mut policy, unclassified);
     follow(
         &rt,
         &mut policy,
@@ -124,12 +124,12 @@ fn cells_live_on_through_create(rt: HostRuntime) -> Result<(), Fail> {
             (root, give(bob, draft, Mode::Read), None),
         ],
     );
-    Ok(())
+    drop(policy);
 }
 
 #[test]
-fn delete_empties_the_cells_of_its_document(rt: HostRuntime) -> Result<(), Fail> {
-    let mut policy = Policy::new(rt.alloc())?;
+fn delete_empties_the_cells_of_its_document(rt: HostRuntime) {
+    let mut policy = empty_policy(&rt);
     let Base {
         ann,
         bob,
@@ -138,7 +138,7 @@ fn delete_empties_the_cells_of_its_document(rt: HostRuntime) -> Result<(), Fail>
         memo,
         note,
         log,
-    } = fill_base(&rt, &mut policy)?;
+    } = fill_base(&rt, &mut policy);
     apply_each(&rt, &mut policy, &[(root, delete(memo), None)]);
     have_presence(&rt, &policy, &[(memo, false), (note, true), (log, true)]);
     have_cells(
@@ -154,16 +154,16 @@ fn delete_empties_the_cells_of_its_document(rt: HostRuntime) -> Result<(), Fail>
             (root, note, ModeSet::READ | ModeSet::WRITE),
         ],
     );
-    Ok(())
+    drop(policy);
 }
 
 #[test]
-fn level_stays(rt: HostRuntime) -> Result<(), Fail> {
-    let unclassified = level(0, 0)?;
-    let nato = level(2, NATO)?;
-    let mut policy = Policy::new(rt.alloc())?;
-    let Base { ann, root, .. } = fill_base(&rt, &mut policy)?;
-    let draft = policy.add_reserved(unclassified)?;
+fn level_stays(rt: HostRuntime) {
+    let unclassified = level(&rt, 0, 0);
+    let nato = level(&rt, 2, NATO);
+    let mut policy = empty_policy(&rt);
+    let Base { ann, root, .. } = fill_base(&rt, &mut policy);
+    let draft = add_reserved(&rt, &mut policy, unclassified);
     follow(
         &rt,
         &mut policy,
@@ -190,22 +190,21 @@ fn level_stays(rt: HostRuntime) -> Result<(), Fail> {
         ],
     );
     has_level(&rt, &policy, draft, unclassified);
-    Ok(())
+    drop(policy);
 }
 
 /// Every second document is reserved.
-fn add_to_the_limit(rt: &impl Abort, policy: &mut Policy) -> Result<(), Fail> {
-    let unclassified = level(0, 0)?;
+fn add_to_the_limit(rt: &impl Abort, policy: &mut Policy) {
+    let unclassified = level(rt, 0, 0);
     for i in 0..MOST_DOCUMENTS {
         if i % 2 == 0 {
-            policy.add_document(unclassified)?;
+            add_present(rt, policy, unclassified);
         } else {
-            policy.add_reserved(unclassified)?;
+            add_reserved(rt, policy, unclassified);
         }
     }
     assert_eq!(rt; policy.add_reserved(unclassified), Err(AddFault::TooMany));
     assert_eq!(rt; policy.add_document(unclassified), Err(AddFault::TooMany));
-    Ok(())
 }
 
 fn have_every_second(rt: &impl Abort, policy: &Policy) {
@@ -215,13 +214,14 @@ fn have_every_second(rt: &impl Abort, policy: &Policy) {
 }
 
 #[test]
-fn reserved_documents_count(rt: HostRuntime) -> Result<(), Fail> {
-    let unclassified = level(0, 0)?;
-    let mut policy = Policy::new(rt.alloc())?;
-    let root = policy.add_subject(unclassified, unclassified, true, true)?;
+fn reserved_documents_count(rt: HostRuntime) {
+    let unclassified = level(&rt, 0, 0);
+    let mut policy = empty_policy(&rt);
+    let added = policy.add_subject(unclassified, unclassified, true, true);
+    let root = right(&rt, added);
     let declared = DocId::new(1022);
     let reserved = DocId::new(1023);
-    add_to_the_limit(&rt, &mut policy)?;
+    add_to_the_limit(&rt, &mut policy);
     have_presence(&rt, &policy, &[(declared, true), (reserved, false)]);
     apply_each(
         &rt,
@@ -235,22 +235,22 @@ fn reserved_documents_count(rt: HostRuntime) -> Result<(), Fail> {
     have_presence(&rt, &policy, &[(declared, false), (reserved, true)]);
     have_every_second(&rt, &policy);
     decide_each(&rt, &policy, &[(root, Mode::Write, reserved, None)]);
-    Ok(())
+    drop(policy);
 }
 
-fn delete_in_a_copy(rt: &impl Abort, policy: &Policy, base: &Base) -> Result<(), Fail> {
-    let mut copy = policy.copy()?;
+fn delete_in_a_copy(rt: &impl Abort, policy: &Policy, base: &Base) {
+    let mut copy = right(rt, policy.copy());
     apply_each(rt, &mut copy, &[(base.root, delete(base.memo), None)]);
     have_presence(rt, &copy, &[(base.memo, false), (base.note, true)]);
-    Ok(())
+    drop(copy);
 }
 
 #[test]
-fn a_copy_has_documents_of_its_own(rt: HostRuntime) -> Result<(), Fail> {
-    let mut policy = Policy::new(rt.alloc())?;
-    let base = fill_base(&rt, &mut policy)?;
-    delete_in_a_copy(&rt, &policy, &base)?;
+fn a_copy_has_documents_of_its_own(rt: HostRuntime) {
+    let mut policy = empty_policy(&rt);
+    let base = fill_base(&rt, &mut policy);
+    delete_in_a_copy(&rt, &policy, &base);
     have_presence(&rt, &policy, &[(base.memo, true)]);
     decide_each(&rt, &policy, &[(base.ann, Mode::Read, base.memo, None)]);
-    Ok(())
+    drop(policy);
 }

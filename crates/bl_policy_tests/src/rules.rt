@@ -1,21 +1,20 @@
 //! Rules over the base policy, and what it decides after each of them.
 use crate::fixtures::{
-    Base, NATO, apply_each, classify, decide_each, denied, fill_base, follow, give, has_current,
-    have_cells, level, rescind,
+    Base, NATO, add_present, apply_each, classify, decide_each, denied, empty_policy, fill_base,
+    follow, give, has_current, have_cells, level, rescind, right,
 };
 use bl_policy::access::{Mode, ModeSet};
 use bl_policy::denial::{Clause, Denial};
 use bl_policy::policy::Policy;
 use bl_policy::rule::Rule;
 use std::process::Abort;
-use std::test::Fail;
 
 #[test]
-fn rules_and_their_checks(rt: HostRuntime) -> Result<(), Fail> {
-    let lower = level(2, 0)?;
-    let above = level(3, 0)?;
-    let mut policy = Policy::new(rt.alloc())?;
-    let Base { ann, cat, memo, .. } = fill_base(&rt, &mut policy)?;
+fn rules_and_their_checks(rt: HostRuntime) {
+    let lower = level(&rt, 2, 0);
+    let above = level(&rt, 3, 0);
+    let mut policy = empty_policy(&rt);
+    let Base { ann, cat, memo, .. } = fill_base(&rt, &mut policy);
     let no_document = Denial {
         clause: Clause::Greatest,
         subject: ann,
@@ -40,20 +39,20 @@ fn rules_and_their_checks(rt: HostRuntime) -> Result<(), Fail> {
         &policy,
         &[(ann, Mode::Write, memo, denied(Clause::Star, ann, memo))],
     );
-    Ok(())
+    drop(policy);
 }
 
 #[test]
-fn decision_follows_rules(rt: HostRuntime) -> Result<(), Fail> {
-    let confidential = level(1, 0)?;
-    let top_secret = level(3, 0)?;
-    let mut policy = Policy::new(rt.alloc())?;
+fn decision_follows_rules(rt: HostRuntime) {
+    let confidential = level(&rt, 1, 0);
+    let top_secret = level(&rt, 3, 0);
+    let mut policy = empty_policy(&rt);
     let Base {
         bob,
         root,
         note,
         ..
-    } = fill_base(&rt, &mut policy)?;
+    } = fill_base(&rt, &mut policy);
     let raise = Rule::Current {
         level: confidential,
     };
@@ -84,22 +83,22 @@ fn decision_follows_rules(rt: HostRuntime) -> Result<(), Fail> {
             ),
         ],
     );
-    Ok(())
+    drop(policy);
 }
 
 #[test]
-fn classify_needs_trust(rt: HostRuntime) -> Result<(), Fail> {
-    let lowest = level(0, 0)?;
-    let confidential = level(1, 0)?;
-    let mut policy = Policy::new(rt.alloc())?;
+fn classify_needs_trust(rt: HostRuntime) {
+    let lowest = level(&rt, 0, 0);
+    let confidential = level(&rt, 1, 0);
+    let mut policy = empty_policy(&rt);
     let Base {
         bob,
         cat,
         root,
         note,
         ..
-    } = fill_base(&rt, &mut policy)?;
-    let dan = policy.add_subject(lowest, lowest, false, true)?;
+    } = fill_base(&rt, &mut policy);
+    let dan = right(&rt, policy.add_subject(lowest, lowest, false, true));
     apply_each(
         &rt,
         &mut policy,
@@ -123,19 +122,19 @@ fn classify_needs_trust(rt: HostRuntime) -> Result<(), Fail> {
         &policy,
         &[(bob, Mode::Read, note, denied(Clause::Star, bob, note))],
     );
-    Ok(())
+    drop(policy);
 }
 
 #[test]
-fn write_does_not_stand_for_append(rt: HostRuntime) -> Result<(), Fail> {
-    let nato = level(2, NATO)?;
-    let mut policy = Policy::new(rt.alloc())?;
+fn write_does_not_stand_for_append(rt: HostRuntime) {
+    let nato = level(&rt, 2, NATO);
+    let mut policy = empty_policy(&rt);
     let Base {
         bob,
         root,
         memo,
         ..
-    } = fill_base(&rt, &mut policy)?;
+    } = fill_base(&rt, &mut policy);
     follow(
         &rt,
         &mut policy,
@@ -152,18 +151,18 @@ fn write_does_not_stand_for_append(rt: HostRuntime) -> Result<(), Fail> {
         ],
     );
     have_cells(&rt, &policy, &[(bob, memo, ModeSet::READ | ModeSet::WRITE)]);
-    Ok(())
+    drop(policy);
 }
 
 #[test]
-fn rescind_between_reads(rt: HostRuntime) -> Result<(), Fail> {
-    let mut policy = Policy::new(rt.alloc())?;
+fn rescind_between_reads(rt: HostRuntime) {
+    let mut policy = empty_policy(&rt);
     let Base {
         ann,
         root,
         memo,
         ..
-    } = fill_base(&rt, &mut policy)?;
+    } = fill_base(&rt, &mut policy);
     decide_each(&rt, &policy, &[(ann, Mode::Read, memo, None)]);
     follow(
         &rt,
@@ -177,12 +176,12 @@ fn rescind_between_reads(rt: HostRuntime) -> Result<(), Fail> {
             denied(Clause::Discretionary, ann, memo),
         )],
     );
-    Ok(())
+    drop(policy);
 }
 
 /// Rescinds in a copy, twice, that ann may read the memo, and adds a document to it.
-fn change(rt: &impl Abort, copy: &mut Policy, base: &Base) -> Result<(), Fail> {
-    let lowest = level(0, 0)?;
+fn change(rt: &impl Abort, copy: &mut Policy, base: &Base) {
+    let lowest = level(rt, 0, 0);
     assert_eq!(rt; (copy.subjects(), copy.documents()), (4, 3));
     apply_each(
         rt,
@@ -200,26 +199,26 @@ fn change(rt: &impl Abort, copy: &mut Policy, base: &Base) -> Result<(), Fail> {
             (base.ann, base.note, ModeSet::READ | ModeSet::WRITE),
         ],
     );
-    let last = copy.add_document(lowest)?;
+    let last = add_present(rt, copy, lowest);
     assert_eq!(rt; last.position(), 3);
-    Ok(())
 }
 
-fn change_a_copy(rt: &impl Abort, policy: &Policy, base: &Base) -> Result<(), Fail> {
-    let mut copy = policy.copy()?;
-    change(rt, &mut copy, base)
+fn change_a_copy(rt: &impl Abort, policy: &Policy, base: &Base) {
+    let mut copy = right(rt, policy.copy());
+    change(rt, &mut copy, base);
+    drop(copy);
 }
 
 #[test]
-fn a_copy_is_apart(rt: HostRuntime) -> Result<(), Fail> {
-    let mut policy = Policy::new(rt.alloc())?;
-    let base = fill_base(&rt, &mut policy)?;
-    change_a_copy(&rt, &policy, &base)?;
+fn a_copy_is_apart(rt: HostRuntime) {
+    let mut policy = empty_policy(&rt);
+    let base = fill_base(&rt, &mut policy);
+    change_a_copy(&rt, &policy, &base);
     assert_eq!(rt; policy.documents(), 3);
     have_cells(
         &rt,
         &policy,
         &[(base.ann, base.memo, ModeSet::READ | ModeSet::WRITE)],
     );
-    Ok(())
+    drop(policy);
 }

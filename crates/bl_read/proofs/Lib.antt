@@ -1,7 +1,6 @@
 pub mod Meanings
 pub mod OneAnswer
 pub mod RawLists
-pub mod Built
 pub mod RuleNames
 pub mod RuleMeanings
 pub mod SomeLine

@@ -18,31 +18,9 @@ use Rattle.bl_syntax.specs.declared.raw.RawStatement.TheVariants.{Show, Say, Add
 use Rattle.bl_work.specs.declared.script.Stmt.{Stmt}
 use Rattle.bl_work.specs.declared.script.Stmt.TheVariants as built
 use Rattle.bl_work.proofs.Numbering.{spawned_long}
+use Rattle.bl_walk.proofs.Built.{put, put_built}
 use Rattle.bl_work.proofs.WhenFaults.{all_left, all_right}
 use Rattle.bl_check.proofs.Joined.{raw_body-append, lists_in-joined}
-
--- a first statement with these behind it
-abbrev put : Statements → Statements → Statements
-put statement.Nothing more = more
-put (statement.Show doc rest) more = statement.Show doc more
-put (statement.Say text rest) more = statement.Say text more
-put (statement.Add doc text rest) more = statement.Add doc text more
-put (statement.Set doc text rest) more = statement.Set doc text more
-put (statement.Copy from to rest) more = statement.Copy from to more
-put (statement.Pour from to rest) more = statement.Pour from to more
-put (statement.If doc asks text then_body else_body rest) more = statement.If doc asks text then_body else_body more
-put (statement.Spawn behaviour rest) more = statement.Spawn behaviour more
-
--- a list of built statements is its first one with the others behind it
-put_built : (s : Stmt) (ys : List Stmt) → statements_of (s ∷ ys) ≡ put (statements_of (s ∷ [])) (statements_of ys)
-put_built (built.Show doc) ys = refl
-put_built (built.Say text) ys = refl
-put_built (built.Add doc text) ys = refl
-put_built (built.Set doc text) ys = refl
-put_built (built.Copy from to) ys = refl
-put_built (built.Pour from to) ys = refl
-put_built (built.If choice) ys = refl
-put_built (built.Spawn behaviour) ys = refl
 
 -- the `when` of a list are those of its first statement and those of the others
 whens_first : (x : RawStatement) (rest : List RawStatement) → whens (raw_body (x ∷ rest)) ≡ whens (raw_body (x ∷ [])) + whens (raw_body rest)

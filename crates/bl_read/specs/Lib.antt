@@ -1,3 +1,2 @@
-pub mod Spawned
 pub mod RuleFaults
 pub mod LineFaults

@@ -1,23 +1,20 @@
 //! From a `when` as it was read to its script. Each behaviour that is spawned stands where its text begins: its place is taken
 //! before what it spawns itself is built. The outermost behaviour stands in no list, so that a script of one needs none.
-ghost use Rattle.std.specs.Prelude.{◌≡◌, ◌+◌, ◌<◌, ◌≤◌, [], ◌∷◌, ◌++◌, map, length, set, vec_len, All, IfOk, OnOk};
+ghost use Rattle.std.specs.Prelude.{◌≡◌, ◌+◌, ◌≤◌, [], ◌∷◌, ◌++◌, map, length, All, IfOk, OnOk};
 ghost use Rattle.bl_work.specs.Meaning.{script_of, whens};
 ghost use Rattle.bl_work.specs.WhenFaults.{lists_in, IsFaultless, AreContents};
 ghost use Rattle.bl_work.specs.FirstWhenFault.{HasFewAccesses};
 ghost use Rattle.bl_syntax.specs.RawBodies.{raw_access, raw_body};
 ghost use Rattle.bl_work.specs.Body.{statements_of};
-ghost use Rattle.bl_work.specs.Statements.{Nothing, If};
 ghost use Rattle.bl_work.specs.Script.{most_behaviours};
 ghost use Rattle.bl_work.specs.Building.{when_from, IsBuilt};
 ghost use Rattle.bl_check.specs.Checked.{IsChecked};
-ghost use Rattle.bl_read.specs.Spawned.{with_outermost};
+ghost use Rattle.bl_walk.specs.Spawned.{with_outermost};
 
 use crate::lookup::Lookup;
 use bl_check::check::Checked;
-use bl_policy::access::{Access, Mode};
-use bl_policy::id::DocId;
 use bl_syntax::raw::{RawAccess, RawBody, RawStatement};
-use bl_work::accesses::Accesses;
+use bl_walk::parts::{choice_statement, put, unbuilt};
 use bl_work::document::Document;
 use bl_work::names::Names;
 use bl_work::script::{Behaviour, Body, Choice, Script, Stmt};
@@ -44,31 +41,6 @@ pub fn build_script(
     let body = body_of(alloc, &lookup, body, &mut spawned)?;
     let outermost = Behaviour::new(lookup.into_accesses(), body);
     Script::new(alloc, outermost, spawned)
-}
-
-/// What stands in the list of behaviours for one that is not built yet.
-fn unbuilt() -> Behaviour {
-    let none = Access {
-        mode: Mode::Read,
-        doc: DocId::new(0),
-    };
-    Behaviour::new(Accesses::new(none), Body::empty())
-}
-
-/// The statement of an `if`.
-fn choice_statement(alloc: Global, choice: Choice) -> Result<Stmt, AllocError>
-    ensures { IfOk result (λ statement. statements_of (statement ∷ [])
-        ≡ If choice.doc choice.test choice.text choice.then_body choice.else_body Nothing) }
-{
-    Ok(Stmt::If(Box::new(alloc, choice)?))
-}
-
-/// Puts a behaviour at a place of the list.
-fn put(behaviours: &mut Vec<Behaviour>, place: usize, behaviour: Behaviour)
-    requires { place < vec_len behaviours.old }
-    ensures { behaviours.new.items ≡ set behaviours.old.items place behaviour }
-{
-    behaviours[place] = behaviour;
 }
 
 /// Pushes the behaviours of a spawned `when` behind those that there are.

@@ -1,5 +1,5 @@
 //! From the bytes of a line to what it asks, by the names of the server.
-ghost use Rattle.std.specs.Prelude.{◌≡◌, ◌≢◌, ◌<◌, ℕ, List, map, length, IfOk, IfErr, MatchResult};
+ghost use Rattle.std.specs.Prelude.{◌≡◌, ◌≢◌, ◌<◌, ◌≤◌, ℕ, List, map, length, IfOk, IfErr, MatchResult};
 ghost use Rattle.bl_level.specs.Name.{AreProper};
 ghost use Rattle.bl_work.specs.declared.asked.Line.{Line as AskedLine};
 ghost use Rattle.bl_work.specs.declared.asked.LineFault.{LineFault};
@@ -21,6 +21,7 @@ use bl_level::name::Name;
 use bl_policy::id::SubjectId;
 use bl_syntax::raw::{RawAccess, RawBody, RawLine, RawRule};
 use bl_syntax::read::{RawFault, one_fault, read_raw};
+use bl_walk::plain::{Doubt, plain_script};
 use bl_work::asked::{Line, LineFault, MOST_LINE_BYTES};
 use bl_work::names::Names;
 use bl_work::work::Work;
@@ -40,6 +41,24 @@ pub fn read_line(alloc: Global, names: &Names, bytes: &[u8]) -> Result<Line, Lin
     if bytes.len() > MOST_LINE_BYTES {
         return Err(LineFault::Long);
     }
+    match plain_script(alloc, names, bytes) {
+        Ok(script) => {
+            one_answer();
+            Ok(Line::Work(Work::Behaviour(script)))
+        }
+        Err(Doubt::Memory) => Err(LineFault::Memory),
+        Err(Doubt::Fault) => read_by_parts(alloc, names, bytes),
+    }
+}
+
+/// What the bytes of a line ask that is not too long, read part by part.
+#[inline(never)]
+fn read_by_parts(alloc: Global, names: &Names, bytes: &[u8]) -> Result<Line, LineFault>
+    requires { length bytes.now ≤ most_line_bytes }
+    ensures found { IfOk result (λ line. LineOf names.now bytes.now line) }
+    ensures only { (line : AskedLine) → LineOf names.now bytes.now line → MatchResult result (λ read. read ≡ line) IsWantOfMemory }
+    ensures fault { IfErr result (IsLineFault names.now bytes.now) }
+{
     match read_raw(alloc, bytes) {
         Ok(raw) => asked(alloc, names, &raw),
         Err(RawFault::Syntax(place)) => Err(LineFault::Syntax(place as u32)),

@@ -6,6 +6,7 @@ use bl_script::names::Names;
 use bl_syntax::raw::RawLine;
 use bl_syntax::read::read_raw;
 use std::alloc::Global;
+use std::process::Abort;
 use std::test::Fail;
 use std::thread;
 use std::thread::Threads;
@@ -82,45 +83,56 @@ fn fault_there(rt: &impl Threads, alloc: Global, line: Vec<u8>) -> Result<Option
     Ok(reader.join(rt))
 }
 
+/// Asserts that a line of so many bytes is walked.
+fn assert_walked<R: Abort + Threads>(
+    rt: &R,
+    alloc: Global,
+    line: Vec<u8>,
+    len: usize,
+) -> Result<(), Fail> {
+    assert_eq!(rt; line.len(), len);
+    assert!(rt; is_walked_there(rt, alloc, line)?);
+    Ok(())
+}
+
+/// Asserts that a line of so many bytes is refused for this fault.
+fn assert_refused<R: Abort + Threads>(
+    rt: &R,
+    alloc: Global,
+    line: Vec<u8>,
+    len: usize,
+    fault: LineFault,
+) -> Result<(), Fail> {
+    assert_eq!(rt; line.len(), len);
+    assert!(rt; fault_there(rt, alloc, line)? == Some(fault));
+    Ok(())
+}
+
 #[test]
 fn walks_the_deepest_ifs(rt: HostRuntime) -> Result<(), Fail> {
     let line = ended_steps(rt.alloc(), IF, 454)?;
-    assert_eq!(rt; line.len(), 8_190);
-    assert!(rt; is_walked_there(&rt, rt.alloc(), line)?);
-    Ok(())
+    assert_walked(&rt, rt.alloc(), line, 8_190)
 }
 
 #[test]
 fn walks_the_deepest_whens(rt: HostRuntime) -> Result<(), Fail> {
     let line = ended_steps(rt.alloc(), WHEN, 326)?;
-    assert_eq!(rt; line.len(), 8_168);
-    assert!(rt; is_walked_there(&rt, rt.alloc(), line)?);
-    Ok(())
+    assert_walked(&rt, rt.alloc(), line, 8_168)
 }
 
 #[test]
 fn refuses_the_deepest_lines(rt: HostRuntime) -> Result<(), Fail> {
     let line = ended_steps(rt.alloc(), IF, 454)?;
-    assert_eq!(rt; fault_there(&rt, rt.alloc(), line)?, Some(LineFault::Deep));
+    assert_refused(&rt, rt.alloc(), line, 8_190, LineFault::Deep)?;
     let line = ended_steps(rt.alloc(), WHEN, 326)?;
-    assert_eq!(rt; fault_there(&rt, rt.alloc(), line)?, Some(LineFault::Deep));
-    Ok(())
+    assert_refused(&rt, rt.alloc(), line, 8_168, LineFault::Deep)
 }
 
 /// A line that ends before its steps do is at fault at its end.
 #[test]
 fn refuses_the_deepest_open_lines(rt: HostRuntime) -> Result<(), Fail> {
     let line = steps(rt.alloc(), IF, 584)?;
-    assert_eq!(rt; line.len(), 8_191);
-    assert_eq!(rt;
-        fault_there(&rt, rt.alloc(), line)?,
-        Some(LineFault::Syntax(8_191))
-    );
+    assert_refused(&rt, rt.alloc(), line, 8_191, LineFault::Syntax(8_191))?;
     let line = steps(rt.alloc(), WHEN, 389)?;
-    assert_eq!(rt; line.len(), 8_184);
-    assert_eq!(rt;
-        fault_there(&rt, rt.alloc(), line)?,
-        Some(LineFault::Syntax(8_184))
-    );
-    Ok(())
+    assert_refused(&rt, rt.alloc(), line, 8_184, LineFault::Syntax(8_184))
 }

@@ -2,14 +2,17 @@
 use super::fixtures::{is_known_by, names_of, work_of};
 use bl_script::work::Work;
 use std::alloc::Global;
+use std::process::Abort;
 use std::test::Fail;
 
-/// Whether some text reads as the work where its one document has this name.
-fn is_known(alloc: Global, document: &[u8], work: &Work) -> Result<bool, Fail> {
-    match names_of(alloc, document) {
-        Some(names) => Ok(is_known_by(names, work)),
-        None => Err(Fail::new("no names")),
-    }
+/// Whether some text reads as the work where its one document has this name; none where a growth is refused.
+fn is_known(alloc: Global, document: &[u8], work: &Work) -> Option<bool> {
+    Some(is_known_by(names_of(alloc, document)?, work))
+}
+
+/// Asserts whether some text reads as the work where its one document has this name.
+fn assert_known(rt: &impl Abort, alloc: Global, document: &[u8], work: Work, known: bool) {
+    assert!(rt; is_known(alloc, document, &work) == Some(known));
 }
 
 /// The work of `when read memo do `, so many times `show memo;`, and `end`.
@@ -40,38 +43,48 @@ fn knows_what_it_reads(rt: HostRuntime) -> Result<(), Fail> {
         rt.alloc(),
         b"when write memo do if memo is\"a\"then else end;spawn when read memo do show memo;end;end",
     )?;
-    assert!(rt; is_known(rt.alloc(), b"memo", &work)?);
+    assert_known(&rt, rt.alloc(), b"memo", work, true);
     Ok(())
 }
 
 #[test]
 fn knows_no_document_that_is_not_there(rt: HostRuntime) -> Result<(), Fail> {
     let first = work_of(rt.alloc(), b"when read memo do show memo;end")?;
-    assert!(rt; is_known(rt.alloc(), b"memo", &first)?);
+    assert_known(&rt, rt.alloc(), b"memo", first, true);
     let second = work_of(rt.alloc(), b"when read note do show note;end")?;
-    assert!(rt; !is_known(rt.alloc(), b"memo", &second)?);
+    assert_known(&rt, rt.alloc(), b"memo", second, false);
     Ok(())
 }
 
 /// A line of 8,192 bytes where the document is memo has 8,193 where it is memos.
 #[test]
 fn knows_a_text_of_8192_bytes(rt: HostRuntime) -> Result<(), Fail> {
-    assert!(rt; is_known(rt.alloc(), b"memo", &says(rt.alloc(), 8_165)?)?);
+    let work = says(rt.alloc(), 8_165)?;
+    assert_known(&rt, rt.alloc(), b"memo", work, true);
     Ok(())
 }
 
 #[test]
 fn knows_no_text_of_8193_bytes(rt: HostRuntime) -> Result<(), Fail> {
-    assert!(rt; is_known(rt.alloc(), b"memos", &says(rt.alloc(), 8_164)?)?);
-    assert!(rt; !is_known(rt.alloc(), b"memos", &says(rt.alloc(), 8_165)?)?);
+    let shorter = says(rt.alloc(), 8_164)?;
+    assert_known(&rt, rt.alloc(), b"memos", shorter, true);
+    let longer = says(rt.alloc(), 8_165)?;
+    assert_known(&rt, rt.alloc(), b"memos", longer, false);
     Ok(())
 }
 
 /// What is short by one name is too long by a name of 32 bytes.
 #[test]
 fn foreign_names(rt: HostRuntime) -> Result<(), Fail> {
-    let work = shows(rt.alloc(), 700)?;
-    assert!(rt; is_known(rt.alloc(), b"memo", &work)?);
-    assert!(rt; !is_known(rt.alloc(), b"memo_memo_memo_memo_memo_memo_32", &work)?);
+    let short = shows(rt.alloc(), 700)?;
+    assert_known(&rt, rt.alloc(), b"memo", short, true);
+    let long = shows(rt.alloc(), 700)?;
+    assert_known(
+        &rt,
+        rt.alloc(),
+        b"memo_memo_memo_memo_memo_memo_32",
+        long,
+        false,
+    );
     Ok(())
 }

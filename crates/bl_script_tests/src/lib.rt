@@ -7,6 +7,7 @@
 //!     rule_texts    the texts of rules, and which rules have one
 //!     knows         which works some text reads as
 //!     deepest       the deepest lines, on a thread's stack
+//!     walks         what the walk of a `when` takes
 //!     shares        each call that gives one more owner
 #![tactic(auto)]
 
@@ -24,5 +25,7 @@ mod rule_texts;
 mod rules;
 #[cfg(test)]
 mod shares;
+#[cfg(test)]
+mod walks;
 #[cfg(test)]
 mod write;

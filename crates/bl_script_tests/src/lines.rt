@@ -19,9 +19,16 @@ fn weight_of(alloc: Global, line: &[u8]) -> Result<usize, Fail> {
     Ok(script_of(alloc, line)?.weight())
 }
 
-/// Whether the line is refused for this fault.
-fn is_refused(alloc: Global, line: &[u8], expected: LineFault) -> Result<bool, Fail> {
-    Ok(fault_of(alloc, line)? == expected)
+/// Asserts of each line that it is refused for this fault.
+fn assert_refused(
+    rt: &impl Abort,
+    alloc: Global,
+    lines: &[(&[u8], LineFault)],
+) -> Result<(), Fail> {
+    for (line, fault) in lines {
+        assert_eq!(rt; fault_of(alloc, line)?, *fault, "{line:?}");
+    }
+    Ok(())
 }
 
 /// The word with blanks behind it, so many bytes in all.
@@ -119,8 +126,8 @@ fn syntax_offsets(rt: HostRuntime) -> Result<(), Fail> {
 
 #[test]
 fn places_a_fault_of_syntax(rt: HostRuntime) -> Result<(), Fail> {
-    // By a byte, by a token, by the line's end, by what stands behind a line, by a sign that is missing, by a text that is
-    // not closed, and by a word that is too long.
+    // By a byte, by a token, by the line's end, by what stands behind a line, by a sign that is missing, by a text that
+    // is not closed, and by a word that is too long.
     let lines = [
         (b"hello A".as_slice(), 6),
         (b"hello wait", 6),
@@ -135,43 +142,70 @@ fn places_a_fault_of_syntax(rt: HostRuntime) -> Result<(), Fail> {
 
 #[test]
 fn refusals_of_a_line(rt: HostRuntime) -> Result<(), Fail> {
-    let twice = b"when read memo, write memo do end";
-    assert!(rt; is_refused(rt.alloc(), twice, LineFault::Twice(named(b"memo")?))?);
-    let unknown = b"when read zed do show zed; end";
-    assert!(rt; is_refused(rt.alloc(), unknown, LineFault::Unknown(named(b"zed")?))?);
-    let mode = b"when append log do show log; end";
-    assert!(rt; is_refused(rt.alloc(), mode, LineFault::Mode(named(b"log")?))?);
-    Ok(())
+    let lines = [
+        (
+            b"when read memo, write memo do end".as_slice(),
+            LineFault::Twice(named(b"memo")?),
+        ),
+        (
+            b"when read zed do show zed; end",
+            LineFault::Unknown(named(b"zed")?),
+        ),
+        (
+            b"when append log do show log; end",
+            LineFault::Mode(named(b"log")?),
+        ),
+    ];
+    assert_refused(&rt, rt.alloc(), &lines)
 }
 
 #[test]
 fn tells_the_first_name_at_fault(rt: HostRuntime) -> Result<(), Fail> {
-    let subject = b"hello memo";
-    assert!(rt; is_refused(rt.alloc(), subject, LineFault::Unknown(named(b"memo")?))?);
-    let document = b"when read ann do show x;end";
-    assert!(rt; is_refused(rt.alloc(), document, LineFault::Unknown(named(b"ann")?))?);
-    let source = b"when read note do copy memo to log;end";
-    assert!(rt; is_refused(rt.alloc(), source, LineFault::Mode(named(b"memo")?))?);
-    Ok(())
+    let lines = [
+        (
+            b"hello memo".as_slice(),
+            LineFault::Unknown(named(b"memo")?),
+        ),
+        (
+            b"when read ann do show x;end",
+            LineFault::Unknown(named(b"ann")?),
+        ),
+        (
+            b"when read note do copy memo to log;end",
+            LineFault::Mode(named(b"memo")?),
+        ),
+    ];
+    assert_refused(&rt, rt.alloc(), &lines)
 }
 
-/// A line of 8,192 bytes is read, and one of 8,193 is too long.
-fn assert_longest(rt: &impl Abort, alloc: Global) -> Result<(), Fail> {
-    let read = b"when read memo do show memo; end";
-    assert_eq!(rt; weight_of(alloc, &spaced(alloc, read, 8_192)?)?, 1);
-    assert!(rt; is_refused(alloc, &spaced(alloc, read, 8_193)?, LineFault::Long)?);
+/// A line that reads memo, of so many bytes.
+fn of_length(alloc: Global, len: usize) -> Result<Vec<u8>, Fail> {
+    spaced(alloc, b"when read memo do show memo; end", len)
+}
+
+/// Asserts that a line has so many behaviours, and that another one is refused for this fault.
+fn assert_most(
+    rt: &impl Abort,
+    alloc: Global,
+    most: Vec<u8>,
+    weight: usize,
+    more: Vec<u8>,
+    fault: LineFault,
+) -> Result<(), Fail> {
+    assert_eq!(rt; weight_of(alloc, &most)?, weight);
+    assert_eq!(rt; fault_of(alloc, &more)?, fault);
     Ok(())
 }
 
 #[test]
 fn long_deep_many(rt: HostRuntime) -> Result<(), Fail> {
-    assert_longest(&rt, rt.alloc())?;
-    assert_eq!(rt; weight_of(rt.alloc(), &nested(rt.alloc(), 8)?)?, 8);
-    assert!(rt; is_refused(rt.alloc(), &nested(rt.alloc(), 9)?, LineFault::Deep)?);
+    let (longest, longer) = (of_length(rt.alloc(), 8_192)?, of_length(rt.alloc(), 8_193)?);
+    assert_most(&rt, rt.alloc(), longest, 1, longer, LineFault::Long)?;
+    let (deepest, deeper) = (nested(rt.alloc(), 8)?, nested(rt.alloc(), 9)?);
+    assert_most(&rt, rt.alloc(), deepest, 8, deeper, LineFault::Deep)?;
     let many =
         b"when read a, read b, read c, read d, read e, read f, read g, read h, read i do end";
-    assert!(rt; is_refused(rt.alloc(), many, LineFault::Many)?);
-    Ok(())
+    assert_refused(&rt, rt.alloc(), &[(many.as_slice(), LineFault::Many)])
 }
 
 /// Some 580 `if` in one another, none of them closed: the deepest that a line can be.

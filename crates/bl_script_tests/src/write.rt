@@ -6,6 +6,7 @@ use bl_script::line::read_line;
 use bl_script::names::Names;
 use bl_script::write::{write_line, write_tokens};
 use std::alloc::Global;
+use std::process::Abort;
 use std::test::Fail;
 
 /// The canonical text of what a line asks by these names.
@@ -27,54 +28,84 @@ fn text_of(alloc: Global, bytes: &[u8]) -> Result<Vec<u8>, LineFault> {
 }
 
 /// Whether this is the canonical text of what a line asks.
-pub fn is_written(alloc: Global, bytes: &[u8], expected: &[u8]) -> Result<bool, Fail> {
-    let text = text_of(alloc, bytes)?;
-    Ok(text.as_slice() == expected)
+fn is_written(alloc: Global, bytes: &[u8], expected: &[u8]) -> bool {
+    match text_of(alloc, bytes) {
+        Ok(text) => text.as_slice() == expected,
+        Err(_) => false,
+    }
+}
+
+/// Asserts of each line that what it asks has this canonical text.
+pub fn assert_written(rt: &impl Abort, alloc: Global, lines: &[(&[u8], &[u8])]) {
+    for (line, text) in lines {
+        assert!(rt; is_written(alloc, line, text), "{line:?}");
+    }
 }
 
 #[test]
-fn writes_a_hello(rt: HostRuntime) -> Result<(), Fail> {
-    assert!(rt; is_written(rt.alloc(), b" hello \t bob ", b"hello bob")?);
-    Ok(())
+fn writes_a_hello(rt: HostRuntime) {
+    assert_written(
+        &rt,
+        rt.alloc(),
+        &[(b" hello \t bob ".as_slice(), b"hello bob".as_slice())],
+    );
 }
 
 #[test]
-fn writes_a_wait(rt: HostRuntime) -> Result<(), Fail> {
-    assert!(rt; is_written(rt.alloc(), b"  wait", b"wait")?);
-    Ok(())
+fn writes_a_wait(rt: HostRuntime) {
+    assert_written(
+        &rt,
+        rt.alloc(),
+        &[(b"  wait".as_slice(), b"wait".as_slice())],
+    );
 }
 
 #[test]
-fn writes_child_enters_after_admitted_line(rt: HostRuntime) -> Result<(), Fail> {
-    let line = b"when write memo do add memo \"a\"; spawn when read memo do show memo; end; end";
-    let text = b"when write memo do add memo\"a\";spawn when read memo do show memo;end;end";
-    assert!(rt; is_written(rt.alloc(), line, text)?);
-    Ok(())
+fn writes_child_enters_after_admitted_line(rt: HostRuntime) {
+    assert_written(
+        &rt,
+        rt.alloc(),
+        &[(
+            b"when write memo do add memo \"a\"; spawn when read memo do show memo; end; end".as_slice(),
+            b"when write memo do add memo\"a\";spawn when read memo do show memo;end;end".as_slice(),
+        )],
+    );
 }
 
 #[test]
-fn writes_no_else_before_an_empty_body(rt: HostRuntime) -> Result<(), Fail> {
-    let line = b"when read memo do if memo is \"a\" then show memo; else end; end";
-    let text = b"when read memo do if memo is\"a\"then show memo;end;end";
-    assert!(rt; is_written(rt.alloc(), line, text)?);
-    Ok(())
+fn writes_no_else_before_an_empty_body(rt: HostRuntime) {
+    assert_written(
+        &rt,
+        rt.alloc(),
+        &[(
+            b"when read memo do if memo is \"a\" then show memo; else end; end".as_slice(),
+            b"when read memo do if memo is\"a\"then show memo;end;end".as_slice(),
+        )],
+    );
 }
 
 #[test]
-fn writes_an_else_before_a_statement(rt: HostRuntime) -> Result<(), Fail> {
-    let line =
-        b"when write memo, read note do if memo has \"\" then else copy note to memo; end; end";
-    let text = b"when write memo,read note do if memo has\"\"then else copy note to memo;end;end";
-    assert!(rt; is_written(rt.alloc(), line, text)?);
-    Ok(())
+fn writes_an_else_before_a_statement(rt: HostRuntime) {
+    assert_written(
+        &rt,
+        rt.alloc(),
+        &[(
+            b"when write memo, read note do if memo has \"\" then else copy note to memo; end; end".as_slice(),
+            b"when write memo,read note do if memo has\"\"then else copy note to memo;end;end".as_slice(),
+        )],
+    );
 }
 
 #[test]
-fn writes_what_changes_a_document(rt: HostRuntime) -> Result<(), Fail> {
-    let line = b"when write memo, append log do set memo \"a\"; say \"b\"; pour memo to log; end";
-    let text = b"when write memo,append log do set memo\"a\";say\"b\";pour memo to log;end";
-    assert!(rt; is_written(rt.alloc(), line, text)?);
-    Ok(())
+fn writes_what_changes_a_document(rt: HostRuntime) {
+    assert_written(
+        &rt,
+        rt.alloc(),
+        &[(
+            b"when write memo, append log do set memo \"a\"; say \"b\"; pour memo to log; end".as_slice(),
+            b"when write memo,append log do set memo\"a\";say\"b\";pour memo to log;end".as_slice(),
+        )],
+    );
 }
 
 #[test]

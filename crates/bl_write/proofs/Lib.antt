@@ -9,6 +9,7 @@ pub mod Reread
 pub mod Faultless
 pub mod ReadAgain
 pub mod Counting
+pub mod Matches
 pub mod RulesWritten
 pub mod RulesSpelled
 pub mod PlainLines

@@ -1,6 +1,6 @@
 -- What is written token by token is the canonical text.
 use Rattle.std.proofs.Common.{◌≡◌, ℕ, Bool, List, [], ◌∷◌, ◌++◌, refl, sym, ap, ◌∙◌, append_assoc}
-use Rattle.std.specs.Prelude.{◌&&◌, if◌then◌else◌}
+use Rattle.std.specs.Prelude.{◌&&◌, if◌then◌else◌, Err, Ok, OnOk, Result}
 use Rattle.std.specs.List.{fold}
 use Rattle.std.proofs.lemmas.List.{append-nil}
 use Rattle.bl_level.specs.Token.{Tok}
@@ -29,3 +29,8 @@ written w (t ∷ ts) =
 pub written_is_canonical : (ts : List Tok) → (fold with_token nothing_written ts).bytes ≡ canonical ts
 written_is_canonical [] = refl
 written_is_canonical (t ∷ ts) = written nothing_written (t ∷ ts)
+
+-- what follows where a call went well
+pub on_ok : {T E : Type 0} (r : Result T E) (P Q : Type 0) → (P → Q) → OnOk r P → OnOk r Q
+on_ok (Ok t) P Q follows h = follows h
+on_ok (Err e) P Q follows h = tt

@@ -4,3 +4,4 @@ pub mod CanonicalLine
 pub mod There
 pub mod Writing
 pub mod Counting
+pub mod Matching

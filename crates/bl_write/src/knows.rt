@@ -32,7 +32,7 @@ use std::marker::Model;
 
 /// The length of a text while it is written, counted up to one more than a line has.
 #[derive(Drop)]
-struct Length {
+pub(crate) struct Length {
     bytes: usize,
     ends_with_word: bool,
 }
@@ -59,13 +59,20 @@ fn bytes_of(token: Token<'_>) -> usize
 
 impl Length {
     /// Of no text.
-    fn new() -> Length
+    pub(crate) fn new() -> Length
         ensures { result ≡ nothing_counted }
     {
         Length {
             bytes: 0,
             ends_with_word: false,
         }
+    }
+
+    /// How many bytes there are, up to one more than a line has.
+    pub(crate) fn bytes(&self) -> usize
+        ensures { result ≡ self.now.bytes }
+    {
+        self.bytes
     }
 
     /// Whether the text is no longer than a line.

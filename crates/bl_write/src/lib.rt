@@ -2,6 +2,8 @@
 //!
 //!     write        writes a line's canonical text
 //!     knows        which works some text reads as
+//!     line_len     how long a line's canonical text is
+//!     matching     whether a text is the canonical one of a work
 //!     canonical    laws of the canonical text
 //!     spell        the tokens of a script
 //!     spell_rules  the tokens of a rule
@@ -10,6 +12,8 @@
 
 pub mod canonical;
 pub mod knows;
+pub mod line_len;
+pub mod matching;
 mod sink;
 mod spell;
 mod spell_rules;

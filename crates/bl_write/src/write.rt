@@ -8,6 +8,7 @@ ghost use Rattle.bl_work.specs.declared.work.Work.TheVariants.{Behaviour, Rule a
 ghost use Rattle.bl_write.specs.CanonicalLine.{IsCanonicalOf, canonical_line};
 ghost use Rattle.bl_write.specs.Known.{canonical_script, canonical_rule};
 ghost use Rattle.bl_work.specs.LineGrammar.{LineOf};
+ghost use Rattle.bl_work.specs.Readable.{IsReadable};
 ghost use Rattle.bl_write.specs.Writing.{with_token, nothing_written};
 
 use crate::canonical::{
@@ -28,9 +29,12 @@ use bl_work::work::Work;
 use std::alloc::{AllocError, Global};
 use std::marker::Model;
 
-/// Text that grows by tokens.
+/// So much room a text has at least: most lines need no more.
+const SHORT_LINE_BYTES: usize = 64;
+
+/// Text that grows by tokens. One can serve for many works, one after another: its room stays.
 #[derive(Drop)]
-pub(crate) struct Text {
+pub struct Text {
     bytes: Vec<u8>,
     ends_with_word: bool,
 }
@@ -44,7 +48,7 @@ impl Model for Text {
 }
 
 /// The bytes of a sign.
-fn sign_text(sign: Sign) -> &'static [u8]
+pub(crate) fn sign_text(sign: Sign) -> &'static [u8]
     ensures { result.now ≡ byte_of sign ∷ [] }
 {
     match sign {
@@ -67,13 +71,29 @@ pub(crate) fn is_word(token: Token<'_>) -> bool
 
 impl Text {
     /// No text.
-    pub(crate) fn new(alloc: Global) -> Text
+    pub fn new(alloc: Global) -> Text
         ensures { result ≡ nothing_written }
     {
         Text {
             bytes: Vec::new(alloc),
             ends_with_word: false,
         }
+    }
+
+    /// The bytes.
+    pub fn bytes(&self) -> &[u8]
+        ensures { result.now ≡ self.now.bytes }
+    {
+        &self.bytes
+    }
+
+    /// Begins again, with no text and room for a short line. An error comes only where a growth is refused.
+    fn begin(&mut self) -> Result<(), AllocError>
+        ensures { OnOk result (self.new ≡ nothing_written) }
+    {
+        self.bytes.clear();
+        self.ends_with_word = false;
+        self.bytes.reserve(SHORT_LINE_BYTES)
     }
 
     /// Writes the bytes of a token.
@@ -93,10 +113,46 @@ impl Text {
     }
 
     /// The bytes, which are the canonical text of the tokens that were written.
-    pub(crate) fn into_bytes(self) -> Vec<u8>
+    fn into_bytes(self) -> Vec<u8>
         ensures { result.items ≡ self.bytes }
     {
         self.bytes
+    }
+
+    /// Writes the text of a script that some text reads as by these names, in place of what was written before.
+    fn set_script(&mut self, names: &Names, script: &Script) -> Result<(), AllocError>
+        requires { (bytes : List ℕ) × LineOf names.now bytes (asked.Work (Behaviour script.now)) }
+        ensures { OnOk result (self.new.bytes ≡ canonical_script names.now script.now) }
+    {
+        canonical_script_is_shortest();
+        // asked for the proof alone: a script has a behaviour, and its accesses are declared as a script's are
+        let _ = script.weight();
+        self.begin()?;
+        put_when(self, names, script, 0)
+    }
+
+    /// Writes the text of a rule that some text reads as by these names, in place of what was written before.
+    fn set_rule(&mut self, names: &Names, rule: Rule) -> Result<(), AllocError>
+        requires { (bytes : List ℕ) × LineOf names.now bytes (asked.Work (AskedRule rule)) }
+        ensures { OnOk result (self.new.bytes ≡ canonical_rule names.now rule) }
+    {
+        canonical_rule_is_shortest();
+        // asked for the proof alone: no name stands twice in a table
+        let _ = names.scheme();
+        self.begin()?;
+        put_rule(self, names, rule)
+    }
+
+    /// Writes the canonical text of a work that some text reads as by these names, in place of what was written before. It fails only
+    /// where a growth is refused.
+    pub fn set_work(&mut self, names: &Names, work: &Work) -> Result<(), AllocError>
+        requires { IsReadable names.now work.now }
+        ensures { OnOk result (self.new.bytes ≡ canonical_line names.now (asked.Work work.now)) }
+    {
+        match work {
+            Work::Behaviour(script) => self.set_script(names, script),
+            Work::Rule(rule) => self.set_rule(names, *rule),
+        }
     }
 }
 
@@ -135,29 +191,13 @@ fn write_hello(alloc: Global, names: &Names, subject: SubjectId) -> Result<Vec<u
     write_tokens(alloc, &tokens)
 }
 
-/// The text of a script that some text reads as by these names.
-fn write_script(alloc: Global, names: &Names, script: &Script) -> Result<Vec<u8>, AllocError>
-    requires { (bytes : List ℕ) × LineOf names.now bytes (asked.Work (Behaviour script.now)) }
-    ensures { IfOk result (λ text. text.items ≡ canonical_script names.now script.now) }
+/// The text of a work that some text reads as by these names.
+fn write_work(alloc: Global, names: &Names, work: &Work) -> Result<Vec<u8>, AllocError>
+    requires { IsReadable names.now work.now }
+    ensures { IfOk result (λ text. text.items ≡ canonical_line names.now (asked.Work work.now)) }
 {
-    canonical_script_is_shortest();
-    // asked for the proof alone: a script has a behaviour, and its accesses are declared as a script's are
-    let _ = script.weight();
     let mut text = Text::new(alloc);
-    put_when(&mut text, names, script, 0)?;
-    Ok(text.into_bytes())
-}
-
-/// The text of a rule that some text reads as by these names.
-fn write_rule(alloc: Global, names: &Names, rule: Rule) -> Result<Vec<u8>, AllocError>
-    requires { (bytes : List ℕ) × LineOf names.now bytes (asked.Work (AskedRule rule)) }
-    ensures { IfOk result (λ text. text.items ≡ canonical_rule names.now rule) }
-{
-    canonical_rule_is_shortest();
-    // asked for the proof alone: no name stands twice in a table
-    let _ = names.scheme();
-    let mut text = Text::new(alloc);
-    put_rule(&mut text, names, rule)?;
+    text.set_work(names, work)?;
     Ok(text.into_bytes())
 }
 
@@ -169,8 +209,7 @@ fn text_of(alloc: Global, names: &Names, line: &Line) -> Result<Vec<u8>, AllocEr
     match line {
         Line::Hello(subject) => write_hello(alloc, names, *subject),
         Line::Wait => write_tokens(alloc, &[Token::Reserved(Keyword::Wait)]),
-        Line::Work(Work::Behaviour(script)) => write_script(alloc, names, script),
-        Line::Work(Work::Rule(rule)) => write_rule(alloc, names, *rule),
+        Line::Work(work) => write_work(alloc, names, work),
     }
 }
 

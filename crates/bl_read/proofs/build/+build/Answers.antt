@@ -16,9 +16,9 @@ use Rattle.bl_work.specs.Spelled.{SpelledBody, if_then, if_else, empty}
 use Rattle.bl_work.specs.Body.{statements_of}
 use Rattle.bl_work.specs.declared.script.Stmt.{Stmt}
 use Rattle.bl_work.proofs.WhenFaults.{all_left, all_right}
-use Rattle.bl_read.specs.Spawned.{with_outermost}
+use Rattle.bl_walk.specs.Spawned.{with_outermost}
 use Rattle.bl_read.proofs.RawLists.{IsPartBuilt, depth_at, part_at, part_next, part_more, part_end}
-use Rattle.bl_read.proofs.Built.{built_long, built_if_then, built_if_else, built_spawned}
+use Rattle.bl_walk.proofs.Built.{built_long, built_if_then, built_if_else, built_spawned}
 use Rattle.bl_read.proofs.build.+build.Goals as goal
 
 pub push_when-returns : goal.push_when-returns

@@ -1,7 +1,7 @@
 use Rattle.std.proofs.Common.{◌+◌, ◌*◌, [], ◌∷◌, drop}
 use Rattle.bl_syntax.specs.RawBodies.{raw_body}
 use Rattle.bl_work.specs.SpelledDepth.{spelled_depth}
-use Rattle.bl_read.specs.Spawned.{with_outermost}
+use Rattle.bl_walk.specs.Spawned.{with_outermost}
 use Rattle.bl_read.proofs.RawLists.{IsPartBuilt}
 use Rattle.bl_read.proofs.build.+build.Given as goal
 

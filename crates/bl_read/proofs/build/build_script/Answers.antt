@@ -10,8 +10,8 @@ use Rattle.bl_work.specs.Statements.{Part}
 use Rattle.bl_work.specs.WhenFaults.{lists_in}
 use Rattle.bl_syntax.specs.RawBodies.{raw_access}
 use Rattle.bl_work.proofs.Behaviours.{when_is_script}
-use Rattle.bl_read.specs.Spawned.{with_outermost}
-use Rattle.bl_read.proofs.Built.{built_script}
+use Rattle.bl_walk.specs.Spawned.{with_outermost}
+use Rattle.bl_walk.proofs.Built.{built_script}
 use Rattle.bl_read.proofs.build.build_script.Goals as goal
 
 pub body_of-requires : goal.body_of-requires

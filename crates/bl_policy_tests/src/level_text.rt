@@ -1,5 +1,5 @@
 //! The text of a level, both ways, and why names make no scheme.
-use crate::fixtures::{base_scheme, name};
+use crate::schemes::{base_scheme, name};
 use bl_level::level::Level;
 use bl_level::name::Name;
 use bl_level::scheme::{LevelFault, Scheme, SchemeFault};

@@ -3,8 +3,8 @@ use Rattle.std.specs.List.{fold}
 use Rattle.bl_work.specs.SpelledRules.{spell_rule}
 use Rattle.bl_write.specs.Unread.{unread_rule}
 use Rattle.bl_write.specs.Writing.{Written, with_token}
-use Rattle.bl_write.proofs.Writing.{written_is_canonical}
-use Rattle.bl_write.proofs.write.write_rule.Goals as goal
+use Rattle.bl_write.proofs.Writing.{on_ok, written_is_canonical}
+use Rattle.bl_write.proofs.write.Text.set_rule.Goals as goal
 
 pub put_rule-requires : goal.put_rule-requires
 put_rule-requires c = (c.canonical_rule_is_shortest.ensures.known c.args.names.now c.requires.0 c.args.rule c.scheme.ensures.names c.requires.1).there
@@ -12,5 +12,5 @@ put_rule-requires c = (c.canonical_rule_is_shortest.ensures.known c.args.names.n
 pub returns : goal.returns
 returns c =
     let tokens = spell_rule (unread_rule c.args.names.now c.args.rule) in
-    c.into_bytes.ensures ∙ ap (λ (w : Written). w.bytes) (c.in_ok-put_rule.ensures ∙ ap (λ (w : Written). fold with_token w tokens) c.new-text.ensures)
-    ∙ written_is_canonical tokens
+    on_ok c.put_rule.result _ _
+    (λ same. ap (λ (w : Written). w.bytes) (same ∙ ap (λ (w : Written). fold with_token w tokens) c.in_ok-begin.ensures) ∙ written_is_canonical tokens) c.put_rule.ensures

@@ -1,5 +1,5 @@
 -- What is built of an `if` with an `else`, and of a `when`.
-use Rattle.std.proofs.Common.{◌≡◌, ℕ, suc, ◌+◌, List, [], ◌∷◌, ◌++◌, length, set, sym, ap, ◌∙◌, arith, append_assoc, length-append}
+use Rattle.std.proofs.Common.{◌≡◌, ℕ, suc, ◌+◌, List, [], ◌∷◌, ◌++◌, length, set, refl, sym, ap, ◌∙◌, arith, append_assoc, length-append}
 use Rattle.std.specs.Prelude.{map}
 use Rattle.std.proofs.lemmas.List.{append-nil, set_at}
 use Rattle.bl_policy.specs.declared.access.Access.{Access}
@@ -10,9 +10,35 @@ use Rattle.bl_work.specs.Statements.{Statements, Part}
 use Rattle.bl_work.specs.Meaning.{whens, document_of, access_of, numbered, spawned_from, script_of}
 use Rattle.bl_work.specs.Building.{when_from, IsBuilt}
 use Rattle.bl_work.specs.declared.script.Condition.{Condition}
+use Rattle.bl_work.specs.declared.script.Stmt.{Stmt}
+use Rattle.bl_work.specs.declared.script.Stmt.TheVariants as built
+use Rattle.bl_work.specs.Body.{statements_of}
 use Rattle.bl_work.proofs.Numbering.{spawned_long}
 use Rattle.bl_work.specs.Spelled as spelled
-use Rattle.bl_read.specs.Spawned.{with_outermost}
+use Rattle.bl_walk.specs.Spawned.{with_outermost}
+
+-- a first statement with these behind it
+abbrev pub put : Statements → Statements → Statements
+put statement.Nothing more = more
+put (statement.Show doc rest) more = statement.Show doc more
+put (statement.Say text rest) more = statement.Say text more
+put (statement.Add doc text rest) more = statement.Add doc text more
+put (statement.Set doc text rest) more = statement.Set doc text more
+put (statement.Copy from to rest) more = statement.Copy from to more
+put (statement.Pour from to rest) more = statement.Pour from to more
+put (statement.If doc asks text then_body else_body rest) more = statement.If doc asks text then_body else_body more
+put (statement.Spawn behaviour rest) more = statement.Spawn behaviour more
+
+-- a list of built statements is its first one with the others behind it
+pub put_built : (s : Stmt) (ys : List Stmt) → statements_of (s ∷ ys) ≡ put (statements_of (s ∷ [])) (statements_of ys)
+put_built (built.Show doc) ys = refl
+put_built (built.Say text) ys = refl
+put_built (built.Add doc text) ys = refl
+put_built (built.Set doc text) ys = refl
+put_built (built.Copy from to) ys = refl
+put_built (built.Pour from to) ys = refl
+put_built (built.If choice) ys = refl
+put_built (built.Spawn behaviour) ys = refl
 
 abbrev behind_the_first : List Part → List Part
 behind_the_first [] = []

@@ -1,5 +1,5 @@
 //! A table of names.
-use crate::fixtures::name;
+use crate::schemes::name;
 use bl_level::name::Name;
 use bl_level::table::{NameTable, TableFault, table_of};
 use std::alloc::Global;

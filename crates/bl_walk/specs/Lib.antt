@@ -1,0 +1,4 @@
+pub mod Spawned
+pub mod Takes
+pub mod Placed
+pub mod Walked
