@@ -5,7 +5,7 @@ use Rattle.std.proofs.lemmas.List.{length_push, length-append, length-map, lengt
 use Rattle.bl_queue.specs.declared.claim.Claim.{Claim}
 use Rattle.bl_queue.specs.declared.cown.Held.{Held}
 use Rattle.bl_queue.specs.Holders.{Holders, count_below, waits_for, held_at, cown_at, nowhere, freed, held_of, is_held_at_once, joined_cown, IsCown, AreFree, AreHeld, AreSettled, HasEntered, joined, listed}
-use Rattle.bl_queue.proofs.Count.{count-none, count-push, count-push_not, count-le}
+use Rattle.bl_queue.proofs.Count.{count-none, count-push, count-push_not}
 use Rattle.bl_queue.proofs.Places.{each-push, push_cases, contains_more, contains_last}
 use Rattle.bl_queue.proofs.Tests.{not_waiting}
 use Rattle.bl_queue.specs.Claims.{most_claims, AreClaims}
@@ -200,11 +200,3 @@ can_join s now given i waiting c e right lt is room places most =
     last_in : (o : Option ℕ) → ((l : ℕ) → o ≡ Some l → l < length now.claims) → IfSome o (λ l. l < length now.claims)
     last_in None at = tt
     last_in (Some l) at = at l refl
-
--- so many claims of the entry wait at most
-pub few_wait : (s now : Holders) (given : List Claim) (i waiting : ℕ) → IsEntering s given i waiting now → waiting ≤ length now.claims
-few_wait s now given i waiting e =
-    let count : waiting ≡ count_below (waits_for now.claims now.cowns (length s.waits)) (length now.claims) = e.count in
-    let le : count_below (waits_for now.claims now.cowns (length s.waits)) (length now.claims) ≤ length now.claims =
-    count-le (waits_for now.claims now.cowns (length s.waits)) (length now.claims) in
-    omega (arith, count, le)

@@ -9,7 +9,7 @@ use Rattle.bl_queue.specs.Claims.{most_claims, AreClaims}
 use Rattle.bl_queue.specs.Entries.{Entry, entry_at, no_entry, is_waiting, is_started, is_ended, entered, standing, MayStart, Runs}
 use Rattle.bl_queue.specs.Queues.{Queue, IsQueue, most_entries, with_entry, with_stand}
 use Rattle.bl_queue.specs.Holders.{Holders, held_at, over_at, nowhere, AreFree, AreHeld, AreSettled, IsEnding, HasEntered}
-use Rattle.bl_queue.specs.Queued.{claims_at, moved, longer, Roster, ArePlaced, AreQueued, IsFront, IsKept}
+use Rattle.bl_queue.specs.Queued.{claims_at, moved, longer, added, Roster, ArePlaced, AreQueued, IsFront, IsKept}
 use Rattle.bl_queue.proofs.Places.{each-set, each-push}
 use Rattle.bl_queue.proofs.Ready.{is_clear, is_free, not_ended}
 use Rattle.bl_queue.proofs.Steps.{started_queued, ended_queued, entered_queued, can_end}
@@ -137,7 +137,6 @@ started_kept cowns limit r s p n kept may e found f =
 pub record CanEnd (r : Roster) (n : ℕ) : Type 0 where
   pub there : n < length r.entries
   pub place : n < length r.places
-  pub few : length (claims_at r.entries n) ≤ most_claims
   pub kept : AreHeld r.holders (length r.holders.waits)
   pub settled : AreSettled r.holders
   pub room : length r.holders.waits ≤ r.holders.limit
@@ -153,14 +152,12 @@ can_end_claims cowns limit r n kept goes =
     let there : n < length r.entries = may.there in
     let placed : ArePlaced r.entries r.places r.holders.claims = q.placed in
     let sizes : length r.places ≡ length r.entries = placed.sizes in
-    let of_n : AreClaims cowns (claims_at r.entries n) = right.each n no_entry there in
     let few : length r.entries ≤ limit = right.few in
     let waits : length r.holders.waits ≡ length r.entries = q.sizes in
     let limits : r.holders.limit ≡ limit = kept.held_limit in
     record {
       there = there;
       place = omega (arith, there, sizes);
-      few = of_n.few;
       kept = q.kept;
       settled = q.settled;
       room = omega (arith, few, waits, limits);
@@ -212,30 +209,13 @@ started_entries r s p n e f = ap (λ (x : Roster). x.entries) f ∙ ap (λ (x : 
 
 -- ---- an entry enters
 
-abbrev added : Roster → List Claim → Roster
-added r claims = record r { entries = longer r.entries claims; places = r.places ++ length r.holders.claims ∷ [] }
-
 one_longer : (entries : List Entry) (claims : List Claim) → length (longer entries claims) ≡ length entries + 1
 one_longer entries claims = length_push entries (entered claims)
 
 -- what an entry more needs
-pub record CanAdd (r : Roster) : Type 0 where
+pub record CanAdd (r : Roster) (claims : List Claim) : Type 0 where
   pub entries : length r.entries < r.limit
-  pub places : length r.places < r.limit
-  pub held : length r.holders.claims < 2 ^ 32
-
-pub can_add : (cowns limit : ℕ) (r : Roster) → IsKept cowns limit r → length r.entries < limit → CanAdd r
-can_add cowns limit r kept room =
-    let q : AreQueued r.entries r.places r.holders r.front = kept.queued in
-    let placed : ArePlaced r.entries r.places r.holders.claims = q.placed in
-    let held : AreHeld r.holders (length r.holders.waits) = q.kept in
-    let sizes : length r.places ≡ length r.entries = placed.sizes in
-    let limits : r.limit ≡ limit = kept.limits in
-    let small : length r.holders.claims + 1 < nowhere = held.small in
-    record { entries = omega (arith, room, limits); places = omega (arith, room, sizes, limits); held = omega (arith, small) }
-
--- what its claims need
-pub record CanAddClaims (r : Roster) (claims : List Claim) : Type 0 where
+  pub small : length r.holders.claims < 2 ^ 32
   pub kept : AreHeld r.holders (length r.holders.waits)
   pub settled : AreSettled r.holders
   pub known : AreClaims (length r.holders.cowns) claims
@@ -243,62 +223,59 @@ pub record CanAddClaims (r : Roster) (claims : List Claim) : Type 0 where
   pub places : length r.holders.claims ≤ most_claims * length r.holders.waits
   pub limit : r.holders.limit ≤ most_entries
 
-pub can_add_claims : (cowns limit : ℕ) (r b : Roster) (claims : List Claim) → IsKept cowns limit r → length r.entries < limit → AreClaims cowns claims → b ≡ added r claims
-    → CanAddClaims b claims
-can_add_claims cowns limit r b claims kept room right is =
+pub can_add : (cowns limit : ℕ) (r : Roster) (claims : List Claim) → IsKept cowns limit r → length r.entries < limit → AreClaims cowns claims → CanAdd r claims
+can_add cowns limit r claims kept room right =
     let q : AreQueued r.entries r.places r.holders r.front = kept.queued in
     let placed : ArePlaced r.entries r.places r.holders.claims = q.placed in
+    let held : AreHeld r.holders (length r.holders.waits) = q.kept in
+    let small : length r.holders.claims + 1 < nowhere = held.small in
     let queue_right : IsQueue (queue cowns limit r) = kept.right in
     let few : length r.holders.claims ≤ most_claims * length r.entries = placed.few in
     let waits : length r.holders.waits ≡ length r.entries = q.sizes in
-    let limits : r.holders.limit ≡ limit = kept.held_limit in
+    let limits : r.limit ≡ limit = kept.limits in
+    let held_limits : r.holders.limit ≡ limit = kept.held_limit in
     let most : limit ≤ most_entries = queue_right.limit in
-    subst (λ (x : Roster). CanAddClaims x claims) (sym is) (record {
-      kept = q.kept;
+    record {
+      entries = omega (arith, room, limits);
+      small = omega (arith, small);
+      kept = held;
       settled = q.settled;
       known = subst (λ (n : ℕ). AreClaims n claims) (sym kept.held_cowns) right;
-      room = omega (arith, room, waits, limits);
+      room = omega (arith, room, waits, held_limits);
       places = omega (arith, few, waits);
-      limit = omega (arith, limits, most);
-    })
+      limit = omega (arith, held_limits, most);
+    }
 
-pub entered_may_pass : (cowns limit : ℕ) (r b a : Roster) (claims : List Claim) → IsKept cowns limit r → b ≡ added r claims
-    → AreHeld a.holders (length a.holders.waits) → HasEntered b.holders a.holders claims → a ≡ record b { holders = a.holders } → CanPass a
-entered_may_pass cowns limit r b a claims kept is held came moves =
+pub entered_may_pass : (cowns limit : ℕ) (r a : Roster) (claims : List Claim) → IsKept cowns limit r
+    → AreHeld a.holders (length a.holders.waits) → HasEntered r.holders a.holders claims → a ≡ record (added r claims) { holders = a.holders } → CanPass a
+entered_may_pass cowns limit r a claims kept held has is =
     let q : AreQueued r.entries r.places r.holders r.front = kept.queued in
-    let has : HasEntered r.holders a.holders claims = subst (λ (x : Roster). HasEntered x.holders a.holders claims) is came in
     let size : length (longer r.entries claims) ≡ length r.entries + 1 = one_longer r.entries claims in
     let sizes : length a.holders.waits ≡ length (longer r.entries claims) = has.waits ∙ ap (λ (i : ℕ). i + 1) q.sizes ∙ sym size in
     let bounded : r.front ≤ length r.holders.free = q.bounded in
     let free = has.free in
     let longer_free : length a.holders.free ≡ length r.holders.free + length free.0 = ap length free.1 ∙ length-append r.holders.free free.0 in
-    let whole : a ≡ record r { entries = longer r.entries claims; places = r.places ++ length r.holders.claims ∷ []; holders = a.holders } =
-    moves ∙ ap (λ (x : Roster). record x { holders = a.holders }) is in
-    subst (λ (x : Roster). CanPass x) (sym whole)
+    subst (λ (x : Roster). CanPass x) (sym is)
     (record { front = omega (arith, bounded, longer_free); known = λ i lt. passes (longer r.entries claims) a.holders i held.free sizes lt })
 
-pub entered_kept : (cowns limit : ℕ) (r b a p : Roster) (claims : List Claim) → IsKept cowns limit r → length r.entries < limit → AreClaims cowns claims → b ≡ added r claims
-    → AreHeld a.holders (length a.holders.waits) → AreSettled a.holders → HasEntered b.holders a.holders claims → a ≡ record b { holders = a.holders }
+pub entered_kept : (cowns limit : ℕ) (r a p : Roster) (claims : List Claim) → IsKept cowns limit r → length r.entries < limit → AreClaims cowns claims
+    → AreHeld a.holders (length a.holders.waits) → AreSettled a.holders → HasEntered r.holders a.holders claims → a ≡ record (added r claims) { holders = a.holders }
     → IsFront a.entries a.holders.free a.front p.front → p ≡ record a { front = p.front } → IsKept cowns limit p
-entered_kept cowns limit r b a p claims kept room right is held settled came moves found f =
+entered_kept cowns limit r a p claims kept room right held settled has is found f =
     let q : AreQueued r.entries r.places r.holders r.front = kept.queued in
-    let has : HasEntered r.holders a.holders claims = subst (λ (x : Roster). HasEntered x.holders a.holders claims) is came in
-    let after : a ≡ record r { entries = longer r.entries claims; places = r.places ++ length r.holders.claims ∷ []; holders = a.holders } =
-    moves ∙ ap (λ (x : Roster). record x { holders = a.holders }) is in
-    let whole : p ≡ record r { entries = longer r.entries claims; places = r.places ++ length r.holders.claims ∷ []; holders = a.holders; front = p.front } =
-    f ∙ ap (λ (x : Roster). record x { front = p.front }) after in
+    let whole : p ≡ record (added r claims) { holders = a.holders; front = p.front } = f ∙ ap (λ (x : Roster). record x { front = p.front }) is in
     subst (λ (x : Roster). IsKept cowns limit x) (sym whole) (record {
       right = longer_queue (queue cowns limit r) claims kept.right room right;
       limits = kept.limits;
       held_limit = has.limit ∙ kept.held_limit;
       held_cowns = has.cowns ∙ kept.held_cowns;
       queued = entered_queued r.entries r.places r.holders a.holders claims r.front p.front q right.few held settled has
-          (subst (λ (x : Roster). IsFront x.entries x.holders.free x.front p.front) after found);
+          (subst (λ (x : Roster). IsFront x.entries x.holders.free x.front p.front) is found);
     })
 
-pub entered_entries : (r b a p : Roster) (claims : List Claim) → b ≡ added r claims → a ≡ record b { holders = a.holders } → p ≡ record a { front = p.front }
+pub entered_entries : (r a p : Roster) (claims : List Claim) → a ≡ record (added r claims) { holders = a.holders } → p ≡ record a { front = p.front }
     → p.entries ≡ longer r.entries claims
-entered_entries r b a p claims is moves f = ap (λ (x : Roster). x.entries) f ∙ ap (λ (x : Roster). x.entries) moves ∙ ap (λ (x : Roster). x.entries) is
+entered_entries r a p claims is f = ap (λ (x : Roster). x.entries) f ∙ ap (λ (x : Roster). x.entries) is
 
 -- what is known of the value, if there is one
 pub if_some : (P Q : ℕ → Type 0) (o : Option ℕ) → IfSome o P → ((n : ℕ) → P n → Q n) → IfSome o Q

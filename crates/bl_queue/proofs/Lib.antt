@@ -11,6 +11,8 @@ pub mod Enter
 pub mod Ready
 pub mod Steps
 pub mod Fresh
+pub mod Links
+pub mod Seats
 pub mod Kept
 pub mod Counts
 pub mod Words

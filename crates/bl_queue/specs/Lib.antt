@@ -1,9 +1,11 @@
 pub mod Claims
 pub mod Entries
 pub mod Holders
+pub mod Links
 pub mod CownRooms
 pub mod Queues
 pub mod Queued
+pub mod Seats
 pub mod RosterRooms
 pub mod Rooms
 pub mod Counts

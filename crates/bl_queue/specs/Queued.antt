@@ -68,6 +68,10 @@ pub record Roster : Type 0 where
 abbrev pub no_roster : ℕ → ℕ → Roster
 no_roster cowns limit = record { entries = []; places = []; holders = no_holders cowns limit; front = 0; limit = limit }
 
+-- the roster with one entry more, whose claims come next
+abbrev pub added : Roster → List Claim → Roster
+added r claims = record r { entries = longer r.entries claims; places = r.places ++ length r.holders.claims ∷ [] }
+
 -- the entries are right, and the claims are theirs
 pub record IsKept (cowns limit : ℕ) (r : Roster) : Type 0 where
   pub right : IsQueue (record { cowns = cowns; limit = limit; entries = r.entries })

@@ -1,24 +1,24 @@
 //! Who holds each cown, and who waits for it. A claim waits in the queue of its cown until all earlier claims that it conflicts
 //! with are over; an entry is free once none of its claims waits.
-ghost use Rattle.std.specs.Prelude.{◌≡◌, ℕ, ◌+◌, ◌*◌, ◌<◌, ◌≤◌, ◌^◌, ◌↔◌, IsTrue, IfOk, IfSome, IsNone, length, replicate, slice_index, true, false};
+ghost use Rattle.std.specs.Prelude.{◌≡◌, ℕ, ◌+◌, ◌*◌, ◌<◌, ◌≤◌, ◌^◌, ◌↔◌, IsTrue, IfOk, IfSome, IsNone, length, replicate, slice_index, slice_set, true, false};
 ghost use Rattle.bl_queue.specs.Claims.{most_claims, AreClaims};
-ghost use Rattle.bl_queue.specs.Queues.{most_entries};
-ghost use Rattle.bl_queue.specs.Holders.{no_cown, no_holders, held_at, cown_at, may_hold, left_at, granted, joined, listed, is_held_at_once, is_holding, AreHeld, AreSettled, IsSettled, over_at, IsAfter, IsEnding, HasEntered};
+ghost use Rattle.bl_queue.specs.Queues.{most_cowns, most_entries};
+ghost use Rattle.bl_queue.specs.Links.{no_place, pushed};
+ghost use Rattle.bl_queue.specs.Holders.{no_cown, no_holders, held_at, cown_at, may_hold, next_at, linked, left_at, granted, joined, listed, is_held_at_once, is_holding, AreHeld, AreSettled, IsSettled, over_at, IsAfter, IsEnding, HasEntered};
 
 use crate::claim::{Claim, MOST_CLAIMS};
 use crate::cown::{Cown, Held};
+use crate::link::Link;
 use std::alloc::{AllocError, Global};
 use std::marker::Model;
 
-/// The claims of all entries in the order in which they entered, which of them are over, for each the next one of its cown,
-/// the cowns, for each entry how many of its claims wait, and the free entries in the order in which they became free.
+/// The claims of all entries in the order in which they entered, the cowns, for each entry how many of its claims wait,
+/// and the free entries in the order in which they became free.
 #[derive(Drop)]
 pub(crate) struct Cowns {
-    claims: Vec<Held>,
-    over: Vec<bool>,
-    next: Vec<Option<u32>>,
+    links: Vec<Link>,
     cowns: Vec<Cown>,
-    waits: Vec<u32>,
+    waits: Vec<u8>,
     free: Vec<u32>,
     limit: u32,
 }
@@ -54,14 +54,12 @@ fn free_cowns(alloc: Global, count: u32) -> Result<Vec<Cown>, AllocError>
 impl Cowns {
     /// So many cowns that nobody holds, with room for all claims of so many entries. No other call takes memory.
     pub(crate) fn new(alloc: Global, cowns: u32, limit: u32) -> Result<Cowns, AllocError>
-        requires { limit ≤ most_entries }
+        requires cowns { cowns ≤ most_cowns }
+        requires limit { limit ≤ most_entries }
         ensures { IfOk result (λ c. c ≡ no_holders cowns limit) }
     {
-        let places = MOST_CLAIMS * limit as usize;
         Ok(Cowns {
-            claims: Vec::with_capacity(alloc, places)?,
-            over: Vec::with_capacity(alloc, places)?,
-            next: Vec::with_capacity(alloc, places)?,
+            links: Vec::with_capacity(alloc, MOST_CLAIMS * limit as usize)?,
             cowns: free_cowns(alloc, cowns)?,
             waits: Vec::with_capacity(alloc, limit as usize)?,
             free: Vec::with_capacity(alloc, limit as usize)?,
@@ -81,7 +79,7 @@ impl Cowns {
         requires { length self.now.claims < 2 ^ 32 }
         ensures { result ≡ length self.now.claims }
     {
-        self.claims.len() as u32
+        self.links.len() as u32
     }
 
     /// How many entries there are.
@@ -100,6 +98,33 @@ impl Cowns {
         self.waits[n as usize] == 0
     }
 
+    /// The claim at a place.
+    fn claim(&self, place: u32) -> Held
+        requires { place < length self.now.claims }
+        ensures { result ≡ held_at self.now.claims place }
+    {
+        let link = self.links[place as usize];
+        link.claim()
+    }
+
+    /// The place of the next claim of its cown.
+    fn next(&self, place: u32) -> Option<u32>
+        requires { place < length self.now.claims }
+        ensures { result ≡ next_at self.now.next place }
+    {
+        let link = self.links[place as usize];
+        link.next()
+    }
+
+    /// A claim is marked as over.
+    fn mark_over(&mut self, place: u32)
+        requires { place < length self.old.claims }
+        ensures { self.new ≡ record self.old { over = slice_set self.old.over place true } }
+    {
+        let link = &mut self.links[place as usize];
+        link.over = true;
+    }
+
     /// A claim is over.
     fn leave(&mut self, place: u32)
         requires place { place < length self.old.claims }
@@ -108,8 +133,8 @@ impl Cowns {
         requires held { 0 < (cown_at self.old.cowns (held_at self.old.claims place).cown).holders }
         ensures { self.new ≡ left_at self.old place }
     {
-        let claim = self.claims[place as usize];
-        self.over[place as usize] = true;
+        let claim = self.claim(place);
+        self.mark_over(place);
         let cown = &mut self.cowns[claim.cown as usize];
         cown.holders -= 1;
     }
@@ -125,8 +150,8 @@ impl Cowns {
         requires free { length self.old.free < self.old.limit }
         ensures { self.new ≡ granted self.old place }
     {
-        let claim = self.claims[place as usize];
-        let next = self.next[place as usize];
+        let claim = self.claim(place);
+        let next = self.next(place);
         let cown = self.cowns[claim.cown as usize];
         self.cowns[claim.cown as usize] = Cown {
             holders: cown.holders + 1,
@@ -147,14 +172,6 @@ impl Cowns {
         ensures { result ≡ cown_at self.now.cowns cown }
     {
         self.cowns[cown as usize]
-    }
-
-    /// The claim at a place.
-    fn claim(&self, place: u32) -> Held
-        requires { place < length self.now.claims }
-        ensures { result ≡ held_at self.now.claims place }
-    {
-        self.claims[place as usize]
     }
 
     /// The first claim that waits for a cown, where it may hold it.
@@ -212,6 +229,27 @@ impl Cowns {
         }
     }
 
+    /// The last claim of a cown gets a next one.
+    fn connect(&mut self, last: Option<u32>, place: u32)
+        requires last { IfSome last (λ l. l < length self.old.claims) }
+        requires place { place < no_place }
+        ensures { self.new ≡ record self.old { next = linked self.old.next last place } }
+    {
+        if let Some(last) = last {
+            let link = &mut self.links[last as usize];
+            link.next = place;
+        }
+    }
+
+    /// A claim more, the last one of its cown.
+    fn push(&mut self, claim: Held)
+        requires cown { claim.cown < length self.old.cowns }
+        requires room { length self.old.claims < most_claims * self.old.limit }
+        ensures { self.new ≡ pushed self.old claim }
+    {
+        self.links.push_reserved(Link::new(claim));
+    }
+
     /// A claim more. Says whether it holds its cown at once.
     fn join(&mut self, claim: Held) -> bool
         requires over { length self.old.over ≡ length self.old.claims }
@@ -219,24 +257,21 @@ impl Cowns {
         requires cown { claim.cown < length self.old.cowns }
         requires held { (cown_at self.old.cowns claim.cown).holders + 1 < 2 ^ 32 }
         requires last { IfSome (cown_at self.old.cowns claim.cown).last (λ l. l < length self.old.claims) }
+        requires small { length self.old.claims < no_place }
         requires room { length self.old.claims < most_claims * self.old.limit }
         ensures value { result ≡ is_held_at_once (cown_at self.old.cowns claim.cown) claim.shared }
         ensures after { self.new ≡ joined self.old claim }
     {
-        let place = self.claims.len() as u32;
-        let cown = self.cowns[claim.cown as usize];
-        self.claims.push_reserved(claim);
-        self.over.push_reserved(false);
-        if let Some(last) = cown.last {
-            self.next[last as usize] = Some(place);
-        }
-        self.next.push_reserved(None);
+        let place = self.count();
+        let cown = self.cown(claim.cown);
+        self.connect(cown.last, place);
+        self.push(claim);
         self.cowns[claim.cown as usize] = cown.joined(claim.shared, place);
         cown.is_held_at_once(claim.shared)
     }
 
     /// An entry more, of whose claims so many wait.
-    fn list(&mut self, waits: u32)
+    fn list(&mut self, waits: u8)
         requires waits { length self.old.waits < self.old.limit }
         requires free { length self.old.free < self.old.limit }
         ensures { self.new ≡ listed self.old waits }

@@ -6,6 +6,7 @@ pub(crate) mod cown;
 pub(crate) mod cowns;
 pub mod entry;
 pub mod laws;
+pub(crate) mod link;
 pub(crate) mod numbers;
 pub mod queues;
 pub(crate) mod roster;

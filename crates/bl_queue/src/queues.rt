@@ -60,7 +60,6 @@ impl Queues {
         ensures { self.new ≡ with_entry self.old claims.now }
     {
         let _next = n;
-        self.roster.add(claims);
         self.roster.add_claims(claims);
         self.roster.pass();
     }

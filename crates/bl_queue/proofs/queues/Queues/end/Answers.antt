@@ -15,7 +15,6 @@ end_claims-requires c =
     record {
       there = can.there;
       place = can.place;
-      few = can.few;
       kept = can.kept;
       settled = can.settled;
       room = can.room;

@@ -1,22 +1,21 @@
-use Rattle.std.proofs.Common.{◌<◌, ◌≤◌, ◌*◌, length, ap, sym, subst}
-use Rattle.bl_queue.specs.Claims.{most_claims, AreClaims}
-use Rattle.bl_queue.specs.Queues.{most_entries}
-use Rattle.bl_queue.specs.Holders.{AreHeld, AreSettled, HasEntered}
-use Rattle.bl_queue.specs.Queued.{Roster}
+use Rattle.std.proofs.Common.{ℕ, List, length, map, ap, ◌∙◌}
+use Rattle.bl_queue.specs.declared.entry.Seat.{Seat}
+use Rattle.bl_queue.specs.Entries.{Entry}
+use Rattle.bl_queue.specs.Queued.{Roster, longer, added}
+use Rattle.bl_queue.specs.Seats.{entry_of}
+use Rattle.bl_queue.proofs.Seats.{longer_entries, longer_places}
 use Rattle.bl_queue.proofs.roster.Roster.add_claims.Goals as goal
 
-pub enter-requires : goal.enter-requires
-enter-requires c = record {
-  kept = subst (λ (r : Roster). AreHeld r.holders (length r.holders.waits)) (sym c.self.view_is) c.requires.kept;
-  settled = subst (λ (r : Roster). AreSettled r.holders) (sym c.self.view_is) c.requires.settled;
-  claims = subst (λ (r : Roster). AreClaims (length r.holders.cowns) c.args.claims.now) (sym c.self.view_is) c.requires.claims;
-  room = subst (λ (r : Roster). length r.holders.waits < r.holders.limit) (sym c.self.view_is) c.requires.room;
-  places = subst (λ (r : Roster). length r.holders.claims ≤ most_claims * length r.holders.waits) (sym c.self.view_is) c.requires.places;
-  limit = subst (λ (r : Roster). r.holders.limit ≤ most_entries) (sym c.self.view_is) c.requires.limit;
-}
-
-pub returns-clause-entered : goal.returns-clause-entered
-returns-clause-entered c = subst (λ (r : Roster). HasEntered r.holders c.enter.new.self c.args.claims.now) c.self.view_is c.enter.ensures.entered
-
 pub returns-clause-others : goal.returns-clause-others
-returns-clause-others c = ap (λ (r : Roster). record r { holders = c.enter.new.self }) c.self.view_is
+returns-clause-others c =
+    let held = c.self.inside.holders.claims in
+    let now = c.enter.new.self in
+    let seats = c.self.inside.seats.items in
+    let items = c.push_reserved.new.self.items in
+    let make : List Entry → List ℕ → Roster = λ es ps. record { entries = es; places = ps; holders = now; front = c.self.inside.front; limit = c.self.inside.limit } in
+    ap (λ (es : List Entry). make es (map (λ (s : Seat). s.place) items))
+    (longer_entries held now.claims (length c.self.inside.holders.waits) c.count-place.result c.args.claims.now seats items c.enter.ensures.entered.claims c.count-place.ensures
+    c.push_reserved.ensures.items c.self.invariant.within)
+    ∙ ap (make (longer (map (entry_of held) seats) c.args.claims.now))
+    (longer_places seats items c.count-place.result (length held) (length c.args.claims.now) c.count-place.ensures c.push_reserved.ensures.items)
+    ∙ ap (λ (r : Roster). record (added r c.args.claims.now) { holders = now }) c.self.view_is

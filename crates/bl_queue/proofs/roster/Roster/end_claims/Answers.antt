@@ -1,4 +1,7 @@
-use Rattle.std.proofs.Common.{◌≡◌, ◌+◌, ◌≤◌, ℕ, false, length, slice_index, ap, sym, subst, arith}
+use Rattle.std.proofs.Common.{◌≡◌, ◌+◌, ◌≤◌, ℕ, false, List, length, map, slice_index, ap, sym, subst, ◌∙◌, arith}
+use Rattle.bl_queue.specs.declared.cown.Held.{Held}
+use Rattle.bl_queue.specs.declared.entry.Seat.{Seat}
+use Rattle.bl_queue.specs.Seats.{entry_of}
 use Rattle.bl_queue.specs.Holders.{held_at, over_at, AreHeld, AreSettled, IsEnding}
 use Rattle.bl_queue.specs.Queued.{Roster}
 use Rattle.bl_queue.proofs.roster.Roster.end_claims.Goals as goal
@@ -24,4 +27,14 @@ returns-clause-ended c =
     (subst (λ (r : Roster). IsEnding r.holders c.place-first.result (c.place-first.result + c.claim_count-count.result) c.release_all.new.self) c.self.view_is c.release_all.ensures))
 
 pub returns-clause-others : goal.returns-clause-others
-returns-clause-others c = ap (λ (r : Roster). record r { holders = c.release_all.new.self }) c.self.view_is
+returns-clause-others c =
+    let seats = c.self.inside.seats.items in
+    let make : List Held → Roster = λ held.
+    record {
+      entries = map (entry_of held) seats;
+      places = map (λ (s : Seat). s.place) seats;
+      holders = c.release_all.new.self;
+      front = c.self.inside.front;
+      limit = c.self.inside.limit;
+    } in
+    ap make c.release_all.ensures.claims ∙ ap (λ (r : Roster). record r { holders = c.release_all.new.self }) c.self.view_is
