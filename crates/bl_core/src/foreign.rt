@@ -2,7 +2,6 @@
 //!
 //! Neither of these types has `Drop`: each is taken apart, or buried.
 use bl_eval::lent::{Done, DoneParts, Unrun, UnrunParts};
-use bl_grant::grant::Returned;
 use std::marker::Model;
 
 /// What was done, handed back by a core that did not lend what it was done with. Its value is what was lent, and to whom.
@@ -47,12 +46,11 @@ impl Foreign {
             entry: _,
             script: _,
             index: _,
-            inputs: _,
+            grants,
             outputs: _,
             spawned: _,
-            returned,
         } = done.into_parts();
-        spend(returned);
+        grants.give_up();
     }
 }
 
@@ -100,15 +98,6 @@ impl ForeignUnrun {
             index: _,
             grants,
         } = unrun.into_parts();
-        spend(grants.close());
+        grants.give_up();
     }
-}
-
-/// Spends what came back of grants.
-fn spend(returned: Vec<Returned>) {
-    let mut returned = returned;
-    while let Some(back) = returned.pop() {
-        let _content = back.into_content();
-    }
-    returned.destroy_empty();
 }

@@ -34,6 +34,7 @@ use bl_setup::setup::Setup;
 use bl_work::answer::Answer;
 use bl_work::document::Document;
 use bl_work::names::Names;
+use bl_work::script::Script;
 use bl_work::work::Work;
 use bl_write::knows::KnowsWorks;
 use std::alloc::{AllocError, Global};
@@ -127,7 +128,7 @@ impl Core {
     ghost use Rattle.bl_order.specs.Lineage.{KeepsItsLineage};
     ghost use Rattle.bl_order.specs.Machine.{Opens, Admits, Starts, Ends, Loses, MayStart, Hold, Needs, State, change, has_ended, held, is_lost, past_at, runs, start};
     ghost use Rattle.bl_order.specs.Now.{content_at, content_now, policy_at, policy_now, IsFirstToAlter};
-    ghost use Rattle.bl_order.specs.Order.{Applies, accesses_of, is_altered, is_rule};
+    ghost use Rattle.bl_order.specs.Order.{Applies, Runs, accesses_of, is_altered, is_rule};
     ghost use Rattle.bl_order.specs.Past.{is_done};
     ghost use Rattle.bl_order.specs.TheHeadline.{IsTheHeadline};
     ghost use Rattle.bl_core.specs.Answers.{IsCause, IsLentBy, IsNotOpened, IsStarted, IsStarvedBy, grants_at, loan_at};
@@ -416,12 +417,11 @@ impl Core {
             entry,
             script: _,
             index: _,
-            inputs: _,
+            grants,
             outputs,
             spawned,
-            returned,
         } = done.into_parts();
-        take_back(self.shelves.as_mut_slice(), returned);
+        take_back(self.shelves.as_mut_slice(), grants);
         self.queues.end(entry);
         let place = &mut self.places[entry as usize];
         place.stand = Stand::Ended(Answer::Done(outputs));
@@ -444,7 +444,7 @@ impl Core {
         requires lent { grants ≡ grants_at self.old entry }
         ensures { self.new ≡ change self.old (Loses entry) }
     {
-        take_back(self.shelves.as_mut_slice(), grants.close());
+        take_back(self.shelves.as_mut_slice(), grants);
         self.queues.end(entry);
         let place = &mut self.places[entry as usize];
         place.stand = Stand::Ended(Answer::Lost);
@@ -721,6 +721,17 @@ impl Core {
             return None;
         }
         Some(self.places[n as usize].carried)
+    }
+
+    /// The script of which an entry runs a behaviour, and the number of that behaviour; `None` for a rule.
+    pub fn behaviour(&self, n: u32) -> Option<(&Script, usize)>
+        requires { n < length self.now.order }
+        ensures { MatchOption result (is_rule (past_at self.now n).task ≡ true) (λ found. (past_at self.now n).task ≡ Runs found.0.now found.1) }
+    {
+        match work_at(self.places.as_slice(), n as usize) {
+            Work::Behaviour(script) => Some((script, usize::from(self.places[n as usize].index))),
+            Work::Rule(_) => None,
+        }
     }
 
     /// Whether an entry has ended; `false` where it is not there.

@@ -1,5 +1,5 @@
-//! A core over the base setup, and what the tests ask of it. A core is let go by `drop`, which is proved once for all tests, and not at
-//! the end of a scope, where the proof takes it apart each time.
+//! A core over the base setup, and what the tests ask of it. A core is let go by `drop`, which is proved once for all
+//! tests, and not at the end of a scope, where the proof takes it apart each time.
 ghost use Rattle.std.specs.Prelude.{◌≡◌, Ok};
 
 use bl_core::machine::{Core, Started};
@@ -58,6 +58,10 @@ const MODES_OF_CAT_AND_ROOT: &[u8] = b" r\nallow root note r w\n";
 /// `when read memo do show memo; end`
 pub(super) const SHOW_MEMO: &[u8] = b"when read memo do show memo; end";
 
+/// A line that spawns a reader of what it added to.
+pub(super) const ADD_AND_SPAWN: &[u8] =
+    b"when write memo do add memo \"a\"; spawn when read memo do show memo; end; end";
+
 /// A line, behind the number of its subject.
 pub(super) type Said<'a> = (u16, &'a [u8]);
 
@@ -97,6 +101,12 @@ pub(super) fn setup_text(
         text.extend_from_slice(part)?;
     }
     Ok(text)
+}
+
+/// The base setup; none where a growth is refused.
+pub(super) fn base_or_none(alloc: Global) -> Option<Setup> {
+    let text = setup_text(alloc, b"memo", b"m1", b"").ok()?;
+    read_setup(alloc, &text).ok()
 }
 
 /// The base setup with this name of the memo and this content, and with further lines.
@@ -238,10 +248,10 @@ pub(super) fn is_not_ready(rt: &impl Abort, core: &mut Core, n: u32) -> bool {
     }
 }
 
-/// Whether an entry is done, and showed these texts.
-pub(super) fn is_done(core: &Core, n: u32, texts: &[&[u8]]) -> bool {
-    match core.answer(n) {
-        Some(Answer::Done(outputs)) => {
+/// Whether an answer is that of an entry that is done, and showed these texts.
+pub(super) fn has_shown(answer: &Answer, texts: &[&[u8]]) -> bool {
+    match answer {
+        Answer::Done(outputs) => {
             outputs.texts().len() == texts.len()
                 && outputs
                     .texts()
@@ -250,6 +260,14 @@ pub(super) fn is_done(core: &Core, n: u32, texts: &[&[u8]]) -> bool {
                     .all(|(shown, text)| shown.bytes() == *text)
         }
         _ => false,
+    }
+}
+
+/// Whether an entry is done, and showed these texts.
+pub(super) fn is_done(core: &Core, n: u32, texts: &[&[u8]]) -> bool {
+    match core.answer(n) {
+        Some(answer) => has_shown(answer, texts),
+        None => false,
     }
 }
 

@@ -1,4 +1,5 @@
-//! The tests of `bl_core`: the worked examples of a core, and one list of entries in many orders.
+//! The tests of `bl_core` and `bl_hall`: the worked examples of a core and a hall, and one list of entries in many
+//! orders.
 //!
 //!     base         a core over the base setup, and what the tests ask of it
 //!     examples     what is allowed, denied and changed, entry after entry
@@ -9,14 +10,22 @@
 //!     memory       what is left where a growth is refused
 //!     losses       what is lost though nobody tried it
 //!     orders       one list of entries in many orders, each answer compared with the monitor's
+//!     halls        a hall over the base setup, and what the tests ask of it
+//!     answers      what a hall answers its sessions
+//!     trails       which events a hall keeps
+//!     starved      what is left in a hall where a growth is refused
 #![tactic(auto)]
 
+#[cfg(test)]
+mod answers;
 #[cfg(test)]
 mod base;
 #[cfg(test)]
 mod carried;
 #[cfg(test)]
 mod examples;
+#[cfg(test)]
+mod halls;
 #[cfg(test)]
 mod losses;
 #[cfg(test)]
@@ -29,3 +38,7 @@ mod presence;
 mod refusals;
 #[cfg(test)]
 mod starts;
+#[cfg(test)]
+mod starved;
+#[cfg(test)]
+mod trails;

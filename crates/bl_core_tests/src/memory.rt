@@ -1,5 +1,5 @@
 //! What is left where a growth is refused.
-use super::base::{ANN, MEMO, SHOW_MEMO, finish, has, is_done, is_lost, right, run, setup_text};
+use super::base::{ANN, MEMO, SHOW_MEMO, base_or_none, finish, has, is_done, is_lost, right, run};
 use bl_core::machine::{Core, Started};
 use bl_core::refusal::{NotReady, StartFault, Starved};
 use bl_core::session::SessionNo;
@@ -7,17 +7,9 @@ use bl_eval::evaluate::eval;
 use bl_eval::lent::{Lent, Unrun};
 use bl_policy::id::SubjectId;
 use bl_read::line::read_line;
-use bl_setup::reader::read_setup;
-use bl_setup::setup::Setup;
 use bl_work::asked::Line;
 use std::alloc::{AllocGlobal, Global};
 use std::process::Abort;
-
-/// The base setup; none where a growth is refused.
-fn base_or_none(alloc: Global) -> Option<Setup> {
-    let text = setup_text(alloc, b"memo", b"m1", b"").ok()?;
-    read_setup(alloc, &text).ok()
-}
 
 /// Whether a line of `ann` is admitted: not where a growth of its reading is refused.
 fn admits(core: &mut Core, alloc: Global, ordinal: u32, text: &[u8]) -> bool {
@@ -114,9 +106,9 @@ fn memo_after<'a>(core: &Core) -> &'a [u8] {
     if is_lost(core, 0) { b"m1" } else { b"m1a" }
 }
 
-/// It passes with ample memory, and with any one of its growths refused, one in each run (`rt try --test --fail-alloc N`): there is no
-/// core then, or an entry that was refused a growth at its start is as it was, and one that was refused a growth while it ran is lost,
-/// and has changed nothing.
+/// It passes with ample memory, and with any one of its growths refused, one in each run
+/// (`rt try --test --fail-alloc N`): there is no core then, or an entry that was refused a growth at its start is as it
+/// was, and one that was refused a growth while it ran is lost, and has changed nothing.
 #[test]
 fn starved_and_lost(rt: HostRuntime) {
     if let Some(other) = idle(rt.alloc()) {

@@ -1,7 +1,7 @@
 //! Documents that come and go.
 use super::base::{
-    ANN, BOB, MEMO, ROOT, SHOW_MEMO, Said, base_core, core_over, has, has_modes, is_denied,
-    is_done, is_made, run_all, run_entries, setup_with,
+    ADD_AND_SPAWN, ANN, BOB, MEMO, ROOT, SHOW_MEMO, Said, base_core, core_over, has, has_modes,
+    is_denied, is_done, is_made, run_all, run_entries, setup_with,
 };
 use bitflags::Flags;
 use bl_core::machine::Core;
@@ -182,10 +182,6 @@ fn administrators_alone_create_and_delete(rt: HostRuntime) {
     assert!(rt; is_there(&core, MEMO));
     drop(core);
 }
-
-/// A line that spawns a reader of what it added to.
-const ADD_AND_SPAWN: &[u8] =
-    b"when write memo do add memo \"a\"; spawn when read memo do show memo; end; end";
 
 /// A child enters behind a delete that was admitted while its parent had not ended.
 #[test]

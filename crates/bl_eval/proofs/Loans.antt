@@ -1,5 +1,5 @@
 -- Grants as they are lent, and what they give back.
-use Rattle.std.proofs.Common.{◌≡◌, ℕ, zero, suc, ◌+◌, ◌<◌, cond, List, [], ◌∷◌, ◌++◌, get_or, take, add-one, length, refl, ap, sym, ◌∙◌, arith}
+use Rattle.std.proofs.Common.{◌≡◌, ℕ, cond, List, [], ◌∷◌, length, refl, ap, sym, ◌∙◌, subst, arith}
 use Rattle.std.specs.Prelude.{◌==◌, map}
 use mathlib.Core.Path.{fun_ext}
 use Rattle.std.proofs.lemmas.List.{length-map}
@@ -74,13 +74,16 @@ these-lent e xs gs cs for same = (
   lent-for e xs gs for ∙ for.lent ∙ ap (loans e xs) same,
 )
 
-take-next : (xs : List (List ℕ)) (i : ℕ) (d : List ℕ) → i < length xs → take (suc i) xs ≡ take i xs ++ get_or xs i d ∷ []
-take-next [] i d lt = absurd (omega arith)
-take-next (x ∷ xs) zero d lt = refl
-take-next (x ∷ xs) (suc i) d lt = ap (λ l. x ∷ l) (take-next xs i d (omega arith))
+lent-twice : (gs : List Loaned) → map as_lent (map as_lent gs) ≡ map as_lent gs
+lent-twice [] = refl
+lent-twice (g ∷ gs) = ap (λ l. as_lent g ∷ l) (lent-twice gs)
 
--- one more content is the same
-pub same-more : (xs ys : List (List ℕ)) (i : ℕ) (x y : List ℕ) → take i xs ≡ take i ys → x ≡ y → i < length xs → i < length ys → x ≡ get_or xs i x → y ≡ get_or ys i y
-    → take (i + 1) xs ≡ take (i + 1) ys
-same-more xs ys i x y so_far one lt lt' at at' =
-    rw add-one (take-next xs i x lt ∙ ap (λ s. take i xs ++ s ∷ []) (sym at ∙ one ∙ at') ∙ ap (λ l. l ++ get_or ys i y ∷ []) so_far ∙ sym (take-next ys i y lt'))
+-- whatever was done with the grants since
+pub these-were_lent : (e : ℕ) (xs : List Access) (gs : List Loaned) (cs : List (List ℕ)) → AreFor e xs (map as_lent gs) → lent_of gs ≡ cs
+    → (length cs ≡ length xs) × (map as_lent gs ≡ loans e xs cs)
+these-were_lent e xs gs cs for same =
+    let these = these-lent e xs (map as_lent gs) cs for (lent-again gs ∙ same) in (these.0, sym (lent-twice gs) ∙ these.1)
+
+-- grants that were lent for these accesses are still for them
+pub still-for : (e : ℕ) (xs : List Access) (gs now : List Loaned) → AreFor e xs gs → map as_lent now ≡ gs → AreFor e xs (map as_lent now)
+still-for e xs gs now for kept = subst (AreFor e xs) (sym kept) for

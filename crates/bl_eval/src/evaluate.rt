@@ -11,7 +11,7 @@ ghost use Rattle.bl_eval.specs.Performed.{HasPerformed};
 
 use crate::lent::{Done, Lent, Unrun};
 use crate::told::Told;
-use bl_grant::grants::{Closed, Grants};
+use bl_grant::grants::Grants;
 use bl_work::answer::Outputs;
 use bl_work::script::{Script, Stmt};
 use std::alloc::{AllocError, Global};
@@ -77,19 +77,12 @@ pub fn eval(alloc: Global, lent: Lent) -> Result<Done, Unrun>
         Err(_) => return Err(leave(entry, script, index, grants)),
     };
     let Performed { outputs, spawned } = performed;
-    match grants.close_with_lent(alloc) {
-        Ok(closed) => {
-            let Closed { lent, returned } = closed;
-            Ok(Done {
-                entry,
-                script,
-                index,
-                inputs: lent,
-                outputs,
-                spawned,
-                returned,
-            })
-        }
-        Err(grants) => Err(leave(entry, script, index, grants)),
-    }
+    Ok(Done {
+        entry,
+        script,
+        index,
+        grants: grants.withdraw(),
+        outputs,
+        spawned,
+    })
 }

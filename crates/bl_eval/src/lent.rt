@@ -1,13 +1,13 @@
 //! A behaviour that was lent its grants, one that was done, and one left undone when memory ran out.
 //!
 //! None of these types has `Drop`: each is taken apart.
-ghost use Rattle.std.specs.Prelude.{◌≡◌, ◌<◌, ◌↔◌, [], length, slice_index_or, IsTrue};
+ghost use Rattle.std.specs.Prelude.{◌≡◌, ◌<◌, ◌↔◌, [], length, map, slice_index_or, IsTrue};
 ghost use Rattle.bl_work.specs.Statements.{no_part};
 ghost use Rattle.bl_work.specs.Effects.{outputs, children};
+ghost use Rattle.bl_grant.specs.Loaned.{back_of};
 ghost use Rattle.bl_grant.specs.Loans.{loans, lent_of, entry_of};
 ghost use Rattle.bl_eval.specs.Loan.{part_of, effects_on, backs, AreFor};
 
-use bl_grant::grant::Returned;
 use bl_grant::grants::Grants;
 use bl_grant::withdrawn::Withdrawn;
 use bl_work::answer::Outputs;
@@ -44,10 +44,9 @@ pub struct Done {
     pub(crate) entry: u32,
     pub(crate) script: Script,
     pub(crate) index: u8,
-    pub(crate) inputs: Vec<Document>,
+    pub(crate) grants: Withdrawn,
     pub(crate) outputs: Outputs,
     pub(crate) spawned: Vec<u8>,
-    pub(crate) returned: Vec<Returned>,
 }
 
 impl Model for Done {
@@ -98,14 +97,12 @@ pub struct DoneParts {
     pub script: Script,
     /// The number of that behaviour in the script.
     pub index: u8,
-    /// The contents that were lent, in declared order.
-    pub inputs: Vec<Document>,
+    /// The grants, in declared order: what was lent, and what the behaviour has made of it.
+    pub grants: Withdrawn,
     /// What was shown.
     pub outputs: Outputs,
     /// The numbers of the behaviours that were spawned, in order.
     pub spawned: Vec<u8>,
-    /// What the grants gave back, in declared order.
-    pub returned: Vec<Returned>,
 }
 
 /// The parts of an `Unrun`, or of a `Lent` that is not to run.
@@ -118,21 +115,6 @@ pub struct UnrunParts {
     pub index: u8,
     /// The grants as they were lent, in declared order.
     pub grants: Withdrawn,
-}
-
-/// Whether these are the same contents, in order.
-fn are_same(documents: &[Document], others: &[Document]) -> bool
-    ensures { IsTrue result ↔ (documents.now ≡ others.now) }
-{
-    if documents.len() != others.len() {
-        return false;
-    }
-    for (i, document) in documents.iter().enumerate() {
-        if document != &others[i] {
-            return false;
-        }
-    }
-    true
 }
 
 impl Lent {
@@ -204,7 +186,7 @@ impl Done {
     pub fn inputs(&self) -> usize
         ensures { result ≡ length self.now.inputs }
     {
-        self.inputs.len()
+        self.grants.count()
     }
 
     /// Whether this content was lent, in this place of declared order.
@@ -212,7 +194,7 @@ impl Done {
         requires { place < length self.now.inputs }
         ensures { IsTrue result ↔ (slice_index_or self.now.inputs place [] ≡ content.now) }
     {
-        &self.inputs[place] == content
+        self.grants.had(place, content)
     }
 
     /// Whether this is what a behaviour did that was lent these contents: its number, script, index and inputs are these.
@@ -228,34 +210,33 @@ impl Done {
         if !self.script.is_same(script) {
             return false;
         }
-        are_same(&self.inputs, contents)
+        let accesses = self.script.accesses(usize::from(index));
+        self.grants.were_lent(entry, accesses, contents)
     }
 
     /// Gives the parts: what was lent, and what the behaviour does on it.
     pub fn into_parts(self) -> DoneParts
-        ensures loan { self ≡ record { entry = result.entry; script = result.script; index = result.index; inputs = result.inputs.items } }
+        ensures loan { self ≡ record { entry = result.entry; script = result.script; index = result.index; inputs = lent_of result.grants } }
         ensures there { result.index < length result.script }
         ensures outputs { result.outputs ≡ outputs (effects_on self) }
         ensures spawned { result.spawned.items ≡ children (effects_on self) }
-        ensures returned { result.returned.items ≡ backs self.entry (part_of self).accesses self.inputs (effects_on self) }
+        ensures returned { map back_of result.grants ≡ backs self.entry (part_of self).accesses self.inputs (effects_on self) }
     {
         let Done {
             entry,
             script,
             index,
-            inputs,
+            grants,
             outputs,
             spawned,
-            returned,
         } = self;
         DoneParts {
             entry,
             script,
             index,
-            inputs,
+            grants,
             outputs,
             spawned,
-            returned,
         }
     }
 }

@@ -24,7 +24,7 @@ fn is_as_lent(unrun: Unrun, script: &Script, documents: &[Document]) -> bool {
         index: _,
         grants,
     } = unrun.into_parts();
-    are_back(grants.close(), documents) && right
+    are_back(grants, documents) && right
 }
 
 /// The accesses of the script's one behaviour, of which there are as many as documents.
@@ -98,13 +98,12 @@ fn is_expected(parts: DoneParts, texts: &[&[u8]], doc: u16, content: &[u8]) -> b
         entry,
         script: _,
         index: _,
-        inputs: _,
+        grants,
         outputs,
         spawned,
-        returned,
     } = parts;
     let shown = are_shown(outputs.texts(), texts);
-    let back = match back_of(returned, DocId::new(doc)) {
+    let back = match back_of(grants, DocId::new(doc)) {
         Some(back) => back.bytes() == content,
         None => false,
     };
@@ -169,12 +168,11 @@ fn is_cut(parts: DoneParts, doc: u16) -> bool {
         entry: _,
         script: _,
         index: _,
-        inputs: _,
+        grants,
         outputs,
         spawned: _,
-        returned,
     } = parts;
-    match back_of(returned, DocId::new(doc)) {
+    match back_of(grants, DocId::new(doc)) {
         Some(back) => is_full(&back) && outputs.texts().is_empty(),
         None => false,
     }

@@ -1,5 +1,5 @@
-//! Contents, what came back of grants, and what a test expects.
-use bl_grant::grant::Returned;
+//! Contents, what comes back of grants, and what a test expects.
+use bl_grant::withdrawn::Withdrawn;
 use bl_policy::id::DocId;
 use bl_work::document::Document;
 use std::alloc::{AllocError, Global};
@@ -35,32 +35,32 @@ pub fn is_full(content: &Document) -> bool {
     bytes.len() == 65_536 && bytes[65_535] == b'x' && bytes[65_534] == b'a'
 }
 
-/// Whether just these contents came back, in order.
-pub fn are_back(returned: Vec<Returned>, documents: &[Document]) -> bool {
-    let mut returned = returned;
-    let mut same = returned.len() == documents.len();
-    while let Some(back) = returned.pop() {
+/// Whether just these contents come back, in order.
+pub fn are_back(grants: Withdrawn, documents: &[Document]) -> bool {
+    let mut grants = grants;
+    let mut same = grants.count() == documents.len();
+    while let Some(back) = grants.close_last() {
         let content = back.into_content();
-        let place = returned.len();
+        let place = grants.count();
         if place >= documents.len() || documents[place] != content {
             same = false;
         }
     }
-    returned.destroy_empty();
+    grants.end();
     same
 }
 
-/// What came back of a document.
-pub fn back_of(returned: Vec<Returned>, doc: DocId) -> Option<Document> {
-    let mut returned = returned;
+/// What comes back of a document.
+pub fn back_of(grants: Withdrawn, doc: DocId) -> Option<Document> {
+    let mut grants = grants;
     let mut found = None;
-    while let Some(back) = returned.pop() {
+    while let Some(back) = grants.close_last() {
         if back.access().doc == doc {
             found = Some(back.into_content());
         } else {
             let _content = back.into_content();
         }
     }
-    returned.destroy_empty();
+    grants.end();
     found
 }

@@ -8,7 +8,7 @@ ghost use Rattle.bl_grant.specs.Loans.{accesses_of};
 
 use crate::fixtures::{all_hold, are_back, expect, is_full, nearly_full};
 use bl_grant::grant::{AppendGrant, Grant, ReadGrant, Returned, WriteGrant};
-use bl_grant::grants::{Closed, Grants};
+use bl_grant::grants::Grants;
 use bl_policy::access::{Access, Mode};
 use bl_policy::id::DocId;
 use bl_work::document::Document;
@@ -214,20 +214,15 @@ fn both(alloc: Global, accesses: &[Access], contents: &[Document]) -> Result<Gra
     Grants::lend(alloc, 7, accesses, contents)
 }
 
-/// Whether closing the grants gives `n1` and `l1` as what was lent, and these contents back.
-fn are_closed(alloc: Global, grants: Grants, after: &[Document]) -> bool {
-    match grants.close_with_lent(alloc) {
-        Ok(Closed { lent, returned }) => {
-            let inputs = lent.len() == 2
-                && lent[0].bytes() == b"n1".as_slice()
-                && lent[1].bytes() == b"l1".as_slice();
-            are_back(returned, after) && inputs
-        }
-        Err(grants) => {
-            let _contents = are_back(grants.close(), after);
-            false
-        }
-    }
+/// Whether the grants had these two contents before, and give back those after.
+fn are_closed(grants: Grants, before: &[Document], after: &[Document]) -> bool
+    requires { length before.now ≡ 2 }
+{
+    let withdrawn = grants.withdraw();
+    let had = withdrawn.count() == 2
+        && withdrawn.had(0, &before[0])
+        && withdrawn.had(1, &before[1]);
+    are_back(withdrawn, after) && had
 }
 
 /// `read note, append log`.
@@ -259,7 +254,7 @@ fn go_by_document(
     let entry = grants.entry() == 7;
     let shown = grants.content(note()).bytes() == b"n1".as_slice();
     let added = grants.add(alloc, DocId::new(2), b"x").is_ok();
-    let closed = are_closed(alloc, grants, after);
+    let closed = are_closed(grants, contents, after);
     Ok(all_hold(&[entry, shown, added, closed]))
 }
 
@@ -277,7 +272,7 @@ fn tell_what_was_lent(
     let withdrawn = grants.withdraw();
     let lent = withdrawn.were_lent(7, &accesses, contents);
     let to_another = withdrawn.were_lent(8, &accesses, contents);
-    let closed = are_back(withdrawn.close(), after);
+    let closed = are_back(withdrawn, after);
     Ok(all_hold(&[added, lent, !to_another, closed]))
 }
 

@@ -1,10 +1,10 @@
 -- Grants one by one.
-use Rattle.std.proofs.Common.{◌≡◌, ℕ, zero, suc, ◌+◌, ◌<◌, List, [], ◌∷◌, ◌++◌, length, get_or, take, drop, set, refl, ap, sym, ◌∙◌, arith, add-one, append_assoc, append-nil, ◌≤◌}
-use Rattle.std.specs.Prelude.{map, reverse}
-use Rattle.std.proofs.lemmas.List.{map-append, reverse-append, reverse-reverse, length-map, get_or-map}
+use Rattle.std.proofs.Common.{◌≡◌, ℕ, zero, suc, ◌+◌, ◌<◌, List, [], ◌∷◌, ◌++◌, length, get_or, take, drop, set, refl, ap, sym, ◌∙◌, arith, add-one, ◌≤◌}
+use Rattle.std.specs.Prelude.{map}
+use Rattle.std.proofs.lemmas.List.{map-append, length-map, get_or-map}
 use Rattle.std.proofs.lemmas.Simd.{map-map}
 use Rattle.bl_policy.specs.declared.access.Access.{Access}
-use Rattle.bl_grant.specs.Loaned.{Loaned, Back, loan, as_lent, back_of, no_loan}
+use Rattle.bl_grant.specs.Loaned.{Loaned, loan, as_lent, no_loan}
 use Rattle.bl_grant.specs.Loans.{loans}
 use Rattle.bl_grant.specs.Granted.{loaned_of}
 use Rattle.bl_grant.specs.declared.grant.Grant.{Grant}
@@ -23,28 +23,6 @@ pub lend-more : (e : ℕ) (gs : List Grant) (g : Grant) (xs : List Access) (cs :
 lend-more e gs g xs cs i a t was from at one lt lt' =
     rw add-one (map-append loaned_of gs (g ∷ []) ∙ ap (λ l. l ++ loaned_of g ∷ []) was
     ∙ ap (λ x. loans e (take i xs) (take i cs) ++ x ∷ []) (one ∙ ap (λ c. loan e a c) at ∙ ap (λ x. loan e x (get_or cs i t)) from) ∙ sym (loans-suc e xs cs i a t lt lt'))
-
--- what a grant of the code gives back
-abbrev pub closed : Grant → Back
-closed g = back_of (loaned_of g)
-
--- one more grant closed, of those that are taken from the end
-pub close-more : (done more : List Back) (gs rest : List Grant) (g : Grant) → gs ≡ rest ++ g ∷ [] → more ≡ done ++ closed g ∷ []
-    → more ++ map closed (reverse rest) ≡ done ++ map closed (reverse gs)
-close-more done more gs rest g e m =
-    ap (λ l. l ++ map closed (reverse rest)) m ∙ append_assoc done (closed g ∷ []) (map closed (reverse rest))
-    ∙ ap (λ l. done ++ map closed l) (sym (ap reverse e ∙ reverse-append rest (g ∷ [])))
-
-pub no-length : {A : Type 0} (xs : List A) → length xs ≡ 0 → xs ≡ []
-no-length [] e = refl
-no-length (x ∷ xs) e = absurd (omega (arith, e))
-
--- what all of them give back, where none is left
-pub close-all : (done : List Back) (gs turned all : List Grant) → done ++ map closed (reverse gs) ≡ map closed (reverse turned) → length gs ≡ 0 → turned ≡ reverse all
-    → done ≡ map back_of (map loaned_of all)
-close-all done gs turned all e none t =
-    sym (ap (λ l. done ++ map closed (reverse l)) (no-length gs none) ∙ append-nil done) ∙ e
-    ∙ ap (λ l. map closed (reverse l)) t ∙ ap (map closed) (reverse-reverse all) ∙ sym (map-map back_of loaned_of all)
 
 -- a grant of the code, as it was lent
 abbrev pub was : Grant → Loaned

@@ -2,4 +2,4 @@ pub mod Loaned
 pub mod Fronts
 pub mod Loans
 pub mod Granted
-pub mod Rooms
+pub mod Counts

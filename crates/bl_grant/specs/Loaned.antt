@@ -1,5 +1,5 @@
 -- What one grant is, and what comes back of it.
-use Rattle.std.specs.Prelude.{ℕ, List, []}
+use Rattle.std.specs.Prelude.{◌≡◌, ℕ, List, [], ◌∷◌, ◌++◌}
 use Rattle.bl_policy.specs.declared.access.Access.{Access}
 use Rattle.bl_policy.specs.declared.access.Mode.TheVariants.{Read}
 
@@ -35,3 +35,9 @@ back_of g = record { entry = g.entry; access = g.access; content = g.now }
 -- what stands where there is no grant
 abbrev pub no_loan : Loaned
 no_loan = loan 0 (record { mode = Read; doc = 0 }) []
+
+-- the last of the grants was closed, and this came back of it
+pub record HasClosed (before after : List Loaned) (back : Back) : Type 0 where
+  pub grant : Loaned
+  pub last : before ≡ after ++ grant ∷ []
+  pub gives : back ≡ back_of grant

@@ -316,17 +316,6 @@ impl Grant {
         }
     }
 
-    /// The content that was lent, with one more owner.
-    pub(crate) fn share_lent(&self) -> Result<Document, AllocError>
-        ensures { IfOk result (λ d. d ≡ (loaned_of self.now).lent) }
-    {
-        match self {
-            Grant::Read(grant) => grant.content.share(),
-            Grant::Append(grant) => grant.held.share_lent(),
-            Grant::Write(grant) => grant.held.share_lent(),
-        }
-    }
-
     /// The content as it is now, of a grant that may be looked at.
     pub(crate) fn now(&self) -> &Document
         requires { IsTrue (observes (loaned_of self.now).access.mode) }

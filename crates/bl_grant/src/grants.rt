@@ -1,13 +1,13 @@
 //! The grants of one behaviour: one for each access that it declares, in order.
-ghost use Rattle.std.specs.Prelude.{◌≡◌, ◌+◌, ◌<◌, ◌≤◌, ◌↔◌, ◌==◌, length, map, IsTrue, IfOk, IfErr, OnOk, OnErr, slice_index_or, vec_len};
+ghost use Rattle.std.specs.Prelude.{◌≡◌, ◌+◌, ◌<◌, ◌≤◌, ◌↔◌, ◌==◌, length, map, [], IsTrue, IfOk, OnOk, OnErr, MatchOption, slice_index_or, vec_len};
 ghost use Rattle.std.specs.List.{list_all, list_any};
 ghost use Rattle.std.specs.Vec.{vec_capacity};
 ghost use Rattle.bl_policy.specs.declared.access.Access.{Access};
 ghost use Rattle.bl_work.specs.Content.{IsContent, is_content_byte, added};
 ghost use Rattle.bl_work.specs.Modes.{declares, observes, alters, is_write};
 ghost use Rattle.bl_work.specs.Script.{AreApart, most_accesses};
-ghost use Rattle.bl_grant.specs.Loaned.{Loaned, as_lent, back_of, no_loan};
-ghost use Rattle.bl_grant.specs.Loans.{loans, accesses_of, lent_of, entry_of, content_of, changed, IsPlace};
+ghost use Rattle.bl_grant.specs.Loaned.{Loaned, as_lent, no_loan, HasClosed};
+ghost use Rattle.bl_grant.specs.Loans.{loans, accesses_of, entry_of, content_of, changed, IsPlace};
 ghost use Rattle.bl_grant.specs.Granted.{loaned_of};
 
 use crate::grant::{Grant, Returned};
@@ -18,11 +18,9 @@ use bl_work::document::Document;
 use std::alloc::{AllocError, Global};
 use std::marker::Model;
 
-/// The grants of a behaviour, in the order of its accesses: at most 8. They have room for what they give back, so that closing
-/// them takes no memory.
+/// The grants of a behaviour, in the order of its accesses: at most 8.
 pub struct Grants {
     grants: Vec<Grant>,
-    room: Vec<Returned>,
 }
 
 impl Model for Grants {
@@ -32,19 +30,11 @@ impl Model for Grants {
 
     ghost Value = { List Loaned };
 
-    ghost use Rattle.bl_grant.specs.Rooms.{HasRoom};
+    ghost use Rattle.bl_grant.specs.Counts.{AreFew};
 
     ghost view = { λ g. map loaned_of g.grants.items };
 
-    ghost invariant = { HasRoom };
-}
-
-/// What comes of grants that are closed: it has no `Drop`, since what came back is taken.
-pub struct Closed {
-    /// The contents that were lent, in order.
-    pub lent: Vec<Document>,
-    /// What the grants gave back, in order.
-    pub returned: Vec<Returned>,
+    ghost invariant = { AreFew };
 }
 
 /// The place of the first grant of the document.
@@ -92,13 +82,7 @@ impl Grants {
                 }
             }
         }
-        match Vec::with_capacity(alloc, accesses.len()) {
-            Ok(room) => Ok(Grants { grants, room }),
-            Err(e) => {
-                abandon(grants);
-                Err(e)
-            }
-        }
+        Ok(Grants { grants })
     }
 
     /// Whether these are the grants that `lend` makes of these, whatever was done with them since.
@@ -140,17 +124,6 @@ impl Grants {
         ensures { IsTrue result ↔ ((slice_index_or self.now place no_loan).lent ≡ content.now) }
     {
         self.grants[place].lent() == content.bytes()
-    }
-
-    /// The contents that were lent, in order.
-    fn lent(&self, alloc: Global) -> Result<Vec<Document>, AllocError>
-        ensures { IfOk result (λ documents. documents.items ≡ lent_of self.now) }
-    {
-        let mut documents = Vec::with_capacity(alloc, self.grants.len())?;
-        for grant in &self.grants {
-            documents.push(grant.share_lent()?)?;
-        }
-        Ok(documents)
     }
 
     /// The content, as it is now, of a document that may be looked at.
@@ -202,44 +175,33 @@ impl Grants {
         Withdrawn { grants: self }
     }
 
-    /// Closes each grant, and gives back what the calls since the last reset made of the contents, in order. It takes no
-    /// memory.
-    pub fn close(self) -> Vec<Returned>
-        ensures { result.items ≡ map back_of self }
+    /// Closes the last grant that is left, and gives its content back as it is now; `None` where none is left. It takes no memory.
+    pub(crate) fn close_last(&mut self) -> Option<Returned>
+        ensures { MatchOption result (self.old ≡ [] × self.new ≡ []) (HasClosed self.old self.new) }
     {
-        let Grants { grants, room } = self;
-        let mut grants = grants;
-        let mut returned = room;
-        grants.reverse();
-        while let Some(grant) = grants.pop() {
-            returned.push_reserved(grant.close());
-        }
-        grants.destroy_empty();
-        returned
+        let grant = self.grants.pop()?;
+        Some(grant.close())
     }
 
-    /// Closes each grant, and gives back what was lent beside what the calls since the last reset made of it. An error comes only
-    /// where a growth is refused, and then the grants are as they were.
-    pub fn close_with_lent(self, alloc: Global) -> Result<Closed, Grants>
-        ensures lent { IfOk result (λ closed. closed.lent.items ≡ lent_of self) }
-        ensures returned { IfOk result (λ closed. closed.returned.items ≡ map back_of self) }
-        ensures err { IfErr result (λ grants. grants ≡ self) }
+    /// Ends grants of which none is left.
+    pub(crate) fn end(self)
+        requires { self ≡ [] }
     {
-        match self.lent(alloc) {
-            Ok(lent) => Ok(Closed {
-                lent,
-                returned: self.close(),
-            }),
-            Err(_) => Err(self),
-        }
+        let Grants { grants } = self;
+        grants.destroy_empty();
+    }
+
+    /// Closes each grant, and lets go of what comes back.
+    pub(crate) fn give_up(self) {
+        let Grants { grants } = self;
+        abandon(grants);
     }
 
     /// The grants one by one, in order.
     pub fn into_grants(self) -> Vec<Grant>
         ensures { map loaned_of result.items ≡ self }
     {
-        let Grants { grants, room } = self;
-        room.destroy_empty();
+        let Grants { grants } = self;
         grants
     }
 }

@@ -1,5 +1,5 @@
 //! What a grant that may be altered holds: the content as it is now, and how it was lent.
-ghost use Rattle.std.specs.Prelude.{◌≡◌, IsTrue, IfOk, OnOk, OnErr};
+ghost use Rattle.std.specs.Prelude.{◌≡◌, IsTrue, OnOk, OnErr};
 ghost use Rattle.std.specs.List.{list_all};
 ghost use Rattle.bl_work.specs.Content.{is_content_byte, added};
 
@@ -48,20 +48,6 @@ impl Held {
         match &self.lent {
             Some(lent) => lent.bytes(),
             None => &self.content.bytes()[..self.front],
-        }
-    }
-
-    /// The content that was lent, with one more owner.
-    pub(crate) fn share_lent(&self) -> Result<Document, AllocError>
-        ensures { IfOk result (λ d. d ≡ self.now.0) }
-    {
-        match &self.lent {
-            Some(lent) => lent.share(),
-            None => {
-                let mut lent = self.content.share()?;
-                lent.truncate(self.front);
-                Ok(lent)
-            }
         }
     }
 

@@ -1,6 +1,6 @@
 //! Grants that were given up, as those of a behaviour that is left undone.
-ghost use Rattle.std.specs.Prelude.{◌≡◌, ◌<◌, ◌↔◌, length, map, slice_index_or, IsTrue};
-ghost use Rattle.bl_grant.specs.Loaned.{as_lent, back_of, no_loan};
+ghost use Rattle.std.specs.Prelude.{◌≡◌, ◌<◌, ◌↔◌, [], length, map, slice_index_or, IsTrue, MatchOption};
+ghost use Rattle.bl_grant.specs.Loaned.{as_lent, no_loan, HasClosed};
 ghost use Rattle.bl_grant.specs.Loans.{loans};
 
 use crate::grants::Grants;
@@ -10,7 +10,8 @@ use bl_work::document::Document;
 use std::marker::Model;
 
 /// The grants of a behaviour that uses them no more: no call changes a content. What was lent is asked of these alone, so that no
-/// behaviour that holds a grant for appending can try what its document has. They have no `Drop`: they are closed.
+/// behaviour that holds a grant for appending can try what its document has. They have no `Drop`: they are closed one by one, from the
+/// last on, and ended, or given up.
 pub struct Withdrawn {
     pub(crate) grants: Grants,
 }
@@ -47,11 +48,24 @@ impl Withdrawn {
         self.grants.were_lent(entry, accesses, documents)
     }
 
-    /// Closes each grant, and gives back each content as it is, in order. It takes no memory.
-    pub fn close(self) -> Vec<Returned>
-        ensures { result.items ≡ map back_of self }
+    /// Closes the last grant that is left, and gives its content back as it is; `None` where none is left. It takes no memory.
+    pub fn close_last(&mut self) -> Option<Returned>
+        ensures { MatchOption result (self.old ≡ [] × self.new ≡ []) (HasClosed self.old self.new) }
+    {
+        self.grants.close_last()
+    }
+
+    /// Ends grants of which none is left.
+    pub fn end(self)
+        requires { self ≡ [] }
     {
         let Withdrawn { grants } = self;
-        grants.close()
+        grants.end();
+    }
+
+    /// Closes each grant, and lets go of what comes back.
+    pub fn give_up(self) {
+        let Withdrawn { grants } = self;
+        grants.give_up();
     }
 }

@@ -85,6 +85,11 @@ module _ (h : Inside) (k : Keeps h) where
         let small : awaited h.core s ≤ length h.core.order = awaited-most h.core s (length h.core.order) in
         omega (arith, most, now, small, k.limited)
 
+    pub line-place : ((x : State) → IsReached x → length x.order ≤ x.limit) → length h.core.order + 1 < 2 ^ 32
+    line-place few =
+        let most : length h.core.order ≤ h.core.limit = few h.core (reached h k) in
+        omega (arith, most, k.limited)
+
     pub line-kept : (d : Inside) → Next h d (Admits s o w)
         → d.links.items ≡ h.links.items ++ record { session = s; next = None; earlier = (tally_at h.tallies.items s).line } ∷ []
         → d.tallies.items ≡ slice_set h.tallies.items s (record { awaited = (tally_at h.tallies.items s).awaited + 1; line = Some (length h.core.order) })

@@ -1,5 +1,6 @@
 -- What a hall tells a session: the replies to its lines above an ordinal, in numeric order of their labels.
 use Rattle.std.specs.Prelude.{◌≡◌, ℕ, zero, suc, ◌<◌, ◌≤◌, Bool, false, ◌&&◌, ◌==◌, nat_lt, IsTrue, if◌then◌else◌, List, [], length, slice_index_or, AllPairs, Contains}
+use Rattle.bl_work.specs.Few.{items_of}
 use Rattle.bl_order.specs.Labels.{Tag, Reply, tag, put_in, is_before}
 use Rattle.bl_order.specs.Machine.{State, past_at, has_ended}
 use Rattle.bl_hall.specs.declared.reply.Reply as owned
@@ -43,7 +44,7 @@ Waits x session = (n : ℕ) × (n < length x.order) × ((tag x.order n).session 
 
 -- a reply as it is handed over
 abbrev pub reply_of : owned.Reply → Reply
-reply_of reply = record { label = reply.label.items; answer = reply.answer }
+reply_of reply = record { label = items_of reply.label; answer = reply.answer }
 
 -- these are all replies to the lines of a session above an ordinal, and it waits for none
 pub record AreAnswers (x : State) (session after : ℕ) (replies : List Reply) : Type 0 where

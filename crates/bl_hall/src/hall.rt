@@ -1,9 +1,10 @@
 //! The hall and its calls.
 use crate::event::Event;
 use crate::link::{Link, Tally, count_children, count_end, count_start, link_children, link_line};
+use crate::maybe_place::MaybePlace;
 use crate::reply::{AnswersFault, Reply};
 use crate::rooms::Rooms;
-use crate::walk::{places_above, write_label};
+use crate::walk::{label_of, places_above, write_label};
 use bl_core::foreign::{Foreign, ForeignUnrun};
 use bl_core::machine::{Core, Started};
 use bl_core::refusal::{NotReady, OpenRefused, Refused, StartFault, Starved};
@@ -99,7 +100,7 @@ impl Hall {
             Ok(session) => {
                 self.tallies.push_reserved(Tally {
                     awaited: 0,
-                    line: None,
+                    line: MaybePlace::none(),
                 });
                 self.events.push_reserved(Event::Open(subject));
                 Ok(session)
@@ -333,8 +334,7 @@ impl Hall {
     {
         let mut replies = Vec::with_capacity(self.alloc, places.len())?;
         for n in places {
-            let mut label = Vec::new(self.alloc);
-            self.write_label(*n, &mut label)?;
+            let label = label_of(self.alloc, &self.core, *n)?;
             let Some(answer) = self.core.answer(*n) else {
                 unreachable!()
             };

@@ -4,6 +4,7 @@ ghost use Rattle.std.specs.Vec.{vec_capacity};
 ghost use Rattle.bl_order.specs.Machine.{has_ended};
 ghost use Rattle.bl_hall.specs.Linked.{HaveEntered, lead_to, link_at, more_awaited, one_less, tally_at};
 
+use crate::maybe_place::MaybePlace;
 use bl_core::machine::Core;
 use bl_core::session::SessionNo;
 
@@ -12,10 +13,12 @@ use bl_core::session::SessionNo;
 pub(crate) struct Link {
     pub(crate) session: SessionNo,
     /// The next place of the same line, in order of labels.
-    pub(crate) next: Option<u32>,
+    pub(crate) next: MaybePlace,
     /// Of a line: the place of its session's line before it.
-    pub(crate) earlier: Option<u32>,
+    pub(crate) earlier: MaybePlace,
 }
+
+const _: () = prove!(size_of::<Link>() == 12);
 
 /// What is kept of a session.
 #[derive(Drop)]
@@ -23,7 +26,7 @@ pub(crate) struct Tally {
     /// How many of its entries have not ended.
     pub(crate) awaited: u32,
     /// The place of its last line.
-    pub(crate) line: Option<u32>,
+    pub(crate) line: MaybePlace,
 }
 
 /// Links a line of a session that has entered at place n.
@@ -31,6 +34,7 @@ pub(crate) fn link_line(links: &mut Vec<Link>, tallies: &mut Vec<Tally>, session
     requires room { vec_len links.old < vec_capacity links.old }
     requires there { session < length tallies.old.items }
     requires few { (tally_at tallies.old.items session).awaited + 1 < 2 ^ 32 }
+    requires place { n + 1 < 2 ^ 32 }
     ensures links { links.new.items ≡ links.old.items ++ record { session = session; next = None; earlier = (tally_at tallies.old.items session).line } ∷ [] }
     ensures tallies { tallies.new.items ≡ slice_set tallies.old.items session (record { awaited = (tally_at tallies.old.items session).awaited + 1; line = Some n }) }
     ensures links_room { vec_capacity links.new ≡ vec_capacity links.old }
@@ -39,19 +43,24 @@ pub(crate) fn link_line(links: &mut Vec<Link>, tallies: &mut Vec<Tally>, session
     let tally = &mut tallies[session.number() as usize];
     let earlier = tally.line;
     tally.awaited += 1;
-    tally.line = Some(n);
+    tally.line = MaybePlace::some(n);
     links.push_reserved(Link {
         session,
-        next: None,
+        next: MaybePlace::none(),
         earlier,
     });
 }
 
 /// Where a row of places leads that begins here and has so many: to the first of them, or to what stands behind it.
-fn lead_to(at: u32, places: u32, behind: Option<u32>) -> Option<u32>
+fn lead_to(at: u32, places: u32, behind: MaybePlace) -> MaybePlace
+    requires { at + places < 2 ^ 32 }
     ensures { result ≡ lead_to at places behind }
 {
-    if places == 0 { behind } else { Some(at) }
+    if places == 0 {
+        behind
+    } else {
+        MaybePlace::some(at)
+    }
 }
 
 /// Links so many children that have entered behind all places, whose parent is at place n.
@@ -71,7 +80,7 @@ pub(crate) fn link_children(links: &mut Vec<Link>, n: u32, children: u32)
         links.push_reserved(Link {
             session,
             next: lead_to(first + i + 1, children - i - 1, behind),
-            earlier: None,
+            earlier: MaybePlace::none(),
         });
     }
 }

@@ -1,5 +1,6 @@
 //! Ways over the links: the lines of a session, the places of each of them, and the label of a place.
 ghost use Rattle.std.specs.Prelude.{◌≡◌, ◌<◌, ◌++◌, ℕ, [], All, List, IfOk, OnErr, OnOk, length, reverse, slice_index_or, Some};
+ghost use Rattle.bl_work.specs.Few.{items_of};
 ghost use Rattle.bl_order.specs.Headline.{IsReached};
 ghost use Rattle.bl_order.specs.Labels.{tag};
 ghost use Rattle.bl_order.specs.Past.{no_entry};
@@ -11,6 +12,7 @@ use crate::link::{Link, Tally};
 use bl_core::machine::Core;
 use bl_core::origin::Origin;
 use bl_core::session::SessionNo;
+use bl_work::few::Few;
 use std::alloc::{AllocError, Global};
 
 /// The ordinal of a line; 0 for a child, and where there is no entry.
@@ -40,13 +42,13 @@ fn lines_above(
     // the contract alone speaks of the session
     let _ = session;
     let mut lines = Vec::new(alloc);
-    let mut at = tally.line;
+    let mut at = tally.line.get();
     'lines: while let Some(line) = at {
         if ordinal(core, line) <= after {
             return Ok(lines);
         }
         lines.push(line)?;
-        at = links[line as usize].earlier;
+        at = links[line as usize].earlier.get();
     }
     Ok(lines)
 }
@@ -59,7 +61,7 @@ fn push_family(links: &[Link], line: u32, places: &mut Vec<u32>) -> Result<(), A
     let mut at = Some(line);
     'places: while let Some(n) = at {
         places.push(n)?;
-        at = links[n as usize].next;
+        at = links[n as usize].next.get();
     }
     Ok(())
 }
@@ -136,4 +138,18 @@ pub(crate) fn write_label(core: &Core, n: u32, label: &mut Vec<u32>) -> Result<(
             Err(refused)
         }
     }
+}
+
+/// The label of an entry. That of a line takes no memory.
+pub(crate) fn label_of(alloc: Global, core: &Core, n: u32) -> Result<Few<u32>, AllocError>
+    requires reached { IsReached core.now }
+    requires there { n < length core.now.order }
+    ensures { IfOk result (λ label. items_of label ≡ (tag core.now.order n).label) }
+{
+    if let Some(Origin::Line { ordinal, .. }) = core.origin(n) {
+        return Ok(Few::One(ordinal));
+    }
+    let mut label = Vec::new(alloc);
+    write_label(core, n, &mut label)?;
+    Ok(Few::Many(label))
 }

@@ -2,9 +2,15 @@
 use Rattle.std.proofs.Common.{◌≡◌, ℕ, Bool, true, false, cond, List, [], ◌∷◌, ◌++◌, set, refl, ap, sym, ◌∙◌}
 use Rattle.bl_policy.specs.Mode.{is_exclusive}
 use Rattle.bl_policy.specs.declared.access.Access.{Access}
-use Rattle.bl_grant.specs.Loaned.{Back}
+use Rattle.std.specs.Prelude.{map}
+use Rattle.std.proofs.lemmas.List.{map-append}
+use Rattle.bl_grant.specs.Loaned.{Loaned, Back, back_of, HasClosed}
 use Rattle.bl_place.specs.Shelves.{new_shelf, put_one, put_back}
 use Rattle.bl_place.specs.declared.shelf.Shelf.{Shelf}
+
+-- what came back of the last grant stands behind what will come back of the others
+pub came-last : (before after : List Loaned) (b : Back) → HasClosed before after b → map back_of before ≡ map back_of after ++ b ∷ []
+came-last before after b h = ap (map back_of) h.last ∙ map-append back_of after (h.grant ∷ []) ∙ ap (λ (v : Back). map back_of after ++ v ∷ []) (sym h.gives)
 
 pub put_back-last : (s : List Shelf) (xs : List Back) (b : Back) → put_back s (xs ++ b ∷ []) ≡ put_back (put_one s b) xs
 put_back-last s [] b = refl

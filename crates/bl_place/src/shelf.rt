@@ -5,13 +5,13 @@
 ghost use Rattle.std.specs.Prelude.{◌≡◌, ◌<◌, ◌↔◌, ℕ, length, map, slice_index_or, All, IfOk, IsTrue};
 ghost use Rattle.bl_policy.specs.declared.access.Access.{Access};
 ghost use Rattle.bl_work.specs.Statements.{no_part};
-ghost use Rattle.bl_grant.specs.Loaned.{Back};
+ghost use Rattle.bl_grant.specs.Loaned.{Back, back_of};
 ghost use Rattle.bl_order.specs.Past.{deletes};
 ghost use Rattle.bl_place.specs.Shelves.{AreEmptied, content_in, contents_in, marked, new_shelf, put_back};
 
 use crate::place::is_exclusive;
 use bl_eval::lent::{Done, Unrun};
-use bl_grant::grant::Returned;
+use bl_grant::withdrawn::Withdrawn;
 use bl_policy::access::Access;
 use bl_policy::rule::Rule;
 use bl_work::document::Document;
@@ -112,13 +112,13 @@ pub fn mark(shelves: &mut [Shelf], accesses: &[Access])
     }
 }
 
-/// What comes back of what was lent exclusively is put on its shelf.
-pub fn take_back(shelves: &mut [Shelf], returned: Vec<Returned>)
-    requires { All (λ (b : Back). b.access.doc < length shelves.old) returned.items }
-    ensures { shelves.new ≡ put_back shelves.old returned.items }
+/// What was lent exclusively is put back on its shelf, as it is now.
+pub fn take_back(shelves: &mut [Shelf], grants: Withdrawn)
+    requires { All (λ (b : Back). b.access.doc < length shelves.old) (map back_of grants) }
+    ensures { shelves.new ≡ put_back shelves.old (map back_of grants) }
 {
-    let mut returned = returned;
-    while let Some(back) = returned.pop() {
+    let mut grants = grants;
+    while let Some(back) = grants.close_last() {
         let access = back.access();
         let content = back.into_content();
         if is_exclusive(access.mode) {
@@ -127,7 +127,7 @@ pub fn take_back(shelves: &mut [Shelf], returned: Vec<Returned>)
             shelf.lent = false;
         }
     }
-    returned.destroy_empty();
+    grants.end();
 }
 
 /// Empties the content of the document that a rule deletes; any other rule leaves each as it is. Other owners of that content keep

@@ -1,5 +1,5 @@
 use Rattle.std.proofs.Common.{◌≡◌, ◌<◌, ◌≤◌, ◌+◌, ◌++◌, ℕ, List, length, get_or, set, length-append, length-set, sym, subst, ap, ◌∙◌, refl, arith, inr}
-use Rattle.std.specs.Prelude.{All}
+use Rattle.std.specs.Prelude.{All, map}
 use Rattle.std.specs.Vec.{with_items}
 use Rattle.std.proofs.lemmas.List.{get_or_read}
 use Rattle.bl_level.specs.Level.{SecurityLevel, join_of}
@@ -7,7 +7,7 @@ use Rattle.bl_policy.specs.Policy.{current_of}
 use Rattle.bl_work.specs.declared.answer.Answer.TheVariants as answers
 use Rattle.bl_work.specs.Effects.{children, outputs}
 use Rattle.bl_order.specs.Machine.{State, change, Ends}
-use Rattle.bl_grant.specs.Loaned.{Back}
+use Rattle.bl_grant.specs.Loaned.{Back, back_of}
 use Rattle.bl_eval.specs.Loan.{Loan, backs, part_of, effects_on}
 use Rattle.bl_core.specs.Answers.{loan_at}
 use Rattle.bl_place.specs.Places.{child_places, no_place}
@@ -143,7 +143,7 @@ shelved : (c : goal.After-drop-spawned) → (with_items c.self.inside.shelves c.
     ≡ put_back c.self.inside.shelves.items (backs c.into_parts-entry.result.entry (part_of (loan_at (state_of c.self.inside) c.into_parts-entry.result.entry)).accesses (loan_at (state_of c.self.inside) c.into_parts-entry.result.entry).inputs (effects_on (loan_at (state_of c.self.inside) c.into_parts-entry.result.entry)))
 shelved c =
     let e : c.take_back.new.shelves ≡ put_back c.self.inside.shelves.items (backs c.into_parts-entry.result.entry (part_of (loan_at (state_of c.self.inside) c.into_parts-entry.result.entry)).accesses (loan_at (state_of c.self.inside) c.into_parts-entry.result.entry).inputs (effects_on (loan_at (state_of c.self.inside) c.into_parts-entry.result.entry))) =
-    c.take_back.ensures ∙ ap (λ (h : List Shelf). put_back h c.into_parts-entry.result.returned.items) c.as_mut_slice.ensures.value
+    c.take_back.ensures ∙ ap (λ (h : List Shelf). put_back h (map back_of c.into_parts-entry.result.grants)) c.as_mut_slice.ensures.value
     ∙ ap (put_back c.self.inside.shelves.items) (c.into_parts-entry.ensures.returned ∙ backs-here c.self.inside c.args.self.now c.self.view_is c.args.done c.into_parts-entry.result.entry (ap (λ (l : Loan). l.entry) c.into_parts-entry.ensures.loan) c.requires.lent) in
     written_items c.self.inside c.take_back.new.shelves
     (omega (arith, ap length e, length-put_back c.self.inside.shelves.items (backs c.into_parts-entry.result.entry (part_of (loan_at (state_of c.self.inside) c.into_parts-entry.result.entry)).accesses (loan_at (state_of c.self.inside) c.into_parts-entry.result.entry).inputs (effects_on (loan_at (state_of c.self.inside) c.into_parts-entry.result.entry))), c.self.inside.shelves.ok.0)) ∙ e

@@ -3,7 +3,7 @@ use Rattle.std.specs.Prelude.{Some, slice_set}
 use Rattle.bl_order.specs.Machine.{State, Admits}
 use Rattle.bl_hall.specs.declared.hall.Hall.TheInside.{Inside}
 use Rattle.bl_hall.specs.Linked.{tally_at}
-use Rattle.bl_hall.proofs.Events.{line-few, line-kept, line-room}
+use Rattle.bl_hall.proofs.Events.{line-few, line-kept, line-place, line-room}
 use Rattle.bl_hall.proofs.Keeping.{Next, continues, core-is, event-room, view-next}
 use Rattle.bl_hall.proofs.hall.Hall.line.Goals as goal
 
@@ -14,6 +14,10 @@ link_line-requires-clause-room c =
 pub link_line-requires-clause-few : goal.link_line-requires-clause-few
 link_line-requires-clause-few c =
     line-few c.self.inside c.self.invariant c.args.session c.args.ordinal c.args.work c.in-Ok.ensures.cause c.the_order_has_room.ensures.order
+
+pub link_line-requires-clause-place : goal.link_line-requires-clause-place
+link_line-requires-clause-place c =
+    omega (arith, c.in-Ok.ensures.ok.0, line-place c.self.inside c.self.invariant c.args.session c.args.ordinal c.args.work c.in-Ok.ensures.cause c.the_order_has_room.ensures.order)
 
 pub push_reserved-requires : goal.push_reserved-requires
 push_reserved-requires c =

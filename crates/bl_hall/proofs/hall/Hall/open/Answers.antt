@@ -1,4 +1,4 @@
-use Rattle.std.proofs.Common.{length, refl, ap, ◌∙◌, arith}
+use Rattle.std.proofs.Common.{[], ◌∷◌, ◌++◌, length, refl, ap, ◌∙◌, arith}
 use Rattle.bl_order.specs.Machine.{State, Opens}
 use Rattle.bl_hall.specs.declared.hall.Hall.TheInside.{Inside}
 use Rattle.bl_hall.proofs.Events.{open-kept}
@@ -19,7 +19,8 @@ invariant_of-self c =
       links_room = refl;
       tallies_room = c.push_reserved.ensures.capacity;
     } in
-    open-kept c.self.inside c.self.invariant d c.args.subject c.in-Ok.ensures.cause next refl c.push_reserved.ensures.items
+    open-kept c.self.inside c.self.invariant d c.args.subject c.in-Ok.ensures.cause next refl
+    (c.push_reserved.ensures.items ∙ ap (λ line. c.self.inside.tallies.items ++ record { awaited = 0; line = line } ∷ []) c.none.ensures)
 
 pub returns-in-Ok-clause-ok : goal.returns-in-Ok-clause-ok
 returns-in-Ok-clause-ok c =

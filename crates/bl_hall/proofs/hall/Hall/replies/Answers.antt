@@ -1,10 +1,11 @@
 use Rattle.std.proofs.Common.{◌≡◌, All, ◌∷◌, ◌++◌, ℕ, List, [], get_or, map, take, sym, ap, subst, ◌∙◌, arith}
 use Rattle.std.proofs.lemmas.List.{map-append, take_more}
 use Rattle.std.proofs.lemmas.List.Elements.{All-push}
-use Rattle.bl_order.specs.Headline.{IsReached}
+use Rattle.std.specs.Prelude.{IsTrue}
+use Rattle.bl_work.specs.Few.{items_of}
 use Rattle.bl_order.specs.Known.{KnowsAnswer}
 use Rattle.bl_order.specs.Labels.{Reply, tag}
-use Rattle.bl_order.specs.Machine.{State, past_at}
+use Rattle.bl_order.specs.Machine.{State, has_ended, past_at}
 use Rattle.bl_hall.specs.declared.reply.Reply as owned
 use Rattle.bl_hall.specs.Chronicle.{state_now}
 use Rattle.bl_hall.specs.Told.{reply_in, reply_of}
@@ -12,17 +13,23 @@ use Rattle.bl_hall.proofs.Answering.{ended-there}
 use Rattle.bl_hall.proofs.Keeping.{core-is, reached}
 use Rattle.bl_hall.proofs.hall.Hall.replies.Goals as goal
 
-pub write_label-requires : goal.write_label-requires
-write_label-requires c =
-    ended-there (state_now c.args.self.now) (subst IsReached (core-is c.self.inside c.self.invariant c.args.self.now c.self.view_is) (reached c.self.inside c.self.invariant))
-    _ (c.requires c.loop-n.n-index 0 c.loop-n-test.true)
+pub label_of-requires-clause-reached : goal.label_of-requires-clause-reached
+label_of-requires-clause-reached c = reached c.self.inside c.self.invariant
+
+pub label_of-requires-clause-there : goal.label_of-requires-clause-there
+label_of-requires-clause-there c =
+    ended-there c.self.inside.core (reached c.self.inside c.self.invariant) _
+    (subst (λ (y : State). IsTrue (has_ended y (get_or c.args.places.now c.loop-n.n-index 0))) (sym (core-is c.self.inside c.self.invariant c.args.self.now c.self.view_is))
+    (c.requires c.loop-n.n-index 0 c.loop-n-test.true))
 
 pub loop-n-preserved : goal.loop-n-preserved
 loop-n-preserved c =
     let x : State = state_now c.args.self.now in
     let n : ℕ = get_or c.args.places.now c.loop-n.n-index 0 in
-    let reply : owned.Reply = record { label = c.write_label.new.label; answer = c.in_ok-answer.answer } in
-    let label : c.write_label.new.label.items ≡ (tag x.order n).label = c.in_ok-write_label.ensures.ok in
+    let reply : owned.Reply = record { label = c.in_ok-label.label; answer = c.in_ok-answer.answer } in
+    let label : items_of c.in_ok-label.label ≡ (tag x.order n).label =
+    c.in_ok-label.ensures ∙ ap (λ (y : State). (tag y.order n).label) (core-is c.self.inside c.self.invariant c.args.self.now c.self.view_is)
+    in
     let answer : c.in_ok-answer.answer ≡ (past_at x n).answer =
     c.in_ok-answer.ensures ∙ c.in-Some.ensures.value ∙ ap (λ (y : State). (past_at y n).answer) (core-is c.self.inside c.self.invariant c.args.self.now c.self.view_is)
     in

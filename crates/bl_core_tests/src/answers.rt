@@ -1,5 +1,6 @@
 //! What a hall answers its sessions.
-use super::base::{ADD, ADD_AND_SPAWN, SHOW_MEMO, admit, base_hall, right, run, run_all, shows};
+use super::base::{ADD_AND_SPAWN, SHOW_MEMO, right};
+use super::halls::{ADD, admit, base_hall, run, run_all, shows};
 use bl_core::session::SessionNo;
 use bl_hall::hall::Hall;
 use bl_hall::reply::{AnswersFault, Reply};

@@ -1,5 +1,6 @@
 //! Which events a hall keeps.
-use super::base::{ADD_AND_SPAWN, ANN, BOB, SHOW_MEMO, admit, base_hall, run_all, work_of};
+use super::base::{ADD_AND_SPAWN, ANN, BOB, SHOW_MEMO, work_of};
+use super::halls::{admit, base_hall, run_all};
 use bl_core::refusal::StartFault;
 use bl_core::session::SessionNo;
 use bl_hall::event::Event;
@@ -46,7 +47,7 @@ fn is_not_ready(rt: &impl Abort, hall: &mut Hall, n: u32) -> bool {
 fn refusals_leave_the_trail(rt: HostRuntime) {
     let mut hall = base_hall(&rt);
     assert!(rt; hall.open(SubjectId::new(9)).is_err());
-    let work = work_of(&rt, &hall, SHOW_MEMO);
+    let work = work_of(&rt, hall.core().setup(), SHOW_MEMO);
     assert!(rt; hall.line(SessionNo::new(2), 1, work).is_err());
     assert!(rt; is_not_ready(&rt, &mut hall, 0));
     assert!(rt; hall.trail().len() == 2 && hall.ready().is_none());

@@ -1,5 +1,5 @@
-//! What is left where a growth is refused.
-use super::base::{SHOW_MEMO, base_text};
+//! What is left in a hall where a growth is refused.
+use super::base::{SHOW_MEMO, base_or_none};
 use bl_core::machine::Started;
 use bl_core::refusal::{StartFault, Starved};
 use bl_core::session::SessionNo;
@@ -10,7 +10,6 @@ use bl_hall::hall::Hall;
 use bl_hall::reply::{AnswersFault, Reply};
 use bl_policy::id::SubjectId;
 use bl_read::line::read_line;
-use bl_setup::reader::read_setup;
 use bl_work::answer::Answer;
 use bl_work::asked::Line;
 use std::alloc::{AllocGlobal, Global};
@@ -26,8 +25,7 @@ fn admits(hall: &mut Hall, alloc: Global, text: &[u8]) -> bool {
 
 /// A hall over the base setup in which `ann` shows the memo; none where a growth is refused.
 fn admitted(alloc: Global) -> Option<Hall> {
-    let setup = read_setup(alloc, base_text()).ok()?;
-    let mut hall = Hall::new(alloc, setup, 2).ok()?;
+    let mut hall = Hall::new(alloc, base_or_none(alloc)?, 2).ok()?;
     let _session = hall.open(SubjectId::new(0));
     if admits(&mut hall, alloc, SHOW_MEMO) {
         Some(hall)
@@ -79,8 +77,9 @@ fn is_answered(replies: &[Reply]) -> bool {
     replies.len() == 1 && matches!(&replies[0].answer, Answer::Done(_) | Answer::Lost)
 }
 
-/// It passes with ample memory, and with any one of its growths refused, one in each run (`rt try --test --fail-alloc N`): there is no
-/// hall then, or the entry is lost and its session is told so, or the replies are refused when out of memory.
+/// It passes with ample memory, and with any one of its growths refused, one in each run
+/// (`rt try --test --fail-alloc N`): there is no hall then, or the entry is lost and its session is told so, or the
+/// replies are refused when out of memory.
 #[test]
 fn starved_in_a_hall(rt: HostRuntime) {
     if let Some(hall) = admitted(rt.alloc()) {
