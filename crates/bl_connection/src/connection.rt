@@ -1,10 +1,10 @@
 //! A session over a stream that may say that it would block. Each call reads, hears, tells or writes once, and waits for nothing: what
 //! is to come next is asked by `state`. What is asked of the machine is met by whoever owns the connection.
 //!
-//! At most 16 KB are read at a time, and no more before all of that was heard. Nothing is heard before all that was told is written, and
-//! no more is told once 64 KB wait. So a client that takes nothing costs a block, 16 KB and less than 64 KB and one part of a reply, and
-//! after a fault of reading all that was told is written.
-ghost use Rattle.std.specs.Prelude.{◌≡◌, ◌≤◌, length};
+//! At most 16 KB are read at a time, or 1 KB where the read before did not fill its room, and no more before all of that was heard.
+//! Nothing is heard before all that was told is written, and no more is told once 64 KB wait. So a client that takes nothing costs a
+//! block, 16 KB and less than 64 KB and one part of a reply, and after a fault of reading all that was told is written.
+ghost use Rattle.std.specs.Prelude.{◌≡◌, ◌<◌, ◌≤◌, length};
 
 use crate::stream::{Answer, Stream};
 use crate::telling::tell_parts;
@@ -16,8 +16,11 @@ use bl_work::names::Names;
 use std::alloc::{AllocError, Global};
 use std::snapshot::Snapshot;
 
-/// How many bytes one read takes at most.
+/// How many bytes a read takes at most.
 const MOST_READ: usize = 16_384;
+
+/// How many it takes at most where the one before did not fill its room.
+const FEW_READ: usize = 1_024;
 
 /// Where a connection is: what is to be done next.
 #[derive(Clone, Copy, Debug, PartialEq, Eq)]
@@ -48,7 +51,8 @@ pub enum Progress {
 }
 
 /// A session over a stream: the stream, and what it was at first; the conversation; the bytes that were read last, how many of them were
-/// heard, and whether the stream's input is at its end; the bytes that were told last, and how many of them were written.
+/// heard, whether they filled their room, and whether the stream's input is at its end; the bytes that were told last, and how many of
+/// them were written.
 #[derive(Drop)]
 pub struct Connection<S> {
     stream: S,
@@ -57,6 +61,7 @@ pub struct Connection<S> {
     conv: Conversation,
     input: Vec<u8>,
     heard: usize,
+    filled: bool,
     ended: bool,
     output: Vec<u8>,
     written: usize,
@@ -64,8 +69,16 @@ pub struct Connection<S> {
     ghost written_within: { written ≤ length output.items },
 }
 
+/// How many bytes a read is to take at most, by whether the one before filled its room.
+fn room_after(filled: bool) -> usize
+    ensures some { 0 < result }
+    ensures most { result ≤ 16384 }
+{
+    if filled { MOST_READ } else { FEW_READ }
+}
+
 impl<S: Stream> Connection<S> {
-    ghost use Rattle.std.specs.Prelude.{◌⊎◌, ◌+◌, ◌<◌, [], true, false, ℕ, List, IfOk, IfErr, OnOk, drop};
+    ghost use Rattle.std.specs.Prelude.{◌⊎◌, ◌+◌, [], true, false, ℕ, List, IfOk, IfErr, OnOk, drop};
     ghost use Rattle.bl_wire.specs.declared.fault.SessionFault.TheVariants.{Read, Write, TooLong, Memory};
     ghost use Rattle.bl_engine.specs.Conversations.{GoesOnAlone, SameBlock, last_ordinal, need_of, waits_left};
     ghost use Rattle.bl_engine.specs.Parts.{MayTake};
@@ -90,6 +103,7 @@ impl<S: Stream> Connection<S> {
             conv,
             input: Vec::new(alloc),
             heard: 0,
+            filled: false,
             ended: false,
             output: Vec::new(alloc),
             written: 0,
@@ -144,7 +158,8 @@ impl<S: Stream> Connection<S> {
         ensures fault { IfErr result (λ fault. (fault ≡ Memory) ⊎ ((fault ≡ Read) × S.reads self.old.stream answers.Failed self.new.stream)) }
         ensures err { IfErr result (λ fault. (left : ℕ → List ℕ) → StopsAs S.remaining S.contents fault left self.old self.new) }
     {
-        let mut room = vec![in self.alloc; 0u8; MOST_READ]?;
+        let most = room_after(self.filled);
+        let mut room = vec![in self.alloc; 0u8; most]?;
         let count = match self.stream.read(room.as_mut_slice()) {
             Answer::Moved(count) => count,
             Answer::WouldBlock => return Ok(Progress::Blocked),
@@ -153,6 +168,7 @@ impl<S: Stream> Connection<S> {
         room.truncate(count);
         self.input = room;
         self.heard = 0;
+        self.filled = count == most;
         self.ended = count == 0;
         Ok(Progress::Moved)
     }
@@ -299,6 +315,7 @@ impl<S: Stream> Connection<S> {
             conv: _,
             input: _,
             heard: _,
+            filled: _,
             ended: _,
             output: _,
             written: _,

@@ -7,6 +7,7 @@ use bl_engine::conversation::Opening;
 use bl_setup::reader::read_setup;
 use bl_wire::fault::SessionFault;
 use bl_work::names::Names;
+use std::alloc::AllocError;
 use std::process::Abort;
 use std::test::Fail;
 
@@ -86,20 +87,28 @@ fn drive(
 
 /// Serves a session by one connection.
 pub(crate) fn serve<R: AllocGlobal + Abort>(rt: &R, session: &Session<'_>) -> Result<Ended, Fail> {
+    Ok(serve_or_none(rt, session).ok_or(AllocError)?)
+}
+
+/// Serves a session by one connection; nothing where a growth is refused before it begins.
+pub(crate) fn serve_or_none<R: AllocGlobal + Abort>(
+    rt: &R,
+    session: &Session<'_>,
+) -> Option<Ended> {
     let alloc = rt.alloc();
-    let setup = read_setup(alloc, BASE)?;
+    let setup = read_setup(alloc, BASE).ok()?;
     let reader = Giver {
         bytes: session.input,
         calls: Calls::new(session.reads),
     };
     let writer = Taker {
-        taken: Vec::new(alloc),
+        taken: Vec::with_capacity(alloc, 1_000).ok()?,
         calls: Calls::new(session.writes),
     };
-    let mut conn = Connection::new(alloc, Ends { reader, writer })?;
+    let mut conn = Connection::new(alloc, Ends { reader, writer }).ok()?;
     let result = drive(session, setup.names(), &mut conn);
     let Ends { reader, writer } = conn.leave();
-    Ok(Ended {
+    Some(Ended {
         result,
         written: writer.taken,
         unread: reader.bytes.len(),

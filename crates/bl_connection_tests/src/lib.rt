@@ -5,12 +5,15 @@
 //!     base        a connection over them, whose works are answered as soon as they are asked
 //!     texts       what is written to the worked examples, however the stream goes
 //!     faults      streams that fail, and inputs that are too long
+//!     memory      what a connection does where a growth is refused
 #![tactic(auto)]
 
 #[cfg(test)]
 mod base;
 #[cfg(test)]
 mod faults;
+#[cfg(test)]
+mod memory;
 pub mod shows;
 #[cfg(test)]
 mod streams;

@@ -1,8 +1,9 @@
 -- What a conversation has heard.
-use Rattle.std.proofs.Common.{◌≡◌, ◌≢◌, ℕ, ◌+◌, ◌<◌, ◌⊎◌, inl, inr, Bool, true, false, List, [], ◌∷◌, ◌++◌, length, refl, sym, ap, subst, ◌∙◌, append_assoc, append-nil, arith, take, Option, Some, None, IfSome, ◌-◌, length-append, length-take, length-take-le}
+use Rattle.std.proofs.Common.{◌≡◌, ◌≢◌, ℕ, ◌+◌, ◌<◌, ◌⊎◌, inl, inr, Bool, true, false, List, [], ◌∷◌, ◌++◌, length, refl, sym, ap, subst, ◌∙◌, append_assoc, append-nil, arith, take, Option, Some, None, IfSome, ◌-◌, length-append, length-take-le}
 use Rattle.std.proofs.lemmas.List.Elements.{All-nil, All-append}
 use Rattle.bl_work.specs.Names.{KnownNames}
 use Rattle.bl_wire.specs.HoldsLine.{HoldsLine}
+use Rattle.bl_wire.specs.declared.held.Held.{Held}
 use Rattle.bl_wire.specs.Lines.{lines_of, AreLines, HasNoLf}
 use Rattle.bl_wire.specs.Turns.{IsTurn, AreTurns}
 use Rattle.bl_wire.specs.declared.turn.Turn.{Turn}
@@ -12,8 +13,8 @@ use Rattle.bl_engine.specs.declared.conversation.Conversation.{Conversation}
 use Rattle.bl_engine.specs.declared.conversation.Need.TheVariants as needs
 use Rattle.bl_engine.specs.declared.conversation.Stage.{Stage}
 use Rattle.bl_engine.specs.declared.conversation.Stage.TheVariants as stages
-use Rattle.bl_engine.specs.Conversations.{Given, Talk, talk_of, need_at, need_of, AreSo, HasHeard, IsOpen, IsAt, HearsMore, Hears, IsOf, IsHeardOf, TakesLine}
-use Rattle.bl_engine.proofs.LineLaws.{AreLines-whole, AreLines-append, lines-last}
+use Rattle.bl_engine.specs.Conversations.{Given, Talk, talk_of, need_at, need_of, AreSo, HasHeard, HoldsBegun, IsOpen, IsAt, HearsMore, Hears, IsOf, IsHeardOf, LetsGo, TakesLine, TakesTurn}
+use Rattle.bl_engine.proofs.LineLaws.{AreLines-nil, AreLines-whole, AreLines-append, lines-last}
 use Rattle.bl_engine.proofs.LineLaws.{turns-append, lines-now}
 use Rattle.bl_engine.proofs.Conversing.{silent_same, open_same, silent_ends}
 use Rattle.bl_wire.specs.Reads.{Scanned}
@@ -39,16 +40,18 @@ lines_last : (line : List ℕ) → 0 < length line → HasNoLf line → lines_of
 lines_last [] some plain = absurd (omega arith)
 lines_last (b ∷ line) some plain = lines-last b line plain
 
-nothing_of : (line : List ℕ) → length line ≡ 0 → line ≡ []
-nothing_of [] is = refl
-nothing_of (b ∷ line) is = absurd (omega (arith, is))
+-- what is held of a line is so of the room that was taken out, or made for a new line
+pub held_begun : (old : Option Held) (held : Held) → old ≡ Some held → (line : List ℕ) → HoldsBegun old line → HoldsLine held line
+held_begun old held is line begun = (subst (λ o. HoldsBegun o line) is begun).1
 
--- a line has begun exactly where bytes of it are held
-nothing_held : (held line : List ℕ) → held ≡ take 8193 line → length held ≡ 0 → line ≡ []
-nothing_held held line is none = nothing_of line (omega (arith, none, ap length is ∙ length-take 8193 line))
+pub held_new : (old : Option Held) (held : Held) → old ≡ None → HoldsLine held [] → (line : List ℕ) → HoldsBegun old line → HoldsLine held line
+held_new old held is holds line begun =
+    let none : line ≡ [] = subst (λ o. HoldsBegun o line) is begun in
+    subst (HoldsLine held) (sym none) holds
 
-something_held : (held line : List ℕ) → held ≡ take 8193 line → 0 < length held → 0 < length line
-something_held held line is some = omega (arith, some, ap length is ∙ length-take 8193 line)
+-- where nothing is held no line has begun
+holds_none : (old : Option Held) → old ≡ None → HoldsBegun old []
+holds_none old is = subst (λ o. HoldsBegun o []) (sym is) refl
 
 -- the same at another name
 pub at_is : (given : Given) (left : ℕ → List ℕ) (said : List ℕ) (stage to : Stage) (talk new : Talk) (turns more : List Turn) (asked also : List Request)
@@ -77,7 +80,7 @@ ends_at stages.Over ended need given left talk new turns asked said after pendin
 module _ (names : KnownNames) (old : Conversation) (turns : List Turn) (heard : List ℕ) (was : HasHeard names old turns heard) where
   -- a part of a line was heard
   pub heard_part : (new : Conversation) (bytes some : List ℕ) → need_of old ≡ needs.Input → bytes ≡ some → HasNoLf some
-      → ((line : List ℕ) → HoldsLine old.held line → HoldsLine new.held (line ++ some)) → new.left + length bytes ≡ old.left → new.stage ≡ old.stage → talk_of new ≡ talk_of old
+      → HoldsBegun new.held (was.rest ++ some) → new.left + length bytes ≡ old.left → new.stage ≡ old.stage → talk_of new ≡ talk_of old
       → HearsMore names old new turns heard bytes None
   heard_part new bytes some need is plain holds count stage talk =
       let ended : new.ended ≡ old.ended = ap (λ (t : Talk). t.ended) talk in
@@ -94,7 +97,7 @@ module _ (names : KnownNames) (old : Conversation) (turns : List Turn) (heard : 
           cut = subst (λ e. AreSo e was.whole was.lines) (sym ended) was.cut;
           are = subst (AreTurns names was.lines) (sym (append-nil turns)) was.are;
           plain = All-append (λ b. b ≢ 10) was.rest some was.plain plain;
-          holds = holds was.rest was.holds;
+          holds = holds;
           none = λ other. absurd (other needs');
           count = omega (arith, was.count, count, length-append heard bytes);
         };
@@ -102,24 +105,24 @@ module _ (names : KnownNames) (old : Conversation) (turns : List Turn) (heard : 
             at_is given left said old.stage new.stage (talk_of old) (talk_of new) turns (turns ++ []) asked (asked ++ []) stage talk (append-nil turns) (append-nil asked) at;
       }
 
-  -- the line that was held was taken, with these bytes after it
-  taken : (mid new : Conversation) (request : Option Request) (bytes : List ℕ) (whole line : List ℕ) → HoldsLine mid.held line
+  -- a line was taken, with these bytes after what was heard, and nothing is held
+  taken : (mid new : Conversation) (turn : Turn) (request : Option Request) (bytes : List ℕ) (whole line : List ℕ) → mid.held ≡ None
       → ((given : Given) (left : ℕ → List ℕ) (asked : List Request) (said : List ℕ) → IsAt old.stage given left (talk_of old) turns asked said → IsAt mid.stage given left (talk_of mid) turns asked said)
-      → TakesLine names mid new request → heard ++ bytes ≡ whole → AreSo new.ended whole (was.lines ++ line ∷ []) → mid.left + length (heard ++ bytes) ≡ 16777216
+      → IsTurn names line turn → TakesTurn mid new turn request → heard ++ bytes ≡ whole → AreSo new.ended whole (was.lines ++ line ∷ []) → mid.left + length (heard ++ bytes) ≡ 16777216
       → HearsMore names old new turns heard bytes request
-  taken mid new request bytes whole line holds at takes split are count = record {
-    more = takes.turn ∷ [];
+  taken mid new turn request bytes whole line none at is takes split are count = record {
+    more = turn ∷ [];
     few = omega arith;
-    origin = heard_of names line takes.turn request (takes.is_turn line holds) takes.origin;
+    origin = heard_of names line turn request is takes.origin;
     cut = record {
       whole = whole;
       rest = [];
       lines = was.lines ++ line ∷ [];
       split = split ∙ sym (append-nil whole);
       cut = are;
-      are = turns-append names was.lines (line ∷ []) turns (takes.turn ∷ []) was.are (takes.is_turn line holds, tt);
+      are = turns-append names was.lines (line ∷ []) turns (turn ∷ []) was.are (is, tt);
       plain = All-nil (λ b. b ≢ 10);
-      holds = takes.holds;
+      holds = holds_none new.held (takes.held ∙ none);
       none = λ other. refl;
       count = ap (λ n. n + length (heard ++ bytes)) takes.left ∙ count;
     };
@@ -127,19 +130,19 @@ module _ (names : KnownNames) (old : Conversation) (turns : List Turn) (heard : 
   }
 
   -- the end of a line was heard
-  pub heard_line : (mid new : Conversation) (request : Option Request) (bytes some : List ℕ) → need_of old ≡ needs.Input → bytes ≡ some ++ 10 ∷ [] → HasNoLf some
-      → ((line : List ℕ) → HoldsLine old.held line → HoldsLine mid.held (line ++ some)) → mid.left + length bytes ≡ old.left → mid.stage ≡ old.stage → talk_of mid ≡ talk_of old
-      → TakesLine names mid new request
+  pub heard_line : (mid new : Conversation) (turn : Turn) (request : Option Request) (bytes some : List ℕ) → need_of old ≡ needs.Input → bytes ≡ some ++ 10 ∷ [] → HasNoLf some
+      → mid.held ≡ None → mid.left + length bytes ≡ old.left → mid.stage ≡ old.stage → talk_of mid ≡ talk_of old
+      → IsTurn names (was.rest ++ some) turn → TakesTurn mid new turn request
       → HearsMore names old new turns heard bytes request
-  heard_line mid new request bytes some need is plain holds count stage talk takes =
+  heard_line mid new turn request bytes some need is plain none count stage talk is_turn takes =
       let line = was.rest ++ some in
       let whole_line : HasNoLf line = All-append (λ b. b ≢ 10) was.rest some was.plain plain in
       let old_ended : old.ended ≡ false = not_ended old.ended old.stage need in
       let ended : new.ended ≡ false = takes.ended ∙ ap (λ (t : Talk). t.ended) talk ∙ old_ended in
       let lines : AreLines was.whole was.lines = subst (λ e. AreSo e was.whole was.lines) old_ended was.cut in
-      taken mid new request bytes (was.whole ++ (line ++ 10 ∷ [])) line (holds was.rest was.holds)
+      taken mid new turn request bytes (was.whole ++ (line ++ 10 ∷ [])) line none
       (λ g l a s p. at_is g l s old.stage mid.stage (talk_of old) (talk_of mid) turns turns a a stage talk refl refl p)
-      takes
+      is_turn takes
       (ap (λ l. l ++ bytes) was.split ∙ append_assoc was.whole was.rest bytes ∙ ap (λ l. was.whole ++ (was.rest ++ l)) is
       ∙ ap (λ l. was.whole ++ l) (sym (append_assoc was.rest some (10 ∷ []))))
       (subst (λ e. AreSo e (was.whole ++ (line ++ 10 ∷ [])) (was.lines ++ line ∷ [])) (sym ended)
@@ -147,27 +150,27 @@ module _ (names : KnownNames) (old : Conversation) (turns : List Turn) (heard : 
       (omega (arith, was.count, count, length-append heard bytes))
 
   -- the input has ended after a line that had begun
-  pub ended_line : (mid new : Conversation) (request : Option Request) → old.ended ≡ false → 0 < length old.held.bytes.items → mid.held ≡ old.held → mid.left ≡ old.left
+  pub ended_line : (mid new : Conversation) (turn : Turn) (request : Option Request) → old.ended ≡ false → 0 < length was.rest → mid.held ≡ None → mid.left ≡ old.left
       → mid.ended ≡ true
       → ((given : Given) (left : ℕ → List ℕ) (asked : List Request) (said : List ℕ) → IsAt old.stage given left (talk_of old) turns asked said → IsAt mid.stage given left (talk_of mid) turns asked said)
-      → TakesLine names mid new request
+      → IsTurn names was.rest turn → TakesTurn mid new turn request
       → HearsMore names old new turns heard [] request
-  ended_line mid new request old_ended some held left_is mid_ended at takes =
+  ended_line mid new turn request old_ended some none left_is mid_ended at is_turn takes =
       let rest = was.rest in
       let lines : AreLines was.whole was.lines = subst (λ e. AreSo e was.whole was.lines) old_ended was.cut in
-      let last : lines_of rest ≡ rest ∷ [] = lines_last rest (something_held old.held.bytes.items rest was.holds.front some) was.plain in
-      taken mid new request [] (was.whole ++ rest) rest (subst (λ h. HoldsLine h rest) (sym held) was.holds) at takes
+      let last : lines_of rest ≡ rest ∷ [] = lines_last rest some was.plain in
+      taken mid new turn request [] (was.whole ++ rest) rest none at is_turn takes
       (append-nil heard ∙ was.split)
       (subst (λ e. AreSo e (was.whole ++ rest) (was.lines ++ rest ∷ [])) (sym (takes.ended ∙ mid_ended)) (lines rest ∙ ap (λ l. was.lines ++ l) last))
       (omega (arith, was.count, left_is, ap length (append-nil heard)))
 
   -- the input has ended, and no line had begun
-  pub ended_none : (new : Conversation) → (old.ended ≡ true) ⊎ (length old.held.bytes.items ≡ 0) → new.held ≡ old.held → new.left ≡ old.left → new.ended ≡ true
+  pub ended_none : (new : Conversation) → (old.ended ≡ true) ⊎ (old.held ≡ None) → new.held ≡ old.held → new.left ≡ old.left → new.ended ≡ true
       → HasHeard names new (turns ++ []) (heard ++ [])
   ended_none new why held left_is ended =
       let none : was.rest ≡ [] = elim why [
         | inl already ↦ was.none (no_input old.ended old.stage already)
-        | inr nothing ↦ nothing_held old.held.bytes.items was.rest was.holds.front nothing
+        | inr nothing ↦ subst (λ o. HoldsBegun o was.rest) nothing was.holds
       ] in
       record {
         whole = was.whole;
@@ -177,7 +180,7 @@ module _ (names : KnownNames) (old : Conversation) (turns : List Turn) (heard : 
         cut = subst (λ e. AreSo e was.whole was.lines) (sym ended) (all_so old.ended was.cut);
         are = subst (AreTurns names was.lines) (sym (append-nil turns)) was.are;
         plain = was.plain;
-        holds = subst (λ h. HoldsLine h was.rest) (sym held) was.holds;
+        holds = subst (λ h. HoldsBegun h was.rest) (sym held) was.holds;
         none = λ other. none;
         count = omega (arith, was.count, left_is, ap length (append-nil heard));
       }
@@ -196,42 +199,69 @@ module _ (names : KnownNames) (old : Conversation) (turns : List Turn) (heard : 
     cut = subst (λ e. AreSo e was.whole was.lines) (sym ended) was.cut;
     are = was.are;
     plain = was.plain;
-    holds = subst (λ h. HoldsLine h was.rest) (sym held) was.holds;
+    holds = subst (λ h. HoldsBegun h was.rest) (sym held) was.holds;
     none = λ _. was.none other;
     count = ap (λ n. n + length heard) left_is ∙ was.count;
   }
 
--- the front of the bytes was heard: up to the end of a line, or a part of one
-pub scanned_line : (names : KnownNames) (old mid new : Conversation) (request : Option Request) (bytes : List ℕ) (n : ℕ) (part : Part) → part ≡ Ends
-    → Scanned n part bytes old.held mid.held old.left → need_of old ≡ needs.Input → mid.left ≡ old.left - n → mid.stage ≡ old.stage → talk_of mid ≡ talk_of old
-    → TakesLine names mid new request → Hears names old new (take n bytes) request
-scanned_line names old mid new request bytes n part is s need count stage talk takes turns heard was =
-    let whole : Scanned n Ends bytes old.held mid.held old.left = subst (λ p. Scanned n p bytes old.held mid.held old.left) is s in
-    heard_line names old turns heard was mid new request (take n bytes) whole.some need whole.front whole.plain whole.holds
-    (omega (arith, count, whole.fits, length-take-le n bytes whole.within)) stage talk takes
+-- nothing was heard yet, and nothing is held
+pub heard_nothing : (names : KnownNames) (conv : Conversation) → conv.held ≡ None → conv.ended ≡ false → conv.left ≡ 16777216 → HasHeard names conv [] []
+heard_nothing names conv none ended left_is = record {
+  whole = [];
+  rest = [];
+  lines = [];
+  split = refl;
+  cut = subst (λ e. AreSo e [] []) (sym ended) AreLines-nil;
+  are = tt;
+  plain = All-nil (λ b. b ≢ 10);
+  holds = holds_none conv.held none;
+  none = λ other. refl;
+  count = omega (arith, left_is);
+}
 
-pub scanned_part : (names : KnownNames) (old new : Conversation) (bytes : List ℕ) (n : ℕ) (part : Part) → part ≡ More
-    → Scanned n part bytes old.held new.held old.left → need_of old ≡ needs.Input → new.left ≡ old.left - n → new.stage ≡ old.stage → talk_of new ≡ talk_of old
-    → Hears names old new (take n bytes) None
-scanned_part names old new bytes n part is s need count stage talk turns heard was =
-    let some : Scanned n More bytes old.held new.held old.left = subst (λ p. Scanned n p bytes old.held new.held old.left) is s in
-    heard_part names old turns heard was new (take n bytes) some.some need some.front some.plain some.holds
-    (omega (arith, count, some.fits, length-take-le n bytes some.within)) stage talk
+-- the line that was held was taken as its turn
+turn_taken : (names : KnownNames) (held : Held) (old new : Conversation) (request : Option Request) → (takes : TakesLine names held old new request) → TakesTurn old new takes.turn request
+turn_taken names held old new request takes = record { held = takes.held; left = takes.left; ended = takes.ended; origin = takes.origin; moves = takes.moves }
+
+-- the front of the bytes was heard: up to the end of a line, or a part of one
+pub scanned_line : (names : KnownNames) (old gone mid new : Conversation) (before held : Held) (request : Option Request) (bytes : List ℕ) (n : ℕ) (part : Part) → part ≡ Ends
+    → LetsGo old gone → ((line : List ℕ) → HoldsBegun old.held line → HoldsLine before line) → Scanned n part bytes before held gone.left → need_of old ≡ needs.Input
+    → mid.held ≡ gone.held → mid.left ≡ gone.left - n → mid.stage ≡ gone.stage → talk_of mid ≡ talk_of gone
+    → TakesLine names held mid new request → Hears names old new (take n bytes) request
+scanned_line names old gone mid new before held request bytes n part is goes begun s need held_is count stage talk takes turns heard was =
+    let whole : Scanned n Ends bytes before held gone.left = subst (λ p. Scanned n p bytes before held gone.left) is s in
+    heard_line names old turns heard was mid new takes.turn request (take n bytes) whole.some need whole.front whole.plain (held_is ∙ goes.held)
+    (omega (arith, count, goes.left, whole.fits, length-take-le n bytes whole.within)) (stage ∙ goes.stage) (talk ∙ goes.talk)
+    (takes.is_turn (was.rest ++ whole.some) (whole.holds was.rest (begun was.rest was.holds))) (turn_taken names held mid new request takes)
+
+pub scanned_part : (names : KnownNames) (old gone new : Conversation) (before held : Held) (bytes : List ℕ) (n : ℕ) (part : Part) → part ≡ More
+    → LetsGo old gone → ((line : List ℕ) → HoldsBegun old.held line → HoldsLine before line) → Scanned n part bytes before held gone.left → need_of old ≡ needs.Input
+    → new.held ≡ Some held → new.left ≡ gone.left - n → new.stage ≡ gone.stage → talk_of new ≡ talk_of gone → Hears names old new (take n bytes) None
+scanned_part names old gone new before held bytes n part is goes begun s need held_is count stage talk turns heard was =
+    let some : Scanned n More bytes before held gone.left = subst (λ p. Scanned n p bytes before held gone.left) is s in
+    let line = was.rest ++ some.some in
+    let more : 0 < length line = omega (arith, some.kind, length-append was.rest some.some) in
+    heard_part names old turns heard was new (take n bytes) some.some need some.front some.plain
+    (subst (λ o. HoldsBegun o line) (sym held_is) (more, some.holds was.rest (begun was.rest was.holds)))
+    (omega (arith, count, goes.left, some.fits, length-take-le n bytes some.within)) (stage ∙ goes.stage) (talk ∙ goes.talk)
 
 -- the input has ended after a line
-pub ends_line : (names : KnownNames) (old mid new : Conversation) (request : Option Request) → (old.ended ≡ false) × (0 < length old.held.bytes.items)
-    → (need_of old ≡ needs.Input) ⊎ (need_of old ≡ needs.End) → mid.held ≡ old.held → mid.left ≡ old.left → mid.stage ≡ old.stage → mid.ended ≡ true
-    → mid.after ≡ old.after → mid.pending.items ≡ old.pending.items → mid.line ≡ old.line → TakesLine names mid new request → Hears names old new [] request
-ends_line names old mid new request begun need held left_is stage ended after pending line takes turns heard was =
-    ended_line names old turns heard was mid new request begun.0 begun.1 held left_is ended
-    (λ g l a s p. subst (λ x. IsAt x g l (talk_of mid) turns a s) (sym stage)
-    (ends_at old.stage old.ended need g l (talk_of old) (talk_of mid) turns a s after pending line p))
-    takes
+pub ends_line : (names : KnownNames) (old gone mid new : Conversation) (held : Held) (request : Option Request) → (old.ended ≡ false) × (old.held ≡ Some held)
+    → (need_of old ≡ needs.Input) ⊎ (need_of old ≡ needs.End) → LetsGo old gone → mid.held ≡ gone.held → mid.left ≡ gone.left → mid.stage ≡ gone.stage → mid.ended ≡ true
+    → mid.after ≡ gone.after → mid.pending.items ≡ gone.pending.items → mid.line ≡ gone.line → TakesLine names held mid new request
+    → Hears names old new [] request
+ends_line names old gone mid new held request begun need goes held_is left_is stage ended after pending line takes turns heard was =
+    let holds : HoldsBegun (Some held) was.rest = subst (λ o. HoldsBegun o was.rest) begun.1 was.holds in
+    ended_line names old turns heard was mid new takes.turn request begun.0 holds.0 (held_is ∙ goes.held) (left_is ∙ goes.left) ended
+    (λ g l a s p. subst (λ x. IsAt x g l (talk_of mid) turns a s) (sym (stage ∙ goes.stage))
+    (ends_at old.stage old.ended need g l (talk_of old) (talk_of mid) turns a s (after ∙ ap (λ (t : Talk). t.after) goes.talk) (pending ∙ ap (λ (t : Talk). t.pending) goes.talk)
+    (line ∙ ap (λ (t : Talk). t.line) goes.talk) p))
+    (takes.is_turn was.rest holds.1) (turn_taken names held mid new request takes)
 
 -- and after no line: nothing more is asked unless the session is open
-pub ends_quietly : (names : KnownNames) (old new : Conversation) → (old.ended ≡ true) ⊎ (length old.held.bytes.items ≡ 0) → old.stage ≡ stages.Greets → new.held ≡ old.held → new.left ≡ old.left
+ends_quietly_at : (names : KnownNames) (old new : Conversation) → (old.ended ≡ true) ⊎ (old.held ≡ None) → old.stage ≡ stages.Greets → new.held ≡ old.held → new.left ≡ old.left
     → new.stage ≡ stages.Tells closings.Ends → new.ended ≡ true → new.after ≡ old.after → new.pending.items ≡ old.pending.items → new.line ≡ old.line → Hears names old new [] None
-ends_quietly names old new why was_stage held left_is stage ended after pending line turns heard was = record {
+ends_quietly_at names old new why was_stage held left_is stage ended after pending line turns heard was = record {
   more = [];
   few = omega arith;
   origin = tt;
@@ -241,9 +271,9 @@ ends_quietly names old new why was_stage held left_is stage ended after pending 
       (subst (λ x. IsAt x given left (talk_of old) turns asked said) was_stage at)));
 }
 
-pub ends_block : (names : KnownNames) (old new : Conversation) → (old.ended ≡ true) ⊎ (length old.held.bytes.items ≡ 0) → old.stage ≡ stages.Listens → new.held ≡ old.held → new.left ≡ old.left
+ends_block_at : (names : KnownNames) (old new : Conversation) → (old.ended ≡ true) ⊎ (old.held ≡ None) → old.stage ≡ stages.Listens → new.held ≡ old.held → new.left ≡ old.left
     → new.stage ≡ stages.Settles closings.Ends → new.ended ≡ true → new.after ≡ old.after → new.pending.items ≡ old.pending.items → new.line ≡ old.line → Hears names old new [] (Some Settles)
-ends_block names old new why was_stage held left_is stage ended after pending line turns heard was = record {
+ends_block_at names old new why was_stage held left_is stage ended after pending line turns heard was = record {
   more = [];
   few = omega arith;
   origin = tt;
@@ -258,3 +288,14 @@ ends_block names old new why was_stage held left_is stage ended after pending li
     ),
   );
 }
+
+-- the same where nothing was let go
+pub ends_quietly : (names : KnownNames) (old gone new : Conversation) → gone ≡ old → (gone.ended ≡ true) ⊎ (gone.held ≡ None) → gone.stage ≡ stages.Greets → new.held ≡ gone.held → new.left ≡ gone.left
+    → new.stage ≡ stages.Tells closings.Ends → new.ended ≡ true → new.after ≡ gone.after → new.pending.items ≡ gone.pending.items → new.line ≡ gone.line → Hears names old new [] None
+ends_quietly names old gone new same why was_stage held left_is stage ended after pending line =
+    subst (λ o. Hears names o new [] None) same (ends_quietly_at names gone new why was_stage held left_is stage ended after pending line)
+
+pub ends_block : (names : KnownNames) (old gone new : Conversation) → gone ≡ old → (gone.ended ≡ true) ⊎ (gone.held ≡ None) → gone.stage ≡ stages.Listens → new.held ≡ gone.held → new.left ≡ gone.left
+    → new.stage ≡ stages.Settles closings.Ends → new.ended ≡ true → new.after ≡ gone.after → new.pending.items ≡ gone.pending.items → new.line ≡ gone.line → Hears names old new [] (Some Settles)
+ends_block names old gone new same why was_stage held left_is stage ended after pending line =
+    subst (λ o. Hears names o new [] (Some Settles)) same (ends_block_at names gone new why was_stage held left_is stage ended after pending line)

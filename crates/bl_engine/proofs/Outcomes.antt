@@ -1,5 +1,5 @@
 -- From what holds of an outcome to what follows from it.
-use Rattle.std.proofs.Common.{Result, Ok, Err, OnOk, OnErr, IfOk, IfErr}
+use Rattle.std.proofs.Common.{◌≡◌, Result, Ok, Err, OnOk, OnErr, IfOk, IfErr, Option, Some, None, refl}
 
 pub on_ok-map : {A E : Type 0} (r : Result A E) {P Q : Type 0} → (P → Q) → OnOk r P → OnOk r Q
 on_ok-map (Ok x) f p = f p
@@ -29,3 +29,8 @@ if_ok-map (Err e) f p = tt
 pub if_ok-both : {A E : Type 0} (r : Result A E) {P Q S : A → Type 0} → ((a : A) → P a → Q a → S a) → IfOk r P → IfOk r Q → IfOk r S
 if_ok-both (Ok x) f p q = f x p q
 if_ok-both (Err e) f p q = tt
+
+-- what is not there
+pub not_some : {A : Type 0} (o : Option A) → ((a : A) → o ≡ Some a → ⊥) → o ≡ None
+not_some (Some a) no' = absurd (no' a refl)
+not_some None no' = refl

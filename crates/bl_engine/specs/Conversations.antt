@@ -2,6 +2,7 @@
 use Rattle.std.specs.Prelude.{◌≡◌, ℕ, ◌+◌, ◌*◌, ◌-◌, ◌<◌, ◌≤◌, ◌⊎◌, Bool, true, false, List, [], ◌∷◌, ◌++◌, length, drop, Option, Some, None, IfSome, replicate, ⊤}
 use Rattle.bl_work.specs.Names.{KnownNames}
 use Rattle.bl_wire.specs.HoldsLine.{HoldsLine}
+use Rattle.bl_wire.specs.declared.held.Held.{Held}
 use Rattle.bl_wire.specs.Lines.{lines_of, AreLines, HasNoLf}
 use Rattle.bl_wire.specs.Texts.{text_of, session_text, ordinal_after, ok_line, bye_line, refused_hello}
 use Rattle.bl_wire.specs.Turns.{AreTurns, AreSkips, IsTurn, IsOpening, IsRefusal, StopsAtRefusal, HasNoWait, StandsIn}
@@ -113,6 +114,11 @@ abbrev pub AreSo : Bool → List ℕ → List (List ℕ) → Type 0
 AreSo true bytes lines = lines_of bytes ≡ lines
 AreSo false bytes lines = AreLines bytes lines
 
+-- what is held of a line that has begun: nothing is held where none has
+abbrev pub HoldsBegun : Option Held → List ℕ → Type 0
+HoldsBegun None line = line ≡ []
+HoldsBegun (Some held) line = (0 < length line) × HoldsLine held line
+
 -- These turns are the whole lines of what was heard, and what has begun after them is held.
 pub record HasHeard (names : KnownNames) (conv : Conversation) (turns : List Turn) (heard : List ℕ) : Type 0 where
   pub whole : List ℕ
@@ -122,7 +128,7 @@ pub record HasHeard (names : KnownNames) (conv : Conversation) (turns : List Tur
   pub cut : AreSo conv.ended whole lines
   pub are : AreTurns names lines turns
   pub plain : HasNoLf rest
-  pub holds : HoldsLine conv.held rest
+  pub holds : HoldsBegun conv.held rest
   pub none : (need_of conv ≡ needs.Input → ⊥) → rest ≡ []
   pub count : conv.left + length heard ≡ 16777216
 
@@ -331,11 +337,18 @@ pub record TakesTurn (old new : Conversation) (turn : Turn) (request : Option Re
   pub origin : IfSome request (IsOf turn)
   pub moves : Moves old new turn request
 
--- the line that was held is taken
-pub record TakesLine (names : KnownNames) (old new : Conversation) (request : Option Request) : Type 0 where
+-- all is as it was, but that nothing is held
+pub record LetsGo (old new : Conversation) : Type 0 where
+  pub held : new.held ≡ None
+  pub left : new.left ≡ old.left
+  pub stage : new.stage ≡ old.stage
+  pub talk : talk_of new ≡ talk_of old
+
+-- the line that was held so is taken
+pub record TakesLine (names : KnownNames) (held_line : Held) (old new : Conversation) (request : Option Request) : Type 0 where
   pub turn : Turn
-  pub is_turn : (line : List ℕ) → HoldsLine old.held line → IsTurn names line turn
-  pub holds : HoldsLine new.held []
+  pub is_turn : (line : List ℕ) → HoldsLine held_line line → IsTurn names line turn
+  pub held : new.held ≡ old.held
   pub left : new.left ≡ old.left
   pub ended : new.ended ≡ old.ended
   pub origin : IfSome request (IsOf turn)

@@ -82,11 +82,12 @@ pub struct Heard {
     pub request: Option<Request>,
 }
 
-/// A session: the line that has begun, how many bytes may still be heard, whether the input is at its end, the last ordinal before the
-/// block, the block's lines, and how many of them were told.
+/// A session: what is held of the line that has begun, if one has, how many bytes may still be heard, whether the input is at its end,
+/// the last ordinal before the block, the block's lines, and how many of them were told. So one whose lines have all ended holds no room
+/// for a line.
 #[derive(Drop)]
 pub struct Conversation {
-    pub held: Held,
+    pub held: Option<Held>,
     pub left: usize,
     pub ended: bool,
     pub after: u32,
@@ -128,9 +129,10 @@ impl Closing {
 impl Conversation {
     ghost use Rattle.bl_wire.specs.Watch.{end_state, Puts};
     ghost use Rattle.bl_wire.specs.declared.fault.SessionFault.TheVariants.{TooLong, Memory};
+    ghost use Rattle.bl_wire.specs.HoldsLine.{HoldsLine};
     ghost use Rattle.bl_work.specs.Names.{KnownNames};
     ghost use Rattle.bl_engine.specs.Parts.{MayTake};
-    ghost use Rattle.bl_engine.specs.Conversations.{Given, Spoke, Hears, Says, IsOpenedAs, IsAnswered, TakesTurn, TakesLine, TellsPart, Closes, Keeps, KeepsBlock, SameBlock, GoesOnAlone, last_ordinal, need_of, words_of, is_hearing, parts_left, waits_left, HasRoom};
+    ghost use Rattle.bl_engine.specs.Conversations.{Given, Spoke, Hears, Says, IsOpenedAs, IsAnswered, TakesTurn, TakesLine, HoldsBegun, LetsGo, TellsPart, Closes, Keeps, KeepsBlock, SameBlock, GoesOnAlone, last_ordinal, need_of, words_of, is_hearing, parts_left, waits_left, HasRoom};
     ghost use Rattle.bl_engine.specs.declared.conversation.Need.TheVariants as needs;
     ghost use Rattle.bl_engine.specs.declared.conversation.Stage.TheVariants as stages;
 
@@ -140,7 +142,7 @@ impl Conversation {
         ensures need { IfOk result (λ conv. need_of conv ≡ needs.Input) }
     {
         Ok(Conversation {
-            held: Held::new(alloc)?,
+            held: None,
             left: MOST,
             ended: false,
             after: 0,
@@ -237,19 +239,44 @@ impl Conversation {
         }
     }
 
-    /// Takes the line that is held, and holds none.
-    fn take_line(&mut self, alloc: Global, names: &Names) -> Result<Option<Request>, AllocError>
+    /// Takes a line that is this turn.
+    fn take_turn(&mut self, turn: Turn) -> Result<Option<Request>, AllocError>
         requires stage { is_hearing self.old.stage ≡ true }
         requires room { HasRoom self.old }
-        ensures takes { IfOk result (TakesLine names.now self.old self.new) }
+        ensures takes { IfOk result (TakesTurn self.old self.new turn) }
         ensures block { IfOk result (KeepsBlock self.old self.new) }
     {
-        let turn = turn_held(alloc, names, &self.held)?;
-        self.held.clear();
         match self.stage {
             Stage::Greets => Ok(self.greet(&turn)),
             Stage::Listens => self.join(turn),
             Stage::Opens | Stage::Settles(_) | Stage::Tells(_) | Stage::Over => unreachable!(),
+        }
+    }
+
+    /// Takes the line that was held.
+    fn take_line(
+        &mut self,
+        alloc: Global,
+        names: &Names,
+        held: &Held,
+    ) -> Result<Option<Request>, AllocError>
+        requires stage { is_hearing self.old.stage ≡ true }
+        requires room { HasRoom self.old }
+        ensures takes { IfOk result (TakesLine names.now held.now self.old self.new) }
+        ensures block { IfOk result (KeepsBlock self.old self.new) }
+    {
+        let turn = turn_held(alloc, names, held)?;
+        self.take_turn(turn)
+    }
+
+    /// Lets go of what is held of the line that has begun, or of room for a new one, made here.
+    fn let_go(&mut self, alloc: Global) -> Result<Held, AllocError>
+        ensures held { IfOk result (λ held. (line : List ℕ) → HoldsBegun self.old.held line → HoldsLine held line) }
+        ensures same { LetsGo self.old self.new }
+    {
+        match self.held.take() {
+            Some(held) => Ok(held),
+            None => Held::new(alloc),
         }
     }
 
@@ -271,32 +298,38 @@ impl Conversation {
         ensures nearer { OnOk result (waits_left self.new < waits_left self.old) }
         ensures long { IfErr result (λ fault. (fault ≡ Memory) ⊎ ((fault ≡ TooLong) × (self.old.left ≡ 0))) }
     {
-        let Some(found) = scan(bytes, &mut self.held, self.left) else {
+        let mut held = self.let_go(alloc)?;
+        let Some(found) = scan(bytes, &mut held, self.left) else {
             return Err(SessionFault::TooLong);
         };
         self.left -= found.bytes;
         let taken = found.bytes;
         match found.part {
             Part::Ends => {
-                let request = self.take_line(alloc, names)?;
+                let request = self.take_line(alloc, names, &held)?;
                 Ok(Heard { taken, request })
             }
-            Part::More => Ok(Heard {
-                taken,
-                request: None,
-            }),
+            Part::More => {
+                self.held = Some(held);
+                Ok(Heard {
+                    taken,
+                    request: None,
+                })
+            }
         }
     }
 
-    /// Whether a line has begun that is heard no further.
-    fn has_begun(&self) -> bool
-        ensures some { result ≡ true → (self.now.ended ≡ false) × (0 < length self.now.held.bytes.items) }
-        ensures none { result ≡ false → (self.now.ended ≡ true) ⊎ (length self.now.held.bytes.items ≡ 0) }
+    /// Lets go of what is held of a line that has begun and is heard no further.
+    fn let_go_begun(&mut self) -> Option<Held>
+        ensures some { IfSome result (λ held. (self.old.ended ≡ false) × (self.old.held ≡ Some held)) }
+        ensures none { result ≡ None → (self.new.ended ≡ true) ⊎ (self.new.held ≡ None) }
+        ensures same { IfSome result (λ held. LetsGo self.old self.new) }
+        ensures kept { result ≡ None → self.new ≡ self.old }
     {
         if self.ended {
-            return false;
+            return None;
         }
-        !self.held.bytes.is_empty()
+        self.held.take()
     }
 
     /// Hears that the input is at its end, and what is asked then. A line that has begun is a line. It is told so until it waits for
@@ -308,9 +341,9 @@ impl Conversation {
         ensures nearer { OnOk result (waits_left self.new < waits_left self.old) }
         ensures ended { OnOk result (self.new.ended ≡ true) }
     {
-        if self.has_begun() {
+        if let Some(held) = self.let_go_begun() {
             self.ended = true;
-            return self.take_line(alloc, names);
+            return self.take_line(alloc, names, &held);
         }
         self.ended = true;
         match self.stage {

@@ -6,6 +6,7 @@ use Rattle.std.proofs.Math.Seq.{drop-cons}
 use Rattle.std.proofs.lemmas.List.Elements.{All-append, All-cons, All-head, All-nil, All-tail, All-weaker, filter-append}
 use Rattle.std.proofs.lemmas.Grind.{flat_map-append}
 use Rattle.std.proofs.lemmas.Bool.Decides.{eqb_tells, nat_tests}
+use Rattle.bl_work.specs.Few.{items_of}
 use Rattle.bl_work.specs.Names.{KnownNames}
 use Rattle.bl_hall.specs.declared.reply.Reply as owned
 use Rattle.bl_hall.specs.Told.{reply_of}
@@ -135,7 +136,7 @@ some_more l r = let long = length-append l (r ∷ []) in sym (is_less (length (l
     is_less n lt = grind (arith, nat_tests)
 
 -- a label that begins so
-pub labelled : (reply : owned.Reply) (n : ℕ) (path : List ℕ) (names : KnownNames) → reply.label.items ≡ n ∷ path
+pub labelled : (reply : owned.Reply) (n : ℕ) (path : List ℕ) (names : KnownNames) → items_of reply.label ≡ n ∷ path
     → reply_text names (reply_of reply) ≡ label_text (n ∷ path) ++ (answer_text names reply.answer ++ codes "\n")
 labelled reply n path names is = ap (λ l. label_text l ++ (answer_text names reply.answer ++ codes "\n")) is
 

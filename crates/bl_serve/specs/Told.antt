@@ -1,5 +1,6 @@
 -- The replies that a session was told, in the order in which they came, and which of them answer a line.
 use Rattle.std.specs.Prelude.{⊤, ℕ, ◌<◌, ◌≤◌, ◌==◌, List, [], ◌∷◌, All, AllPairs, filter, length, map, slice_index_or, take}
+use Rattle.bl_work.specs.Few.{items_of}
 use Rattle.bl_work.specs.Names.{KnownNames}
 use Rattle.bl_hall.specs.declared.reply.Reply as owned
 use Rattle.bl_hall.specs.Told.{reply_of}
@@ -8,7 +9,7 @@ use Rattle.bl_wire.specs.Replies.{line_or_full}
 
 -- the ordinal of a reply's line
 abbrev pub ordinal_of : owned.Reply → ℕ
-ordinal_of reply = slice_index_or reply.label.items 0 0
+ordinal_of reply = slice_index_or (items_of reply.label) 0 0
 
 -- the replies to a line
 abbrev pub line_of : ℕ → List owned.Reply → List owned.Reply

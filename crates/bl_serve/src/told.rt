@@ -19,10 +19,9 @@ use std::io::Write;
 fn ordinal_of(reply: &Reply) -> u32
     ensures { result ≡ ordinal_of reply.now }
 {
-    if reply.label.is_empty() {
-        0
-    } else {
-        reply.label[0]
+    match reply.label.as_slice() {
+        [ordinal, ..] => *ordinal,
+        [] => 0,
     }
 }
 
@@ -48,7 +47,7 @@ fn put_told<W: Write>(writer: &mut Watched<W>, names: &Names, reply: &Reply)
     requires named { NamesAnswer names.now reply.now.answer }
     ensures { Puts (reply_text names.now (reply_of reply.now)) (end_state W.contents writer.old) (end_state W.contents writer.new) }
 {
-    let Some((ordinal, path)) = reply.label.split_first() else {
+    let Some((ordinal, path)) = reply.label.as_slice().split_first() else {
         unreachable!()
     };
     put_label(writer, *ordinal, path);

@@ -211,6 +211,7 @@ impl<'a, P: Pause, T: Wait> Visitor<'a, P, T> {
         ensures upto { OnOk result (visit.new.upto ≡ ordinal) }
         ensures same { OnErr result (visit.new.upto ≡ visit.old.upto) }
         ensures last { visit.new.last ≤ ordinal }
+        ensures asked { OnOk result (visit.new.asked.items ≡ []) }
     {
         let Some(session) = visit.session else {
             unreachable!()

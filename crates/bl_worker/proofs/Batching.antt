@@ -1,5 +1,5 @@
 -- Batches of entries in hand, step by step.
-use Rattle.std.proofs.Common.{◌≡◌, ◌≢◌, ℕ, ◌+◌, ◌<◌, ◌≤◌, ◌⊎◌, ◌||◌, Bool, get_or, length, inl, inr, List, [], ◌∷◌, ◌++◌, map, true, false, refl, sym, ap, ◌∙◌, subst, arith, append_assoc, append-nil}
+use Rattle.std.proofs.Common.{◌≡◌, ◌≢◌, ℕ, ◌+◌, ◌<◌, ◌≤◌, ◌⊎◌, Bool, length, inl, inr, List, [], ◌∷◌, ◌++◌, map, true, false, refl, sym, ap, ◌∙◌, subst, arith, append_assoc, append-nil}
 use Rattle.std.specs.Prelude.{◌==◌, All, IsTrue, MatchBool, MatchResult, reverse, Result, Ok, Err}
 use Rattle.std.proofs.lemmas.Bool.Decides.{nat_tests}
 use Rattle.std.proofs.lemmas.List.{map-append, reverse-append}
@@ -14,15 +14,14 @@ use Rattle.bl_gate.specs.Gates.{PassView, Calls, Follows, HasLoanInHand, InHand,
 use Rattle.bl_gate.proofs.Following.{base_stays, follows_itself, follows_then}
 use Rattle.bl_gate.proofs.Lending.{begun_once}
 use Rattle.bl_gate.proofs.Passing.{trail_front, trail_back}
-use Rattle.bl_worker.specs.Batches.{EndsNone, IsBatch, IsTried, lent_by, loan_of, times_lent}
-use Rattle.bl_worker.specs.Turns.{HasWorked, IsTurnOf, Settles}
+use Rattle.bl_worker.specs.Batches.{EndsNone, IsBatch, lent_by, loan_of, times_lent}
+use Rattle.bl_worker.specs.Turns.{Settles}
 use Rattle.bl_worker.specs.Hands.{HasBegun, HasMade, IsBegunOf, MissesNone, events_of}
-use Rattle.bl_worker.specs.declared.turn.Turn.{Turn}
 use Rattle.bl_worker.specs.declared.turn.Turn.TheVariants.{Idle, Missed, Denied, Done, Lost}
 use Rattle.bl_worker.specs.declared.turn.Begun.{Begun}
 use Rattle.bl_worker.specs.declared.turn.Begun.TheVariants.{Over, Runs}
 use Rattle.bl_worker.proofs.Handing.{all_settled, but_on, begun_settles, held_as, settled_all}
-use Rattle.bl_worker.proofs.Settling.{one_place, passes_later, passes_on, settles_itself}
+use Rattle.bl_worker.proofs.Settling.{one_place, passes_on, settles_itself}
 
 -- ---- counting
 
@@ -215,40 +214,6 @@ more_in lents ran lent none =
     ap (λ (l : List Loan). (lents ++ lent ∷ []) ++ l) (ran_none ran none)
     ∙ (append-nil (lents ++ lent ∷ [])
     ∙ (ap (λ (l : List Loan). l ++ lent ∷ []) (sym (append-nil lents)) ∙ ap (λ (l : List Loan). (lents ++ l) ++ lent ∷ []) (sym (ran_none ran none))))
-
--- ---- what was tried
-
-or_right : (a b : Bool) → b ≡ true → (a || b) ≡ true
-or_right a b is = grind arith
-
-module _ (first p q : PassView) (n : ℕ) where
-  tried_over : (turn : Turn) → IsTurnOf n turn → HasWorked p q turn → Follows first p → Follows p q → IsTried first q n
-  tried_over Idle of work from to = absurd of
-  tried_over (Missed m) of work from to = inr (q, follows_then first p q from to, follows_itself q, subst (λ k. ¬ MayStart (state_seen q) k) of work.1)
-  tried_over (Denied m) of work from to = inl (subst (λ k. (runs (state_seen q) k || has_ended (state_seen q) k) ≡ true) of (or_right (runs (state_seen q) m) (has_ended (state_seen q) m) work.ended))
-  tried_over (Done m) of work from to = inl (subst (λ k. (runs (state_seen q) k || has_ended (state_seen q) k) ≡ true) of (or_right (runs (state_seen q) m) (has_ended (state_seen q) m) work.ended))
-  tried_over (Lost m) of work from to = inl (subst (λ k. (runs (state_seen q) k || has_ended (state_seen q) k) ≡ true) of (or_right (runs (state_seen q) m) (has_ended (state_seen q) m) work.ended))
-
-  pub tried_now : (begun : Begun) → IsBegunOf n begun → HasBegun p q begun → Follows first p → Follows p q → IsTried first q n
-  tried_now (Over turn) of begun from to = tried_over turn of begun.0 from to
-  tried_now (Runs lent) of begun from to = inl (subst (λ k. (runs (state_seen q) k || has_ended (state_seen q) k) ≡ true) of (or_left (runs (state_seen q) lent.entry) (has_ended (state_seen q) lent.entry) begun.0.entry.running))
-
-  tried_on : IsTried first p n → Follows p q → HasTrail (hall_seen q) → IsTried first q n
-  tried_on (inl begun) to legal = inl ((passes_later p q to legal).begun n begun)
-  tried_on (inr (at, from, until, unready)) to legal = inr (at, from, follows_then at p q until to, unready)
-
--- one more was tried
-pub tried_more : (first p q : PassView) (entries : List ℕ) (i : ℕ) → Follows p q → HasTrail (hall_seen q) → ((d : ℕ) → IsTried first q (get_or entries i d))
-    → ((k d : ℕ) → k < i → IsTried first p (get_or entries k d)) → (k d : ℕ) → k < i + 1 → IsTried first q (get_or entries k d)
-tried_more first p q entries i to legal new were k d low = go (side k i)
-  where
-    side : (a b : ℕ) → (a ≡ b) ⊎ ((a < b) ⊎ (b < a))
-    side a b = grind arith
-
-    go : (k ≡ i) ⊎ ((k < i) ⊎ (i < k)) → IsTried first q (get_or entries k d)
-    go (inl is) = subst (λ j. IsTried first q (get_or entries j d)) (sym is) (new d)
-    go (inr (inl lt)) = tried_on first p q (get_or entries k d) (were k d lt) to legal
-    go (inr (inr gt)) = absurd (omega (arith, gt, low))
 
 -- ---- what was ready
 

@@ -1,12 +1,10 @@
 -- What a pass has in hand of many entries at once.
-use Rattle.std.specs.Prelude.{◌≡◌, ℕ, ◌+◌, ◌<◌, ◌≤◌, ◌==◌, ◌⊎◌, IsTrue, All, List, [], ◌∷◌, ◌++◌, map, reverse}
+use Rattle.std.specs.Prelude.{◌≡◌, ℕ, ◌+◌, ◌<◌, ◌≤◌, ◌==◌, All, List, [], ◌∷◌, ◌++◌, map, reverse}
 use Rattle.std.specs.Prelude.{Result, Ok, Err, vec_len}
 use Rattle.std.specs.Vec.{vec_capacity}
 use Rattle.bl_eval.specs.Loan.{Loan}
 use Rattle.bl_gate.specs.Counts.{one_if}
-use Rattle.bl_order.specs.Machine.{MayStart}
-use Rattle.bl_gate.specs.Gates.{PassView, Follows, HasLoanInHand, state_seen}
-use Rattle.bl_worker.specs.Turns.{has_begun}
+use Rattle.bl_gate.specs.Gates.{PassView, Follows, HasLoanInHand}
 use Rattle.bl_worker.specs.Hands.{SettlesBut}
 use Rattle.bl_worker.specs.declared.batch.Batch.{Batch}
 use Rattle.bl_worker.specs.declared.turn.Begun.{Begun}
@@ -59,11 +57,6 @@ pub record IsBatch (before after : PassView) (loans : List Loan) : Type 0 where
   pub held : All (HasLoanInHand after) loans
   pub apart : (n : ℕ) → times_lent n loans ≤ 1
   pub settles : SettlesBut (λ n. 1 ≤ times_lent n loans) before after
-
--- the entry has begun by then, or at some moment in between it might not start
-abbrev pub IsTried : (before after : PassView) → ℕ → Type 0
-IsTried before after n = (IsTrue (has_begun (state_seen after) n))
-    ⊎ ((at : PassView) × Follows before at × Follows at after × ¬ MayStart (state_seen at) n)
 
 -- the turn has ended no entry
 abbrev pub IsNoEnd : Turn → Type 0

@@ -1,21 +1,32 @@
 //! Many entries in hand, from one turn at the gate to the next.
-ghost use Rattle.std.specs.Prelude.{◌≡◌, ◌<◌, ◌≤◌, ◌+◌, ◌↔◌, ◌++◌, ◌∷◌, [], false, ℕ, IfOk, IsTrue, List, MatchBool};
-ghost use Rattle.std.specs.Prelude.{get_or, length, vec_len};
+ghost use Rattle.std.specs.Prelude.{◌≡◌, ◌<◌, ◌≤◌, ◌+◌, ◌↔◌, ◌++◌, ◌∷◌, [], false, true, ℕ, IfOk, IsTrue, List};
+ghost use Rattle.std.specs.Prelude.{MatchBool, length, vec_len};
 ghost use Rattle.bl_hall.specs.Chronicle.{HasTrail};
 ghost use Rattle.bl_order.specs.Machine.{MayStart};
 ghost use Rattle.bl_gate.specs.Gates.{Follows, PassView, HasLoanInHand, hall_seen, state_seen};
 ghost use Rattle.bl_eval.specs.Loan.{Loan};
-ghost use Rattle.bl_worker.specs.Batches.{AllRan, EndsNone, HasRoom, IsBatch, IsIdle, IsNoEnd, IsTried, NoneRan};
+ghost use Rattle.bl_worker.specs.Batches.{AllRan, EndsNone, HasRoom, IsBatch, IsIdle, IsNoEnd, NoneRan};
 ghost use Rattle.bl_worker.specs.Batches.{lent_by, loan_of, loans_in};
 ghost use Rattle.bl_worker.specs.Hands.{HasMade};
 ghost use Rattle.bl_worker.specs.Turns.{AddsTurnsAlone, Settles};
 
 use crate::pause::Pause;
 use crate::turn::{Begun, Turn, begin};
+use bl_core::machine::Core;
+use bl_core::origin::Origin;
 use bl_eval::evaluate::eval;
 use bl_eval::lent::{Done, Lent, Unrun};
 use bl_gate::turn::Turn as AtGate;
+use bl_policy::id::DocId;
+use bl_work::script::Script;
+use bl_work::work::Work;
 use std::alloc::{AllocError, Global};
+
+/// An entry that may look at so many bytes is long to run.
+const LONG: usize = 16_384;
+
+/// How many entries stand at most between an entry that may be short to run and its line.
+const MOST_PARENTS: u32 = 8;
 
 /// What a thread has in hand from one turn at the gate to the next: entries that run, and those that it has run, or
 /// could not run, and has yet to end. It has to be closed with nothing in hand.
@@ -48,6 +59,67 @@ fn ends(turn: Turn) -> bool
         Turn::Idle | Turn::Missed(_) => false,
         Turn::Denied(_) | Turn::Done(_) | Turn::Lost(_) => true,
     }
+}
+
+/// The line that an entry comes from, by its place; none where there are many entries in between.
+fn line_of(core: &Core, n: u32) -> Option<u32> {
+    let mut at = n;
+    for _ in 0..MOST_PARENTS {
+        match core.origin(at)? {
+            Origin::Line { .. } => return Some(at),
+            Origin::Child { parent, .. } => at = parent,
+        }
+    }
+    None
+}
+
+/// How many bytes a document has, if it is not lent.
+fn length_of(core: &Core, doc: DocId) -> usize {
+    if doc.position() as usize >= core.setup().contents().len() {
+        return 0;
+    }
+    match core.content(doc) {
+        Some(content) => content.bytes().len(),
+        None => 0,
+    }
+}
+
+/// How many bytes a behaviour of a script may look at.
+fn bytes_of(core: &Core, script: &Script, index: usize) -> usize
+    requires { index < length script.now }
+{
+    let mut bytes = 0usize;
+    for access in script.accesses(index) {
+        bytes = bytes.saturating_add(length_of(core, access.doc));
+    }
+    bytes
+}
+
+/// How many bytes some behaviour of a script may look at, at most.
+fn most_of(core: &Core, script: &Script) -> usize {
+    let mut most = 0;
+    for index in 0..script.weight() {
+        most = bytes_of(core, script, index).max(most);
+    }
+    most
+}
+
+/// Whether some entry of the line that this one comes from may look at much, so that it is worth a thread of its own.
+fn is_long(core: &Core, n: u32) -> bool {
+    let Some(line) = line_of(core, n) else {
+        return true;
+    };
+    match core.work(line) {
+        Some(Work::Behaviour(script)) => most_of(core, script) >= LONG,
+        Some(Work::Rule(_)) | None => false,
+    }
+}
+
+/// Whether an entry is left to others: it is long to run, and so few were to be begun, which were.
+fn is_left(turn: &AtGate<'_>, n: u32, begun: usize, few: usize) -> bool
+    ensures { result ≡ true → few ≤ begun }
+{
+    begun >= few && is_long(turn.hall().core(), n)
 }
 
 impl Batch {
@@ -118,41 +190,10 @@ impl Batch {
         }
     }
 
-    /// Begins these entries in their order, each that may start, until as many are in hand as may be. Says how many
-    /// it has tried, and whether one of them has ended: each that was tried has begun by then, or might not start at
-    /// its turn.
-    pub fn begin_all(&mut self, turn: &mut AtGate<'_>, entries: &[u32]) -> (usize, bool)
-        requires trail { HasTrail (hall_seen turn.old) }
-        requires ran { NoneRan self.old }
-        requires room { HasRoom self.old }
-        ensures follows { Follows turn.old turn.new }
-        ensures trail { HasTrail (hall_seen turn.new) }
-        ensures adds { AddsTurnsAlone turn.old turn.new }
-        ensures batch { (first : PassView) → IsBatch first turn.old (loans_in self.old)
-            → IsBatch first turn.new (loans_in self.new) }
-        ensures ran { NoneRan self.new }
-        ensures room { HasRoom self.new }
-        ensures most { self.new.most ≡ self.old.most }
-        ensures tried { (i d : ℕ) → i < result.0 → IsTried turn.old turn.new (get_or entries.now i d) }
-        ensures within { result.0 ≤ length entries.now }
-        ensures full { result.0 < length entries.now → self.new.most ≤ vec_len self.new.lents }
-    {
-        let mut over = false;
-        for i in 0..entries.len() {
-            if self.lents.len() >= self.most {
-                return (i, over);
-            }
-            let begun = begin(turn, entries[i]);
-            if self.hold(begun) {
-                over = true;
-            }
-        }
-        (entries.len(), over)
-    }
-
-    /// Begins entries that are ready, whosever, until as many are in hand as may be, as many were begun, or none is
-    /// ready. Says how many it has begun, each by one event, and whether one of them has ended and is not in hand.
-    pub fn begin_ready(&mut self, turn: &mut AtGate<'_>) -> (usize, bool)
+    /// Begins entries that are ready, whosever, until as many are in hand as may be, as many were begun, none is
+    /// ready, or one is that is long to run; but of those too it begins so few. Says how many it has begun, each by one
+    /// event, and whether one of them has ended and is not in hand.
+    pub fn begin_ready(&mut self, turn: &mut AtGate<'_>, few: usize) -> (usize, bool)
         requires trail { HasTrail (hall_seen turn.old) }
         requires ran { NoneRan self.old }
         requires room { HasRoom self.old }
@@ -167,23 +208,27 @@ impl Batch {
         ensures made { HasMade result.0 turn.old turn.new }
         ensures ended { MatchBool result.1 (vec_len self.new.lents < vec_len self.old.lents + result.0)
             (vec_len self.new.lents ≡ vec_len self.old.lents + result.0) }
-        ensures none { result.0 < self.new.most → vec_len self.new.lents < self.new.most
+        ensures none { result.0 < few → vec_len self.new.lents < self.new.most
             → (n : ℕ) → ¬ MayStart (state_seen turn.new) n }
     {
+        let most = self.most.max(few);
         let mut over = false;
-        for count in 0..self.most {
+        for count in 0..most {
             if self.lents.len() >= self.most {
                 return (count, over);
             }
             let Some(n) = turn.ready() else {
                 return (count, over);
             };
+            if is_left(turn, n, count, few) {
+                return (count, over);
+            }
             let begun = begin(turn, n);
             if self.hold(begun) {
                 over = true;
             }
         }
-        (self.most, over)
+        (most, over)
     }
 
     /// Runs all that is in hand with the gate free. What could not be run is in hand still.

@@ -1,5 +1,5 @@
 //! A reader and a writer that fail in mid-stream. What was admitted stays admitted, and the pass comes back.
-use super::base::{READ_ONE, admitted, opened, serve_over};
+use super::served::{READ_ONE, admitted, opened, serve_over};
 use bl_hall::event::Event;
 use bl_wire::fault::SessionFault;
 use std::io;

@@ -3,25 +3,25 @@ use Rattle.bl_gate.specs.Gates.{PassView}
 use Rattle.bl_serve.specs.Courses.{IsOwn, SpeaksAlone}
 use Rattle.bl_serve.proofs.Coming.{come_first}
 use Rattle.bl_serve.proofs.OutcomeLaws.{cut_adds, cut_short, served, served_adds, speaks}
-use Rattle.bl_serve.proofs.session.serve_with.Goals as goal
+use Rattle.bl_serve.proofs.session.serve.Goals as goal
 
 pub converse-requires-clause-come : goal.converse-requires-clause-come
 converse-requires-clause-come g c =
     let new = c.new-visit.ensures in
-    come_first c.args.gate.now c.of.result.value c.new-visit.result c.names.ensures.agree (ap (λ (p : PassView). p.gate) new.0 ∙ c.requires.gate) (c.of.ensures ∙ sym new.0) new.1 new.2 new.3
+    come_first c.args.service.now.gate.now c.of.result.value c.new-visit.result c.names.ensures.agree (ap (λ (p : PassView). p.gate) new.0 ∙ c.requires.gate) (c.of.ensures ∙ sym new.0) new.1 new.2 new.3
 
 pub returns-in-Ok-clause-ok : goal.returns-in-Ok-clause-ok
 returns-in-Ok-clause-ok g c =
     let R = g.R.Read.remaining in
     let W = g.W.Write.contents in
-    served c.args.gate.now c.of.result.value c.args.pass c.converse.new.visit (R c.args.reader.now.inner) (R c.converse.new.reader.inner)
+    served c.args.service.now.gate.now c.of.result.value c.args.pass c.converse.new.visit (R c.args.reader.now.inner) (R c.converse.new.reader.inner)
     (W c.args.writer.now.inner) (W c.converse.new.writer.inner) c.converse.new.reader.failed c.converse.new.writer.failed c.of.ensures c.in-Ok.ensures.ok
 
 pub returns-clause-err : goal.returns-clause-err
 returns-clause-err g c =
     let R = g.R.Read.remaining in
     let W = g.W.Write.contents in
-    cut_short c.args.gate.now c.of.result.value c.args.pass c.converse.new.visit (R c.args.reader.now.inner) (R c.converse.new.reader.inner)
+    cut_short c.args.service.now.gate.now c.of.result.value c.args.pass c.converse.new.visit (R c.args.reader.now.inner) (R c.converse.new.reader.inner)
     (W c.args.writer.now.inner) (W c.converse.new.writer.inner) c.converse.new.reader.failed c.converse.new.writer.failed c.of.ensures c.in-Err.fault c.in-Err.ensures.err
 
 pub returns-clause-clash : goal.returns-clause-clash
@@ -33,7 +33,7 @@ pub returns-in-Ok-clause-events : goal.returns-in-Ok-clause-events
 returns-in-Ok-clause-events g c =
     let R = g.R.Read.remaining in
     let W = g.W.Write.contents in
-    served_adds c.args.gate.now c.of.result.value c.args.pass c.converse.new.visit (R c.args.reader.now.inner) (R c.converse.new.reader.inner)
+    served_adds c.args.service.now.gate.now c.of.result.value c.args.pass c.converse.new.visit (R c.args.reader.now.inner) (R c.converse.new.reader.inner)
     (W c.args.writer.now.inner) (W c.converse.new.writer.inner) c.converse.new.reader.failed c.converse.new.writer.failed c.of.ensures c.in-Ok.ensures.ok
 
 pub returns-in-Ok-clause-lines : goal.returns-in-Ok-clause-lines
@@ -43,7 +43,7 @@ pub returns-clause-events : goal.returns-clause-events
 returns-clause-events g c =
     let R = g.R.Read.remaining in
     let W = g.W.Write.contents in
-    cut_adds c.args.gate.now c.of.result.value c.args.pass c.converse.new.visit (R c.args.reader.now.inner) (R c.converse.new.reader.inner)
+    cut_adds c.args.service.now.gate.now c.of.result.value c.args.pass c.converse.new.visit (R c.args.reader.now.inner) (R c.converse.new.reader.inner)
     (W c.args.writer.now.inner) (W c.converse.new.writer.inner) c.converse.new.reader.failed c.converse.new.writer.failed c.of.ensures c.in-Err.fault c.in-Err.ensures.err
 
 pub returns-clause-lines : goal.returns-clause-lines

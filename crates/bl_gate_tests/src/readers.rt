@@ -1,12 +1,13 @@
 //! Two sessions that run side by side.
 ghost use Rattle.std.specs.Prelude.{◌≡◌, ◌+◌};
 
-use super::base::{READ_ONE, TOLD_ONE, admitted, base_gate, comes, opened};
+use super::base::base_gate;
+use super::served::{READ_ONE, TOLD_ONE, admitted, comes, opened};
 use bl_core::session::SessionNo;
 use bl_gate::gate::Gate;
 use bl_gate::pass::Pass;
 use bl_hall::event::Event;
-use bl_serve::session::serve_with;
+use bl_serve::session::{Service, serve};
 use bl_wire::watched::Watched;
 use bl_worker::bell::Bell;
 use bl_worker::pause::Pause;
@@ -65,22 +66,21 @@ fn visit<R: Wait + Clock>(
 {
     let mut reader = Watched::new(READ_ONE);
     let mut writer = Watched::new(Vec::new(alloc));
-    let (pass, result) = serve_with(
+    let service = Service {
         rt,
         alloc,
         gate,
-        pass,
-        &mut reader,
-        &mut writer,
-        &hold.bell,
-        hold,
-    );
+        bell: &hold.bell,
+        pause: hold,
+    };
+    let (pass, result) = serve(&service, pass, &mut reader, &mut writer);
     hold.over.fetch_add(1, Ordering::SeqCst);
     let told = writer.into_inner();
     (pass, result == Ok(()) && told.as_slice() == TOLD_ONE)
 }
 
-/// A session that begins once a behaviour runs. So its thread cannot be the one in which the first is held, with the other session's line.
+/// A session that begins once a behaviour runs. So its thread cannot be the one in which the first is held, with the
+/// other session's line.
 fn visit_later<R: Wait + Clock>(
     rt: &R,
     alloc: Global,
@@ -165,7 +165,8 @@ fn work_both<R: Threads + Wait + Clock + Sync>(
     pass
 }
 
-/// Two sessions and two workers, each with a part of a pass, which has them all again then. Whether both sessions were right.
+/// Two sessions and two workers, each with a part of a pass, which has them all again then. Whether both sessions were
+/// right.
 fn serve_both<R: Threads + Wait + Clock + Sync>(
     rt: &R,
     alloc: Global,
@@ -194,8 +195,8 @@ fn serve_both<R: Threads + Wait + Clock + Sync>(
     right
 }
 
-/// Whether a trail is that of a first session whose line has started, of a second one from its opening to its line's end, and then of the
-/// first line's end.
+/// Whether a trail is that of a first session whose line has started, of a second one from its opening to its line's
+/// end, and then of the first line's end.
 fn overlap(trail: &[Event]) -> bool {
     let later = Event::Line {
         session: SessionNo::new(1),
@@ -214,7 +215,8 @@ fn overlap(trail: &[Event]) -> bool {
     trail == events.as_slice()
 }
 
-/// Two sessions and two workers: the first behaviour that runs is held until one of the two sessions has ended, and both are told what they should.
+/// Two sessions and two workers: the first behaviour that runs is held until one of the two sessions has ended, and
+/// both are told what they should.
 #[test]
 fn two_readers_overlap(rt: HostRuntime) {
     let (gate, mut pass) = base_gate(&rt);

@@ -1,18 +1,17 @@
 //! Somebody else speaks for the session.
 ghost use Rattle.std.specs.Prelude.{◌≡◌, ◌+◌};
 
-use super::base::{Ended, READ_ONE, base_gate, comes, opened};
+use super::base::{base_gate, show_memo};
+use super::served::{Ended, READ_ONE, comes, opened};
 use bl_core::session::SessionNo;
 use bl_gate::gate::Gate;
 use bl_gate::pass::Pass;
 use bl_hall::event::Event;
-use bl_read::line::read_line;
-use bl_serve::session::serve;
+use bl_serve::session::{Service, serve};
 use bl_wire::fault::SessionFault;
 use bl_wire::watched::Watched;
-use bl_work::asked::Line;
-use bl_work::work::Work;
 use bl_worker::bell::Bell;
+use bl_worker::pause::NoPause;
 use std::alloc::AllocGlobal;
 use std::io::{BufReader, Read};
 use std::process::Abort;
@@ -38,7 +37,8 @@ impl Talk {
     }
 }
 
-/// A reader that gives some bytes, and the others only once another pass has spoken for the session; where that does not come it is at its end.
+/// A reader that gives some bytes, and the others only once another pass has spoken for the session; where that does
+/// not come it is at its end.
 #[derive(Drop)]
 struct Halves<'a, R> {
     rt: &'a R,
@@ -60,20 +60,8 @@ impl<R: Clock> Read for Halves<'_, R> {
     }
 }
 
-/// The work of a line that shows memo.
-fn show_memo<R: AllocGlobal + Abort>(rt: &R, gate: &Gate) -> Work {
-    match read_line(
-        rt.alloc(),
-        gate.names(),
-        b"when read memo do show memo; end",
-    ) {
-        Ok(Line::Work(work)) => work,
-        Ok(Line::Hello(_) | Line::Wait) | Err(_) => panic!(rt; "no work"),
-    }
-}
-
-/// Another pass, which speaks for the first session once that asks for its second half: it has a line admitted there under this ordinal.
-/// It is given back.
+/// Another pass, which speaks for the first session once that asks for its second half: it has a line admitted there
+/// under this ordinal. It is given back.
 fn intrude<R: AllocGlobal + Abort + Wait + Clock>(
     rt: &R,
     gate: &Gate,
@@ -127,7 +115,14 @@ fn visit<R: AllocGlobal + Abort + Wait + Clock>(
     let mut reader = Watched::new(reader);
     let mut writer = Watched::new(Vec::new(rt.alloc()));
     let bell = Bell::new();
-    let (pass, result) = serve(rt, rt.alloc(), gate, pass, &mut reader, &mut writer, &bell);
+    let service = Service {
+        rt,
+        alloc: rt.alloc(),
+        gate,
+        bell: &bell,
+        pause: &NoPause,
+    };
+    let (pass, result) = serve(&service, pass, &mut reader, &mut writer);
     Visited {
         pass,
         result,
@@ -137,7 +132,8 @@ fn visit<R: AllocGlobal + Abort + Wait + Clock>(
     }
 }
 
-/// A session that reads these two halves, and another thread with a pass that speaks for it under this ordinal. Both have their passes back.
+/// A session that reads these two halves, and another thread with a pass that speaks for it under this ordinal. Both
+/// have their passes back.
 fn visit_beside<R: AllocGlobal + Abort + Threads + Wait + Clock + Sync>(
     rt: &R,
     gate: &Gate,
@@ -166,7 +162,8 @@ fn visit_beside<R: AllocGlobal + Abort + Threads + Wait + Clock + Sync>(
     visited
 }
 
-/// How a session ends for which another thread speaks, with a pass of its own and under this ordinal, once it asks for what it reads second.
+/// How a session ends for which another thread speaks, with a pass of its own and under this ordinal, once it asks for
+/// what it reads second.
 fn serve_beside<R: AllocGlobal + Abort + Threads + Wait + Clock + Sync>(
     rt: &R,
     ordinal: u32,
@@ -192,8 +189,9 @@ fn serve_beside<R: AllocGlobal + Abort + Threads + Wait + Clock + Sync>(
     }
 }
 
-/// The session is opened by its first line. Then another thread's pass has a line of the session admitted under the ordinal 9, so that its
-/// own first line, under the ordinal 1, finds that somebody else spoke for it. Nothing more is written, and neither end has failed.
+/// The session is opened by its first line. Then another thread's pass has a line of the session admitted under the
+/// ordinal 9, so that its own first line, under the ordinal 1, finds that somebody else spoke for it. Nothing more is
+/// written, and neither end has failed.
 #[test]
 fn clash(rt: HostRuntime) {
     let (hello, line) = READ_ONE.split_at(10);
@@ -209,8 +207,9 @@ fn clash(rt: HostRuntime) {
     drop(ended);
 }
 
-/// Another thread's pass has a line of the session admitted under the ordinal 5, behind the session's own line. That is answered at its
-/// `wait` all the same, and the session's next line, under the ordinal 2, finds that somebody else spoke for it.
+/// Another thread's pass has a line of the session admitted under the ordinal 5, behind the session's own line. That is
+/// answered at its `wait` all the same, and the session's next line, under the ordinal 2, finds that somebody else
+/// spoke for it.
 #[test]
 fn spoken_for_behind(rt: HostRuntime) {
     let (hello_and_line, _) = READ_ONE.split_at(43);

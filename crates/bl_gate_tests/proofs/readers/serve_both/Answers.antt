@@ -1,8 +1,8 @@
 use denote.Param.Send.{sendable}
 use Rattle.std.proofs.Crossing.{crosses}
 use Rattle.bl_gate.proofs.Crossing.{pass_send, gate_sync}
-use Rattle.bl_serve_tests.proofs.overlaps.HoldFirst.TheSendSync as holds
-use Rattle.bl_serve_tests.proofs.overlaps.serve_both.Goals as goal
+use Rattle.bl_gate_tests.proofs.readers.HoldFirst.TheSendSync as holds
+use Rattle.bl_gate_tests.proofs.readers.serve_both.Goals as goal
 
 pub join-sessions-requires-send-F : goal.join-sessions-requires-send-F
 join-sessions-requires-send-F g c κs within =

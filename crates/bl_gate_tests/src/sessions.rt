@@ -1,8 +1,9 @@
 //! A session with one thread.
-use super::base::{READ_ONE, TOLD_ONE, admitted, opened, serve_over};
+use super::served::{READ_ONE, TOLD_ONE, admitted, opened, serve_over};
 use bl_hall::event::Event;
 
-/// The session opens, its line is admitted, starts and ends in the session's own thread, and it is told what the line shows.
+/// The session opens, its line is admitted, starts and ends in the session's own thread, and it is told what the line
+/// shows.
 #[test]
 fn serves_a_session_through_a_gate(rt: HostRuntime) {
     let ended = serve_over(&rt, READ_ONE, Vec::new(rt.alloc()));

@@ -1,8 +1,8 @@
 use denote.Param.Send.{sendable}
 use Rattle.std.proofs.Crossing.{crosses}
 use Rattle.bl_gate.proofs.Crossing.{pass_send, gate_sync}
-use Rattle.bl_serve_tests.proofs.clashes.Talk.TheSendSync as talks
-use Rattle.bl_serve_tests.proofs.clashes.visit_beside.Goals as goal
+use Rattle.bl_gate_tests.proofs.clashes.Talk.TheSendSync as talks
+use Rattle.bl_gate_tests.proofs.clashes.visit_beside.Goals as goal
 
 pub join-visited-requires-send-F : goal.join-visited-requires-send-F
 join-visited-requires-send-F g c κs within =
