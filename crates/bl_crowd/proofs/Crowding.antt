@@ -17,7 +17,7 @@ use Rattle.bl_serve.specs.Courses.{AdmitsNoLineOf, SpeaksForItsOwn}
 use Rattle.bl_serve.specs.Together.{GoesOnTo}
 use Rattle.bl_serve.proofs.Owning.{speaks_for_none}
 use Rattle.bl_crowd.specs.Members.{HasCourse}
-use Rattle.bl_crowd.specs.Crowds.{AreMet, IsMet, IsTurnFault}
+use Rattle.bl_crowd.specs.Crowds.{IsMet, IsTurnFault}
 use Rattle.bl_crowd.specs.Steps.{IsClash, IsNewSession, IsWaiting}
 use Rattle.bl_crowd.specs.Ways.{AreApart, AreMembers, IsHome, IsMember, IsUnderWay, StandsSo, account_of}
 use Rattle.bl_crowd.specs.declared.member.Member.{Member}
@@ -165,22 +165,6 @@ module _ {S : Type 0} (first before p q : PassView) where
   met_on was now follows (inr (inl (fault, is, inr (inr (clash, (at, from, to, spoken)))))) = inr (inl (fault, is, inr (inr (clash, (at, from, follows_then at p q to follows, spoken)))))
   met_on was now follows (inr (inr (at, from, to, waits))) = inr (inr (at, from, follows_then at p q to follows, waits))
 
-  -- one more has met
-  pub met_more : (old members : List (Member S)) (i : ℕ) (member : Member S) → i < length members → Follows p q → ((d : Member S) → IsMet first before q (get_or old i d) member)
-      → AreMet first before p old members i → AreMet first before q old (slice_set members i member) (i + 1)
-  met_more old members i member lt follows new met j d low = go (eqb_tells j i)
-    where
-      less : j ≢ i → j < i + 1 → j < i
-      less other low = grind arith
-
-      go : ((eqb j i ≡ true) × (j ≡ i)) ⊎ ((eqb j i ≡ false) × (j ≢ i)) → IsMet first before q (get_or old j d) (get_or (slice_set members i member) j d)
-      go (inl e) =
-          subst (IsMet first before q (get_or old j d)) (sym (get_or-set_at members i j member d e.1 lt))
-          (subst (λ k. IsMet first before q (get_or old k d) member) (sym e.1) (new d))
-      go (inr e) =
-          subst (IsMet first before q (get_or old j d)) (sym (get_or-set_other members i j member d e.1))
-          (met_on (get_or old j d) (get_or members j d) follows (met j d (less e.1 low)))
-
   -- why it failed
   failed_by : (was now : Member S) (fault : SessionFault) (before_it : Option SessionFault) → was.fault ≡ before_it → Follows before q → now.fault ≡ Some fault
       → (was.fault ≡ None → (fault ≡ Memory) ⊎ ((fault ≡ Clash) × IsClash first q now.reception)) → ((f : SessionFault) → was.fault ≡ Some f → now ≡ was) → IsTurnFault first before q was now fault
@@ -196,17 +180,6 @@ module _ {S : Type 0} (first before p q : PassView) where
   met_by was now mets.Waits from to done waits failed cause kept = (let w = waits refl in inr (inr (p, from, to, subst (λ (m : Member S). IsWaiting p m.reception) (sym w.0) w.2)))
   met_by was now (mets.Failed fault) from to done waits failed cause kept =
       inr (inl (fault, failed fault refl, failed_by was now fault was.fault refl (follows_then before p q from to) (failed fault refl) (λ none. cause fault none refl) kept))
-
--- since an earlier moment
-pub met_from : {S : Type 0} (first before p q : PassView) (old new : List (Member S)) (count : ℕ) → Follows before p → AreMet first p q old new count → AreMet first before q old new count
-met_from {S} first before p q old new count follows met i d low = since (get_or old i d) (get_or new i d) (met i d low)
-  where
-    since : (was now : Member S) → IsMet first p q was now → IsMet first before q was now
-    since was now (inl none) = inl none
-    since was now (inr (inl (fault, is, inl kept))) = inr (inl (fault, is, inl kept))
-    since was now (inr (inl (fault, is, inr (inl memory)))) = inr (inl (fault, is, inr (inl memory)))
-    since was now (inr (inl (fault, is, inr (inr (clash, (at, from, to, spoken)))))) = inr (inl (fault, is, inr (inr (clash, (at, follows_then before p at follows from, to, spoken)))))
-    since was now (inr (inr (at, from, to, waits))) = inr (inr (at, follows_then before p at follows from, to, waits))
 
 -- those behind a place are as they were
 pub still_behind : {S : Type 0} (old members : List (Member S)) (i : ℕ) (member : Member S) → ((j : ℕ) (d : Member S) → i ≤ j → get_or members j d ≡ get_or old j d)

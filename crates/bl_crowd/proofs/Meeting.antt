@@ -148,7 +148,7 @@ module _ {S : Type 0} (remaining contents : S → Option (List ℕ)) (names : Kn
           (w.joined opening answers last (subst (λ r. HasAnswered names w.replies old.upto r opening answers last) (sym awaited.0) tt)))
 
       pub way_opened : (session : ℕ) → GoesOnTo p q → Calls p (machine.Opens subject) (λ x. session ≡ length x.sessions) q → OpensAs remaining contents openings.Open old.connection conn → SpeaksForItsOwn first p
-          → IsUnderWay remaining contents names first q (record old { connection = conn; told = told; reception = Open session }) None
+          → IsUnderWay remaining contents names first q (record old { connection = conn; told = told; subject = Some subject; reception = Open session }) None
       way_opened session on call opens speaks = record {
         x = w.x;
         replies = w.replies;
@@ -167,7 +167,7 @@ module _ {S : Type 0} (remaining contents : S → Option (List ℕ)) (names : Kn
       }
 
       pub way_full : IsCrowded q → OpensAs remaining contents openings.Full old.connection conn
-          → IsUnderWay remaining contents names first q (record old { connection = conn; told = told; reception = Full }) None
+          → IsUnderWay remaining contents names first q (record old { connection = conn; told = told; subject = Some subject; reception = Full }) None
       way_full crowded opens = record {
         x = w.x;
         replies = w.replies;
@@ -185,7 +185,7 @@ module _ {S : Type 0} (remaining contents : S → Option (List ℕ)) (names : Kn
 
       -- however it was received
       pub way_received : (reception : Reception) → GoesOnTo p q → HasReceived p q subject reception → OpensAs remaining contents (opening_of reception) old.connection conn → SpeaksForItsOwn first p
-          → IsUnderWay remaining contents names first q (record old { connection = conn; told = told; reception = reception }) None
+          → IsUnderWay remaining contents names first q (record old { connection = conn; told = told; subject = Some subject; reception = reception }) None
       way_received Awaited on received opens speaks = absurd received
       way_received (Open session) on received opens speaks = way_opened session on received opens speaks
       way_received Full on received opens speaks = way_full received.1 opens

@@ -1,5 +1,5 @@
 -- A member that hears on at the gate, and the batch that is in hand meanwhile.
-use Rattle.std.proofs.Common.{◌≡◌, ◌≢◌, ℕ, ◌+◌, ◌<◌, ◌≤◌, ◌⊎◌, inl, inr, List, length, get_or, refl, sym, ap, subst, ◌∙◌, arith, eqb, Bool, true, false, true≢false, Option, Some, None}
+use Rattle.std.proofs.Common.{◌≡◌, ◌≢◌, ℕ, ◌+◌, ◌<◌, ◌≤◌, ◌⊎◌, inl, inr, List, length, get_or, refl, sym, ap, subst, ◌∙◌, arith, eqb, Bool, true, false, true≢false, Option, Some}
 use Rattle.std.specs.Prelude.{Result, Err, IsSome, slice_set}
 use Rattle.std.proofs.lemmas.Bool.Decides.{eqb_tells}
 use Rattle.std.proofs.lemmas.Grind.{get_or-set_at}
@@ -11,7 +11,7 @@ use Rattle.bl_hall.specs.Chronicle.{HasTrail}
 use Rattle.bl_gate.specs.Gates.{Calls, Follows, KeepsInHand, PassView, hall_seen, state_seen}
 use Rattle.bl_gate.proofs.Following.{follows_itself, follows_then}
 use Rattle.bl_wire.specs.declared.fault.SessionFault.{SessionFault}
-use Rattle.bl_wire.specs.declared.fault.SessionFault.TheVariants.{Memory, Clash, TooLong}
+use Rattle.bl_wire.specs.declared.fault.SessionFault.TheVariants.{Memory, TooLong}
 use Rattle.bl_engine.specs.Conversations.{waits_left}
 use Rattle.bl_connection.specs.Connections.{state_of}
 use Rattle.bl_connection.specs.declared.connection.Connection.{Connection}

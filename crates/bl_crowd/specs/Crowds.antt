@@ -33,11 +33,6 @@ IsMet first before after was now =
     × IsTurnFault first before after was now fault)
     ⊎ ((at : PassView) × Follows before at × Follows at after × IsWaiting at now.reception))
 
--- so many of the members have met
-abbrev pub AreMet : {S : Type 0} → (first before after : PassView) → (old new : List (Member S)) → ℕ → Type 0
-AreMet {S} first before after old new count = (i : ℕ) (d : Member S) → i < count
-    → IsMet first before after (get_or old i d) (get_or new i d)
-
 -- ---- with the next lines of what was read
 
 -- The member has met, or a next line was longer than it may hear.

@@ -1,5 +1,5 @@
 -- What a step of a member came to.
-use Rattle.std.specs.Prelude.{◌≡◌, ◌<◌, ◌≤◌, ◌⊎◌, ⊤, ℕ, List, length}
+use Rattle.std.specs.Prelude.{◌≡◌, ◌<◌, ◌≤◌, ◌⊎◌, ⊤, ℕ, List, Option, Some, None, length}
 use Rattle.bl_hall.specs.Told.{Waits}
 use Rattle.bl_gate.specs.Gates.{KeepsInHand, PassView, state_seen}
 use Rattle.bl_worker.specs.Turns.{Settles}
@@ -13,6 +13,7 @@ use Rattle.bl_connection.specs.declared.connection.Connection.{Connection}
 use Rattle.bl_connection.specs.declared.stream.Answer.{Answer}
 use Rattle.bl_connection.specs.declared.stream.Answer.TheVariants as answers
 use Rattle.bl_serve.specs.Courses.{SpeaksAlone}
+use Rattle.bl_crowd.specs.declared.member.Member.{Member}
 use Rattle.bl_crowd.specs.declared.member.Next.{Next}
 use Rattle.bl_crowd.specs.declared.member.Next.TheVariants.{Goes, Blocked, Asks, Over, Failed}
 use Rattle.bl_crowd.specs.declared.member.Reception.{Reception}
@@ -73,3 +74,13 @@ IsClash first pass Full = ⊥
 pub record KeepsHand (before after : PassView) : Type 0 where
   pub in_hand : KeepsInHand before after
   pub settles : Settles before after
+
+-- the session that is open, and the subject for whom
+abbrev pub open_for : Reception → Option ℕ → Option (ℕ × ℕ)
+open_for Awaited subject = None
+open_for (Open session) None = None
+open_for (Open session) (Some subject) = Some (session, subject)
+open_for Full subject = None
+
+abbrev pub greeted_as : {S : Type 0} → Member S → Option (ℕ × ℕ)
+greeted_as member = open_for member.reception member.subject

@@ -1,5 +1,5 @@
 //! Many connections of one thread over one gate.
-ghost use Rattle.std.specs.Prelude.{◌≡◌, ◌<◌, ◌≤◌, ◌⊎◌, ◌↔◌, ◌++◌, ◌∷◌, [], ℕ, Some, None, IsSome, IsTrue};
+ghost use Rattle.std.specs.Prelude.{◌≡◌, ◌≢◌, ◌<◌, ◌≤◌, ◌⊎◌, ◌↔◌, ◌++◌, ◌∷◌, [], ℕ, Some, None, IsSome, IsTrue};
 ghost use Rattle.std.specs.Prelude.{MatchBool, OnOk, OnErr, length, get_or, vec_len};
 ghost use Rattle.std.specs.List.{remove};
 ghost use Rattle.bl_hall.specs.Chronicle.{HasTrail};
@@ -9,8 +9,7 @@ ghost use Rattle.bl_work.specs.Names.{KnownNames};
 ghost use Rattle.bl_serve.specs.Courses.{SpeaksForItsOwn};
 ghost use Rattle.bl_serve.specs.Together.{GoesOnTo};
 ghost use Rattle.bl_worker.specs.Batches.{AllRan, HasRoom, IsBatch, IsIdle, NoneRan, loans_in};
-ghost use Rattle.bl_worker.specs.Turns.{HasWorked, Settles};
-ghost use Rattle.bl_crowd.specs.Crowds.{AreMet, AreMetOn, HasBegunLast, HaveHeardOn, IsCrowd};
+ghost use Rattle.bl_crowd.specs.Crowds.{AreMetOn, HasBegunLast, HaveHeardOn, IsCrowd};
 ghost use Rattle.bl_crowd.specs.Steps.{KeepsHand};
 ghost use Rattle.bl_crowd.specs.Ways.{AreMembers};
 
@@ -19,10 +18,9 @@ use bl_connection::stream::Stream;
 use bl_gate::gate::Gate;
 use bl_gate::pass::Pass;
 use bl_gate::turn::Turn as AtGate;
+use bl_policy::id::SubjectId;
 use bl_wire::fault::SessionFault;
 use bl_worker::batch::Batch;
-use bl_worker::pause::Pause;
-use bl_worker::turn::{Turn, work_once};
 use std::alloc::{AllocError, Global};
 use std::snapshot::Snapshot;
 use std::sync::Wait;
@@ -36,25 +34,6 @@ pub struct Crowd<'a, S> {
     pub(crate) pass: Pass,
     pub(crate) first: Snapshot<Pass>,
     pub(crate) members: Vec<Member<'a, S>>,
-}
-
-/// Does at the gate what each member asks.
-fn meet_all<S: Stream>(turn: &mut AtGate<'_>, members: &mut Vec<Member<'_, S>>)
-    requires trail { HasTrail (hall_seen turn.old) }
-    requires members { (names : KnownNames) × (first : PassView)
-        × AreMembers S.remaining S.contents names first turn.old members.old.items }
-    ensures goes { GoesOnTo turn.old turn.new }
-    ensures members { (names : KnownNames) (first : PassView)
-        → AreMembers S.remaining S.contents names first turn.old members.old.items
-        → AreMembers S.remaining S.contents names first turn.new members.new.items }
-    ensures len { vec_len members.new ≡ vec_len members.old }
-    ensures met { (names : KnownNames) (first : PassView)
-        → AreMembers S.remaining S.contents names first turn.old members.old.items
-        → AreMet first turn.old turn.new members.old.items members.new.items (vec_len members.new) }
-{
-    for i in 0..members.len() {
-        let _ = members[i].meet(turn);
-    }
 }
 
 /// Does at the gate what each member asks, and what it asks at the next lines that it hears, so many at most.
@@ -79,22 +58,35 @@ fn meet_on_all<S: Stream>(turn: &mut AtGate<'_>, members: &mut Vec<Member<'_, S>
     }
 }
 
+/// What a round does at most: how many lines more of each member it does, and how many entries it begins though they
+/// are long to run.
+#[derive(Clone, Copy, Debug, PartialEq, Eq)]
+pub struct Portion {
+    pub lines: usize,
+    pub long: usize,
+}
+
 /// What a round came to.
 #[derive(Clone, Copy, Debug, PartialEq, Eq)]
 pub struct Round {
     /// How many entries it has begun.
     pub begun: usize,
-    /// Whether an entry has ended.
+    /// Whether an entry has ended that was run before.
     pub ended: bool,
+    /// Whether an entry has ended that it has begun.
+    pub over: bool,
     /// Whether an entry is ready that it has left to others.
     pub left: bool,
+    /// How many events the trail had then.
+    pub events: usize,
 }
 
 impl<'a, S: Stream> Crowd<'a, S> {
     ghost use Rattle.bl_connection.specs.Connections.{state_of};
     ghost use Rattle.bl_connection.specs.declared.connection.State.TheVariants as states;
     ghost use Rattle.bl_crowd.specs.Departures.{Departs, IsServedAmong};
-    ghost use Rattle.bl_crowd.specs.Steps.{IsBlocked, IsFaultOf, IsGone};
+    ghost use Rattle.bl_engine.specs.Conversations.{last_ordinal};
+    ghost use Rattle.bl_crowd.specs.Steps.{IsBlocked, IsFaultOf, IsGone, greeted_as};
     ghost use Rattle.bl_crowd.specs.Ways.{IsToRead};
     ghost use Rattle.bl_crowd.specs.declared.member.Next.TheVariants as nexts;
 
@@ -164,6 +156,8 @@ impl<'a, S: Stream> Crowd<'a, S> {
         ensures blocked { result ≡ nexts.Blocked → (d : Member S)
             → IsBlocked S.reads S.writes (get_or self.old.members.items i d).connection
             (get_or self.new.members.items i d).connection }
+        ensures others { (j : ℕ) (d : Member S) → j ≢ i
+            → get_or self.new.members.items j d ≡ get_or self.old.members.items j d }
         ensures same { (self.new.pass ≡ self.old.pass) × (self.new.first ≡ self.old.first)
             × (self.new.gate ≡ self.old.gate) }
     {
@@ -178,39 +172,28 @@ impl<'a, S: Stream> Crowd<'a, S> {
         self.members[i].reads()
     }
 
-    /// Does what each member asks of the machine, in one turn at the gate.
-    pub fn turn<R: Wait>(&mut self, rt: &R)
-        requires crowd { IsCrowd S.remaining S.contents self.old }
-        ensures crowd { IsCrowd S.remaining S.contents self.new }
-        ensures goes { GoesOnTo self.old.pass self.new.pass }
-        ensures met { AreMet self.old.first.value self.old.pass self.new.pass self.old.members.items
-            self.new.members.items (vec_len self.new.members) }
-        ensures len { vec_len self.new.members ≡ vec_len self.old.members }
-        ensures same { (self.new.first ≡ self.old.first) × (self.new.gate ≡ self.old.gate) }
+    /// The ordinal of the last line that a member has heard.
+    pub fn lines(&self, i: usize) -> u32
+        requires { i < vec_len self.now.members }
+        ensures { (d : Member S) → result ≡ last_ordinal (get_or self.now.members.items i d).connection.conv }
     {
-        let mut turn = self.gate.turn(rt, self.pass.take());
-        meet_all(&mut turn, &mut self.members);
-        self.pass = turn.leave();
+        self.members[i].lines()
     }
 
-    /// Takes a turn with an entry that is ready, as `work_once` does, with the crowd's pass.
-    pub fn work<P: Pause, R: Wait>(&mut self, rt: &R, pause: &P) -> Turn
-        requires crowd { IsCrowd S.remaining S.contents self.old }
-        ensures crowd { IsCrowd S.remaining S.contents self.new }
-        ensures goes { GoesOnTo self.old.pass self.new.pass }
-        ensures worked { HasWorked self.old.pass self.new.pass result }
-        ensures settles { Settles self.old.pass self.new.pass }
-        ensures same { (self.new.members ≡ self.old.members) × (self.new.first ≡ self.old.first)
-            × (self.new.gate ≡ self.old.gate) }
+    /// The session of a member, once that is open, and the subject for whom.
+    pub fn greeted(&self, i: usize) -> Option<(u32, SubjectId)>
+        requires { i < vec_len self.now.members }
+        ensures { (d : Member S) → result ≡ greeted_as (get_or self.now.members.items i d) }
     {
-        work_once(rt, self.alloc, self.gate, &mut self.pass, pause)
+        self.members[i].greeted()
     }
 
     /// One turn at the gate with what is in hand. It ends what was run, does what each member asks, and what it asks
     /// at the next lines of what was read, so many at most; and begins what is ready, until the batch is full, as
-    /// many were begun as it may have in hand, or nothing is ready. What was begun is to be run with the gate free, by
+    /// many were begun as it may have in hand, or nothing is ready. It begins no more where an entry is ready that is
+    /// long to run, once as many were begun as the portion says. What was begun is to be run with the gate free, by
     /// `Batch::run`, and ends in the next round.
-    pub fn round<R: Wait>(&mut self, rt: &R, batch: &mut Batch, most: usize) -> Round
+    pub fn round<R: Wait>(&mut self, rt: &R, batch: &mut Batch, portion: Portion) -> Round
         requires crowd { IsCrowd S.remaining S.contents self.old }
         requires ran { AllRan batch.old }
         requires room { HasRoom batch.old }
@@ -223,26 +206,31 @@ impl<'a, S: Stream> Crowd<'a, S> {
         ensures room { HasRoom batch.new × (batch.new.most ≡ batch.old.most) }
         ensures met { AreMetOn S.remaining S.contents self.old.gate.now.base.setup.names self.old.first.value
             self.old.pass self.new.pass self.old.members.items self.new.members.items (vec_len self.new.members) }
-        ensures heard { HaveHeardOn most self.old.members.items self.new.members.items (vec_len self.new.members) }
+        ensures heard { HaveHeardOn portion.lines self.old.members.items self.new.members.items
+            (vec_len self.new.members) }
         ensures begun { HasBegunLast result.begun self.old.pass self.new.pass }
         ensures left { MatchBool result.left
-            ((batch.new.most ≤ result.begun) ⊎ (batch.new.most ≤ vec_len batch.new.lents))
+            ((portion.long ≤ result.begun) ⊎ (batch.new.most ≤ vec_len batch.new.lents))
             ((n : ℕ) → ¬ MayStart (state_seen self.new.pass) n) }
-        ensures ended { IsTrue result.ended
-            ↔ ((0 < vec_len batch.old.ran) ⊎ (vec_len batch.new.lents < result.begun)) }
+        ensures ended { IsTrue result.ended ↔ (0 < vec_len batch.old.ran) }
+        ensures over { IsTrue result.over ↔ (vec_len batch.new.lents < result.begun) }
+        ensures events { result.events ≡ length self.new.pass.seen }
         ensures len { vec_len self.new.members ≡ vec_len self.old.members }
         ensures same { (self.new.first ≡ self.old.first) × (self.new.gate ≡ self.old.gate) }
     {
         let mut turn = self.gate.turn(rt, self.pass.take());
         let some = batch.end_all(&mut turn);
-        meet_on_all(&mut turn, &mut self.members, most);
-        let (begun, over) = batch.begin_ready(&mut turn);
+        meet_on_all(&mut turn, &mut self.members, portion.lines);
+        let (begun, over) = batch.begin_ready(&mut turn, portion.long);
         let left = turn.ready().is_some();
+        let events = turn.hall().trail().len();
         self.pass = turn.leave();
         Round {
             begun,
-            ended: some || over,
+            ended: some,
+            over,
             left,
+            events,
         }
     }
 

@@ -80,7 +80,7 @@ pub enum Met {
     Failed(SessionFault),
 }
 
-/// A connection of a crowd: the replies that it tells, what is asked and still to be done, how its subject was
+/// A connection of a crowd: the replies that it tells, what is asked and still to be done, its subject and how that was
 /// received, an ordinal up to which all lies that was asked, the one up to which it was answered, and why it is to
 /// leave.
 #[derive(Drop)]
@@ -90,6 +90,7 @@ pub struct Member<'a, S> {
     pub(crate) connection: Connection<S>,
     pub(crate) told: Told<'a>,
     pub(crate) asked: Option<Request>,
+    pub(crate) subject: Option<SubjectId>,
     pub(crate) reception: Reception,
     pub(crate) last: u32,
     pub(crate) upto: u32,
@@ -165,10 +166,11 @@ fn next_after(progress: Progress) -> Next
 }
 
 impl<'a, S: Stream> Member<'a, S> {
-    ghost use Rattle.bl_engine.specs.Conversations.{waits_left};
+    ghost use Rattle.bl_engine.specs.Conversations.{last_ordinal, waits_left};
     ghost use Rattle.bl_connection.specs.Connections.{state_of};
     ghost use Rattle.bl_connection.specs.declared.connection.State.TheVariants as states;
     ghost use Rattle.bl_crowd.specs.Steps.{IsBlocked, IsClash, IsFaultOf, IsGone, IsNewSession, IsOfStream, IsWaiting};
+    ghost use Rattle.bl_crowd.specs.Steps.{greeted_as};
     ghost use Rattle.bl_crowd.specs.Ways.{HasFailed, IsHome, IsMember, IsToRead, IsUnderWay};
     ghost use Rattle.bl_crowd.specs.Crowds.{HasHeardOn, IsMetOn};
     ghost use Rattle.bl_crowd.specs.Departures.{Departs, IsServedAmong};
@@ -193,6 +195,7 @@ impl<'a, S: Stream> Member<'a, S> {
             connection,
             told: none_told(alloc, names),
             asked: None,
+            subject: None,
             reception: Reception::Awaited,
             last: 0,
             upto: 0,
@@ -298,6 +301,23 @@ impl<'a, S: Stream> Member<'a, S> {
         self.fault.is_none() && self.asked.is_none() && self.connection.state() == State::Reads
     }
 
+    /// The ordinal of the last line that it has heard.
+    pub fn lines(&self) -> u32
+        ensures { result ≡ last_ordinal self.now.connection.conv }
+    {
+        self.connection.ordinal()
+    }
+
+    /// Its session, once that is open, and the subject for whom.
+    pub fn greeted(&self) -> Option<(u32, SubjectId)>
+        ensures { result ≡ greeted_as self.now }
+    {
+        match (self.reception, self.subject) {
+            (Reception::Open(session), Some(subject)) => Some((session, subject)),
+            (Reception::Awaited | Reception::Open(_) | Reception::Full, _) => None,
+        }
+    }
+
     /// Opens the session for a subject, or finds that there are as many as there may be.
     fn open(&mut self, turn: &mut AtGate<'_>, subject: SubjectId)
         requires way { (names : KnownNames) × (first : PassView) × IsHome names turn.old
@@ -312,9 +332,11 @@ impl<'a, S: Stream> Member<'a, S> {
         ensures awaited { self.old.reception ≡ receptions.Awaited }
         ensures tells { state_of self.new.connection ≡ states.Tells }
         ensures new { IsNewSession turn.old self.new.reception }
+        ensures subject { self.new.subject ≡ Some subject }
         ensures same { (self.new.asked ≡ self.old.asked) × (self.new.fault ≡ self.old.fault) }
     {
         self.reception = receive(turn, subject);
+        self.subject = Some(subject);
         self.told = none_told(self.alloc, self.names);
         self.connection.opened(self.reception.opening());
     }
@@ -537,6 +559,7 @@ impl<'a, S: Stream> Member<'a, S> {
             connection,
             told,
             asked,
+            subject: _,
             reception: _,
             last: _,
             upto: _,
@@ -565,6 +588,7 @@ impl<'a, S: Stream> Member<'a, S> {
             connection,
             told,
             asked,
+            subject: _,
             reception: _,
             last: _,
             upto: _,

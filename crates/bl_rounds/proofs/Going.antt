@@ -1,21 +1,30 @@
 -- How a member of a crowd that leaves has gone, and how one round follows another.
-use Rattle.std.proofs.Common.{◌≡◌, ◌<◌, ◌∙◌, ℕ, List, length, get_or, sym, ap, subst, Option, Some, None}
+use Rattle.std.proofs.Common.{◌≡◌, ◌<◌, ◌∙◌, ℕ, List, [], length, vec_len, get_or, refl, sym, ap, subst, Option, Some, None}
 use Rattle.std.specs.Prelude.{All}
 use Rattle.std.proofs.lemmas.List.Elements.{All-get_or}
 use Rattle.bl_work.specs.Names.{KnownNames}
 use Rattle.bl_gate.specs.Gates.{Follows, GateId, PassView}
-use Rattle.bl_gate.proofs.Following.{follows_itself, follows_then}
+use Rattle.bl_worker.specs.Batches.{AllRan, HasRoom, IsBatch, IsIdle, loans_in}
+use Rattle.bl_worker.specs.Turns.{Settles}
+use Rattle.bl_worker.specs.declared.batch.Batch.{Batch}
+use Rattle.bl_worker.proofs.Batching.{batch_itself, batch_settles}
+use Rattle.bl_engine.specs.Conversations.{last_ordinal}
 use Rattle.bl_wire.specs.declared.fault.SessionFault.{SessionFault}
 use Rattle.bl_crowd.specs.Crowds.{IsCrowd}
 use Rattle.bl_crowd.specs.Departures.{Departs, IsServedAmong}
 use Rattle.bl_crowd.specs.Ways.{IsMember}
 use Rattle.bl_crowd.specs.declared.crowd.Crowd.{Crowd}
 use Rattle.bl_crowd.specs.declared.member.Member.{Member}
-use Rattle.bl_rounds.specs.Going.{GoesOn}
-use Rattle.bl_rounds.specs.Leaving.{HasGone, LeavesAs}
+use Rattle.bl_rounds.specs.Going.{GoesOn, HasRun, IsAtRest, StepsAt, TurnsOn}
+use Rattle.bl_rounds.specs.Leaving.{HasGone, HasParted, LeavesAs}
 use Rattle.bl_rounds.specs.declared.rounds.Gone.{Gone}
-use Rattle.bl_rounds.specs.declared.rounds.Seat.{Seat}
+use Rattle.bl_rounds.specs.declared.rounds.Hand.{Hand}
+use Rattle.bl_rounds.specs.declared.seat.Seat.{Seat}
 use Rattle.bl_rounds.proofs.Seating.{at_index}
+
+-- nothing is in hand where none runs and none was run
+none_in : (batch : Batch) → IsIdle batch → loans_in batch ≡ []
+none_in batch idle = rw (idle.0, idle.1) refl
 
 module _ {S : Type 0} (remaining contents : S → Option (List ℕ)) (crowd : Crowd S) (i : ℕ) where
   -- the names of its gate are those of its pass
@@ -34,9 +43,10 @@ module _ {S : Type 0} (remaining contents : S → Option (List ℕ)) (crowd : Cr
   -- one whose session was over
   pub gone_over : (gone : Gone S) → IsCrowd remaining contents crowd → Follows crowd.first.value crowd.pass → i < length crowd.members.items → gone.fault ≡ None
       → ((d : Member S) → (get_or crowd.members.items i d).fault ≡ None) → ((d : Member S) → gone.stream ≡ (get_or crowd.members.items i d).connection.stream)
+      → ((d : Member S) → gone.lines ≡ last_ordinal (get_or crowd.members.items i d).connection.conv)
       → ((d : Member S) → IsServedAmong remaining contents crowd.gate.now.base.setup.names crowd.first.value crowd.pass (get_or crowd.members.items i d).connection)
       → HasGone remaining contents crowd.first.value gone
-  gone_over gone is follows lt none fine stream served =
+  gone_over gone is follows lt none fine stream lines served =
       let there = at_index crowd.members.items i lt in
       let Left : KnownNames → Member S → Type 0 = λ names m. IsServedAmong remaining contents names crowd.first.value crowd.pass m.connection in
       record {
@@ -46,22 +56,22 @@ module _ {S : Type 0} (remaining contents : S → Option (List ℕ)) (crowd : Cr
         was = member_there is lt;
         stream_is = stream there.0 ∙ ap (λ (m : Member S). m.connection.stream) (there.1 there.0);
         fault_is = none ∙ sym (sym (ap (λ (m : Member S). m.fault) (there.1 there.0)) ∙ fine there.0);
+        lines_is = lines there.0 ∙ ap (λ (m : Member S). last_ordinal m.connection.conv) (there.1 there.0);
         leaves = subst (LeavesAs remaining contents crowd.first.value crowd.pass there.0) (sym none)
             (subst (λ names. Left names there.0) (names_are is) (subst (Left crowd.gate.now.base.setup.names) (there.1 there.0) (served there.0)));
       }
 
-  -- one that had failed
-  pub gone_failed : (gone : Gone S) (fault : SessionFault) → IsCrowd remaining contents crowd → Follows crowd.first.value crowd.pass → i < length crowd.members.items
-      → ((d : Member S) → (get_or crowd.members.items i d).fault ≡ Some fault) → ((d : Member S) → gone.stream ≡ (get_or crowd.members.items i d).connection.stream)
+  -- one that was put out
+  pub gone_out : (gone : Gone S) → IsCrowd remaining contents crowd → Follows crowd.first.value crowd.pass → i < length crowd.members.items
+      → ((d : Member S) → gone.stream ≡ (get_or crowd.members.items i d).connection.stream)
       → ((d : Member S) → gone.fault ≡ (get_or crowd.members.items i d).fault)
+      → ((d : Member S) → gone.lines ≡ last_ordinal (get_or crowd.members.items i d).connection.conv)
       → ((d : Member S) → Departs remaining contents crowd.gate.now.base.setup.names crowd.first.value crowd.pass (get_or crowd.members.items i d).connection
       (get_or crowd.members.items i d).reception gone.fault)
-      → HasGone remaining contents crowd.first.value gone
-  gone_failed gone fault is follows lt failed stream same departs =
+      → HasParted remaining contents crowd.first.value gone
+  gone_out gone is follows lt stream same lines departs =
       let there = at_index crowd.members.items i lt in
-      let has : gone.fault ≡ Some fault = same there.0 ∙ failed there.0 in
-      let Left : KnownNames → Option SessionFault → Member S → Type 0 = λ names f m. Departs remaining contents names crowd.first.value crowd.pass m.connection m.reception f in
-      let names = crowd.gate.now.base.setup.names in
+      let Left : KnownNames → Member S → Type 0 = λ names m. Departs remaining contents names crowd.first.value crowd.pass m.connection m.reception gone.fault in
       record {
         pass = crowd.pass;
         follows = follows;
@@ -69,20 +79,120 @@ module _ {S : Type 0} (remaining contents : S → Option (List ℕ)) (crowd : Cr
         was = member_there is lt;
         stream_is = stream there.0 ∙ ap (λ (m : Member S). m.connection.stream) (there.1 there.0);
         fault_is = same there.0 ∙ ap (λ (m : Member S). m.fault) (there.1 there.0);
-        leaves = subst (LeavesAs remaining contents crowd.first.value crowd.pass there.0) (sym has)
-            (subst (λ ns. Left ns (Some fault) there.0) (names_are is)
-            (subst (λ f. Left names f there.0) has (subst (Left names gone.fault) (there.1 there.0) (departs there.0))));
+        lines_is = lines there.0 ∙ ap (λ (m : Member S). last_ordinal m.connection.conv) (there.1 there.0);
+        departs = subst (λ names. Left names there.0) (names_are is) (subst (Left crowd.gate.now.base.setup.names) (there.1 there.0) (departs there.0));
       }
+
+-- one that had failed
+pub gone_failed : {S : Type 0} (remaining contents : S → Option (List ℕ)) (first : PassView) (gone : Gone S) (fault : SessionFault) → gone.fault ≡ Some fault
+    → HasParted remaining contents first gone → HasGone remaining contents first gone
+gone_failed remaining contents first gone fault is p = record {
+  pass = p.pass;
+  follows = p.follows;
+  member = p.member;
+  was = p.was;
+  stream_is = p.stream_is;
+  fault_is = p.fault_is;
+  lines_is = p.lines_is;
+  leaves = subst (LeavesAs remaining contents first p.pass p.member) (sym is)
+      (subst (Departs remaining contents p.pass.gate.base.setup.names first p.pass p.member.connection p.member.reception) is p.departs);
+}
 
 -- ---- one after another
 
 module _ {S : Type 0} (remaining contents : S → Option (List ℕ)) where
+  -- before the first step
+  pub steps_itself : (a : Crowd S) (i : ℕ) → IsCrowd remaining contents a → StepsAt remaining contents a a i
+  steps_itself a i is = record { crowd_is = is; len = refl; others = λ j e other. refl; first = refl; gate = refl; pass = refl }
+
+  pub steps_then : (a b c : Crowd S) (i : ℕ) → StepsAt remaining contents a b i → StepsAt remaining contents b c i → StepsAt remaining contents a c i
+  steps_then a b c i f s = record {
+    crowd_is = s.crowd_is;
+    len = s.len ∙ f.len;
+    others = λ j e other. s.others j e other ∙ f.others j e other;
+    first = s.first ∙ f.first;
+    gate = s.gate ∙ f.gate;
+    pass = s.pass ∙ f.pass;
+  }
+
+  -- before any has gone on
+  pub goes_itself : (a : Crowd S) (xs : List Seat) → IsCrowd remaining contents a → length xs ≡ vec_len a.members → GoesOn remaining contents a a xs xs
+  goes_itself a xs is seated = record { crowd_is = is; seated = seated; first = refl; gate = refl; pass = refl; same = refl }
+
   pub goes_then : (a b c : Crowd S) (xs ys zs : List Seat) → GoesOn remaining contents a b xs ys → GoesOn remaining contents b c ys zs → GoesOn remaining contents a c xs zs
   goes_then a b c xs ys zs f s = record {
     crowd_is = s.crowd_is;
     seated = s.seated;
     first = s.first ∙ f.first;
     gate = s.gate ∙ f.gate;
-    follows = follows_then a.pass b.pass c.pass f.follows s.follows;
+    pass = s.pass ∙ f.pass;
     same = s.same ∙ f.same;
   }
+
+  -- before the first turn
+  pub turns_itself : (a : Crowd S) (xs : List Seat) (hand : Hand) → IsCrowd remaining contents a → length xs ≡ vec_len a.members → HasRun a.first.value a.pass hand → TurnsOn remaining contents a a xs xs hand
+  turns_itself a xs hand is seated run = record { crowd_is = is; seated = seated; first = refl; gate = refl; same = refl; run = run }
+
+  -- what was run is so, where the connections have gone on since
+  pub run_there : (a b c : Crowd S) (xs ys zs : List Seat) (hand : Hand) → TurnsOn remaining contents a b xs ys hand → GoesOn remaining contents b c ys zs → HasRun c.first.value c.pass hand
+  run_there a b c xs ys zs hand t g = rw (g.pass, g.first, t.first) t.run
+
+  pub turns_then : (a b c d : Crowd S) (xs ys zs ws : List Seat) (before after : Hand) → TurnsOn remaining contents a b xs ys before → GoesOn remaining contents b c ys zs
+      → TurnsOn remaining contents c d zs ws after → TurnsOn remaining contents a d xs ws after
+  turns_then a b c d xs ys zs ws before after f g s = record {
+    crowd_is = s.crowd_is;
+    seated = s.seated;
+    first = s.first ∙ (g.first ∙ f.first);
+    gate = s.gate ∙ (g.gate ∙ f.gate);
+    same = s.same ∙ (g.same ∙ f.same);
+    run = rw (sym f.first, sym g.first) s.run;
+  }
+
+-- ---- at rest
+
+-- nothing is in hand, so all has ended
+pub rest_settles : (first pass : PassView) (hand : Option Hand) → IsAtRest first pass hand → Settles first pass
+rest_settles first pass None batch = batch_settles first pass batch
+rest_settles first pass (Some hand) rest = batch_settles first pass (subst (IsBatch first pass) (none_in hand.batch rest.1) rest.0.batch)
+
+pub rest_follows : (first pass : PassView) (hand : Option Hand) → IsAtRest first pass hand → Follows first pass
+rest_follows first pass None batch = batch.follows
+rest_follows first pass (Some hand) rest = rest.0.batch.follows
+
+-- at first
+pub rest_first : (first pass : PassView) → pass ≡ first → IsAtRest first pass None
+rest_first first pass same = subst (λ p. IsBatch first p []) (sym same) (batch_itself first)
+
+-- room was made for what is in hand
+pub rest_made : (first pass : PassView) (was : Option Hand) (made : Hand) → was ≡ None → HasRun pass pass made × IsIdle made.batch → IsAtRest first pass was → IsAtRest first pass (Some made)
+rest_made first pass was made none is rest = (
+  record { batch = subst (IsBatch first pass) (sym (none_in made.batch is.1)) (subst (IsAtRest first pass) none rest); ran = is.0.ran; room = is.0.room },
+  is.1,
+)
+
+-- the crowd has the same passes
+pub rest_on : {S : Type 0} (old new : Crowd S) (hand : Option Hand) → new.pass ≡ old.pass → new.first ≡ old.first → IsAtRest old.first.value old.pass hand → IsAtRest new.first.value new.pass hand
+rest_on old new hand pass first rest = rw (pass, first) rest
+
+-- after its turns
+pub rest_turned : {S : Type 0} (remaining contents : S → Option (List ℕ)) (old new : Crowd S) (xs ys : List Seat) (was now : Hand) → TurnsOn remaining contents old new xs ys was → IsIdle was.batch
+    → now.batch ≡ was.batch → IsAtRest new.first.value new.pass (Some now)
+rest_turned remaining contents old new xs ys was now turned idle same =
+    let is : HasRun new.first.value new.pass was = rw turned.first turned.run in (
+      record {
+        batch = subst (λ (b : Batch). IsBatch new.first.value new.pass (loans_in b)) (sym same) is.batch;
+        ran = subst AllRan (sym same) is.ran;
+        room = subst HasRoom (sym same) is.room;
+      },
+      subst IsIdle (sym same) idle,
+    )
+
+pub rest_noted : (first pass : PassView) (was now : Hand) → now.batch ≡ was.batch → IsAtRest first pass (Some was) → IsAtRest first pass (Some now)
+rest_noted first pass was now same rest = (
+  record {
+    batch = subst (λ (b : Batch). IsBatch first pass (loans_in b)) (sym same) rest.0.batch;
+    ran = subst AllRan (sym same) rest.0.ran;
+    room = subst HasRoom (sym same) rest.0.room;
+  },
+  subst IsIdle (sym same) rest.1,
+)

@@ -1,7 +1,7 @@
 -- How a connection leaves its thread.
-use Rattle.std.specs.Prelude.{◌≡◌, ◌<◌, ℕ, List, length, get_or, Option, Some, None}
-use Rattle.std.specs.List.{remove}
+use Rattle.std.specs.Prelude.{◌≡◌, ℕ, List, Option, Some, None}
 use Rattle.bl_gate.specs.Gates.{Follows, PassView}
+use Rattle.bl_engine.specs.Conversations.{last_ordinal}
 use Rattle.bl_wire.specs.declared.fault.SessionFault.{SessionFault}
 use Rattle.bl_crowd.specs.Departures.{Departs, IsServedAmong}
 use Rattle.bl_crowd.specs.Ways.{IsMember}
@@ -25,11 +25,18 @@ pub record HasGone {S : Type 0} (remaining contents : S → Option (List ℕ)) (
   pub was : IsMember remaining contents pass.gate.base.setup.names first pass member
   pub stream_is : gone.stream ≡ member.connection.stream
   pub fault_is : gone.fault ≡ member.fault
+  pub lines_is : gone.lines ≡ last_ordinal member.connection.conv
   pub leaves : LeavesAs remaining contents first pass member gone.fault
 
--- this number was among the old ones, and was taken out
-pub record IsOneOut (number : ℕ) (old new : List ℕ) : Type 0 where
-  pub i : ℕ
-  pub within : i < length old
-  pub there : number ≡ get_or old i number
-  pub out : new ≡ remove old i
+-- the same, of one that has left at any moment
+pub record HasParted {S : Type 0} (remaining contents : S → Option (List ℕ)) (first : PassView) (gone : Gone S)
+    : Type 0 where
+  pub pass : PassView
+  pub follows : Follows first pass
+  pub member : Member S
+  pub was : IsMember remaining contents pass.gate.base.setup.names first pass member
+  pub stream_is : gone.stream ≡ member.connection.stream
+  pub fault_is : gone.fault ≡ member.fault
+  pub lines_is : gone.lines ≡ last_ordinal member.connection.conv
+  pub departs : Departs remaining contents pass.gate.base.setup.names first pass member.connection member.reception
+      gone.fault

@@ -1,21 +1,30 @@
 //! The crowd of a thread, round by round.
-ghost use Rattle.std.specs.Prelude.{◌≡◌, ◌<◌, ◌+◌, IfNone, IfSome, OnSome, length, vec_len};
-ghost use Rattle.bl_gate.specs.Gates.{Follows};
+ghost use Rattle.std.specs.Prelude.{◌≡◌, ◌≢◌, ◌<◌, ◌⊎◌, ℕ, List, Option, false, true, IfNone, IfOk, IfSome, None, OnOk};
+ghost use Rattle.std.specs.Prelude.{get_or, length, vec_len};
+ghost use Rattle.std.specs.List.{All};
+ghost use Rattle.bl_gate.specs.Gates.{Follows, PassView};
+ghost use Rattle.bl_worker.specs.Batches.{IsIdle};
 ghost use Rattle.bl_crowd.specs.Crowds.{IsCrowd};
-ghost use Rattle.bl_rounds.specs.Going.{GoesOn};
-ghost use Rattle.bl_rounds.specs.Leaving.{HasGone};
-ghost use Rattle.bl_rounds.specs.Seats.{numbers};
+ghost use Rattle.bl_crowd.specs.declared.member.Member.{Member};
+ghost use Rattle.bl_rounds.specs.Going.{GoesOn, GoesOnAt, HasRun, HasTime, HaveSeats};
+ghost use Rattle.bl_rounds.specs.Going.{IsAtRest, IsOpen, IsWithout, StandSo, StandsAt, StepsAt, TurnsOn};
+ghost use Rattle.bl_rounds.specs.Leaving.{HasGone, HasParted};
+ghost use Rattle.bl_rounds.specs.Seats.{AreTold, AskNothing, HasGoneOn, HaveGoneOn, IsUntold, leaves, sessions_of, who};
 
 use crate::alarm::Alarms;
+use crate::seat::{
+    Seat, Stage, all_wait, has, leaver, put_stage, put_told, silent_one, stir_each, stir_one,
+};
 use bl_connection::stream::Stream;
-use bl_crowd::crowd::Crowd;
+use bl_crowd::crowd::{Crowd, Portion, Round};
 use bl_crowd::member::Next;
 use bl_gate::gate::Gate;
 use bl_gate::pass::Pass;
+use bl_policy::id::SubjectId;
 use bl_wire::fault::SessionFault;
+use bl_worker::batch::Batch;
 use bl_worker::bell::{Bell, WorkerBell};
 use bl_worker::pause::Pause;
-use bl_worker::turn::Turn;
 use std::alloc::{AllocError, Global};
 use std::marker::Model;
 use std::sync::Wait;
@@ -26,37 +35,29 @@ const MOST_STEPS: u32 = 64;
 /// How many turns at the gate a round has at most.
 const MOST_TURNS: u32 = 8;
 
-/// How many entries a thread runs, beside one for each connection, before it looks after its connections again.
-const MORE_ENTRIES: usize = 64;
+/// How many entries a thread has in hand at most.
+const MOST_ENTRIES: usize = 64;
 
-/// What a connection is to do next, or waits for.
-#[derive(Clone, Copy, Debug, PartialEq, Eq)]
-pub enum Stage {
-    /// It may go on.
-    Goes,
-    /// It has asked something of the machine.
-    Asks,
-    /// It waits for entries of its session to end.
-    Waits,
-    /// It waits for its stream.
-    Sleeps,
-    /// It is to leave.
-    Leaves,
-}
+/// How many lines more of a connection are done in a turn at the gate at most.
+const MOST_LINES: usize = 128;
 
-/// A connection's number, and what it is to do next or waits for.
-#[derive(Clone, Copy, Debug)]
-pub struct Seat {
-    pub(crate) number: u32,
-    pub(crate) stage: Stage,
-}
-
-/// A connection that has left: its number, its stream, and why it had to.
+/// A connection that has left: its number, its stream, why it had to, the ordinal of the last line that it has heard,
+/// and how many events the trail had when the thread was last at the gate.
 #[derive(Drop)]
 pub struct Gone<S> {
     pub number: u32,
     pub stream: S,
     pub fault: Option<SessionFault>,
+    pub lines: u32,
+    pub events: usize,
+}
+
+/// A connection whose session is open: its number, and the session and its subject as the trail has them.
+#[derive(Clone, Copy, Debug)]
+pub struct Greeting {
+    pub number: u32,
+    pub session: u32,
+    pub subject: SubjectId,
 }
 
 /// What calls those who sleep: session threads when an entry has ended, and workers when there is work.
@@ -81,281 +82,497 @@ impl WorkerBell for Calls<'_> {
     }
 }
 
-/// What a thread keeps in mind from one round to the next: the count of ends before its last turn, whether there may be
-/// entries that nobody was called for, and whether it may have left entries that are ready.
+/// What a thread keeps in mind from one turn at the gate to the next: the count of ends that it has taken in, whether
+/// it may have left entries that are ready, whether nobody was called for those, how many events the trail had, and
+/// what time it is.
 #[derive(Clone, Copy)]
 pub(crate) struct Marks {
     seen: u64,
-    fresh: bool,
-    busy: bool,
+    left: bool,
+    uncalled: bool,
+    events: usize,
+    time: u64,
 }
 
-/// The connections of a thread: its crowd, and beside each member a seat, in the order of their numbers. Its value is
-/// the pass that the thread was given, and those numbers.
-#[derive(Drop)]
-pub struct Rounds<'a, S: Stream> {
-    crowd: Crowd<'a, S>,
-    seats: Vec<Seat>,
+/// What a thread has in hand, and keeps in mind, from one turn at the gate to the next.
+pub(crate) struct Hand {
+    alloc: Global,
+    batch: Batch,
     marks: Marks,
 }
 
+impl Hand {
+    /// Nothing in hand. An error comes where memory was refused.
+    fn new(alloc: Global) -> Result<Hand, AllocError>
+        ensures { IfOk result (λ hand. (pass : PassView) → HasRun pass pass hand × IsIdle hand.batch) }
+    {
+        let batch = Batch::new(alloc, MOST_ENTRIES)?;
+        let marks = Marks {
+            seen: 0,
+            left: false,
+            uncalled: false,
+            events: 0,
+            time: 0,
+        };
+        Ok(Hand {
+            alloc,
+            batch,
+            marks,
+        })
+    }
+
+    /// Gives up what it has, which is nothing.
+    fn close(self)
+        requires { IsIdle self.batch }
+    {
+        let Hand {
+            alloc: _,
+            batch,
+            marks: _,
+        } = self;
+        batch.close();
+    }
+}
+
+/// The connections of a thread: its crowd, and beside each member a seat, in the order of their numbers; and what it
+/// has in hand, which is nothing between its rounds, and comes with its first connection. Its value is a `Table`: the
+/// pass that the thread was given, the seats, the sessions that are open, and the time. It has to be closed.
+pub struct Rounds<'a, S: Stream> {
+    alloc: Global,
+    crowd: Crowd<'a, S>,
+    seats: Vec<Seat>,
+    hand: Option<Hand>,
+    time: u64,
+}
+
 impl<'a, S: Stream> Model for Rounds<'a, S> {
-    ghost use Rattle.std.specs.Prelude.{ℕ, List};
     ghost use Rattle.std.specs.Coded.{codes};
     ghost use Rattle.bl_policy.specs.Codes.{matrix_code};
     ghost use Rattle.bl_hall.specs.EventCodes.{coded_event};
-    ghost use Rattle.bl_gate.specs.Gates.{PassView};
     ghost use Rattle.bl_rounds.specs.Going.{AreSeated};
-    ghost use Rattle.bl_rounds.specs.Seats.{numbers};
+    ghost use Rattle.bl_rounds.specs.Seats.{Table, sessions_of};
 
-    ghost Value = { PassView × List ℕ };
+    ghost Value = { Table };
 
     ghost coded = { Prim.hlevel (codes, matrix_code, coded_event) };
 
-    ghost view = { λ rounds. (rounds.crowd.first.value, numbers rounds.seats.items) };
+    ghost view = { λ rounds. record {
+      first = rounds.crowd.first.value;
+      seats = rounds.seats.items;
+      sessions = sessions_of rounds.crowd.members.items;
+      time = rounds.time;
+    } };
 
-    ghost invariant = { λ rounds. AreSeated S.remaining S.contents rounds.crowd rounds.seats.items };
+    ghost invariant = { λ rounds. AreSeated S.remaining S.contents rounds.crowd rounds.seats.items rounds.hand };
 }
 
-/// A member goes on until it has to wait for something, or has had its part of the round.
-fn advance<S: Stream>(crowd: &mut Crowd<'_, S>, i: usize) -> Stage
+/// A member goes on until it has to wait for something, or has had its part of the round. Says what it is to do next,
+/// and whether it has gone on at all.
+fn advance<S: Stream>(crowd: &mut Crowd<'_, S>, i: usize) -> (Stage, bool)
     requires crowd { IsCrowd S.remaining S.contents crowd.old }
     requires within { i < vec_len crowd.old.members }
-    ensures crowd { IsCrowd S.remaining S.contents crowd.new }
-    ensures len { vec_len crowd.new.members ≡ vec_len crowd.old.members }
-    ensures same { (crowd.new.pass ≡ crowd.old.pass) × (crowd.new.first ≡ crowd.old.first)
-        × (crowd.new.gate ≡ crowd.old.gate) }
+    ensures steps { StepsAt S.remaining S.contents crowd.old crowd.new i }
+    ensures stands { (e : Member S) → StandsAt result.0 (get_or crowd.new.members.items i e) }
+    ensures goes { result.0 ≡ Stage.Goes → result.1 ≡ true }
 {
-    for _ in 0..MOST_STEPS {
+    for count in 0..MOST_STEPS {
         match crowd.step(i) {
             Next::Goes => {}
-            Next::Blocked => return Stage::Sleeps,
-            Next::Asks => return Stage::Asks,
-            Next::Over | Next::Failed(_) => return Stage::Leaves,
+            Next::Blocked => return (Stage::Sleeps, count > 0),
+            Next::Asks => return (Stage::Asks, true),
+            Next::Over => return (Stage::Over, true),
+            Next::Failed(_) => return (Stage::Failed, true),
         }
     }
-    Stage::Goes
+    (Stage::Goes, true)
 }
 
 /// What a member does after a turn at the gate, and what it is to do next: one that still asks waits.
 fn go_after_turn<S: Stream>(crowd: &mut Crowd<'_, S>, i: usize) -> Stage
     requires crowd { IsCrowd S.remaining S.contents crowd.old }
     requires within { i < vec_len crowd.old.members }
-    ensures crowd { IsCrowd S.remaining S.contents crowd.new }
-    ensures len { vec_len crowd.new.members ≡ vec_len crowd.old.members }
-    ensures same { (crowd.new.pass ≡ crowd.old.pass) × (crowd.new.first ≡ crowd.old.first)
-        × (crowd.new.gate ≡ crowd.old.gate) }
+    ensures steps { StepsAt S.remaining S.contents crowd.old crowd.new i }
+    ensures stands { (e : Member S) → StandsAt result (get_or crowd.new.members.items i e) }
+    ensures asks { result ≢ Stage.Asks }
 {
     match crowd.step(i) {
         Next::Goes => Stage::Goes,
         Next::Blocked => Stage::Sleeps,
         Next::Asks => Stage::Waits,
-        Next::Over | Next::Failed(_) => Stage::Leaves,
+        Next::Over => Stage::Over,
+        Next::Failed(_) => Stage::Failed,
     }
 }
 
-/// Has a connection go to another stage.
-fn put_stage(seats: &mut Vec<Seat>, i: usize, stage: Stage)
-    requires { i < vec_len seats.old }
-    ensures numbers { numbers seats.new.items ≡ numbers seats.old.items }
-    ensures len { vec_len seats.new ≡ vec_len seats.old }
+/// A connection goes on, if it may.
+fn go_one<S: Stream>(crowd: &mut Crowd<'_, S>, seats: &mut Vec<Seat>, i: usize, time: u64)
+    requires crowd { IsCrowd S.remaining S.contents crowd.old }
+    requires seated { vec_len seats.old ≡ vec_len crowd.old.members }
+    requires within { i < vec_len seats.old }
+    requires stands { (d : Seat) (e : Member S)
+        → StandsAt (get_or seats.old.items i d).stage (get_or crowd.old.members.items i e) }
+    ensures goes { GoesOnAt S.remaining S.contents crowd.old crowd.new seats.old.items seats.new.items i }
+    ensures gone { (d : Seat) → HasGoneOn time (get_or seats.new.items i d) }
 {
-    let number = seats[i].number;
-    seats[i] = Seat { number, stage };
-}
-
-/// Whether a connection is in this stage.
-fn has(seats: &[Seat], stage: Stage) -> bool {
-    seats.iter().any(|seat| seat.stage == stage)
-}
-
-/// Has each connection go on that waits for its stream.
-fn stir_each(seats: &mut Vec<Seat>)
-    ensures numbers { numbers seats.new.items ≡ numbers seats.old.items }
-    ensures len { vec_len seats.new ≡ vec_len seats.old }
-{
-    for i in 0..seats.len() {
-        if seats[i].stage == Stage::Sleeps {
-            put_stage(seats, i, Stage::Goes);
+    let seat = seats[i];
+    match seat.stage {
+        Stage::Goes => {
+            let (stage, goes) = advance(crowd, i);
+            put_stage(seats, i, stage, seat.moved_at(goes, time));
         }
+        Stage::Asks | Stage::Waits | Stage::Sleeps | Stage::Over | Stage::Failed => {}
+    }
+}
+
+/// A connection that has asked something, or waits, goes on a step as far as that was met; and one that is to leave is
+/// looked at again.
+fn go_one_on<S: Stream>(crowd: &mut Crowd<'_, S>, seats: &mut Vec<Seat>, i: usize, time: u64)
+    requires crowd { IsCrowd S.remaining S.contents crowd.old }
+    requires seated { vec_len seats.old ≡ vec_len crowd.old.members }
+    requires within { i < vec_len seats.old }
+    ensures goes { GoesOnAt S.remaining S.contents crowd.old crowd.new seats.old.items seats.new.items i }
+    ensures gone { (d : Seat) → HasGoneOn time (get_or seats.old.items i d)
+        → HasGoneOn time (get_or seats.new.items i d) }
+    ensures asks { (d : Seat) → (get_or seats.new.items i d).stage ≢ Stage.Asks }
+{
+    match seats[i].stage {
+        Stage::Asks | Stage::Waits | Stage::Over | Stage::Failed => {
+            let stage = go_after_turn(crowd, i);
+            put_stage(seats, i, stage, Some(time));
+        }
+        Stage::Goes | Stage::Sleeps => {}
     }
 }
 
 /// Each connection that may goes on.
-fn go_each<S: Stream>(crowd: &mut Crowd<'_, S>, seats: &mut Vec<Seat>)
-    requires crowd { IsCrowd S.remaining S.contents crowd.old }
-    requires seated { vec_len seats.old ≡ vec_len crowd.old.members }
-    ensures { GoesOn S.remaining S.contents crowd.old crowd.new seats.old.items seats.new.items }
+fn go_each<S: Stream>(crowd: &mut Crowd<'_, S>, seats: &mut Vec<Seat>, time: u64)
+    requires seats { HaveSeats S.remaining S.contents crowd.old seats.old.items }
+    ensures goes { GoesOn S.remaining S.contents crowd.old crowd.new seats.old.items seats.new.items }
+    ensures stand { StandSo (length seats.new.items) seats.new.items crowd.new.members.items }
+    ensures gone { HaveGoneOn time (length seats.new.items) seats.new.items }
 {
     for i in 0..seats.len() {
-        if seats[i].stage == Stage::Goes {
-            let stage = advance(crowd, i);
-            put_stage(seats, i, stage);
-        }
+        go_one(crowd, seats, i, time);
     }
 }
 
-/// Each connection that has asked something, or waits, goes on as far as that was met. Says whether something was met
-/// that may have been a line.
-fn go_on_each<S: Stream>(crowd: &mut Crowd<'_, S>, seats: &mut Vec<Seat>) -> bool
+/// Each connection that has asked something, or waits, goes on a step as far as that was met.
+fn go_on_each<S: Stream>(crowd: &mut Crowd<'_, S>, seats: &mut Vec<Seat>, time: u64)
     requires crowd { IsCrowd S.remaining S.contents crowd.old }
     requires seated { vec_len seats.old ≡ vec_len crowd.old.members }
-    ensures { GoesOn S.remaining S.contents crowd.old crowd.new seats.old.items seats.new.items }
+    ensures goes { GoesOn S.remaining S.contents crowd.old crowd.new seats.old.items seats.new.items }
+    ensures stand { StandSo (length seats.new.items) seats.new.items crowd.new.members.items }
+    ensures gone { HaveGoneOn time (length seats.old.items) seats.old.items
+        → HaveGoneOn time (length seats.new.items) seats.new.items }
+    ensures asks { AskNothing (length seats.new.items) seats.new.items }
 {
-    let mut fresh = false;
     for i in 0..seats.len() {
-        let stage = seats[i].stage;
-        if stage == Stage::Asks || stage == Stage::Waits {
-            let next = go_after_turn(crowd, i);
-            if stage == Stage::Asks && next != Stage::Waits {
-                fresh = true;
-            }
-            put_stage(seats, i, next);
-        }
+        go_one_on(crowd, seats, i, time);
     }
-    fresh
 }
 
-/// Runs entries that are ready, until none is or so many were tried, and says whether none is.
-fn run_ready<S: Stream, P: Pause, R: Wait>(
-    rt: &R,
-    pause: &P,
-    alarms: &Alarms,
-    crowd: &mut Crowd<'_, S>,
-    most: usize,
-) -> bool
-    requires { IsCrowd S.remaining S.contents crowd.old }
-    ensures crowd { IsCrowd S.remaining S.contents crowd.new }
-    ensures members { crowd.new.members ≡ crowd.old.members }
-    ensures same { (crowd.new.first ≡ crowd.old.first) × (crowd.new.gate ≡ crowd.old.gate) }
-    ensures follows { Follows crowd.old.pass crowd.new.pass }
+/// Each connection that may goes on, where nothing is in hand: no entry waits for a stream.
+fn go_free<S: Stream>(crowd: &mut Crowd<'_, S>, seats: &mut Vec<Seat>, hand: &Hand)
+    requires seats { HaveSeats S.remaining S.contents crowd.old seats.old.items }
+    requires gone { IsIdle hand.now.batch ⊎ HaveGoneOn hand.now.marks.time (length seats.old.items) seats.old.items }
+    ensures goes { GoesOn S.remaining S.contents crowd.old crowd.new seats.old.items seats.new.items }
+    ensures stand { StandSo (length seats.new.items) seats.new.items crowd.new.members.items }
+    ensures gone { HaveGoneOn hand.now.marks.time (length seats.new.items) seats.new.items }
 {
-    for _ in 0..most {
-        match crowd.work(rt, pause) {
-            Turn::Idle => return true,
-            Turn::Missed(_) => {}
-            Turn::Denied(_) | Turn::Done(_) | Turn::Lost(_) => alarms.ring_end(),
-        }
+    if hand.batch.is_idle() {
+        go_each(crowd, seats, hand.marks.time);
     }
-    false
 }
 
-/// A turn at the gate for all, and then, if somebody waits, turns with what is ready.
+/// Rings if an entry has ended.
+fn ring_if(alarms: &Alarms, ended: bool) {
+    if ended {
+        alarms.ring_end();
+    }
+}
+
+/// Calls who is to know of a turn at the gate. An end before the members met is taken in; one that came after calls
+/// for another turn. Workers are called at once where somebody waits and entries were left that are long to run.
+fn tell_of<R: Wait>(rt: &R, calls: Calls<'_>, round: Round, waits: bool, marks: &mut Marks)
+    ensures { marks.new.time ≡ marks.old.time }
+{
+    if round.ended {
+        marks.seen = marks.seen.wrapping_add(1);
+    }
+    ring_if(calls.alarms, round.ended);
+    ring_if(calls.alarms, round.over);
+    marks.left = round.left;
+    marks.uncalled = round.left;
+    marks.events = round.events;
+    if waits && round.begun < MOST_ENTRIES {
+        call_workers(rt, calls.bell, marks);
+    }
+}
+
+/// Calls workers, if entries are ready that nobody was called for.
+fn call_workers<R: Wait>(rt: &R, bell: &Bell, marks: &mut Marks)
+    ensures { marks.new.time ≡ marks.old.time }
+{
+    if marks.uncalled {
+        bell.ring_work(rt);
+        marks.uncalled = false;
+    }
+}
+
+/// A turn at the gate for all; then what it has begun is run with the gate free. Of entries that are long to run it
+/// begins one, and only where somebody waits.
 fn take_turn<S: Stream, P: Pause, R: Wait>(
     rt: &R,
     pause: &P,
-    alarms: &Alarms,
+    calls: Calls<'_>,
     crowd: &mut Crowd<'_, S>,
     seats: &mut Vec<Seat>,
-    marks: &mut Marks,
+    hand: &mut Hand,
 )
     requires crowd { IsCrowd S.remaining S.contents crowd.old }
     requires seated { vec_len seats.old ≡ vec_len crowd.old.members }
-    ensures { GoesOn S.remaining S.contents crowd.old crowd.new seats.old.items seats.new.items }
+    requires run { HasRun crowd.old.first.value crowd.old.pass hand.old }
+    ensures turns { TurnsOn S.remaining S.contents crowd.old crowd.new seats.old.items seats.new.items hand.new }
+    ensures stand { StandSo (length seats.new.items) seats.new.items crowd.new.members.items }
+    ensures gone { HaveGoneOn hand.old.marks.time (length seats.old.items) seats.old.items
+        → HaveGoneOn hand.old.marks.time (length seats.new.items) seats.new.items }
+    ensures asks { AskNothing (length seats.new.items) seats.new.items }
+    ensures time { hand.new.marks.time ≡ hand.old.marks.time }
 {
-    marks.seen = alarms.ends();
-    crowd.turn(rt);
-    marks.fresh |= go_on_each(crowd, seats);
-    marks.busy = false;
-    if has(seats, Stage::Waits) {
-        let most = seats.len().saturating_add(MORE_ENTRIES);
-        marks.busy = !run_ready(rt, pause, alarms, crowd, most);
-        marks.fresh = marks.busy;
-    }
+    let waits = has(seats, Stage::Waits);
+    let portion = Portion {
+        lines: MOST_LINES,
+        long: usize::from(waits),
+    };
+    hand.marks.seen = calls.alarms.ends();
+    let round = crowd.round(rt, &mut hand.batch, portion);
+    tell_of(rt, calls, round, waits, &mut hand.marks);
+    go_on_each(crowd, seats, hand.marks.time);
+    hand.batch.run(hand.alloc, pause);
 }
 
-/// Whether a turn at the gate may bring something: somebody has asked, or somebody waits and this thread has left
-/// entries ready, or an entry has ended since the last turn.
-fn is_called(seats: &[Seat], marks: &Marks, alarms: &Alarms) -> bool {
-    has(seats, Stage::Asks)
-        || (has(seats, Stage::Waits) && (marks.busy || alarms.ends() != marks.seen))
+/// Whether a turn at the gate may bring something: an entry was run that has not ended, or somebody has asked, or
+/// somebody waits and this thread has left entries ready, or an entry has ended that it has not taken in.
+fn is_called(seats: &[Seat], hand: &Hand, alarms: &Alarms) -> bool
+    ensures idle { result ≡ false → IsIdle hand.now.batch }
+    ensures asks { result ≡ false → AskNothing (length seats.now) seats.now }
+{
+    !hand.batch.is_idle()
+        || has(seats, Stage::Asks)
+        || (has(seats, Stage::Waits) && (hand.marks.left || alarms.ends() != hand.marks.seen))
+}
+
+/// Ends what was run. Then nothing is in hand.
+fn put_down<S: Stream, R: Wait>(rt: &R, alarms: &Alarms, crowd: &mut Crowd<'_, S>, hand: &mut Hand)
+    requires crowd { IsCrowd S.remaining S.contents crowd.old }
+    requires run { HasRun crowd.old.first.value crowd.old.pass hand.old }
+    ensures crowd { IsCrowd S.remaining S.contents crowd.new }
+    ensures same { (crowd.new.members ≡ crowd.old.members) × (crowd.new.first ≡ crowd.old.first)
+        × (crowd.new.gate ≡ crowd.old.gate) }
+    ensures run { HasRun crowd.old.first.value crowd.new.pass hand.new }
+    ensures idle { IsIdle hand.new.batch }
+{
+    let ended = crowd.put_down(rt, &mut hand.batch);
+    ring_if(alarms, ended);
+    // others may have waited for it, and nobody was called for those
+    hand.marks.left |= ended;
+    hand.marks.uncalled |= ended;
 }
 
 /// Each connection goes on as far as it can, and what they ask is done at the gate, again and again, but not for ever.
+/// Then nothing is in hand.
 fn go_round<S: Stream, P: Pause, R: Wait>(
     rt: &R,
     pause: &P,
-    alarms: &Alarms,
+    calls: Calls<'_>,
     crowd: &mut Crowd<'_, S>,
     seats: &mut Vec<Seat>,
-    marks: &mut Marks,
+    hand: &mut Hand,
 )
-    requires crowd { IsCrowd S.remaining S.contents crowd.old }
-    requires seated { vec_len seats.old ≡ vec_len crowd.old.members }
-    ensures { GoesOn S.remaining S.contents crowd.old crowd.new seats.old.items seats.new.items }
+    requires seats { HaveSeats S.remaining S.contents crowd.old seats.old.items }
+    requires run { HasRun crowd.old.first.value crowd.old.pass hand.old }
+    requires idle { IsIdle hand.old.batch }
+    ensures goes { TurnsOn S.remaining S.contents crowd.old crowd.new seats.old.items seats.new.items hand.new }
+    ensures stand { StandSo (length seats.new.items) seats.new.items crowd.new.members.items }
+    ensures gone { HaveGoneOn hand.old.marks.time (length seats.new.items) seats.new.items }
+    ensures asks { AskNothing (length seats.new.items) seats.new.items }
+    ensures idle { IsIdle hand.new.batch }
 {
     for _ in 0..MOST_TURNS {
-        go_each(crowd, seats);
-        if !is_called(seats, marks, alarms) {
+        go_free(crowd, seats, hand);
+        if !is_called(seats, hand, calls.alarms) {
             return;
         }
-        take_turn(rt, pause, alarms, crowd, seats, marks);
+        take_turn(rt, pause, calls, crowd, seats, hand);
     }
+    put_down(rt, calls.alarms, crowd, hand);
 }
 
-/// Parts with a member whose session is over or has failed.
-fn part_with<S: Stream>(crowd: &mut Crowd<'_, S>, i: usize, number: u32) -> Option<Gone<S>>
+/// Has a member leave, at any moment.
+fn put_out<S: Stream>(crowd: &mut Crowd<'_, S>, i: usize, number: u32, events: usize) -> Gone<S>
     requires crowd { IsCrowd S.remaining S.contents crowd.old }
     requires within { i < vec_len crowd.old.members }
     requires follows { Follows crowd.old.first.value crowd.old.pass }
-    ensures crowd { IsCrowd S.remaining S.contents crowd.new }
-    ensures gone { IfSome result (HasGone S.remaining S.contents crowd.old.first.value) }
-    ensures number { IfSome result (λ gone. gone.number ≡ number) }
-    ensures less { OnSome result (vec_len crowd.new.members + 1 ≡ vec_len crowd.old.members) }
-    ensures none { IfNone result (vec_len crowd.new.members ≡ vec_len crowd.old.members) }
-    ensures same { (crowd.new.pass ≡ crowd.old.pass) × (crowd.new.first ≡ crowd.old.first)
-        × (crowd.new.gate ≡ crowd.old.gate) }
+    ensures without { IsWithout S.remaining S.contents crowd.old crowd.new i }
+    ensures gone { HasParted S.remaining S.contents crowd.old.first.value result }
+    ensures number { result.number ≡ number }
+    ensures fault { (d : Member S) → result.fault ≡ (get_or crowd.old.members.items i d).fault }
 {
-    match crowd.step(i) {
-        Next::Over => Some(Gone {
-            number,
-            stream: crowd.finish(i),
-            fault: None,
-        }),
-        Next::Failed(_) => {
-            let departed = crowd.leave(i);
-            Some(Gone {
-                number,
-                stream: departed.stream,
-                fault: departed.fault,
-            })
-        }
-        Next::Goes | Next::Blocked | Next::Asks => None,
+    let lines = crowd.lines(i);
+    let departed = crowd.leave(i);
+    Gone {
+        number,
+        stream: departed.stream,
+        fault: departed.fault,
+        lines,
+        events,
     }
 }
 
-/// The place of a connection that is to leave.
-fn leaver(seats: &[Seat]) -> Option<usize>
-    ensures { IfSome result (λ i. i < length seats.now) }
+/// Parts with a member whose session is over or has failed, by its seat.
+fn part_with<S: Stream>(crowd: &mut Crowd<'_, S>, i: usize, seat: Seat, events: usize) -> Gone<S>
+    requires crowd { IsCrowd S.remaining S.contents crowd.old }
+    requires within { i < vec_len crowd.old.members }
+    requires follows { Follows crowd.old.first.value crowd.old.pass }
+    requires leaves { leaves seat.stage ≡ true }
+    requires stands { (e : Member S) → StandsAt seat.stage (get_or crowd.old.members.items i e) }
+    ensures without { IsWithout S.remaining S.contents crowd.old crowd.new i }
+    ensures gone { HasGone S.remaining S.contents crowd.old.first.value result }
+    ensures number { result.number ≡ seat.number }
 {
-    seats.iter().position(|seat| seat.stage == Stage::Leaves)
+    match seat.stage {
+        Stage::Over => Gone {
+            number: seat.number,
+            fault: None,
+            lines: crowd.lines(i),
+            events,
+            stream: crowd.finish(i),
+        },
+        Stage::Failed => put_out(crowd, i, seat.number, events),
+        Stage::Goes | Stage::Asks | Stage::Waits | Stage::Sleeps => unreachable!(),
+    }
+}
+
+/// The greeting of a connection, if its session is open and was not told of.
+fn greeting_of<S: Stream>(crowd: &Crowd<'_, S>, seats: &[Seat], i: usize) -> Option<Greeting>
+    requires seated { length seats.now ≡ vec_len crowd.now.members }
+    requires within { i < length seats.now }
+    ensures some { IfSome result (λ greeting. IsUntold greeting seats.now (sessions_of crowd.now.members.items) i) }
+    ensures none { IfNone result ((d : Seat) (e : Option (ℕ × ℕ)) → (get_or seats.now i d).greeted ≡ false
+        → get_or (sessions_of crowd.now.members.items) i e ≡ None) }
+{
+    let seat = seats[i];
+    if seat.greeted {
+        return None;
+    }
+    let (session, subject) = crowd.greeted(i)?;
+    Some(Greeting {
+        number: seat.number,
+        session,
+        subject,
+    })
+}
+
+/// The next connection whose session is open and was not told of yet, and its place.
+fn next_greeted<S: Stream>(crowd: &Crowd<'_, S>, seats: &[Seat]) -> Option<(usize, Greeting)>
+    requires seated { length seats.now ≡ vec_len crowd.now.members }
+    ensures within { IfSome result (λ found. found.0 < length seats.now) }
+    ensures some { IfSome result (λ found.
+        IsUntold found.1 seats.now (sessions_of crowd.now.members.items) found.0) }
+    ensures none { IfNone result (AreTold (length seats.now) seats.now (sessions_of crowd.now.members.items)) }
+{
+    for i in 0..seats.len() {
+        if let Some(greeting) = greeting_of(crowd, seats, i) {
+            return Some((i, greeting));
+        }
+    }
+    None
+}
+
+/// Notes what time it is.
+#[tactic(auto, using(crate::proofs::Going::rest_noted))]
+fn note_time(hand: &mut Option<Hand>, time: u64)
+    ensures rest { (first pass : PassView) → IsAtRest first pass hand.old → IsAtRest first pass hand.new }
+    ensures opened { (seats : List Seat) → IsOpen hand.old seats → IsOpen hand.new seats }
+    ensures time { HasTime time hand.new }
+{
+    if let Some(hand) = hand {
+        hand.marks.time = time;
+    }
+}
+
+/// A round, if there is anybody. Then workers are called, if there may be something for them.
+#[tactic(auto, using(crate::proofs::Going::rest_turned))]
+fn go_in<S: Stream, P: Pause, R: Wait>(
+    rt: &R,
+    pause: &P,
+    calls: Calls<'_>,
+    crowd: &mut Crowd<'_, S>,
+    seats: &mut Vec<Seat>,
+    hand: &mut Option<Hand>,
+)
+    requires seats { HaveSeats S.remaining S.contents crowd.old seats.old.items }
+    requires rest { IsAtRest crowd.old.first.value crowd.old.pass hand.old }
+    requires opened { IsOpen hand.old seats.old.items }
+    ensures seats { HaveSeats S.remaining S.contents crowd.new seats.new.items }
+    ensures rest { IsAtRest crowd.new.first.value crowd.new.pass hand.new }
+    ensures opened { IsOpen hand.new seats.new.items }
+    ensures first { crowd.new.first ≡ crowd.old.first }
+    ensures who { who seats.new.items ≡ who seats.old.items }
+    ensures gone { (time : ℕ) → HasTime time hand.old → HaveGoneOn time (length seats.new.items) seats.new.items }
+    ensures asks { AskNothing (length seats.new.items) seats.new.items }
+{
+    match hand {
+        Some(hand) => {
+            go_round(rt, pause, calls, crowd, seats, hand);
+            call_workers(rt, calls.bell, &mut hand.marks);
+        }
+        None => {}
+    }
+}
+
+/// Makes room for what a thread has in hand, if there is none yet. An error comes where memory was refused.
+fn open_hand(alloc: Global, hand: &mut Option<Hand>) -> Result<(), AllocError>
+    ensures rest { (first pass : PassView) → IsAtRest first pass hand.old → IsAtRest first pass hand.new }
+    ensures opened { (seats : List Seat) → IsOpen hand.old seats → IsOpen hand.new seats }
+    ensures ok { OnOk result ((seats : List Seat) → IsOpen hand.new seats) }
+{
+    if hand.is_some() {
+        return Ok(());
+    }
+    let made = Hand::new(alloc)?;
+    match hand.replace(made) {
+        Some(hand) => hand.close(),
+        None => {}
+    }
+    Ok(())
 }
 
 impl<'a, S: Stream> Rounds<'a, S> {
-    ghost use Rattle.std.specs.Prelude.{◌++◌, ◌∷◌, [], OnOk, OnErr};
+    ghost use Rattle.std.specs.Prelude.{[], OnErr};
+    ghost use Rattle.bl_worker.specs.Turns.{Settles};
     ghost use Rattle.bl_serve.specs.Courses.{SpeaksForItsOwn};
-    ghost use Rattle.bl_rounds.specs.Leaving.{IsOneOut};
+    ghost use Rattle.bl_rounds.specs.Seats.{HasJoined, IsGreeted, IsOneOut, IsSame, IsSilent, waits};
 
     /// A thread with no connection.
     pub fn new(alloc: Global, gate: &'a Gate, pass: Pass) -> Rounds<'a, S>
         requires { pass.gate ≡ gate.now }
-        ensures pass { result.0 ≡ pass }
-        ensures none { result.1 ≡ [] }
+        ensures pass { result.first ≡ pass }
+        ensures none { (result.seats ≡ []) × (result.sessions ≡ []) }
+        ensures time { result.time ≡ 0 }
     {
         Rounds {
+            alloc,
             crowd: Crowd::new(alloc, gate, pass),
             seats: Vec::new(alloc),
-            marks: Marks {
-                seen: 0,
-                fresh: false,
-                busy: false,
-            },
+            hand: None,
+            time: 0,
         }
     }
 
     /// How many connections it has.
     pub fn len(&self) -> usize
-        ensures { result ≡ length self.now.1 }
+        ensures { result ≡ length self.now.seats }
     {
         self.seats.len()
     }
@@ -365,97 +582,146 @@ impl<'a, S: Stream> Rounds<'a, S> {
     pub fn join(&mut self, stream: S, number: u32) -> Result<(), AllocError>
     where
         S: Drop,
-        ensures pass { self.new.0 ≡ self.old.0 }
-        ensures ok { OnOk result (self.new.1 ≡ self.old.1 ++ number ∷ []) }
-        ensures err { OnErr result (self.new.1 ≡ self.old.1) }
+        ensures ok { OnOk result (HasJoined number self.old self.new) }
+        ensures err { OnErr result (self.new ≡ self.old) }
     {
+        open_hand(self.alloc, &mut self.hand)?;
         self.seats.reserve(1)?;
         self.crowd.join(stream)?;
-        let stage = Stage::Goes;
-        self.seats.push_reserved(Seat { number, stage });
+        self.seats.push_reserved(Seat {
+            number,
+            stage: Stage::Goes,
+            moved: None,
+            greeted: false,
+        });
         Ok(())
     }
 
     /// Has the connection with this number go on, if it waits for its stream.
     pub fn stir(&mut self, number: u32)
-        ensures { self.new ≡ self.old }
+        ensures same { IsSame self.old self.new }
+        ensures sessions { self.new.sessions ≡ self.old.sessions }
     {
         if let Ok(i) = self.seats.binary_search_by_key(&number, |seat| seat.number) {
-            if self.seats[i].stage == Stage::Sleeps {
-                put_stage(&mut self.seats, i, Stage::Goes);
-            }
+            stir_one(&mut self.seats, i);
         }
     }
 
     /// Has each connection go on that waits for its stream.
     pub fn stir_all(&mut self)
-        ensures { self.new ≡ self.old }
+        ensures same { IsSame self.old self.new }
+        ensures sessions { self.new.sessions ≡ self.old.sessions }
+        ensures awake { All (λ (seat : Seat). seat.stage ≢ Stage.Sleeps) self.new.seats }
     {
         stir_each(&mut self.seats);
     }
 
-    /// One round: each connection goes on as far as it can, and what they ask is done at the gate. Then workers are
-    /// called, if there may be something for them.
-    pub fn round<P: Pause, R: Wait>(&mut self, rt: &R, pause: &P, calls: Calls<'_>)
-        ensures { self.new ≡ self.old }
+    /// Says what time it is, in milliseconds since any moment. It is to be said before each round.
+    pub fn set_time(&mut self, now: u64)
+        ensures { self.new ≡ record self.old { time = now } }
     {
-        go_round(
-            rt,
-            pause,
-            calls.alarms,
-            &mut self.crowd,
-            &mut self.seats,
-            &mut self.marks,
-        );
-        if self.marks.fresh {
-            calls.bell.ring_work(rt);
-            self.marks.fresh = false;
-        }
+        self.time = now;
     }
 
-    /// Whether the thread may sleep: nobody can go on. Where somebody waits, the next end wakes the thread with this
-    /// number.
-    pub fn may_sleep(&self, alarms: &Alarms, thread: usize) -> bool {
-        if has(&self.seats, Stage::Goes) || has(&self.seats, Stage::Asks) {
+    /// One round: each connection goes on as far as it can, and what they ask is done at the gate. Then workers are
+    /// called, if there may be something for them. After it nobody asks for a turn at the gate, and who may go on at
+    /// once has gone on in this round.
+    pub fn round<P: Pause, R: Wait>(&mut self, rt: &R, pause: &P, calls: Calls<'_>)
+        ensures same { IsSame self.old self.new }
+        ensures gone { All (HasGoneOn self.old.time) self.new.seats }
+        ensures asks { All (λ (seat : Seat). seat.stage ≢ Stage.Asks) self.new.seats }
+    {
+        note_time(&mut self.hand, self.time);
+        go_in(
+            rt,
+            pause,
+            calls,
+            &mut self.crowd,
+            &mut self.seats,
+            &mut self.hand,
+        );
+    }
+
+    /// Whether the thread may sleep: each connection waits, for its stream or for entries to end. Where somebody waits
+    /// for an entry, the next end wakes the thread with this number.
+    pub fn may_sleep(&self, alarms: &Alarms, thread: usize) -> bool
+        ensures { result ≡ true → All (λ (seat : Seat). waits seat.stage ≡ true) self.now.seats }
+    {
+        if !all_wait(&self.seats) {
             return false;
         }
-        !has(&self.seats, Stage::Waits) || (!self.marks.busy && alarms.arm(thread, self.marks.seen))
+        match &self.hand {
+            Some(hand) if has(&self.seats, Stage::Waits) => {
+                !hand.marks.left && alarms.arm(thread, hand.marks.seen)
+            }
+            Some(_) | None => true,
+        }
     }
 
     /// The next connection that leaves, with its stream, for its owner to shut; none where none does. What went
     /// through the stream is a transcript, or begins one where a fault ended the session.
     pub fn leave(&mut self) -> Option<Gone<S>>
-        ensures pass { self.new.0 ≡ self.old.0 }
-        ensures gone { IfSome result (HasGone S.remaining S.contents self.old.0) }
-        ensures number { IfSome result (λ gone. IsOneOut gone.number self.old.1 self.new.1) }
-        ensures none { IfNone result (self.new.1 ≡ self.old.1) }
+        ensures gone { IfSome result (HasGone S.remaining S.contents self.old.first) }
+        ensures out { IfSome result (λ gone.
+            IsOneOut (λ (seat : Seat). leaves seat.stage ≡ true) gone.number self.old self.new) }
+        ensures none { IfNone result (All (λ (seat : Seat). leaves seat.stage ≡ false) self.old.seats
+            × (self.new ≡ self.old)) }
     {
         let i = leaver(&self.seats)?;
-        match part_with(&mut self.crowd, i, self.seats[i].number) {
-            Some(gone) => {
-                let _seat = self.seats.remove(i);
-                Some(gone)
-            }
-            None => {
-                put_stage(&mut self.seats, i, Stage::Goes);
-                None
-            }
-        }
+        let events = self.hand.as_ref().map_or(0, |hand| hand.marks.events);
+        let gone = part_with(&mut self.crowd, i, self.seats[i], events);
+        let _left = self.seats.remove(i);
+        Some(gone)
     }
 
-    /// Gives the pass back. Streams of connections that have not left are dropped.
+    /// The next connection that waits for its stream, by which nothing was sent or taken for so many milliseconds or
+    /// longer; none where there is none. It leaves, with its stream, for its owner to shut; what it has asked of the
+    /// machine stays there. What went through the stream begins a transcript.
+    pub fn leave_idle(&mut self, most: u64) -> Option<Gone<S>>
+        ensures gone { IfSome result (HasParted S.remaining S.contents self.old.first) }
+        ensures out { IfSome result (λ gone. IsOneOut (IsSilent self.old.time most) gone.number self.old self.new) }
+        ensures none { IfNone result (All (λ (seat : Seat). ¬ IsSilent self.old.time most seat) self.old.seats
+            × (self.new ≡ self.old)) }
+    {
+        let i = silent_one(&self.seats, self.time, most)?;
+        let events = self.hand.as_ref().map_or(0, |hand| hand.marks.events);
+        let gone = put_out(&mut self.crowd, i, self.seats[i].number, events);
+        let _seat = self.seats.remove(i);
+        Some(gone)
+    }
+
+    /// The next connection whose session is open and was not told of yet; none where there is none.
+    pub fn greeting(&mut self) -> Option<Greeting>
+        ensures some { IfSome result (λ greeting. IsGreeted greeting self.old self.new) }
+        ensures none { IfNone result (AreTold (length self.old.seats) self.old.seats self.old.sessions
+            × (self.new ≡ self.old)) }
+    {
+        let (i, greeting) = next_greeted(&self.crowd, &self.seats)?;
+        put_told(&mut self.seats, i);
+        Some(greeting)
+    }
+
+    /// Gives the pass back. All that it has started has ended. Streams of connections that have not left are dropped.
+    #[tactic(auto, using(crate::proofs::Going::rest_follows, crate::proofs::Going::rest_settles))]
     pub fn close(self) -> Pass
     where
         S: Drop,
-        ensures follows { Follows self.entry.0 result }
-        ensures speaks { SpeaksForItsOwn self.entry.0 result }
+        ensures follows { Follows self.entry.first result }
+        ensures speaks { SpeaksForItsOwn self.entry.first result }
+        ensures settles { Settles self.entry.first result }
     {
         let Rounds {
+            alloc: _,
             crowd,
             seats,
-            marks: _,
+            hand,
+            time: _,
         } = self;
         drop(seats);
+        match hand {
+            Some(hand) => hand.close(),
+            None => {}
+        }
         crowd.close()
     }
 }

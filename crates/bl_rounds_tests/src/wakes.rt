@@ -1,12 +1,13 @@
 //! What wakes a thread that waits.
 use bl_connection::stream::{Answer, Stream};
+use bl_entrance::socket::Socket;
+use bl_entrance::watch::{Found, Watch, found_by};
 use bl_rounds::alarm::Alarms;
-use bl_rounds::socket::Socket;
-use bl_rounds::watch::{Found, Watch, found_by};
 use std::io;
 use std::io::Write;
 use std::net::{Ipv4Addr, Net, Shutdown, TcpListener, TcpStream};
 use std::process::Abort;
+use std::time::Duration;
 
 /// What came where no fault may come.
 fn right<T>(rt: &impl Abort, outcome: io::Result<T>) -> T {
@@ -27,7 +28,8 @@ fn listen<R: Net<Listener = TcpListener, Stream = TcpStream> + Abort>(rt: &R) ->
 #[test]
 fn an_end_wakes_who_waits_for_one(rt: HostRuntime) {
     let listener = listen(&rt);
-    let mut watch = right(&rt, Watch::new(&rt, rt.alloc(), &listener));
+    let mut watch = right(&rt, Watch::new(&rt, rt.alloc()));
+    right(&rt, watch.watch_listener(&listener));
     let mut alarms = Alarms::new(rt.alloc());
     assert!(rt; alarms.add(right(&rt, watch.waker())).is_ok());
     let none = alarms.ends();
@@ -38,10 +40,10 @@ fn an_end_wakes_who_waits_for_one(rt: HostRuntime) {
     assert!(rt; alarms.arm(0, one));
     assert!(rt; !alarms.arm(1, one));
     alarms.ring_end();
-    assert!(rt; watch.wait(true));
+    assert!(rt; watch.wait(None));
     assert!(rt; watch.events().count() == 1);
     assert!(rt; watch.events().all(|event| found_by(event) == Found::Call));
-    assert!(rt; watch.wait(false));
+    assert!(rt; watch.wait(Some(Duration::ZERO)));
     assert!(rt; watch.events().next().is_none());
 }
 
@@ -51,17 +53,18 @@ fn an_end_wakes_who_waits_for_one(rt: HostRuntime) {
 fn a_socket_is_found_ready(rt: HostRuntime) {
     let listener = listen(&rt);
     let at = right(&rt, listener.local_addr());
-    let mut watch = right(&rt, Watch::new(&rt, rt.alloc(), &listener));
+    let mut watch = right(&rt, Watch::new(&rt, rt.alloc()));
+    right(&rt, watch.watch_listener(&listener));
     let mut peer = right(&rt, TcpStream::connect(&rt, at));
-    assert!(rt; watch.wait(true));
+    assert!(rt; watch.wait(None));
     let (stream, _) = right(&rt, listener.accept());
     let mut socket = right(&rt, Socket::new(stream));
     let mut room = [0u8; 8];
     assert!(rt; socket.read(&mut room) == Answer::WouldBlock);
-    assert!(rt; watch.add(&mut socket, 7).is_ok());
+    assert!(rt; socket.watch(&watch, 7).is_ok());
     assert!(rt; peer.write_all(b"hello").is_ok());
     assert!(rt; peer.shutdown(Shutdown::Write).is_ok());
-    assert!(rt; watch.wait(true));
+    assert!(rt; watch.wait(None));
     assert!(rt;
         watch
             .events()

@@ -2,8 +2,7 @@ use Rattle.std.proofs.Common.{◌∙◌, ap, sym, subst, vec_len}
 use Rattle.bl_gate.specs.Gates.{Follows, PassView}
 use Rattle.bl_gate.proofs.Following.{follows_then}
 use Rattle.bl_worker.specs.Batches.{IsBatch, loans_in}
-use Rattle.bl_worker.specs.Hands.{HasMade}
-use Rattle.bl_worker.specs.Turns.{AddsTurnsAlone, IsNoLine}
+use Rattle.bl_worker.specs.Turns.{IsNoLine}
 use Rattle.bl_worker.proofs.Adding.{adds_itself}
 use Rattle.bl_worker.proofs.Batching.{batch_enters, batch_goes}
 use Rattle.bl_crowd.specs.Crowds.{AreMetOn, HasBegunLast}
@@ -35,8 +34,8 @@ meet_on_all-requires-clause-members g c =
     let begins = crowd_goes R W names self.first.value p t items here (record { follows = c.turn-turn.ensures.follows; trail = c.turn-turn.ensures.trail }) (adds_itself (λ _. IsNoLine) p t c.turn-turn.ensures.own) in
     (names, self.first.value, crowd_turns R W names self.first.value t c.end_all-some.new.turn items begins e.follows e.trail e.adds)
 
-pub returns-then-some-clause-crowd : goal.returns-then-some-clause-crowd
-returns-then-some-clause-crowd g c =
+pub returns-clause-crowd : goal.returns-clause-crowd
+returns-clause-crowd g c =
     let self = c.args.self.now in
     let R = g.S.Stream.remaining in
     let W = g.S.Stream.contents in
@@ -59,8 +58,8 @@ returns-then-some-clause-crowd g c =
           (crowd_turns R W names self.first.value v w c.meet_on_all.new.members.items met b.follows b.trail b.adds);
     }
 
-pub returns-then-some-clause-batch : goal.returns-then-some-clause-batch
-returns-then-some-clause-batch g c since batch =
+pub returns-clause-batch : goal.returns-clause-batch
+returns-clause-batch g c since batch =
     let loans = loans_in c.args.batch.now in
     let u = c.end_all-some.new.turn in
     let v = c.meet_on_all.new.turn in
@@ -73,8 +72,8 @@ returns-then-some-clause-batch g c since batch =
     (c.begin_ready-begun.ensures.batch since
     (batch_goes since u v (loans_in c.end_all-some.new.self) some met.goes.follows met.goes.trail met.hand.settles met.hand.in_hand))
 
-pub returns-then-some-clause-met : goal.returns-then-some-clause-met
-returns-then-some-clause-met g c =
+pub returns-clause-met : goal.returns-clause-met
+returns-clause-met g c =
     let self = c.args.self.now in
     let R = g.S.Stream.remaining in
     let W = g.S.Stream.contents in
@@ -94,78 +93,8 @@ returns-then-some-clause-met g c =
     (are_met_on R W names self.first.value self.pass u v w items new (vec_len c.meet_on_all.new.members) (follows_then self.pass t u from e.follows) c.begin_ready-begun.ensures.follows
     (c.meet_on_all.ensures.met names self.first.value (crowd_turns R W names self.first.value t u items begins e.follows e.trail e.adds)))
 
-pub returns-then-some-clause-begun : goal.returns-then-some-clause-begun
-returns-then-some-clause-begun g c =
-    let self = c.args.self.now in
-    let t = c.turn-turn.result in
-    let u = c.end_all-some.new.turn in
-    let v = c.meet_on_all.new.turn in
-    let b = c.begin_ready-begun.ensures in
-    let from = subst (λ (x : PassView). Follows x t) c.take.ensures.taken c.turn-turn.ensures.follows in
-    subst (λ (x : PassView). HasBegunLast c.begin_ready-begun.result.0 self.pass x) (sym c.leave.ensures)
-    (v, follows_then self.pass u v (follows_then self.pass t u from c.end_all-some.ensures.follows) c.meet_on_all.ensures.goes.follows, b.adds, b.made)
-
-pub returns-else-some-clause-crowd : goal.returns-else-some-clause-crowd
-returns-else-some-clause-crowd g c =
-    let self = c.args.self.now in
-    let R = g.S.Stream.remaining in
-    let W = g.S.Stream.contents in
-    let names = self.gate.now.base.setup.names in
-    let items = self.members.items in
-    let p = c.take.result in
-    let t = c.turn-turn.result in
-    let u = c.end_all-some.new.turn in
-    let v = c.meet_on_all.new.turn in
-    let w = c.begin_ready-begun.new.turn in
-    let e = c.end_all-some.ensures in
-    let b = c.begin_ready-begun.ensures in
-    let here = subst (λ (x : PassView). AreMembers R W names self.first.value x items) (sym c.take.ensures.taken) c.requires.crowd.members in
-    let begins = crowd_goes R W names self.first.value p t items here (record { follows = c.turn-turn.ensures.follows; trail = c.turn-turn.ensures.trail }) (adds_itself (λ _. IsNoLine) p t c.turn-turn.ensures.own) in
-    let met = c.meet_on_all.ensures.members names self.first.value (crowd_turns R W names self.first.value t u items begins e.follows e.trail e.adds) in
-    record {
-      gate_is = ap (λ (x : PassView). x.gate) c.leave.ensures
-          ∙ (b.follows.gate ∙ (c.meet_on_all.ensures.goes.follows.gate ∙ (e.follows.gate ∙ (c.turn-turn.ensures.follows.gate ∙ (ap (λ (x : PassView). x.gate) c.take.ensures.taken ∙ c.requires.crowd.gate_is)))));
-      members = subst (λ (x : PassView). AreMembers R W names self.first.value x c.meet_on_all.new.members.items) (sym c.leave.ensures)
-          (crowd_turns R W names self.first.value v w c.meet_on_all.new.members.items met b.follows b.trail b.adds);
-    }
-
-pub returns-else-some-clause-batch : goal.returns-else-some-clause-batch
-returns-else-some-clause-batch g c since batch =
-    let loans = loans_in c.args.batch.now in
-    let u = c.end_all-some.new.turn in
-    let v = c.meet_on_all.new.turn in
-    let some = c.end_all-some.ensures.batch since
-    (batch_enters since c.take.result c.turn-turn.result loans (subst (λ (x : PassView). IsBatch since x loans) (sym c.take.ensures.taken) batch) c.turn-turn.ensures.follows c.turn-turn.ensures.trail
-    c.turn-turn.ensures.own c.turn-turn.ensures.in_hand)
-    in
-    let met = c.meet_on_all.ensures in
-    subst (λ (x : PassView). IsBatch since x (loans_in c.begin_ready-begun.new.self)) (sym c.leave.ensures)
-    (c.begin_ready-begun.ensures.batch since
-    (batch_goes since u v (loans_in c.end_all-some.new.self) some met.goes.follows met.goes.trail met.hand.settles met.hand.in_hand))
-
-pub returns-else-some-clause-met : goal.returns-else-some-clause-met
-returns-else-some-clause-met g c =
-    let self = c.args.self.now in
-    let R = g.S.Stream.remaining in
-    let W = g.S.Stream.contents in
-    let names = self.gate.now.base.setup.names in
-    let items = self.members.items in
-    let new = c.meet_on_all.new.members.items in
-    let p = c.take.result in
-    let t = c.turn-turn.result in
-    let u = c.end_all-some.new.turn in
-    let v = c.meet_on_all.new.turn in
-    let w = c.begin_ready-begun.new.turn in
-    let e = c.end_all-some.ensures in
-    let here = subst (λ (x : PassView). AreMembers R W names self.first.value x items) (sym c.take.ensures.taken) c.requires.crowd.members in
-    let begins = crowd_goes R W names self.first.value p t items here (record { follows = c.turn-turn.ensures.follows; trail = c.turn-turn.ensures.trail }) (adds_itself (λ _. IsNoLine) p t c.turn-turn.ensures.own) in
-    let from = subst (λ (x : PassView). Follows x t) c.take.ensures.taken c.turn-turn.ensures.follows in
-    subst (λ (x : PassView). AreMetOn R W names self.first.value self.pass x items new (vec_len c.meet_on_all.new.members)) (sym c.leave.ensures)
-    (are_met_on R W names self.first.value self.pass u v w items new (vec_len c.meet_on_all.new.members) (follows_then self.pass t u from e.follows) c.begin_ready-begun.ensures.follows
-    (c.meet_on_all.ensures.met names self.first.value (crowd_turns R W names self.first.value t u items begins e.follows e.trail e.adds)))
-
-pub returns-else-some-clause-begun : goal.returns-else-some-clause-begun
-returns-else-some-clause-begun g c =
+pub returns-clause-begun : goal.returns-clause-begun
+returns-clause-begun g c =
     let self = c.args.self.now in
     let t = c.turn-turn.result in
     let u = c.end_all-some.new.turn in

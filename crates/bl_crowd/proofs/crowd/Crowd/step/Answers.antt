@@ -1,5 +1,5 @@
 use Rattle.std.proofs.Common.{◌<◌, ◌∙◌, ap, length, refl, sym, subst}
-use Rattle.std.proofs.lemmas.List.{get_or_read_under}
+use Rattle.std.proofs.lemmas.List.{get_or-set_other, get_or_read_under}
 use Rattle.std.proofs.lemmas.List.Elements.{All-get_or}
 use Rattle.bl_crowd.specs.Ways.{IsMember}
 use Rattle.bl_crowd.specs.declared.member.Member.{Member}
@@ -41,3 +41,6 @@ returns-clause-crowd g c =
       gate_is = c.requires.crowd.gate_is;
       members = one_steps R W names self.first.value self.pass items c.args.i c.step.new.self low (c.step.ensures.way names self.first.value self.pass here) same c.requires.crowd.members;
     }
+
+pub returns-clause-others : goal.returns-clause-others
+returns-clause-others g c j d other = get_or-set_other c.args.self.now.members.items c.args.i j c.step.new.self d other

@@ -1,9 +1,9 @@
-use Rattle.std.proofs.Common.{rules, ◌≡◌, ◌≢◌, ◌∙◌, arith, inl, refl, sym, subst, Ok, true, false}
+use Rattle.std.proofs.Common.{rules, ◌≡◌, ◌≢◌, ◌∙◌, arith, inl, refl, sym, Ok, true}
 use Rattle.bl_gate.proofs.Following.{follows_itself}
 use Rattle.bl_crowd.specs.declared.member.Met.TheVariants as mets
 use Rattle.bl_crowd.proofs.Crowding.{met_by}
 use Rattle.bl_crowd.proofs.Passing.{home_on}
-use Rattle.bl_crowd.proofs.Rounding.{HasGoneOn, cause, gone_hears, gone_itself, gone_meets, heard_all, heard_failed, heard_nothing, heard_unmet, met_by_line, met_since, one_nearer}
+use Rattle.bl_crowd.proofs.Rounding.{cause, gone_hears, gone_itself, gone_meets, heard_all, heard_unmet, met_by_line, met_since, one_nearer}
 use Rattle.bl_crowd.proofs.member.Member.meet_on.Goals as goal
 
 pub loop-heard-init : goal.loop-heard-init

@@ -1,13 +1,23 @@
-use Rattle.std.proofs.Common.{◌<◌, ℕ, List, ap, length, subst, sym}
-use Rattle.bl_gate.specs.Gates.{PassView}
-use Rattle.bl_rounds.specs.declared.rounds.Seat.{Seat}
-use Rattle.bl_rounds.proofs.Seating.{one_out}
+use Rattle.std.proofs.Common.{◌≡◌, ◌<◌, List, get_or, length, subst, true}
+use Rattle.bl_rounds.specs.Seats.{leaves}
+use Rattle.bl_rounds.specs.declared.seat.Seat.{Seat}
+use Rattle.bl_rounds.proofs.Tables.{one_out, seated_out}
 use Rattle.bl_rounds.proofs.rounds.Rounds.leave.Goals as goal
 
-pub returns-in-Some-clause-number : goal.returns-in-Some-clause-number
-returns-in-Some-clause-number g c =
+pub invariant_of-self : goal.invariant_of-self
+invariant_of-self g c =
     let i = c.in_ok-i.i in
     let seats = c.self.inside.seats.items in
-    let lt = subst (λ (xs : List Seat). i < length xs) c.deref.ensures.value c.in_ok-i.ensures in
-    one_out seats c.remove-seat.new.self.items i c.in-Some.gone.number c.index.result.now c.args.self.now.1 (sym (ap (λ (p : PassView × List ℕ). p.1) c.self.view_is)) lt c.index.ensures
-    c.in-Some.ensures.number c.remove-seat.ensures.items
+    let low = subst (λ (xs : List Seat). i < length xs) c.deref.ensures.value c.in_ok-i.ensures.some.0 in
+    seated_out g.S.Stream.remaining g.S.Stream.contents c.self.inside.crowd c.part_with-gone.new.crowd seats c.remove-left.new.self.items c.self.inside.hand i low c.remove-left.ensures.items
+    c.part_with-gone.ensures.without c.self.invariant
+
+pub returns-clause-out : goal.returns-clause-out
+returns-clause-out g c =
+    let i = c.in_ok-i.i in
+    let seats = c.self.inside.seats.items in
+    let low = subst (λ (xs : List Seat). i < length xs) c.deref.ensures.value c.in_ok-i.ensures.some.0 in
+    one_out g.S.Stream.remaining g.S.Stream.contents (λ seat. leaves seat.stage ≡ true) c.part_with-gone.result.number c.self.inside.crowd c.part_with-gone.new.crowd seats c.remove-left.new.self.items
+    c.self.inside.time c.args.self.now i c.index.result.now c.self.view_is low c.index.ensures c.part_with-gone.ensures.number
+    (subst (λ (xs : List Seat). (d : Seat) → leaves (get_or xs i d).stage ≡ true) c.deref.ensures.value c.in_ok-i.ensures.some.1)
+    c.part_with-gone.ensures.without c.remove-left.ensures.items
