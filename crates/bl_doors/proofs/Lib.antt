@@ -1,0 +1,3 @@
+mod Speaking
+mod Giving
+mod Placing

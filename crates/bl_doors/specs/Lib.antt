@@ -1,0 +1,4 @@
+pub mod Greetings
+pub mod Places
+pub mod Doors
+pub mod Telling

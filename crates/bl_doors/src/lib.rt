@@ -1,0 +1,18 @@
+//! Doors: a Unix socket for each subject, in a folder of its own. Who may enter that folder speaks for that subject.
+//!
+//!     greeted    a stream that gives a greeting first
+//!     place      where the doors of a folder stand, and for whom
+//!     fault      why no doors are opened
+//!     door       a door, and what comes in by it
+//!     doors      the doors of a folder, opened and taken away
+//!     told       what is said of doors on standard error
+//!     laws       what is heard of who comes by a door
+#![tactic(auto)]
+
+pub mod door;
+pub mod doors;
+pub mod fault;
+pub mod greeted;
+pub mod laws;
+pub mod place;
+pub mod told;

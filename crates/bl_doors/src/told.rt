@@ -1,0 +1,47 @@
+//! What is said of doors on standard error. Nothing of it needs memory, and once an end has failed nothing more is
+//! said there.
+ghost use Rattle.std.specs.Prelude.{◌≡◌, ◌⊎◌};
+ghost use Rattle.bl_wire.specs.Watch.{Puts, end_state};
+ghost use Rattle.bl_doors.specs.Telling.{fault_line, status_of, warning_line};
+
+use crate::fault::DoorFault;
+use bl_wire::put::{put, put_out};
+use bl_wire::watched::Watched;
+use std::io::Write;
+
+/// Tells a fault, on a line of its own, and gives the status of a run that it ends.
+pub fn tell_fault<E: Write>(errors: &mut Watched<E>, fault: &DoorFault) -> u8
+    ensures puts { Puts (fault_line fault.now) (end_state E.contents errors.old) (end_state E.contents errors.new) }
+    ensures status { result ≡ status_of fault.now }
+    ensures range { (result ≡ 3) ⊎ (result ≡ 4) }
+{
+    match fault {
+        DoorFault::NoDoor => {
+            put_out(errors, b"no door\n");
+            3
+        }
+        DoorFault::NoSuchDoor(name) => {
+            put(errors, b"no such door ");
+            put(errors, name.as_bytes());
+            put_out(errors, b"\n");
+            3
+        }
+        DoorFault::CannotListen => {
+            put_out(errors, b"cannot listen\n");
+            3
+        }
+        DoorFault::Memory => {
+            put_out(errors, b"no memory\n");
+            4
+        }
+    }
+}
+
+/// Warns of the door of this name, whose folder everybody may enter, on a line of its own.
+pub fn tell_wide<E: Write>(errors: &mut Watched<E>, name: &str)
+    ensures { Puts (warning_line name.now) (end_state E.contents errors.old) (end_state E.contents errors.new) }
+{
+    put(errors, b"door ");
+    put(errors, name.as_bytes());
+    put_out(errors, b": open to all\n");
+}
