@@ -12,7 +12,7 @@ ghost use Rattle.bl_trail.specs.TrueText.{HasNoLf};
 ghost use Rattle.bl_audit.specs.Comes.{Comes, HasLine, NumbersFit, lines_from, words_later};
 ghost use Rattle.bl_audit.specs.Written.{AppendsPart, WroteLine, is_write};
 
-use crate::plain::{answer_is_plain, work_text};
+use crate::plain::{answer_is_plain, set_work};
 use bl_core::machine::Core;
 use bl_core::session::SessionNo;
 use bl_hall::event::Event;
@@ -21,7 +21,8 @@ use bl_wire::put::put;
 use bl_wire::watched::Watched;
 use bl_work::answer::Answer;
 use bl_work::work::Work;
-use std::alloc::{AllocError, Global};
+use bl_write::write::Text;
+use std::alloc::AllocError;
 use std::io::Write;
 
 /// Why a trail was not written whole.
@@ -29,7 +30,7 @@ use std::io::Write;
 pub enum TrailFault {
     /// The writer failed.
     Write,
-    /// A growth was refused: the text of one line's work is kept while it is written.
+    /// A growth was refused: the text of one line's work at a time is kept while it is written.
     Memory,
 }
 
@@ -62,7 +63,7 @@ fn start_words(answer: Option<&Answer>) -> Words
 /// Writes the text of the next line of a session, which is the first one at or after a place, and answers the place after it. An
 /// error comes only where a growth is refused, before anything is written.
 fn put_next_line<W: Write>(
-    alloc: Global,
+    text: &mut Text,
     writer: &mut Watched<W>,
     core: &Core,
     at: u32,
@@ -81,8 +82,8 @@ fn put_next_line<W: Write>(
     let Some((n, work)) = line_from(core, at) else {
         unreachable!()
     };
-    let text = work_text(alloc, core.names(), work)?;
-    put_line(writer, session.number(), ordinal, &text);
+    set_work(text, core.names(), work)?;
+    put_line(writer, session.number(), ordinal, text.bytes());
     Ok(n + 1)
 }
 
@@ -112,7 +113,7 @@ fn numbers_fit(event: &Event)
 /// Writes the text of an event without its LF, and answers the place after the last line that was written. An error comes only
 /// where a growth is refused, before anything is written.
 fn put_text<W: Write>(
-    alloc: Global,
+    text: &mut Text,
     writer: &mut Watched<W>,
     core: &Core,
     at: u32,
@@ -133,7 +134,7 @@ fn put_text<W: Write>(
             Ok(at)
         }
         Event::Line { session, ordinal } => {
-            put_next_line(alloc, writer, core, at, *session, *ordinal)
+            put_next_line(text, writer, core, at, *session, *ordinal)
         }
         Event::Start(n) => {
             put_start(writer, names, *n, &start_words(core.answer(*n)));
@@ -157,7 +158,7 @@ fn put_text<W: Write>(
 /// Writes the line of an event, and answers the place after the last line of a session that was written. At a fault a first part
 /// of it was written.
 pub(crate) fn put_event<W: Write>(
-    alloc: Global,
+    text: &mut Text,
     writer: &mut Watched<W>,
     core: &Core,
     at: u32,
@@ -172,7 +173,7 @@ pub(crate) fn put_event<W: Write>(
     ensures fine { OnOk result (writer.new.failed ≡ false) }
     ensures fault { IfErr result (λ fault. writer.new.failed ≡ is_write fault) }
 {
-    let Ok(next) = put_text(alloc, writer, core, at, event) else {
+    let Ok(next) = put_text(text, writer, core, at, event) else {
         return Err(TrailFault::Memory);
     };
     if put(writer, b"\n") {

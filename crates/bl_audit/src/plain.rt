@@ -1,5 +1,5 @@
 //! That the texts of which a line is made have no LF.
-ghost use Rattle.std.specs.Prelude.{◌≡◌, IfOk};
+ghost use Rattle.std.specs.Prelude.{◌≡◌, OnOk};
 ghost use Rattle.bl_work.specs.declared.answer.Answer.TheVariants.{Done};
 ghost use Rattle.bl_work.specs.declared.asked.Line.TheVariants as asked;
 ghost use Rattle.bl_work.specs.Readable.{IsReadable};
@@ -9,12 +9,11 @@ ghost use Rattle.bl_write.specs.CanonicalLine.{canonical_line};
 ghost use Rattle.bl_trail.specs.TrueText.{HasNoLf};
 
 use bl_work::answer::{Answer, Outputs};
-use bl_work::asked::Line;
 use bl_work::names::Names;
 use bl_work::work::Work;
-use bl_write::canonical::lines_have_no_lf;
-use bl_write::write::write_line;
-use std::alloc::{AllocError, Global};
+use bl_write::canonical::{canonical_works_read_again, lines_have_no_lf};
+use bl_write::write::Text;
+use std::alloc::AllocError;
 
 /// What was shown has no LF: it is looked at for the proof alone.
 fn outputs_are_plain(names: &Names, outputs: &Outputs)
@@ -41,13 +40,16 @@ pub(crate) fn answer_is_plain(names: &Names, answer: &Answer)
     }
 }
 
-/// The canonical text of a work that some text reads as. An error comes only where a growth is refused.
-pub(crate) fn work_text(alloc: Global, names: &Names, work: &Work) -> Result<Vec<u8>, AllocError>
+/// Writes the canonical text of a work that some text reads as, in place of what was written before. An error comes only where a
+/// growth is refused.
+pub(crate) fn set_work(text: &mut Text, names: &Names, work: &Work) -> Result<(), AllocError>
     requires { IsReadable names.now work.now }
-    ensures text { IfOk result (λ text. text.items ≡ canonical_line names.now (asked.Work work.now)) }
-    ensures plain { IfOk result (λ text. HasNoLf text.items) }
+    ensures text { OnOk result (text.new.bytes ≡ canonical_line names.now (asked.Work work.now)) }
+    ensures plain { OnOk result (HasNoLf text.new.bytes) }
 {
     lines_have_no_lf();
-    let line = Line::Work(work.share()?);
-    write_line(alloc, names, &line)
+    canonical_works_read_again();
+    // asked for the proof alone: the names are a server's
+    let _scheme = names.scheme();
+    text.set_work(names, work)
 }

@@ -17,6 +17,7 @@ use bl_trail::text::put_head;
 use bl_trail::verdict::true_texts_are_accepted;
 use bl_wire::put::put_out;
 use bl_wire::watched::Watched;
+use bl_write::write::Text;
 use std::alloc::Global;
 use std::io::Write;
 
@@ -44,9 +45,11 @@ pub fn write_lines<W: Write>(
 {
     let core = hall.core();
     let trail = hall.trail();
+    // the text of one line's work, after another
+    let mut text = Text::new(alloc);
     let mut place = bookmark.place;
     for event in &trail[bookmark.written..] {
-        place = put_event(alloc, writer, core, place, event)?;
+        place = put_event(&mut text, writer, core, place, event)?;
     }
     *bookmark = Bookmark {
         written: trail.len(),

@@ -1,6 +1,6 @@
 //! A file of the system as a device.
 ghost use Rattle.std.specs.Prelude.{◌≡◌, ◌≢◌, false, true};
-ghost use Rattle.std.specs.Option.{ForSome};
+ghost use Rattle.std.specs.Option.{ForSome, IfSome};
 ghost use Rattle.bl_disk.specs.File.{all_kept, seen};
 ghost use Rattle.bl_disk.specs.declared.device.DeviceError.TheVariants.{Memory};
 ghost use Rattle.bl_file.specs.Standing.{stand_now};
@@ -56,6 +56,16 @@ impl<F> SystemFile<F> {
             unread: Some(bytes),
             failed: false,
             stand,
+        }
+    }
+
+    /// The bytes that it had when it was opened; `None` once they were read or the file has changed.
+    pub fn found(&self) -> Option<&[u8]>
+        ensures { IfSome result (λ bytes. bytes.now ≡ seen (stand_now self.now.stand)) }
+    {
+        match &self.unread {
+            Some(bytes) => Some(bytes.as_slice()),
+            None => None,
         }
     }
 

@@ -28,11 +28,7 @@ pub(crate) fn let_go(parts: UnrunParts) {
         index: _,
         grants,
     } = parts;
-    let mut returned = grants.close();
-    while let Some(back) = returned.pop() {
-        let _content = back.into_content();
-    }
-    returned.destroy_empty();
+    grants.give_up();
 }
 
 impl Drop for Unfinished {

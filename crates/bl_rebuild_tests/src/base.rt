@@ -1,4 +1,4 @@
-//! The setups of the worked examples, and what is rebuilt over them.
+//! The setups of the worked examples, and what is written and rebuilt over them.
 ghost use Rattle.std.specs.Prelude.{◌≡◌, Ok};
 
 use bl_audit::trail::write_trail;

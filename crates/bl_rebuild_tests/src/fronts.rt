@@ -1,8 +1,6 @@
 //! Each front of a trail, and how its run goes on.
 use crate::base::{assert_rebuilt, assert_trail, base, right};
-use bl_core::machine::Started;
-use bl_eval::evaluate::eval;
-use bl_eval::lent::Lent;
+use crate::halls::{finish, start};
 use bl_hall::hall::Hall;
 use bl_rebuild::rebuild::{Rebuilt, rebuild};
 use bl_rebuild::unfinished::Unfinished;
@@ -14,7 +12,8 @@ use std::test::Fail;
 /// The head of the trail.
 const HEAD: &str = "trail 2\nlimit 10000\n";
 
-/// Its events, each with how many entries run after it. ann's first line spawns a reader; bob reads his note beside them, and is lost.
+/// Its events, each with how many entries run after it. ann's first line spawns a reader; bob reads his note beside
+/// them, and is lost.
 const EVENTS: [(&str, usize); 13] = [
     ("open ann\n", 0),
     ("open bob\n", 0),
@@ -74,17 +73,6 @@ fn each_front(rt: HostRuntime) -> Result<(), Fail> {
     passed
 }
 
-/// Evaluates an entry again, and ends it.
-fn finish<R: AllocGlobal + Abort>(rt: &R, hall: &mut Hall, lent: Lent) {
-    match eval(rt.alloc(), lent) {
-        Ok(done) => match hall.finish(done) {
-            Ok(()) => {}
-            Err(_foreign) => panic!(rt; "foreign"),
-        },
-        Err(_unrun) => panic!(rt; "no memory"),
-    }
-}
-
 /// A trail of which two entries run at the end.
 const BEGUN: &str = "trail 2\nlimit 10000\nopen ann\nopen bob\n\
 line 0 1 when write memo do add memo\"a\";show memo;end\n\
@@ -105,9 +93,9 @@ fn go_on<R: AllocGlobal + Abort>(rt: &R, hall: &mut Hall, running: Vec<Unfinishe
     for unfinished in running {
         finish(rt, hall, unfinished.into_lent());
     }
-    match right(rt, hall.start(2)) {
-        Started::Run(lent) => finish(rt, hall, lent),
-        Started::Denied(_) | Started::RuleDone => panic!(rt; "it does not run"),
+    match start(rt, hall, 2) {
+        Some(lent) => finish(rt, hall, lent),
+        None => panic!(rt; "it does not run"),
     }
 }
 

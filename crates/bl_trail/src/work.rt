@@ -8,7 +8,7 @@ use bl_work::asked::{Line, LineFault};
 use bl_work::names::Names;
 use bl_work::work::Work;
 use bl_write::canonical::canonical_works_read_again;
-use bl_write::write::write_line;
+use bl_write::matching::is_text_of;
 use std::alloc::{AllocError, Global};
 
 /// The work whose canonical text this is: `None` for a text that reads as no work, and for one that is not the canonical text of
@@ -28,12 +28,13 @@ pub fn work_of(alloc: Global, names: &Names, text: &[u8]) -> Result<Option<Work>
         Err(LineFault::Memory) => return Err(AllocError),
         Err(_) => return Ok(None),
     };
-    let canonical = write_line(alloc, names, &line)?;
-    if !same_bytes(&canonical, text) {
-        return Ok(None);
-    }
     match line {
-        Line::Work(work) => Ok(Some(work)),
+        Line::Work(work) => {
+            if !is_text_of(names, &work, text) {
+                return Ok(None);
+            }
+            Ok(Some(work))
+        }
         Line::Hello(_) => Ok(None),
         Line::Wait => Ok(None),
     }

@@ -1,19 +1,11 @@
 //! The texts of trails.
-use super::base::{admit, finish, hall_for, right, run, start};
-use bl_audit::trail::write_trail;
+use crate::base::{right, text_of};
+use crate::halls::{admit, finish, hall_for, run, start};
 use bl_hall::hall::Hall;
 use bl_replay::replay::replay;
 use bl_trail::verdict::Verdict;
-use bl_wire::watched::Watched;
 use std::alloc::AllocGlobal;
 use std::process::Abort;
-
-/// The text of a hall's trail.
-fn text_of<R: AllocGlobal + Abort>(rt: &R, hall: &Hall) -> Vec<u8> {
-    let mut text = Watched::new(Vec::new(rt.alloc()));
-    right(rt, write_trail(rt.alloc(), hall, &mut text));
-    text.into_inner()
-}
 
 /// Asserts the text of a hall's trail, and that it is accepted with its number of events.
 fn assert_trail<R: AllocGlobal + Abort>(rt: &R, hall: &Hall, events: u64, wanted: &str) {
@@ -69,7 +61,8 @@ start 0 run\nend 0 done\nstart 1 run\nend 1 done\nstart 2 run\nend 2 done \"m1ab
     drop(hall);
 }
 
-/// What was said at each start is told from what the core knows at the end: a denial, a rule, what has ended, and what runs still.
+/// What was said at each start is told from what the core knows at the end: a denial, a rule, what has ended, and what
+/// runs still.
 #[test]
 fn starts_are_told_as_they_were(rt: HostRuntime) {
     let mut hall = hall_for(&rt, 7, &[0, 1]);

@@ -1,5 +1,6 @@
 //! What is written where the writer fails, or where a growth is refused.
-use super::base::{admit, base_text, hall_for, run};
+use crate::base::base_or_none;
+use crate::halls::{admit, hall_for, run};
 use bl_audit::trail::{TrailFault, write_trail};
 use bl_core::machine::Started;
 use bl_core::refusal::StartFault;
@@ -10,7 +11,6 @@ use bl_hall::hall::Hall;
 use bl_policy::id::SubjectId;
 use bl_read::line::read_line;
 use bl_replay::replay::replay;
-use bl_setup::reader::read_setup;
 use bl_trail::verdict::Verdict;
 use bl_wire::watched::Watched;
 use bl_work::asked::Line;
@@ -104,8 +104,7 @@ fn admits(hall: &mut Hall, alloc: Global, text: &[u8]) -> bool {
 
 /// A hall in which `ann` is to read the memo; none where a growth is refused before.
 fn hall_of_one(alloc: Global) -> Option<Hall> {
-    let setup = read_setup(alloc, base_text()).ok()?;
-    let mut hall = Hall::new(alloc, setup, 10_000).ok()?;
+    let mut hall = Hall::new(alloc, base_or_none(alloc)?, 10_000).ok()?;
     let _session = hall.open(SubjectId::new(0));
     if admits(&mut hall, alloc, b"when read memo do show memo; end") {
         Some(hall)
@@ -115,8 +114,9 @@ fn hall_of_one(alloc: Global) -> Option<Hall> {
     }
 }
 
-/// It passes with ample memory, and with any one of its growths refused, one in each run (`rt try --test --fail-alloc N`): there is
-/// no hall then, or its entry is lost, or the trail is not written, or it is and a replay accepts it or wants memory.
+/// It passes with ample memory, and with any one of its growths refused, one in each run
+/// (`rt try --test --fail-alloc N`): there is no hall then, or its entry is lost, or the trail is not written, or it is
+/// and a replay accepts it or wants memory.
 #[test]
 fn starved_at_its_trail(rt: HostRuntime) {
     let alloc = rt.alloc();

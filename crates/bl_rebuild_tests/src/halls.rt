@@ -1,6 +1,7 @@
 //! Halls over the base setup.
-ghost use Rattle.std.specs.Prelude.{◌≡◌, ◌≤◌, Ok};
+ghost use Rattle.std.specs.Prelude.{◌≤◌};
 
+use crate::base::{base, right};
 use bl_core::machine::Started;
 use bl_core::session::SessionNo;
 use bl_eval::evaluate::eval;
@@ -8,50 +9,16 @@ use bl_eval::lent::Lent;
 use bl_hall::hall::Hall;
 use bl_policy::id::SubjectId;
 use bl_read::line::read_line;
-use bl_setup::reader::read_setup;
 use bl_work::asked::Line;
 use std::alloc::AllocGlobal;
 use std::process::Abort;
 
-/// The base setup.
-const BASE: &[u8] = b"ranks u c s t\n\
-categories nato crypto\n\
-subject ann greatest s{nato} current s{nato}\n\
-subject bob greatest s{nato} current u\n\
-subject cat greatest s{crypto} current s{crypto}\n\
-subject root greatest t{nato,crypto} current u trusted admin\n\
-document memo s{nato} \"m1\"\n\
-document note u \"n1\"\n\
-document log t{nato,crypto} \"\"\n\
-allow ann memo r w\n\
-allow ann note r w\n\
-allow ann log r a\n\
-allow bob memo r w a\n\
-allow bob note r w\n\
-allow cat memo r\n\
-allow root note r w\n";
-
-/// The text of the base setup.
-pub(super) fn base_text<'a>() -> &'a [u8] {
-    BASE
-}
-
-/// What came where no fault may come.
-pub(super) fn right<T, E>(rt: &impl Abort, outcome: Result<T, E>) -> T
-    ensures { outcome ≡ Ok result }
-{
-    match outcome {
-        Ok(value) => value,
-        Err(_fault) => panic!(rt; "a fault"),
-    }
-}
-
 /// A hall over the base setup, under this limit, in which a session is open for each of these subjects.
-pub(super) fn hall_for<R: AllocGlobal + Abort>(rt: &R, limit: u32, subjects: &[u16]) -> Hall
+pub fn hall_for<R: AllocGlobal + Abort>(rt: &R, limit: u32, subjects: &[u16]) -> Hall
     requires some { 1 ≤ limit }
     requires most { limit ≤ 100000 }
 {
-    let setup = right(rt, read_setup(rt.alloc(), BASE));
+    let setup = right(rt, base(rt.alloc()));
     let mut hall = right(rt, Hall::new(rt.alloc(), setup, limit));
     for subject in subjects {
         right(rt, hall.open(SubjectId::new(*subject)));
@@ -60,7 +27,7 @@ pub(super) fn hall_for<R: AllocGlobal + Abort>(rt: &R, limit: u32, subjects: &[u
 }
 
 /// Admits a line of a session.
-pub(super) fn admit<R: AllocGlobal + Abort>(
+pub fn admit<R: AllocGlobal + Abort>(
     rt: &R,
     hall: &mut Hall,
     session: u32,
@@ -74,7 +41,7 @@ pub(super) fn admit<R: AllocGlobal + Abort>(
 }
 
 /// Starts an entry, and gives what it was lent where it runs.
-pub(super) fn start<R: AllocGlobal + Abort>(rt: &R, hall: &mut Hall, n: u32) -> Option<Lent> {
+pub fn start<R: AllocGlobal + Abort>(rt: &R, hall: &mut Hall, n: u32) -> Option<Lent> {
     match right(rt, hall.start(n)) {
         Started::Run(lent) => Some(lent),
         Started::Denied(_) | Started::RuleDone => None,
@@ -82,7 +49,7 @@ pub(super) fn start<R: AllocGlobal + Abort>(rt: &R, hall: &mut Hall, n: u32) -> 
 }
 
 /// Ends an entry with what is done of what it was lent.
-pub(super) fn finish<R: AllocGlobal + Abort>(rt: &R, hall: &mut Hall, lent: Lent) {
+pub fn finish<R: AllocGlobal + Abort>(rt: &R, hall: &mut Hall, lent: Lent) {
     match eval(rt.alloc(), lent) {
         Ok(done) => match hall.finish(done) {
             Ok(()) => {}
@@ -93,7 +60,7 @@ pub(super) fn finish<R: AllocGlobal + Abort>(rt: &R, hall: &mut Hall, lent: Lent
 }
 
 /// Starts an entry, and ends it where it runs.
-pub(super) fn run<R: AllocGlobal + Abort>(rt: &R, hall: &mut Hall, n: u32) {
+pub fn run<R: AllocGlobal + Abort>(rt: &R, hall: &mut Hall, n: u32) {
     if let Some(lent) = start(rt, hall, n) {
         finish(rt, hall, lent);
     }

@@ -1,0 +1,4 @@
+pub mod Scanning
+pub mod Standing
+pub mod Rules
+pub mod Asking

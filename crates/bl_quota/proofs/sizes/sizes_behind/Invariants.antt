@@ -1,0 +1,13 @@
+use Rattle.std.proofs.Common.{◌≡◌, ◌-◌, ◌≤◌, length}
+use Rattle.std.specs.Prelude.{sum_by}
+use Rattle.std.specs.List.{range_with_len}
+use Rattle.bl_sizes.specs.Counts.{in_word}
+use Rattle.bl_sizes.specs.Sizes.{size_at}
+use Rattle.bl_quota.proofs.sizes.sizes_behind.Given as goal
+
+-- the places so far are counted
+abbrev pub invariant-loop-n : goal.invariant-loop-n
+invariant-loop-n l = record {
+  bytes : l.bytes ≡ in_word (sum_by (size_at l.core) (range_with_len l.from (l.n - l.from)));
+  few : l.n - l.from ≤ length l.core.order - l.from;
+}

@@ -1,0 +1,9 @@
+pub mod Sums
+pub mod Spending
+pub mod Short
+pub mod Growing
+pub mod Stepping
+pub mod Texts
+pub mod Within
+pub mod Counting
+pub mod Walking
