@@ -2,7 +2,7 @@
 use Rattle.std.proofs.Common.{◌≡◌, refl, ◌∙◌}
 use Rattle.bl_gate.specs.Gates.{PassView, Follows}
 use Rattle.bl_gate.proofs.Trails.{begins_itself, begins_more}
-use Rattle.bl_host.specs.Crews.{Remains}
+use Rattle.bl_host.specs.Threads.{Remains}
 
 pub remains_itself : (p : PassView) → Remains p p
 remains_itself p = record { gate = refl; seen = begins_itself p.seen }

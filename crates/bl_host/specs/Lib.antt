@@ -1,2 +1,3 @@
-pub mod Crews
-pub mod Ends
+pub use Rattle.bl_entrance.specs.Ends
+pub use Rattle.bl_entrance.specs.Arrivals
+pub mod Threads

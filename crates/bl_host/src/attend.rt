@@ -1,42 +1,51 @@
 //! A session thread: it takes connections, and goes round with them.
-ghost use Rattle.std.specs.Prelude.{◌≡◌};
+ghost use Rattle.std.specs.Prelude.{◌≡◌, false};
+ghost use Rattle.std.specs.List.{All};
 ghost use Rattle.bl_gate.specs.Gates.{Follows};
+ghost use Rattle.bl_rounds.specs.Seats.{IsSame, leaves};
 
-use crate::desk::{Desk, Guest, Taken};
-use crate::ended::{Why, why_refused};
-use crate::post::{Post, Share};
+use crate::context::ThreadContext;
 use bl_connection::stream::Stream;
+use bl_doors::greeted::Greeted;
+use bl_entrance::acceptor::{Accepted, Acceptor, Taken};
+use bl_entrance::callers::{Callers, name_of};
+use bl_entrance::ended::{Ending, Why, ended_words, ending_of};
+use bl_entrance::looks::{Looks, now};
+use bl_entrance::socket::Socket;
+use bl_entrance::watch::{Found, Watch, found_by};
 use bl_gate::pass::Pass;
 use bl_keeper::keep::Keep;
 use bl_keeper::stream::KeptStream;
+use bl_log::note::Event;
 use bl_record::fault::JournalFault;
 use bl_rounds::rounds::{Gone, Rounds};
-use bl_rounds::socket::Socket;
-use bl_rounds::watch::{Found, Watch, found_by};
 use bl_wire::fault::SessionFault;
 use bl_worker::pause::Pause;
+use std::io::Write;
 use std::sync::Wait;
+use std::time::{Clock, Duration};
 
 /// How many connections a thread takes before it looks after those that it has.
 const MOST_TAKEN: u32 = 64;
 
 /// The stream of a connection: all is kept before it is written to.
-type Line<'a, K, T> = KeptStream<'a, Socket, K, T>;
+type Line<'a, K, T> = KeptStream<'a, Greeted<Socket>, K, T>;
 
-/// A session thread: its number, where it waits, its connections, whether somebody may wait for it at the desk, and
-/// whether nothing failed that somebody has to be told of.
-#[derive(Drop)]
+/// A session thread: its number, where it waits, its connections and where they came from, how many events the trail
+/// had when it was told that last, when it looks for idle connections, and whether somebody may wait for it at the acceptor.
 struct Attendant<'a, K: Keep, T: Wait> {
     thread: usize,
     watch: Watch,
     rounds: Rounds<'a, Line<'a, K, T>>,
+    callers: Callers,
+    events: usize,
+    looks: Option<Looks>,
     called: bool,
-    fine: bool,
 }
 
 /// Has each connection go on whose socket was found ready, and says whether the thread was called.
 fn stir_found<S: Stream>(rounds: &mut Rounds<'_, S>, watch: &Watch) -> bool
-    ensures { rounds.new ≡ rounds.old }
+    ensures { IsSame rounds.old rounds.new }
 {
     let mut called = false;
     for event in watch.events() {
@@ -48,22 +57,91 @@ fn stir_found<S: Stream>(rounds: &mut Rounds<'_, S>, watch: &Watch) -> bool
     called
 }
 
-impl<'a, K: Keep, T: Wait> Attendant<'a, K, T> {
-    /// Tells that a session ended early.
-    fn tell<P>(&mut self, post: &Post<'a, P, K, T>, desk: &Desk, number: u32, why: Why)
-        ensures { self.new.rounds.0 ≡ self.old.rounds.0 }
+impl<'a, K: Keep, T: Wait + Clock> Attendant<'a, K, T> {
+    /// Notes that a connection has come.
+    fn note_arrival<P, F: Write + Drop>(
+        &mut self,
+        context: &ThreadContext<'a, P, K, T>,
+        acceptor: &Acceptor<'_, F>,
+        accepted: &Accepted<'_>,
+    )
+        ensures { self.new.rounds ≡ self.old.rounds }
     {
-        self.fine &= desk.tell(post.rt, number, why);
+        if acceptor.has_log() {
+            let _ = self
+                .callers
+                .add(context.alloc, accepted.number, &accepted.arrival);
+            let from = self.callers.from(accepted.number);
+            acceptor.note(context.rt, accepted.number, from, Event::Came);
+        }
     }
 
-    /// Takes connections from the listener, some at a time.
-    fn take<P>(&mut self, post: &Post<'a, P, K, T>, desk: &Desk)
-        ensures { self.new.rounds.0 ≡ self.old.rounds.0 }
+    /// Notes which sessions were opened since it was last asked.
+    fn note_greetings<P, F: Write + Drop>(
+        &mut self,
+        context: &ThreadContext<'a, P, K, T>,
+        acceptor: &Acceptor<'_, F>,
+    )
+        ensures { self.new.rounds.first ≡ self.old.rounds.first }
+    {
+        if !acceptor.has_log() {
+            return;
+        }
+        for _ in 0..self.rounds.len() {
+            let Some(greeting) = self.rounds.greeting() else {
+                return;
+            };
+            let event = Event::Greeted {
+                subject: name_of(context.gate.names(), greeting.subject),
+                session: greeting.session,
+            };
+            let from = self.callers.from(greeting.number);
+            acceptor.note(context.rt, greeting.number, from, event);
+        }
+    }
+
+    /// A connection that was given to it is open no more, and there may be room for one that waits at the acceptor: notes
+    /// how it ended after so many lines, and tells of it, if that was early.
+    fn part<P, F: Write + Drop>(
+        &mut self,
+        context: &ThreadContext<'a, P, K, T>,
+        acceptor: &Acceptor<'_, F>,
+        number: u32,
+        lines: u32,
+        ending: Option<Ending>,
+    )
+        ensures { self.new.rounds ≡ self.old.rounds }
+    {
+        if acceptor.has_log() {
+            let event = Event::Ended {
+                lines: u64::from(lines),
+                events: self.events as u64,
+                how: ending
+                    .as_ref()
+                    .map_or("bye", |ending| ended_words(ending.why())),
+            };
+            acceptor.note(context.rt, number, self.callers.from(number), event);
+            self.callers.remove(number);
+        }
+        acceptor.leave(context.rt, self.thread);
+        if let Some(ending) = ending {
+            acceptor.tell(context.rt, ending);
+        }
+        self.called = true;
+    }
+
+    /// Takes connections that have come in, some at a time.
+    fn take<P, F: Write + Drop>(
+        &mut self,
+        context: &ThreadContext<'a, P, K, T>,
+        acceptor: &Acceptor<'_, F>,
+    )
+        ensures { self.new.rounds ≡ self.old.rounds }
     {
         for _ in 0..MOST_TAKEN {
-            match desk.take(post.rt, post.alarms, self.thread) {
-                Taken::Guest => {}
-                Taken::Lost(number, why) => self.tell(post, desk, number, why),
+            match acceptor.take(context.rt, context.alarms, self.thread) {
+                Taken::Accepted => {}
+                Taken::Lost(ending) => acceptor.tell(context.rt, ending),
                 Taken::Nobody => {
                     self.called = false;
                     return;
@@ -73,17 +151,16 @@ impl<'a, K: Keep, T: Wait> Attendant<'a, K, T> {
     }
 
     /// Takes up a connection that it was given.
-    fn seat<P>(&mut self, post: &Post<'a, P, K, T>, guest: Guest) -> Result<(), Why>
-        ensures { self.new.rounds.0 ≡ self.old.rounds.0 }
+    fn seat<P>(
+        &mut self,
+        context: &ThreadContext<'a, P, K, T>,
+        accepted: Accepted<'_>,
+    ) -> Result<(), Why>
+        ensures { self.new.rounds.first ≡ self.old.rounds.first }
     {
-        let Guest { number, stream } = guest;
-        let Ok(mut socket) = Socket::new(stream) else {
-            return Err(Why::Accept);
-        };
-        if self.watch.add(&mut socket, number).is_err() {
-            return Err(Why::Accept);
-        }
-        let line = KeptStream::new(post.rt, post.alloc, post.keep, socket);
+        let Accepted { number, arrival } = accepted;
+        let stream = arrival.seat(context.alloc, &self.watch, number)?;
+        let line = KeptStream::new(context.rt, context.alloc, context.keep, stream);
         match self.rounds.join(line, number) {
             Ok(()) => Ok(()),
             Err(_) => Err(Why::Session(SessionFault::Memory)),
@@ -91,59 +168,117 @@ impl<'a, K: Keep, T: Wait> Attendant<'a, K, T> {
     }
 
     /// Takes up the connections that it was given.
-    fn welcome<P>(&mut self, post: &Post<'a, P, K, T>, desk: &Desk)
-        ensures { self.new.rounds.0 ≡ self.old.rounds.0 }
+    fn welcome<P, F: Write + Drop>(
+        &mut self,
+        context: &ThreadContext<'a, P, K, T>,
+        acceptor: &Acceptor<'_, F>,
+    )
+        ensures { self.new.rounds.first ≡ self.old.rounds.first }
     {
-        for guest in desk.guests(post.rt, post.alloc, self.thread) {
-            let number = guest.number;
-            if let Err(why) = self.seat(post, guest) {
-                desk.leave(post.rt, self.thread);
-                self.tell(post, desk, number, why);
+        for accepted in acceptor.all_accepted(context.rt, context.alloc, self.thread) {
+            let number = accepted.number;
+            self.note_arrival(context, acceptor, &accepted);
+            if let Err(why) = self.seat(context, accepted) {
+                self.part(context, acceptor, number, 0, Some(Ending::new(number, why)));
             }
         }
     }
 
-    /// Sees off a connection that leaves. Its output is ended where its session is over; where nothing more is kept, no
-    /// further connection is taken.
-    fn see_off<P>(&mut self, post: &Post<'a, P, K, T>, desk: &Desk, gone: Gone<Line<'a, K, T>>)
-        ensures { self.new.rounds.0 ≡ self.old.rounds.0 }
+    /// Sees off a connection that leaves, or that was idle for too long. Its output is ended where its session is over;
+    /// where nothing more is kept, no further connection is taken.
+    fn see_off<P, F: Write + Drop>(
+        &mut self,
+        context: &ThreadContext<'a, P, K, T>,
+        acceptor: &Acceptor<'_, F>,
+        gone: Gone<Line<'a, K, T>>,
+        idle: bool,
+    )
+        ensures { self.new.rounds ≡ self.old.rounds }
     {
         let Gone {
             number,
             stream,
             fault,
+            lines,
+            events,
         } = gone;
-        let (socket, refused) = stream.into_parts();
+        self.events = events;
+        let (greeted, refused) = stream.into_parts();
+        let socket = greeted.into_inner();
         if matches!(refused, Some(JournalFault::Device(_))) {
-            desk.close(post.rt, post.alarms);
+            acceptor.close(context.rt, context.alarms);
         }
-        match fault {
-            None => socket.end_output(),
-            Some(fault) => self.tell(post, desk, number, why_refused(fault, refused)),
+        let ending = ending_of(number, idle, fault, refused);
+        if ending.is_none() {
+            socket.end_output();
         }
         drop(socket);
-        desk.leave(post.rt, self.thread);
-        self.called = true;
+        self.part(context, acceptor, number, lines, ending);
     }
 
     /// Sees off all that leave.
-    fn see_all_off<P>(&mut self, post: &Post<'a, P, K, T>, desk: &Desk)
-        ensures { self.new.rounds.0 ≡ self.old.rounds.0 }
+    fn see_all_off<P, F: Write + Drop>(
+        &mut self,
+        context: &ThreadContext<'a, P, K, T>,
+        acceptor: &Acceptor<'_, F>,
+    )
+        ensures pass { self.new.rounds.first ≡ self.old.rounds.first }
+        ensures none { All (λ seat. leaves seat.stage ≡ false) self.new.rounds.seats }
     {
         for _ in 0..self.rounds.len() {
             match self.rounds.leave() {
-                Some(gone) => self.see_off(post, desk, gone),
+                Some(gone) => self.see_off(context, acceptor, gone, false),
                 None => return,
             }
         }
     }
 
-    /// Waits until a socket is ready or the alarm is rung, if nobody can go on before, and notes who can go on.
-    fn wait<P>(&mut self, post: &Post<'a, P, K, T>)
-        ensures { self.new.rounds.0 ≡ self.old.rounds.0 }
+    /// Says what time it is, and sees off all that were idle for too long, if a look is due.
+    fn look<P, F: Write + Drop>(
+        &mut self,
+        context: &ThreadContext<'a, P, K, T>,
+        acceptor: &Acceptor<'_, F>,
+    )
+        ensures { self.new.rounds.first ≡ self.old.rounds.first }
     {
-        let sleeps = !self.called && self.rounds.may_sleep(post.alarms, self.thread);
-        if !self.watch.wait(sleeps) {
+        let Some(looks) = &mut self.looks else {
+            return;
+        };
+        let Some(time) = now(context.rt) else {
+            return;
+        };
+        let (is_due, most) = (looks.is_due(time), looks.most());
+        self.rounds.set_time(time);
+        if !is_due {
+            return;
+        }
+        for _ in 0..self.rounds.len() {
+            match self.rounds.leave_idle(most) {
+                Some(gone) => self.see_off(context, acceptor, gone, true),
+                None => return,
+            }
+        }
+    }
+
+    /// How long it may sleep: until it looks for idle connections, if it does and has one, else for ever.
+    fn sleep(&self) -> Option<Duration> {
+        if self.rounds.len() == 0 {
+            return None;
+        }
+        self.looks.map(|looks| looks.apart())
+    }
+
+    /// Waits until a socket is ready or the alarm is rung, if nobody can go on before, and notes who can go on.
+    fn wait<P>(&mut self, context: &ThreadContext<'a, P, K, T>)
+        ensures { self.new.rounds.first ≡ self.old.rounds.first }
+    {
+        let sleeps = !self.called && self.rounds.may_sleep(context.alarms, self.thread);
+        let most = if sleeps {
+            self.sleep()
+        } else {
+            Some(Duration::ZERO)
+        };
+        if !self.watch.wait(most) {
             // where the system cannot be asked, each is tried
             self.called = true;
             self.rounds.stir_all();
@@ -153,37 +288,82 @@ impl<'a, K: Keep, T: Wait> Attendant<'a, K, T> {
     }
 }
 
-impl<'a, P: Pause, K: Keep, T: Wait> Post<'a, P, K, T> {
-    /// Serves the connections that it is given at the desk, all at once, until all were taken or no further one is, and
+impl<'a, P: Pause, K: Keep, T: Wait + Clock> ThreadContext<'a, P, K, T> {
+    /// Serves the connections that it is given at the acceptor, all at once, until all were taken or no further one is, and
     /// those that it has are over.
-    pub(crate) fn attend(&self, pass: Pass, desk: &Desk, thread: usize, watch: Watch) -> Share
+    pub(crate) fn attend<F: Write + Drop>(
+        &self,
+        pass: Pass,
+        acceptor: &Acceptor<'_, F>,
+        thread: usize,
+        watch: Watch,
+    ) -> Pass
         requires { pass.gate ≡ self.now.gate.now }
-        ensures { Follows pass result.pass }
+        ensures { Follows pass result }
     {
         let mut attendant = Attendant {
             thread,
             watch,
             rounds: Rounds::new(self.alloc, self.gate, pass),
+            callers: Callers::new(self.alloc),
+            events: 0,
+            looks: acceptor.looks(),
             called: true,
-            fine: true,
         };
-        desk.come(self.rt, thread);
+        acceptor.come(self.rt, thread);
         for _ in self.rt.forever() {
+            attendant.look(self, acceptor);
             if attendant.called {
-                attendant.take(self, desk);
-                attendant.welcome(self, desk);
+                attendant.take(self, acceptor);
+                attendant.welcome(self, acceptor);
             }
             attendant.rounds.round(self.rt, self.pause, self.calls());
-            attendant.see_all_off(self, desk);
-            if attendant.rounds.len() == 0 && desk.is_over(self.rt, thread) {
+            attendant.note_greetings(self, acceptor);
+            attendant.see_all_off(self, acceptor);
+            if attendant.rounds.len() == 0 && acceptor.is_over(self.rt, thread) {
                 break;
             }
             attendant.wait(self);
         }
-        let Attendant { rounds, fine, .. } = attendant;
-        Share {
-            pass: rounds.close(),
-            fine,
-        }
+        let Attendant {
+            thread: _,
+            watch,
+            rounds,
+            callers,
+            events: _,
+            looks: _,
+            called: _,
+        } = attendant;
+        drop((watch, callers));
+        rounds.close()
+    }
+}
+
+/// An acceptor, whatever it lends from: a closure that has one whose type names what it lends from keeps no contract.
+pub(crate) trait SessionAcceptor {
+    ghost use Rattle.std.specs.Prelude.{◌≡◌};
+    ghost use Rattle.bl_gate.specs.Gates.{Follows};
+
+    /// Serves at it, as `ThreadContext::attend` says.
+    fn be_attended<P: Pause, K: Keep, T: Wait + Clock>(
+        &self,
+        context: &ThreadContext<'_, P, K, T>,
+        pass: Pass,
+        thread: usize,
+        watch: Watch,
+    ) -> Pass
+        requires { pass.gate ≡ context.now.gate.now }
+        ensures { Follows pass result };
+}
+
+impl<F: Write + Drop> SessionAcceptor for Acceptor<'_, F> {
+    fn be_attended<P: Pause, K: Keep, T: Wait + Clock>(
+        &self,
+        context: &ThreadContext<'_, P, K, T>,
+        pass: Pass,
+        thread: usize,
+        watch: Watch,
+    ) -> Pass {
+        context.attend(pass, self, thread, watch)
     }
 }

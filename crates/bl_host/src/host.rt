@@ -1,38 +1,43 @@
-//! Sessions over TCP in threads, round one gate.
+//! Sessions over sockets in threads, round one gate.
 ghost use Rattle.std.specs.Prelude.{◌≡◌, ◌<◌, ◌≤◌, true, vec_len};
 ghost use Rattle.bl_gate.specs.Gates.{Follows};
 
-use crate::crew::{join_crew, start_sessions, start_workers};
-use crate::desk::Desk;
-use crate::ended::Ended;
-use crate::options::Options;
-use crate::post::Post;
+use crate::attend::SessionAcceptor;
+use crate::context::ThreadContext;
+use crate::threads::{join_threads, start_sessions, start_workers};
+use bl_entrance::acceptor::{Acceptor, SharedLog};
+use bl_entrance::ended::Ended;
+use bl_entrance::entrance::Entrance;
+use bl_entrance::options::Options;
+use bl_entrance::watch::Watch;
 use bl_gate::gate::Gate;
 use bl_gate::pass::Pass;
 use bl_keeper::keep::Keep;
 use bl_rounds::alarm::Alarms;
-use bl_rounds::watch::Watch;
 use bl_worker::bell::Bell;
 use bl_worker::pause::Pause;
 use crossbeam_channel::Receiver;
 use std::alloc::Global;
-use std::net::{Net, TcpListener, TcpStream};
+use std::io::Write;
+use std::net::Net;
 use std::sync::Wait;
 use std::thread::{self, Scope, Threads};
+use std::time::Clock;
 
 /// What sessions are hosted with: the runtime, where memory comes from, the gate, what each turn does between a start
-/// and an end, and what keeps all that has happened before a session is told.
+/// and an end, what keeps all that has happened before a session is told, and the log of connections, if there is one.
 #[derive(Drop)]
-pub struct Site<'a, P, K, T> {
+pub struct HostContext<'a, P, K, T, F: Write + Drop> {
     pub rt: &'a T,
     pub alloc: Global,
     pub gate: &'a Gate,
     pub pause: &'a P,
     pub keep: &'a K,
+    pub log: Option<&'a SharedLog<F>>,
 }
 
-/// What is left after all sessions: the pass; those that ended early, in the order in which that was told; whether each thread was
-/// started, so that all parts of the pass are back; and whether something could not be told, out of memory.
+/// What is left after all sessions: the pass; those that ended early, in the order in which that was told; whether each
+/// thread was started, so that all parts of the pass are back; and whether something could not be told, out of memory.
 #[derive(Drop)]
 pub struct Hosted {
     pub pass: Pass,
@@ -41,45 +46,45 @@ pub struct Hosted {
     pub memory: bool,
 }
 
-/// What is left after the threads: the pass, whether each was started, and whether each session that ended early was told.
+/// What is left after the threads: the pass, and whether each was started.
 #[derive(Drop)]
-struct Crews {
+struct Joined {
     pass: Pass,
     whole: bool,
-    told: bool,
 }
 
 /// Starts the workers and then the session threads, and waits for them: for the sessions first, then closes the bell.
-fn run_crews<
+fn run_threads<
     's,
     E,
     P: Pause + Sync,
     K: Keep + Sync,
-    T: Threads + Net<Listener = TcpListener, Stream = TcpStream> + Wait + Sync,
+    T: Threads + Wait + Clock + Sync,
+    D: SessionAcceptor + Sync,
 >(
     scope: &Scope<'s, E>,
-    post: &Post<'s, P, K, T>,
+    context: &ThreadContext<'s, P, K, T>,
     mut pass: Pass,
-    desk: &'s Desk,
+    acceptor: &'s D,
     watches: Vec<Watch>,
     options: Options,
-) -> Crews
-    requires gate { pass.gate ≡ post.now.gate.now }
+) -> Joined
+    requires gate { pass.gate ≡ context.now.gate.now }
     requires parts { 32 < pass.parts }
     requires watches { vec_len watches ≤ options.session_threads }
     ensures gate { result.pass.gate ≡ pass.gate }
     ensures whole { result.whole ≡ true → Follows pass result.pass }
 {
-    let mut workers = Vec::new(post.alloc);
-    let mut sessions = Vec::new(post.alloc);
+    let mut workers = Vec::new(context.alloc);
+    let mut sessions = Vec::new(context.alloc);
     let all = watches.len() == options.session_threads as usize;
-    let whole = start_workers(scope, post, &mut pass, options.workers, &mut workers)
-        && start_sessions(scope, post, &mut pass, watches, desk, &mut sessions)
+    let whole = start_workers(scope, context, &mut pass, options.workers, &mut workers)
+        && start_sessions(scope, context, &mut pass, watches, acceptor, &mut sessions)
         && all;
-    let told = join_crew(post.rt, post.gate, &mut pass, sessions);
-    post.bell.close(post.rt);
-    let _ = join_crew(post.rt, post.gate, &mut pass, workers);
-    Crews { pass, whole, told }
+    join_threads(context.rt, context.gate, &mut pass, sessions);
+    context.bell.close(context.rt);
+    join_threads(context.rt, context.gate, &mut pass, workers);
+    Joined { pass, whole }
 }
 
 /// What session threads wait at, and how they are woken.
@@ -89,20 +94,23 @@ struct Waiting {
     alarms: Alarms,
 }
 
-/// A place to wait for each of so many session threads, or fewer where memory or a descriptor was refused. The listener
+/// A place to wait for each of so many session threads, or fewer where memory or a descriptor was refused. The entrance
 /// waits no more.
-fn make_watches<R: Net>(rt: &R, alloc: Global, listener: &TcpListener, count: u32) -> Waiting
+fn make_watches<R: Net>(rt: &R, alloc: Global, entrance: &Entrance, count: u32) -> Waiting
     ensures { vec_len result.watches ≤ count }
 {
     let mut watches = Vec::new(alloc);
     let mut alarms = Alarms::new(alloc);
-    if listener.set_nonblocking(true).is_err() {
+    if entrance.wait_no_more().is_err() {
         return Waiting { watches, alarms };
     }
     for _ in 0..count {
-        let Ok(watch) = Watch::new(rt, alloc, listener) else {
+        let Ok(watch) = Watch::new(rt, alloc) else {
             break;
         };
+        if entrance.be_watched(&watch).is_err() {
+            break;
+        }
         let Ok(waker) = watch.waker() else {
             break;
         };
@@ -117,27 +125,35 @@ fn make_watches<R: Net>(rt: &R, alloc: Global, listener: &TcpListener, count: u3
 fn run_scope<
     P: Pause + Sync,
     K: Keep + Sync,
-    T: Threads + Net<Listener = TcpListener, Stream = TcpStream> + Wait + Sync,
->(site: &Site<'_, P, K, T>, desk: &Desk, waiting: Waiting, pass: Pass, options: Options) -> Crews
-    requires gate { pass.gate ≡ site.now.gate.now }
+    T: Threads + Wait + Clock + Sync,
+    F: Write + Drop,
+    D: SessionAcceptor + Sync,
+>(
+    host_context: &HostContext<'_, P, K, T, F>,
+    acceptor: &D,
+    waiting: Waiting,
+    pass: Pass,
+    options: Options,
+) -> Joined
+    requires gate { pass.gate ≡ host_context.now.gate.now }
     requires parts { 32 < pass.parts }
     requires watches { vec_len waiting.watches ≤ options.session_threads }
     ensures gate { result.pass.gate ≡ pass.gate }
     ensures whole { result.whole ≡ true → Follows pass result.pass }
 {
-    let (rt, alloc, gate) = (site.rt, site.alloc, site.gate);
-    let (pause, keep) = (site.pause, site.keep);
+    let (rt, alloc, gate) = (host_context.rt, host_context.alloc, host_context.gate);
+    let (pause, keep) = (host_context.pause, host_context.keep);
     let Waiting { watches, alarms } = waiting;
     let bell = &Bell::new();
     let alarms = &alarms;
     thread::scope(
         thread::scope_env(),
         rt,
-        |scope| -> Crews
+        |scope| -> Joined
             requires { (pass.gate ≡ gate.now) × (32 < pass.parts) × (vec_len watches ≤ options.session_threads) }
             ensures { (result.pass.gate ≡ pass.gate) × (result.whole ≡ true → Follows pass result.pass) }
         {
-            let post = Post {
+            let context = ThreadContext {
                 rt,
                 alloc,
                 gate,
@@ -146,7 +162,7 @@ fn run_scope<
                 pause,
                 keep,
             };
-            run_crews(scope, &post, pass, desk, watches, options)
+            run_threads(scope, &context, pass, acceptor, watches, options)
         },
     )
 }
@@ -162,7 +178,7 @@ fn gather<T: Wait>(rt: &T, alloc: Global, told: &Receiver<Ended, Global>) -> (Ve
     (ended, true)
 }
 
-/// Takes so many connections at the listener, serves their sessions on so many threads, each of which has many at once,
+/// Takes so many connections at the entrance, serves their sessions on so many threads, each of which has many at once,
 /// and lets the workers run what is ready meanwhile. It returns once all sessions are over, all threads have ended, and
 /// what was admitted has run.
 ///
@@ -172,16 +188,32 @@ fn gather<T: Wait>(rt: &T, alloc: Global, told: &Receiver<Ended, Global>) -> (Ve
 pub fn host<
     P: Pause + Sync,
     K: Keep + Sync,
-    T: Threads + Net<Listener = TcpListener, Stream = TcpStream> + Wait + Sync,
->(site: &Site<'_, P, K, T>, listener: TcpListener, pass: Pass, options: Options) -> Hosted
-    requires gate { pass.gate ≡ site.now.gate.now }
+    T: Threads + Net + Wait + Clock + Sync,
+    F: Write + Drop + Send,
+>(
+    host_context: &HostContext<'_, P, K, T, F>,
+    entrance: &Entrance,
+    pass: Pass,
+    options: Options,
+) -> Hosted
+    requires gate { pass.gate ≡ host_context.now.gate.now }
     requires parts { 32 < pass.parts }
     ensures gate { result.pass.gate ≡ pass.gate }
     ensures whole { result.whole ≡ true → Follows pass result.pass }
 {
-    let waiting = make_watches(site.rt, site.alloc, &listener, options.session_threads);
-    let Ok((desk, told)) = Desk::new(site.alloc, listener, options) else {
-        let ended = Vec::new(site.alloc);
+    let waiting = make_watches(
+        host_context.rt,
+        host_context.alloc,
+        entrance,
+        options.session_threads,
+    );
+    let Ok((acceptor, told)) = Acceptor::new(
+        host_context.alloc,
+        entrance,
+        host_context.log,
+        options,
+    ) else {
+        let ended = Vec::new(host_context.alloc);
         return Hosted {
             pass,
             ended,
@@ -189,12 +221,12 @@ pub fn host<
             memory: false,
         };
     };
-    let crews = run_scope(site, &desk, waiting, pass, options);
-    let (ended, heard) = gather(site.rt, site.alloc, &told);
+    let joined = run_scope(host_context, &acceptor, waiting, pass, options);
+    let (ended, heard) = gather(host_context.rt, host_context.alloc, &told);
     Hosted {
-        pass: crews.pass,
+        pass: joined.pass,
         ended,
-        whole: crews.whole,
-        memory: !crews.told || !heard,
+        whole: joined.whole,
+        memory: !heard || acceptor.has_untold(host_context.rt),
     }
 }

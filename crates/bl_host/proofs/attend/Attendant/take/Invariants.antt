@@ -1,6 +1,6 @@
 use Rattle.std.proofs.Common.{◌≡◌}
 use Rattle.bl_host.proofs.attend.Attendant.take.Given as goal
 
--- the pass that it was given is the same
+-- the connections that it has are the same
 abbrev pub invariant-loop : goal.invariant-loop
-invariant-loop g l = l.self.rounds.0 ≡ l.initial.self.rounds.0
+invariant-loop g l = l.self.rounds ≡ l.initial.self.rounds

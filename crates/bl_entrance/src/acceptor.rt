@@ -1,0 +1,261 @@
+//! Where session threads take connections, and tell what became of them.
+ghost use Rattle.std.specs.Prelude.{◌≡◌, ◌<◌, ◌≤◌};
+
+use crate::ended::{Ended, Ending, Why};
+use crate::entrance::{Arrival, Entrance};
+use crate::looks::Looks;
+use crate::options::Options;
+use bl_log::log::Log;
+use bl_log::note::{Event, Note};
+use bl_log::time::now;
+use bl_rounds::alarm::Alarms;
+use bl_wire::fault::SessionFault;
+use crossbeam_channel::{Receiver, Sender, unbounded};
+use std::alloc::{AllocError, Global};
+use std::io::{BufWriter, ErrorKind, Write};
+use std::mem;
+use std::sync::{Mutex, Wait};
+use std::time::Clock;
+
+/// A log in a file, which threads share.
+pub type SharedLog<F> = Mutex<Log<BufWriter<F>>>;
+
+/// A connection that was taken: its number, from 1, and how it came in.
+#[derive(Drop)]
+pub struct Accepted<'a> {
+    pub number: u32,
+    pub arrival: Arrival<'a>,
+}
+
+/// What came of looking for a connection.
+pub enum Taken {
+    /// Nobody waits, or nobody is taken now.
+    Nobody,
+    /// A connection was taken, and given to a thread.
+    Accepted,
+    /// A connection could not be taken.
+    Lost(Ending),
+}
+
+/// A session thread: whether it is there, how many connections it has, and those of them that it has yet to take up.
+#[derive(Drop)]
+struct Place<'a> {
+    there: bool,
+    open: u32,
+    all_accepted: Vec<Accepted<'a>>,
+}
+
+/// How many connections were taken and how many may be, how many are open and how many may be, whether no more are
+/// taken, whether a session that ended early could not be told of, and the threads that have the connections.
+#[derive(Drop)]
+struct Floor<'a> {
+    taken: u32,
+    most: u32,
+    open: u32,
+    clients: u32,
+    closed: bool,
+    untold: bool,
+    places: Vec<Place<'a>>,
+}
+
+impl<'a> Floor<'a> {
+    /// Whether all were taken that may be.
+    fn is_over(&self) -> bool {
+        self.closed || self.taken >= self.most
+    }
+
+    /// The thread with the fewest connections, of those that are there; among equals the first, or this one.
+    fn least(&self, thread: usize) -> usize {
+        let mut least = thread;
+        for (i, place) in self.places.iter().enumerate() {
+            let fewest = match self.places.get(least) {
+                Some(best) => best.open,
+                None => u32::MAX,
+            };
+            if place.there && place.open < fewest {
+                least = i;
+            }
+        }
+        least
+    }
+
+    /// Gives a connection to a thread, and says whether there was memory.
+    fn give(&mut self, thread: usize, accepted: Accepted<'a>) -> bool {
+        match self.places.get_mut(thread) {
+            Some(place) => {
+                if place.all_accepted.push(accepted).is_err() {
+                    return false;
+                }
+                place.open = place.open.saturating_add(1);
+                self.open = self.open.saturating_add(1);
+                true
+            }
+            None => false,
+        }
+    }
+}
+
+/// An entrance at which one thread at a time takes the next connection, until so many were taken or it is closed; the
+/// channel over which it is told how sessions ended; the log, if there is one; and how long a connection may be idle.
+///
+/// Who takes a connection gives it to the thread that has the fewest. At most so many are open at once; who comes then
+/// waits there until one has left, and whoever sees that off looks there again.
+#[derive(Drop)]
+pub struct Acceptor<'a, F: Write + Drop> {
+    entrance: &'a Entrance,
+    log: Option<&'a SharedLog<F>>,
+    idle: Option<u32>,
+    floor: Mutex<Floor<'a>>,
+    faults: Sender<Ended, Global>,
+}
+
+impl<'a, F: Write + Drop> Acceptor<'a, F> {
+    /// An acceptor for so many session threads, connections in all and connections at once, and where to hear what is told
+    /// there. An error comes where memory was refused.
+    pub fn new(
+        alloc: Global,
+        entrance: &'a Entrance,
+        log: Option<&'a SharedLog<F>>,
+        options: Options,
+    ) -> Result<(Acceptor<'a, F>, Receiver<Ended, Global>), AllocError> {
+        let (faults, told) = unbounded::<Ended, Global>(alloc)?;
+        let mut places = Vec::new(alloc);
+        for _ in 0..options.session_threads {
+            places.push(Place {
+                there: false,
+                open: 0,
+                all_accepted: Vec::new(alloc),
+            })?;
+        }
+        let floor = Mutex::new(Floor {
+            taken: 0,
+            most: options.sessions,
+            open: 0,
+            clients: options.clients,
+            closed: false,
+            untold: false,
+            places,
+        });
+        Ok((
+            Acceptor {
+                entrance,
+                log,
+                idle: options.idle,
+                floor,
+                faults,
+            },
+            told,
+        ))
+    }
+
+    /// A thread is there: from now on it is given connections.
+    pub fn come<R: Wait>(&self, rt: &R, thread: usize) {
+        if let Some(place) = self.floor.lock(rt).places.get_mut(thread) {
+            place.there = true;
+        }
+    }
+
+    /// Takes no further connection, and wakes all threads.
+    pub fn close<R: Wait>(&self, rt: &R, alarms: &Alarms) {
+        self.floor.lock(rt).closed = true;
+        alarms.wake_all();
+    }
+
+    /// Takes the next connection, if one waits and may be taken, and gives it to a thread, which is woken if it is not
+    /// this one. One that cannot be taken counts too. Where it was the last, all are woken.
+    pub fn take<R: Wait>(&self, rt: &R, alarms: &Alarms, thread: usize) -> Taken {
+        let mut guard = self.floor.lock(rt);
+        let floor = &mut *guard;
+        if floor.is_over() || floor.open >= floor.clients {
+            return Taken::Nobody;
+        }
+        let accepted = self.entrance.accept(floor.taken as usize);
+        if let Err(error) = &accepted {
+            if error.kind() == ErrorKind::WouldBlock {
+                return Taken::Nobody;
+            }
+        }
+        floor.taken = floor.taken.saturating_add(1);
+        if floor.is_over() {
+            alarms.wake_all();
+        }
+        let number = floor.taken;
+        let Ok(arrival) = accepted else {
+            return Taken::Lost(Ending::new(number, Why::Accept));
+        };
+        let least = floor.least(thread);
+        if !floor.give(least, Accepted { number, arrival }) {
+            return Taken::Lost(Ending::new(number, Why::Session(SessionFault::Memory)));
+        }
+        if least != thread {
+            alarms.wake(least);
+        }
+        Taken::Accepted
+    }
+
+    /// The connections that a thread was given since it last asked, in the order of their numbers.
+    pub fn all_accepted<R: Wait>(&self, rt: &R, alloc: Global, thread: usize) -> Vec<Accepted<'a>> {
+        let none = Vec::new(alloc);
+        match self.floor.lock(rt).places.get_mut(thread) {
+            Some(place) => mem::replace(&mut place.all_accepted, none),
+            None => none,
+        }
+    }
+
+    /// A connection of a thread is open no more.
+    pub fn leave<R: Wait>(&self, rt: &R, thread: usize) {
+        let mut guard = self.floor.lock(rt);
+        let floor = &mut *guard;
+        floor.open = floor.open.saturating_sub(1);
+        if let Some(place) = floor.places.get_mut(thread) {
+            place.open = place.open.saturating_sub(1);
+        }
+    }
+
+    /// Whether a thread is given no connection any more: all were taken, or the acceptor is closed.
+    pub fn is_over<R: Wait>(&self, rt: &R, thread: usize) -> bool {
+        let floor = self.floor.lock(rt);
+        let waits = match floor.places.get(thread) {
+            Some(place) => !place.all_accepted.is_empty(),
+            None => false,
+        };
+        floor.is_over() && !waits
+    }
+
+    /// Tells of a session that ended early. Where memory is refused for that it is noted that one was not told of.
+    pub fn tell<R: Wait>(&self, rt: &R, ending: Ending) {
+        let Ending { ended } = ending;
+        if self.faults.send(rt, ended).is_err() {
+            self.floor.lock(rt).untold = true;
+        }
+    }
+
+    /// Whether a session that ended early could not be told of.
+    pub fn has_untold<R: Wait>(&self, rt: &R) -> bool {
+        self.floor.lock(rt).untold
+    }
+
+    /// When a thread looks for connections that are idle; none where they may be.
+    pub fn looks(&self) -> Option<Looks> {
+        self.idle.map(Looks::after)
+    }
+
+    /// Whether there is a log.
+    pub fn has_log(&self) -> bool {
+        self.log.is_some()
+    }
+
+    /// Notes in the log, if there is one, what has become of a connection that came from there.
+    pub fn note<R: Wait + Clock>(&self, rt: &R, connection: u32, from: &str, event: Event<'_>) {
+        if let Some(log) = self.log {
+            let mut log = log.lock(rt);
+            let time = now(rt);
+            let _ = log.note(&Note {
+                time,
+                connection,
+                from,
+                event,
+            });
+        }
+    }
+}

@@ -1,0 +1,20 @@
+//! Where session threads take connections and wait, and what they tell of them.
+//!
+//!     options     how many threads and connections there are
+//!     ended       how a session ended that was not served to its end
+//!     socket      a connection that does not wait
+//!     watch       where a thread waits until a socket is ready or its alarm is rung
+//!     entrance    where clients come in: a port, or doors
+//!     callers     where the connections of a thread came from
+//!     looks       when a thread looks for connections that are idle
+//!     acceptor    where threads take connections, and tell what became of them
+#![tactic(auto)]
+
+pub mod acceptor;
+pub mod callers;
+pub mod ended;
+pub mod entrance;
+pub mod looks;
+pub mod options;
+pub mod socket;
+pub mod watch;

@@ -1,0 +1,87 @@
+//! Where a session thread waits.
+use mio::event::{Event, Iter, Source};
+use mio::unix::SourceFd;
+use mio::{Events, Interest, Poll, Token, Waker};
+use std::alloc::Global;
+use std::io;
+use std::io::ErrorKind;
+use std::net::Net;
+use std::os::fd::AsRawFd;
+use std::time::Duration;
+
+/// How many events one wait gives at most.
+const MOST_EVENTS: usize = 256;
+
+/// The token of the thread's alarm and of the listeners. Connections have the tokens from 1 on.
+const CALL: usize = 0;
+
+/// What was found ready.
+#[derive(Clone, Copy, Debug, PartialEq, Eq)]
+pub enum Found {
+    /// The alarm was rung, or a connection waits at a listener.
+    Call,
+    /// The socket of this connection is ready, is closed or has failed.
+    Ready(u32),
+}
+
+/// The sockets of a thread, its alarm and the listeners, of which it waits for the first that is ready.
+///
+/// A change is told once. So a socket is used until it would block, and the listeners asked until nobody waits there,
+/// before the next wait.
+#[derive(Drop)]
+pub struct Watch {
+    poll: Poll,
+    events: Events,
+}
+
+impl Watch {
+    /// Watches nothing yet. An error comes where memory or a descriptor was refused.
+    pub fn new<R: Net>(rt: &R, alloc: Global) -> io::Result<Watch> {
+        let Ok(events) = Events::with_capacity(alloc, MOST_EVENTS) else {
+            return Err(io::Error::from(ErrorKind::OutOfMemory));
+        };
+        let poll = Poll::new(rt)?;
+        Ok(Watch { poll, events })
+    }
+
+    /// Watches a listener, which is not to wait. An error comes where the system refuses that.
+    pub fn watch_listener<L: AsRawFd>(&self, listener: &L) -> io::Result<()> {
+        let fd = listener.as_raw_fd();
+        let token = Token(CALL);
+        self.poll
+            .registry()
+            .register(&mut SourceFd(&fd), token, Interest::READABLE)
+    }
+
+    /// What wakes who waits here. An error comes where a descriptor was refused.
+    pub fn waker(&self) -> io::Result<Waker> {
+        Waker::new(self.poll.registry(), Token(CALL))
+    }
+
+    /// Watches the stream of a connection, with its number. An error comes where the system refuses that.
+    pub(crate) fn add<S: Source>(&self, stream: &mut S, number: u32) -> io::Result<()> {
+        let token = Token(number as usize);
+        let both = Interest::READABLE | Interest::WRITABLE;
+        self.poll.registry().register(stream, token, both)
+    }
+
+    /// Waits until something is ready, for so long at most where that is said, and says whether the system could be
+    /// asked.
+    pub fn wait(&mut self, most: Option<Duration>) -> bool {
+        self.poll.poll(&mut self.events, most).is_ok()
+    }
+
+    /// What the last wait gave.
+    pub fn events(&self) -> Iter<'_> {
+        self.events.iter()
+    }
+}
+
+/// What an event is of.
+pub fn found_by(event: &Event) -> Found {
+    let Token(token) = event.token();
+    match u32::try_from(token) {
+        Ok(number) if number > 0 => Found::Ready(number),
+        Ok(_) | Err(_) => Found::Call,
+    }
+}
