@@ -7,7 +7,7 @@ use Rattle.bl_journal.specs.Journals.{journal_text}
 use Rattle.bl_rebuild.specs.Rebuilds.{journal_of}
 use Rattle.bl_record.specs.Kept.{IsKept, LosesNothing}
 use Rattle.bl_record.specs.declared.journal.Journal.{Journal}
-use Rattle.bl_run.specs.declared.fault.ProgramFault.TheVariants.{NoMemory}
+use Rattle.bl_status.specs.declared.fault.ProgramFault.TheVariants.{NoMemory}
 use Rattle.bl_session.specs.Keeping.{IsFrontOf}
 use Rattle.bl_session.specs.declared.alone.Kept.{Kept}
 use Rattle.bl_setup.specs.Setup.{Setup}

@@ -4,10 +4,10 @@ use Rattle.std.specs.Io.KnownBytes.{Appends, Keeps}
 use Rattle.std.specs.Option.{option_to_list}
 use Rattle.bl_disk.specs.File.{File}
 use Rattle.bl_hall.specs.Chronicle.{Chronicle}
-use Rattle.bl_run.specs.Failure.{IsNotBegun}
-use Rattle.bl_run.specs.Runs.{HasTold, Run}
-use Rattle.bl_run.specs.Unkept.{IsUnkept}
-use Rattle.bl_run.specs.declared.fault.ProgramFault.{ProgramFault}
+use Rattle.bl_status.specs.Failure.{IsNotBegun}
+use Rattle.bl_status.specs.Runs.{HasTold, Run}
+use Rattle.bl_status.specs.Unkept.{IsUnkept}
+use Rattle.bl_status.specs.declared.fault.ProgramFault.{ProgramFault}
 use Rattle.bl_session.specs.Keeping.{IsToldOf, fault_of}
 use Rattle.bl_session.specs.Outcome.{IsCutShort, IsServedIn}
 use Rattle.bl_session.specs.declared.keep.Stop.{Stop}

@@ -1,10 +1,10 @@
 -- What a run whose trail is kept as it goes says on standard error, and its status.
 use Rattle.std.specs.Prelude.{◌≡◌, ℕ, List, [], ◌∷◌, codes, Option, Some, None, Result, Ok, Err}
 use Rattle.std.specs.List.{flat_map}
-use Rattle.bl_run.specs.Failure.{IsOfSession}
-use Rattle.bl_run.specs.Message.{fault_line}
-use Rattle.bl_run.specs.Status.{status_of}
-use Rattle.bl_run.specs.declared.fault.ProgramFault.{ProgramFault}
+use Rattle.bl_status.specs.Failure.{IsOfSession}
+use Rattle.bl_status.specs.Message.{fault_line}
+use Rattle.bl_status.specs.Status.{status_of}
+use Rattle.bl_status.specs.declared.fault.ProgramFault.{ProgramFault}
 use Rattle.bl_session.specs.declared.keep.Stop.{Stop}
 use Rattle.bl_session.specs.declared.keep.Stop.TheVariants as stops
 use Rattle.bl_alone.specs.declared.fault.AloneFault.{AloneFault}

@@ -14,12 +14,12 @@ use bl_disk::device::Device;
 use bl_disk::log::Log;
 use bl_journal::laws::a_crash_loses_nothing_that_was_kept;
 use bl_record::journal::Journal;
-use bl_run::fault::ProgramFault;
 use bl_session::alone::Kept;
 use bl_session::keep::{Keep, Stop, Unreached};
+use bl_status::fault::ProgramFault;
 
 /// The file of a journal that is left as it is.
-fn file_of<D: Device>(recorder: Recorder<D>) -> D
+pub fn file_of<D: Device>(recorder: Recorder<D>) -> D
     ensures { result ≡ recorder.journal.log.device }
 {
     let Recorder { journal, .. } = recorder;
@@ -88,7 +88,7 @@ fn close_stopped<D: Device>(
 
 /// Closes the journal of a session that has ended so, once it has kept what happened last. It stays as it is where
 /// the session ended since its trail was not kept. The file is handed back, with the fault where it is not closed.
-pub(crate) fn close_after<D: Device>(
+pub fn close_after<D: Device>(
     recorder: Recorder<D>,
     served: &Result<(), Stop>,
     session: &Option<Kept>,

@@ -5,12 +5,12 @@ ghost use Rattle.bl_wire.specs.Watch.{Puts, end_state};
 ghost use Rattle.bl_wire.specs.declared.fault.SessionFault.TheVariants.{Clash};
 ghost use Rattle.bl_session.specs.declared.keep.Stop.TheVariants.{Fault as SessionStop};
 ghost use Rattle.bl_session.specs.Keeping.{MayStop};
-ghost use Rattle.bl_run.specs.Status.{IsEnd};
+ghost use Rattle.bl_status.specs.Status.{IsEnd};
 ghost use Rattle.bl_alone.specs.Telling.{IsOfSessionEnd, IsOfStop, status_by, status_of_all, text_of_all, words_by};
 
-use bl_run::fault::{ProgramFault, of_session};
-use bl_run::told::tell;
 use bl_session::keep::Stop;
+use bl_status::fault::{ProgramFault, of_session};
+use bl_status::told::tell;
 use bl_wire::put::put_out;
 use bl_wire::watched::Watched;
 use std::io::Write;

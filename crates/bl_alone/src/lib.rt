@@ -6,7 +6,7 @@
 //!     run        the run
 #![tactic(auto)]
 
-mod close;
+pub mod close;
 pub mod fault;
 pub mod recorder;
 pub mod run;

@@ -3,8 +3,8 @@ ghost use Rattle.std.specs.Prelude.{◌≡◌, ◌≤◌, ◌↔◌, ◌⊎◌, 
 ghost use Rattle.std.specs.Option.{option_to_list};
 ghost use Rattle.bl_setup.specs.Grammar.{IsSetup};
 ghost use Rattle.bl_wire.specs.Watch.{Puts, end_state, used};
-ghost use Rattle.bl_run.specs.Runs.{HasTold};
-ghost use Rattle.bl_run.specs.Status.{IsEnd};
+ghost use Rattle.bl_status.specs.Runs.{HasTold};
+ghost use Rattle.bl_status.specs.Status.{IsEnd};
 ghost use Rattle.bl_session.specs.Keeping.{MayStop};
 ghost use Rattle.bl_alone.specs.Recording.{HasRecorded, new_hall};
 ghost use Rattle.bl_alone.specs.Sessions.{HasSat, IsRecorded};
@@ -17,12 +17,12 @@ use crate::recorder::Recorder;
 use bl_disk::device::{Device, DeviceError};
 use bl_record::fault::JournalFault;
 use bl_record::journal::{Journal, begin};
-use bl_run::fault::{ProgramFault, of_setup};
-use bl_run::told::tell;
 use bl_session::alone::serve_keeping;
 use bl_session::keep::Stop;
 use bl_setup::reader::read_setup;
 use bl_setup::setup::Setup;
+use bl_status::fault::{ProgramFault, of_setup};
+use bl_status::told::tell;
 use bl_wire::watched::Watched;
 use std::alloc::Global;
 use std::io::{BufRead, Write};
@@ -86,7 +86,7 @@ fn first_of(status: u8, later: u8) -> u8
 
 /// Tells how the session ended, where it ended early, and then the fault of its trail, where it has one. The first
 /// gives the status.
-fn tell_recorded<D: Device, E: Write>(
+pub fn tell_recorded<D: Device, E: Write>(
     errors: &mut Watched<E>,
     served: &Result<(), Stop>,
     left: (D, Option<AloneFault>),

@@ -1,6 +1,7 @@
 //! A run over the base setup, and its trail.
 use bl_alone::run::{RecordedRun, alone_recorded_on};
 use bl_disk_tests::torn::Torn;
+use bl_resume::run::alone_resumed_on;
 use bl_wire::watched::Watched;
 use std::alloc::{AllocError, Global};
 
@@ -89,4 +90,21 @@ pub(crate) fn run_base(alloc: Global, room: usize, syncs: usize) -> Result<Ran, 
 /// A run over the base setup and a file with these bytes.
 pub(crate) fn run_after(alloc: Global, bytes: &[u8]) -> Result<Ran, AllocError> {
     run_over(alloc, BASE, bytes, AMPLE, AMPLE)
+}
+
+/// A session over the base setup that goes on from the run that left a file with these bytes.
+pub(crate) fn resume_after(alloc: Global, bytes: &[u8]) -> Result<Ran, AllocError> {
+    let torn = Torn::new(alloc, bytes, AMPLE, AMPLE)?;
+    let mut reader = Watched::new(LINES);
+    let mut writer = Watched::new(Vec::new(alloc));
+    let mut errors = Watched::new(Vec::new(alloc));
+    let resumed = alone_resumed_on(alloc, BASE, torn, &mut reader, &mut writer, &mut errors);
+    let kept = resumed.device.now().kept.to_vec(alloc)?;
+    Ok(Ran {
+        status: resumed.status,
+        is_whole: resumed.is_whole,
+        told: writer.into_inner(),
+        said: errors.into_inner(),
+        kept,
+    })
 }

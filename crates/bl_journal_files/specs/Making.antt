@@ -3,7 +3,7 @@ use Rattle.bl_file.specs.declared.open.OpenFault.{OpenFault}
 use Rattle.bl_file.specs.declared.open.OpenFault.TheVariants as opening
 use Rattle.bl_recover.specs.declared.fault.RecoveryFault.{RecoveryFault}
 use Rattle.bl_recover.specs.declared.fault.RecoveryFault.TheVariants.{TrailIsThere, InUse, Program}
-use Rattle.bl_run.specs.declared.fault.ProgramFault.TheVariants.{CannotWriteTrail, NoMemory}
+use Rattle.bl_status.specs.declared.fault.ProgramFault.TheVariants.{CannotWriteTrail, NoMemory}
 
 abbrev pub make_fault : OpenFault → RecoveryFault
 make_fault opening.Taken = TrailIsThere

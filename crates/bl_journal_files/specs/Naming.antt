@@ -2,9 +2,9 @@
 use Rattle.std.specs.Prelude.{List, ℕ, [], ◌∷◌, ◌++◌, Result, Ok, Err}
 use Rattle.bl_keep.specs.declared.fault.KeepFault.{KeepFault}
 use Rattle.bl_recover.specs.Telling.{left_text}
-use Rattle.bl_run.specs.Message.{fault_line}
-use Rattle.bl_run.specs.Unkept.{unkept_fault}
-use Rattle.bl_run.specs.declared.fault.ProgramFault.{ProgramFault}
+use Rattle.bl_status.specs.Message.{fault_line}
+use Rattle.bl_status.specs.Unkept.{unkept_fault}
+use Rattle.bl_status.specs.declared.fault.ProgramFault.{ProgramFault}
 
 -- its fault, where it has one
 abbrev pub naming_faults : Result (Unit {0}) KeepFault → List ProgramFault

@@ -12,7 +12,7 @@ use bl_recover::fault::RecoveryFault;
 use bl_recover::find::{Found, same_setup};
 use bl_recover::name::is_there;
 use bl_recover::places::places_of;
-use bl_run::fault::{ProgramFault, of_file};
+use bl_status::fault::{ProgramFault, of_file};
 use std::alloc::Global;
 use std::fs::{OpenFile, OpenOptions};
 use std::io;
@@ -105,6 +105,7 @@ where
             part: places.part,
             trail: trail.name,
             is_named: false,
+            is_torn: false,
         }),
         Err(fault) => Err(of_make(fault)),
     }

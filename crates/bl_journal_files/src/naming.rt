@@ -1,6 +1,6 @@
 //! The closed journal of a run gets the name of its trail.
 ghost use Rattle.std.specs.Prelude.{◌≡◌};
-ghost use Rattle.bl_run.specs.Status.{IsEnd, status_after};
+ghost use Rattle.bl_status.specs.Status.{IsEnd, status_after};
 ghost use Rattle.bl_wire.specs.Watch.{Puts, end_state};
 ghost use Rattle.bl_journal_files.specs.Naming.{naming_faults, naming_text};
 
@@ -10,8 +10,8 @@ use bl_keep::fault::KeepFault;
 use bl_keep::part::{TrailFile, is_trail};
 use bl_recover::name::give_name;
 use bl_recover::told::tell_left;
-use bl_run::fault::of_keep;
-use bl_run::told::tell;
+use bl_status::fault::of_keep;
+use bl_status::told::tell;
 use bl_wire::watched::Watched;
 use std::alloc::Global;
 use std::fs;

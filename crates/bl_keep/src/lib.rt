@@ -1,6 +1,7 @@
 //! Keeps a trail in a file: a new one, which has the whole trail before it takes the trail's name.
 //!
 //!     fault      why a trail is not kept
+//!     rest       what a writer still has when nothing more is to be written
 //!     part       the file that a trail is written to before it has its name
 //!     whole      trails that are written whole, and what is left of others
 //!     named      gives a whole trail its name
@@ -11,4 +12,5 @@ pub mod fault;
 pub mod keep;
 pub mod named;
 pub mod part;
+pub mod rest;
 pub mod whole;

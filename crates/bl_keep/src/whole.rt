@@ -5,9 +5,9 @@ ghost use Rattle.bl_audit.specs.Written.{trail_text};
 
 use crate::fault::KeepFault;
 use crate::part::PartFile;
+use crate::rest::hand_on_rest;
 use bl_audit::trail::{TrailFault, write_trail};
 use bl_hall::hall::Hall;
-use bl_host::rest::hand_on_rest;
 use bl_wire::watched::Watched;
 use std::alloc::Global;
 use std::io::{BufWriter, Write};

@@ -1,3 +1,4 @@
 pub mod Telling
 pub mod Recoveries
 pub mod Reading
+mod Heads

@@ -4,7 +4,7 @@ use Rattle.bl_disk.specs.File.{File}
 use Rattle.bl_record.specs.Recovering.{IsClosed}
 use Rattle.bl_setup.specs.Setup.{Setup}
 use Rattle.bl_keep.specs.declared.fault.KeepFault.TheVariants.{Unwritable, Memory}
-use Rattle.bl_run.specs.Status.{IsEnd}
+use Rattle.bl_status.specs.Status.{IsEnd}
 use Rattle.bl_trail.specs.TrueText.{IsTrueText}
 use Rattle.bl_recover.specs.Finishing.{HasFinished}
 use Rattle.bl_recover.specs.Recoveries.{HasEnded, IsOfClosed, cut_of, status_of_end}

@@ -2,7 +2,7 @@
 use Rattle.std.specs.Prelude.{◌≡◌, ℕ, List}
 use Rattle.bl_setup.specs.Setup.{Setup}
 use Rattle.bl_trail.specs.TrueText.{FirstWrong, IsTrueText}
-use Rattle.bl_run.specs.declared.fault.ProgramFault.TheVariants.{CannotReadTrail, NoMemory}
+use Rattle.bl_status.specs.declared.fault.ProgramFault.TheVariants.{CannotReadTrail, NoMemory}
 use Rattle.bl_recover.specs.declared.fault.RecoveryFault.{RecoveryFault}
 use Rattle.bl_recover.specs.declared.fault.RecoveryFault.TheVariants.{TrailIsThere, Program}
 use Rattle.bl_recover.specs.declared.recover.RecoveryEnd.{RecoveryEnd}

@@ -1,3 +1,4 @@
 pub mod Telling
+pub mod Torn
 pub mod Recoveries
 pub mod Finishing

@@ -6,10 +6,10 @@ use Rattle.bl_record.specs.declared.fault.RecoverFault.{RecoverFault}
 use Rattle.bl_record.specs.Recovering.{IsClosed, IsNotRecovered}
 use Rattle.bl_setup.specs.Setup.{Setup}
 use Rattle.bl_wire.specs.Watch.{EndState, Puts, Use}
-use Rattle.bl_run.specs.Message.{fault_line}
-use Rattle.bl_run.specs.Status.{status_of}
-use Rattle.bl_run.specs.Unkept.{unkept_fault}
-use Rattle.bl_run.specs.declared.fault.ProgramFault.TheVariants.{Write}
+use Rattle.bl_status.specs.Message.{fault_line}
+use Rattle.bl_status.specs.Status.{status_of}
+use Rattle.bl_status.specs.Unkept.{unkept_fault}
+use Rattle.bl_status.specs.declared.fault.ProgramFault.TheVariants.{Write}
 use Rattle.bl_recover.specs.Telling.{cut_line, fault_text, left_text, recover_fault, recovered_line, status_by}
 use Rattle.bl_recover.specs.declared.recover.RecoveryEnd.{RecoveryEnd}
 use Rattle.bl_recover.specs.declared.recover.RecoveryEnd.TheVariants.{Recovered, Untold, Unnamed, Refused}

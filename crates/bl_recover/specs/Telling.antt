@@ -3,13 +3,15 @@ use Rattle.std.specs.Prelude.{ℕ, zero, suc, List, [], ◌∷◌, ◌++◌, cod
 use Rattle.bl_disk.specs.declared.device.DeviceError.TheVariants as devices
 use Rattle.bl_record.specs.declared.fault.RecoverFault.{RecoverFault}
 use Rattle.bl_record.specs.declared.fault.RecoverFault.TheVariants as recovering
-use Rattle.bl_run.specs.Message.{fault_line}
-use Rattle.bl_run.specs.Message as messages
-use Rattle.bl_run.specs.Status.{status_of}
-use Rattle.bl_run.specs.declared.fault.ProgramFault.TheVariants.{CannotWriteTrail, NoMemory}
+use Rattle.bl_record.specs.declared.fault.ResumeFault.{ResumeFault}
+use Rattle.bl_record.specs.declared.fault.ResumeFault.TheVariants as resuming
+use Rattle.bl_status.specs.Message.{fault_line}
+use Rattle.bl_status.specs.Message as messages
+use Rattle.bl_status.specs.Status.{status_of}
+use Rattle.bl_status.specs.declared.fault.ProgramFault.TheVariants.{CannotWriteTrail, NoMemory}
 use Rattle.bl_recover.specs.declared.fault.RecoveryFault.{RecoveryFault}
 use Rattle.bl_recover.specs.declared.fault.RecoveryFault.TheVariants.{NoTrail, TrailIsThere, InUse, OtherSetup}
-use Rattle.bl_recover.specs.declared.fault.RecoveryFault.TheVariants.{OldVersion, WrongAt, Program}
+use Rattle.bl_recover.specs.declared.fault.RecoveryFault.TheVariants.{OldVersion, WrongAt, NotBegun, Over, NoMoreSessions, Program}
 
 -- own choice: the words for each fault
 abbrev pub words_by : RecoveryFault → List ℕ
@@ -19,6 +21,9 @@ words_by InUse = codes "trail is in use"
 words_by OtherSetup = codes "not this setup's trail"
 words_by OldVersion = codes "trail of version 1"
 words_by (WrongAt line) = codes "trail wrong"
+words_by NotBegun = codes "trail not begun"
+words_by Over = codes "trail is over"
+words_by NoMoreSessions = codes "no more sessions"
 words_by (Program fault) = messages.words_of fault
 
 -- what is said of a fault, on a line of its own: of a trail that is wrong also at which line
@@ -29,6 +34,9 @@ fault_text InUse = words_by InUse ++ 10 ∷ []
 fault_text OtherSetup = words_by OtherSetup ++ 10 ∷ []
 fault_text OldVersion = words_by OldVersion ++ 10 ∷ []
 fault_text (WrongAt line) = codes "trail wrong at line " ++ (decimal line ++ codes "\n")
+fault_text NotBegun = words_by NotBegun ++ 10 ∷ []
+fault_text Over = words_by Over ++ 10 ∷ []
+fault_text NoMoreSessions = words_by NoMoreSessions ++ 10 ∷ []
 fault_text (Program fault) = fault_line fault
 
 -- 4 where the run is out of memory, and 3 for anything else
@@ -39,6 +47,9 @@ status_by InUse = 3
 status_by OtherSetup = 3
 status_by OldVersion = 3
 status_by (WrongAt line) = 3
+status_by NotBegun = 3
+status_by Over = 3
+status_by NoMoreSessions = 3
 status_by (Program fault) = status_of fault
 
 -- what each fault of a recovery is to its run
@@ -49,6 +60,12 @@ recover_fault recovering.Memory = Program NoMemory
 recover_fault (recovering.Device devices.Memory) = Program NoMemory
 recover_fault (recovering.Device devices.Full) = Program CannotWriteTrail
 recover_fault (recovering.Device devices.Failed) = Program CannotWriteTrail
+
+-- what it is to the run that a journal is not gone on with
+abbrev pub resume_fault : ResumeFault → RecoveryFault
+resume_fault (resuming.Unrecovered fault) = recover_fault fault
+resume_fault resuming.Over = Over
+resume_fault (resuming.Wrong line) = WrongAt line
 
 -- own choice: how many bytes were cut off is told where some were
 abbrev pub cut_line : ℕ → List ℕ

@@ -1,11 +1,11 @@
 //! Why a journal in a file is not gone on with.
 ghost use Rattle.std.specs.Prelude.{◌≡◌};
-ghost use Rattle.bl_recover.specs.Telling.{recover_fault, words_by};
+ghost use Rattle.bl_recover.specs.Telling.{recover_fault, resume_fault, words_by};
 
 use bl_disk::device::DeviceError;
 use bl_file::open::OpenFault;
-use bl_record::fault::RecoverFault;
-use bl_run::fault::ProgramFault;
+use bl_record::fault::{RecoverFault, ResumeFault};
+use bl_status::fault::ProgramFault;
 
 /// Why the journal that a run left is not gone on with.
 #[derive(Debug, PartialEq, Eq, Drop)]
@@ -22,6 +22,12 @@ pub enum RecoveryFault {
     OldVersion,
     /// The head of the trail is torn or wrong: the number of its first line that is not right.
     WrongAt(u64),
+    /// The head of the trail is torn: the run that wrote it was cut off before it told anything.
+    NotBegun,
+    /// The trail that was to be gone on with is over: it ends by `stop`.
+    Over,
+    /// The trail has 1,000 sessions, and a run that opens another one was to go on from it.
+    NoMoreSessions,
     /// Any other fault of the run.
     Program(ProgramFault),
 }
@@ -49,6 +55,9 @@ impl RecoveryFault {
             RecoveryFault::OtherSetup => "not this setup's trail",
             RecoveryFault::OldVersion => "trail of version 1",
             RecoveryFault::WrongAt(_) => "trail wrong",
+            RecoveryFault::NotBegun => "trail not begun",
+            RecoveryFault::Over => "trail is over",
+            RecoveryFault::NoMoreSessions => "no more sessions",
             RecoveryFault::Program(fault) => fault.words(),
         }
     }
@@ -67,6 +76,17 @@ pub fn of_recover(fault: RecoverFault) -> RecoveryFault
         RecoverFault::Device(DeviceError::Full | DeviceError::Failed) => {
             RecoveryFault::Program(ProgramFault::CannotWriteTrail)
         }
+    }
+}
+
+/// What it is to the run that a journal is not gone on with.
+pub fn of_resume(fault: ResumeFault) -> RecoveryFault
+    ensures { result ≡ resume_fault fault }
+{
+    match fault {
+        ResumeFault::Unrecovered(fault) => of_recover(fault),
+        ResumeFault::Over => RecoveryFault::Over,
+        ResumeFault::Wrong(line) => RecoveryFault::WrongAt(line),
     }
 }
 

@@ -1,14 +1,18 @@
 //! The journal that a run left.
 ghost use Rattle.std.specs.Prelude.{◌≡◌, ◌↔◌, ◌++◌, codes, false, string_bytes, take, IfOk, IfSome, IsTrue};
+ghost use Rattle.bl_disk.specs.File.{seen};
+ghost use Rattle.bl_file.specs.Files.{file_now};
+ghost use Rattle.bl_recover.specs.Torn.{IsTornHead};
 
 use crate::fault::{RecoveryFault, of_open};
 use crate::name::{is_one_file, is_there};
 use crate::places::places_of;
+use crate::torn::is_torn_head;
 use bl_disk::device::Device;
 use bl_file::device::{Keeping, SystemFile};
 use bl_file::lock::Lock;
 use bl_file::open::open;
-use bl_run::fault::{ProgramFault, of_file};
+use bl_status::fault::{ProgramFault, of_file};
 use std::alloc::Global;
 use std::io::{ErrorKind, Read};
 use std::rt::Files;
@@ -22,6 +26,8 @@ pub struct Found<'a, D: Device> {
     pub trail: &'a str,
     /// Whether the file has that name already: an earlier recovery ended before it removed the other one.
     pub is_named: bool,
+    /// Whether its head is torn: no event was kept, and nothing was told.
+    pub is_torn: bool,
 }
 
 /// The bytes that a reader gives, and at most so many of them.
@@ -60,6 +66,16 @@ pub fn same_setup<R: Files>(
     }
 }
 
+/// Whether the head is torn of a file that was opened, and of which nothing was read yet.
+fn is_torn_file<F>(file: &SystemFile<F>) -> bool
+    ensures { IsTrue result → IsTornHead (seen (file_now file.now)) }
+{
+    match file.found() {
+        Some(text) => is_torn_head(text),
+        None => false,
+    }
+}
+
 /// The journal that a run left under the name of this trail, which began with the setup of these bytes. It is opened
 /// for this program alone, what is written to it outlives what is asked for, and nothing is changed.
 ///
@@ -76,6 +92,7 @@ pub fn find<'a, R: Files>(
 where
     R::File: Lock,
     ensures sound { IfOk result (λ found. found.device.failed ≡ false) }
+    ensures torn { IfOk result (λ found. IsTrue found.is_torn → IsTornHead (seen (file_now found.device))) }
     ensures part { IfOk result (λ found. string_bytes found.part ≡ trail.now ++ codes ".part") }
     ensures trail { IfOk result (λ found. found.trail.now ≡ trail.now) }
 {
@@ -90,11 +107,13 @@ where
         Ok(device) => device,
         Err(fault) => return Err(of_open(fault)),
     };
+    let is_torn = is_torn_file(&device);
     same_setup(rt, alloc, places.setup.as_str(), setup)?;
     Ok(Found {
         device,
         part: places.part,
         trail,
         is_named,
+        is_torn,
     })
 }

@@ -4,7 +4,7 @@ ghost use Rattle.bl_disk.specs.File.{seen};
 ghost use Rattle.bl_disk.specs.Moments.{Passes};
 ghost use Rattle.bl_trail.specs.TrueText.{IsTrueText};
 ghost use Rattle.bl_wire.specs.Watch.{Puts, end_state, used};
-ghost use Rattle.bl_run.specs.Status.{IsEnd};
+ghost use Rattle.bl_status.specs.Status.{IsEnd};
 ghost use Rattle.bl_recover.specs.Finishing.{HasFinished, IsNotClosed};
 ghost use Rattle.bl_recover.specs.Recoveries.{HasWritten, said_of, status_of_end};
 
@@ -15,8 +15,8 @@ use crate::recover::{Closed, Recovery, RecoveryEnd, tell_closed};
 use crate::told::tell_fault;
 use bl_disk::device::{Device, DeviceError};
 use bl_replay::replay::replay;
-use bl_run::fault::ProgramFault;
 use bl_setup::setup::Setup;
+use bl_status::fault::ProgramFault;
 use bl_trail::verdict::Verdict;
 use bl_wire::watched::Watched;
 use std::alloc::Global;
@@ -70,7 +70,7 @@ pub fn finish_found<R: Files, D: Device, W: Write, E: Write>(
         mut device,
         part,
         trail,
-        is_named: _,
+        ..
     } = found;
     match events_of(alloc, setup, &mut device) {
         Ok(events) => {

@@ -10,14 +10,18 @@ pub struct Places {
     pub part: String,
     /// The file that has the bytes of the setup that the run began with.
     pub setup: String,
+    /// The file that has the times at which the journal was written.
+    pub clock: String,
 }
 
-/// The names beside that of a trail: with `.part` after it, and with `.setup`.
+/// The names beside that of a trail: with `.part` after it, with `.setup`, and with `.clock`.
 pub fn places_of(alloc: Global, trail: &str) -> Result<Places, AllocError>
     ensures part { IfOk result (λ places. string_bytes places.part ≡ trail.now ++ codes ".part") }
     ensures setup { IfOk result (λ places. string_bytes places.setup ≡ trail.now ++ codes ".setup") }
+    ensures clock { IfOk result (λ places. string_bytes places.clock ≡ trail.now ++ codes ".clock") }
 {
     let part = format!(in alloc; "{trail}.part")?;
     let setup = format!(in alloc; "{trail}.setup")?;
-    Ok(Places { part, setup })
+    let clock = format!(in alloc; "{trail}.clock")?;
+    Ok(Places { part, setup, clock })
 }

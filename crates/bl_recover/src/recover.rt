@@ -3,7 +3,7 @@ ghost use Rattle.std.specs.Prelude.{◌≡◌, ◌++◌, List, ℕ, codes, false
 ghost use Rattle.bl_disk.specs.File.{seen};
 ghost use Rattle.bl_record.specs.Recovering.{LosesNoHistory};
 ghost use Rattle.bl_wire.specs.Watch.{Puts, end_state, used};
-ghost use Rattle.bl_run.specs.Status.{IsEnd};
+ghost use Rattle.bl_status.specs.Status.{IsEnd};
 ghost use Rattle.bl_recover.specs.Recoveries.{HasEnded, HasWritten, IsOfClosed, IsRecoverRun};
 ghost use Rattle.bl_recover.specs.Recoveries.{after_cut, said_of, status_of_end};
 
@@ -17,10 +17,10 @@ use bl_file::device::Keeping;
 use bl_file::lock::Lock;
 use bl_keep::fault::KeepFault;
 use bl_record::recover::{Recovered, recover};
-use bl_run::fault::{ProgramFault, of_keep, of_setup};
-use bl_run::told::tell;
 use bl_setup::reader::read_setup;
 use bl_setup::setup::Setup;
+use bl_status::fault::{ProgramFault, of_keep, of_setup};
+use bl_status::told::tell;
 use bl_wire::watched::Watched;
 use std::alloc::Global;
 use std::io::Write;
@@ -151,7 +151,7 @@ pub fn recover_found<R: Files, D: Device, W: Write, E: Write>(
         device,
         part,
         trail,
-        is_named: _,
+        ..
     } = found;
     match recover(alloc, setup, device) {
         Ok(
@@ -205,6 +205,10 @@ fn go_on<R: Files, D: Device + Drop, W: Write, E: Write>(
         Ok(found) => found,
         Err(fault) => return tell_fault(errors, &fault),
     };
+    if found.is_torn {
+        drop(found);
+        return tell_fault(errors, &RecoveryFault::NotBegun);
+    }
     if found.is_named {
         finish_found(rt, alloc, setup, found, writer, errors).status
     } else {

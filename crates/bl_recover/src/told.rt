@@ -4,7 +4,7 @@ ghost use Rattle.bl_wire.specs.Watch.{Puts, end_state};
 ghost use Rattle.bl_recover.specs.Telling.{cut_line, fault_text, left_text, recovered_line, status_by};
 
 use crate::fault::RecoveryFault;
-use bl_run::told::tell;
+use bl_status::told::tell;
 use bl_wire::put::{put, put_out};
 use bl_wire::watched::Watched;
 use itoa::Buffer;
@@ -52,7 +52,10 @@ pub fn tell_fault<E: Write>(errors: &mut Watched<E>, fault: &RecoveryFault) -> u
         | RecoveryFault::TrailIsThere
         | RecoveryFault::InUse
         | RecoveryFault::OtherSetup
-        | RecoveryFault::OldVersion => {
+        | RecoveryFault::OldVersion
+        | RecoveryFault::NotBegun
+        | RecoveryFault::Over
+        | RecoveryFault::NoMoreSessions => {
             tell_words(errors, fault.words());
             3
         }

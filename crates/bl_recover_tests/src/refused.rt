@@ -74,10 +74,32 @@ fn the_head_is_not_right(rt: HostRuntime) -> Result<(), Fail> {
     leave(&rt, "wrong.part", b"trial 2\nlimit 7\n", "wrong.setup")?;
     let first = recover(&rt, rt.alloc(), BASE, "wrong");
     assert!(rt; is_refused(&first, 3, b"trail wrong at line 1\n"));
-    leave(&rt, "wrong.part", b"trail 2\nlim", "wrong.setup")?;
+    leave(&rt, "wrong.part", b"trail 2\nlimit 0", "wrong.setup")?;
     let second = recover(&rt, rt.alloc(), BASE, "wrong");
     assert!(rt; is_refused(&second, 3, b"trail wrong at line 2\n"));
-    assert!(rt; has(&rt, "wrong.part", b"trail 2\nlim"));
+    assert!(rt; has(&rt, "wrong.part", b"trail 2\nlimit 0"));
+    clear(&rt, &names);
+    Ok(())
+}
+
+/// A head of which a first part is there, or nothing: it stays so.
+#[test]
+fn the_head_is_torn(rt: HostRuntime) -> Result<(), Fail> {
+    let names = ["torn", "torn.part", "torn.setup"];
+    clear(&rt, &names);
+    let heads = [
+        "",
+        "tr",
+        "trail 2\nlim",
+        "trail 2\nlimit ",
+        "trail 2\nlimit 100000",
+    ];
+    for head in heads {
+        leave(&rt, "torn.part", head.as_bytes(), "torn.setup")?;
+        let ended = recover(&rt, rt.alloc(), BASE, "torn");
+        assert!(rt; is_refused(&ended, 3, b"trail not begun\n"));
+        assert!(rt; has(&rt, "torn.part", head.as_bytes()));
+    }
     clear(&rt, &names);
     Ok(())
 }

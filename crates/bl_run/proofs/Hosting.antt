@@ -4,17 +4,19 @@ use Rattle.std.specs.Prelude.{None, Some, not}
 use Rattle.std.specs.List.{flat_map}
 use Rattle.std.proofs.Math.Seq.{take-suc}
 use Rattle.std.proofs.lemmas.Grind.{flat_map-append}
-use Rattle.bl_host.specs.declared.ended.Ended.{Ended}
+use Rattle.bl_entrance.specs.declared.ended.Ended.{Ended}
 use Rattle.bl_wire.specs.Watch.{EndState, Puts}
 use Rattle.bl_wire.proofs.PutLaws.{puts-all, puts-append, puts-nil, puts-two}
-use Rattle.bl_run.specs.declared.fault.ProgramFault.{ProgramFault}
-use Rattle.bl_run.specs.declared.fault.ProgramFault.TheVariants.{CannotReadSetup, Setup, CannotReadTrail, CannotWriteTrail, CannotListen, Read, Write, TooLong, NoMemory}
-use Rattle.bl_run.specs.Message.{ended_line, fault_line}
+use Rattle.bl_status.specs.declared.fault.ProgramFault.{ProgramFault}
+use Rattle.bl_status.specs.declared.fault.ProgramFault.TheVariants.{CannotReadSetup, Setup, CannotReadTrail, CannotWriteTrail, CannotListen, Read, Write, TooLong, NoMemory}
+use Rattle.bl_status.specs.Message.{fault_line}
+use Rattle.bl_run.specs.Serving.{ended_line}
 use Rattle.bl_run.specs.declared.serve.Finished.{Finished}
 use Rattle.bl_keep.specs.declared.whole.Unkept.{Unkept}
-use Rattle.bl_run.specs.Unkept.{TellsTrail, left_line, unkept_fault, unkept_faults, unkept_text}
+use Rattle.bl_status.specs.Unkept.{left_line, unkept_fault, unkept_faults, unkept_text}
+use Rattle.bl_run.specs.Unkept.{TellsTrail}
 use Rattle.bl_run.specs.Serving.{HasHosted, faults_found, found, hosted_text}
-use Rattle.bl_run.specs.Status.{status_after, status_of}
+use Rattle.bl_status.specs.Status.{status_after, status_of}
 
 -- the lines of one session more
 pub lines-on : (es : List Ended) (i : ℕ) (d : Ended) → i < length es

@@ -8,12 +8,13 @@ use Rattle.bl_setup.specs.Setup as setups
 use Rattle.bl_setup.specs.Grammar.{IsSetup}
 use Rattle.bl_wire.specs.Watch.{EndState, Puts, Use}
 use Rattle.bl_wire.proofs.PutLaws.{puts-all, puts-append}
-use Rattle.bl_run.specs.declared.fault.ProgramFault.{ProgramFault}
+use Rattle.bl_status.specs.declared.fault.ProgramFault.{ProgramFault}
 use Rattle.bl_run.specs.declared.serve.Finished.{Finished}
 use Rattle.bl_run.specs.AloneKept.{HasEnded, HasSat}
-use Rattle.bl_run.specs.Unkept.{TellsTrail, unkept_faults, unkept_text}
-use Rattle.bl_run.specs.Message.{fault_line}
-use Rattle.bl_run.specs.Status.{status_after}
+use Rattle.bl_status.specs.Unkept.{unkept_faults, unkept_text}
+use Rattle.bl_run.specs.Unkept.{TellsTrail}
+use Rattle.bl_status.specs.Message.{fault_line}
+use Rattle.bl_status.specs.Status.{status_after}
 use Rattle.bl_run.proofs.Hosting.{status-append}
 
 -- a session with no fault has kept something

@@ -9,14 +9,14 @@ use Rattle.bl_wire.specs.Watch.{Use}
 use Rattle.bl_wire.specs.declared.fault.SessionFault.{SessionFault}
 use Rattle.bl_session.specs.Outcome.{IsServed, IsCutShort}
 use Rattle.bl_run.specs.declared.alone_run.AloneRun.{AloneRun}
-use Rattle.bl_run.specs.declared.fault.ProgramFault.{ProgramFault}
+use Rattle.bl_status.specs.declared.fault.ProgramFault.{ProgramFault}
 use Rattle.bl_run.specs.declared.serve.Finished.{Finished}
 use Rattle.bl_keep.specs.declared.whole.Unkept.{Unkept}
-use Rattle.bl_run.specs.Failure.{IsNotBegun, IsOfSession}
-use Rattle.bl_run.specs.Unkept.{IsUnkept, unkept_faults, unkept_text}
-use Rattle.bl_run.specs.Message.{fault_line}
-use Rattle.bl_run.specs.Runs.{HasTold}
-use Rattle.bl_run.specs.Status.{status_after}
+use Rattle.bl_status.specs.Failure.{IsNotBegun, IsOfSession}
+use Rattle.bl_status.specs.Unkept.{IsUnkept, unkept_faults, unkept_text}
+use Rattle.bl_status.specs.Message.{fault_line}
+use Rattle.bl_status.specs.Runs.{HasTold}
+use Rattle.bl_status.specs.Status.{status_after}
 
 -- the session of this setup was served, or ended early by the fault
 abbrev pub HasEnded : setups.Setup → ℕ → Option ProgramFault → Use → Use → Type 0

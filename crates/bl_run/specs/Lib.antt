@@ -1,6 +1,3 @@
-pub mod Status
-pub mod Failure
-pub mod Message
 pub mod Unkept
 pub mod Replays
 pub mod Runs

@@ -7,9 +7,8 @@ use Rattle.bl_trail.specs.Follow.{IsVerdict}
 use Rattle.bl_trail.specs.declared.verdict.Verdict.{Verdict}
 use Rattle.bl_trail.specs.declared.verdict.Verdict.TheVariants.{Accepted, Rejected}
 use Rattle.bl_wire.specs.Watch.{Use}
-use Rattle.bl_run.specs.Status.{status_by}
-use Rattle.bl_run.specs.declared.fault.ProgramFault.{ProgramFault}
-use Rattle.bl_run.specs.declared.fault.ProgramFault.TheVariants.{Write, NoMemory}
+use Rattle.bl_status.specs.declared.fault.ProgramFault.{ProgramFault}
+use Rattle.bl_status.specs.declared.fault.ProgramFault.TheVariants.{Write, NoMemory}
 
 -- own choice: the words for a verdict
 abbrev pub verdict_text : Verdict → List ℕ
@@ -19,6 +18,11 @@ verdict_text (Rejected number) = codes "rejected " ++ decimal number
 -- own choice: a verdict is told on a line of its own
 abbrev pub verdict_line : Verdict → List ℕ
 verdict_line verdict = verdict_text verdict ++ 10 ∷ []
+
+-- 0 for an accepted trail, and 1 for a rejected one
+abbrev pub status_by : Verdict → ℕ
+status_by (Accepted count) = 0
+status_by (Rejected number) = 1
 
 -- the setup is one, and this is the verdict on the trail over it
 pub record IsJudged (setup trail : List ℕ) (verdict : Verdict) : Type 0 where

@@ -1,22 +1,27 @@
 -- How a run over its ends ends.
-use Rattle.std.specs.Prelude.{◌≡◌, ◌⊎◌, ℕ, false, List}
-use Rattle.std.specs.Io.KnownBytes.{Keeps, Appends}
+use Rattle.std.specs.Prelude.{◌≡◌, ◌⊎◌, ℕ, List}
+use Rattle.std.specs.Io.KnownBytes.{Keeps}
 use Rattle.bl_setup.specs.Setup as setups
 use Rattle.bl_setup.specs.Grammar.{IsSetup}
 use Rattle.bl_wire.specs.Watch.{Use}
-use Rattle.bl_session.specs.Outcome.{IsServed}
-use Rattle.bl_run.specs.declared.fault.ProgramFault.{ProgramFault}
-use Rattle.bl_run.specs.Failure.{HasFailed, IsNotRead}
-use Rattle.bl_run.specs.Message.{fault_line}
+use Rattle.bl_session.specs.Outcome.{IsServed, IsCutShort}
+use Rattle.bl_wire.specs.declared.fault.SessionFault.{SessionFault}
+use Rattle.bl_status.specs.declared.fault.ProgramFault.{ProgramFault}
+use Rattle.bl_status.specs.Failure.{IsNotBegun, IsNotRead, IsOfSession}
 use Rattle.bl_run.specs.Replays.{HasReplayed, IsCut}
-use Rattle.bl_run.specs.Status.{status_of}
+use Rattle.bl_status.specs.Runs.{HasTold, Run}
 
--- the status of a run, and what it did to its input, its output and standard error
-pub record Run : Type 0 where
-  pub status : ℕ
-  pub input : Use
-  pub output : Use
-  pub errors : Use
+-- A session of the setup that the text is began, and ended early by the fault that is told.
+pub record IsEnded (setup : List ℕ) (limit : ℕ) (fault : ProgramFault) (input output : Use) : Type 0 where
+  pub begun : setups.Setup
+  pub is : IsSetup setup begun
+  pub of : SessionFault
+  pub named : IsOfSession of fault
+  pub short : IsCutShort begun limit of input output
+
+-- a run after the setup of these bytes ended with this fault
+abbrev pub HasFailed : List ℕ → ℕ → ProgramFault → Use → Use → Type 0
+HasFailed setup limit fault input output = IsNotBegun setup fault input output ⊎ IsEnded setup limit fault input output
 
 -- the session was served under the setup of these bytes and this limit, and nothing was said
 pub record HasServed (setup : List ℕ) (limit : ℕ) (run : Run) : Type 0 where
@@ -25,11 +30,6 @@ pub record HasServed (setup : List ℕ) (limit : ℕ) (run : Run) : Type 0 where
   pub is : IsSetup setup begun
   pub served : IsServed begun limit run.input run.output
   pub quiet : Keeps run.errors.before run.errors.after
-
--- the status is that of this fault, which alone was said, unless standard error failed
-pub record HasTold (fault : ProgramFault) (status : ℕ) (errors : Use) : Type 0 where
-  pub status_is : status ≡ status_of fault
-  pub said : errors.failed ≡ false → Appends errors.before errors.after (fault_line fault)
 
 -- the session was served, or the run ended with a fault and told it
 abbrev pub IsRun : List ℕ → ℕ → Run → Type 0

@@ -1,21 +1,22 @@
 -- What a run of the command `serve` tells, and how it ends.
-use Rattle.std.specs.Prelude.{◌≡◌, ◌⊎◌, ℕ, Bool, true, false, not, List, [], ◌∷◌, ◌++◌, Option, None, IsSome, codes, take}
+use Rattle.std.specs.Prelude.{◌≡◌, ◌⊎◌, ℕ, Bool, true, false, not, List, [], ◌∷◌, ◌++◌, Option, None, IsSome, codes, decimal, take}
 use Rattle.std.specs.List.{flat_map}
 use Rattle.std.specs.Io.KnownBytes.{Appends, Keeps}
 use Rattle.bl_setup.specs.Setup as setups
 use Rattle.bl_setup.specs.Grammar.{IsSetup}
 use Rattle.bl_gate.specs.Gates.{GateId, PassView}
-use Rattle.bl_host.specs.declared.ended.Ended.{Ended}
+use Rattle.bl_entrance.specs.Ends.{ended_words}
+use Rattle.bl_entrance.specs.declared.ended.Ended.{Ended}
 use Rattle.bl_wire.specs.Watch.{Use}
-use Rattle.bl_run.specs.declared.fault.ProgramFault.{ProgramFault}
-use Rattle.bl_run.specs.declared.fault.ProgramFault.TheVariants.{Write, NoMemory}
+use Rattle.bl_status.specs.declared.fault.ProgramFault.{ProgramFault}
+use Rattle.bl_status.specs.declared.fault.ProgramFault.TheVariants.{Write, NoMemory}
 use Rattle.bl_run.specs.declared.serve.Finished.{Finished}
 use Rattle.bl_keep.specs.declared.whole.Unkept.{Unkept}
-use Rattle.bl_run.specs.Failure.{IsNotRead}
-use Rattle.bl_run.specs.Unkept.{IsUnkept, unkept_faults, unkept_text}
-use Rattle.bl_run.specs.Message.{ended_line, fault_line}
-use Rattle.bl_run.specs.Runs.{HasTold}
-use Rattle.bl_run.specs.Status.{status_after}
+use Rattle.bl_status.specs.Failure.{IsNotRead}
+use Rattle.bl_status.specs.Unkept.{IsUnkept, unkept_faults, unkept_text}
+use Rattle.bl_status.specs.Message.{fault_line}
+use Rattle.bl_status.specs.Runs.{HasTold}
+use Rattle.bl_status.specs.Status.{status_after}
 
 -- a gate round a hall of this setup and limit in which nothing has happened, and the pass with all parts
 pub record IsNewGate (setup : setups.Setup) (limit : ℕ) (gate : GateId) (pass : PassView) : Type 0 where
@@ -48,6 +49,10 @@ pub record IsUntold (setup : List ℕ) (claims : Bool) (fault : ProgramFault) (o
 -- no session was served: the setup is none, or `listening` was not told whole
 abbrev pub IsUnprepared : List ℕ → Bool → ProgramFault → Use → Type 0
 IsUnprepared setup claims fault output = IsNotRead setup fault output ⊎ IsUntold setup claims fault output
+
+-- what is said of a session of `serve` that ended early, on a line of its own
+abbrev pub ended_line : Ended → List ℕ
+ended_line ended = codes "session " ++ decimal ended.session ++ codes ": " ++ ended_words ended.why ++ 10 ∷ []
 
 -- a fault, where it was found
 abbrev pub found : Bool → ProgramFault → List ProgramFault

@@ -5,13 +5,14 @@ ghost use Rattle.bl_setup.specs.Grammar.{IsSetup};
 ghost use Rattle.bl_wire.specs.Watch.{used};
 ghost use Rattle.bl_run.specs.Replays.{HasReplayed, IsCut, verdict_line, verdict_text};
 ghost use Rattle.bl_run.specs.Runs.{HasNoVerdict, IsReplayOn};
-ghost use Rattle.bl_run.specs.Status.{status_by, IsStatus};
+ghost use Rattle.bl_status.specs.Status.{IsStatus};
+ghost use Rattle.bl_run.specs.Replays.{status_by};
 
-use crate::fault::{ProgramFault, of_setup};
-use crate::told::tell;
 use bl_replay::replay::replay;
 use bl_setup::reader::read_setup;
 use bl_setup::setup::Setup;
+use bl_status::fault::{ProgramFault, of_setup};
+use bl_status::told::tell;
 use bl_trail::verdict::Verdict;
 use bl_wire::put::{put, put_out};
 use bl_wire::watched::Watched;

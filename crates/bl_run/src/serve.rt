@@ -1,23 +1,24 @@
 //! The run of the command `serve`.
-ghost use Rattle.std.specs.Prelude.{◌≡◌, ◌<◌, ◌≤◌, ◌⊎◌, List, false, true, not, IfErr, IfOk, IsSome, OnOk};
+ghost use Rattle.std.specs.Prelude.{◌≡◌, ◌<◌, ◌≤◌, ◌⊎◌, false, true, not, IfErr, IfOk, IsSome, OnOk};
 ghost use Rattle.std.specs.Io.KnownBytes.{Appends};
 ghost use Rattle.std.specs.List.{flat_map};
-ghost use Rattle.bl_gate.specs.Gates.{Follows};
 ghost use Rattle.bl_wire.specs.Watch.{Puts, end_state, used};
 ghost use Rattle.bl_run.specs.Unkept.{TellsTrail};
-ghost use Rattle.bl_run.specs.Message.{ended_line, fault_line};
-ghost use Rattle.bl_run.specs.Runs.{HasTold};
+ghost use Rattle.bl_status.specs.Message.{fault_line};
+ghost use Rattle.bl_run.specs.Serving.{ended_line};
+ghost use Rattle.bl_status.specs.Runs.{HasTold};
 ghost use Rattle.bl_run.specs.Serving.{HasHosted, IsNewGate, IsPrepared, IsServe, IsUnannounced, IsUnprepared, faults_found, found, hosted_text, listening};
-ghost use Rattle.bl_run.specs.Status.{IsEnd, status_after};
+ghost use Rattle.bl_status.specs.Status.{IsEnd, status_after};
 
-use crate::fault::{ProgramFault, of_keep, of_setup};
-use crate::told::{tell, tell_ended, tell_left};
+use crate::told::tell_ended;
+use bl_entrance::acceptor::SharedLog;
+use bl_entrance::ended::Ended;
+use bl_entrance::entrance::Entrance;
+use bl_entrance::options::Options;
 use bl_gate::gate::Gate;
 use bl_gate::pass::Pass;
 use bl_hall::hall::Hall;
-use bl_host::ended::Ended;
-use bl_host::host::{Hosted, Site, host};
-use bl_host::options::Options;
+use bl_host::host::{HostContext, Hosted, host};
 use bl_keep::keep::keep;
 use bl_keep::named::Kept;
 use bl_keep::part::{PartFile, TrailFile, claim, give_back};
@@ -25,22 +26,27 @@ use bl_keep::whole::Unkept;
 use bl_keeper::keep::NoKeep;
 use bl_setup::reader::read_setup;
 use bl_setup::setup::Setup;
+use bl_status::fault::{ProgramFault, of_keep, of_setup};
+use bl_status::told::{tell, tell_left};
 use bl_wire::put::put_out;
 use bl_wire::watched::Watched;
 use bl_worker::pause::Pause;
 use std::alloc::Global;
 use std::io::Write;
-use std::net::{Net, TcpListener, TcpStream};
+use std::net::Net;
 use std::rt::Files;
 use std::sync::Wait;
 use std::thread::Threads;
+use std::time::Clock;
 
-/// What a run of `serve` stands on: the runtime, where memory comes from, and what each turn does between a start and an end.
+/// What a run of `serve` stands on: the runtime, where memory comes from, what each turn does between a start and an end,
+/// and the log of connections, if there is one.
 #[derive(Drop)]
-pub struct Ground<'a, P, T> {
+pub struct RunContext<'a, P, T: Files> {
     pub rt: &'a T,
     pub alloc: Global,
     pub pause: &'a P,
+    pub log: Option<&'a SharedLog<T::File>>,
 }
 
 /// What a run of `serve` was asked for: the weight of the lines that are admitted at most, 1 to 100,000, how many threads and sessions
@@ -243,17 +249,15 @@ pub(crate) fn tell_trail<E: Write>(
 
 /// All after `listening`: the sessions are served, what was found is told, and the trail is kept where each thread was started. The status is 0
 /// only where it was kept.
-fn host_on<
-    P: Pause + Sync,
-    T: Threads + Wait + Files + Net<Listener = TcpListener, Stream = TcpStream> + Sync,
-    E: Write,
->(
-    ground: &Ground<'_, P, T>,
-    listener: TcpListener,
+fn host_on<P: Pause + Sync, T: Threads + Wait + Files + Net + Clock + Sync, E: Write>(
+    run_context: &RunContext<'_, P, T>,
+    entrance: &Entrance,
     prepared: Prepared<T::File>,
     run: &ServeRun<'_>,
     errors: &mut Watched<E>,
 ) -> Finished
+where
+    T::File: Send,
     requires gate { prepared.pass.gate ≡ prepared.gate }
     requires parts { prepared.pass.parts ≡ 64 }
     ensures run { HasHosted result (used E.contents errors.old errors.new) }
@@ -265,56 +269,66 @@ fn host_on<
         pass,
         claimed,
     } = prepared;
-    let site = Site {
-        rt: ground.rt,
-        alloc: ground.alloc,
+    let host_context = HostContext {
+        rt: run_context.rt,
+        alloc: run_context.alloc,
         gate: &gate,
-        pause: ground.pause,
+        pause: run_context.pause,
         keep: &NoKeep,
+        log: run_context.log,
     };
     let Hosted {
         pass,
         ended,
         whole,
         memory,
-    } = host(&site, listener, pass, run.options);
+    } = host(&host_context, entrance, pass, run.options);
     let status = tell_hosted(errors, whole, ended.as_slice(), memory);
     drop(ended);
     if !whole {
-        give_back(ground.rt, claimed);
+        give_back(run_context.rt, claimed);
         drop(pass);
         drop(gate);
         return Finished { status, kept: None };
     }
-    let kept = keep_closed(ground.rt, ground.alloc, gate, pass, claimed, &run.trail);
+    let kept = keep_closed(
+        run_context.rt,
+        run_context.alloc,
+        gate,
+        pass,
+        claimed,
+        &run.trail,
+    );
     tell_trail(errors, status, kept)
 }
 
-/// Sessions over TCP at a listener, after the setup of these bytes: the command `serve`.
+/// Sessions of who comes in at an entrance, after the setup of these bytes: the command `serve`.
 ///
 /// `listening` is told on `writer` before the first session is served. The status of the run is 0 where all was done and the trail was kept, 3 for a
 /// fault of the setup, of the output or of the trail file, and 4 when out of memory. A session that ends early is told and
 /// changes no status. Where several faults were found all are told, and the first gives the status.
 pub fn serve_on<
     P: Pause + Sync,
-    T: Threads + Wait + Files + Net<Listener = TcpListener, Stream = TcpStream> + Sync,
+    T: Threads + Wait + Files + Net + Clock + Sync,
     W: Write,
     E: Write,
 >(
-    ground: &Ground<'_, P, T>,
-    listener: TcpListener,
+    run_context: &RunContext<'_, P, T>,
+    entrance: &Entrance,
     setup: &[u8],
     run: &ServeRun<'_>,
     writer: &mut Watched<W>,
     errors: &mut Watched<E>,
 ) -> Finished
+where
+    T::File: Send,
     ensures run { IsServe setup.now run.now.trail.claims result (used W.contents writer.old writer.new) (used E.contents errors.old errors.new) }
     ensures handed_on { result.status ≡ 0 → writer.new.unflushed ≡ false }
     ensures kept { result.status ≡ 0 → IsSome result.kept }
     ensures status { IsEnd result.status }
 {
-    match prepare(ground.rt, ground.alloc, setup, run, writer) {
-        Ok(prepared) => host_on(ground, listener, prepared, run, errors),
+    match prepare(run_context.rt, run_context.alloc, setup, run, writer) {
+        Ok(prepared) => host_on(run_context, entrance, prepared, run, errors),
         Err(fault) => end_with(errors, fault),
     }
 }

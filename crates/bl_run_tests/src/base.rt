@@ -1,7 +1,8 @@
 //! A run of `serve` with clients beside it.
+use bl_host::entrance::Entrance;
 use bl_host::options::Options;
 use bl_keep::part::TrailFile;
-use bl_run::serve::{Ground, ServeRun, serve_on};
+use bl_run::serve::{RunContext, ServeRun, serve_on};
 use bl_wire::watched::Watched;
 use bl_worker::pause::Pause;
 use std::alloc::Global;
@@ -10,6 +11,7 @@ use std::net::{Ipv4Addr, Net, Shutdown, SocketAddr, TcpListener, TcpStream};
 use std::rt::Files;
 use std::sync::Wait;
 use std::thread::Threads;
+use std::time::Clock;
 use std::{fs, io};
 
 /// The setup of the worked examples.
@@ -65,14 +67,32 @@ pub(crate) struct Served {
 }
 
 /// A run of `serve` over the base setup.
-pub(crate) fn serve<
-    P: Pause + Sync,
-    R: Threads + Wait + Files + Net<Listener = TcpListener, Stream = TcpStream> + Sync,
->(rt: &R, alloc: Global, listener: TcpListener, run: &ServeRun<'_>, pause: &P) -> Served {
-    let ground = Ground { rt, alloc, pause };
+pub(crate) fn serve<'x, P: Pause + Sync, R: Threads + Wait + Files + Net + Clock + Sync>(
+    rt: &'x R,
+    alloc: Global,
+    listener: TcpListener,
+    run: &ServeRun<'_>,
+    pause: &'x P,
+) -> Served
+where
+    R::File: Send,
+{
+    let run_context = RunContext {
+        rt,
+        alloc,
+        pause,
+        log: None,
+    };
     let mut writer = Watched::new(Vec::new(alloc));
     let mut errors = Watched::new(Vec::new(alloc));
-    let finished = serve_on(&ground, listener, BASE, run, &mut writer, &mut errors);
+    let finished = serve_on(
+        &run_context,
+        &Entrance::Port(listener),
+        BASE,
+        run,
+        &mut writer,
+        &mut errors,
+    );
     Served {
         status: finished.status,
         told: writer.into_inner(),
@@ -94,6 +114,7 @@ pub(crate) fn two_of_each(sessions: u32, trail: &str) -> ServeRun<'_> {
             session_threads: 2,
             sessions,
             clients: 1000,
+            idle: None,
         },
         trail: TrailFile {
             name: trail,

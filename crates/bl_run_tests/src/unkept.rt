@@ -1,10 +1,15 @@
 //! A server that can keep no more.
+ghost use Rattle.std.specs.Prelude.{◌≡◌, ◌<◌};
+
 use super::base::{BASE, connect, listen};
 use bl_disk::device::DeviceError;
+use bl_entrance::acceptor::SharedLog;
 use bl_gate::gate::Gate;
+use bl_gate::pass::Pass;
 use bl_hall::hall::Hall;
 use bl_host::ended::{Ended, Why};
-use bl_host::host::{Site, host};
+use bl_host::entrance::Entrance;
+use bl_host::host::{HostContext, host};
 use bl_host::options::Options;
 use bl_keeper::keep::Keep;
 use bl_keeper::receipt::Receipt;
@@ -15,9 +20,11 @@ use std::alloc::{AllocGlobal, Global};
 use std::io::{Read, Write};
 use std::net::{Net, Shutdown, SocketAddr, TcpListener, TcpStream};
 use std::process::Abort;
+use std::rt::Files;
 use std::sync::Wait;
 use std::sync::atomic::{AtomicU64, Ordering};
 use std::thread::Threads;
+use std::time::Clock;
 use std::{io, thread};
 
 /// Keeps once, and has failed from then on.
@@ -51,15 +58,52 @@ struct Left {
     ended: Vec<Ended>,
 }
 
-/// Hosts three connections with two session threads, as long as something is kept.
-fn host_three<
-    R: AllocGlobal
-        + Abort
-        + Threads
-        + Wait
-        + Net<Listener = TcpListener, Stream = TcpStream>
-        + Sync,
->(rt: &R, listener: TcpListener, keep: &Once) -> Left {
+/// Hosts three connections with two session threads at this gate, as long as something is kept.
+fn host_at<'x, R: AllocGlobal + Threads + Wait + Files + Net + Clock + Sync>(
+    rt: &'x R,
+    gate: &'x Gate,
+    pass: Pass,
+    listener: TcpListener,
+    keep: &'x Once,
+) -> Left
+where
+    R::File: Send,
+    requires gate { pass.gate ≡ gate.now }
+    requires parts { 32 < pass.parts }
+{
+    let log: Option<&'x SharedLog<R::File>> = None;
+    let host_context = HostContext {
+        rt,
+        alloc: rt.alloc(),
+        gate,
+        pause: &NoPause,
+        keep,
+        log,
+    };
+    let options = Options {
+        workers: 1,
+        session_threads: 2,
+        sessions: 3,
+        clients: 1000,
+        idle: None,
+    };
+    let hosted = host(&host_context, &Entrance::Port(listener), pass, options);
+    Left {
+        whole: hosted.whole,
+        parts: hosted.pass.parts(),
+        ended: hosted.ended,
+    }
+}
+
+/// Hosts them at a gate of their own.
+fn host_three<R: AllocGlobal + Abort + Threads + Wait + Files + Net + Clock + Sync>(
+    rt: &R,
+    listener: TcpListener,
+    keep: &Once,
+) -> Left
+where
+    R::File: Send,
+{
     let alloc = rt.alloc();
     let Ok(setup) = read_setup(alloc, BASE) else {
         panic!(rt; "no setup");
@@ -70,25 +114,7 @@ fn host_three<
     let Ok((gate, pass)) = Gate::new(hall) else {
         panic!(rt; "no gate");
     };
-    let site = Site {
-        rt,
-        alloc,
-        gate: &gate,
-        pause: &NoPause,
-        keep,
-    };
-    let options = Options {
-        workers: 1,
-        session_threads: 2,
-        sessions: 3,
-        clients: 1000,
-    };
-    let hosted = host(&site, listener, pass, options);
-    Left {
-        whole: hosted.whole,
-        parts: hosted.pass.parts(),
-        ended: hosted.ended,
-    }
+    host_at(rt, &gate, pass, listener, keep)
 }
 
 /// Greets, and once that is answered asks for more; what is heard after the answer.

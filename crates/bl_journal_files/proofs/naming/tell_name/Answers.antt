@@ -2,8 +2,8 @@ use Rattle.std.proofs.Common.{◌++◌, List, ℕ, subst, sym, Result, Err}
 use Rattle.bl_keep.specs.declared.fault.KeepFault.{KeepFault}
 use Rattle.bl_wire.specs.Watch.{Puts, end_state}
 use Rattle.bl_wire.proofs.PutLaws.{puts-append}
-use Rattle.bl_run.specs.Message.{fault_line}
-use Rattle.bl_run.specs.Unkept.{unkept_fault}
+use Rattle.bl_status.specs.Message.{fault_line}
+use Rattle.bl_status.specs.Unkept.{unkept_fault}
 use Rattle.bl_recover.specs.Telling.{left_text}
 use Rattle.bl_journal_files.specs.Naming.{naming_text}
 use Rattle.bl_journal_files.proofs.naming.tell_name.Goals as goal

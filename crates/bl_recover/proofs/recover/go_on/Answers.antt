@@ -1,4 +1,5 @@
 use Rattle.std.proofs.KnownBytes.{Keeps-refl}
+use Rattle.bl_recover.specs.declared.fault.RecoveryFault.TheVariants.{NotBegun}
 use Rattle.bl_recover.specs.declared.recover.RecoveryEnd.TheVariants.{Refused}
 use Rattle.bl_recover.proofs.recover.go_on.Goals as goal
 
@@ -9,4 +10,13 @@ returns-in-Err-clause-run g c trail beside = record {
   written = Keeps-refl _;
   said = c.tell_fault.ensures.puts;
   status_is = c.tell_fault.ensures.status;
+}
+
+-- the head is torn
+pub returns-then-found-clause-run : goal.returns-then-found-clause-run
+returns-then-found-clause-run g c trail beside = record {
+  end = Refused NotBegun;
+  written = Keeps-refl _;
+  said = c.tell_fault-then-found.ensures.puts;
+  status_is = c.tell_fault-then-found.ensures.status;
 }

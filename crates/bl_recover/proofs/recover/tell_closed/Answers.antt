@@ -2,9 +2,9 @@ use Rattle.std.proofs.Common.{◌++◌, ◌∙◌, ap, refl, subst, sym}
 use Rattle.std.proofs.KnownBytes.{Keeps-refl}
 use Rattle.bl_wire.specs.Watch.{Puts, end_state}
 use Rattle.bl_wire.proofs.PutLaws.{puts-append, puts-three}
-use Rattle.bl_run.specs.Message.{fault_line}
-use Rattle.bl_run.specs.Status.{status_of}
-use Rattle.bl_run.specs.Unkept.{unkept_fault}
+use Rattle.bl_status.specs.Message.{fault_line}
+use Rattle.bl_status.specs.Status.{status_of}
+use Rattle.bl_status.specs.Unkept.{unkept_fault}
 use Rattle.bl_recover.specs.Recoveries.{after_cut}
 use Rattle.bl_recover.specs.Telling.{cut_line, left_text}
 use Rattle.bl_recover.proofs.Recoveries.{cut_is}

@@ -1,6 +1,6 @@
 use Rattle.std.proofs.Common.{inl, inr}
 use Rattle.std.proofs.KnownBytes.{Keeps-refl}
-use Rattle.bl_run.proofs.Unkept.{is_unkept}
+use Rattle.bl_status.proofs.Unkept.{is_unkept}
 use Rattle.bl_run.proofs.alone.alone_kept_on.Goals as goal
 
 -- the bytes are no setup

@@ -3,9 +3,9 @@ use Rattle.std.specs.Io.KnownBytes.{Appends}
 use Rattle.std.proofs.KnownBytes.{Keeps-refl}
 use Rattle.std.proofs.lemmas.Result.{IfOk-weaker, IfErr-weaker}
 use Rattle.bl_wire.specs.Watch.{used}
-use Rattle.bl_run.specs.declared.fault.ProgramFault.TheVariants.{Write}
+use Rattle.bl_status.specs.declared.fault.ProgramFault.TheVariants.{Write}
 use Rattle.bl_run.specs.Replays.{HasReplayed, IsCut, verdict_line}
-use Rattle.bl_run.specs.Status.{status_by}
+use Rattle.bl_run.specs.Replays.{status_by}
 use Rattle.bl_run.proofs.replay.tell_judged.Goals as goal
 
 pub returns-in-Ok-clause-told : goal.returns-in-Ok-clause-told

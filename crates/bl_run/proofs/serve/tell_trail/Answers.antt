@@ -1,10 +1,10 @@
 use Rattle.std.proofs.Common.{◌≡◌, ◌∙◌, ap, subst, true}
 use Rattle.std.specs.List.{flat_map}
 use Rattle.bl_wire.specs.Watch.{Puts, end_state}
-use Rattle.bl_run.specs.Message.{fault_line}
+use Rattle.bl_status.specs.Message.{fault_line}
 use Rattle.bl_run.specs.Serving.{found}
-use Rattle.bl_run.specs.Status.{status_after}
-use Rattle.bl_run.specs.Unkept.{unkept_fault}
+use Rattle.bl_status.specs.Status.{status_after}
+use Rattle.bl_status.specs.Unkept.{unkept_fault}
 use Rattle.bl_run.proofs.Hosting.{told_trail}
 use Rattle.bl_run.proofs.serve.tell_trail.Goals as goal
 

@@ -1,6 +1,7 @@
 use Rattle.std.proofs.Common.{rules, ◌≡◌, ◌++◌, ap, codes, decimal}
 use Rattle.bl_wire.proofs.PutLaws.{puts-append, puts-is, puts-line}
-use Rattle.bl_run.specs.Message.{ended_line, ended_words}
+use Rattle.bl_entrance.specs.Ends.{ended_words}
+use Rattle.bl_run.specs.Serving.{ended_line}
 use Rattle.bl_run.proofs.told.tell_ended.Goals as goal
 
 pub returns : goal.returns

@@ -1,5 +1,5 @@
--- What a run of the command `alone` that failed says, by the fault that it ends with.
-use Rattle.std.specs.Prelude.{◌≡◌, ◌≢◌, ℕ, List, [], codes, ◌⊎◌}
+-- What a fault of a setup or of a session is to the program, and what a run did that began no session.
+use Rattle.std.specs.Prelude.{◌≡◌, ◌≢◌, ℕ, List, [], codes}
 use Rattle.std.specs.Io.KnownBytes.{Keeps}
 use Rattle.bl_setup.specs.Setup as setups
 use Rattle.bl_setup.specs.Faults.{UnlessMemory}
@@ -8,12 +8,11 @@ use Rattle.bl_setup.specs.Grammar.{IsSetup}
 use Rattle.bl_declare.specs.declared.fault.SetupFault.{SetupFault}
 use Rattle.bl_declare.specs.declared.fault.SetupFaultKind.{SetupFaultKind}
 use Rattle.bl_declare.specs.declared.fault.SetupFaultKind.TheVariants as kinds
-use Rattle.bl_session.specs.Outcome.{IsCutShort}
 use Rattle.bl_wire.specs.Watch.{Use}
 use Rattle.bl_wire.specs.declared.fault.SessionFault.{SessionFault}
 use Rattle.bl_wire.specs.declared.fault.SessionFault.TheVariants as failing
-use Rattle.bl_run.specs.declared.fault.ProgramFault.{ProgramFault}
-use Rattle.bl_run.specs.declared.fault.ProgramFault.TheVariants.{CannotReadSetup, Setup, CannotReadTrail, CannotWriteTrail, CannotListen, Read, Write, TooLong, NoMemory}
+use Rattle.bl_status.specs.declared.fault.ProgramFault.{ProgramFault}
+use Rattle.bl_status.specs.declared.fault.ProgramFault.TheVariants.{CannotReadSetup, Setup, CannotReadTrail, CannotWriteTrail, CannotListen, Read, Write, TooLong, NoMemory}
 
 -- the words for a kind of fault; that of memory has none, and is told without a line
 abbrev pub kind_words : SetupFaultKind → List ℕ
@@ -24,7 +23,7 @@ kind_words kinds.CurrentAboveGreatest = codes "current above greatest"
 kind_words kinds.TooMany = codes "too many"
 kind_words kinds.Memory = []
 
--- Want of memory is told as such, and any other fault of a setup with its line and the words for its kind.
+-- Out of memory is told as such, and any other fault of a setup with its line and the words for its kind.
 abbrev pub IsOfSetup : SetupFault → ProgramFault → Type 0
 IsOfSetup of CannotReadSetup = ⊥
 IsOfSetup of (Setup line kind) = (of.kind ≢ kinds.Memory) × (line ≡ of.line) × (kind.now ≡ kind_words of.kind)
@@ -58,15 +57,3 @@ pub record IsNotRead (setup : List ℕ) (fault : ProgramFault) (output : Use) : 
 pub record IsNotBegun (setup : List ℕ) (fault : ProgramFault) (input output : Use) : Type 0 where
   pub unread : Keeps input.before input.after
   pub unmet : IsNotRead setup fault output
-
--- A session of the setup that the text is began, and ended early by the fault that is told.
-pub record IsEnded (setup : List ℕ) (limit : ℕ) (fault : ProgramFault) (input output : Use) : Type 0 where
-  pub begun : setups.Setup
-  pub is : IsSetup setup begun
-  pub of : SessionFault
-  pub named : IsOfSession of fault
-  pub short : IsCutShort begun limit of input output
-
--- a run after the setup of these bytes ended with this fault
-abbrev pub HasFailed : List ℕ → ℕ → ProgramFault → Use → Use → Type 0
-HasFailed setup limit fault input output = IsNotBegun setup fault input output ⊎ IsEnded setup limit fault input output

@@ -1,8 +1,8 @@
 use Rattle.std.proofs.Common.{rules, ◌≡◌, ◌++◌, ◌∙◌, ap, sym, refl, codes}
 use Rattle.std.specs.Prelude.{string_bytes}
 use Rattle.bl_wire.proofs.PutLaws.{puts-is, puts-three}
-use Rattle.bl_run.specs.Unkept.{left_line, left_words}
-use Rattle.bl_run.proofs.told.tell_left.Goals as goal
+use Rattle.bl_status.specs.Unkept.{left_line, left_words}
+use Rattle.bl_status.proofs.told.tell_left.Goals as goal
 
 -- the words and the name
 pub returns : goal.returns

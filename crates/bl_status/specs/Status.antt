@@ -1,9 +1,7 @@
 -- The status that a run ends with.
 use Rattle.std.specs.Prelude.{◌≡◌, ◌⊎◌, ℕ, zero, suc, List, [], ◌∷◌}
-use Rattle.bl_trail.specs.declared.verdict.Verdict.{Verdict}
-use Rattle.bl_trail.specs.declared.verdict.Verdict.TheVariants.{Accepted, Rejected}
-use Rattle.bl_run.specs.declared.fault.ProgramFault.{ProgramFault}
-use Rattle.bl_run.specs.declared.fault.ProgramFault.TheVariants.{CannotReadSetup, Setup, CannotReadTrail, CannotWriteTrail, CannotListen, Read, Write, TooLong, NoMemory}
+use Rattle.bl_status.specs.declared.fault.ProgramFault.{ProgramFault}
+use Rattle.bl_status.specs.declared.fault.ProgramFault.TheVariants.{CannotReadSetup, Setup, CannotReadTrail, CannotWriteTrail, CannotListen, Read, Write, TooLong, NoMemory}
 
 -- 4 when out of memory, and 3 for anything else
 abbrev pub status_of : ProgramFault → ℕ
@@ -20,11 +18,6 @@ status_of NoMemory = 4
 -- done, a fault, or out of memory
 abbrev pub IsEnd : ℕ → Type 0
 IsEnd status = (status ≡ 0) ⊎ ((status ≡ 3) ⊎ (status ≡ 4))
-
--- 0 for an accepted trail, and 1 for a rejected one
-abbrev pub status_by : Verdict → ℕ
-status_by (Accepted count) = 0
-status_by (Rejected number) = 1
 
 -- a trail was rejected; bad arguments; or done, a fault, or out of memory
 abbrev pub IsStatus : ℕ → Type 0

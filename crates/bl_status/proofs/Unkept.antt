@@ -2,8 +2,8 @@
 use Rattle.std.proofs.Common.{◌≡◌, inl, inr}
 use Rattle.bl_keep.specs.declared.fault.KeepFault.{KeepFault}
 use Rattle.bl_keep.specs.declared.fault.KeepFault.TheVariants.{Unwritable, Memory}
-use Rattle.bl_run.specs.declared.fault.ProgramFault.{ProgramFault}
-use Rattle.bl_run.specs.Unkept.{IsUnkept, unkept_fault}
+use Rattle.bl_status.specs.declared.fault.ProgramFault.{ProgramFault}
+use Rattle.bl_status.specs.Unkept.{IsUnkept, unkept_fault}
 
 -- each fault of a trail that is not kept is told as one of two
 pub is_unkept : (of : KeepFault) (fault : ProgramFault) → fault ≡ unkept_fault of → IsUnkept fault

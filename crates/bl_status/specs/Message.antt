@@ -1,11 +1,7 @@
 -- What a run says on standard error of the fault that ends it.
 use Rattle.std.specs.Prelude.{ℕ, List, [], ◌∷◌, ◌++◌, codes, decimal}
-use Rattle.bl_wire.specs.declared.fault.SessionFault.TheVariants as failing
-use Rattle.bl_host.specs.declared.ended.Ended.{Ended}
-use Rattle.bl_host.specs.declared.ended.Why.{Why}
-use Rattle.bl_host.specs.declared.ended.Why.TheVariants.{Accept, NotKept, Session}
-use Rattle.bl_run.specs.declared.fault.ProgramFault.{ProgramFault}
-use Rattle.bl_run.specs.declared.fault.ProgramFault.TheVariants.{CannotReadSetup, Setup, CannotReadTrail, CannotWriteTrail, CannotListen, Read, Write, TooLong, NoMemory}
+use Rattle.bl_status.specs.declared.fault.ProgramFault.{ProgramFault}
+use Rattle.bl_status.specs.declared.fault.ProgramFault.TheVariants.{CannotReadSetup, Setup, CannotReadTrail, CannotWriteTrail, CannotListen, Read, Write, TooLong, NoMemory}
 
 -- own choice: the words for each fault; of a setup those for what is wrong with its line
 abbrev pub words_of : ProgramFault → List ℕ
@@ -34,17 +30,3 @@ message_of NoMemory = words_of NoMemory
 -- what is said of a fault, on a line of its own
 abbrev pub fault_line : ProgramFault → List ℕ
 fault_line fault = message_of fault ++ 10 ∷ []
-
--- own choice: the words for how a session of `serve` ended
-abbrev pub ended_words : Why → List ℕ
-ended_words Accept = codes "accept fault"
-ended_words NotKept = codes "not kept"
-ended_words (Session failing.Read) = codes "read fault"
-ended_words (Session failing.Write) = codes "write fault"
-ended_words (Session failing.TooLong) = codes "too long"
-ended_words (Session failing.Memory) = codes "no memory"
-ended_words (Session failing.Clash) = codes "clash"
-
--- what is said of a session of `serve` that ended early, on a line of its own
-abbrev pub ended_line : Ended → List ℕ
-ended_line ended = codes "session " ++ decimal ended.session ++ codes ": " ++ ended_words ended.why ++ 10 ∷ []

@@ -1,7 +1,7 @@
 use Rattle.std.proofs.Common.{rules, ◌≡◌, ◌++◌, ap, sym, ◌∙◌, codes, decimal}
 use Rattle.bl_wire.proofs.PutLaws.{puts-is, puts-line}
-use Rattle.bl_run.specs.Message.{message_of}
-use Rattle.bl_run.proofs.told.say.Goals as goal
+use Rattle.bl_status.specs.Message.{message_of}
+use Rattle.bl_status.proofs.told.say.Goals as goal
 
 -- the line and the words of a fault of the setup
 pub returns-in-Setup : goal.returns-in-Setup

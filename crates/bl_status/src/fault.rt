@@ -1,10 +1,10 @@
 //! What the program says on standard error, and the status that it then ends with.
 ghost use Rattle.std.specs.Prelude.{◌≡◌, ◌≢◌, ◌⊎◌};
 ghost use Rattle.std.specs.IoError.{error_kind};
-ghost use Rattle.bl_run.specs.Message.{words_of};
-ghost use Rattle.bl_run.specs.Failure.{IsOfSetup, IsOfSession};
-ghost use Rattle.bl_run.specs.Status.{status_of};
-ghost use Rattle.bl_run.specs.Unkept.{unkept_fault};
+ghost use Rattle.bl_status.specs.Message.{words_of};
+ghost use Rattle.bl_status.specs.Failure.{IsOfSetup, IsOfSession};
+ghost use Rattle.bl_status.specs.Status.{status_of};
+ghost use Rattle.bl_status.specs.Unkept.{unkept_fault};
 ghost use Rattle.bl_wire.specs.declared.fault.SessionFault.TheVariants as failing;
 
 use bl_keep::fault::KeepFault;
@@ -44,7 +44,7 @@ pub enum ProgramFault {
 
 impl fmt::Display for ProgramFault {
     ghost use Rattle.std.specs.Prelude.{Some};
-    ghost use Rattle.bl_run.specs.Message.{message_of};
+    ghost use Rattle.bl_status.specs.Message.{message_of};
 
     ghost output = { λ fault. Some (message_of fault) };
 

@@ -1,0 +1,126 @@
+//! A device that has it noted when it has kept more.
+ghost use Rattle.std.specs.Prelude.{◌≡◌, ◌≤◌, length};
+ghost use Rattle.bl_disk.specs.Moments.{Passes};
+
+use bl_disk::device::{Device, DeviceError};
+use std::alloc::{AllocError, Global};
+
+/// Notes how many events a journal has kept.
+pub trait Note {
+    /// So many events are kept now. What cannot be noted is left out.
+    fn note(&mut self, events: usize);
+}
+
+/// How many lines stand before the events: the version and the limit.
+const HEAD_LINES: usize = 2;
+
+/// The line that closes a trail, and that is no event.
+const STOP: &[u8] = b"stop\n";
+
+/// The file of a journal, which has it noted how many events are kept whenever more were.
+#[derive(Drop)]
+pub struct Timed<D: Device, N: Note> {
+    /// The file.
+    pub device: D,
+    /// What notes it.
+    pub notes: N,
+    /// Where the lines end that were read, until the file changes.
+    ends: Vec<usize>,
+    /// How many whole lines the file has, but for a closing one.
+    lines: usize,
+    /// Whether some were added that are not kept yet.
+    is_behind: bool,
+}
+
+/// How many lines a text ends.
+fn lines_in(text: &[u8]) -> usize
+    ensures { result ≤ length text.now }
+{
+    text.iter().filter(|byte| **byte == b'\n').count()
+}
+
+/// Where the lines of a text end.
+fn line_ends(alloc: Global, text: &[u8]) -> Result<Vec<usize>, AllocError> {
+    let mut ends = Vec::new(alloc);
+    for (at, byte) in text.iter().enumerate() {
+        if *byte == b'\n' {
+            ends.push(at)?;
+        }
+    }
+    Ok(ends)
+}
+
+impl<D: Device, N: Note> Timed<D, N> {
+    /// A file of which nothing was read or written yet.
+    pub fn new(alloc: Global, device: D, notes: N) -> Self
+        ensures { result.device ≡ device }
+    {
+        Timed {
+            device,
+            notes,
+            ends: Vec::new(alloc),
+            lines: 0,
+            is_behind: false,
+        }
+    }
+
+    /// A text was added at the end.
+    fn added(&mut self, text: &[u8])
+        ensures { self.new.device ≡ self.old.device }
+    {
+        if text != STOP {
+            self.lines = self.lines.saturating_add(lines_in(text));
+            self.is_behind = true;
+        }
+    }
+
+    /// The file has so many bytes of those that were read.
+    fn cut_to(&mut self, len: usize)
+        ensures { self.new.device ≡ self.old.device }
+    {
+        self.lines = self.ends.iter().filter(|at| **at < len).count();
+        self.ends.clear();
+    }
+
+    /// All is kept that was added.
+    fn kept(&mut self)
+        ensures { self.new.device ≡ self.old.device }
+    {
+        if self.is_behind {
+            self.is_behind = false;
+            self.notes.note(self.lines.saturating_sub(HEAD_LINES));
+        }
+    }
+}
+
+impl<D: Device, N: Note> Device for Timed<D, N> {
+    ghost now = { λ timed. D.now timed.device };
+
+    ghost past = { λ timed. D.past timed.device };
+
+    ghost has_failed = { λ timed. D.has_failed timed.device };
+
+    fn read(&mut self, alloc: Global) -> Result<Vec<u8>, DeviceError> {
+        let bytes = self.device.read(alloc)?;
+        self.ends = line_ends(alloc, &bytes)?;
+        Ok(bytes)
+    }
+
+    fn append(&mut self, text: &[u8]) -> Result<(), DeviceError> {
+        self.device.append(text)?;
+        self.added(text);
+        Ok(())
+    }
+
+    fn cut(&mut self, len: usize) -> Result<(), DeviceError> {
+        self.device.cut(len)?;
+        self.cut_to(len);
+        Ok(())
+    }
+
+    fn sync(&mut self) -> Result<(), DeviceError> {
+        self.device.sync()?;
+        self.kept();
+        Ok(())
+    }
+}

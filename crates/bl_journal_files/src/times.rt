@@ -1,0 +1,27 @@
+//! The file of the times at which a journal was written.
+ghost use Rattle.std.specs.Prelude.{◌≡◌};
+
+use bl_clock::clock::{TimeFile, open_clock};
+use bl_clock::timed::Timed;
+use bl_disk::device::Device;
+use bl_recover::places::places_of;
+use std::alloc::Global;
+use std::rt::Files;
+use std::time::Clock;
+
+/// The journal in this file, with the times at which it is written noted beside the name of its trail. Where they cannot be, the clock has
+/// its fault, and the journal goes on.
+pub fn timed<'a, R: Files + Clock, D: Device>(
+    rt: &'a R,
+    alloc: Global,
+    trail: &str,
+    device: D,
+) -> Timed<D, TimeFile<'a, R, R::File>>
+    ensures { result.device ≡ device }
+{
+    let clock = match places_of(alloc, trail) {
+        Ok(places) => open_clock(rt, alloc, places.clock.as_str()),
+        Err(_) => TimeFile::missing(rt, alloc),
+    };
+    Timed::new(alloc, device, clock)
+}

@@ -1,0 +1,41 @@
+use Rattle.std.proofs.Common.{◌∙◌, refl, sym, subst, Some, ◌++◌}
+use Rattle.std.specs.Option.{option_to_list}
+use Rattle.bl_setup.specs.Agreement.{Agree}
+use Rattle.bl_setup.specs.Setup.{Setup}
+use Rattle.bl_wire.proofs.PutLaws.{puts-all, puts-two}
+use Rattle.bl_work.specs.Names.{AreNames}
+use Rattle.bl_alone.specs.Recording.{IsLeft}
+use Rattle.bl_alone.specs.Telling.{text_of_all}
+use Rattle.bl_recover.specs.Telling.{cut_line}
+use Rattle.bl_resume.proofs.Ending.{ended_after}
+use Rattle.bl_resume.proofs.run.sit.Goals as goal
+
+pub returns-clause-run : goal.returns-clause-run
+returns-clause-run g c =
+    let begun = c.args.resumed.hall in
+    let served = c.serve_after-served in
+    let hall = served.result.1.pages.hall in
+    let kept = served.ensures.told in
+    let left = c.close_after-left.result in
+    let told = c.tell_recorded.ensures.told in
+    let same = kept.4.setup_is ∙ c.requires.setup in
+    record {
+      served = served.result.0;
+      hall = hall;
+      ended = ended_after begun hall _ _ served.result.0 served.ensures.own served.ensures.err;
+      kept = kept.0;
+      since = kept.2;
+      told = kept.4;
+      trail = left.1;
+      left = subst (λ d. IsLeft kept.0 (Some hall) left.1 (g.D.Device.now d)) (sym c.tell_recorded.ensures.device)
+          (c.close_after-left.ensures.left kept.0 kept.1 kept.3 (subst Agree (sym same) c.names.ensures.agree)
+          (subst (λ (s : Setup). AreNames s.names) (sym same) (subst AreNames c.names.ensures.value c.scheme-scheme.ensures.names)));
+      cut_short = c.close_after-left.ensures.cut;
+      whole = c.tell_recorded.ensures.whole;
+      stopped = told.0;
+      stopped_is = told.1;
+      status_is = told.2;
+      said = λ fine.
+          puts-all _ _ _
+          (puts-two _ (cut_line c.args.resumed.cut) (text_of_all (option_to_list told.0 ++ option_to_list left.1)) _ _ _ refl c.tell_cut.ensures.puts told.3) fine;
+    }

@@ -1,0 +1,5 @@
+pub mod Status
+pub mod Failure
+pub mod Message
+pub mod Unkept
+pub mod Runs

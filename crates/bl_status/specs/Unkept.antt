@@ -1,0 +1,38 @@
+-- What a run says of a trail that is not kept.
+use Rattle.std.specs.Prelude.{◌≡◌, ◌⊎◌, ℕ, List, [], ◌∷◌, ◌++◌, Bool, true, false, Option, Some, None, codes, string_bytes}
+use Rattle.bl_keep.specs.declared.fault.KeepFault.{KeepFault}
+use Rattle.bl_keep.specs.declared.fault.KeepFault.TheVariants.{Unwritable, Memory}
+use Rattle.bl_keep.specs.declared.whole.Left.{Left}
+use Rattle.bl_keep.specs.declared.whole.Unkept.{Unkept}
+use Rattle.bl_status.specs.declared.fault.ProgramFault.{ProgramFault}
+use Rattle.bl_status.specs.declared.fault.ProgramFault.TheVariants.{CannotWriteTrail, NoMemory}
+use Rattle.bl_status.specs.Message.{fault_line}
+
+-- what a fault of a trail that is not kept is told as
+abbrev pub unkept_fault : KeepFault → ProgramFault
+unkept_fault Unwritable = CannotWriteTrail
+unkept_fault Memory = NoMemory
+
+-- the trail could not be written or could not have its name, or a growth was refused
+abbrev pub IsUnkept : ProgramFault → Type 0
+IsUnkept fault = (fault ≡ CannotWriteTrail) ⊎ (fault ≡ NoMemory)
+
+-- own choice: the words for what is left of a trail, whole or not
+abbrev pub left_words : Bool → List ℕ
+left_words true = codes "the whole trail is in "
+left_words false = codes "the trail is cut short in "
+
+-- where it is, on a line of its own; nothing where nothing is left
+abbrev pub left_line : Option Left → List ℕ
+left_line None = []
+left_line (Some left) = left_words left.whole ++ (string_bytes left.name ++ 10 ∷ [])
+
+-- the fault of a trail that was not kept
+abbrev pub unkept_faults : Option Unkept → List ProgramFault
+unkept_faults None = []
+unkept_faults (Some unkept) = unkept_fault unkept.fault ∷ []
+
+-- what is said of it: the fault, and where what is left of the trail is
+abbrev pub unkept_text : Option Unkept → List ℕ
+unkept_text None = []
+unkept_text (Some unkept) = fault_line (unkept_fault unkept.fault) ++ left_line unkept.left

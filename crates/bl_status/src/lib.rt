@@ -1,0 +1,8 @@
+//! What ends a run of the program: its words on standard error, and its status.
+//!
+//!     fault      what ends a run, with its words and its status
+//!     told       what a run says of it on standard error
+#![tactic(auto)]
+
+pub mod fault;
+pub mod told;
