@@ -2,4 +2,3 @@ pub use Rattle.bl_words.specs.CommandLine
 pub use Rattle.bl_words.specs.Words
 pub use Rattle.bl_words.specs.Status
 pub mod Runs
-pub mod Files

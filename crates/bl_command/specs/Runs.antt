@@ -1,13 +1,14 @@
 -- How a run of a command ends.
 use Rattle.std.specs.Prelude.{◌≡◌, ◌⊎◌, ℕ, List, Some, None, Result, Ok, Err}
 use Rattle.std.specs.Io.KnownBytes.{Keeps}
-use Rattle.bl_run.specs.declared.fault.ProgramFault.{ProgramFault}
-use Rattle.bl_run.specs.declared.fault.ProgramFault.TheVariants.{CannotListen, CannotReadTrail, CannotWriteTrail, NoMemory}
+use Rattle.bl_status.specs.declared.fault.ProgramFault.{ProgramFault}
+use Rattle.bl_status.specs.declared.fault.ProgramFault.TheVariants.{CannotListen, CannotReadTrail, CannotWriteTrail, NoMemory}
 use Rattle.clap.specs.declared.error.kind.ErrorKind.{ErrorKind}
 use Rattle.clap.specs.declared.error.kind.ErrorKind.TheVariants.{DisplayHelp, DisplayVersion}
 use Rattle.bl_wire.specs.Watch.{Use}
 use Rattle.bl_words.specs.Status.{status_for}
-use Rattle.bl_run.specs.Runs.{HasTold, IsReplayOn, IsRun, Run}
+use Rattle.bl_status.specs.Runs.{HasTold, Run}
+use Rattle.bl_run.specs.Runs.{IsReplayOn, IsRun}
 use Rattle.bl_words.specs.declared.command.Command.{Command}
 use Rattle.bl_words.specs.declared.command.Command.TheVariants.{Alone, Serve, Replay, Recover}
 use Rattle.bl_command.specs.declared.run.Files.{Files}
@@ -24,8 +25,8 @@ HasOnlyTold fault run = HasTold fault run.status run.errors × Keeps run.input.b
 -- a run of this command, after its files had these bytes; without a listener nothing can be served over TCP, and without
 -- files no trail kept or recovered
 abbrev pub IsRunOf : Command → Files → Run → Type 0
-IsRunOf (Alone path limit None keeping) files run = IsRun files.setup.items limit run
-IsRunOf (Alone path limit (Some trail) keeping) files run = HasOnlyTold CannotWriteTrail run
+IsRunOf (Alone path limit None keeping resumes) files run = IsRun files.setup.items limit run
+IsRunOf (Alone path limit (Some trail) keeping resumes) files run = HasOnlyTold CannotWriteTrail run
 IsRunOf (Serve path hosting) files run = HasOnlyTold CannotListen run
 IsRunOf (Replay path name) files run = IsReplay files.setup.items files.trail.items run
 IsRunOf (Recover path name) files run = HasOnlyTold CannotReadTrail run

@@ -1,4 +1,4 @@
-//! The program's commands: the runs of those that its words name, and what they take from the system.
+//! The program's commands: the runs of those that its words name, and what they take from the system over `bl_system`.
 //!
 //!     command    the command line, of `bl_words`
 //!     run        a run over the ends that it is given

@@ -3,14 +3,14 @@ ghost use Rattle.std.specs.Prelude.{◌≡◌, ◌≢◌, false, IfOk, IfErr};
 ghost use Rattle.std.specs.IoError.{error_kind};
 ghost use Rattle.clap.specs.Words.{kind_of};
 ghost use Rattle.bl_wire.specs.Watch.{used};
-ghost use Rattle.bl_run.specs.Status.{IsStatus};
+ghost use Rattle.bl_status.specs.Status.{IsStatus};
 ghost use Rattle.bl_command.specs.Runs.{IsRefused, IsRunAfter, IsRunOf};
 ghost use Rattle.bl_words.specs.Words.{IsInRange};
 
 use bl_run::alone::alone_on;
-use bl_run::fault::ProgramFault;
 use bl_run::replay::replay_on;
-use bl_run::told::tell;
+use bl_status::fault::ProgramFault;
+use bl_status::told::tell;
 use bl_wire::put::put_out;
 use bl_wire::watched::Watched;
 use bl_words::command::{Command, status_of};

@@ -1,38 +1,41 @@
 //! What the program takes from the system: its words, its files and its ends.
-ghost use Rattle.std.specs.Prelude.{◌≡◌, ◌≢◌, ◌≤◌, [], ◌∷◌, false, Err, IfErr, IfOk, IsSome, Ok};
-ghost use Rattle.std.specs.IoError.{error_kind};
-ghost use Rattle.std.specs.Net.Addr.{ipv4_octets};
+ghost use Rattle.std.specs.Prelude.{◌≡◌, ◌≤◌, false, IfErr, IfOk, IsSome};
 ghost use Rattle.bl_recover.specs.Recoveries.{IsRecoverRun};
 ghost use Rattle.bl_wire.specs.Watch.{end_state, used};
 ghost use Rattle.bl_run.specs.AloneKept.{IsAloneKept};
-ghost use Rattle.bl_run.specs.Runs.{HasTold};
+ghost use Rattle.bl_status.specs.Runs.{HasTold};
 ghost use Rattle.bl_run.specs.Serving.{IsServe};
-ghost use Rattle.bl_run.specs.Status.{IsEnd, IsStatus};
+ghost use Rattle.bl_status.specs.Status.{IsEnd, IsStatus};
+ghost use Rattle.bl_system.specs.Entering.{HasToldEntrance};
 ghost use Rattle.bl_words.specs.Words.{IsHostingInRange, IsInRange};
 
-use crate::files::{read_files, read_setup_file};
+use crate::files::read_files;
 use crate::recorded::{RecordedAlone, outlives, serve_recorded, sit_recorded};
 use crate::run::{Files, run_asked, run_unread};
 use bl_alone::run::RecordedRun;
 use bl_file::lock::Lock;
 use bl_host::options::Options;
-use bl_host::rest::hand_on_rest;
+use bl_keep::part::TrailFile;
+use bl_keep::rest::hand_on_rest;
 use bl_recover::recover::recover_on;
 use bl_run::alone::alone_kept_on;
 use bl_run::alone_run::AloneRun;
-use bl_run::fault::{ProgramFault, of_file};
-use bl_run::serve::{Finished, Ground, ServeRun, end_with, serve_on};
-use bl_run::told::tell;
+use bl_run::serve::{Finished, RunContext, ServeRun, end_with, serve_on};
+use bl_status::fault::ProgramFault;
+use bl_status::told::tell;
+use bl_system::enter::{Entered, EntranceFault, enter, tell_entrance};
+use bl_system::files::read_setup_file;
 use bl_wire::put::put_out;
 use bl_wire::watched::Watched;
-use bl_words::command::{Command, Hosting, read_words};
+use bl_words::command::{Command, Hosting, TrailKeeping, read_words};
 use bl_worker::pause::NoPause;
 use clap::Error;
-use std::io::{BufRead, BufReader, BufWriter, ErrorKind, IsTerminal, Write};
-use std::net::{Ipv4Addr, Net, SocketAddr, TcpListener, TcpStream};
+use std::io::{BufRead, BufReader, BufWriter, IsTerminal, Write};
+use std::net::Net;
 use std::rt::{Env, Files as OpensFiles};
 use std::sync::Wait;
 use std::thread::Threads;
+use std::time::Clock;
 use std::{env, io, str};
 
 /// Standard error as a writer of texts.
@@ -63,57 +66,22 @@ fn words_of<R: AllocGlobal + Env>(rt: &R) -> io::Result<Vec<String>> {
     Ok(words)
 }
 
-/// Where the program listens: a port of 127.0.0.1, which programs of the same machine alone reach.
-fn address_of(port: u32) -> (Ipv4Addr, u16)
-    requires { port ≤ 65535 }
-    ensures address { ipv4_octets result.0 ≡ 127 ∷ 0 ∷ 0 ∷ 1 ∷ [] }
-    ensures port { result.1 ≡ port }
-{
-    (Ipv4Addr::new(127, 0, 0, 1), port as u16)
-}
-
-/// What came of listening.
-fn listening(bound: io::Result<TcpListener>) -> Result<TcpListener, ProgramFault>
-    ensures ok { IfOk bound (λ listener. result ≡ Ok listener) }
-    ensures memory { IfErr bound (λ error. error_kind error ≡ ErrorKind.OutOfMemory → result ≡ Err ProgramFault.NoMemory) }
-    ensures other { IfErr bound (λ error. error_kind error ≢ ErrorKind.OutOfMemory → result ≡ Err ProgramFault.CannotListen) }
-{
-    match bound {
-        Ok(listener) => Ok(listener),
-        Err(error) => Err(of_file(&error, ProgramFault::CannotListen)),
-    }
-}
-
-/// Listens at an address. As many may wait there to be taken as the system allows; the library's own listener has room
-/// for 128.
-fn bind<R: Net>(rt: &R, address: (Ipv4Addr, u16)) -> io::Result<TcpListener> {
-    let listener = mio::net::TcpListener::bind(rt, SocketAddr::from(address))?;
-    Ok(TcpListener::from(listener))
-}
-
-/// A listener on a port of 127.0.0.1.
-pub fn listen<R: Net<Listener = TcpListener, Stream = TcpStream>>(
-    rt: &R,
-    port: u32,
-) -> Result<TcpListener, ProgramFault>
-    requires { port ≤ 65535 }
-{
-    listening(bind(rt, address_of(port)))
-}
-
-/// How many threads and sessions there are, by what is hosted.
-fn options_of(hosting: &Hosting<'_>) -> Options
+/// How many threads and sessions there are, and how long one may be idle, by what is hosted.
+#[tactic(auto, using(crate::proofs::Hosting::idle_is_in_range))]
+pub(crate) fn options_of(hosting: &Hosting<'_>) -> Options
     requires { IsHostingInRange hosting.now }
     ensures workers { result.workers ≡ hosting.now.workers }
     ensures threads { result.session_threads ≡ hosting.now.session_threads }
     ensures sessions { result.sessions ≡ hosting.now.sessions }
     ensures clients { result.clients ≡ hosting.now.clients }
+    ensures idle { result.idle ≡ hosting.now.idle }
 {
     Options {
         workers: hosting.workers,
         session_threads: hosting.session_threads,
         sessions: hosting.sessions,
         clients: hosting.clients,
+        idle: hosting.idle,
     }
 }
 
@@ -125,6 +93,7 @@ fn run_of<'a>(hosting: &Hosting<'a>) -> ServeRun<'a>
     ensures threads { result.options.session_threads ≡ hosting.now.session_threads }
     ensures sessions { result.options.sessions ≡ hosting.now.sessions }
     ensures clients { result.options.clients ≡ hosting.now.clients }
+    ensures idle { result.options.idle ≡ hosting.now.idle }
     ensures trail { result.trail ≡ hosting.now.trail }
 {
     ServeRun {
@@ -134,83 +103,109 @@ fn run_of<'a>(hosting: &Hosting<'a>) -> ServeRun<'a>
     }
 }
 
-/// What the command `serve` takes from the system before its setup is parsed: the bytes of the setup file, and the listener.
-fn read_and_listen<R: AllocGlobal + OpensFiles + Net<Listener = TcpListener, Stream = TcpStream>>(
-    rt: &R,
-    path: &str,
-    port: u32,
-) -> Result<(Vec<u8>, TcpListener), ProgramFault>
-    requires { port ≤ 65535 }
-{
-    let setup = read_setup_file(rt, path)?;
-    let listener = listen(rt, port)?;
-    Ok((setup, listener))
-}
-
-/// A run of what is hosted, once its setup file was read and its port is listened on, or a fault was found, which is told.
+/// A run of what is hosted, with what it has taken from the system.
 fn serve_found<
-    R: AllocGlobal
-        + OpensFiles
-        + Threads
-        + Wait
-        + Net<Listener = TcpListener, Stream = TcpStream>
-        + Sync,
+    R: AllocGlobal + OpensFiles + Clock + Threads + Wait + Net + Sync,
     W: Write,
     E: Write,
 >(
     rt: &R,
-    found: Result<(Vec<u8>, TcpListener), ProgramFault>,
+    entered: &Entered<R::File>,
     hosting: &Hosting<'_>,
     writer: &mut Watched<W>,
     errors: &mut Watched<E>,
 ) -> Finished
+where
+    R::File: Send,
     requires { IsHostingInRange hosting.now }
-    ensures fault { IfErr found (λ fault. HasTold fault result.status (used E.contents errors.old errors.new)) }
-    ensures run { IfOk found (λ both. IsServe both.0.items hosting.now.trail.claims result (used W.contents writer.old writer.new) (used E.contents errors.old errors.new)) }
+    ensures run { IsServe entered.now.setup.items hosting.now.trail.claims result
+        (used W.contents writer.old writer.new) (used E.contents errors.old errors.new) }
     ensures kept { result.status ≡ 0 → IsSome result.kept }
     ensures status { IsEnd result.status }
 {
+    let run_context = RunContext {
+        rt,
+        alloc: rt.alloc(),
+        pause: &NoPause,
+        log: entered.log.as_ref(),
+    };
+    let run = run_of(hosting);
+    let setup = entered.setup.as_slice();
+    serve_on(&run_context, &entered.entrance, setup, &run, writer, errors)
+}
+
+/// A run of what is hosted, with what it has taken from the system, which is given back at its end. The result is the
+/// status of the run.
+fn serve_entered<
+    R: AllocGlobal + OpensFiles + Clock + Threads + Wait + Net + Sync,
+    W: Write,
+    E: Write,
+>(
+    rt: &R,
+    entered: Entered<R::File>,
+    hosting: &Hosting<'_>,
+    writer: &mut Watched<W>,
+    errors: &mut Watched<E>,
+) -> u8
+where
+    R::File: Lock + Send,
+    requires range { IsHostingInRange hosting.now }
+    requires writer { writer.old.failed ≡ false }
+    ensures { IsEnd result }
+{
+    entered.warn(errors);
+    let status = match outlives(hosting.keeping) {
+        Some(keeping) => serve_recorded(rt, &entered, hosting, keeping, writer, errors),
+        None => serve_found(rt, &entered, hosting, writer, errors).status,
+    };
+    entered.leave(rt, errors);
+    status
+}
+
+/// A run of what is hosted, once all was taken from the system that it has to have, or a fault was found, which is told.
+/// The result is the status of the run.
+fn serve_or_tell<
+    R: AllocGlobal + OpensFiles + Clock + Threads + Wait + Net + Sync,
+    W: Write,
+    E: Write,
+>(
+    rt: &R,
+    found: Result<Entered<R::File>, EntranceFault>,
+    hosting: &Hosting<'_>,
+    writer: &mut Watched<W>,
+    errors: &mut Watched<E>,
+) -> u8
+where
+    R::File: Lock + Send,
+    requires range { IsHostingInRange hosting.now }
+    requires writer { writer.old.failed ≡ false }
+    ensures fault { IfErr found (λ fault. HasToldEntrance fault result (used E.contents errors.old errors.new)) }
+    ensures status { IsEnd result }
+{
     match found {
-        Ok((setup, listener)) => {
-            let ground = Ground {
-                rt,
-                alloc: rt.alloc(),
-                pause: &NoPause,
-            };
-            let run = run_of(hosting);
-            serve_on(&ground, listener, setup.as_slice(), &run, writer, errors)
-        }
-        Err(fault) => end_with(errors, fault),
+        Ok(entered) => serve_entered(rt, entered, hosting, writer, errors),
+        Err(fault) => tell_entrance(errors, &fault),
     }
 }
 
 /// A run of the command `serve`. The result is the status of the run.
-fn run_serve<
-    R: AllocGlobal
-        + OpensFiles
-        + Print
-        + Threads
-        + Wait
-        + Net<Listener = TcpListener, Stream = TcpStream>
-        + Sync,
-    E: Write,
->(rt: &R, path: &str, hosting: &Hosting<'_>, errors: &mut Watched<E>) -> u8
+fn run_serve<R: AllocGlobal + OpensFiles + Clock + Print + Threads + Wait + Net + Sync, E: Write>(
+    rt: &R,
+    path: &str,
+    hosting: &Hosting<'_>,
+    errors: &mut Watched<E>,
+) -> u8
 where
     R::File: Lock + Send,
     requires { IsHostingInRange hosting.now }
     ensures { IsStatus result }
 {
-    let found = read_and_listen(rt, path, hosting.port);
     let Ok(writer) = BufWriter::new(rt.alloc(), io::writer(rt)) else {
         return tell(errors, &ProgramFault::NoMemory);
     };
     let mut writer = Watched::new(writer);
-    let status = match (found, outlives(hosting.keeping)) {
-        (Ok(taken), Some(keeping)) => {
-            serve_recorded(rt, taken, hosting, keeping, &mut writer, errors)
-        }
-        (found, _) => serve_found(rt, found, hosting, &mut writer, errors).status,
-    };
+    let found = enter(rt, path, hosting);
+    let status = serve_or_tell(rt, found, hosting, &mut writer, errors);
     let _ = hand_on_rest(writer);
     status
 }
@@ -235,6 +230,56 @@ fn sit_found<T: OpensFiles, R: BufRead, W: Write, E: Write>(
     match setup {
         Ok(setup) => alone_kept_on(rt, setup.as_slice(), run, reader, writer, errors),
         Err(fault) => end_with(errors, fault),
+    }
+}
+
+/// A session that `alone` is asked for with a trail: the weight of its lines at most, where its trail is kept and how, and
+/// whether it goes on from a run that was cut off.
+#[derive(Drop)]
+struct KeptAlone<'a> {
+    limit: u32,
+    trail: TrailFile<'a>,
+    keeping: TrailKeeping,
+    resumes: bool,
+    ghost limited: { (1 ≤ limit) × (limit ≤ 100000) },
+}
+
+/// A session with a trail, written at its end or as it goes, once its setup file was read, or a fault was found, which is
+/// told. The result is the status of the run.
+fn sit_kept<T: AllocGlobal + OpensFiles + Clock, R: BufRead, W: Write, E: Write>(
+    rt: &T,
+    setup: Result<Vec<u8>, ProgramFault>,
+    asked: &KeptAlone<'_>,
+    reader: &mut Watched<R>,
+    writer: &mut Watched<W>,
+    errors: &mut Watched<E>,
+) -> u8
+where
+    T::File: Lock,
+    requires reader { reader.old.failed ≡ false }
+    requires writer { writer.old.failed ≡ false }
+    ensures fault { IfErr setup (λ fault. HasTold fault result (used E.contents errors.old errors.new)) }
+    ensures status { IsEnd result }
+{
+    let (alloc, limit, trail) = (rt.alloc(), asked.limit, asked.trail);
+    match outlives(asked.keeping) {
+        Some(keeping) => {
+            let asked = RecordedAlone {
+                run: RecordedRun { alloc, limit },
+                trail,
+                keeping,
+                resumes: asked.resumes,
+            };
+            sit_recorded(rt, setup, &asked, reader, writer, errors)
+        }
+        None => {
+            let run = AloneRun {
+                alloc,
+                limit,
+                trail,
+            };
+            sit_found(rt, setup, &run, reader, writer, errors).status
+        }
     }
 }
 
@@ -272,7 +317,7 @@ where
 
 /// A run of `alone`, `replay` or `recover`, or of words that name no command, over a reader and a writer. The result is
 /// the status of the run.
-fn sit<T: AllocGlobal + OpensFiles, R: BufRead, W: Write, E: Write>(
+fn sit<T: AllocGlobal + OpensFiles + Clock, R: BufRead, W: Write, E: Write>(
     rt: &T,
     asked: Result<Command<'_>, Error>,
     reader: &mut Watched<R>,
@@ -298,29 +343,18 @@ where
             limit,
             trail: Some(trail),
             keeping,
+            resumes,
         },
     ) = &asked
     {
-        if let Some(keeping) = outlives(*keeping) {
-            let run = RecordedRun {
-                alloc,
-                limit: *limit,
-            };
-            let asked = RecordedAlone {
-                run,
-                trail: *trail,
-                keeping,
-            };
-            let setup = read_setup_file(rt, setup);
-            return sit_recorded(rt, setup, &asked, reader, writer, errors);
-        }
-        let run = AloneRun {
-            alloc,
+        let asked = KeptAlone {
             limit: *limit,
             trail: *trail,
+            keeping: *keeping,
+            resumes: *resumes,
         };
         let setup = read_setup_file(rt, setup);
-        return sit_found(rt, setup, &run, reader, writer, errors).status;
+        return sit_kept(rt, setup, &asked, reader, writer, errors);
     }
     let files = match &asked {
         Ok(command) => read_files(rt, command),
@@ -333,7 +367,7 @@ where
 }
 
 /// The same over standard input and output. What was written is handed on, and an output that failed is not called again.
-fn run_sitting<R: AllocGlobal + OpensFiles + Print + Eprint + Input, E: Write>(
+fn run_sitting<R: AllocGlobal + OpensFiles + Clock + Print + Eprint + Input, E: Write>(
     rt: &R,
     asked: Result<Command<'_>, Error>,
     errors: &mut Watched<E>,
@@ -368,12 +402,13 @@ pub fn run<
     R: AllocGlobal
         + Env
         + OpensFiles
+        + Clock
         + Print
         + Eprint
         + Input
         + Threads
         + Wait
-        + Net<Listener = TcpListener, Stream = TcpStream>
+        + Net
         + Sync,
 >(rt: &R) -> u8
 where

@@ -1,8 +1,8 @@
 //! What the program takes from the system: its files and its port.
 use bl_command::command::{Command, TrailKeeping};
 use bl_command::files::read_files;
-use bl_command::shell::listen;
-use bl_run::fault::ProgramFault;
+use bl_status::fault::ProgramFault;
+use bl_system::listen::listen;
 use std::fs;
 use std::net::{IpAddr, Ipv4Addr, TcpListener};
 use std::test::Fail;
@@ -47,6 +47,7 @@ fn reads_one_byte_past_a_setup(rt: HostRuntime) -> Result<(), Fail> {
             limit,
             trail,
             keeping: TrailKeeping::AtEnd,
+            resumes: false,
         },
     );
     let _ = fs::remove_file(&rt, "large.setup");

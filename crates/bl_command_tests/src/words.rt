@@ -1,5 +1,5 @@
 //! The words of a command line.
-use bl_command::command::{Command, Hosting, TrailKeeping, read_words, status_of};
+use bl_command::command::{Command, Hosting, NamedEntrance, TrailKeeping, read_words, status_of};
 use bl_keep::part::TrailFile;
 use std::alloc::Global;
 use std::test::Fail;
@@ -23,6 +23,7 @@ fn name_alone(alloc: Global, text: &str, most: u32) -> Result<bool, Fail> {
                 limit,
                 trail: None,
                 keeping: TrailKeeping::AtEnd,
+                resumes: false,
             },
         ) => setup == "base.txt" && limit == most,
         Ok(_) | Err(_) => false,
@@ -51,23 +52,26 @@ fn name_serve(alloc: Global, text: &str, wanted: &Hosting<'_>) -> Result<bool, F
 
 /// Whether two hostings have equal numbers and the same trail file.
 fn is_same(one: &Hosting<'_>, other: &Hosting<'_>) -> bool {
-    one.limit == other.limit
-        && one.port == other.port
+    let entrance = one.entrance == other.entrance;
+    let idle = one.idle == other.idle;
+    let log = one.log == other.log;
+    let name = one.trail.name == other.trail.name;
+    let keeping = one.keeping == other.keeping;
+    let numbers = one.limit == other.limit
         && one.workers == other.workers
         && one.session_threads == other.session_threads
         && one.sessions == other.sessions
-        && one.clients == other.clients
-        && one.trail.name == other.trail.name
-        && one.trail.replaces == other.trail.replaces
+        && one.clients == other.clients;
+    let choices = one.trail.replaces == other.trail.replaces
         && one.trail.claims == other.trail.claims
-        && one.keeping == other.keeping
-        && one.resumes == other.resumes
+        && one.resumes == other.resumes;
+    entrance && idle && log && name && keeping && numbers && choices
 }
 
 /// What is hosted at port 7654 with the trail `run.trail`, where nothing else is said.
 const PLAIN: Hosting<'static> = Hosting {
     limit: 10_000,
-    port: 7654,
+    entrance: NamedEntrance::Port(7654),
     trail: TrailFile {
         name: "run.trail",
         replaces: false,
@@ -79,6 +83,8 @@ const PLAIN: Hosting<'static> = Hosting {
     session_threads: 2,
     sessions: 1,
     clients: 1000,
+    idle: None,
+    log: None,
 };
 
 #[test]
@@ -87,10 +93,10 @@ fn reads_serve(rt: HostRuntime) -> Result<(), Fail> {
     assert!(rt; name_serve(rt.alloc(), least, &PLAIN)?);
     let all =
         "bl_server serve --sessions 1000 --clients 200 --claim-trail --limit 7 --session-threads 3 --trail other.trail \
-        --keep synced --workers 16 --replace --resume --port 65535 --setup base.txt";
+        --keep synced --workers 16 --replace --resume --port 65535 --setup base.txt --idle 60 --log who.log";
     let wanted = Hosting {
         limit: 7,
-        port: 65_535,
+        entrance: NamedEntrance::Port(65_535),
         trail: TrailFile {
             name: "other.trail",
             replaces: true,
@@ -102,8 +108,32 @@ fn reads_serve(rt: HostRuntime) -> Result<(), Fail> {
         session_threads: 3,
         sessions: 1000,
         clients: 200,
+        idle: Some(60),
+        log: Some("who.log"),
     };
     assert!(rt; name_serve(rt.alloc(), all, &wanted)?);
+    Ok(())
+}
+
+/// Clients come in at a port or by doors, and not by both or by none.
+#[test]
+fn reads_where_clients_come_in(rt: HostRuntime) -> Result<(), Fail> {
+    let wanted = Hosting {
+        entrance: NamedEntrance::Doors("who"),
+        ..PLAIN
+    };
+    let doors = "bl_server serve --setup base.txt --doors who --trail run.trail";
+    assert!(rt; name_serve(rt.alloc(), doors, &wanted)?);
+    for text in [
+        "bl_server serve --setup base.txt --trail run.trail",
+        "bl_server serve --setup base.txt --trail run.trail --port 7654 --doors who",
+    ] {
+        assert_eq!(rt;
+            status_without_a_command(rt.alloc(), text)?,
+            Some(2),
+            "at {text}"
+        );
+    }
     Ok(())
 }
 
@@ -130,6 +160,12 @@ fn reads_numbers_in_their_ranges(rt: HostRuntime) -> Result<(), Fail> {
             "1",
             "1000",
             "1001",
+        ),
+        (
+            "--trail run.trail --port 7654 --idle",
+            "1",
+            "86400",
+            "86401",
         ),
         (
             "--trail run.trail --port 7654 --limit",
@@ -198,15 +234,23 @@ fn reads_alone_with_a_trail(rt: HostRuntime) -> Result<(), Fail> {
     Ok(())
 }
 
-/// How the trail of `alone` is kept, where one is named, and that it is kept at the end where nothing is said.
+/// How the trail of `alone` is kept, where one is named, that it is kept at the end where nothing is said, and that
+/// such a run does not go on from another.
 #[test]
 fn reads_how_a_trail_is_kept(rt: HostRuntime) -> Result<(), Fail> {
     let given = [
-        ("", Some(TrailKeeping::AtEnd)),
-        ("--keep end", Some(TrailKeeping::AtEnd)),
-        ("--keep written", Some(TrailKeeping::Written)),
-        ("--keep synced", Some(TrailKeeping::Synced)),
+        ("", Some((TrailKeeping::AtEnd, false))),
+        ("--keep end", Some((TrailKeeping::AtEnd, false))),
+        ("--keep written", Some((TrailKeeping::Written, false))),
+        ("--keep synced", Some((TrailKeeping::Synced, false))),
+        (
+            "--keep written --resume",
+            Some((TrailKeeping::Written, true)),
+        ),
+        ("--keep synced --resume", Some((TrailKeeping::Synced, true))),
         ("--keep Synced", None),
+        ("--keep end --resume", None),
+        ("--resume", None),
         ("--keep end --keep written", None),
     ];
     for (more, wanted) in given {
@@ -215,7 +259,13 @@ fn reads_how_a_trail_is_kept(rt: HostRuntime) -> Result<(), Fail> {
         )?;
         let given = words(rt.alloc(), text.as_str())?;
         let read = match read_words(rt.alloc(), given.as_slice()) {
-            Ok(Command::Alone { keeping, .. }) => Some(keeping),
+            Ok(
+                Command::Alone {
+                    keeping,
+                    resumes,
+                    ..
+                },
+            ) => Some((keeping, resumes)),
             Ok(_) | Err(_) => None,
         };
         assert!(rt; read == wanted, "at {text}");

@@ -6,8 +6,10 @@ use Rattle.bl_record.specs.declared.fault.JournalFault.{JournalFault}
 use Rattle.bl_record.specs.declared.fault.ResumeFault.{ResumeFault}
 use Rattle.bl_record.specs.declared.recover.MayCut.TheVariants.{OneLine}
 use Rattle.bl_setup.specs.Setup.{Setup}
-use Rattle.bl_serving.specs.Telling.{begin_fault, resume_fault}
+use Rattle.bl_recover.specs.Telling.{resume_fault}
+use Rattle.bl_serving.specs.Telling.{begin_fault}
 use Rattle.bl_serving.specs.declared.fault.ServingFault.{ServingFault}
+use Rattle.bl_serving.specs.declared.fault.ServingFault.TheVariants.{Recovery}
 
 -- The hall that a run begins with, and how many bytes are cut off its file, which has this text: a new hall, or that of the run that was
 -- cut off, which has gone on until all had ended that was admitted.
@@ -18,4 +20,4 @@ Begins true setup limit text hall cut = IsResumed setup text OneLine hall cut
 -- why no run begins: no journal can be begun, or that of the run that was cut off is not gone on with
 abbrev pub IsUnbegun : Bool → Setup → List ℕ → ServingFault → Type 0
 IsUnbegun false setup text fault = (of : JournalFault) × (fault ≡ begin_fault of)
-IsUnbegun true setup text fault = (of : ResumeFault) × (fault ≡ resume_fault of) × IsNotResumed setup text OneLine of
+IsUnbegun true setup text fault = (of : ResumeFault) × (fault ≡ Recovery (resume_fault of)) × IsNotResumed setup text OneLine of

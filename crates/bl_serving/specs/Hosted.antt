@@ -5,12 +5,12 @@ use Rattle.bl_alone.specs.Recording.{IsWhole}
 use Rattle.bl_audit.specs.Bookmarks.{HasGrown}
 use Rattle.bl_disk.specs.File.{File}
 use Rattle.bl_hall.specs.Chronicle.{Chronicle}
-use Rattle.bl_host.specs.declared.ended.Ended.{Ended}
+use Rattle.bl_entrance.specs.declared.ended.Ended.{Ended}
 use Rattle.bl_recover.specs.Telling.{cut_line}
 use Rattle.bl_recover.specs.declared.fault.RecoveryFault.TheVariants.{Program}
 use Rattle.bl_run.specs.Serving.{faults_found, hosted_text, listening}
-use Rattle.bl_run.specs.Status.{status_after}
-use Rattle.bl_run.specs.declared.fault.ProgramFault.TheVariants.{NoMemory, Write}
+use Rattle.bl_status.specs.Status.{status_after}
+use Rattle.bl_status.specs.declared.fault.ProgramFault.TheVariants.{NoMemory, Write}
 use Rattle.bl_setup.specs.Setup.{Setup}
 use Rattle.bl_wire.specs.Watch.{EndState, Puts, Use}
 use Rattle.bl_serving.specs.Beginning.{Begins, IsUnbegun}

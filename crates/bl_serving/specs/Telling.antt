@@ -4,25 +4,21 @@ use Rattle.std.specs.List.{flat_map}
 use Rattle.bl_disk.specs.declared.device.DeviceError.TheVariants as devices
 use Rattle.bl_record.specs.declared.fault.JournalFault.{JournalFault}
 use Rattle.bl_record.specs.declared.fault.JournalFault.TheVariants as keeping
-use Rattle.bl_record.specs.declared.fault.ResumeFault.{ResumeFault}
-use Rattle.bl_record.specs.declared.fault.ResumeFault.TheVariants as resuming
 use Rattle.bl_recover.specs.Telling as recoveries
-use Rattle.bl_recover.specs.Telling.{fault_text, recover_fault}
-use Rattle.bl_recover.specs.declared.fault.RecoveryFault.TheVariants.{Program, WrongAt}
-use Rattle.bl_run.specs.declared.fault.ProgramFault.TheVariants.{CannotWriteTrail, NoMemory}
+use Rattle.bl_recover.specs.Telling.{fault_text}
+use Rattle.bl_recover.specs.declared.fault.RecoveryFault.TheVariants.{Program}
+use Rattle.bl_status.specs.declared.fault.ProgramFault.TheVariants.{CannotWriteTrail, NoMemory}
 use Rattle.bl_serving.specs.declared.fault.ServingFault.{ServingFault}
-use Rattle.bl_serving.specs.declared.fault.ServingFault.TheVariants.{Recovery, Over, CutShort}
+use Rattle.bl_serving.specs.declared.fault.ServingFault.TheVariants.{Recovery, CutShort}
 
 -- own choice: what is said of a fault, on a line of its own
 abbrev pub words_by : ServingFault → List ℕ
 words_by (Recovery fault) = fault_text fault
-words_by Over = codes "trail is over\n"
 words_by CutShort = codes "trail cut short\n"
 
 -- 4 where the run is out of memory, and 3 for anything else
 abbrev pub status_by : ServingFault → ℕ
 status_by (Recovery fault) = recoveries.status_by fault
-status_by Over = 3
 status_by CutShort = 3
 
 -- what it is to the run that no journal could be begun
@@ -31,12 +27,6 @@ begin_fault keeping.Memory = Recovery (Program NoMemory)
 begin_fault (keeping.Device devices.Memory) = Recovery (Program NoMemory)
 begin_fault (keeping.Device devices.Full) = Recovery (Program CannotWriteTrail)
 begin_fault (keeping.Device devices.Failed) = Recovery (Program CannotWriteTrail)
-
--- what it is to the run that a journal is not gone on with
-abbrev pub resume_fault : ResumeFault → ServingFault
-resume_fault (resuming.Unrecovered fault) = Recovery (recover_fault fault)
-resume_fault resuming.Over = Over
-resume_fault (resuming.Wrong line) = Recovery (WrongAt line)
 
 -- what it is to the run that the journal did not keep what happened last
 abbrev pub end_fault : JournalFault → ServingFault

@@ -4,14 +4,14 @@ ghost use Rattle.bl_disk.specs.File.{seen};
 ghost use Rattle.bl_alone.specs.Recording.{HasRecorded};
 ghost use Rattle.bl_serving.specs.Beginning.{Begins, IsUnbegun};
 
-use crate::fault::{ServingFault, of_begin, of_resume};
+use crate::fault::{ServingFault, of_begin};
 use bl_disk::device::Device;
 use bl_hall::hall::Hall;
 use bl_record::journal::{Journal, begin};
 use bl_record::recover::{MayCut, Resumed, resume};
-use bl_recover::fault::RecoveryFault;
-use bl_run::fault::ProgramFault;
+use bl_recover::fault::{RecoveryFault, of_resume};
 use bl_setup::setup::Setup;
+use bl_status::fault::ProgramFault;
 use std::alloc::Global;
 
 /// What a run begins with: its hall, the journal that has kept all that happened there, and how many bytes were cut off the file.
@@ -73,7 +73,7 @@ fn go_on<D: Device>(alloc: Global, setup: Setup, device: D) -> Result<Begun<D>, 
     drop(setup);
     match resumed {
         Ok(Resumed { hall, journal, cut }) => Ok(Begun { hall, journal, cut }),
-        Err((fault, device)) => Err((of_resume(fault), device)),
+        Err((fault, device)) => Err((ServingFault::Recovery(of_resume(fault)), device)),
     }
 }
 

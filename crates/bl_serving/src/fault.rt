@@ -1,13 +1,13 @@
 //! What a run of `serve` whose trail is kept as it goes tells on standard error, beside what any run of `serve` tells.
 ghost use Rattle.std.specs.Prelude.{◌≡◌, ◌⊎◌};
 ghost use Rattle.bl_wire.specs.Watch.{Puts, end_state};
-ghost use Rattle.bl_serving.specs.Telling.{begin_fault, end_fault, resume_fault, status_by, words_by};
+ghost use Rattle.bl_serving.specs.Telling.{begin_fault, end_fault, status_by, words_by};
 
 use bl_disk::device::DeviceError;
-use bl_record::fault::{JournalFault, ResumeFault};
-use bl_recover::fault::{RecoveryFault, of_recover};
+use bl_record::fault::JournalFault;
+use bl_recover::fault::RecoveryFault;
 use bl_recover::told::tell_fault;
-use bl_run::fault::ProgramFault;
+use bl_status::fault::ProgramFault;
 use bl_wire::put::put_out;
 use bl_wire::watched::Watched;
 use std::io::Write;
@@ -17,8 +17,6 @@ use std::io::Write;
 pub enum ServingFault {
     /// A fault that any run may have, or why a journal that a run left is not gone on with.
     Recovery(RecoveryFault),
-    /// The trail that was to be gone on with is over: it ends by `stop`.
-    Over,
     /// The trail is not whole: its file took no more.
     CutShort,
 }
@@ -34,17 +32,6 @@ pub(crate) fn of_begin(fault: JournalFault) -> ServingFault
         }
     };
     ServingFault::Recovery(RecoveryFault::Program(program))
-}
-
-/// What it is to the run that a journal is not gone on with.
-pub(crate) fn of_resume(fault: ResumeFault) -> ServingFault
-    ensures { result ≡ resume_fault fault }
-{
-    match fault {
-        ResumeFault::Unrecovered(fault) => ServingFault::Recovery(of_recover(fault)),
-        ResumeFault::Over => ServingFault::Over,
-        ResumeFault::Wrong(line) => ServingFault::Recovery(RecoveryFault::WrongAt(line)),
-    }
 }
 
 /// What a fault at the end of a journal is to the run.
@@ -67,10 +54,6 @@ pub fn tell_serving<E: Write>(errors: &mut Watched<E>, fault: &ServingFault) -> 
 {
     match fault {
         ServingFault::Recovery(fault) => tell_fault(errors, fault),
-        ServingFault::Over => {
-            put_out(errors, b"trail is over\n");
-            3
-        }
         ServingFault::CutShort => {
             put_out(errors, b"trail cut short\n");
             3

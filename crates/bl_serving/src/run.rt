@@ -5,7 +5,7 @@ ghost use Rattle.bl_disk.specs.File.{seen};
 ghost use Rattle.bl_gate.specs.Gates.{hall_seen};
 ghost use Rattle.bl_hall.specs.Chronicle.{Chronicle};
 ghost use Rattle.bl_keeper.specs.Keeping.{HasKept};
-ghost use Rattle.bl_run.specs.Status.{IsEnd};
+ghost use Rattle.bl_status.specs.Status.{IsEnd};
 ghost use Rattle.bl_wire.specs.Watch.{Puts, end_state, used};
 ghost use Rattle.bl_alone.specs.Recording.{HasRecorded};
 ghost use Rattle.bl_serving.specs.Hosted.{HasHosted, IsServing, status_with};
@@ -16,25 +16,28 @@ use crate::close::{close_after, file_of};
 use crate::fault::{ServingFault, tell_serving};
 use bl_alone::run::Recorded;
 use bl_disk::device::Device;
+use bl_entrance::entrance::Entrance;
+use bl_entrance::options::Options;
 use bl_gate::gate::Gate;
 use bl_gate::pass::Pass;
-use bl_host::host::{Hosted, Site, host};
-use bl_host::options::Options;
+use bl_host::host::{HostContext, Hosted, host};
 use bl_keeper::keeper::Keeper;
 use bl_keeper::which::Which;
 use bl_record::journal::Journal;
 use bl_recover::fault::RecoveryFault;
 use bl_recover::told::tell_cut;
-use bl_run::fault::ProgramFault;
-use bl_run::serve::{Ground, tell_hosted};
+use bl_run::serve::{RunContext, tell_hosted};
+use bl_status::fault::ProgramFault;
 use bl_wire::put::put_out;
 use bl_wire::watched::Watched;
 use bl_worker::pause::Pause;
 use std::io::Write;
 use std::marker::Brand;
-use std::net::{Net, TcpListener, TcpStream};
+use std::net::Net;
+use std::rt::Files;
 use std::sync::Wait;
 use std::thread::Threads;
+use std::time::Clock;
 
 /// What a run was asked for: the weight of the lines that are admitted at most, 1 to 100,000, and how many threads and sessions there are.
 #[derive(Clone, Copy)]
@@ -75,15 +78,17 @@ fn host_kept<
     G: Which + Send,
     D: Device + Send,
     P: Pause + Sync,
-    T: Threads + Wait + Net<Listener = TcpListener, Stream = TcpStream> + Sync,
+    T: Threads + Wait + Files + Net + Clock + Sync,
 >(
-    ground: &Ground<'_, P, T>,
-    listener: TcpListener,
+    run_context: &RunContext<'_, P, T>,
+    entrance: &Entrance,
     gate: &Gate,
     pass: Pass,
     journal: Journal<D>,
     options: Options,
 ) -> Hosting<D>
+where
+    T::File: Send,
     requires gate { (gate.now ≡ G.gate) × (pass.gate ≡ G.gate) }
     requires parts { pass.parts ≡ 64 }
     requires recorded { HasRecorded D.now D.has_failed journal (hall_seen pass) }
@@ -96,14 +101,15 @@ fn host_kept<
     let mut pass = pass;
     let part = gate.split_pass(&mut pass);
     let keeper = Keeper::<G, D>::new(gate, part, journal);
-    let site = Site {
-        rt: ground.rt,
-        alloc: ground.alloc,
+    let host_context = HostContext {
+        rt: run_context.rt,
+        alloc: run_context.alloc,
         gate,
-        pause: ground.pause,
+        pause: run_context.pause,
         keep: &keeper,
+        log: run_context.log,
     };
-    let mut hosted = host(&site, listener, pass, options);
+    let mut hosted = host(&host_context, entrance, pass, options);
     let (journal, part) = keeper.finish();
     gate.meet(&mut hosted.pass, part);
     Hosting { hosted, journal }
@@ -142,16 +148,18 @@ fn tell_end<D: Device, E: Write>(
 fn host_on<
     D: Device + Send,
     P: Pause + Sync,
-    T: Threads + Wait + Net<Listener = TcpListener, Stream = TcpStream> + Sync,
+    T: Threads + Wait + Files + Net + Clock + Sync,
     E: Write,
 >(
-    ground: &Ground<'_, P, T>,
-    listener: TcpListener,
+    run_context: &RunContext<'_, P, T>,
+    entrance: &Entrance,
     made: (Gate, Pass),
     journal: Journal<D>,
     options: Options,
     errors: &mut Watched<E>,
 ) -> Recorded<D>
+where
+    T::File: Send,
     requires gate { made.1.gate ≡ made.0 }
     requires parts { made.1.parts ≡ 64 }
     requires recorded { HasRecorded D.now D.has_failed journal (hall_seen made.1) }
@@ -161,7 +169,12 @@ fn host_on<
 {
     let (gate, pass) = made;
     let Hosting { hosted, journal } = host_kept::<Brand, D, P, T>(
-        ground, listener, &gate, pass, journal, options,
+        run_context,
+        entrance,
+        &gate,
+        pass,
+        journal,
+        options,
     );
     let Hosted {
         pass,
@@ -180,11 +193,11 @@ fn host_on<
             is_whole: false,
         };
     }
-    let left = close_after(ground.alloc, gate, pass, journal);
+    let left = close_after(run_context.alloc, gate, pass, journal);
     tell_end(errors, status, left)
 }
 
-/// Sessions over TCP at a listener, over a setup, whose trail is kept in a file before any of it is told: the command
+/// Sessions of who comes in at an entrance, over a setup, whose trail is kept in a file before any of it is told: the command
 /// `serve` with `--keep`.
 ///
 /// `listening` is told on `writer` before the first session is served; before that the file has the head of the trail, or, where the run
@@ -194,17 +207,19 @@ fn host_on<
 pub fn serve_recorded_on<
     D: Device + Send,
     P: Pause + Sync,
-    T: Threads + Wait + Net<Listener = TcpListener, Stream = TcpStream> + Sync,
+    T: Threads + Wait + Files + Net + Clock + Sync,
     W: Write,
     E: Write,
 >(
-    ground: &Ground<'_, P, T>,
-    listener: TcpListener,
+    run_context: &RunContext<'_, P, T>,
+    entrance: &Entrance,
     run: &ServingRun,
     start: Start<D>,
     writer: &mut Watched<W>,
     errors: &mut Watched<E>,
 ) -> Recorded<D>
+where
+    T::File: Send,
     requires sound { D.has_failed start.device ≡ false }
     requires writer { writer.old.failed ≡ false }
     ensures run { IsServing start.resumes start.setup run.now.limit (seen (D.now start.device)) result.status result.is_whole (D.now result.device)
@@ -213,7 +228,7 @@ pub fn serve_recorded_on<
     ensures handed_on { result.status ≡ 0 → writer.new.unflushed ≡ false }
     ensures status { IsEnd result.status }
 {
-    let begun = match begin_in(ground.alloc, run.limit, start) {
+    let begun = match begin_in(run_context.alloc, run.limit, start) {
         Ok(begun) => begun,
         Err((fault, device)) => return end_with(errors, &fault, device),
     };
@@ -232,5 +247,5 @@ pub fn serve_recorded_on<
         let fault = ServingFault::Recovery(RecoveryFault::Program(ProgramFault::Write));
         return end_with(errors, &fault, file_of(journal));
     }
-    host_on(ground, listener, made, journal, run.options, errors)
+    host_on(run_context, entrance, made, journal, run.options, errors)
 }

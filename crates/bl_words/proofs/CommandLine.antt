@@ -1,6 +1,7 @@
 -- The matches of the program's command line are those of its words.
-use Rattle.std.proofs.Common.{◌≡◌, ◌≤◌, ◌∙◌, [], ◌∷◌, List, ℕ, Bool, true, Option, Some, None, arith, codes, get_or, refl, sym, ap, subst}
-use Rattle.std.specs.Prelude.{Box, IfNone, option_map}
+use Rattle.std.proofs.Common.{◌≡◌, ◌≤◌, ◌∙◌, [], ◌∷◌, List, ℕ, Bool, true, false, Option, Some, None, arith, codes, get_or, refl, sym, ap, subst}
+use Rattle.std.specs.Prelude.{Box, IfNone, option_map, ◌↔◌}
+use Rattle.std.specs.Option.{is_some}
 use Rattle.std.specs.Box.{box_value}
 use Rattle.clap.specs.Faults.{fault_of, is_simple_and_free}
 use Rattle.clap.specs.Kinds.{HasKind}
@@ -15,10 +16,13 @@ use Rattle.clap.specs.Matches.{first_value, found_of, one_text, subcommand_name_
 use Rattle.clap.specs.Walk.{Row, first_of, one_of, rows_of}
 use Rattle.bl_keep.specs.declared.part.TrailFile.{TrailFile}
 use Rattle.bl_words.specs.CommandLine.{server_app}
-use Rattle.bl_words.specs.Words.{HasFlag, HasHosting, HasKeeping, HasNoCommand, HasNumber, HasOptions, HasResume, HasTrail, IsHostingInRange, IsInRange, IsOf, entered_by, faults_of, word_of}
+use Rattle.bl_words.specs.Words.{HasCount, HasEntrance, HasFlag, HasHosting, HasKeeping, HasNoCommand, HasNumber, HasOptions, HasResume, HasTrail, IsHostingInRange, IsInRange, IsOf, MayKeep, entered_by, faults_of, keeping_word, word_of}
 use Rattle.bl_words.specs.declared.command.Command.{Command}
+use Rattle.bl_words.specs.declared.command.NamedEntrance.{NamedEntrance}
+use Rattle.bl_words.specs.declared.command.NamedEntrance.TheVariants.{Port, Doors}
 use Rattle.bl_words.specs.declared.command.Hosting.{Hosting}
 use Rattle.bl_words.specs.declared.command.TrailKeeping.{TrailKeeping}
+use Rattle.bl_words.specs.declared.command.TrailKeeping.TheVariants.{AtEnd, Written, Synced}
 use Rattle.bl_words.specs.declared.command.Command.TheVariants.{Alone, Serve, Replay, Recover}
 
 server_is_simple : is_simple server_app ≡ true
@@ -75,6 +79,14 @@ module _ (a b : ArgMatches) (same : rows_of (found_of a) ≡ rows_of (found_of b
     none = λ e. has.none (sym (one_same id) ∙ e);
   }
 
+  entrance_same : (entrance : NamedEntrance) → HasEntrance a entrance → HasEntrance b entrance
+  entrance_same (Port port) has = (number_same (codes "port") port has.0, first_same (codes "doors") ∙ has.1)
+  entrance_same (Doors folder) has = (first_same (codes "port") ∙ has.0, first_same (codes "doors") ∙ has.1)
+
+  count_same : (id : List ℕ) (count : Option ℕ) → HasCount a id count → HasCount b id count
+  count_same id None has = first_same id ∙ has
+  count_same id (Some n) has = number_same id n has
+
   resume_same : (given : Bool) → HasResume a given → HasResume b given
   resume_same given has = (λ e. first_same (codes "resume") ∙ has.0 e, λ e. has.1 (sym (first_same (codes "resume")) ∙ e))
 
@@ -92,28 +104,35 @@ module _ (a b : ArgMatches) (same : rows_of (found_of a) ≡ rows_of (found_of b
 
   -- and are those of the same commands
   pub options_same : (command : Command) → HasOptions a command → HasOptions b command
-  options_same (Alone setup limit trail keeping) has = (
+  options_same (Alone setup limit trail keeping resumes) has = (
     first_same (codes "setup") ∙ has.0,
     number_same (codes "limit") limit has.1,
     trail_same trail has.2,
     first_same (codes "keep") ∙ has.3,
+    resume_same resumes has.4,
   )
   options_same (Serve setup hosting) has = (
     first_same (codes "setup") ∙ has.0,
     record {
       limit = number_same (codes "limit") hosting.limit has.1.limit;
-      port = number_same (codes "port") hosting.port has.1.port;
+      entrance = entrance_same hosting.entrance has.1.entrance;
       trail = trail_same (Some hosting.trail) has.1.trail;
       workers = number_same (codes "workers") hosting.workers has.1.workers;
       threads = number_same (codes "session-threads") hosting.session_threads has.1.threads;
       sessions = number_same (codes "sessions") hosting.sessions has.1.sessions;
       clients = number_same (codes "clients") hosting.clients has.1.clients;
+      idle = count_same (codes "idle") hosting.idle has.1.idle;
+      log = has.1.log ∙ sym (first_same (codes "log"));
       keeping = first_same (codes "keep") ∙ has.1.keeping;
       resumes = resume_same hosting.resumes has.1.resumes;
     },
   )
   options_same (Replay setup trail) has = (first_same (codes "setup") ∙ has.0, first_same (codes "trail") ∙ has.1)
   options_same (Recover setup trail) has = (first_same (codes "setup") ∙ has.0, first_same (codes "trail") ∙ has.1)
+
+-- what was given was not left out
+pub given_not_left_out : {T : Type 0} (a : T) (o : Option T) → Some a ≡ o → o ≡ None → ⊥
+given_not_left_out a o given none' = cc
 
 -- what holds anyway holds where there is nothing
 pub at_none : {T : Type 0} (o : Option T) (P : Type 0) → P → IfNone o P
@@ -130,13 +149,13 @@ words_differ a b as' bs differ same = differ (ap (λ (l : List ℕ). get_or l 0 
 
 -- without a limit in its range there is no command `alone`, and without what is hosted no `serve`
 pub alone_none : (options : ArgMatches) → ((n : ℕ) → HasNumber options (codes "limit") n → 1 ≤ n → n ≤ 100000 → ⊥) → HasNoCommand (codes "alone") options
-alone_none options none' (Alone setup limit trail keeping) is range = none' limit is.has.1 range.0.0 range.0.1
+alone_none options none' (Alone setup limit trail keeping resumes) is range = none' limit is.has.1 range.0.0 range.0.1
 alone_none options none' (Serve setup hosting) is range = words_differ 115 97 _ _ (λ e. omega arith) is.word_is
 alone_none options none' (Replay setup trail) is range = words_differ 114 97 _ _ (λ e. omega arith) is.word_is
 alone_none options none' (Recover setup trail) is range = words_differ 114 97 _ _ (λ e. omega arith) is.word_is
 
 pub serve_none : (options : ArgMatches) → ((hosting : Hosting) → HasHosting options hosting → IsHostingInRange hosting → ⊥) → HasNoCommand (codes "serve") options
-serve_none options none' (Alone setup limit trail keeping) is range = words_differ 97 115 _ _ (λ e. omega arith) is.word_is
+serve_none options none' (Alone setup limit trail keeping resumes) is range = words_differ 97 115 _ _ (λ e. omega arith) is.word_is
 serve_none options none' (Serve setup hosting) is range = none' hosting is.has.1 range
 serve_none options none' (Replay setup trail) is range = words_differ 114 115 _ _ (λ e. omega arith) is.word_is
 serve_none options none' (Recover setup trail) is range = words_differ 114 115 _ _ (λ e. omega arith) is.word_is
@@ -146,10 +165,46 @@ some_same a b e = cc
 
 -- with no word for how a trail is kept there is no command `alone`
 pub unkept_none : (options : ArgMatches) → ((keeping : TrailKeeping) → HasKeeping options keeping → ⊥) → HasNoCommand (codes "alone") options
-unkept_none options none' (Alone setup limit trail keeping) is range = none' keeping is.has.3
+unkept_none options none' (Alone setup limit trail keeping resumes) is range = none' keeping is.has.3
 unkept_none options none' (Serve setup hosting) is range = words_differ 115 97 _ _ (λ e. omega arith) is.word_is
 unkept_none options none' (Replay setup trail) is range = words_differ 114 97 _ _ (λ e. omega arith) is.word_is
 unkept_none options none' (Recover setup trail) is range = words_differ 114 97 _ _ (λ e. omega arith) is.word_is
+
+-- options say one thing of a trail, and of how it is kept
+same_trail : (options : ArgMatches) (a b : Option TrailFile) → HasTrail options a → HasTrail options b → is_some a ≡ is_some b
+same_trail options None None one other = refl
+same_trail options None (Some file) one other = let both : None ≡ Some other.0 = sym one ∙ other.1 in cc
+same_trail options (Some file) None one other = let both : None ≡ Some one.0 = sym other ∙ one.1 in cc
+same_trail options (Some file) (Some more) one other = refl
+
+same_word : (a b : TrailKeeping) → keeping_word a ≡ keeping_word b → a ≡ b
+same_word AtEnd AtEnd is = refl
+same_word AtEnd Written is = absurd (words_differ 101 119 _ _ (λ e. omega arith) is)
+same_word AtEnd Synced is = absurd (words_differ 101 115 _ _ (λ e. omega arith) is)
+same_word Written AtEnd is = absurd (words_differ 119 101 _ _ (λ e. omega arith) is)
+same_word Written Written is = refl
+same_word Written Synced is = absurd (words_differ 119 115 _ _ (λ e. omega arith) is)
+same_word Synced AtEnd is = absurd (words_differ 115 101 _ _ (λ e. omega arith) is)
+same_word Synced Written is = absurd (words_differ 115 119 _ _ (λ e. omega arith) is)
+same_word Synced Synced is = refl
+
+same_bool : (a b : Bool) (P : Type 0) → (a ≡ true) ↔ P → (b ≡ true) ↔ P → a ≡ b
+same_bool true true P one other = refl
+same_bool true false P one other = sym (other.1 (one.0 refl))
+same_bool false true P one other = one.1 (other.0 refl)
+same_bool false false P one other = refl
+
+-- where a trail may not be kept so there is no command `alone`
+pub kept_none : (options : ArgMatches) (trail : Option TrailFile) (keeping : TrailKeeping) (resumes : Bool) → HasTrail options trail → HasKeeping options keeping → HasResume options resumes
+    → (MayKeep (is_some trail) keeping resumes → ⊥) → HasNoCommand (codes "alone") options
+kept_none options trail keeping resumes has_trail has_keeping has_resume none' (Alone setup limit t k r) is range =
+    let trails : is_some t ≡ is_some trail = same_trail options t trail is.has.2 has_trail in
+    let keepings : k ≡ keeping = same_word k keeping (some_same (keeping_word k) (keeping_word keeping) (sym is.has.3 ∙ has_keeping)) in
+    let resume : r ≡ resumes = same_bool r resumes _ is.has.4 has_resume in
+    none' (subst (λ b. MayKeep b keeping resumes) trails (subst (λ q. MayKeep (is_some t) q resumes) keepings (subst (λ b. MayKeep (is_some t) k b) resume range.1)))
+kept_none options trail keeping resumes has_trail has_keeping has_resume none' (Serve setup hosting) is range = words_differ 115 97 _ _ (λ e. omega arith) is.word_is
+kept_none options trail keeping resumes has_trail has_keeping has_resume none' (Replay setup name) is range = words_differ 114 97 _ _ (λ e. omega arith) is.word_is
+kept_none options trail keeping resumes has_trail has_keeping has_resume none' (Recover setup name) is range = words_differ 114 97 _ _ (λ e. omega arith) is.word_is
 
 module _ {Z : Type 0} where
   -- the subcommand's name is that of its rows

@@ -66,18 +66,25 @@ resume_rule = record (new_rule (codes "resume")) { long = Some (codes "resume");
 abbrev pub named_app : App
 named_app = with_rule (with_rule session_app kept_trail_rule) replace_rule
 
-abbrev pub alone_app : App
-alone_app = with_rule (with_rule named_app claim_rule) keep_rule
+-- and how that is kept
+abbrev pub kept_app : App
+kept_app = with_rule (with_rule named_app claim_rule) keep_rule
 
--- `--port` has to be given, a number from 1 to 65,535
+abbrev pub alone_app : App
+alone_app = with_rule kept_app resume_rule
+
+-- `--port` takes a number from 1 to 65,535
 abbrev pub port_rule : Rule
 port_rule = record (new_rule (codes "port")) {
   long = Some (codes "port");
-  required = true;
   action = Some Set;
   value_names = 1;
   parser = Some (Signed (pos 1) (pos 65535));
 }
+
+-- own choice: `--doors` may stand in its place, and takes any text
+abbrev pub doors_rule : Rule
+doors_rule = record (new_rule (codes "doors")) { long = Some (codes "doors"); action = Some Set; value_names = 1 }
 
 -- `--workers` takes a number from 1 to 16, and without it the number is 2
 abbrev pub workers_rule : Rule
@@ -119,21 +126,34 @@ clients_rule = record (new_rule (codes "clients")) {
   defaults = codes "1000" ∷ [];
 }
 
--- the command `serve` has a setup, a port and a trail
-abbrev pub places_app : App
-places_app = with_rule (with_rule (with_rule (new_app (codes "serve")) setup_rule) port_rule) trail_rule
+-- own choice: `--idle` takes a number from 1 to 86,400, the seconds of a day, and may be left out
+abbrev pub idle_rule : Rule
+idle_rule = record (new_rule (codes "idle")) {
+  long = Some (codes "idle");
+  action = Some Set;
+  value_names = 1;
+  parser = Some (Signed (pos 1) (pos 86400));
+}
 
--- and it may have the numbers of workers and of session threads
+-- own choice: `--log` may be left out, and takes any text
+abbrev pub log_rule : Rule
+log_rule = record (new_rule (codes "log")) { long = Some (codes "log"); action = Some Set; value_names = 1 }
+
+-- the command `serve` has a setup, and a port or doors
+abbrev pub places_app : App
+places_app = with_rule (with_rule (with_rule (new_app (codes "serve")) setup_rule) port_rule) doors_rule
+
+-- and a trail, and it may have the numbers of workers and of session threads
 abbrev pub crews_app : App
-crews_app = with_rule (with_rule places_app workers_rule) threads_rule
+crews_app = with_rule (with_rule (with_rule places_app trail_rule) workers_rule) threads_rule
 
 -- and the number of sessions, and a limit
 abbrev pub counts_app : App
 counts_app = with_rule (with_rule crews_app sessions_rule) limit_rule
 
--- and the number of clients at once
+-- and the number of clients at once, how long one may be idle, and a log of them
 abbrev pub clients_app : App
-clients_app = with_rule counts_app clients_rule
+clients_app = with_rule (with_rule (with_rule counts_app clients_rule) idle_rule) log_rule
 
 -- and what is said of its trail
 abbrev pub files_app : App

@@ -1,5 +1,6 @@
 -- What the words of a command line name.
-use Rattle.std.specs.Prelude.{◌≡◌, ◌≢◌, ◌≤◌, ◌↔◌, ℕ, Bool, true, false, List, Option, Some, None, codes}
+use Rattle.std.specs.Prelude.{◌≡◌, ◌≢◌, ◌≤◌, ◌↔◌, ℕ, Bool, true, false, List, Option, Some, None, codes, option_copied}
+use Rattle.std.specs.Option.{is_some}
 use Rattle.std.specs.Str.Parse.{IsNumeral, digits_value, without_leading_plus}
 use Rattle.clap.specs.Matches.{found_of, first_value, one_text}
 use Rattle.clap.specs.Faults.{fault_of}
@@ -10,24 +11,43 @@ use Rattle.clap.specs.declared.parser.matches.ArgMatches.{ArgMatches}
 use Rattle.bl_keep.specs.declared.part.TrailFile.{TrailFile}
 use Rattle.bl_words.specs.CommandLine.{server_app}
 use Rattle.bl_words.specs.declared.command.Command.{Command}
+use Rattle.bl_words.specs.declared.command.NamedEntrance.{NamedEntrance}
+use Rattle.bl_words.specs.declared.command.NamedEntrance.TheVariants.{Port, Doors}
 use Rattle.bl_words.specs.declared.command.Hosting.{Hosting}
 use Rattle.bl_words.specs.declared.command.TrailKeeping.{TrailKeeping}
 use Rattle.bl_words.specs.declared.command.TrailKeeping.TheVariants.{AtEnd, Written, Synced}
 use Rattle.bl_words.specs.declared.command.Command.TheVariants.{Alone, Serve, Replay, Recover}
 
+-- a port is in its range
+abbrev pub IsEntranceInRange : NamedEntrance → Type 0
+IsEntranceInRange (Port port) = (1 ≤ port) × (port ≤ 65535)
+IsEntranceInRange (Doors folder) = Unit {0}
+
+-- the seconds that a client may be idle, where it may not for ever, are at most a day
+abbrev pub IsIdleInRange : Option ℕ → Type 0
+IsIdleInRange None = Unit {0}
+IsIdleInRange (Some seconds) = (1 ≤ seconds) × (seconds ≤ 86400)
+
 -- each number of what is hosted is in its range, and a run is resumed only with a trail that is written while it goes on
 pub record IsHostingInRange (hosting : Hosting) : Type 0 where
   pub limit : (1 ≤ hosting.limit) × (hosting.limit ≤ 100000)
-  pub port : (1 ≤ hosting.port) × (hosting.port ≤ 65535)
+  pub entrance : IsEntranceInRange hosting.entrance
   pub workers : (1 ≤ hosting.workers) × (hosting.workers ≤ 16)
   pub threads : (1 ≤ hosting.session_threads) × (hosting.session_threads ≤ 16)
   pub sessions : (1 ≤ hosting.sessions) × (hosting.sessions ≤ 1000)
   pub clients : (1 ≤ hosting.clients) × (hosting.clients ≤ 1000)
+  pub idle : IsIdleInRange hosting.idle
   pub resumes : hosting.resumes ≡ true → hosting.keeping ≢ AtEnd
 
--- each number is in its range, and only a trail that is kept is written while the run goes on
+-- only a trail that is asked for is written while the run goes on, and only such a run goes on from another
+abbrev pub MayKeep : Bool → TrailKeeping → Bool → Type 0
+MayKeep there AtEnd resumes = resumes ≡ false
+MayKeep there Written resumes = there ≡ true
+MayKeep there Synced resumes = there ≡ true
+
+-- each number is in its range, and a trail is kept so as it may be
 abbrev pub IsInRange : Command → Type 0
-IsInRange (Alone setup limit trail keeping) = ((1 ≤ limit) × (limit ≤ 100000)) × (trail ≡ None → keeping ≡ AtEnd)
+IsInRange (Alone setup limit trail keeping resumes) = ((1 ≤ limit) × (limit ≤ 100000)) × MayKeep (is_some trail) keeping resumes
 IsInRange (Serve setup hosting) = IsHostingInRange hosting
 IsInRange (Replay setup trail) = Unit {0}
 IsInRange (Recover setup trail) = Unit {0}
@@ -40,23 +60,28 @@ Writes text n = IsNumeral 10 (without_leading_plus text) × (n ≡ digits_value 
 abbrev pub HasNumber : ArgMatches → List ℕ → ℕ → Type 0
 HasNumber options name n = (text : List ℕ) × (one_text (found_of options) name ≡ Some text) × Writes text n
 
+-- the option of this name has no text, or a number that its text writes
+abbrev pub HasCount : ArgMatches → List ℕ → Option ℕ → Type 0
+HasCount options name None = first_value (found_of options) name ≡ None
+HasCount options name (Some n) = HasNumber options name n
+
 -- the name of a command's setup file
 abbrev pub setup_of : Command → List ℕ
-setup_of (Alone setup limit trail keeping) = setup.now
+setup_of (Alone setup limit trail keeping resumes) = setup.now
 setup_of (Serve setup hosting) = setup.now
 setup_of (Replay setup trail) = setup.now
 setup_of (Recover setup trail) = setup.now
 
 -- the name of the trail file that a command reads
 abbrev pub read_trail_of : Command → Option (List ℕ)
-read_trail_of (Alone setup limit trail keeping) = None
+read_trail_of (Alone setup limit trail keeping resumes) = None
 read_trail_of (Serve setup hosting) = None
 read_trail_of (Replay setup trail) = Some trail.now
 read_trail_of (Recover setup trail) = None
 
 -- the word for a command
 abbrev pub word_of : Command → List ℕ
-word_of (Alone setup limit trail keeping) = codes "alone"
+word_of (Alone setup limit trail keeping resumes) = codes "alone"
 word_of (Serve setup hosting) = codes "serve"
 word_of (Replay setup trail) = codes "replay"
 word_of (Recover setup trail) = codes "recover"
@@ -92,22 +117,30 @@ HasKeeping options keeping = first_value (found_of options) (codes "keep") ≡ S
 abbrev pub HasResume : ArgMatches → Bool → Type 0
 HasResume options resumes = (resumes ≡ true) ↔ (first_value (found_of options) (codes "resume") ≡ Some (codes "true"))
 
+-- the options name a port, or the folder of doors, and not both
+abbrev pub HasEntrance : ArgMatches → NamedEntrance → Type 0
+HasEntrance options (Port port) = HasNumber options (codes "port") port × (first_value (found_of options) (codes "doors") ≡ None)
+HasEntrance options (Doors folder) =
+    (first_value (found_of options) (codes "port") ≡ None) × (first_value (found_of options) (codes "doors") ≡ Some folder.now)
+
 -- the options of `serve` say this of its sessions and its trail
 pub record HasHosting (options : ArgMatches) (hosting : Hosting) : Type 0 where
   pub limit : HasNumber options (codes "limit") hosting.limit
-  pub port : HasNumber options (codes "port") hosting.port
+  pub entrance : HasEntrance options hosting.entrance
   pub trail : HasTrail options (Some hosting.trail)
   pub workers : HasNumber options (codes "workers") hosting.workers
   pub threads : HasNumber options (codes "session-threads") hosting.session_threads
   pub sessions : HasNumber options (codes "sessions") hosting.sessions
   pub clients : HasNumber options (codes "clients") hosting.clients
+  pub idle : HasCount options (codes "idle") hosting.idle
+  pub log : option_copied hosting.log ≡ first_value (found_of options) (codes "log")
   pub keeping : HasKeeping options hosting.keeping
   pub resumes : HasResume options hosting.resumes
 
 -- the options of a command are these
 abbrev pub HasOptions : ArgMatches → Command → Type 0
-HasOptions options (Alone setup limit trail keeping) =
-    (first_value (found_of options) (codes "setup") ≡ Some setup.now) × HasNumber options (codes "limit") limit × HasTrail options trail × HasKeeping options keeping
+HasOptions options (Alone setup limit trail keeping resumes) =
+    (first_value (found_of options) (codes "setup") ≡ Some setup.now) × HasNumber options (codes "limit") limit × HasTrail options trail × HasKeeping options keeping × HasResume options resumes
 HasOptions options (Serve setup hosting) =
     (first_value (found_of options) (codes "setup") ≡ Some setup.now) × HasHosting options hosting
 HasOptions options (Replay setup trail) =

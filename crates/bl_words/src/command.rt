@@ -1,13 +1,14 @@
 //! The command line.
-ghost use Rattle.std.specs.Prelude.{◌≡◌, ◌≤◌, ◌⊎◌, ℕ, [], ◌∷◌, false, codes, map, option_copied, string_bytes, IfErr, IfNone, IfOk, IfSome, OnOk};
+ghost use Rattle.std.specs.Prelude.{◌≡◌, ◌≤◌, ◌⊎◌, ◌↔◌, ℕ, IsTrue, [], ◌∷◌, false, codes, map, option_copied, string_bytes, IfErr, IfNone, IfOk, IfSome, OnOk, Option};
 ghost use Rattle.clap.specs.Kinds.{HasKind};
 ghost use Rattle.clap.specs.Words.{kind_of, rule_of, app_of};
 ghost use Rattle.clap.specs.declared.builder.command.Command.TheViews.{out-Command as fields_of};
-ghost use Rattle.bl_words.specs.CommandLine.{setup_rule, limit_rule, trail_rule, kept_trail_rule, replace_rule, claim_rule, keep_rule, resume_rule, port_rule, workers_rule, threads_rule, sessions_rule, clients_rule, session_app, named_app, alone_app, places_app, crews_app, counts_app, clients_app, files_app, serve_app, replay_app, recover_app, root_app, server_app};
-ghost use Rattle.bl_run.specs.Status.{IsStatus};
+ghost use Rattle.bl_words.specs.CommandLine.{setup_rule, limit_rule, trail_rule, kept_trail_rule, replace_rule, claim_rule, keep_rule, resume_rule, port_rule, doors_rule, workers_rule, threads_rule, sessions_rule, clients_rule, idle_rule, log_rule, session_app, named_app, kept_app, alone_app, places_app, crews_app, counts_app, clients_app, files_app, serve_app, replay_app, recover_app, root_app, server_app};
+ghost use Rattle.bl_status.specs.Status.{IsStatus};
 ghost use Rattle.bl_words.specs.Status.{status_for};
-ghost use Rattle.bl_words.specs.Words.{HasHosting, HasKeeping, HasNoCommand, HasNumber, HasResume, HasTrail, HasTrailFile, IsHostingInRange, IsInRange, IsOf, IsOfOptions, Name, NameNone, faults_of, setup_of, read_trail_of};
+ghost use Rattle.bl_words.specs.Words.{HasCount, HasEntrance, HasHosting, HasKeeping, HasNoCommand, HasNumber, HasResume, HasTrail, HasTrailFile, IsEntranceInRange, IsHostingInRange, IsIdleInRange, IsInRange, IsOf, IsOfOptions, MayKeep, Name, NameNone, faults_of, setup_of, read_trail_of};
 ghost use Rattle.bl_words.specs.declared.command.Command.{Command as AnyCommand};
+ghost use Rattle.bl_words.specs.declared.command.NamedEntrance.{NamedEntrance as AnyEntrance};
 ghost use Rattle.bl_words.specs.declared.command.Hosting.{Hosting as AnyHosting};
 ghost use Rattle.bl_words.specs.declared.command.TrailKeeping.{TrailKeeping as AnyKeeping};
 
@@ -27,13 +28,22 @@ pub enum TrailKeeping {
     Synced,
 }
 
+/// Where clients come in.
+#[derive(Clone, Copy, Debug, PartialEq, Eq)]
+pub enum NamedEntrance<'a> {
+    /// The port of 127.0.0.1 that is listened on, 1 to 65,535.
+    Port(u32),
+    /// The doors in the folder of this name.
+    Doors(&'a str),
+}
+
 /// What a run of `serve` hosts, and where it keeps the trail.
 #[derive(Clone, Copy, Debug)]
 pub struct Hosting<'a> {
     /// The weight of the lines that are admitted at most, 1 to 100,000.
     pub limit: u32,
-    /// The port that is listened on, 1 to 65,535.
-    pub port: u32,
+    /// Where clients come in.
+    pub entrance: NamedEntrance<'a>,
     /// Where the trail is kept.
     pub trail: TrailFile<'a>,
     /// How it is kept.
@@ -48,6 +58,10 @@ pub struct Hosting<'a> {
     pub sessions: u32,
     /// How many connections are open at once at most, 1 to 1,000.
     pub clients: u32,
+    /// For how many seconds a client may be idle, 1 to 86,400; for ever where none is said.
+    pub idle: Option<u32>,
+    /// The name of the log of connections; `None` where none is kept.
+    pub log: Option<&'a str>,
 }
 
 /// A command of the program, with its options.
@@ -63,8 +77,10 @@ pub enum Command<'a> {
         trail: Option<TrailFile<'a>>,
         /// How it is kept; where it is not, at the end.
         keeping: TrailKeeping,
+        /// Whether the run goes on from the trail of one that was cut off; never where the trail is written at the end.
+        resumes: bool,
     },
-    /// Sessions over TCP on 127.0.0.1.
+    /// Sessions of many clients.
     Serve {
         /// The name of the setup file.
         setup: &'a str,
@@ -101,6 +117,9 @@ const MOST_SESSIONS: u32 = 1000;
 
 /// How many connections are open at once at most.
 const MOST_CLIENTS: u32 = 1000;
+
+/// For how many seconds a client may be idle at most, where it may not for ever: a day.
+const MOST_IDLE: u32 = 86_400;
 
 /// What help says behind the options.
 const MORE: &str = "Exit status:\n  \
@@ -209,11 +228,21 @@ fn port_option<'a>(alloc: Global) -> Arg<'a>
 {
     Arg::new(alloc, "port")
         .long("port")
-        .required(true)
         .action(ArgAction::Set)
         .value_parser(value_parser!(u32).range(1..=65_535))
         .value_name("N")
         .help("The port that is listened on, 1 to 65535")
+}
+
+fn doors_option<'a>(alloc: Global) -> Arg<'a>
+    ensures rule { rule_of result ≡ doors_rule }
+    ensures own { result.global ≡ false }
+{
+    Arg::new(alloc, "doors")
+        .long("doors")
+        .action(ArgAction::Set)
+        .value_name("FOLDER")
+        .help("In place of a port: the folder with a folder for each subject's door")
 }
 
 fn workers_option<'a>(alloc: Global) -> Arg<'a>
@@ -268,6 +297,29 @@ fn clients_option<'a>(alloc: Global) -> Arg<'a>
         .help("How many clients are connected at once, 1 to 1000")
 }
 
+fn idle_option<'a>(alloc: Global) -> Arg<'a>
+    ensures rule { rule_of result ≡ idle_rule }
+    ensures own { result.global ≡ false }
+{
+    Arg::new(alloc, "idle")
+        .long("idle")
+        .action(ArgAction::Set)
+        .value_parser(value_parser!(u32).range(1..=86_400))
+        .value_name("SECONDS")
+        .help("Ends a session that sends and takes nothing for so long, 1 to 86400")
+}
+
+fn log_option<'a>(alloc: Global) -> Arg<'a>
+    ensures rule { rule_of result ≡ log_rule }
+    ensures own { result.global ≡ false }
+{
+    Arg::new(alloc, "log")
+        .long("log")
+        .action(ArgAction::Set)
+        .value_name("FILE")
+        .help("The file to which a line is added as a client comes, is greeted and ends")
+}
+
 /// The command `alone`, with what it has to be given and its limit.
 fn session_parser<'a>(alloc: Global) -> Result<Parser<'a>, AllocError>
     ensures app { IfOk result (λ parser. app_of parser ≡ session_app) }
@@ -290,8 +342,9 @@ fn named_parser<'a>(alloc: Global) -> Result<Parser<'a>, AllocError>
         .arg(replace_option(alloc))
 }
 
-fn alone_parser<'a>(alloc: Global) -> Result<Parser<'a>, AllocError>
-    ensures app { IfOk result (λ parser. app_of parser ≡ alone_app) }
+/// The same, with how that is kept.
+fn kept_parser<'a>(alloc: Global) -> Result<Parser<'a>, AllocError>
+    ensures app { IfOk result (λ parser. app_of parser ≡ kept_app) }
     ensures own { IfOk result (λ parser. (fields_of parser).has_globals ≡ false) }
 {
     named_parser(alloc)?
@@ -299,25 +352,33 @@ fn alone_parser<'a>(alloc: Global) -> Result<Parser<'a>, AllocError>
         .arg(keep_option(alloc))
 }
 
-/// The command `serve`, with what it has to be given.
+fn alone_parser<'a>(alloc: Global) -> Result<Parser<'a>, AllocError>
+    ensures app { IfOk result (λ parser. app_of parser ≡ alone_app) }
+    ensures own { IfOk result (λ parser. (fields_of parser).has_globals ≡ false) }
+{
+    kept_parser(alloc)?.arg(resume_option(alloc))
+}
+
+/// The command `serve`, with its setup, and where clients come in.
 fn places_parser<'a>(alloc: Global) -> Result<Parser<'a>, AllocError>
     ensures app { IfOk result (λ parser. app_of parser ≡ places_app) }
     ensures own { IfOk result (λ parser. (fields_of parser).has_globals ≡ false) }
 {
     Parser::new(alloc, "serve")
-        .about("Sessions over TCP on 127.0.0.1")
+        .about("Sessions of many clients, over TCP on 127.0.0.1 or by doors")
         .after_help(MORE)
         .arg(setup_option(alloc))?
         .arg(port_option(alloc))?
-        .arg(trail_option(alloc))
+        .arg(doors_option(alloc))
 }
 
-/// The same, with the numbers of its threads.
+/// The same, with its trail and the numbers of its threads.
 fn crews_parser<'a>(alloc: Global) -> Result<Parser<'a>, AllocError>
     ensures app { IfOk result (λ parser. app_of parser ≡ crews_app) }
     ensures own { IfOk result (λ parser. (fields_of parser).has_globals ≡ false) }
 {
     places_parser(alloc)?
+        .arg(trail_option(alloc))?
         .arg(workers_option(alloc))?
         .arg(threads_option(alloc))
 }
@@ -332,12 +393,15 @@ fn counts_parser<'a>(alloc: Global) -> Result<Parser<'a>, AllocError>
         .arg(limit_option(alloc))
 }
 
-/// The same, with the number of clients at once.
+/// The same, with the number of clients at once, how long one may be idle, and a log of them.
 fn clients_parser<'a>(alloc: Global) -> Result<Parser<'a>, AllocError>
     ensures app { IfOk result (λ parser. app_of parser ≡ clients_app) }
     ensures own { IfOk result (λ parser. (fields_of parser).has_globals ≡ false) }
 {
-    counts_parser(alloc)?.arg(clients_option(alloc))
+    counts_parser(alloc)?
+        .arg(clients_option(alloc))?
+        .arg(idle_option(alloc))?
+        .arg(log_option(alloc))
 }
 
 /// The same, with what is said of the trail's file.
@@ -456,6 +520,39 @@ fn resumes(options: &ArgMatches<'_>) -> bool
     options.get_str("resume") == Some("true")
 }
 
+/// Where the options say that clients come in; `None` where they name no port in its range and no doors, or both.
+fn entrance_of<'a>(options: &ArgMatches<'a>) -> Option<NamedEntrance<'a>>
+    ensures range { IfSome result IsEntranceInRange }
+    ensures written { IfSome result (HasEntrance options.now) }
+    ensures none { IfNone result ((entrance : AnyEntrance) → HasEntrance options.now entrance → IsEntranceInRange entrance → ⊥) }
+{
+    match (options.get_str("port"), options.get_str("doors")) {
+        (Some(_), None) => match number(options, "port", MOST_PORT) {
+            Some(port) => Some(NamedEntrance::Port(port)),
+            None => None,
+        },
+        (None, Some(folder)) => Some(NamedEntrance::Doors(folder)),
+        (Some(_), Some(_)) | (None, None) => None,
+    }
+}
+
+/// A number that is not in its range.
+#[derive(Debug, Drop)]
+struct OutOfRange;
+
+/// For how many seconds the options say that a client may be idle, where they say it.
+fn idle_of(options: &ArgMatches<'_>) -> Result<Option<u32>, OutOfRange>
+    ensures range { IfOk result IsIdleInRange }
+    ensures written { IfOk result (HasCount options.now (codes "idle")) }
+    ensures none { IfErr result (λ _. (idle : Option ℕ) → HasCount options.now (codes "idle") idle → IsIdleInRange idle → ⊥) }
+{
+    match (options.get_str("idle"), number(options, "idle", MOST_IDLE)) {
+        (None, _) => Ok(None),
+        (Some(_), Some(seconds)) => Ok(Some(seconds)),
+        (Some(_), None) => Err(OutOfRange),
+    }
+}
+
 /// What the options of `serve` say of its sessions and its trail.
 fn hosting_of<'a>(options: &ArgMatches<'a>) -> Option<Hosting<'a>>
     ensures range { IfSome result IsHostingInRange }
@@ -463,12 +560,15 @@ fn hosting_of<'a>(options: &ArgMatches<'a>) -> Option<Hosting<'a>>
     ensures none { IfNone result ((hosting : AnyHosting) → HasHosting options.now hosting → IsHostingInRange hosting → ⊥) }
 {
     let limit = number(options, "limit", MOST_LIMIT)?;
-    let port = number(options, "port", MOST_PORT)?;
+    let entrance = entrance_of(options)?;
     let trail = trail_of(options)?;
     let workers = number(options, "workers", MOST_THREADS)?;
     let session_threads = number(options, "session-threads", MOST_THREADS)?;
     let sessions = number(options, "sessions", MOST_SESSIONS)?;
     let clients = number(options, "clients", MOST_CLIENTS)?;
+    let Ok(idle) = idle_of(options) else {
+        return None;
+    };
     let keeping = keeping_of(options)?;
     let resumes = resumes(options);
     if resumes && keeping == TrailKeeping::AtEnd {
@@ -476,7 +576,7 @@ fn hosting_of<'a>(options: &ArgMatches<'a>) -> Option<Hosting<'a>>
     }
     Some(Hosting {
         limit,
-        port,
+        entrance,
         trail,
         keeping,
         resumes,
@@ -484,7 +584,20 @@ fn hosting_of<'a>(options: &ArgMatches<'a>) -> Option<Hosting<'a>>
         session_threads,
         sessions,
         clients,
+        idle,
+        log: options.get_str("log"),
     })
+}
+
+/// Whether a trail may be kept so: only one that is asked for is written while the run goes on, and only such a run
+/// goes on from another.
+fn may_keep(there: bool, keeping: TrailKeeping, resumes: bool) -> bool
+    ensures { IsTrue result ↔ MayKeep there keeping resumes }
+{
+    match keeping {
+        TrailKeeping::AtEnd => !resumes,
+        TrailKeeping::Written | TrailKeeping::Synced => there,
+    }
 }
 
 /// The command `alone` with these options.
@@ -497,7 +610,8 @@ fn alone_of<'a>(options: &ArgMatches<'a>) -> Option<Command<'a>>
     let limit = number(options, "limit", MOST_LIMIT)?;
     let trail = trail_of(options);
     let keeping = keeping_of(options)?;
-    if trail.is_none() && keeping != TrailKeeping::AtEnd {
+    let resumes = resumes(options);
+    if !may_keep(trail.is_some(), keeping, resumes) {
         return None;
     }
     Some(Command::Alone {
@@ -505,6 +619,7 @@ fn alone_of<'a>(options: &ArgMatches<'a>) -> Option<Command<'a>>
         limit,
         trail,
         keeping,
+        resumes,
     })
 }
 
@@ -557,6 +672,18 @@ fn command_of<'a>(found: &ArgMatches<'a>) -> Option<Command<'a>>
     }
 }
 
+/// Why the matches name no command, for whoever gave the words.
+fn why_none(found: &ArgMatches<'_>) -> &'static str {
+    match found.subcommand() {
+        Some(("serve", options)) if entrance_of(options).is_none() => {
+            "serve takes either --port or --doors"
+        }
+        _ => {
+            "--keep takes end, written or synced, and goes with --trail; --resume goes with the last two"
+        }
+    }
+}
+
 impl<'a> Command<'a> {
     /// The name of the command's setup file.
     pub fn setup(&self) -> &'a str
@@ -595,10 +722,7 @@ pub fn read_words<'a>(alloc: Global, words: &'a [String]) -> Result<Command<'a>,
     let matches = parser(alloc)?.try_get_matches_from(words)?;
     match command_of(&matches) {
         Some(command) => Ok(command),
-        None => Err(parser(alloc)?.error(
-            ErrorKind::InvalidValue,
-            "no such command: --keep takes end, written or synced, and goes with --trail; --resume goes with the last two",
-        )?),
+        None => Err(parser(alloc)?.error(ErrorKind::InvalidValue, why_none(&matches))?),
     }
 }
 

@@ -9,7 +9,7 @@ use Rattle.bl_recover.specs.Telling.{cut_line}
 use Rattle.bl_serving.specs.Hosted.{HasHosted}
 use Rattle.bl_serving.specs.Telling.{words_by}
 use Rattle.bl_recover.specs.declared.fault.RecoveryFault.TheVariants.{Program}
-use Rattle.bl_run.specs.declared.fault.ProgramFault.TheVariants.{NoMemory, Write}
+use Rattle.bl_status.specs.declared.fault.ProgramFault.TheVariants.{NoMemory, Write}
 use Rattle.bl_serving.specs.declared.fault.ServingFault.TheVariants.{Recovery}
 use Rattle.bl_serving.proofs.Hosting.{hall_of_new}
 use Rattle.bl_serving.proofs.run.serve_recorded_on.Goals as goal

@@ -7,9 +7,9 @@ pub returns-in_err-limit-clause-none : goal.returns-in_err-limit-clause-none
 returns-in_err-limit-clause-none c =
     at_none _ ((hosting : Hosting) → HasHosting c.args.options.now hosting → IsHostingInRange hosting → ⊥) (λ hosting has range. c.in_err-limit.ensures.none hosting.limit has.limit range.limit.0 range.limit.1)
 
-pub returns-in_err-port-clause-none : goal.returns-in_err-port-clause-none
-returns-in_err-port-clause-none c =
-    at_none _ ((hosting : Hosting) → HasHosting c.args.options.now hosting → IsHostingInRange hosting → ⊥) (λ hosting has range. c.in_err-port.ensures.none hosting.port has.port range.port.0 range.port.1)
+pub returns-in_err-entrance-clause-none : goal.returns-in_err-entrance-clause-none
+returns-in_err-entrance-clause-none c =
+    at_none _ ((hosting : Hosting) → HasHosting c.args.options.now hosting → IsHostingInRange hosting → ⊥) (λ hosting has range. c.in_err-entrance.ensures.none hosting.entrance has.entrance range.entrance)
 
 pub returns-in_err-workers-clause-none : goal.returns-in_err-workers-clause-none
 returns-in_err-workers-clause-none c =
