@@ -1,7 +1,8 @@
 //! Clients of a server, and a plain echo server that is sent the same bytes.
 //!
 //!     clients echo CONNECTIONS                         listens at a free port, tells it, and sends back what comes
-//!     clients serve PORT CLIENTS ROUNDS LINES          sends so many lines and `wait` in each round, and reads their replies
+//!     clients serve PORT CLIENTS ROUNDS LINES          sends so many lines and `wait` in each round, and reads their replies; tells behind the
+//!                                                      seconds how many milliseconds half of the rounds and 99 of 100 took at most
 //!     clients same PORT CLIENTS ROUNDS LINES           sends the same bytes in each round, and reads as many
 //!     clients load PORT CLIENTS ROUNDS LINES LINE      as serve, with this line, in which {} is the number of the client; tells behind
 //!                                                      the seconds a number that is the same where all clients heard the same
@@ -61,7 +62,8 @@ fn hear(reader: &mut impl BufRead, line: &mut String) -> Result<()> {
     }
 }
 
-fn visit(port: usize, rounds: usize, lines: usize, serves: bool, all: &Barrier) -> Result<()> {
+/// The seconds that each round took.
+fn visit(port: usize, rounds: usize, lines: usize, serves: bool, all: &Barrier) -> Result<Vec<f64>> {
     let mut stream = TcpStream::connect(("127.0.0.1", port as u16))?;
     stream.set_nodelay(true)?;
     let mut reader = BufReader::new(stream.try_clone()?);
@@ -72,17 +74,20 @@ fn visit(port: usize, rounds: usize, lines: usize, serves: bool, all: &Barrier) 
     }
     let block = LINE.repeat(lines) + "wait\n";
     let mut back = vec![0; block.len()];
+    let mut took = Vec::with_capacity(rounds);
     all.wait();
     for _ in 0..rounds {
+        let begun = Instant::now();
         stream.write_all(block.as_bytes())?;
         if serves {
             hear(&mut reader, &mut line)?;
         } else {
             reader.read_exact(&mut back)?;
         }
+        took.push(begun.elapsed().as_secs_f64());
     }
     all.wait();
-    Ok(())
+    Ok(took)
 }
 
 /// Sends the rounds of one client, and hashes all that it is told.
@@ -148,9 +153,12 @@ fn main() -> Result<()> {
     all.wait();
     let begun = Instant::now();
     all.wait();
-    println!("{}", begun.elapsed().as_secs_f64());
+    let seconds = begun.elapsed().as_secs_f64();
+    let mut took = Vec::new();
     for one in threads {
-        one.join().expect("a client")?;
+        took.extend(one.join().expect("a client")?);
     }
+    took.sort_by(f64::total_cmp);
+    println!("{seconds} {:.3} {:.3}", 1e3 * took[took.len() / 2], 1e3 * took[took.len() * 99 / 100]);
     Ok(())
 }
