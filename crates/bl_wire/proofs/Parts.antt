@@ -1,5 +1,5 @@
 -- Lines and their parts.
-use Rattle.std.proofs.Common.{◌≡◌, ◌≢◌, ℕ, ◌+◌, ◌-◌, ◌<◌, ◌≤◌, Bool, true, false, cond, List, [], ◌∷◌, ◌++◌, length, refl, sym, ap, ◌∙◌, arith, take, nat_lt, Option, Some, None, OnSome, zero, position, not, ◌==◌, get_or, get_or-take, length-take, eqb, eq-eqb, eqb-true, ltb-false, add-one, suc, min, ◌||◌, true≢false}
+use Rattle.std.proofs.Common.{◌≡◌, ◌≢◌, ℕ, ◌+◌, ◌-◌, ◌<◌, ◌≤◌, Bool, true, false, cond, List, [], ◌∷◌, ◌++◌, length, refl, sym, ap, ◌∙◌, arith, take, take-take, nat_lt, Option, Some, None, OnSome, IfSome, subst, zero, position, not, ◌==◌, get_or, get_or-take, length-take, eqb, eq-eqb, eqb-true, ltb-false, add-one, suc, min, ◌||◌, true≢false}
 use Rattle.std.proofs.lemmas.Bool.Decides.{nat_tests}
 use Rattle.std.proofs.lemmas.List.Sums.{prefix_len_passes, prefix_len-le-length}
 use Rattle.std.specs.List.{prefix_len}
@@ -9,6 +9,7 @@ use Rattle.std.proofs.lemmas.List.Elements.{All-append}
 use Rattle.std.specs.Io.KnownBytes.{Consumes, IsAtEnd}
 use Rattle.memchr.specs.Find.{IsFirstByte, is_byte}
 use Rattle.bl_wire.specs.Lines.{HasNoLf}
+use Rattle.bl_wire.specs.Reads.{IsWholeLine}
 
 pub plain-append : (a b : List ℕ) → HasNoLf a → HasNoLf b → HasNoLf (a ++ b)
 plain-append a b one two = All-append (λ y. y ≢ 10) a b one two
@@ -80,3 +81,17 @@ first_lf xs r first = go r (position (λ b. b == 10) xs) refl first
         let not_behind : ¬ (i < k) = λ lt. h.0.before i (omega arith) lt at.1 in
         let not_before : ¬ (k < i) = λ lt. true≢false (sym h.1 ∙ at.2 k lt) in
         ap Some (omega (arith, not_behind, not_before))
+
+-- a line that stands whole at the front of what is shown
+pub whole_at : (shown : List ℕ) (left most : ℕ) (r : Option ℕ) → most ≤ length shown → most ≤ left → r ≡ position (λ b. b == 10) (take most shown) → IfSome r (λ at. IsWholeLine at shown left)
+whole_at shown left most None within fits is = tt
+whole_at shown left most (Some at) within fits is =
+    let b = before_lf (take most shown) at (sym is) in
+    let low : at + 1 ≤ most = omega (arith, length-take most shown, b.2) in
+    let front : take at shown ≡ take at (take most shown) = sym (take-take at most shown (omega arith)) in
+    record {
+      plain = subst HasNoLf (sym front) b.0;
+      front = sym (take-take (at + 1) most shown low) ∙ b.1 ∙ ap (λ l. l ++ 10 ∷ []) (sym front);
+      within = omega arith;
+      fits = omega arith;
+    }

@@ -35,3 +35,8 @@ all_said names held text look over is (Err e) said = tt
 all_said names held text look over is (Ok turn) said = λ line h.
     let all : take 8193 line ≡ line = take_all 8193 line (ltb-false 8193 (length line) (sym h.over ∙ over)) in
     turn_said names line turn (look ∙ h.look) (subst (λ t. IsSaid names t turn) (is ∙ ap without_cr (h.front ∙ all)) said)
+
+pub text_said : {E : Type 0} → (names : KnownNames) (line text : List ℕ) → Filled ≡ look_of line → text ≡ without_cr line
+    → (r : Result Turn E) → IfOk r (IsSaid names text) → IfOk r (IsTurn names line)
+text_said names line text look is (Err e) said = tt
+text_said names line text look is (Ok turn) said = turn_said names line turn look (subst (λ t. IsSaid names t turn) is said)

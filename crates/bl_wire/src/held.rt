@@ -42,7 +42,7 @@ fn next_look(look: Look, byte: u8) -> Look
     }
 }
 
-fn look_on(look: Look, part: &[u8]) -> Look
+pub(crate) fn look_on(look: Look, part: &[u8]) -> Look
     ensures { result ≡ fold look_after look part.now }
 {
     let mut now = look;

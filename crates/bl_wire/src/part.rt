@@ -1,6 +1,6 @@
 //! The part of a line that stands at the front of what a reader shows.
 ghost use Rattle.std.specs.Prelude.{◌≡◌, ◌==◌, ◌<◌, IfSome, None, length, position};
-ghost use Rattle.bl_wire.specs.Reads.{Scanned};
+ghost use Rattle.bl_wire.specs.Reads.{IsWholeLine, Scanned};
 
 use crate::held::Held;
 use memchr::memchr;
@@ -25,6 +25,15 @@ fn lf_place(bytes: &[u8]) -> Option<usize>
     ensures { result ≡ position (λ b. b == 10) bytes.now }
 {
     memchr(b'\n', bytes)
+}
+
+/// Where the first line of what a reader shows ends, without its LF. `None` where it does not stand there whole within
+/// `left` bytes.
+pub fn whole_line(shown: &[u8], left: usize) -> Option<usize>
+    ensures { IfSome result (λ at. IsWholeLine at shown.now left) }
+{
+    let most = shown.len().min(left);
+    lf_place(&shown[..most])
 }
 
 /// Looks at what a reader shows, up to an LF or `left` bytes, holds what belongs to the line, and says which of the bytes are to be

@@ -3,7 +3,7 @@ ghost use Rattle.std.specs.Prelude.{◌≡◌, ◌≢◌, ◌<◌, List, ℕ, If
 ghost use Rattle.bl_wire.specs.Lines.{without_cr};
 ghost use Rattle.bl_work.specs.LineGrammar.{most_line_bytes};
 
-use crate::held::{Held, Look};
+use crate::held::{Held, Look, look_on};
 use bl_policy::id::SubjectId;
 use bl_read::line::read_line;
 use bl_work::asked::{Line, LineFault};
@@ -118,6 +118,18 @@ pub fn turn_held(alloc: Global, names: &Names, held: &Held) -> Result<Turn, Allo
         return Ok(Turn::Bad(LineFault::Long));
     }
     said(alloc, names, text_held(&held.bytes))
+}
+
+/// What a line, without its LF, is to the session where it lies whole in what a reader shows. It is read there as
+/// `turn_held` reads one that is held, so it needs no room and is not copied.
+pub fn turn_shown(alloc: Global, names: &Names, line: &[u8]) -> Result<Turn, AllocError>
+    ensures turn { IfOk result (IsTurn names.now line.now) }
+    ensures long { most_line_bytes < length (without_cr line.now) → IsOk result }
+{
+    match look_on(Look::Blank, line) {
+        Look::Filled => said(alloc, names, text_held(line)),
+        Look::Blank | Look::BlankThenCr => Ok(Turn::Skip),
+    }
 }
 
 ghost use Rattle.bl_wire.specs.HoldsLine.{HoldsLine};
