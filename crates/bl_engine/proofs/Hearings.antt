@@ -1,5 +1,5 @@
 -- What a conversation has heard.
-use Rattle.std.proofs.Common.{◌≡◌, ◌≢◌, ℕ, ◌+◌, ◌<◌, ◌⊎◌, inl, inr, Bool, true, false, List, [], ◌∷◌, ◌++◌, length, refl, sym, ap, subst, ◌∙◌, append_assoc, append-nil, arith, take, Option, Some, None, IfSome, ◌-◌, length-append, length-take-le}
+use Rattle.std.proofs.Common.{◌≡◌, ◌≢◌, ℕ, ◌+◌, ◌*◌, ◌<◌, ◌≤◌, ◌⊎◌, inl, inr, Bool, true, false, List, [], ◌∷◌, ◌++◌, length, refl, sym, ap, subst, ◌∙◌, append_assoc, append-nil, arith, take, Option, Some, None, IfSome, ◌-◌, length-append, length-take-le}
 use Rattle.std.proofs.lemmas.List.Elements.{All-nil, All-append}
 use Rattle.bl_work.specs.Names.{KnownNames}
 use Rattle.bl_wire.specs.HoldsLine.{HoldsLine}
@@ -13,11 +13,11 @@ use Rattle.bl_engine.specs.declared.conversation.Conversation.{Conversation}
 use Rattle.bl_engine.specs.declared.conversation.Need.TheVariants as needs
 use Rattle.bl_engine.specs.declared.conversation.Stage.{Stage}
 use Rattle.bl_engine.specs.declared.conversation.Stage.TheVariants as stages
-use Rattle.bl_engine.specs.Conversations.{Given, Talk, talk_of, need_at, need_of, AreSo, HasHeard, HoldsBegun, IsOpen, IsAt, HearsMore, Hears, IsOf, IsHeardOf, LetsGo, TakesLine, TakesTurn}
+use Rattle.bl_engine.specs.Conversations.{Given, Talk, talk_of, need_at, need_of, AreSo, HasHeard, HoldsBegun, IsOpen, IsAt, HearsMore, Hears, IsOf, IsHeardOf, LetsGo, TakesLine, TakesTurn, waits_left, waits_of}
 use Rattle.bl_engine.proofs.LineLaws.{AreLines-nil, AreLines-whole, AreLines-append, lines-last}
 use Rattle.bl_engine.proofs.LineLaws.{turns-append, lines-now}
 use Rattle.bl_engine.proofs.Conversing.{silent_same, open_same, silent_ends}
-use Rattle.bl_wire.specs.Reads.{Scanned}
+use Rattle.bl_wire.specs.Reads.{IsWholeLine, Scanned}
 use Rattle.bl_wire.specs.declared.part.Part.{Part}
 use Rattle.bl_wire.specs.declared.part.Part.TheVariants.{Ends, More}
 
@@ -245,6 +245,16 @@ scanned_part names old gone new before held bytes n part is goes begun s need he
     (subst (λ o. HoldsBegun o line) (sym held_is) (more, some.holds was.rest (begun was.rest was.holds)))
     (omega (arith, count, goes.left, some.fits, length-take-le n bytes some.within)) (stage ∙ goes.stage) (talk ∙ goes.talk)
 
+-- a line was heard that stood whole at the front of the bytes
+pub heard_whole : (names : KnownNames) (old mid new : Conversation) (turn : Turn) (request : Option Request) (bytes line : List ℕ) (at : ℕ) → (old.held ≡ None) × IsWholeLine at bytes old.left
+    → need_of old ≡ needs.Input → IsTurn names line turn → line ≡ take at bytes → mid.held ≡ old.held → mid.left ≡ old.left - (at + 1) → mid.stage ≡ old.stage → talk_of mid ≡ talk_of old
+    → TakesTurn mid new turn request → Hears names old new (take (at + 1) bytes) request
+heard_whole names old mid new turn request bytes line at whole need is_turn is held_is count stage talk takes turns heard was =
+    let none : was.rest ≡ [] = subst (λ o. HoldsBegun o was.rest) whole.0 was.holds in
+    heard_line names old turns heard was mid new turn request (take (at + 1) bytes) (take at bytes) need whole.1.front whole.1.plain (held_is ∙ whole.0)
+    (omega (arith, count, whole.1.fits, whole.1.within, length-take-le (at + 1) bytes (omega (arith, whole.1.within)))) stage talk
+    (subst (λ rest. IsTurn names (rest ++ take at bytes) turn) (sym none) (subst (λ l. IsTurn names l turn) is is_turn)) takes
+
 -- the input has ended after a line
 pub ends_line : (names : KnownNames) (old gone mid new : Conversation) (held : Held) (request : Option Request) → (old.ended ≡ false) × (old.held ≡ Some held)
     → (need_of old ≡ needs.Input) ⊎ (need_of old ≡ needs.End) → LetsGo old gone → mid.held ≡ gone.held → mid.left ≡ gone.left → mid.stage ≡ gone.stage → mid.ended ≡ true
@@ -299,3 +309,38 @@ pub ends_block : (names : KnownNames) (old gone new : Conversation) → gone ≡
     → new.stage ≡ stages.Settles closings.Ends → new.ended ≡ true → new.after ≡ gone.after → new.pending.items ≡ gone.pending.items → new.line ≡ gone.line → Hears names old new [] (Some Settles)
 ends_block names old gone new same why was_stage held left_is stage ended after pending line =
     subst (λ o. Hears names o new [] (Some Settles)) same (ends_block_at names gone new why was_stage held left_is stage ended after pending line)
+
+-- how often it may wait, where bytes were heard and the input goes on
+waits_most : (stage : Stage) → waits_of false stage ≤ 10
+waits_most stages.Greets = omega arith
+waits_most stages.Opens = omega arith
+waits_most stages.Listens = omega arith
+waits_most (stages.Settles closings.GoesOn) = omega arith
+waits_most (stages.Settles closings.Ends) = omega arith
+waits_most (stages.Settles closings.RefusesHello) = omega arith
+waits_most (stages.Settles closings.FindsFull) = omega arith
+waits_most (stages.Tells closings.GoesOn) = omega arith
+waits_most (stages.Tells closings.Ends) = omega arith
+waits_most (stages.Tells closings.RefusesHello) = omega arith
+waits_most (stages.Tells closings.FindsFull) = omega arith
+waits_most stages.Over = omega arith
+
+waits_hearing : (ended : Bool) (stage : Stage) → need_at ended stage ≡ needs.Input → waits_of ended stage ≡ 8
+waits_hearing false stages.Greets is = refl
+waits_hearing false stages.Listens is = refl
+waits_hearing false stages.Opens is = cc
+waits_hearing false (stages.Settles closing) is = cc
+waits_hearing false (stages.Tells closing) is = cc
+waits_hearing false stages.Over is = cc
+waits_hearing true stage is = let no' = not_ended true stage is in cc
+
+pub waits_fewer : (old new : Conversation) → need_of old ≡ needs.Input → new.ended ≡ false → new.left < old.left → waits_left new < waits_left old
+waits_fewer old new need ended fewer =
+    let most : waits_of new.ended new.stage ≤ 10 = subst (λ e. waits_of e new.stage ≤ 10) (sym ended) (waits_most new.stage) in
+    omega (arith, most, fewer, waits_hearing old.ended old.stage need)
+
+-- a line with its LF has a byte
+pub line_some : (n : ℕ) (part : Part) (shown : List ℕ) (before held : Held) (left : ℕ) → part ≡ Ends → Scanned n part shown before held left → 0 < n
+line_some n part shown before held left is s =
+    let whole : Scanned n Ends shown before held left = subst (λ p. Scanned n p shown before held left) is s in
+    omega (arith, ap length whole.front, length-take-le n shown whole.within, length-append whole.some (10 ∷ []))

@@ -8,9 +8,9 @@ use crate::block::{Replies, greeting, put_reply};
 use crate::request::Request;
 use bl_wire::fault::SessionFault;
 use bl_wire::held::Held;
-use bl_wire::part::{Part, scan};
+use bl_wire::part::{Part, scan, whole_line};
 use bl_wire::put::put;
-use bl_wire::turn::{Pending, Turn, turn_held};
+use bl_wire::turn::{Pending, Turn, turn_held, turn_shown};
 use bl_wire::watched::Watched;
 use bl_work::names::Names;
 use std::alloc::{AllocError, Global};
@@ -130,6 +130,7 @@ impl Conversation {
     ghost use Rattle.bl_wire.specs.Watch.{end_state, Puts};
     ghost use Rattle.bl_wire.specs.declared.fault.SessionFault.TheVariants.{TooLong, Memory};
     ghost use Rattle.bl_wire.specs.HoldsLine.{HoldsLine};
+    ghost use Rattle.bl_wire.specs.Reads.{IsWholeLine};
     ghost use Rattle.bl_work.specs.Names.{KnownNames};
     ghost use Rattle.bl_engine.specs.Parts.{MayTake};
     ghost use Rattle.bl_engine.specs.Conversations.{Given, Spoke, Hears, Says, IsOpenedAs, IsAnswered, TakesTurn, TakesLine, HoldsBegun, LetsGo, TellsPart, Closes, Keeps, KeepsBlock, SameBlock, GoesOnAlone, last_ordinal, need_of, words_of, is_hearing, parts_left, waits_left, HasRoom};
@@ -280,6 +281,16 @@ impl Conversation {
         }
     }
 
+    /// Where the line ends that stands whole at the front of these bytes, where none had begun before them.
+    fn whole_at(&self, bytes: &[u8]) -> Option<usize>
+        ensures { IfSome result (λ at. (self.now.held ≡ None) × IsWholeLine at bytes.now self.now.left) }
+    {
+        match &self.held {
+            Some(_) => None,
+            None => whole_line(bytes, self.left),
+        }
+    }
+
     /// Hears of these bytes up to the end of one line, and at most what may still be heard, and says how many they were and what is
     /// asked at them. `TooLong` comes where nothing more may be heard, and `Memory` where memory was refused; then nothing is said of
     /// the conversation any more, and it is to be dropped.
@@ -298,6 +309,13 @@ impl Conversation {
         ensures nearer { OnOk result (waits_left self.new < waits_left self.old) }
         ensures long { IfErr result (λ fault. (fault ≡ Memory) ⊎ ((fault ≡ TooLong) × (self.old.left ≡ 0))) }
     {
+        if let Some(at) = self.whole_at(bytes) {
+            let turn = turn_shown(alloc, names, &bytes[..at])?;
+            self.left -= at + 1;
+            let request = self.take_turn(turn)?;
+            let taken = at + 1;
+            return Ok(Heard { taken, request });
+        }
         let mut held = self.let_go(alloc)?;
         let Some(found) = scan(bytes, &mut held, self.left) else {
             return Err(SessionFault::TooLong);
