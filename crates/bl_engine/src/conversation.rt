@@ -1,7 +1,7 @@
 //! A conversation of a session as a value: it is handed bytes as they come and replies as they are there, says what it asks of the
 //! machine behind it, and tells what it has to say. It calls no reader and no machine, so it can be left at any moment, and many of
 //! them can share a thread.
-ghost use Rattle.std.specs.Prelude.{◌≡◌, ◌+◌, ◌≤◌, ◌<◌, ◌^◌, ◌++◌, ◌∷◌, [], ◌⊎◌, ℕ, List, Bool, true, false, Option, Some, None, IfOk, OnOk, IfErr, IfSome, length, take, drop};
+ghost use Rattle.std.specs.Prelude.{◌≡◌, ◌+◌, ◌≤◌, ◌<◌, ◌^◌, ◌++◌, ◌∷◌, [], ◌⊎◌, ℕ, List, Bool, true, false, Option, Some, None, IfOk, OnOk, IfErr, IfNone, IfSome, length, take, drop};
 ghost use Rattle.bl_engine.specs.Unopened.{is_unopened};
 
 use crate::block::{Replies, greeting, put_reply};
@@ -130,6 +130,7 @@ impl Conversation {
     ghost use Rattle.bl_wire.specs.Watch.{end_state, Puts};
     ghost use Rattle.bl_wire.specs.declared.fault.SessionFault.TheVariants.{TooLong, Memory};
     ghost use Rattle.bl_wire.specs.HoldsLine.{HoldsLine};
+    ghost use Rattle.bl_wire.specs.Lines.{HasNoLf};
     ghost use Rattle.bl_wire.specs.Reads.{IsWholeLine};
     ghost use Rattle.bl_work.specs.Names.{KnownNames};
     ghost use Rattle.bl_engine.specs.Parts.{MayTake};
@@ -283,7 +284,8 @@ impl Conversation {
 
     /// Where the line ends that stands whole at the front of these bytes, where none had begun before them.
     fn whole_at(&self, bytes: &[u8]) -> Option<usize>
-        ensures { IfSome result (λ at. (self.now.held ≡ None) × IsWholeLine at bytes.now self.now.left) }
+        ensures some { IfSome result (λ at. (self.now.held ≡ None) × IsWholeLine at bytes.now self.now.left) }
+        ensures none { IfNone result (self.now.held ≡ None → HasNoLf (take self.now.left bytes.now)) }
     {
         match &self.held {
             Some(_) => None,

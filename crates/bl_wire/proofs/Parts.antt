@@ -1,6 +1,7 @@
 -- Lines and their parts.
-use Rattle.std.proofs.Common.{◌≡◌, ◌≢◌, ℕ, ◌+◌, ◌-◌, ◌<◌, ◌≤◌, Bool, true, false, cond, List, [], ◌∷◌, ◌++◌, length, refl, sym, ap, ◌∙◌, arith, take, take-take, nat_lt, Option, Some, None, OnSome, IfSome, subst, zero, position, not, ◌==◌, get_or, get_or-take, length-take, eqb, eq-eqb, eqb-true, ltb-false, add-one, suc, min, ◌||◌, true≢false}
+use Rattle.std.proofs.Common.{◌≡◌, ◌≢◌, ℕ, ◌+◌, ◌-◌, ◌<◌, ◌≤◌, Bool, true, false, cond, List, [], ◌∷◌, ◌++◌, length, refl, sym, ap, ◌∙◌, arith, take, take-take, nat_lt, Option, Some, None, OnSome, IfSome, IfNone, subst, zero, position, not, ◌==◌, get_or, get_or-take, length-take, eqb, eq-eqb, eqb-true, ltb-false, add-one, suc, min, ◌||◌, true≢false}
 use Rattle.std.proofs.lemmas.Bool.Decides.{nat_tests}
+use Rattle.std.proofs.lemmas.List.{take_min}
 use Rattle.std.proofs.lemmas.List.Sums.{prefix_len_passes, prefix_len-le-length}
 use Rattle.std.specs.List.{prefix_len}
 use Rattle.std.proofs.lemmas.List.Quantifiers.{position-Some}
@@ -65,6 +66,12 @@ no_lf xs e k d h hit =
         go : (t : Bool) → nat_lt (prefix_len (λ b. not (b == 10)) xs) (length xs) ≡ t → cond t (Some (prefix_len (λ b. not (b == 10)) xs)) None ≡ None → prefix_len (λ b. not (b == 10)) xs ≡ length xs
         go true lt none = cc
         go false ge none = omega (arith, le, ltb-false _ _ ge)
+
+-- where no LF stands in what is shown, as far as it may be taken
+pub none_whole : (shown : List ℕ) (left most : ℕ) (found : Option ℕ) → most ≡ min left (length shown)
+    → found ≡ position (λ b. b == 10) (take most shown) → IfNone found (HasNoLf (take left shown))
+none_whole shown left most None least e = subst HasNoLf (ap (λ n. take n shown) least ∙ take_min left shown) (no_lf (take most shown) (sym e))
+none_whole shown left most (Some k) least e = tt
 
 -- a search by a vector finds the place that a search from the left finds
 pub first_lf : (xs : List ℕ) (r : Option ℕ) → IsFirstByte (is_byte 10) xs r → r ≡ position (λ b. b == 10) xs

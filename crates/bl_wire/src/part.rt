@@ -1,5 +1,6 @@
 //! The part of a line that stands at the front of what a reader shows.
-ghost use Rattle.std.specs.Prelude.{◌≡◌, ◌==◌, ◌<◌, IfSome, None, length, position};
+ghost use Rattle.std.specs.Prelude.{◌≡◌, ◌==◌, ◌<◌, IfNone, IfSome, None, length, position, take};
+ghost use Rattle.bl_wire.specs.Lines.{HasNoLf};
 ghost use Rattle.bl_wire.specs.Reads.{IsWholeLine, Scanned};
 
 use crate::held::Held;
@@ -30,7 +31,8 @@ fn lf_place(bytes: &[u8]) -> Option<usize>
 /// Where the first line of what a reader shows ends, without its LF. `None` where it does not stand there whole within
 /// `left` bytes.
 pub fn whole_line(shown: &[u8], left: usize) -> Option<usize>
-    ensures { IfSome result (λ at. IsWholeLine at shown.now left) }
+    ensures some { IfSome result (λ at. IsWholeLine at shown.now left) }
+    ensures none { IfNone result (HasNoLf (take left shown.now)) }
 {
     let most = shown.len().min(left);
     lf_place(&shown[..most])

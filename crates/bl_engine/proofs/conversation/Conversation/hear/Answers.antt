@@ -5,7 +5,7 @@ use Rattle.bl_engine.proofs.conversation.Conversation.hear.Goals as goal
 
 pub returns-in-Some-clause-ok : goal.returns-in-Some-clause-ok
 returns-in-Some-clause-ok c =
-    heard_whole c.args.names.now c.args.self.now _ c.take_turn.new.self c.in_ok-turn.turn c.in_ok-request.request c.args.bytes.now _ c.in-Some.at c.in-Some.ensures c.requires.need
+    heard_whole c.args.names.now c.args.self.now _ c.take_turn.new.self c.in_ok-turn.turn c.in_ok-request.request c.args.bytes.now _ c.in-Some.at c.in-Some.ensures.some c.requires.need
     c.in_ok-turn.ensures.turn refl refl refl refl refl c.in_ok-request.ensures.takes
 
 pub returns-in_ok-request-in-Ends-clause-ok : goal.returns-in_ok-request-in-Ends-clause-ok
