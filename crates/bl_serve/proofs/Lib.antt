@@ -1,4 +1,5 @@
 pub mod ToldLaws
+mod Taking
 pub mod Opened
 mod Staying
 pub mod Telling

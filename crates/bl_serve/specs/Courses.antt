@@ -1,5 +1,7 @@
--- How a session over a gate stands: what was admitted for it, what it was answered, and whether another pass spoke for it.
-use Rattle.std.specs.Prelude.{◌≡◌, ◌≢◌, ℕ, ◌+◌, ◌<◌, ◌≤◌, ⊤, ◌⊎◌, true, false, List, [], ◌∷◌, ◌++◌, length, filter, All, Contains, Some, slice_get, drop}
+-- How a session over a gate stands: what was admitted for it, what it was answered, and whether another pass spoke for
+-- it.
+use Rattle.std.specs.Prelude.{◌≡◌, ◌≢◌, ℕ, ◌+◌, ◌<◌, ◌≤◌, ⊤, ◌⊎◌, true, false, List, [], ◌∷◌, ◌++◌}
+use Rattle.std.specs.Prelude.{length, filter, All, Contains, Some, slice_get, drop}
 use Rattle.bl_work.specs.Names.{KnownNames}
 use Rattle.bl_work.specs.declared.work.Work.{Work}
 use Rattle.bl_order.specs.Labels.{tag}
@@ -21,8 +23,8 @@ abbrev pub StandAt : List ℕ → ℕ → List Event → Type 0
 StandAt positions session trail =
     (p ordinal : ℕ) (work : Work) → slice_get trail p ≡ Some (Admits session ordinal work) → 1 ≤ times p positions
 
--- No other pass spoke for the session: each line of it that the pass has seen stands at a position that the pass has gained since
--- `before`.
+-- No other pass spoke for the session: each line of it that the pass has seen stands at a position that the pass has
+-- gained since `before`.
 abbrev pub SpeaksAlone : (before after : PassView) → ℕ → Type 0
 SpeaksAlone before after session = StandAt (drop (length before.own) after.own) session after.seen
 
@@ -37,7 +39,8 @@ pub record IsOpenedAt (positions : List ℕ) (pass : PassView) (session subject 
 abbrev pub HasOpened : (before after : PassView) → ℕ → Type 0
 HasOpened before after session = (subject : ℕ) × IsOpenedAt (drop (length before.own) after.own) after session subject
 
--- an event of a session that was opened at this position: that opening, a line of the session, or the start, the end or the loss of an entry
+-- an event of a session that was opened at this position: that opening, a line of the session, or the start, the end or
+-- the loss of an entry
 abbrev pub IsOfSession : (session opening : ℕ) → ℕ → Event → Type 0
 IsOfSession session opening position (Opens subject) = position ≡ opening
 IsOfSession session opening position (Admits other ordinal work) = other ≡ session
@@ -45,7 +48,8 @@ IsOfSession session opening position (Starts n) = Unit {0}
 IsOfSession session opening position (Ends n) = Unit {0}
 IsOfSession session opening position (Loses n) = Unit {0}
 
--- the pass opened the session since `before`, and made no event but those of this session: it opened and spoke for no other one
+-- the pass opened the session since `before`, and made no event but those of this session: it opened and spoke for no
+-- other one
 pub record IsOwn (before after : PassView) (session : ℕ) : Type 0 where
   pub opened : HasOpened before after session
   pub mine : Adds (IsOfSession session (length opened.1.front)) before after
@@ -54,14 +58,15 @@ pub record IsOwn (before after : PassView) (session : ℕ) : Type 0 where
 abbrev pub AddsOneSession : (before after : PassView) → Type 0
 AddsOneSession before after = (after.own ≡ before.own) ⊎ ((session : ℕ) × IsOwn before after session)
 
--- The pass spoke for no session but one that it opened itself: it owns what it owned, each position that it has gained since `before` is
--- one that it has seen, and a line there is of a session that was opened at one of them.
+-- The pass spoke for no session but one that it opened itself: it owns what it owned, each position that it has gained
+-- since `before` is one that it has seen, and a line there is of a session that was opened at one of them.
 pub record SpeaksForItsOwn (before after : PassView) : Type 0 where
   pub gained : List ℕ
   pub own : after.own ≡ before.own ++ gained
   pub within : (p : ℕ) → 1 ≤ times p gained → p < length after.seen
   pub lines : (p session ordinal : ℕ) (work : Work) → 1 ≤ times p gained
-      → slice_get after.seen p ≡ Some (Admits session ordinal work) → (subject : ℕ) × IsOpenedAt gained after session subject
+      → slice_get after.seen p ≡ Some (Admits session ordinal work)
+      → (subject : ℕ) × IsOpenedAt gained after session subject
 
 -- the works that are asked in what was told, each with its ordinal
 abbrev pub asked_in : List Request → List (ℕ × Work)
@@ -70,8 +75,8 @@ asked_in (request.Opens subject ∷ told) = asked_in told
 asked_in (request.Admits ordinal work ∷ told) = (ordinal, work) ∷ asked_in told
 asked_in (request.Settles ∷ told) = asked_in told
 
--- Of the works that were asked these were admitted, and of another one the weight and all that was admitted exceed the limit in this
--- state. All have ordinals up to the last one.
+-- Of the works that were asked these were admitted, and of another one the weight and all that was admitted exceed the
+-- limit in this state. All have ordinals up to the last one.
 pub record AreAdmitted (x : State) (last : ℕ) (asked works : List (ℕ × Work)) : Type 0 where
   pub are : works ≡ filter (λ (a : ℕ × Work). has_ordinal works a.0) asked
   pub full : All (λ (a : ℕ × Work). has_ordinal works a.0 ≡ false → x.limit < admitted_weight x + weight_of a.1) asked
@@ -95,11 +100,14 @@ pub record IsCovered (upto : ℕ) (told : List Request) : Type 0 where
 
 -- the session's entries below its lines up to an ordinal have ended
 abbrev pub IsOverUpTo : State → ℕ → ℕ → Type 0
-IsOverUpTo x session n = (p : ℕ) → p < length x.order → (tag x.order p).session ≡ session → ordinal_of (tag x.order p) ≤ n → has_ended x p ≡ true
+IsOverUpTo x session n =
+    (p : ℕ) → p < length x.order → (tag x.order p).session ≡ session → ordinal_of (tag x.order p) ≤ n
+    → has_ended x p ≡ true
 
--- What the trail admits for the session are these works. Its lines up to an ordinal are over, and what is answered to them is what the
--- trail leads to.
-pub record IsAnswered (pass : PassView) (session upto : ℕ) (works : List (ℕ × Work)) (replies : ℕ → List ℕ) : Type 0 where
+-- What the trail admits for the session are these works. Its lines up to an ordinal are over, and what is answered to
+-- them is what the trail leads to.
+pub record IsAnswered (pass : PassView) (session upto : ℕ) (works : List (ℕ × Work)) (replies : ℕ → List ℕ)
+    : Type 0 where
   pub lines : admitted session pass.seen ≡ works
   pub over : IsOverUpTo (state_seen pass) session upto
   pub answers : SameUpTo upto replies (line_text (state_seen pass) session)
@@ -107,7 +115,8 @@ pub record IsAnswered (pass : PassView) (session upto : ℕ) (works : List (ℕ 
 -- each line of the session that stands at one of these positions has one of these works
 abbrev pub HaveWorks : List ℕ → ℕ → List Event → List (ℕ × Work) → Type 0
 HaveWorks positions session trail works =
-    (p ordinal : ℕ) (work : Work) → 1 ≤ times p positions → slice_get trail p ≡ Some (Admits session ordinal work) → Contains works (ordinal, work)
+    (p ordinal : ℕ) (work : Work) → 1 ≤ times p positions → slice_get trail p ≡ Some (Admits session ordinal work)
+    → Contains works (ordinal, work)
 
 -- an event that is no line of the session
 abbrev pub IsNoLineOf : ℕ → Event → Type 0
@@ -121,17 +130,17 @@ IsNoLineOf session (Loses n) = Unit {0}
 abbrev pub AdmitsNoLineOf : ℕ → PassView → PassView → Type 0
 AdmitsNoLineOf session before after = Adds (λ _. IsNoLineOf session) before after
 
--- a session over a gate: its number, an ordinal up to which all lies that was asked, the one up to which it was answered, and the text of
--- its replies
+-- a session over a gate: its number, an ordinal up to which all lies that was asked, the one up to which it was
+-- answered, and the text of its replies
 pub record Course : Type 0 where
   pub session : ℕ
   pub last : ℕ
   pub upto : ℕ
   pub replies : ℕ → List ℕ
 
--- The pass has opened the session since `first`, and this was told of it: each line of it that the pass has gained has one of the works that
--- were admitted. Where no other pass spoke for it, and the names are the hall's, it was answered what the trail leads to. The pass may have
--- gained events of other sessions too.
+-- The pass has opened the session since `first`, and this was told of it: each line of it that the pass has gained has
+-- one of the works that were admitted. Where no other pass spoke for it, and the names are the hall's, it was answered
+-- what the trail leads to. The pass may have gained events of other sessions too.
 pub record IsCourse (names : KnownNames) (first pass : PassView) (course : Course) (told : List Request) : Type 0 where
   pub gained : List ℕ
   pub own : pass.own ≡ first.own ++ gained
@@ -147,10 +156,11 @@ pub record IsCourse (names : KnownNames) (first pass : PassView) (course : Cours
   pub mine : HaveWorks gained course.session pass.seen works
   pub admits : AreAdmitted (state_seen pass) course.last (asked_in told) works
   pub covers : IsCovered course.upto told
-  pub answered : names ≡ pass.gate.base.setup.names → StandAt gained course.session pass.seen → IsAnswered pass course.session course.upto works course.replies
+  pub answered : names ≡ pass.gate.base.setup.names → StandAt gained course.session pass.seen
+      → IsAnswered pass course.session course.upto works course.replies
 
--- What a session does to a pass while it keeps quiet: the pass follows what it was and takes turns alone, and where what it had seen was a
--- trail it is one still.
+-- What a session does to a pass while it keeps quiet: the pass follows what it was and takes turns alone, and where
+-- what it had seen was a trail it is one still.
 pub record KeepsQuiet (before after : PassView) : Type 0 where
   pub follows : Follows before after
   pub adds : AddsTurnsAlone before after

@@ -1,6 +1,9 @@
 -- The replies that a session was told, in the order in which they came, and which of them answer a line.
-use Rattle.std.specs.Prelude.{⊤, ℕ, ◌<◌, ◌≤◌, ◌==◌, List, [], ◌∷◌, All, AllPairs, filter, length, map, slice_index_or, take}
+use Rattle.std.specs.Prelude.{⊤, ℕ, ◌<◌, ◌≤◌, ◌==◌, Bool, false, List, [], ◌∷◌, All, AllPairs, drop, filter}
+use Rattle.std.specs.Prelude.{length, map, slice_index_or, take}
 use Rattle.bl_work.specs.Few.{items_of}
+use Rattle.bl_work.specs.declared.few.Few.TheVariants.{Nothing}
+use Rattle.bl_work.specs.declared.answer.Answer.TheVariants.{Lost}
 use Rattle.bl_work.specs.Names.{KnownNames}
 use Rattle.bl_hall.specs.declared.reply.Reply as owned
 use Rattle.bl_hall.specs.Told.{reply_of}
@@ -15,7 +18,8 @@ ordinal_of reply = slice_index_or (items_of reply.label) 0 0
 abbrev pub line_of : ℕ → List owned.Reply → List owned.Reply
 line_of k told = filter (λ reply. ordinal_of reply == k) told
 
--- what is written for a line whose work was asked for: its replies, or where there are none that it was refused since there was no room
+-- what is written for a line whose work was asked for: its replies, or where there are none that it was refused since
+-- there was no room
 abbrev pub told_text : KnownNames → List owned.Reply → ℕ → List ℕ
 told_text names told k = line_or_full names k (map reply_of (line_of k told))
 
@@ -39,8 +43,21 @@ pub record IsBlock (names : KnownNames) (after upto : ℕ) (told : List owned.Re
   pub are : All (IsTold names after upto) told
   pub order : GoByLine told
 
--- they go line by line, and those before a place are to lines up to an ordinal
+-- the first of these replies is to a line
+abbrev pub begins_with : ℕ → List owned.Reply → Bool
+begins_with k [] = false
+begins_with k (reply ∷ told) = ordinal_of reply == k
+
+-- what is left in the place of a reply that was taken out: it is to no line
+abbrev pub told_already : owned.Reply
+told_already = record { label = Nothing; answer = Lost }
+
+-- each subject and document in them has a name
+abbrev pub AreNamed : KnownNames → List owned.Reply → Type 0
+AreNamed names told = All (λ (reply : owned.Reply). NamesAnswer names reply.answer) told
+
+-- those from a place on go line by line, and those before it are to lines up to an ordinal
 pub record IsPage (told : List owned.Reply) (next n : ℕ) : Type 0 where
-  pub order : GoByLine told
+  pub order : GoByLine (drop next told)
   pub within : next ≤ length told
   pub low : All (λ reply. ordinal_of reply ≤ n) (take next told)

@@ -1,4 +1,5 @@
-//! Sessions over a gate: the machine behind a session whose lines others run too, and the session itself, over any reader and writer.
+//! Sessions over a gate: the machine behind a session whose lines others run too, and the session itself, over any
+//! reader and writer.
 //!
 //!     session    serves a session
 //!     talk       its conversation: what was asked is done, and what is told is written

@@ -1,14 +1,14 @@
-//! The conversation of a session over a gate: it hears what the reader shows, what it asks is done through the gate, and what it tells
-//! is written. What was written is handed on before a read that may wait.
-ghost use Rattle.std.specs.Prelude.{◌≡◌, ◌≢◌, ◌≤◌, [], false, Option, Some, List, ℕ, OnOk, IfErr};
+//! The conversation of a session over a gate: it hears what the reader shows, what it asks is done through the gate,
+//! and what it tells is written. What was written is handed on before a read that may wait.
+ghost use Rattle.std.specs.Prelude.{◌≡◌, ◌≢◌, ◌≤◌, [], false, OnOk, IfErr};
+ghost use Rattle.bl_wire.specs.Watch.{end_state, used};
 ghost use Rattle.bl_wire.specs.declared.fault.SessionFault.TheVariants.{Clash};
 ghost use Rattle.bl_engine.specs.Conversations.{waits_left};
-ghost use Rattle.bl_engine.specs.declared.request.Request.TheVariants.{Settles};
-ghost use Rattle.bl_engine.specs.View.{ends};
-ghost use Rattle.bl_serve.specs.Talks.{HasBroken, HasEnded, HasStopped, IsAsking, IsUnderWay};
-ghost use Rattle.bl_serve.specs.Visits.{HasCome, IsSpokenFor};
+ghost use Rattle.bl_serve.specs.Outcome.{AreFine};
+ghost use Rattle.bl_serve.specs.Talks.{Asks, BreaksFrom, IsBroken, IsOver, Meets, point_of, settling};
+ghost use Rattle.bl_serve.specs.Visits.{HasCome, IsSpokenFor, home};
 
-use crate::told::put_line;
+use crate::told::put_next;
 use crate::visit::{Visit, Visitor};
 use bl_engine::block::{NoReplies, Replies};
 use bl_engine::conversation::{Conversation, Need};
@@ -22,8 +22,8 @@ use bl_worker::pause::Pause;
 use std::io::{BufRead, Write};
 use std::sync::Wait;
 
-/// The replies to a block of the session, which are told line by line: those to lines up to an ordinal were, and the others stand from
-/// a place on.
+/// The replies to a block of the session, which are told one by one, and let go as they are: those to lines up to an
+/// ordinal were, and the others stand from a place on.
 #[derive(Drop)]
 pub struct Told<'a> {
     pub names: &'a Names,
@@ -40,9 +40,12 @@ impl Replies for Told<'_> {
     ghost stands = { Stands };
 
     fn put_part<W: Write>(&mut self, ordinal: u32, writer: &mut Watched<W>) -> bool {
-        self.next = put_line(writer, self.names, ordinal, &self.replies, self.next);
-        self.upto = ordinal;
-        true
+        let (next, last) = put_next(writer, self.names, ordinal, &mut self.replies, self.next);
+        self.next = next;
+        if last {
+            self.upto = ordinal;
+        }
+        last
     }
 }
 
@@ -54,13 +57,13 @@ fn settle<P: Pause, T: Wait, W: Write>(
     writer: &mut Watched<W>,
 ) -> Result<(), SessionFault>
     requires writer { writer.old.failed ≡ false }
-    requires asks { (start rest first : Option (List ℕ)) × IsAsking visitor.now.gate.now visitor.now.first.value (ends start rest first (W.contents writer.old.inner)) conv.old (Some Settles) visit.old }
-    ensures ok { OnOk result ((start rest first : Option (List ℕ)) → IsAsking visitor.now.gate.now visitor.now.first.value (ends start rest first (W.contents writer.old.inner)) conv.old (Some Settles) visit.old
-        → IsUnderWay visitor.now.gate.now visitor.now.first.value (ends start rest first (W.contents writer.new.inner)) conv.new visit.new) }
+    requires asks { Asks (home visitor.now) (settling conv.old visit.old (end_state W.contents writer.old)) }
+    ensures ok { OnOk result (Meets (home visitor.now) (settling conv.old visit.old (end_state W.contents writer.old))
+        conv.new visit.new (end_state W.contents writer.new)) }
     ensures fine { OnOk result (writer.new.failed ≡ false) }
     ensures nearer { OnOk result (waits_left conv.new ≤ waits_left conv.old) }
-    ensures err { IfErr result (λ fault. (start rest first : Option (List ℕ)) → IsAsking visitor.now.gate.now visitor.now.first.value (ends start rest first (W.contents writer.old.inner)) conv.old (Some Settles) visit.old
-        → HasStopped fault visitor.now.gate.now visitor.now.first.value (ends start rest first (W.contents writer.new.inner)) false writer.new.failed visit.new) }
+    ensures err { IfErr result (λ fault. BreaksFrom fault (home visitor.now)
+        (settling conv.old visit.old (end_state W.contents writer.old)) visit.new (end_state W.contents writer.new)) }
     ensures never { IfErr result (λ fault. fault ≢ Clash) }
 {
     let upto = conv.after();
@@ -83,14 +86,14 @@ fn meet<P: Pause, T: Wait, W: Write>(
     writer: &mut Watched<W>,
 ) -> Result<(), SessionFault>
     requires writer { writer.old.failed ≡ false }
-    requires asks { (start rest first : Option (List ℕ)) × IsAsking visitor.now.gate.now visitor.now.first.value (ends start rest first (W.contents writer.old.inner)) talk.old.conv talk.old.request visit.old }
-    ensures ok { OnOk result ((start rest first : Option (List ℕ)) → IsAsking visitor.now.gate.now visitor.now.first.value (ends start rest first (W.contents writer.old.inner)) talk.old.conv talk.old.request visit.old
-        → IsUnderWay visitor.now.gate.now visitor.now.first.value (ends start rest first (W.contents writer.new.inner)) talk.new.conv visit.new) }
+    requires asks { Asks (home visitor.now) (point_of talk.old visit.old (end_state W.contents writer.old)) }
+    ensures ok { OnOk result (Meets (home visitor.now) (point_of talk.old visit.old (end_state W.contents writer.old))
+        talk.new.conv visit.new (end_state W.contents writer.new)) }
     ensures fine { OnOk result (writer.new.failed ≡ false) }
     ensures names { talk.new.names ≡ talk.old.names }
     ensures nearer { OnOk result (waits_left talk.new.conv ≤ waits_left talk.old.conv) }
-    ensures err { IfErr result (λ fault. (start rest first : Option (List ℕ)) → IsAsking visitor.now.gate.now visitor.now.first.value (ends start rest first (W.contents writer.old.inner)) talk.old.conv talk.old.request visit.old
-        → HasStopped fault visitor.now.gate.now visitor.now.first.value (ends start rest first (W.contents writer.new.inner)) false writer.new.failed visit.new) }
+    ensures err { IfErr result (λ fault. BreaksFrom fault (home visitor.now)
+        (point_of talk.old visit.old (end_state W.contents writer.old)) visit.new (end_state W.contents writer.new)) }
     ensures clash { IfErr result (λ fault. fault ≡ Clash → IsSpokenFor visitor.now.first.value visit.new.pass) }
 {
     let Some(request) = talk.request.take() else {
@@ -107,7 +110,8 @@ fn meet<P: Pause, T: Wait, W: Write>(
     }
 }
 
-/// A whole session over a gate. Where there are as many sessions as there may be, it tells so, and the rest stays unread.
+/// A whole session over a gate. Where there are as many sessions as there may be, it tells so, and the rest stays
+/// unread.
 pub(crate) fn converse<R: BufRead, P: Pause, T: Wait, W: Write>(
     visitor: &Visitor<'_, P, T>,
     visit: &mut Visit,
@@ -118,9 +122,11 @@ pub(crate) fn converse<R: BufRead, P: Pause, T: Wait, W: Write>(
     requires names { names.now ≡ visitor.now.gate.now.base.setup.names }
     requires fine { (reader.old.failed ≡ false) × (writer.old.failed ≡ false) }
     requires come { HasCome visitor.now.gate.now visitor.now.first.value visit.old [] [] }
-    ensures ok { OnOk result (HasEnded visitor.now.gate.now visitor.now.first.value (ends (R.remaining reader.old.inner) (R.remaining reader.new.inner) (W.contents writer.old.inner) (W.contents writer.new.inner)) visit.new) }
-    ensures fine { OnOk result ((reader.new.failed ≡ false) × (writer.new.failed ≡ false) × (writer.new.unflushed ≡ false)) }
-    ensures err { IfErr result (λ fault. HasBroken fault visitor.now.gate.now visitor.now.first.value (ends (R.remaining reader.old.inner) (R.remaining reader.new.inner) (W.contents writer.old.inner) (W.contents writer.new.inner)) reader.new.failed writer.new.failed visit.new) }
+    ensures ok { OnOk result (IsOver (home visitor.now) visit.new
+        (used R.remaining reader.old reader.new) (used W.contents writer.old writer.new)) }
+    ensures fine { OnOk result (AreFine reader.new writer.new) }
+    ensures err { IfErr result (λ fault. IsBroken fault (home visitor.now) visit.new
+        (used R.remaining reader.old reader.new) (used W.contents writer.old writer.new)) }
     ensures clash { IfErr result (λ fault. fault ≡ Clash → IsSpokenFor visitor.now.first.value visit.new.pass) }
 {
     let mut talk = Listener {

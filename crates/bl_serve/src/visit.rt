@@ -1,19 +1,16 @@
-//! The machine behind a session over a gate. Lines enter through the gate, and who waits for their answers takes turns meanwhile.
-//! Other threads call the gate too, so what the hall answers is that of a trail which goes on; what was told stays told, and is kept nowhere.
-ghost use Rattle.std.specs.Prelude.{◌≡◌, ◌≤◌, ◌<◌, ◌∷◌, ◌⊎◌, All, List, [], None, IfOk, IfErr, OnOk, OnErr, IsSome, length, map};
+//! The machine behind a session over a gate. Lines enter through the gate, and who waits for their answers takes turns
+//! meanwhile. Other threads call the gate too, so what the hall answers is that of a trail which goes on; what was told
+//! stays told, and is kept nowhere.
+ghost use Rattle.std.specs.Prelude.{◌≡◌, ◌≤◌, ◌<◌, ◌∷◌, All, [], None, IfOk, IfErr, OnOk, OnErr, IsSome, length, map};
 ghost use Rattle.bl_gate.specs.Gates.{hall_seen, state_seen};
 ghost use Rattle.bl_order.specs.Known.{KnowsAnswer};
 ghost use Rattle.bl_hall.specs.Chronicle.{HasTrail};
 ghost use Rattle.bl_hall.specs.Told.{AreAnswers, reply_of};
-ghost use Rattle.bl_hall.specs.declared.reply.Reply.{Reply};
 ghost use Rattle.bl_work.specs.Readable.{IsReadable};
-ghost use Rattle.bl_wire.specs.declared.fault.SessionFault.TheVariants.{Memory, Clash};
-ghost use Rattle.bl_engine.specs.declared.request.Request.{Request};
 ghost use Rattle.bl_engine.specs.declared.request.Request.TheVariants.{Opens, Admits, Settles};
 ghost use Rattle.bl_engine.specs.declared.conversation.Opening.TheVariants.{Open, Full};
 ghost use Rattle.bl_serve.specs.Courses.{KeepsQuiet};
-ghost use Rattle.bl_serve.specs.Told.{IsBlock};
-ghost use Rattle.bl_serve.specs.Visits.{GoesOn, GoesOnWith, HasCome, IsCrowded, IsSpokenFor};
+ghost use Rattle.bl_serve.specs.Visits.{Gains, GoesOn, HasCome, IsBlockOf, IsCrowded, IsUnasked, IsVisit, home};
 
 use crate::told::count_up_to;
 use bl_core::refusal::{Cause, OpenRefused};
@@ -33,12 +30,12 @@ use std::alloc::{AllocError, Global};
 use std::snapshot::Snapshot;
 use std::sync::Wait;
 
-/// After so many lines of a block, and so many turns in a block, a session's thread calls for workers: to wake one takes as long as some
-/// tens of short lines.
+/// After so many lines of a block, and so many turns in a block, a session's thread calls for workers: to wake one
+/// takes as long as some tens of short lines.
 const MANY: usize = 100;
 
-/// What stays while a session is served: the gate, the bell that is rung where there may be work, what its turns do between a start and
-/// an end, and what its pass was at first.
+/// What stays while a session is served: the gate, the bell that is rung where there may be work, what its turns do
+/// between a start and an end, and what its pass was at first.
 #[derive(Drop)]
 pub struct Visitor<'a, P, T> {
     pub rt: &'a T,
@@ -49,8 +46,8 @@ pub struct Visitor<'a, P, T> {
     pub first: Snapshot<Pass>,
 }
 
-/// The pass, the session once it is open, the entries of the block's lines, an ordinal up to which all lies that was asked, and the one
-/// up to which it was answered.
+/// The pass, the session once it is open, the entries of the block's lines, an ordinal up to which all lies that was
+/// asked, and the one up to which it was answered.
 #[derive(Drop)]
 pub struct Visit {
     pub pass: Pass,
@@ -109,8 +106,8 @@ impl<'a, P: Pause, T: Wait> Visitor<'a, P, T> {
         }
     }
 
-    /// The replies to the session's lines above an ordinal. It takes turns until they are there, and waits at the bell for an entry to
-    /// end where nothing is ready. An error comes only where a growth was refused.
+    /// The replies to the session's lines above an ordinal. It takes turns until they are there, and waits at the bell
+    /// for an entry to end where nothing is ready. An error comes only where a growth was refused.
     fn hear(
         &self,
         pass: &mut Pass,
@@ -121,8 +118,10 @@ impl<'a, P: Pause, T: Wait> Visitor<'a, P, T> {
         requires open { session < length (state_seen pass.old).sessions }
         ensures quiet { KeepsQuiet pass.old pass.new }
         ensures trail { HasTrail (hall_seen pass.new) }
-        ensures told { IfOk result (λ replies. AreAnswers (state_seen pass.new) session after (map reply_of replies.items)) }
-        ensures known { IfOk result (λ replies. All (λ reply. KnowsAnswer (state_seen pass.new).setup reply.answer) replies.items) }
+        ensures told { IfOk result (λ replies.
+            AreAnswers (state_seen pass.new) session after (map reply_of replies.items)) }
+        ensures known { IfOk result (λ replies.
+            All (λ reply. KnowsAnswer (state_seen pass.new).setup reply.answer) replies.items) }
     {
         for _ in self.rt.forever() {
             let seen = self.bell.ends();
@@ -145,8 +144,11 @@ impl<'a, P: Pause, T: Wait> Visitor<'a, P, T> {
     pub fn open(&self, visit: &mut Visit, subject: SubjectId) -> Opening
         requires come { HasCome self.now.gate.now self.now.first.value visit.old [] [] }
         requires serves { subject < length self.now.gate.now.base.setup.policy.subjects }
-        ensures opened { result ≡ Open → HasCome self.now.gate.now self.now.first.value visit.new [] (Opens subject ∷ []) × IsSome visit.new.session }
-        ensures full { result ≡ Full → HasCome self.now.gate.now self.now.first.value visit.new [] [] × IsCrowded visit.new.pass }
+        ensures opened { result ≡ Open
+            → HasCome self.now.gate.now self.now.first.value visit.new [] (Opens subject ∷ [])
+            × IsSome visit.new.session }
+        ensures full { result ≡ Full
+            → HasCome self.now.gate.now self.now.first.value visit.new [] [] × IsCrowded visit.new.pass }
         ensures last { visit.new.last ≡ 0 }
         ensures upto { visit.new.upto ≡ 0 }
     {
@@ -161,19 +163,19 @@ impl<'a, P: Pause, T: Wait> Visitor<'a, P, T> {
         }
     }
 
-    /// Admits a work, or finds no room for it. An error comes where a growth was refused, and where somebody else spoke for the session;
-    /// then nothing was admitted.
+    /// Admits a work, or finds no room for it. An error comes where a growth was refused, and where somebody else spoke
+    /// for the session; then nothing was admitted.
     pub fn ask(&self, visit: &mut Visit, ordinal: u32, work: Work) -> Result<(), SessionFault>
-        requires come { (replies : List Reply) × (told : List Request) × HasCome self.now.gate.now self.now.first.value visit.old replies told }
+        requires come { IsVisit (home self.now) visit.old }
         requires opened { IsSome visit.old.session }
         requires last { visit.old.last < ordinal }
         requires takes { IsReadable self.now.gate.now.base.setup.names work }
-        ensures come { OnOk result (GoesOnWith self.now.gate.now self.now.first.value visit.old visit.new [] (Admits ordinal work)) }
+        ensures come { OnOk result (Gains (home self.now) visit.old visit.new [] (Admits ordinal work)) }
         ensures kept { OnErr result (GoesOn self.now.gate.now self.now.first.value visit.old visit.new) }
         ensures session { visit.new.session ≡ visit.old.session }
         ensures upto { visit.new.upto ≡ visit.old.upto }
         ensures last { visit.new.last ≤ ordinal }
-        ensures why { IfErr result (λ fault. (fault ≡ Memory) ⊎ ((fault ≡ Clash) × IsSpokenFor self.now.first.value visit.new.pass)) }
+        ensures why { IfErr result (IsUnasked self.now.first.value visit.new.pass) }
     {
         let Some(session) = visit.session else {
             unreachable!()
@@ -201,17 +203,16 @@ impl<'a, P: Pause, T: Wait> Visitor<'a, P, T> {
 
     /// Has each work up to an ordinal answered, and gives the replies of the block.
     pub fn settle(&self, visit: &mut Visit, ordinal: u32) -> Result<Vec<Reply>, AllocError>
-        requires come { (replies : List Reply) × (told : List Request) × HasCome self.now.gate.now self.now.first.value visit.old replies told }
+        requires come { IsVisit (home self.now) visit.old }
         requires opened { IsSome visit.old.session }
         requires last { visit.old.last ≤ ordinal }
-        ensures come { IfOk result (λ block. GoesOnWith self.now.gate.now self.now.first.value visit.old visit.new block.items Settles) }
-        ensures block { IfOk result (λ block. IsBlock self.now.gate.now.base.setup.names visit.old.upto ordinal block.items) }
+        ensures come { IfOk result (λ block. Gains (home self.now) visit.old visit.new block.items Settles) }
+        ensures block { IfOk result (λ block. IsBlockOf (home self.now) visit.old.upto ordinal block.items) }
         ensures kept { OnErr result (GoesOn self.now.gate.now self.now.first.value visit.old visit.new) }
         ensures session { visit.new.session ≡ visit.old.session }
-        ensures upto { OnOk result (visit.new.upto ≡ ordinal) }
+        ensures upto { OnOk result ((visit.new.upto ≡ ordinal) × (visit.new.asked.items ≡ [])) }
         ensures same { OnErr result (visit.new.upto ≡ visit.old.upto) }
         ensures last { visit.new.last ≤ ordinal }
-        ensures asked { OnOk result (visit.new.asked.items ≡ []) }
     {
         let Some(session) = visit.session else {
             unreachable!()

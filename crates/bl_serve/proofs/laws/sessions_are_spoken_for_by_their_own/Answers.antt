@@ -11,4 +11,4 @@ pub returns-clause-alone : goal.returns-clause-alone
 returns-clause-alone c = stand_alone
 
 pub returns-clause-spoken : goal.returns-clause-spoken
-returns-clause-spoken c whole before after shares out met = spoken whole shares out before after met
+returns-clause-spoken c whole before after shares out met one session = spoken whole shares out before after met one.0 session one.1

@@ -29,22 +29,22 @@ returns-clause-clash g c = λ e.
     let h = c.in-Err.ensures.clash e in
     (h.0, subst (λ (p : PassView). IsOwn p c.converse.new.visit.pass h.0) c.of.ensures h.1, λ alone. h.2 (subst (λ (p : PassView). SpeaksAlone p c.converse.new.visit.pass h.0) (sym c.of.ensures) alone))
 
-pub returns-in-Ok-clause-events : goal.returns-in-Ok-clause-events
-returns-in-Ok-clause-events g c =
+pub returns-in-Ok-clause-own : goal.returns-in-Ok-clause-own
+returns-in-Ok-clause-own g c =
     let R = g.R.Read.remaining in
     let W = g.W.Write.contents in
+    let events =
     served_adds c.args.service.now.gate.now c.of.result.value c.args.pass c.converse.new.visit (R c.args.reader.now.inner) (R c.converse.new.reader.inner)
     (W c.args.writer.now.inner) (W c.converse.new.writer.inner) c.converse.new.reader.failed c.converse.new.writer.failed c.of.ensures c.in-Ok.ensures.ok
+    in
+    (events, speaks c.args.pass c.converse.new.visit.pass events)
 
-pub returns-in-Ok-clause-lines : goal.returns-in-Ok-clause-lines
-returns-in-Ok-clause-lines g c = speaks c.args.pass c.converse.new.visit.pass (returns-in-Ok-clause-events g c)
-
-pub returns-clause-events : goal.returns-clause-events
-returns-clause-events g c =
+pub returns-clause-own : goal.returns-clause-own
+returns-clause-own g c =
     let R = g.R.Read.remaining in
     let W = g.W.Write.contents in
+    let events =
     cut_adds c.args.service.now.gate.now c.of.result.value c.args.pass c.converse.new.visit (R c.args.reader.now.inner) (R c.converse.new.reader.inner)
     (W c.args.writer.now.inner) (W c.converse.new.writer.inner) c.converse.new.reader.failed c.converse.new.writer.failed c.of.ensures c.in-Err.fault c.in-Err.ensures.err
-
-pub returns-clause-lines : goal.returns-clause-lines
-returns-clause-lines g c = speaks c.args.pass c.converse.new.visit.pass (returns-clause-events g c)
+    in
+    (events, speaks c.args.pass c.converse.new.visit.pass events)

@@ -63,7 +63,7 @@ returns-clause-ok g c =
     let w = g.W.Write.contents c.args.writer.now.inner in
     let told_by : Told = record { names = c.names.result; replies = c.in_ok-replies.replies; next = 0; upto = c.after-upto.result } in
     on_ok-map c.tell_all.result (λ told start rest written a.
-    has_settled gate first start rest written w conv c.answered.new.self c.args.visit.now c.settle.new.visit block a c.settle.ensures.session (c.in_ok-replies.ensures.upto ∙ c.ordinal.ensures)
+    has_settled gate first start rest written w conv c.answered.new.self c.args.visit.now c.settle.new.visit block a c.settle.ensures.session (c.in_ok-replies.ensures.upto.0 ∙ c.ordinal.ensures)
     (subst (λ (n : ℕ). IsBlock gate.base.setup.names c.args.visit.now.upto n block) c.ordinal.ensures c.in_ok-replies.ensures.block)
     c.answered.ensures.block c.answered.ensures.answered (left_of told_by) (left_is told_by gate.base.setup.names block conv.after c.names.ensures.value refl c.after-upto.ensures)
     _ c.tell_all.new.conv (g.W.Write.contents c.tell_all.new.writer.inner) told c.in_ok-replies.ensures.come (omega (arith, c.settle.ensures.last, c.ordinal.ensures)))
@@ -83,7 +83,7 @@ returns-clause-err g c =
     subst (λ (f : SessionFault). HasStopped f gate first (ends start rest written w') false c.tell_all.new.writer.failed t) (sym write.0)
     (stopped_as Write gate first (ends start rest written w') t false true false c.tell_all.new.writer.failed refl (sym write.1)
     (talk_untold gate first start rest written w conv c.args.visit.now t block c.answered.new.self (left_of told_by) w' a c.answered.ensures.block.ended
-    (settled_spoke gate first start rest written w conv c.answered.new.self c.args.visit.now t block a c.settle.ensures.session (c.in_ok-replies.ensures.upto ∙ c.ordinal.ensures)
+    (settled_spoke gate first start rest written w conv c.answered.new.self c.args.visit.now t block a c.settle.ensures.session (c.in_ok-replies.ensures.upto.0 ∙ c.ordinal.ensures)
     (subst (λ (n : ℕ). IsBlock gate.base.setup.names c.args.visit.now.upto n block) c.ordinal.ensures c.in_ok-replies.ensures.block)
     c.answered.ensures.block c.answered.ensures.answered (left_of told_by) (left_is told_by gate.base.setup.names block conv.after c.names.ensures.value refl c.after-upto.ensures))
     c.in_ok-replies.ensures.come part)))
