@@ -1,5 +1,5 @@
 -- What a quota counts, and what it answers of a line.
-use Rattle.std.specs.Prelude.{◌≡◌, ℕ, ◌≤◌, ◌<◌, true, length, sum_by}
+use Rattle.std.specs.Prelude.{◌≡◌, ℕ, ◌≤◌, ◌<◌, true, length, sum_by, Option, Some, None}
 use Rattle.std.specs.List.{range_with_len}
 use Rattle.bl_work.specs.declared.work.Work.{Work}
 use Rattle.bl_order.specs.Headline.{IsReached}
@@ -51,3 +51,10 @@ abbrev pub IsFit : ℕ → State → Work → Fit → Type 0
 IsFit most x work Now = FitsIn most x work
 IsFit most x work Later = (¬ FitsIn most x work) × FitsAlone most x work
 IsFit most x work Never = ¬ FitsAlone most x work
+
+-- under a limit a line is allowed as it fits, and without one each is allowed
+abbrev pub IsAllowed : Option ℕ → State → Work → Fit → Type 0
+IsAllowed None x work Now = Unit {0}
+IsAllowed None x work Later = ⊥
+IsAllowed None x work Never = ⊥
+IsAllowed (Some most) x work fit = IsFit most x work fit
