@@ -17,7 +17,9 @@ use Rattle.bl_serve.specs.Courses.{AdmitsNoLineOf, SpeaksForItsOwn}
 use Rattle.bl_serve.specs.Together.{GoesOnTo}
 use Rattle.bl_serve.proofs.Owning.{speaks_for_none}
 use Rattle.bl_crowd.specs.Members.{HasCourse}
-use Rattle.bl_crowd.specs.Crowds.{IsMet, IsTurnFault}
+use Rattle.bl_quota.specs.declared.quota.Fit.TheVariants.{Later, Never}
+use Rattle.bl_crowd.specs.Crowds.{IsMet, IsPutOff, IsTurnFault}
+use Rattle.bl_crowd.specs.Fitting.{IsHeldBack}
 use Rattle.bl_crowd.specs.Steps.{IsClash, IsNewSession, IsWaiting}
 use Rattle.bl_crowd.specs.Ways.{AreApart, AreMembers, IsHome, IsMember, IsUnderWay, StandsSo, account_of}
 use Rattle.bl_crowd.specs.declared.member.Member.{Member}
@@ -157,8 +159,8 @@ at_place xs i x d lt is = is ∙ get_or_default xs i x d lt
 
 -- ---- who has met
 
-module _ {S : Type 0} (first before p q : PassView) where
-  met_on : (was now : Member S) → Follows p q → IsMet first before p was now → IsMet first before q was now
+module _ {S : Type 0} (known : Type 0) (bound : Option ℕ) (first before p q : PassView) where
+  met_on : (was now : Member S) → Follows p q → IsMet known bound first before p was now → IsMet known bound first before q was now
   met_on was now follows (inl none) = inl none
   met_on was now follows (inr (inl (fault, is, inl kept))) = inr (inl (fault, is, inl kept))
   met_on was now follows (inr (inl (fault, is, inr (inl memory)))) = inr (inl (fault, is, inr (inl memory)))
@@ -172,13 +174,16 @@ module _ {S : Type 0} (first before p q : PassView) where
   failed_by was now fault (Some f) is to failed cause kept = inl (ap (λ (m : Member S). m.fault) (sym (kept f is)) ∙ failed)
 
   -- by what it came to
-  pub met_by : (was now : Member S) (met : Met) → Follows before p → Follows p q → (met ≡ mets.Done → now.asked ≡ None) → (met ≡ mets.Waits → (now ≡ was) × (q ≡ p) × IsWaiting p was.reception)
+  pub met_by : (was now : Member S) (met : Met) → Follows before p → Follows p q → (met ≡ mets.Done → now.asked ≡ None)
+      → (met ≡ mets.Waits → (now ≡ was) × (q ≡ p) × (IsWaiting p was.reception ⊎ IsHeldBack known bound (state_seen p) was.asked Later))
+      → (met ≡ mets.Full → (now ≡ record was { full = true }) × (q ≡ p) × IsHeldBack known bound (state_seen p) was.asked Never)
       → ((fault : SessionFault) → met ≡ mets.Failed fault → now.fault ≡ Some fault)
       → ((fault : SessionFault) → was.fault ≡ None → met ≡ mets.Failed fault → (fault ≡ Memory) ⊎ ((fault ≡ Clash) × IsClash first q now.reception))
-      → ((fault : SessionFault) → was.fault ≡ Some fault → now ≡ was) → IsMet first before q was now
-  met_by was now mets.Done from to done waits failed cause kept = inl (done refl)
-  met_by was now mets.Waits from to done waits failed cause kept = (let w = waits refl in inr (inr (p, from, to, subst (λ (m : Member S). IsWaiting p m.reception) (sym w.0) w.2)))
-  met_by was now (mets.Failed fault) from to done waits failed cause kept =
+      → ((fault : SessionFault) → was.fault ≡ Some fault → now ≡ was) → IsMet known bound first before q was now
+  met_by was now mets.Done from to done waits full failed cause kept = inl (done refl)
+  met_by was now mets.Waits from to done waits full failed cause kept = inr (inr (p, from, to, subst (IsPutOff known bound p) (sym (waits refl).0) (elim (waits refl).2 [ inl w ↦ inl w | inr later ↦ inr (inl later) ])))
+  met_by was now mets.Full from to done waits full failed cause kept = inr (inr (p, from, to, subst (IsPutOff known bound p) (sym (full refl).0) (inr (inr (refl, (full refl).2)))))
+  met_by was now (mets.Failed fault) from to done waits full failed cause kept =
       inr (inl (fault, failed fault refl, failed_by was now fault was.fault refl (follows_then before p q from to) (failed fault refl) (λ none. cause fault none refl) kept))
 
 -- those behind a place are as they were

@@ -5,3 +5,4 @@ pub mod Meeting
 pub mod Departing
 pub mod Crowding
 pub mod Rounding
+pub mod Fitting

@@ -147,9 +147,9 @@ module _ {S : Type 0} (remaining contents : S → Option (List ℕ)) where
 
 -- ---- that it has met
 
-module _ {S : Type 0} (first before p : PassView) (was mid now : Member S) where
+module _ {S : Type 0} (known : Type 0) (bound : Option ℕ) (first before p : PassView) (was mid now : Member S) where
   -- since an earlier moment, at which it had failed by the same or not at all
-  pub met_since : (q : PassView) → Follows before p → mid.fault ≡ was.fault → IsMet first p q mid now → IsMet first before q was now
+  pub met_since : (q : PassView) → Follows before p → mid.fault ≡ was.fault → IsMet known bound first p q mid now → IsMet known bound first before q was now
   met_since q from same (inl none) = inl none
   met_since q from same (inr (inl (fault, is, inl kept))) = inr (inl (fault, is, inl (sym same ∙ kept)))
   met_since q from same (inr (inl (fault, is, inr (inl memory)))) = inr (inl (fault, is, inr (inl memory)))
@@ -157,17 +157,17 @@ module _ {S : Type 0} (first before p : PassView) (was mid now : Member S) where
       inr (inl (fault, is, inr (inr (clash, (at, follows_then before p at from since, to, spoken)))))
   met_since q from same (inr (inr (at, since, to, waits))) = inr (inr (at, follows_then before p at from since, to, waits))
 
-module _ {S : Type 0} (remaining contents : S → Option (List ℕ)) (names : KnownNames) (first before p : PassView) (was now : Member S) where
+module _ {S : Type 0} (remaining contents : S → Option (List ℕ)) (names : KnownNames) (known : Type 0) (bound : Option ℕ) (first before p : PassView) (was now : Member S) where
   -- by a line that it has heard
   pub met_by_line : (fault : SessionFault) → Follows before p → now.fault ≡ Some fault
-      → (fault ≡ Memory) ⊎ ((fault ≡ TooLong) × HasFailed remaining contents names first p now TooLong) → IsMetOn remaining contents names first before p was now
+      → (fault ≡ Memory) ⊎ ((fault ≡ TooLong) × HasFailed remaining contents names first p now TooLong) → IsMetOn remaining contents names known bound first before p was now
   met_by_line fault from is (inl memory) = inl (inr (inl (fault, is, inr (inl memory))))
   met_by_line fault from is (inr (long, failed)) = inr (is ∙ ap Some long, (p, from, follows_itself p, failed))
 
-  pub met_on_later : (q : PassView) → Follows p q → IsMetOn remaining contents names first before p was now → IsMetOn remaining contents names first before q was now
+  pub met_on_later : (q : PassView) → Follows p q → IsMetOn remaining contents names known bound first before p was now → IsMetOn remaining contents names known bound first before q was now
   met_on_later q follows (inl met) = inl (later met)
     where
-      later : IsMet first before p was now → IsMet first before q was now
+      later : IsMet known bound first before p was now → IsMet known bound first before q was now
       later (inl none) = inl none
       later (inr (inl (fault, is, inl kept))) = inr (inl (fault, is, inl kept))
       later (inr (inl (fault, is, inr (inl memory)))) = inr (inl (fault, is, inr (inl memory)))
@@ -175,8 +175,8 @@ module _ {S : Type 0} (remaining contents : S → Option (List ℕ)) (names : Kn
       later (inr (inr (at, from, to, waits))) = inr (inr (at, from, follows_then at p q to follows, waits))
   met_on_later q follows (inr (long, (at, from, to, failed))) = inr (long, (at, from, follows_then at p q to follows, failed))
 
-  pub met_on_since : (earlier : PassView) → Follows earlier before → IsMetOn remaining contents names first before p was now → IsMetOn remaining contents names first earlier p was now
-  met_on_since earlier from (inl met) = inl (met_since first earlier before was was now p from refl met)
+  pub met_on_since : (earlier : PassView) → Follows earlier before → IsMetOn remaining contents names known bound first before p was now → IsMetOn remaining contents names known bound first earlier p was now
+  met_on_since earlier from (inl met) = inl (met_since known bound first earlier before was was now p from refl met)
   met_on_since earlier from (inr (long, (at, since, to, failed))) = inr (long, (at, follows_then earlier before at from since, to, failed))
 
 pub cause : {A B C D : Type 0} → A ⊎ (B × C) → (C → D) → A ⊎ (B × D)
@@ -187,12 +187,13 @@ cause (inr b) f = inr (b.0, f b.1)
 
 module _ {S : Type 0} (most : ℕ) (was mid now : Member S) where
   -- it has not met
-  pub heard_unmet : (met : Met) → met ≢ mets.Done → (met ≡ mets.Waits → now ≡ mid) → (met ≡ mets.Waits → IsSome mid.asked) → ((fault : SessionFault) → met ≡ mets.Failed fault → now.fault ≡ Some fault)
+  pub heard_unmet : (met : Met) → met ≢ mets.Done → (met ≡ mets.Waits → now ≡ mid) → (met ≡ mets.Waits → IsSome mid.asked) → (met ≡ mets.Full → IsSome now.asked) → ((fault : SessionFault) → met ≡ mets.Failed fault → now.fault ≡ Some fault)
       → HasHeardOn most was now
-  heard_unmet mets.Done other waits asks failed fine none state = absurd (other refl)
-  heard_unmet mets.Waits other waits asks failed fine none state =
+  heard_unmet mets.Done other waits asks full failed fine none state = absurd (other refl)
+  heard_unmet mets.Full other waits asks full failed fine none state = (let h = subst IsSome none (full refl) in absurd (true≢false (sym h)))
+  heard_unmet mets.Waits other waits asks full failed fine none state =
       (let h = subst IsSome (ap (λ (m : Member S). m.asked) (sym (waits refl)) ∙ none) (asks refl) in absurd (true≢false (sym h)))
-  heard_unmet (mets.Failed fault) other waits asks failed fine none state = (let e = sym (failed fault refl) ∙ fine in cc)
+  heard_unmet (mets.Failed fault) other waits asks full failed fine none state = (let e = sym (failed fault refl) ∙ fine in cc)
 
   -- it has heard as many as it may
   pub heard_all : (count : ℕ) → most ≤ count → count + waits_left mid.connection.conv ≤ waits_left was.connection.conv → (state_of now.connection ≡ states.Hears → now.connection ≡ mid.connection)
@@ -216,21 +217,21 @@ module _ {S : Type 0} (most : ℕ) (was mid now : Member S) where
       let same = ap (λ (conn : Connection S). waits_left conn.conv) (hears state) in omega (arith, same, less, nearer)
 
 -- one more has met
-module _ {S : Type 0} (remaining contents : S → Option (List ℕ)) (names : KnownNames) (first before : PassView) (old members : List (Member S)) (i : ℕ) (member : Member S) where
+module _ {S : Type 0} (remaining contents : S → Option (List ℕ)) (names : KnownNames) (known : Type 0) (bound : Option ℕ) (first before : PassView) (old members : List (Member S)) (i : ℕ) (member : Member S) where
   less : (j : ℕ) → j ≢ i → j < i + 1 → j < i
   less j other low = grind arith
 
-  pub met_on_more : (p q : PassView) → i < length members → Follows p q → ((d : Member S) → IsMetOn remaining contents names first before q (get_or old i d) member)
-      → AreMetOn remaining contents names first before p old members i → AreMetOn remaining contents names first before q old (slice_set members i member) (i + 1)
+  pub met_on_more : (p q : PassView) → i < length members → Follows p q → ((d : Member S) → IsMetOn remaining contents names known bound first before q (get_or old i d) member)
+      → AreMetOn remaining contents names known bound first before p old members i → AreMetOn remaining contents names known bound first before q old (slice_set members i member) (i + 1)
   met_on_more p q lt follows new met j d low = go (eqb_tells j i)
     where
-      go : ((eqb j i ≡ true) × (j ≡ i)) ⊎ ((eqb j i ≡ false) × (j ≢ i)) → IsMetOn remaining contents names first before q (get_or old j d) (get_or (slice_set members i member) j d)
+      go : ((eqb j i ≡ true) × (j ≡ i)) ⊎ ((eqb j i ≡ false) × (j ≢ i)) → IsMetOn remaining contents names known bound first before q (get_or old j d) (get_or (slice_set members i member) j d)
       go (inl e) =
-          subst (IsMetOn remaining contents names first before q (get_or old j d)) (sym (get_or-set_at members i j member d e.1 lt))
-          (subst (λ k. IsMetOn remaining contents names first before q (get_or old k d) member) (sym e.1) (new d))
+          subst (IsMetOn remaining contents names known bound first before q (get_or old j d)) (sym (get_or-set_at members i j member d e.1 lt))
+          (subst (λ k. IsMetOn remaining contents names known bound first before q (get_or old k d) member) (sym e.1) (new d))
       go (inr e) =
-          subst (IsMetOn remaining contents names first before q (get_or old j d)) (sym (get_or-set_other members i j member d e.1))
-          (met_on_later remaining contents names first before p (get_or old j d) (get_or members j d) q follows (met j d (less j e.1 low)))
+          subst (IsMetOn remaining contents names known bound first before q (get_or old j d)) (sym (get_or-set_other members i j member d e.1))
+          (met_on_later remaining contents names known bound first before p (get_or old j d) (get_or members j d) q follows (met j d (less j e.1 low)))
 
 -- one more has heard
 module _ {S : Type 0} (old members : List (Member S)) (i : ℕ) (member : Member S) where
@@ -247,11 +248,11 @@ module _ {S : Type 0} (old members : List (Member S)) (i : ℕ) (member : Member
           (subst (λ k. HasHeardOn most (get_or old k d) member) (sym e.1) (new d))
       go (inr e) = subst (HasHeardOn most (get_or old j d)) (sym (get_or-set_other members i j member d e.1)) (heard j d (lower j e.1 low))
 
-pub are_met_on : {S : Type 0} (remaining contents : S → Option (List ℕ)) (names : KnownNames) (first earlier before p q : PassView) (old new : List (Member S)) (count : ℕ)
-    → Follows earlier before → Follows p q → AreMetOn remaining contents names first before p old new count → AreMetOn remaining contents names first earlier q old new count
-are_met_on remaining contents names first earlier before p q old new count from to met i d low =
-    met_on_since remaining contents names first before q (get_or old i d) (get_or new i d) earlier from
-    (met_on_later remaining contents names first before p (get_or old i d) (get_or new i d) q to (met i d low))
+pub are_met_on : {S : Type 0} (remaining contents : S → Option (List ℕ)) (names : KnownNames) (known : Type 0) (bound : Option ℕ) (first earlier before p q : PassView) (old new : List (Member S)) (count : ℕ)
+    → Follows earlier before → Follows p q → AreMetOn remaining contents names known bound first before p old new count → AreMetOn remaining contents names known bound first earlier q old new count
+are_met_on remaining contents names known bound first earlier before p q old new count from to met i d low =
+    met_on_since remaining contents names known bound first before q (get_or old i d) (get_or new i d) earlier from
+    (met_on_later remaining contents names known bound first before p (get_or old i d) (get_or new i d) q to (met i d low))
 
 -- ---- a round
 

@@ -1,5 +1,5 @@
 -- A member over its stream, step by step.
-use Rattle.std.proofs.Common.{◌≡◌, ℕ, ◌+◌, ◌⊎◌, inl, inr, List, [], ◌∷◌, ◌++◌, length, refl, sym, ap, subst, ◌∙◌, arith, append-nil, Option, Some, None}
+use Rattle.std.proofs.Common.{◌≡◌, Bool, ℕ, ◌+◌, ◌⊎◌, inl, inr, List, [], ◌∷◌, ◌++◌, length, refl, sym, ap, subst, ◌∙◌, arith, append-nil, Option, Some, None}
 use Rattle.std.proofs.lemmas.List.Elements.{All-nil}
 use Rattle.std.specs.Prelude.{All, replicate}
 use Rattle.bl_work.specs.Names.{KnownNames}
@@ -113,6 +113,21 @@ module _ {S : Type 0} (remaining contents : S → Option (List ℕ)) (names : Kn
     names_are = w.names_are;
   }
 
+  -- by whether it is full
+  way_full : (member : Member S) (full : Bool) (asked : Option Request)
+      → IsUnderWay remaining contents names first pass member asked → IsUnderWay remaining contents names first pass (record member { full = full }) asked
+  way_full member full asked w = record {
+    x = w.x;
+    replies = w.replies;
+    done = w.done;
+    joined = w.joined;
+    course = w.course;
+    asks = w.asks;
+    told = w.told;
+    block = w.block;
+    names_are = w.names_are;
+  }
+
   pub failed_but : (member : Member S) (noted : Option SessionFault) (fault : SessionFault)
       → HasFailed remaining contents names first pass member fault → HasFailed remaining contents names first pass (record member { fault = noted }) fault
   failed_but member noted fault f = record {
@@ -133,6 +148,10 @@ module _ {S : Type 0} (remaining contents : S → Option (List ℕ)) (names : Kn
   pub way_of : (member : Member S) (asked : Option Request) → member.fault ≡ None → member.asked ≡ asked → IsMember remaining contents names first pass member
       → IsUnderWay remaining contents names first pass member asked
   way_of member asked fine is m = subst (IsUnderWay remaining contents names first pass member) is (subst (StandsSo remaining contents names first pass member) fine m)
+
+  pub member_full : (member : Member S) (full : Bool) → member.fault ≡ None → IsMember remaining contents names first pass member
+      → IsMember remaining contents names first pass (record member { full = full })
+  member_full member full fine m = member_of (record member { full = full }) member.asked fine refl (way_full member full member.asked (way_of member member.asked fine refl m))
 
   -- what it asks was taken from it
   pub way_taken : (member : Member S) (noted asked : Option Request) → member.fault ≡ None → member.asked ≡ asked → IsMember remaining contents names first pass member

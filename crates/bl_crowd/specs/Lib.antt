@@ -3,4 +3,5 @@ pub mod Members
 pub mod Ways
 pub mod Steps
 pub mod Departures
+pub mod Fitting
 pub mod Crowds

@@ -16,6 +16,7 @@ use Rattle.bl_serve.specs.Courses.{SpeaksAlone}
 use Rattle.bl_crowd.specs.declared.member.Member.{Member}
 use Rattle.bl_crowd.specs.declared.member.Next.{Next}
 use Rattle.bl_crowd.specs.declared.member.Next.TheVariants.{Goes, Blocked, Asks, Over, Failed}
+use Rattle.bl_crowd.specs.declared.member.Next.TheVariants as nexts
 use Rattle.bl_crowd.specs.declared.member.Reception.{Reception}
 use Rattle.bl_crowd.specs.declared.member.Reception.TheVariants.{Awaited, Open, Full}
 
@@ -49,6 +50,7 @@ abbrev pub IsOfStream : Next → Type 0
 IsOfStream Goes = ⊤
 IsOfStream Blocked = ⊤
 IsOfStream Asks = ⊥
+IsOfStream nexts.Full = ⊥
 IsOfStream Over = ⊤
 IsOfStream (Failed fault) = ⊥
 

@@ -1,6 +1,6 @@
 //! Many connections of one thread over one gate.
 ghost use Rattle.std.specs.Prelude.{◌≡◌, ◌≢◌, ◌<◌, ◌≤◌, ◌⊎◌, ◌↔◌, ◌++◌, ◌∷◌, [], ℕ, Some, None, IsSome, IsTrue};
-ghost use Rattle.std.specs.Prelude.{MatchBool, OnOk, OnErr, length, get_or, vec_len};
+ghost use Rattle.std.specs.Prelude.{MatchBool, OnOk, OnErr, length, get_or, vec_len, true};
 ghost use Rattle.std.specs.List.{remove};
 ghost use Rattle.bl_hall.specs.Chronicle.{HasTrail};
 ghost use Rattle.bl_order.specs.Machine.{MayStart};
@@ -9,7 +9,8 @@ ghost use Rattle.bl_work.specs.Names.{KnownNames};
 ghost use Rattle.bl_serve.specs.Courses.{SpeaksForItsOwn};
 ghost use Rattle.bl_serve.specs.Together.{GoesOnTo};
 ghost use Rattle.bl_worker.specs.Batches.{AllRan, HasRoom, IsBatch, IsIdle, NoneRan, loans_in};
-ghost use Rattle.bl_crowd.specs.Crowds.{AreMetOn, HasBegunLast, HaveHeardOn, IsCrowd};
+ghost use Rattle.bl_crowd.specs.Crowds.{AreMetOn, HasBegunLast, HaveHeardOn, IsCrowd, IsFound};
+ghost use Rattle.bl_crowd.specs.Fitting.{AdmitsWhatFits};
 ghost use Rattle.bl_crowd.specs.Steps.{KeepsHand};
 ghost use Rattle.bl_crowd.specs.Ways.{AreMembers};
 
@@ -19,6 +20,7 @@ use bl_gate::gate::Gate;
 use bl_gate::pass::Pass;
 use bl_gate::turn::Turn as AtGate;
 use bl_policy::id::SubjectId;
+use bl_quota::asks::Asks;
 use bl_wire::fault::SessionFault;
 use bl_worker::batch::Batch;
 use std::alloc::{AllocError, Global};
@@ -37,7 +39,12 @@ pub struct Crowd<'a, S> {
 }
 
 /// Does at the gate what each member asks, and what it asks at the next lines that it hears, so many at most.
-fn meet_on_all<S: Stream>(turn: &mut AtGate<'_>, members: &mut Vec<Member<'_, S>>, most: usize)
+fn meet_on_all<S: Stream, Q: Asks>(
+    turn: &mut AtGate<'_>,
+    quota: &mut Q,
+    members: &mut Vec<Member<'_, S>>,
+    most: usize,
+)
     requires trail { HasTrail (hall_seen turn.old) }
     requires members { (names : KnownNames) × (first : PassView)
         × AreMembers S.remaining S.contents names first turn.old members.old.items }
@@ -49,12 +56,15 @@ fn meet_on_all<S: Stream>(turn: &mut AtGate<'_>, members: &mut Vec<Member<'_, S>
     ensures len { vec_len members.new ≡ vec_len members.old }
     ensures met { (names : KnownNames) (first : PassView)
         → AreMembers S.remaining S.contents names first turn.old members.old.items
-        → AreMetOn S.remaining S.contents names first turn.old turn.new members.old.items members.new.items
-        (vec_len members.new) }
+        → AreMetOn S.remaining S.contents names (Q.was quota.old (state_seen turn.old)) (Q.bound quota.old)
+        first turn.old turn.new members.old.items members.new.items (vec_len members.new) }
+    ensures fits { Q.was quota.old (state_seen turn.old)
+        → AdmitsWhatFits (Q.bound quota.old) turn.old turn.new × Q.was quota.new (state_seen turn.new) }
+    ensures bound { Q.bound quota.new ≡ Q.bound quota.old }
     ensures heard { HaveHeardOn most members.old.items members.new.items (vec_len members.new) }
 {
     for i in 0..members.len() {
-        members[i].meet_on(turn, most);
+        members[i].meet_on(turn, quota, most);
     }
 }
 
@@ -143,6 +153,7 @@ impl<'a, S: Stream> Crowd<'a, S> {
         ensures over { result ≡ nexts.Over → (d : Member S)
             → (state_of (get_or self.new.members.items i d).connection ≡ states.Over)
             × ((get_or self.new.members.items i d).fault ≡ None) }
+        ensures full { result ≡ nexts.Full → (d : Member S) → (get_or self.new.members.items i d).full ≡ true }
         ensures asks { result ≡ nexts.Asks → (d : Member S) → IsSome (get_or self.new.members.items i d).asked }
         ensures goes { result ≡ nexts.Goes → (d : Member S)
             → IsGone S.reads S.writes (get_or self.old.members.items i d).connection
@@ -192,8 +203,14 @@ impl<'a, S: Stream> Crowd<'a, S> {
     /// at the next lines of what was read, so many at most; and begins what is ready, until the batch is full, as
     /// many were begun as it may have in hand, or nothing is ready. It begins no more where an entry is ready that is
     /// long to run, once as many were begun as the portion says. What was begun is to be run with the gate free, by
-    /// `Batch::run`, and ends in the next round.
-    pub fn round<R: Wait>(&mut self, rt: &R, batch: &mut Batch, portion: Portion) -> Round
+    /// `Batch::run`, and ends in the next round. A line is admitted only where the quota says that it fits.
+    pub fn round<R: Wait, Q: Asks>(
+        &mut self,
+        rt: &R,
+        quota: &mut Q,
+        batch: &mut Batch,
+        portion: Portion,
+    ) -> Round
         requires crowd { IsCrowd S.remaining S.contents self.old }
         requires ran { AllRan batch.old }
         requires room { HasRoom batch.old }
@@ -204,8 +221,13 @@ impl<'a, S: Stream> Crowd<'a, S> {
             → IsBatch since self.new.pass (loans_in batch.new) }
         ensures ran { NoneRan batch.new }
         ensures room { HasRoom batch.new × (batch.new.most ≡ batch.old.most) }
-        ensures met { AreMetOn S.remaining S.contents self.old.gate.now.base.setup.names self.old.first.value
-            self.old.pass self.new.pass self.old.members.items self.new.members.items (vec_len self.new.members) }
+        ensures met { (found : PassView) × IsFound self.old.pass found
+            × AreMetOn S.remaining S.contents self.old.gate.now.base.setup.names (Q.was quota.old (state_seen found))
+            (Q.bound quota.old) self.old.first.value self.old.pass self.new.pass self.old.members.items
+            self.new.members.items (vec_len self.new.members) × (Q.was quota.old (state_seen found)
+            → AdmitsWhatFits (Q.bound quota.old) self.old.pass self.new.pass
+            × Q.was quota.new (state_seen self.new.pass)) }
+        ensures bound { Q.bound quota.new ≡ Q.bound quota.old }
         ensures heard { HaveHeardOn portion.lines self.old.members.items self.new.members.items
             (vec_len self.new.members) }
         ensures begun { HasBegunLast result.begun self.old.pass self.new.pass }
@@ -220,7 +242,7 @@ impl<'a, S: Stream> Crowd<'a, S> {
     {
         let mut turn = self.gate.turn(rt, self.pass.take());
         let some = batch.end_all(&mut turn);
-        meet_on_all(&mut turn, &mut self.members, portion.lines);
+        meet_on_all(&mut turn, quota, &mut self.members, portion.lines);
         let (begun, over) = batch.begin_ready(&mut turn, portion.long);
         let left = turn.ready().is_some();
         let events = turn.hall().trail().len();
@@ -269,6 +291,7 @@ impl<'a, S: Stream> Crowd<'a, S> {
             (get_or self.old.members.items i d).connection (get_or self.old.members.items i d).reception result.fault }
         ensures stream { (d : Member S) → (result.stream ≡ (get_or self.old.members.items i d).connection.stream)
             × (result.fault ≡ (get_or self.old.members.items i d).fault) }
+        ensures full { (d : Member S) → result.full ≡ (get_or self.old.members.items i d).full }
         ensures same { (self.new.pass ≡ self.old.pass) × (self.new.first ≡ self.old.first)
             × (self.new.gate ≡ self.old.gate) }
     {

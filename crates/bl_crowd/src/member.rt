@@ -3,7 +3,9 @@ ghost use Rattle.std.specs.Prelude.{◌≡◌, ◌≢◌, ◌<◌, ◌⊎◌, �
 ghost use Rattle.std.specs.Prelude.{IsTrue, IfOk, IfErr, OnOk, OnErr, true, false};
 ghost use Rattle.bl_work.specs.Names.{KnownNames};
 ghost use Rattle.bl_hall.specs.Chronicle.{HasTrail};
-ghost use Rattle.bl_gate.specs.Gates.{PassView, hall_seen};
+ghost use Rattle.bl_gate.specs.Gates.{OwnsAllSince, PassView, hall_seen, state_seen};
+ghost use Rattle.bl_quota.specs.Quotas.{IsAllowed};
+ghost use Rattle.bl_quota.specs.declared.quota.Fit.TheVariants.{Now, Later, Never};
 ghost use Rattle.bl_wire.specs.declared.fault.SessionFault.TheVariants as faults;
 ghost use Rattle.bl_engine.specs.declared.request.Request.TheVariants as requests;
 ghost use Rattle.bl_serve.specs.Courses.{AdmitsNoLineOf, SpeaksForItsOwn};
@@ -22,6 +24,8 @@ use bl_gate::turn::Turn as AtGate;
 use bl_hall::laws::replies_go_by_lines;
 use bl_hall::reply::{AnswersFault, Reply};
 use bl_policy::id::SubjectId;
+use bl_quota::asks::Asks;
+use bl_quota::quota::Fit;
 use bl_serve::talk::Told;
 use bl_serve::told::count_up_to;
 use bl_wire::fault::SessionFault;
@@ -63,6 +67,8 @@ pub enum Next {
     Blocked,
     /// Something is asked of the machine: a turn at the gate is next.
     Asks,
+    /// Its line will never fit in the trail, and it is to leave.
+    Full,
     /// All was said and written.
     Over,
     /// It has failed, and is to leave.
@@ -74,15 +80,17 @@ pub enum Next {
 pub enum Met {
     /// Nothing is asked any more.
     Done,
-    /// Some entry of the session has not ended.
+    /// Some entry of the session has not ended, or its line fits in the trail only once others have ended.
     Waits,
+    /// Its line will never fit in the trail, and it is to leave.
+    Full,
     /// It has failed, and is to leave.
     Failed(SessionFault),
 }
 
 /// A connection of a crowd: the replies that it tells, what is asked and still to be done, its subject and how that was
-/// received, an ordinal up to which all lies that was asked, the one up to which it was answered, and why it is to
-/// leave.
+/// received, an ordinal up to which all lies that was asked, the one up to which it was answered, why it is to leave,
+/// and whether it is to leave since its line will never fit in the trail.
 #[derive(Drop)]
 pub struct Member<'a, S> {
     pub(crate) alloc: Global,
@@ -95,13 +103,16 @@ pub struct Member<'a, S> {
     pub(crate) last: u32,
     pub(crate) upto: u32,
     pub(crate) fault: Option<SessionFault>,
+    pub(crate) full: bool,
 }
 
-/// The stream of a member that has left, and why it had to.
+/// The stream of a member that has left, and why it had to: a fault, or that its line would never have fitted in the
+/// trail.
 #[derive(Drop)]
 pub struct Departed<S> {
     pub stream: S,
     pub fault: Option<SessionFault>,
+    pub full: bool,
 }
 
 /// No replies.
@@ -139,6 +150,7 @@ fn receive(turn: &mut AtGate<'_>, subject: SubjectId) -> Reception
 fn enter(turn: &mut AtGate<'_>, session: u32, ordinal: u32, work: Work) -> Result<(), Work>
     ensures goes { GoesOnTo turn.old turn.new }
     ensures own { SpeaksForNoOther session turn.old turn.new }
+    ensures alone { OwnsAllSince turn.old turn.new }
     ensures hand { KeepsHand turn.old turn.new }
     ensures ok { OnOk result (HasEntered turn.old turn.new session ordinal work) }
     ensures err { IfErr result (λ back. (turn.new ≡ turn.old) × (back ≡ work)
@@ -170,6 +182,7 @@ impl<'a, S: Stream> Member<'a, S> {
     ghost use Rattle.bl_connection.specs.Connections.{state_of};
     ghost use Rattle.bl_connection.specs.declared.connection.State.TheVariants as states;
     ghost use Rattle.bl_crowd.specs.Steps.{IsBlocked, IsClash, IsFaultOf, IsGone, IsNewSession, IsOfStream, IsWaiting};
+    ghost use Rattle.bl_crowd.specs.Fitting.{AdmitsWhatFits, IsHeldBack};
     ghost use Rattle.bl_crowd.specs.Steps.{greeted_as};
     ghost use Rattle.bl_crowd.specs.Ways.{HasFailed, IsHome, IsMember, IsToRead, IsUnderWay};
     ghost use Rattle.bl_crowd.specs.Crowds.{HasHeardOn, IsMetOn};
@@ -200,6 +213,7 @@ impl<'a, S: Stream> Member<'a, S> {
             last: 0,
             upto: 0,
             fault: None,
+            full: false,
         })
     }
 
@@ -270,6 +284,7 @@ impl<'a, S: Stream> Member<'a, S> {
             → IsMember S.remaining S.contents names first pass self.new }
         ensures same { self.new.reception ≡ self.old.reception }
         ensures asks { result ≡ nexts.Asks → (self.new ≡ self.old) × IsSome self.old.asked }
+        ensures full { result ≡ nexts.Full → (self.new ≡ self.old) × (self.old.full ≡ true) }
         ensures over { result ≡ nexts.Over → (self.new ≡ self.old) × (state_of self.old.connection ≡ states.Over)
             × (self.old.fault ≡ None) }
         ensures blocked { result ≡ nexts.Blocked → IsBlocked S.reads S.writes self.old.connection self.new.connection }
@@ -281,6 +296,9 @@ impl<'a, S: Stream> Member<'a, S> {
     {
         if let Some(fault) = self.fault {
             return Next::Failed(fault);
+        }
+        if self.full {
+            return Next::Full;
         }
         if self.asked.is_some() {
             return Next::Asks;
@@ -353,6 +371,8 @@ impl<'a, S: Stream> Member<'a, S> {
         ensures goes { GoesOnTo turn.old turn.new }
         ensures others { (session : ℕ) → self.old.reception ≢ receptions.Open session
             → AdmitsNoLineOf session turn.old turn.new }
+        ensures fits { (bound : Option ℕ) → IsAllowed bound (state_seen turn.old) work Now
+            → AdmitsWhatFits bound turn.old turn.new }
         ensures hand { KeepsHand turn.old turn.new }
         ensures same { (self.new.reception ≡ self.old.reception) × (self.new.asked ≡ self.old.asked)
             × (self.new.fault ≡ self.old.fault) }
@@ -413,10 +433,25 @@ impl<'a, S: Stream> Member<'a, S> {
         Ok(true)
     }
 
-    /// Does at the gate what is asked at the last line. `Waits` comes while the block is not answered, `Memory` where
-    /// memory was refused, and `Clash` only where somebody else spoke for the session; then what is asked stays so.
+    /// Puts off what is asked: it waits, or is to leave since that will never fit in the trail.
+    fn put_off(&mut self, request: Request, never: bool) -> Met
+        ensures never { never ≡ true → (result ≡ mets.Full)
+            × (self.new ≡ record self.old { asked = Some request; full = true }) }
+        ensures later { never ≡ false → (result ≡ mets.Waits) × (self.new ≡ record self.old { asked = Some request }) }
+    {
+        self.asked = Some(request);
+        if never {
+            self.full = true;
+            return Met::Full;
+        }
+        Met::Waits
+    }
+
+    /// Does at the gate what is asked at the last line. `Waits` comes while the block is not answered, or the line fits
+    /// only once others have ended, `Full` where it will never fit, `Memory` where memory was refused, and `Clash` only
+    /// where somebody else spoke for the session; then what is asked stays so.
     #[tactic(auto, using(crate::proofs::Rounding::hand_itself))]
-    pub fn meet(&mut self, turn: &mut AtGate<'_>) -> Met
+    pub fn meet<Q: Asks>(&mut self, turn: &mut AtGate<'_>, quota: &mut Q) -> Met
         requires trail { HasTrail (hall_seen turn.old) }
         requires way { (names : KnownNames) × (first : PassView) × IsHome names turn.old
             × IsMember S.remaining S.contents names first turn.old self.old }
@@ -434,7 +469,14 @@ impl<'a, S: Stream> Member<'a, S> {
         ensures fine { result ≡ mets.Done → (self.old.fault ≡ None) × (self.new.fault ≡ None) }
         ensures hears { state_of self.new.connection ≡ states.Hears → self.new.connection ≡ self.old.connection }
         ensures waits { result ≡ mets.Waits → (self.new ≡ self.old) × (turn.new ≡ turn.old)
-            × IsWaiting turn.old self.old.reception }
+            × (IsWaiting turn.old self.old.reception ⊎ IsHeldBack (Q.was quota.old (state_seen turn.old))
+            (Q.bound quota.old) (state_seen turn.old) self.old.asked Later) }
+        ensures full { result ≡ mets.Full → (self.new ≡ record self.old { full = true }) × (turn.new ≡ turn.old)
+            × IsHeldBack (Q.was quota.old (state_seen turn.old)) (Q.bound quota.old) (state_seen turn.old)
+            self.old.asked Never }
+        ensures fits { Q.was quota.old (state_seen turn.old)
+            → AdmitsWhatFits (Q.bound quota.old) turn.old turn.new × Q.was quota.new (state_seen turn.new) }
+        ensures bound { Q.bound quota.new ≡ Q.bound quota.old }
         ensures asks { result ≡ mets.Waits → IsSome self.old.asked }
         ensures failed { (fault : SessionFault) → result ≡ mets.Failed fault → self.new.fault ≡ Some fault }
         ensures kept { (fault : SessionFault) → self.old.fault ≡ Some fault → self.new ≡ self.old }
@@ -455,14 +497,21 @@ impl<'a, S: Stream> Member<'a, S> {
                 self.open(turn, subject);
                 Met::Done
             }
-            Request::Admits { ordinal, work } => match self.admit(turn, ordinal, work) {
-                Ok(()) => Met::Done,
-                Err(work) => {
-                    self.asked = Some(Request::Admits { ordinal, work });
-                    self.fault = Some(SessionFault::Clash);
-                    Met::Failed(SessionFault::Clash)
+            Request::Admits { ordinal, work } => {
+                match quota.asks(turn.hall().core(), &work) {
+                    Fit::Now => {}
+                    Fit::Later => return self.put_off(Request::Admits { ordinal, work }, false),
+                    Fit::Never => return self.put_off(Request::Admits { ordinal, work }, true),
                 }
-            },
+                match self.admit(turn, ordinal, work) {
+                    Ok(()) => Met::Done,
+                    Err(work) => {
+                        self.asked = Some(Request::Admits { ordinal, work });
+                        self.fault = Some(SessionFault::Clash);
+                        Met::Failed(SessionFault::Clash)
+                    }
+                }
+            }
             Request::Settles => match self.settle(turn) {
                 Ok(true) => Met::Done,
                 Ok(false) => {
@@ -514,7 +563,7 @@ impl<'a, S: Stream> Member<'a, S> {
 
     /// Does at the gate what is asked at the last line, as `meet` does; and while all is done that is asked, hears a
     /// next line of what was read and does what that asks, for so many lines at most.
-    pub fn meet_on(&mut self, turn: &mut AtGate<'_>, most: usize)
+    pub fn meet_on<Q: Asks>(&mut self, turn: &mut AtGate<'_>, quota: &mut Q, most: usize)
         requires trail { HasTrail (hall_seen turn.old) }
         requires way { (names : KnownNames) × (first : PassView) × IsHome names turn.old
             × SpeaksForItsOwn first turn.old × IsMember S.remaining S.contents names first turn.old self.old }
@@ -528,11 +577,15 @@ impl<'a, S: Stream> Member<'a, S> {
         ensures new { (self.new.reception ≡ self.old.reception) ⊎ IsNewSession turn.old self.new.reception }
         ensures met { (names : KnownNames) (first : PassView) → IsHome names turn.old
             → SpeaksForItsOwn first turn.old → IsMember S.remaining S.contents names first turn.old self.old
-            → IsMetOn S.remaining S.contents names first turn.old turn.new self.old self.new }
+            → IsMetOn S.remaining S.contents names (Q.was quota.old (state_seen turn.old)) (Q.bound quota.old)
+            first turn.old turn.new self.old self.new }
+        ensures fits { Q.was quota.old (state_seen turn.old)
+            → AdmitsWhatFits (Q.bound quota.old) turn.old turn.new × Q.was quota.new (state_seen turn.new) }
+        ensures bound { Q.bound quota.new ≡ Q.bound quota.old }
         ensures heard { HasHeardOn most self.old self.new }
     {
         for _heard in 0..most {
-            if self.meet(turn) != Met::Done {
+            if self.meet(turn, quota) != Met::Done {
                 return;
             }
             match self.hear_more() {
@@ -541,35 +594,33 @@ impl<'a, S: Stream> Member<'a, S> {
                 Err(_fault) => return,
             }
         }
-        let _ = self.meet(turn);
+        let _ = self.meet(turn, quota);
     }
 
     /// Gives the stream at any moment, after a fault too.
     pub fn leave(self) -> Departed<S>
         ensures stream { result.stream ≡ self.entry.connection.stream }
         ensures fault { result.fault ≡ self.entry.fault }
+        ensures full { result.full ≡ self.entry.full }
         ensures departs { (names : KnownNames) (first pass : PassView) → IsHome names pass
             → IsMember S.remaining S.contents names first pass self.entry
             → Departs S.remaining S.contents names first pass self.entry.connection self.entry.reception
             self.entry.fault }
     {
         let Member {
-            alloc: _,
-            names: _,
             connection,
             told,
             asked,
-            subject: _,
-            reception: _,
-            last: _,
-            upto: _,
             fault,
+            full,
+            ..
         } = self;
         drop(told);
         drop(asked);
         Departed {
             stream: connection.leave(),
             fault,
+            full,
         }
     }
 
@@ -583,16 +634,10 @@ impl<'a, S: Stream> Member<'a, S> {
             → IsServedAmong S.remaining S.contents names first pass self.entry.connection }
     {
         let Member {
-            alloc: _,
-            names: _,
             connection,
             told,
             asked,
-            subject: _,
-            reception: _,
-            last: _,
-            upto: _,
-            fault: _,
+            ..
         } = self;
         drop(told);
         drop(asked);

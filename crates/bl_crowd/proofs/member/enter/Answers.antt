@@ -14,6 +14,7 @@ returns-in-Stranger c =
     record {
       goes = record { follows = c.line.ensures.follows; trail = c.line.ensures.trail };
       own = adds_itself (λ _. IsNoLineBut c.args.session) p q (ap (λ (v : PassView). v.own) same);
+      alone = c.line.ensures.own;
       hand = hand_same p q same;
       ok = tt;
       err = (

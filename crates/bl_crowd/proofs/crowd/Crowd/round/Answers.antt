@@ -1,13 +1,15 @@
-use Rattle.std.proofs.Common.{◌∙◌, ap, sym, subst, vec_len}
-use Rattle.bl_gate.specs.Gates.{Follows, PassView}
+use Rattle.std.proofs.Common.{◌≡◌, ◌∙◌, ap, get_or, refl, sym, subst, vec_len}
+use Rattle.bl_gate.specs.Gates.{Follows, PassView, state_seen}
 use Rattle.bl_gate.proofs.Following.{follows_then}
 use Rattle.bl_worker.specs.Batches.{IsBatch, loans_in}
 use Rattle.bl_worker.specs.Turns.{IsNoLine}
-use Rattle.bl_worker.proofs.Adding.{adds_itself}
+use Rattle.bl_worker.proofs.Adding.{adds_itself, adds_no_line}
 use Rattle.bl_worker.proofs.Batching.{batch_enters, batch_goes}
 use Rattle.bl_crowd.specs.Crowds.{AreMetOn, HasBegunLast}
+use Rattle.bl_crowd.specs.Fitting.{AdmitsWhatFits}
 use Rattle.bl_crowd.specs.Ways.{AreMembers}
 use Rattle.bl_crowd.proofs.Crowding.{crowd_goes}
+use Rattle.bl_crowd.proofs.Fitting.{fits_itself, fits_quiet, fits_then, leads_on, met_on_as}
 use Rattle.bl_crowd.proofs.Rounding.{are_met_on, crowd_turns}
 use Rattle.bl_crowd.proofs.crowd.Crowd.round.Goals as goal
 
@@ -86,12 +88,30 @@ returns-clause-met g c =
     let v = c.meet_on_all.new.turn in
     let w = c.begin_ready-begun.new.turn in
     let e = c.end_all-some.ensures in
+    let m = c.meet_on_all.ensures in
+    let b = c.begin_ready-begun.ensures in
     let here = subst (λ (x : PassView). AreMembers R W names self.first.value x items) (sym c.take.ensures.taken) c.requires.crowd.members in
     let begins = crowd_goes R W names self.first.value p t items here (record { follows = c.turn-turn.ensures.follows; trail = c.turn-turn.ensures.trail }) (adds_itself (λ _. IsNoLine) p t c.turn-turn.ensures.own) in
     let from = subst (λ (x : PassView). Follows x t) c.take.ensures.taken c.turn-turn.ensures.follows in
-    subst (λ (x : PassView). AreMetOn R W names self.first.value self.pass x items new (vec_len c.meet_on_all.new.members)) (sym c.leave.ensures)
-    (are_met_on R W names self.first.value self.pass u v w items new (vec_len c.meet_on_all.new.members) (follows_then self.pass t u from e.follows) c.begin_ready-begun.ensures.follows
-    (c.meet_on_all.ensures.met names self.first.value (crowd_turns R W names self.first.value t u items begins e.follows e.trail e.adds)))
+    let own : t.own ≡ self.pass.own = c.turn-turn.ensures.own ∙ ap (λ (x : PassView). x.own) c.take.ensures.taken in
+    let says = g.Q.Asks.bound c.args.quota.now in
+    let K = g.Q.Asks.was c.args.quota.now (state_seen t) in
+    let L = g.Q.Asks.was c.args.quota.now (state_seen u) in
+    let known : K → L = λ k. g.met.Q.Asks.goes_on c.args.quota.now (state_seen t) (state_seen u) k (leads_on t u (record { follows = e.follows; trail = e.trail })) in
+    let quiet = fits_quiet says in
+    let ended = fits_then says self.pass t u (fits_itself says self.pass t own) (quiet t u (adds_no_line (λ n. Unit {0}) t u e.adds)) e.follows in (
+      t,
+      record { follows = from; own = own },
+      subst (λ (x : PassView). AreMetOn R W names K says self.first.value self.pass x items new (vec_len c.meet_on_all.new.members)) (sym c.leave.ensures)
+          (are_met_on R W names K says self.first.value self.pass u v w items new (vec_len c.meet_on_all.new.members) (follows_then self.pass t u from e.follows) b.follows
+          (λ i d low. met_on_as K L says says known refl R W names self.first.value u v (get_or items i d) (get_or new i d)
+          (m.met names self.first.value (crowd_turns R W names self.first.value t u items begins e.follows e.trail e.adds) i d low))),
+      λ k. subst (λ (x : PassView). AdmitsWhatFits says self.pass x × g.Q.Asks.was c.meet_on_all.new.quota (state_seen x)) (sym c.leave.ensures)
+          (let met = m.fits (known k) in (
+            fits_then says self.pass v w (fits_then says self.pass u v ended met.0 m.goes.follows) (quiet v w (adds_no_line (λ n. Unit {0}) v w b.adds)) b.follows,
+            g.met.Q.Asks.goes_on c.meet_on_all.new.quota (state_seen v) (state_seen w) met.1 (leads_on v w (record { follows = b.follows; trail = b.trail })),
+          )),
+    )
 
 pub returns-clause-begun : goal.returns-clause-begun
 returns-clause-begun g c =

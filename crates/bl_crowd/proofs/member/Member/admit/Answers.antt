@@ -3,6 +3,7 @@ use Rattle.bl_gate.specs.Gates.{PassView}
 use Rattle.bl_serve.proofs.Together.{no_line_of}
 use Rattle.bl_crowd.specs.Steps.{IsClash}
 use Rattle.bl_crowd.specs.declared.member.Reception.TheVariants.{Open}
+use Rattle.bl_crowd.proofs.Fitting.{fits_entered, fits_itself}
 use Rattle.bl_crowd.proofs.Meeting.{admits_open, way_clash, way_entered}
 use Rattle.bl_crowd.proofs.member.Member.admit.Goals as goal
 
@@ -31,3 +32,10 @@ returns-clause-others g c session apart =
 pub returns-clause-ok : goal.returns-clause-ok
 returns-clause-ok g c names first home speaks w =
     way_entered g.S.Stream.remaining g.S.Stream.contents names first c.args.turn.now c.args.self.now c.args.ordinal c.args.work w c.in-Open.session c.in-Open.is c.enter.new.turn c.enter.ensures.goes c.in-Ok.ensures.ok speaks
+
+pub returns-clause-fits : goal.returns-clause-fits
+returns-clause-fits g c bound fit =
+    fits_entered bound c.args.turn.now c.enter.new.turn c.in-Open.session c.args.ordinal c.args.work c.enter.ensures.goes.follows c.enter.ensures.alone c.in-Ok.ensures.ok fit
+
+pub returns-in-Err-clause-fits : goal.returns-in-Err-clause-fits
+returns-in-Err-clause-fits g c bound fit = fits_itself bound c.args.turn.now c.enter.new.turn (ap (λ (p : PassView). p.own) c.in-Err.ensures.err.0)
