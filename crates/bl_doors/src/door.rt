@@ -1,15 +1,14 @@
-//! A door, and what comes in by it.
-ghost use Rattle.std.specs.Prelude.{◌≡◌, ◌↔◌, IfOk, IsTrue, bit_and, string_bytes};
-ghost use Rattle.bl_doors.specs.Greetings.{greeting_of, ungiven};
+//! A door.
+ghost use Rattle.std.specs.Prelude.{◌≡◌, ◌↔◌, IfOk, IsTrue, bit_and};
 
 use crate::fault::{DoorFault, of_system};
-use crate::greeted::Greeted;
+use crate::incoming::Incoming;
 use crate::place::Place;
 use mio::net::{UnixListener, UnixStream};
-use std::alloc::{AllocError, Global};
 use std::fs::Permissions;
 use std::io::ErrorKind;
 use std::net::Net;
+use std::os::fd::{AsRawFd, RawFd};
 use std::os::unix::fs::{FileTypeExt, PermissionsExt};
 use std::rt::Files;
 use std::{fs, io};
@@ -109,24 +108,28 @@ impl Door {
         self.wide
     }
 
-    /// The socket at which it listens, to be watched.
-    pub fn listener(&self) -> &UnixListener
-        ensures { result.now ≡ self.now.listener }
+    /// The next who comes in by this door; `WouldBlock` where nobody waits.
+    pub fn accept(&self) -> io::Result<Incoming<'_>>
+        ensures { IfOk result (λ incoming. incoming.door.now ≡ self.now) }
     {
-        &self.listener
-    }
-
-    /// A stream that came in by this door: `hello NAME` is heard before all that it gives, by the name of the door's
-    /// subject. An error comes where memory was refused.
-    pub fn greet<S: Drop>(&self, alloc: Global, inner: S) -> Result<Greeted<S>, AllocError>
-        ensures inner { IfOk result (λ stream. stream.inner ≡ inner) }
-        ensures greeting { IfOk result (λ stream. ungiven stream ≡ greeting_of (string_bytes self.now.place.name)) }
-    {
-        Greeted::by(alloc, self.place.name.as_bytes(), inner)
+        let (stream, _) = self.listener.accept()?;
+        Ok(Incoming::by(self, stream))
     }
 
     /// Takes the door away: nobody comes in by it any more.
     pub(crate) fn take_away<R: Files>(self, rt: &R) {
         let _ = fs::remove_file(rt, self.place.path.as_str());
+    }
+}
+
+/// The socket at which it listens, to be watched.
+impl AsRawFd for Door {
+    ghost use Rattle.std.specs.Prelude.{Some};
+    ghost use Rattle.mio.specs.Net.{unix_listener_fd};
+
+    ghost raw_fd = { λ door. Some (unix_listener_fd door.listener) };
+
+    fn as_raw_fd(&self) -> RawFd {
+        self.listener.as_raw_fd()
     }
 }

@@ -29,7 +29,7 @@ impl<S> Greeted<S> {
     }
 
     /// A stream of which `hello NAME` is heard before all that it gives. An error comes where memory was refused.
-    pub fn by(alloc: Global, name: &[u8], inner: S) -> Result<Greeted<S>, AllocError>
+    pub(crate) fn by(alloc: Global, name: &[u8], inner: S) -> Result<Greeted<S>, AllocError>
     where
         S: Drop,
         ensures inner { IfOk result (λ stream. stream.inner ≡ inner) }
@@ -69,15 +69,10 @@ impl<S> Greeted<S> {
     }
 
     /// The stream in it.
-    pub fn into_inner(self) -> S
-        ensures { result ≡ self.inner }
+    pub fn inner(&self) -> &S
+        ensures { result.now ≡ self.now.inner }
     {
-        let Greeted {
-            inner,
-            greeting: _,
-            given: _,
-        } = self;
-        inner
+        &self.inner
     }
 }
 

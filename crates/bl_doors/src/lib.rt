@@ -3,7 +3,8 @@
 //!     greeted    a stream that gives a greeting first
 //!     place      where the doors of a folder stand, and for whom
 //!     fault      why no doors are opened
-//!     door       a door, and what comes in by it
+//!     door       a door
+//!     incoming   who comes in by a door
 //!     doors      the doors of a folder, opened and taken away
 //!     told       what is said of doors on standard error
 //!     laws       what is heard of who comes by a door
@@ -13,6 +14,7 @@ pub mod door;
 pub mod doors;
 pub mod fault;
 pub mod greeted;
+pub mod incoming;
 pub mod laws;
 pub mod place;
 pub mod told;

@@ -1,10 +1,15 @@
 //! Names, and folders of the system with their doors.
 use bl_doors::doors::Doors;
 use bl_doors::fault::DoorFault;
+use bl_doors::greeted::Greeted;
+use bl_entrance::socket::Socket;
 use bl_setup::reader::read_setup;
 use bl_setup::setup::Setup;
 use std::alloc::Global;
 use std::fs;
+use std::io::Write;
+use std::net::Shutdown;
+use std::os::unix::net::UnixStream;
 use std::test::Fail;
 
 /// A setup with two subjects.
@@ -41,4 +46,38 @@ pub(crate) fn open(rt: &HostRuntime, folder: &str) -> Result<Doors, DoorFault> {
         Some(setup) => Doors::open(rt, rt.alloc(), setup.names(), folder),
         None => Err(DoorFault::Memory),
     }
+}
+
+/// Who comes by the one door of a folder, of ann, with what is heard there: the client says this, and no more.
+fn come_by(
+    rt: &HostRuntime,
+    doors: &Doors,
+    folder: &str,
+    said: &[u8],
+) -> Result<(UnixStream, Greeted<Socket>), Fail> {
+    let [door] = doors.doors() else {
+        return Err(Fail::new("not one door"));
+    };
+    let mut client = UnixStream::connect(rt, format!(in rt.alloc(); "{folder}/ann/door")?)?;
+    client.write_all(said)?;
+    client.shutdown(Shutdown::Write)?;
+    let stream = door.accept()?.greet(rt.alloc())?;
+    Ok((client, stream))
+}
+
+/// A client that has come by the door of ann, and what is heard there: the client says this, and no more. The folder is
+/// there no more.
+pub(crate) fn come_by_ann(
+    rt: &HostRuntime,
+    folder: &str,
+    said: &[u8],
+) -> Result<(UnixStream, Greeted<Socket>), Fail> {
+    make_folders(rt, folder, &["ann"])?;
+    let Ok(doors) = open(rt, folder) else {
+        return Err(Fail::new("not opened"));
+    };
+    let came = come_by(rt, &doors, folder, said);
+    doors.close(rt);
+    clear(rt, folder);
+    came
 }

@@ -27,7 +27,7 @@ fn is_there(rt: &HostRuntime, path: &str) -> bool {
 
 /// Whether somebody waits at a door, who is let in.
 fn is_called(door: &Door) -> bool {
-    door.listener().accept().is_ok()
+    door.accept().is_ok()
 }
 
 /// Whether these are the doors of ann and bob, in this order.

@@ -1,18 +1,15 @@
 //! Streams that give a greeting first.
+use super::base::come_by_ann;
 use bl_connection::stream::{Answer, Ends, Stream};
 use bl_doors::greeted::Greeted;
+use std::io::Read;
 use std::test::Fail;
 
-/// A greeting comes before all that the stream gives, in parts as large as the room for it, and writes go to the
-/// stream.
+/// A greeting comes before all that who came by a door gives, in parts as large as the room for it, and writes go to
+/// it.
 #[test]
 fn a_greeting_comes_first(rt: HostRuntime) -> Result<(), Fail> {
-    let alloc = rt.alloc();
-    let ends = Ends {
-        reader: b"hello bob\nwait\n".as_slice(),
-        writer: Vec::new(alloc),
-    };
-    let mut stream = Greeted::by(alloc, b"ann", ends)?;
+    let (mut client, mut stream) = come_by_ann(&rt, "first.doors", b"hello bob\nwait\n")?;
     let mut room = [0u8; 7];
     assert!(rt; stream.read(&mut room) == Answer::Moved(7));
     assert!(rt; room.as_slice() == b"hello a".as_slice());
@@ -21,9 +18,15 @@ fn a_greeting_comes_first(rt: HostRuntime) -> Result<(), Fail> {
     assert!(rt; stream.read(&mut room) == Answer::Moved(7));
     assert!(rt; room.as_slice() == b"hello b".as_slice());
     assert!(rt; stream.write(b"ok\n") == Answer::Moved(3));
-    let Ends { reader, writer } = stream.into_inner();
-    assert!(rt; reader == b"ob\nwait\n".as_slice());
-    assert!(rt; writer.as_slice() == b"ok\n".as_slice());
+    assert!(rt; stream.read(&mut room) == Answer::Moved(7));
+    assert!(rt; room.as_slice() == b"ob\nwait".as_slice());
+    assert!(rt; stream.read(&mut room) == Answer::Moved(1));
+    assert!(rt; room.as_slice() == b"\nb\nwait".as_slice());
+    assert!(rt; stream.read(&mut room) == Answer::Moved(0));
+    drop(stream);
+    let mut heard = Vec::new(rt.alloc());
+    client.read_to_end(&mut heard)?;
+    assert!(rt; heard.as_slice() == b"ok\n".as_slice());
     Ok(())
 }
 

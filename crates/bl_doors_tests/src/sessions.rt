@@ -1,22 +1,23 @@
 //! A session by a door.
-use super::base::base;
+use super::base::{base, come_by_ann};
 use bl_connection::connection::{Connection, State};
-use bl_connection::stream::Ends;
 use bl_connection_tests::shows::Shows;
 use bl_doors::greeted::Greeted;
 use bl_engine::conversation::Opening;
+use bl_entrance::socket::Socket;
 use bl_wire::fault::SessionFault;
 use bl_work::names::Names;
+use std::io::Read;
 use std::test::Fail;
 
 /// More steps than the session takes.
 const MOST_STEPS: u32 = 1_000;
 
-/// A connection that came by a door, over ends in memory.
-type ByDoor<'a> = Connection<Greeted<Ends<&'a [u8], Vec<u8>>>>;
+/// A connection that came by a door.
+type ByDoor = Connection<Greeted<Socket>>;
 
 /// Does what is next, and says whether something was. No line of the session asks for a work.
-fn step(names: &Names, conn: &mut ByDoor<'_>) -> Result<bool, SessionFault> {
+fn step(names: &Names, conn: &mut ByDoor) -> Result<bool, SessionFault> {
     match conn.state() {
         State::Reads => {
             let _ = conn.read()?;
@@ -36,7 +37,7 @@ fn step(names: &Names, conn: &mut ByDoor<'_>) -> Result<bool, SessionFault> {
 }
 
 /// Does what is next, as long as something is.
-fn drive(names: &Names, conn: &mut ByDoor<'_>) -> Result<(), SessionFault> {
+fn drive(names: &Names, conn: &mut ByDoor) -> Result<(), SessionFault> {
     for _ in 0..MOST_STEPS {
         if !step(names, conn)? {
             return Ok(());
@@ -52,13 +53,12 @@ fn a_second_hello_is_refused(rt: HostRuntime) -> Result<(), Fail> {
     let Some(setup) = base(alloc) else {
         return Err(Fail::new("no setup"));
     };
-    let ends = Ends {
-        reader: b"hello bob\nwait\n".as_slice(),
-        writer: Vec::new(alloc),
-    };
-    let mut conn = Connection::new(alloc, Greeted::by(alloc, b"ann", ends)?)?;
+    let (mut client, stream) = come_by_ann(&rt, "second.doors", b"hello bob\nwait\n")?;
+    let mut conn = Connection::new(alloc, stream)?;
     assert!(rt; drive(setup.names(), &mut conn).is_ok());
-    let Ends { reader: _, writer } = conn.leave().into_inner();
-    assert!(rt; writer.as_slice() == b"ok\n1 refused hello\nok\nbye\n".as_slice());
+    drop(conn.leave());
+    let mut heard = Vec::new(alloc);
+    client.read_to_end(&mut heard)?;
+    assert!(rt; heard.as_slice() == b"ok\n1 refused hello\nok\nbye\n".as_slice());
     Ok(())
 }

@@ -1,5 +1,7 @@
 -- How a session of `serve` ended.
 use Rattle.std.specs.Prelude.{ℕ, Bool, true, false, List, Option, Some, None, codes}
+use Rattle.bl_entrance.specs.declared.ended.Ended.{Ended}
+use Rattle.bl_entrance.specs.declared.ended.Ending.{Ending}
 use Rattle.bl_entrance.specs.declared.ended.Why.{Why}
 use Rattle.bl_entrance.specs.declared.ended.Why.TheVariants.{Accept, NotKept, Idle, Session}
 use Rattle.bl_record.specs.declared.fault.JournalFault.{JournalFault}
@@ -22,6 +24,16 @@ abbrev pub end_by : Bool → Option SessionFault → Option JournalFault → Opt
 end_by true fault refused = Some Idle
 end_by false (Some fault) refused = Some (why_by fault refused)
 end_by false None refused = None
+
+-- the early end of the session with this number, for this reason, if it has one
+abbrev pub early_end : ℕ → Option Why → Option Ended
+early_end session (Some why) = Some (record { session = session; why = why })
+early_end session None = None
+
+-- the early end that is to be told of, if there is one
+abbrev pub ended_of : Option Ending → Option Ended
+ended_of (Some ending) = Some ending.ended
+ended_of None = None
 
 -- own choice: the words for why it ended early
 abbrev pub ended_words : Why → List ℕ

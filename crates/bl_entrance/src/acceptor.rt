@@ -1,5 +1,5 @@
 //! Where session threads take connections, and tell what became of them.
-ghost use Rattle.std.specs.Prelude.{◌≡◌, ◌<◌, ◌≤◌};
+ghost use Rattle.std.specs.Prelude.{◌<◌};
 
 use crate::ended::{Ended, Ending, Why};
 use crate::entrance::{Arrival, Entrance};
@@ -12,6 +12,7 @@ use bl_rounds::alarm::Alarms;
 use bl_wire::fault::SessionFault;
 use crossbeam_channel::{Receiver, Sender, unbounded};
 use std::alloc::{AllocError, Global};
+use std::io;
 use std::io::{BufWriter, ErrorKind, Write};
 use std::mem;
 use std::sync::{Mutex, Wait};
@@ -25,6 +26,7 @@ pub type SharedLog<F> = Mutex<Log<BufWriter<F>>>;
 pub struct Accepted<'a> {
     pub number: u32,
     pub arrival: Arrival<'a>,
+    pub ghost some: { 0 < number },
 }
 
 /// What came of looking for a connection.
@@ -35,6 +37,13 @@ pub enum Taken {
     Accepted,
     /// A connection could not be taken.
     Lost(Ending),
+}
+
+/// That a connection was counted as open no more, and the early end of its session that was told of, if it had one:
+/// `Acceptor::part` alone says so.
+#[derive(Clone, Copy, Debug)]
+pub struct Parted {
+    ended: Option<Ended>,
 }
 
 /// A session thread: whether it is there, how many connections it has, and those of them that it has yet to take up.
@@ -59,8 +68,14 @@ struct Floor<'a> {
 }
 
 impl<'a> Floor<'a> {
+    ghost use Rattle.std.specs.Prelude.{◌≡◌, ◌+◌, ◌++◌, ◌∷◌, [], false, true, IfErr, IfOk, get_or};
+    ghost use Rattle.bl_entrance.specs.Arrivals.{HasGiven};
+    ghost use Rattle.bl_entrance.specs.declared.acceptor.Place.{Place};
+
     /// Whether all were taken that may be.
-    fn is_over(&self) -> bool {
+    fn is_over(&self) -> bool
+        ensures { result ≡ false → self.now.taken < self.now.most }
+    {
         self.closed || self.taken >= self.most
     }
 
@@ -80,17 +95,42 @@ impl<'a> Floor<'a> {
     }
 
     /// Gives a connection to a thread, and says whether there was memory.
-    fn give(&mut self, thread: usize, accepted: Accepted<'a>) -> bool {
-        match self.places.get_mut(thread) {
-            Some(place) => {
-                if place.all_accepted.push(accepted).is_err() {
-                    return false;
-                }
-                place.open = place.open.saturating_add(1);
-                self.open = self.open.saturating_add(1);
-                true
-            }
-            None => false,
+    fn give(&mut self, thread: usize, accepted: Accepted<'a>) -> bool
+        ensures taken { self.new.taken ≡ self.old.taken }
+        ensures given { result ≡ true → (d : Place) → (get_or self.new.places.items thread d).all_accepted.items
+            ≡ (get_or self.old.places.items thread d).all_accepted.items ++ accepted.entry ∷ [] }
+    {
+        if thread >= self.places.len() {
+            return false;
+        }
+        let place = &mut self.places[thread];
+        if place.all_accepted.push(accepted).is_err() {
+            return false;
+        }
+        place.open = place.open.saturating_add(1);
+        self.open = self.open.saturating_add(1);
+        true
+    }
+
+    /// Takes a connection in, or one that could not be taken, under the next number, and gives it to the thread with
+    /// the fewest, which is answered.
+    fn admit(&mut self, thread: usize, accepted: io::Result<Arrival<'a>>) -> Result<usize, Ending>
+        requires { self.old.taken < self.old.most }
+        ensures taken { self.new.taken ≡ self.old.taken + 1 }
+        ensures given { IfOk result (λ least.
+            HasGiven (self.old.taken + 1) least self.old.places.items self.new.places.items) }
+        ensures lost { IfErr result (λ ending. ending.ended.session ≡ self.old.taken + 1) }
+    {
+        self.taken += 1;
+        let number = self.taken;
+        let Ok(arrival) = accepted else {
+            return Err(Ending::new(number, Why::Accept));
+        };
+        let least = self.least(thread);
+        if self.give(least, Accepted { number, arrival }) {
+            Ok(least)
+        } else {
+            Err(Ending::new(number, Why::Session(SessionFault::Memory)))
         }
     }
 }
@@ -110,6 +150,9 @@ pub struct Acceptor<'a, F: Write + Drop> {
 }
 
 impl<'a, F: Write + Drop> Acceptor<'a, F> {
+    ghost use Rattle.std.specs.Prelude.{◌≡◌};
+    ghost use Rattle.bl_entrance.specs.Ends.{ended_of};
+
     /// An acceptor for so many session threads, connections in all and connections at once, and where to hear what is told
     /// there. An error comes where memory was refused.
     pub fn new(
@@ -175,22 +218,19 @@ impl<'a, F: Write + Drop> Acceptor<'a, F> {
                 return Taken::Nobody;
             }
         }
-        floor.taken = floor.taken.saturating_add(1);
+        let admitted = floor.admit(thread, accepted);
         if floor.is_over() {
             alarms.wake_all();
         }
-        let number = floor.taken;
-        let Ok(arrival) = accepted else {
-            return Taken::Lost(Ending::new(number, Why::Accept));
-        };
-        let least = floor.least(thread);
-        if !floor.give(least, Accepted { number, arrival }) {
-            return Taken::Lost(Ending::new(number, Why::Session(SessionFault::Memory)));
+        match admitted {
+            Ok(least) => {
+                if least != thread {
+                    alarms.wake(least);
+                }
+                Taken::Accepted
+            }
+            Err(ending) => Taken::Lost(ending),
         }
-        if least != thread {
-            alarms.wake(least);
-        }
-        Taken::Accepted
     }
 
     /// The connections that a thread was given since it last asked, in the order of their numbers.
@@ -202,8 +242,23 @@ impl<'a, F: Write + Drop> Acceptor<'a, F> {
         }
     }
 
+    /// A connection of a thread is open no more, and how its session ended is told, if that was early.
+    pub fn part<R: Wait>(&self, rt: &R, thread: usize, ending: Option<Ending>) -> Parted
+        ensures { result.ended ≡ ended_of ending }
+    {
+        self.leave(rt, thread);
+        match ending {
+            Some(ending) => {
+                let ended = ending.ended;
+                self.tell(rt, ending);
+                Parted { ended: Some(ended) }
+            }
+            None => Parted { ended: None },
+        }
+    }
+
     /// A connection of a thread is open no more.
-    pub fn leave<R: Wait>(&self, rt: &R, thread: usize) {
+    fn leave<R: Wait>(&self, rt: &R, thread: usize) {
         let mut guard = self.floor.lock(rt);
         let floor = &mut *guard;
         floor.open = floor.open.saturating_sub(1);

@@ -1,6 +1,6 @@
 //! How a session ended that was not served to its end.
-ghost use Rattle.std.specs.Prelude.{◌≡◌, IfNone, IfSome, None, Some};
-ghost use Rattle.bl_entrance.specs.Ends.{end_by, ended_words as words_for, why_by};
+ghost use Rattle.std.specs.Prelude.{◌≡◌};
+ghost use Rattle.bl_entrance.specs.Ends.{early_end, end_by, ended_of, ended_words as words_for, why_by};
 
 use bl_record::fault::JournalFault;
 use bl_wire::fault::SessionFault;
@@ -25,7 +25,7 @@ pub struct Ended {
     pub why: Why,
 }
 
-/// A session that ended early and was not told of. It cannot be let go: `Acceptor::tell` takes it.
+/// A session that ended early and was not told of. It cannot be let go: `Acceptor::tell` and `Acceptor::part` take it.
 pub struct Ending {
     pub(crate) ended: Ended,
 }
@@ -56,9 +56,7 @@ pub fn ending_of(
     fault: Option<SessionFault>,
     refused: Option<JournalFault>,
 ) -> Option<Ending>
-    ensures none { IfNone result (end_by is_idle fault refused ≡ None) }
-    ensures some { IfSome result (λ ending. (ending.ended.session ≡ session)
-        × (end_by is_idle fault refused ≡ Some ending.ended.why)) }
+    ensures { ended_of result ≡ early_end session (end_by is_idle fault refused) }
 {
     if is_idle {
         return Some(Ending::new(session, Why::Idle));

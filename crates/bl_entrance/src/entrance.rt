@@ -1,5 +1,5 @@
 //! Where clients come in.
-ghost use Rattle.std.specs.Prelude.{◌≡◌, IfOk};
+ghost use Rattle.std.specs.Prelude.{◌≡◌, ◌<◌, IfOk};
 ghost use Rattle.bl_doors.specs.Greetings.{ungiven};
 ghost use Rattle.bl_entrance.specs.Arrivals.{greeting_at};
 
@@ -9,8 +9,8 @@ use crate::watch::Watch;
 use bl_doors::door::Door;
 use bl_doors::doors::Doors;
 use bl_doors::greeted::Greeted;
+use bl_doors::incoming::Incoming;
 use bl_wire::fault::SessionFault;
-use mio::net::UnixStream;
 use std::alloc::{AllocError, Global};
 use std::io;
 use std::io::ErrorKind;
@@ -31,12 +31,14 @@ pub enum Entrance {
 pub enum Arrival<'a> {
     /// At the port, from this address.
     Port(TcpStream, SocketAddr),
-    /// By this door.
-    Door(UnixStream, &'a Door),
+    /// By a door, from which nobody parts it.
+    Door(Incoming<'a>),
 }
 
 /// A stream that is watched under this number. `Accept` comes where the system refuses that.
-fn watched(socket: io::Result<Socket>, watch: &Watch, number: u32) -> Result<Socket, Why> {
+fn watched(socket: io::Result<Socket>, watch: &Watch, number: u32) -> Result<Socket, Why>
+    requires { 0 < number }
+{
     let Ok(mut socket) = socket else {
         return Err(Why::Accept);
     };
@@ -51,7 +53,7 @@ impl Arrival<'_> {
     pub fn address(&self, alloc: Global) -> Result<String, AllocError> {
         match self {
             Arrival::Port(_, from) => format!(in alloc; "{from}"),
-            Arrival::Door(_, door) => String::from_str(alloc, door.place().name.as_str()),
+            Arrival::Door(incoming) => String::from_str(alloc, incoming.place().name.as_str()),
         }
     }
 
@@ -60,6 +62,7 @@ impl Arrival<'_> {
     ///
     /// `Accept` comes where the system refuses to watch it, and `Session(Memory)` where memory was refused.
     pub fn seat(self, alloc: Global, watch: &Watch, number: u32) -> Result<Greeted<Socket>, Why>
+        requires { 0 < number }
         ensures { IfOk result (λ stream. ungiven stream ≡ greeting_at self.entry) }
     {
         match self {
@@ -67,9 +70,11 @@ impl Arrival<'_> {
                 let socket = watched(Socket::new(stream), watch, number)?;
                 Ok(Greeted::plain(alloc, socket))
             }
-            Arrival::Door(stream, door) => {
-                let socket = watched(Ok(Socket::by_door(stream)), watch, number)?;
-                match door.greet(alloc, socket) {
+            Arrival::Door(mut incoming) => {
+                if watch.add(&mut incoming, number).is_err() {
+                    return Err(Why::Accept);
+                }
+                match incoming.greet(alloc) {
                     Ok(greeted) => Ok(greeted),
                     Err(_) => Err(Why::Session(SessionFault::Memory)),
                 }
@@ -82,8 +87,8 @@ impl Arrival<'_> {
 fn arrival_from(doors: &[Door], first: usize) -> io::Result<Arrival<'_>> {
     for k in 0..doors.len() {
         let door = &doors[first.wrapping_add(k) % doors.len()];
-        match door.listener().accept() {
-            Ok((stream, _)) => return Ok(Arrival::Door(stream, door)),
+        match door.accept() {
+            Ok(incoming) => return Ok(Arrival::Door(incoming)),
             Err(error) if error.kind() == ErrorKind::WouldBlock => {}
             Err(error) => return Err(error),
         }
@@ -106,7 +111,7 @@ impl Entrance {
             Entrance::Port(listener) => watch.watch_listener(listener),
             Entrance::Doors(doors) => {
                 for door in doors.doors() {
-                    watch.watch_listener(door.listener())?;
+                    watch.watch_listener(door)?;
                 }
                 Ok(())
             }

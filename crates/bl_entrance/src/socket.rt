@@ -1,4 +1,6 @@
 //! A connection that does not wait.
+ghost use Rattle.std.specs.Prelude.{◌<◌};
+
 use crate::watch::Watch;
 use bl_connection::stream::{Answer, Stream, answer_of};
 use mio::net::{TcpStream, UnixStream};
@@ -31,13 +33,6 @@ impl Socket {
         })
     }
 
-    /// A connection that came in by a door.
-    pub fn by_door(stream: UnixStream) -> Socket {
-        Socket {
-            link: Link::Door(stream),
-        }
-    }
-
     /// Ends its output: the peer reads what was written, and then the end.
     pub fn end_output(&self) {
         let _ = match &self.link {
@@ -47,10 +42,25 @@ impl Socket {
     }
 
     /// Has it watched, with its number. An error comes where the system refuses that.
-    pub fn watch(&mut self, watch: &Watch, number: u32) -> io::Result<()> {
+    pub fn watch(&mut self, watch: &Watch, number: u32) -> io::Result<()>
+        requires { 0 < number }
+    {
         match &mut self.link {
             Link::Port(stream) => watch.add(stream, number),
             Link::Door(stream) => watch.add(stream, number),
+        }
+    }
+}
+
+/// A connection over a stream that came in by a door.
+impl From<UnixStream> for Socket {
+    ghost use Rattle.std.specs.Prelude.{◌≡◌};
+
+    ghost from_gives = { λ stream socket. socket.link ≡ Link.Door stream };
+
+    fn from(stream: UnixStream) -> Socket {
+        Socket {
+            link: Link::Door(stream),
         }
     }
 }

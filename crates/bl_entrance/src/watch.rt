@@ -1,4 +1,6 @@
 //! Where a session thread waits.
+ghost use Rattle.std.specs.Prelude.{◌<◌};
+
 use mio::event::{Event, Iter, Source};
 use mio::unix::SourceFd;
 use mio::{Events, Interest, Poll, Token, Waker};
@@ -59,7 +61,11 @@ impl Watch {
     }
 
     /// Watches the stream of a connection, with its number. An error comes where the system refuses that.
-    pub(crate) fn add<S: Source>(&self, stream: &mut S, number: u32) -> io::Result<()> {
+    /// The token 0 is the alarm's.
+    pub(crate) fn add<S: Source>(&self, stream: &mut S, number: u32) -> io::Result<()>
+        requires { 0 < number }
+        ensures { S.keeps stream.old stream.new }
+    {
         let token = Token(number as usize);
         let both = Interest::READABLE | Interest::WRITABLE;
         self.poll.registry().register(stream, token, both)

@@ -7,7 +7,7 @@ ghost use Rattle.bl_rounds.specs.Seats.{IsSame, leaves};
 use crate::context::ThreadContext;
 use bl_connection::stream::Stream;
 use bl_doors::greeted::Greeted;
-use bl_entrance::acceptor::{Accepted, Acceptor, Taken};
+use bl_entrance::acceptor::{Accepted, Acceptor, Parted, Taken};
 use bl_entrance::callers::{Callers, name_of};
 use bl_entrance::ended::{Ending, Why, ended_words, ending_of};
 use bl_entrance::looks::{Looks, now};
@@ -58,6 +58,10 @@ fn stir_found<S: Stream>(rounds: &mut Rounds<'_, S>, watch: &Watch) -> bool
 }
 
 impl<'a, K: Keep, T: Wait + Clock> Attendant<'a, K, T> {
+    ghost use Rattle.std.specs.Prelude.{IfErr, OnOk};
+    ghost use Rattle.bl_entrance.specs.Ends.{early_end, end_by, ended_of};
+    ghost use Rattle.bl_rounds.specs.Seats.{HasJoined};
+
     /// Notes that a connection has come.
     fn note_arrival<P, F: Write + Drop>(
         &mut self,
@@ -109,8 +113,9 @@ impl<'a, K: Keep, T: Wait + Clock> Attendant<'a, K, T> {
         number: u32,
         lines: u32,
         ending: Option<Ending>,
-    )
-        ensures { self.new.rounds ≡ self.old.rounds }
+    ) -> Parted
+        ensures rounds { self.new.rounds ≡ self.old.rounds }
+        ensures parted { result.ended ≡ ended_of ending }
     {
         if acceptor.has_log() {
             let event = Event::Ended {
@@ -123,11 +128,8 @@ impl<'a, K: Keep, T: Wait + Clock> Attendant<'a, K, T> {
             acceptor.note(context.rt, number, self.callers.from(number), event);
             self.callers.remove(number);
         }
-        acceptor.leave(context.rt, self.thread);
-        if let Some(ending) = ending {
-            acceptor.tell(context.rt, ending);
-        }
         self.called = true;
+        acceptor.part(context.rt, self.thread, ending)
     }
 
     /// Takes connections that have come in, some at a time.
@@ -150,20 +152,25 @@ impl<'a, K: Keep, T: Wait + Clock> Attendant<'a, K, T> {
         }
     }
 
-    /// Takes up a connection that it was given.
+    /// Takes up a connection that it was given, under its number, or says why its session has ended.
     fn seat<P>(
         &mut self,
         context: &ThreadContext<'a, P, K, T>,
         accepted: Accepted<'_>,
-    ) -> Result<(), Why>
-        ensures { self.new.rounds.first ≡ self.old.rounds.first }
+    ) -> Result<(), Ending>
+        ensures first { self.new.rounds.first ≡ self.old.rounds.first }
+        ensures ok { OnOk result (HasJoined accepted.entry.number self.old.rounds self.new.rounds) }
+        ensures err { IfErr result (λ ending. ending.ended.session ≡ accepted.entry.number) }
     {
         let Accepted { number, arrival } = accepted;
-        let stream = arrival.seat(context.alloc, &self.watch, number)?;
+        let stream = match arrival.seat(context.alloc, &self.watch, number) {
+            Ok(stream) => stream,
+            Err(why) => return Err(Ending::new(number, why)),
+        };
         let line = KeptStream::new(context.rt, context.alloc, context.keep, stream);
         match self.rounds.join(line, number) {
             Ok(()) => Ok(()),
-            Err(_) => Err(Why::Session(SessionFault::Memory)),
+            Err(_) => Err(Ending::new(number, Why::Session(SessionFault::Memory))),
         }
     }
 
@@ -178,22 +185,24 @@ impl<'a, K: Keep, T: Wait + Clock> Attendant<'a, K, T> {
         for accepted in acceptor.all_accepted(context.rt, context.alloc, self.thread) {
             let number = accepted.number;
             self.note_arrival(context, acceptor, &accepted);
-            if let Err(why) = self.seat(context, accepted) {
-                self.part(context, acceptor, number, 0, Some(Ending::new(number, why)));
+            if let Err(ending) = self.seat(context, accepted) {
+                self.part(context, acceptor, number, 0, Some(ending));
             }
         }
     }
 
-    /// Sees off a connection that leaves, or that was idle for too long. Its output is ended where its session is over;
-    /// where nothing more is kept, no further connection is taken.
+    /// Sees off a connection that leaves, or that was idle for too long: if it ended early, that is told. Its output is
+    /// ended where its session is over; where nothing more is kept, no further connection is taken.
     fn see_off<P, F: Write + Drop>(
         &mut self,
         context: &ThreadContext<'a, P, K, T>,
         acceptor: &Acceptor<'_, F>,
         gone: Gone<Line<'a, K, T>>,
         idle: bool,
-    )
-        ensures { self.new.rounds ≡ self.old.rounds }
+    ) -> Parted
+        ensures rounds { self.new.rounds ≡ self.old.rounds }
+        ensures parted { result.ended
+            ≡ early_end gone.entry.number (end_by idle gone.entry.fault gone.entry.stream.refused) }
     {
         let Gone {
             number,
@@ -204,16 +213,15 @@ impl<'a, K: Keep, T: Wait + Clock> Attendant<'a, K, T> {
         } = gone;
         self.events = events;
         let (greeted, refused) = stream.into_parts();
-        let socket = greeted.into_inner();
         if matches!(refused, Some(JournalFault::Device(_))) {
             acceptor.close(context.rt, context.alarms);
         }
         let ending = ending_of(number, idle, fault, refused);
         if ending.is_none() {
-            socket.end_output();
+            greeted.inner().end_output();
         }
-        drop(socket);
-        self.part(context, acceptor, number, lines, ending);
+        drop(greeted);
+        self.part(context, acceptor, number, lines, ending)
     }
 
     /// Sees off all that leave.
@@ -227,7 +235,9 @@ impl<'a, K: Keep, T: Wait + Clock> Attendant<'a, K, T> {
     {
         for _ in 0..self.rounds.len() {
             match self.rounds.leave() {
-                Some(gone) => self.see_off(context, acceptor, gone, false),
+                Some(gone) => {
+                    self.see_off(context, acceptor, gone, false);
+                }
                 None => return,
             }
         }
@@ -254,7 +264,9 @@ impl<'a, K: Keep, T: Wait + Clock> Attendant<'a, K, T> {
         }
         for _ in 0..self.rounds.len() {
             match self.rounds.leave_idle(most) {
-                Some(gone) => self.see_off(context, acceptor, gone, true),
+                Some(gone) => {
+                    self.see_off(context, acceptor, gone, true);
+                }
                 None => return,
             }
         }

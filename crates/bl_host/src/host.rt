@@ -1,6 +1,8 @@
 //! Sessions over sockets in threads, round one gate.
-ghost use Rattle.std.specs.Prelude.{◌≡◌, ◌<◌, ◌≤◌, true, vec_len};
+ghost use Rattle.std.specs.Prelude.{◌≡◌, ◌⊎◌, ◌↔◌, ◌<◌, ◌≤◌, IsTrue, false, true, vec_len};
+ghost use Rattle.std.specs.Iterator.{Drains, IsFinite};
 ghost use Rattle.bl_gate.specs.Gates.{Follows};
+ghost use Rattle.bl_host.specs.Gathering.{GivesMore};
 
 use crate::attend::SessionAcceptor;
 use crate::context::ThreadContext;
@@ -168,14 +170,42 @@ fn run_scope<
 }
 
 /// The sessions that were told of, as long as there is memory, and whether there was memory for all.
-fn gather<T: Wait>(rt: &T, alloc: Global, told: &Receiver<Ended, Global>) -> (Vec<Ended>, bool) {
+#[derive(Drop)]
+struct Gathered {
+    ended: Vec<Ended>,
+    all: bool,
+}
+
+/// Gathers the sessions that were told of, in their order.
+fn gather<I: Iterator<Item = Ended> + Drop>(alloc: Global, told: I) -> Gathered
+    requires can { I.can_next told }
+    requires ends { IsFinite (I.remaining told) }
+    ensures all { result.all ≡ true → Drains I.next_gives told result.ended.items }
+    ensures more { result.all ≡ false → GivesMore I.next_gives told result.ended.items }
+{
     let mut ended = Vec::new(alloc);
-    for one in told.try_iter(rt) {
+    for one in told {
         if ended.push(one).is_err() {
-            return (ended, false);
+            return Gathered { ended, all: false };
         }
     }
-    (ended, true)
+    Gathered { ended, all: true }
+}
+
+/// What is left after all sessions, by what is left after the threads and what was told. It says that memory was
+/// refused where not all that was told was gathered, or something was not told.
+fn hosted_of(joined: Joined, gathered: Gathered, untold: bool) -> Hosted
+    ensures pass { result.pass ≡ joined.pass }
+    ensures whole { result.whole ≡ joined.whole }
+    ensures ended { result.ended ≡ gathered.ended }
+    ensures memory { IsTrue result.memory ↔ ((gathered.all ≡ false) ⊎ IsTrue untold) }
+{
+    Hosted {
+        pass: joined.pass,
+        ended: gathered.ended,
+        whole: joined.whole,
+        memory: !gathered.all || untold,
+    }
 }
 
 /// Takes so many connections at the entrance, serves their sessions on so many threads, each of which has many at once,
@@ -222,11 +252,6 @@ pub fn host<
         };
     };
     let joined = run_scope(host_context, &acceptor, waiting, pass, options);
-    let (ended, heard) = gather(host_context.rt, host_context.alloc, &told);
-    Hosted {
-        pass: joined.pass,
-        ended,
-        whole: joined.whole,
-        memory: !heard || acceptor.has_untold(host_context.rt),
-    }
+    let gathered = gather(host_context.alloc, told.try_iter(host_context.rt));
+    hosted_of(joined, gathered, acceptor.has_untold(host_context.rt))
 }
