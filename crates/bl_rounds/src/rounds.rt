@@ -42,8 +42,8 @@ const MOST_ENTRIES: usize = 64;
 const MOST_LINES: usize = 128;
 
 /// A connection that has left: its number, its stream, why it had to, the ordinal of the last line that it has heard,
-/// and how many events the trail had when the thread was last at the gate.
-#[derive(Drop)]
+/// and how many events the trail had when the thread was last at the gate. It cannot be let go: it has to be taken
+/// apart.
 pub struct Gone<S> {
     pub number: u32,
     pub stream: S,

@@ -7,7 +7,7 @@ use bl_gate::gate::Gate;
 use bl_gate::pass::Pass;
 use bl_hall::hall::Hall;
 use bl_rounds::alarm::Alarms;
-use bl_rounds::rounds::{Calls, Rounds};
+use bl_rounds::rounds::{Calls, Gone, Rounds};
 use bl_setup::reader::read_setup;
 use bl_wire::fault::SessionFault;
 use bl_worker::bell::Bell;
@@ -131,6 +131,19 @@ pub(super) fn assert_leaves<R: Abort>(
     assert!(rt; gone.number == number);
     assert!(rt; gone.stream.writer.taken.as_slice() == client.told);
     assert!(rt; gone.fault == client.fault);
+    put_away(gone);
+}
+
+/// Lets go of a client that has left.
+pub(super) fn put_away<S: Drop>(gone: Gone<S>) {
+    let Gone {
+        number: _,
+        stream,
+        fault: _,
+        lines: _,
+        events: _,
+    } = gone;
+    drop(stream);
 }
 
 /// Serves these clients with one thread in so many rounds: each is told what it is to be told, and ends as it is to

@@ -1,5 +1,7 @@
 //! Clients that leave while others stay, and clients that come later.
-use super::base::{GREETER, READER, ROUNDS, assert_leaves, base_gate, go_rounds, join};
+use super::base::{
+    GREETER, READER, ROUNDS, assert_leaves, base_gate, go_rounds, join, put_away,
+};
 use super::streams::Manner;
 use bl_rounds::rounds::Rounds;
 
@@ -23,6 +25,7 @@ fn one_leaves(rt: HostRuntime) {
     assert!(rt; gone.number == 0);
     assert!(rt; gone.fault.is_none());
     assert!(rt; gone.stream.writer.taken.as_slice() == b"ok\n".as_slice());
+    put_away(gone);
     go_rounds(&rt, &mut thread, ROUNDS);
     assert_leaves(&rt, &mut thread, 1, READER);
     drop(thread.close());

@@ -1,5 +1,5 @@
 //! Greetings, idle clients, and work that is left to others.
-use super::base::{READER, ROUNDS, base_gate, go_rounds, join};
+use super::base::{READER, ROUNDS, base_gate, go_rounds, join, put_away};
 use super::streams::{Manner, ends_of};
 use bl_rounds::alarm::Alarms;
 use bl_rounds::rounds::{Calls, Rounds};
@@ -31,6 +31,7 @@ fn one_is_served(rt: HostRuntime) {
     assert!(rt; gone.lines == 1);
     assert!(rt; gone.events == 4);
     assert!(rt; gone.stream.writer.taken.as_slice() == READER.told);
+    put_away(gone);
     drop(thread.close());
     drop(gate);
 }
@@ -45,13 +46,17 @@ fn one_is_idle(rt: HostRuntime) {
     thread.set_time(1_000);
     go_rounds(&rt, &mut thread, 1);
     thread.set_time(1_099);
-    assert!(rt; thread.leave_idle(100).is_none());
+    if let Some(gone) = thread.leave_idle(100) {
+        put_away(gone);
+        panic!(rt; "the client left early");
+    }
     thread.set_time(1_100);
     let Some(gone) = thread.leave_idle(100) else {
         panic!(rt; "the client is missing");
     };
     assert!(rt; gone.number == 1);
     assert!(rt; gone.lines == 0);
+    put_away(gone);
     assert!(rt; thread.len() == 0);
     drop(thread.close());
     drop(gate);
