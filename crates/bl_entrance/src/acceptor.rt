@@ -12,11 +12,10 @@ use bl_rounds::alarm::Alarms;
 use bl_wire::fault::SessionFault;
 use crossbeam_channel::{Receiver, Sender, unbounded};
 use std::alloc::{AllocError, Global};
-use std::io;
 use std::io::{BufWriter, ErrorKind, Write};
-use std::mem;
 use std::sync::{Mutex, Wait};
 use std::time::Clock;
+use std::{io, mem};
 
 /// A log in a file, which threads share.
 pub type SharedLog<F> = Mutex<Log<BufWriter<F>>>;

@@ -1,7 +1,5 @@
 //! Clients that leave while others stay, and clients that come later.
-use super::base::{
-    GREETER, READER, ROUNDS, assert_leaves, base_gate, go_rounds, join, put_away,
-};
+use super::base::{GREETER, READER, ROUNDS, assert_leaves, base_gate, go_rounds, join, put_away};
 use super::streams::Manner;
 use bl_rounds::rounds::Rounds;
 
