@@ -18,7 +18,6 @@ use bl_keeper::keep::Keep;
 use bl_rounds::alarm::Alarms;
 use bl_worker::bell::Bell;
 use bl_worker::pause::Pause;
-use crossbeam_channel::Receiver;
 use std::alloc::Global;
 use std::io::Write;
 use std::net::Net;
