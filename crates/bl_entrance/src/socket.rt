@@ -55,8 +55,9 @@ impl Socket {
 /// A connection over a stream that came in by a door.
 impl From<UnixStream> for Socket {
     ghost use Rattle.std.specs.Prelude.{◌≡◌};
+    ghost use Rattle.bl_entrance.specs.declared.socket.Link.TheVariants.{Door};
 
-    ghost from_gives = { λ stream socket. socket.link ≡ Link.Door stream };
+    ghost from_gives = { λ stream socket. socket.link ≡ Door stream };
 
     fn from(stream: UnixStream) -> Socket {
         Socket {
