@@ -1,3 +1,4 @@
 pub mod Recording
 pub mod Telling
 pub mod Sessions
+pub mod Files

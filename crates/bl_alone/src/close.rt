@@ -5,6 +5,7 @@ ghost use Rattle.bl_session.specs.Keeping.{IsFrontOf, IsHeld};
 ghost use Rattle.bl_session.specs.declared.keep.Stop.TheVariants.{NotKept};
 ghost use Rattle.bl_setup.specs.Agreement.{Agree};
 ghost use Rattle.bl_work.specs.Names.{AreNames};
+ghost use Rattle.bl_alone.specs.Files.{fault_in, file_after, file_in};
 ghost use Rattle.bl_alone.specs.Recording.{HasRecorded, IsLeft, IsSafe, hall_of};
 ghost use Rattle.bl_alone.specs.declared.fault.AloneFault.TheVariants.{CutShort};
 
@@ -13,7 +14,7 @@ use crate::recorder::Recorder;
 use bl_disk::device::Device;
 use bl_disk::log::Log;
 use bl_journal::laws::a_crash_loses_nothing_that_was_kept;
-use bl_record::journal::Journal;
+use bl_record::journal::{Closed, Journal};
 use bl_session::alone::Kept;
 use bl_session::keep::{Keep, Stop, Unreached};
 use bl_status::fault::ProgramFault;
@@ -29,26 +30,30 @@ pub fn file_of<D: Device>(recorder: Recorder<D>) -> D
 }
 
 /// Closes a journal that has kept all.
-fn close<D: Device>(recorder: Recorder<D>) -> (D, Option<AloneFault>)
+fn close<D: Device>(recorder: Recorder<D>) -> Result<Closed<D>, (AloneFault, D)>
     requires { (hall : Chronicle) × HasRecorded D.now D.has_failed recorder.journal hall }
     ensures left { (hall : Chronicle) → HasRecorded D.now D.has_failed recorder.journal hall
-        → Agree hall.setup → AreNames hall.setup.names → IsLeft hall (Some hall) result.1 (D.now result.0) }
+        → Agree hall.setup → AreNames hall.setup.names
+        → IsLeft hall (Some hall) (fault_in result) (file_in D.now (file_after result)) }
 {
     a_crash_loses_nothing_that_was_kept();
     let Recorder { journal, .. } = recorder;
     match journal.close() {
-        Ok(device) => (device, None),
-        Err((_, device)) => (device, Some(AloneFault::CutShort)),
+        Ok(closed) => Ok(closed),
+        Err((_, device)) => Err((AloneFault::CutShort, device)),
     }
 }
 
 /// Closes a journal, once it has kept what happened last in the hall of a session, where there is one.
-fn close_up<D: Device>(recorder: Recorder<D>, session: &Option<Kept>) -> (D, Option<AloneFault>)
+fn close_up<D: Device>(
+    recorder: Recorder<D>,
+    session: &Option<Kept>,
+) -> Result<Closed<D>, (AloneFault, D)>
     requires { (kept : Chronicle) × HasRecorded D.now D.has_failed recorder.journal kept
         × IfSome session.now (λ one. IsFrontOf kept one.pages.hall) }
     ensures left { (kept : Chronicle) → HasRecorded D.now D.has_failed recorder.journal kept
         → IfSome session.now (λ one. IsFrontOf kept one.pages.hall) → Agree kept.setup → AreNames kept.setup.names
-        → IsLeft kept (hall_of session.now) result.1 (D.now result.0) }
+        → IsLeft kept (hall_of session.now) (fault_in result) (file_in D.now (file_after result)) }
 {
     let Some(session) = session else {
         return close(recorder);
@@ -56,11 +61,11 @@ fn close_up<D: Device>(recorder: Recorder<D>, session: &Option<Kept>) -> (D, Opt
     let mut recorder = recorder;
     match recorder.reach(session.hall()) {
         Ok(()) => close(recorder),
-        Err(Unreached::Memory) => (
-            file_of(recorder),
-            Some(AloneFault::Program(ProgramFault::NoMemory)),
-        ),
-        Err(Unreached::Failed) => (file_of(recorder), Some(AloneFault::CutShort)),
+        Err(Unreached::Memory) => {
+            let fault = AloneFault::Program(ProgramFault::NoMemory);
+            Err((fault, file_of(recorder)))
+        }
+        Err(Unreached::Failed) => Err((AloneFault::CutShort, file_of(recorder))),
     }
 }
 
@@ -70,37 +75,37 @@ fn close_stopped<D: Device>(
     recorder: Recorder<D>,
     stop: Stop,
     session: &Option<Kept>,
-) -> (D, Option<AloneFault>)
+) -> Result<Closed<D>, (AloneFault, D)>
     requires { (kept : Chronicle) × IsHeld (HasRecorded D.now D.has_failed recorder.journal)
         (λ hall. IsSafe hall (D.now recorder.journal.log.device)) (Err stop) kept
         × IfSome session.now (λ one. IsFrontOf kept one.pages.hall) }
     ensures left { (kept : Chronicle) → IsHeld (HasRecorded D.now D.has_failed recorder.journal)
         (λ hall. IsSafe hall (D.now recorder.journal.log.device)) (Err stop) kept
         → IfSome session.now (λ one. IsFrontOf kept one.pages.hall) → Agree kept.setup → AreNames kept.setup.names
-        → IsLeft kept (hall_of session.now) result.1 (D.now result.0) }
-    ensures cut { stop ≡ NotKept → result.1 ≡ Some CutShort }
+        → IsLeft kept (hall_of session.now) (fault_in result) (file_in D.now (file_after result)) }
+    ensures cut { stop ≡ NotKept → fault_in result ≡ Some CutShort }
 {
     match stop {
         Stop::Fault(_) => close_up(recorder, session),
-        Stop::NotKept => (file_of(recorder), Some(AloneFault::CutShort)),
+        Stop::NotKept => Err((AloneFault::CutShort, file_of(recorder))),
     }
 }
 
 /// Closes the journal of a session that has ended so, once it has kept what happened last. It stays as it is where
-/// the session ended since its trail was not kept. The file is handed back, with the fault where it is not closed.
+/// the session ended since its trail was not kept. The file is handed back, closed or with the fault.
 pub fn close_after<D: Device>(
     recorder: Recorder<D>,
     served: &Result<(), Stop>,
     session: &Option<Kept>,
-) -> (D, Option<AloneFault>)
+) -> Result<Closed<D>, (AloneFault, D)>
     requires { (kept : Chronicle) × IsHeld (HasRecorded D.now D.has_failed recorder.journal)
         (λ hall. IsSafe hall (D.now recorder.journal.log.device)) served.now kept
         × IfSome session.now (λ one. IsFrontOf kept one.pages.hall) }
     ensures left { (kept : Chronicle) → IsHeld (HasRecorded D.now D.has_failed recorder.journal)
         (λ hall. IsSafe hall (D.now recorder.journal.log.device)) served.now kept
         → IfSome session.now (λ one. IsFrontOf kept one.pages.hall) → Agree kept.setup → AreNames kept.setup.names
-        → IsLeft kept (hall_of session.now) result.1 (D.now result.0) }
-    ensures cut { served.now ≡ Err NotKept → result.1 ≡ Some CutShort }
+        → IsLeft kept (hall_of session.now) (fault_in result) (file_in D.now (file_after result)) }
+    ensures cut { served.now ≡ Err NotKept → fault_in result ≡ Some CutShort }
 {
     match served {
         Ok(()) => close_up(recorder, session),

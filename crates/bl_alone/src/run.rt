@@ -6,6 +6,7 @@ ghost use Rattle.bl_wire.specs.Watch.{Puts, end_state, used};
 ghost use Rattle.bl_status.specs.Runs.{HasTold};
 ghost use Rattle.bl_status.specs.Status.{IsEnd};
 ghost use Rattle.bl_session.specs.Keeping.{MayStop};
+ghost use Rattle.bl_alone.specs.Files.{fault_in, file_after, file_in, is_whole};
 ghost use Rattle.bl_alone.specs.Recording.{HasRecorded, new_hall};
 ghost use Rattle.bl_alone.specs.Sessions.{HasSat, IsRecorded};
 ghost use Rattle.bl_alone.specs.declared.fault.AloneFault.{AloneFault as AnyFault};
@@ -16,7 +17,7 @@ use crate::fault::{AloneFault, fault_of_session, tell_any};
 use crate::recorder::Recorder;
 use bl_disk::device::{Device, DeviceError};
 use bl_record::fault::JournalFault;
-use bl_record::journal::{Journal, begin};
+use bl_record::journal::{Closed, Journal, begin};
 use bl_session::alone::serve_keeping;
 use bl_session::keep::Stop;
 use bl_setup::reader::read_setup;
@@ -37,12 +38,18 @@ pub struct RecordedRun {
     pub ghost limited: { (1 ≤ limit) × (limit ≤ 100000) },
 }
 
-/// How a run ended: its status, its file, and whether the trail in that is whole.
-#[derive(Drop)]
+/// The file of a run.
+pub enum RecordedFile<D: Device> {
+    /// The trail in it is whole.
+    Whole(Closed<D>),
+    /// The trail in it is not whole, and it is left as it is.
+    Left(D),
+}
+
+/// How a run ended: its status, and its file. It may not be dropped, as a trail that is whole may not.
 pub struct Recorded<D: Device> {
     pub status: u8,
-    pub device: D,
-    pub is_whole: bool,
+    pub file: RecordedFile<D>,
 }
 
 /// What a fault at the beginning of a journal is to the run: a growth was refused, or its file cannot be written.
@@ -65,14 +72,12 @@ fn end_with<D: Device, E: Write>(
 ) -> Recorded<D>
     ensures told { HasTold fault result.status (used E.contents errors.old errors.new) }
     ensures status { (result.status ≡ 3) ⊎ (result.status ≡ 4) }
-    ensures device { result.device ≡ device }
-    ensures part { result.is_whole ≡ false }
+    ensures part { result.file ≡ RecordedFile.Left device }
 {
     let status = tell(errors, &fault);
     Recorded {
         status,
-        device,
-        is_whole: false,
+        file: RecordedFile::Left(device),
     }
 }
 
@@ -84,31 +89,43 @@ fn first_of(status: u8, later: u8) -> u8
     if status == 0 { later } else { status }
 }
 
+/// The file of a journal that was closed, or is left with a fault, and that.
+fn parts_of<D: Device>(
+    left: Result<Closed<D>, (AloneFault, D)>,
+) -> (RecordedFile<D>, Option<AloneFault>)
+    ensures file { result.0 ≡ file_after left }
+    ensures fault { result.1 ≡ fault_in left }
+{
+    match left {
+        Ok(closed) => (RecordedFile::Whole(closed), None),
+        Err((fault, device)) => (RecordedFile::Left(device), Some(fault)),
+    }
+}
+
 /// Tells how the session ended, where it ended early, and then the fault of its trail, where it has one. The first
 /// gives the status.
 pub fn tell_recorded<D: Device, E: Write>(
     errors: &mut Watched<E>,
     served: &Result<(), Stop>,
-    left: (D, Option<AloneFault>),
+    left: Result<Closed<D>, (AloneFault, D)>,
 ) -> Recorded<D>
     requires { IfErr served.now (MayStop (Unit {0})) }
     ensures told { (stopped : Option AnyFault) × IsOfSessionEnd served.now stopped
-        × (result.status ≡ status_of_all (option_to_list stopped ++ option_to_list left.1))
-        × Puts (text_of_all (option_to_list stopped ++ option_to_list left.1))
+        × (result.status ≡ status_of_all (option_to_list stopped ++ option_to_list (fault_in left)))
+        × Puts (text_of_all (option_to_list stopped ++ option_to_list (fault_in left)))
         (end_state E.contents errors.old) (end_state E.contents errors.new) }
     ensures status { IsEnd result.status }
-    ensures device { result.device ≡ left.0 }
-    ensures whole { (result.is_whole ≡ true) ↔ (left.1 ≡ None) }
-    ensures fine { result.status ≡ 0 → IsOk served.now × (left.1 ≡ None) }
+    ensures file { result.file ≡ file_after left }
+    ensures whole { (is_whole result.file ≡ true) ↔ (fault_in left ≡ None) }
+    ensures fine { result.status ≡ 0 → IsOk served.now × (fault_in left ≡ None) }
 {
     let stopped = fault_of_session(served);
     let status = tell_any(errors, &stopped);
-    let (device, fault) = left;
+    let (file, fault) = parts_of(left);
     let later = tell_any(errors, &fault);
     Recorded {
         status: first_of(status, later),
-        device,
-        is_whole: fault.is_none(),
+        file,
     }
 }
 
@@ -124,13 +141,14 @@ fn sit<D: Device, R: BufRead, W: Write, E: Write>(
     requires journal { HasRecorded D.now D.has_failed journal (new_hall setup run.now.limit) }
     requires reader { reader.old.failed ≡ false }
     requires writer { writer.old.failed ≡ false }
-    ensures run { (text : List ℕ) → IsSetup text setup → HasSat text run.now.limit result.is_whole (D.now result.device) (record {
-      status = result.status;
-      input = used R.remaining reader.old reader.new;
-      output = used W.contents writer.old writer.new;
-      errors = used E.contents errors.old errors.new;
-    }) }
-    ensures whole { result.status ≡ 0 → result.is_whole ≡ true }
+    ensures run { (text : List ℕ) → IsSetup text setup
+        → HasSat text run.now.limit (is_whole result.file) (file_in D.now result.file) (record {
+          status = result.status;
+          input = used R.remaining reader.old reader.new;
+          output = used W.contents writer.old writer.new;
+          errors = used E.contents errors.old errors.new;
+        }) }
+    ensures whole { result.status ≡ 0 → is_whole result.file ≡ true }
     ensures handed_on { result.status ≡ 0 → writer.new.unflushed ≡ false }
     ensures status { IsEnd result.status }
 {
@@ -173,13 +191,13 @@ pub fn alone_recorded_on<D: Device, R: BufRead, W: Write, E: Write>(
     requires sound { D.has_failed device ≡ false }
     requires reader { reader.old.failed ≡ false }
     requires writer { writer.old.failed ≡ false }
-    ensures run { IsRecorded setup.now run.now.limit result.is_whole (D.now result.device) (record {
+    ensures run { IsRecorded setup.now run.now.limit (is_whole result.file) (file_in D.now result.file) (record {
       status = result.status;
       input = used R.remaining reader.old reader.new;
       output = used W.contents writer.old writer.new;
       errors = used E.contents errors.old errors.new;
     }) }
-    ensures whole { result.status ≡ 0 → result.is_whole ≡ true }
+    ensures whole { result.status ≡ 0 → is_whole result.file ≡ true }
     ensures handed_on { result.status ≡ 0 → writer.new.unflushed ≡ false }
     ensures status { IsEnd result.status }
 {

@@ -1,5 +1,5 @@
 //! A run over the base setup, and its trail.
-use bl_alone::run::{RecordedRun, alone_recorded_on};
+use bl_alone::run::{RecordedFile, RecordedRun, alone_recorded_on};
 use bl_disk_tests::torn::Torn;
 use bl_resume::run::alone_resumed_on;
 use bl_wire::watched::Watched;
@@ -55,6 +55,14 @@ pub(crate) struct Ran {
     pub(crate) kept: Vec<u8>,
 }
 
+/// Whether the trail in the file of a run is whole, and the file.
+fn parts_of(file: RecordedFile<Torn>) -> (bool, Torn) {
+    match file {
+        RecordedFile::Whole(closed) => (true, closed.end()),
+        RecordedFile::Left(torn) => (false, torn),
+    }
+}
+
 /// A run over a file with these bytes, which has room for so many more, and of which so many syncs succeed.
 pub(crate) fn run_over(
     alloc: Global,
@@ -72,10 +80,11 @@ pub(crate) fn run_over(
     let mut writer = Watched::new(Vec::new(alloc));
     let mut errors = Watched::new(Vec::new(alloc));
     let recorded = alone_recorded_on(&run, setup, torn, &mut reader, &mut writer, &mut errors);
-    let kept = recorded.device.now().kept.to_vec(alloc)?;
+    let (is_whole, torn) = parts_of(recorded.file);
+    let kept = torn.now().kept.to_vec(alloc)?;
     Ok(Ran {
         status: recorded.status,
-        is_whole: recorded.is_whole,
+        is_whole,
         told: writer.into_inner(),
         said: errors.into_inner(),
         kept,
@@ -99,10 +108,11 @@ pub(crate) fn resume_after(alloc: Global, bytes: &[u8]) -> Result<Ran, AllocErro
     let mut writer = Watched::new(Vec::new(alloc));
     let mut errors = Watched::new(Vec::new(alloc));
     let resumed = alone_resumed_on(alloc, BASE, torn, &mut reader, &mut writer, &mut errors);
-    let kept = resumed.device.now().kept.to_vec(alloc)?;
+    let (is_whole, torn) = parts_of(resumed.file);
+    let kept = torn.now().kept.to_vec(alloc)?;
     Ok(Ran {
         status: resumed.status,
-        is_whole: resumed.is_whole,
+        is_whole,
         told: writer.into_inner(),
         said: errors.into_inner(),
         kept,

@@ -1,17 +1,23 @@
 //! Runs whose trail is written as they go, in a journal: they take its files from the system, and give it the trail's name once it is closed.
-ghost use Rattle.std.specs.Prelude.{◌≡◌, false, IfErr, IfOk};
+ghost use Rattle.std.specs.Prelude.{◌≡◌, ◌↔◌, [], false, true, IfErr, IfOk, IsSome, IsTrue};
+ghost use Rattle.bl_alone.specs.Files.{is_whole};
+ghost use Rattle.bl_disk.specs.File.{all_kept, seen};
+ghost use Rattle.bl_file.specs.Files.{file_now};
+ghost use Rattle.bl_recover.specs.Torn.{IsTornHead};
 ghost use Rattle.bl_status.specs.Runs.{HasTold};
 ghost use Rattle.bl_status.specs.Status.{IsEnd};
 ghost use Rattle.bl_wire.specs.Watch.{used};
 ghost use Rattle.bl_words.specs.Words.{IsHostingInRange};
 
 use crate::shell::options_of;
-use bl_alone::run::{RecordedRun, alone_recorded_on};
-use bl_clock::clock::tell_clock;
+use bl_alone::run::{Recorded, RecordedFile, RecordedRun, alone_recorded_on};
+use bl_clock::clock::{TimeFile, tell_clock};
+use bl_clock::timed::Timed;
+use bl_disk::device::Device;
 use bl_file::device::{Keeping, SystemFile};
 use bl_file::lock::Lock;
 use bl_journal_files::make::make_journal;
-use bl_journal_files::naming::{name_trail, tell_name};
+use bl_journal_files::naming::{RecordedEnd, name_trail, tell_name};
 use bl_journal_files::times::timed;
 use bl_keep::part::TrailFile;
 use bl_recover::fault::RecoveryFault;
@@ -44,26 +50,35 @@ pub(crate) fn outlives(keeping: TrailKeeping) -> Option<Keeping> {
     }
 }
 
-/// Gives a journal the name of its trail, where it is closed, and tells where that could not be. The status is that after this.
-fn end_recorded<R: AllocGlobal + OpensFiles, E: Write>(
+/// Gives a journal the name of its trail, where it is closed. Tells what went wrong with its clock, and where the trail
+/// could not have its name. The status is that after this: it is 0 only where the trail has its name.
+fn end_recorded<R: AllocGlobal + OpensFiles + Clock, D: Device + Drop, E: Write>(
     rt: &R,
+    recorded: Recorded<Timed<D, TimeFile<'_, R, R::File>>>,
     part: &str,
     trail: &TrailFile<'_>,
-    closed: bool,
-    status: u8,
     errors: &mut Watched<E>,
-) -> u8
-    requires { IsEnd status }
-    ensures { IsEnd result }
+) -> RecordedEnd
+    requires range { IsEnd recorded.status }
+    requires whole { recorded.status ≡ 0 → is_whole recorded.file ≡ true }
+    ensures named { result.status ≡ 0 → IsSome result.named }
+    ensures status { IsEnd result.status }
 {
-    if !closed {
-        return status;
+    let Recorded { status, file } = recorded;
+    match file {
+        RecordedFile::Whole(closed) => {
+            let (named, mut device) = name_trail(rt, rt.alloc(), closed, part, trail);
+            tell_clock(errors, device.notes.end());
+            tell_name(errors, part, status, named)
+        }
+        RecordedFile::Left(mut device) => {
+            tell_clock(errors, device.notes.end());
+            RecordedEnd::unnamed(status)
+        }
     }
-    let named = name_trail(rt, rt.alloc(), part, trail);
-    tell_name(errors, part, status, named)
 }
 
-/// The files of a run: new ones, or those of a run that was cut off.
+/// The files of a run: new ones, or, where it was asked to resume, those of a run that was cut off.
 fn files_of<'a, R: AllocGlobal + OpensFiles>(
     rt: &R,
     setup: &[u8],
@@ -73,7 +88,10 @@ fn files_of<'a, R: AllocGlobal + OpensFiles>(
 ) -> Result<Found<'a, SystemFile<R::File>>, RecoveryFault>
 where
     R::File: Lock,
-    ensures { IfOk result (λ found. found.device.failed ≡ false) }
+    ensures sound { IfOk result (λ found. found.device.failed ≡ false) }
+    ensures new { resumes ≡ false → IfOk result (λ found. file_now found.device ≡ all_kept []) }
+    ensures old { resumes ≡ true
+        → IfOk result (λ found. IsTrue found.is_torn ↔ IsTornHead (seen (file_now found.device))) }
 {
     if !resumes {
         return make_journal(rt, rt.alloc(), setup, trail, keeping);
@@ -86,7 +104,7 @@ where
     Ok(found)
 }
 
-/// A run of what is hosted, over what it has taken from the system. The result is the status of the run.
+/// A run of what is hosted, over what it has taken from the system. Its status is 0 only where its trail has its name.
 pub(crate) fn serve_recorded<
     R: AllocGlobal + OpensFiles + Clock + Threads + Wait + Net + Sync,
     W: Write,
@@ -98,17 +116,18 @@ pub(crate) fn serve_recorded<
     keeping: Keeping,
     writer: &mut Watched<W>,
     errors: &mut Watched<E>,
-) -> u8
+) -> RecordedEnd
 where
     R::File: Lock + Send,
     requires range { IsHostingInRange hosting.now }
     requires writer { writer.old.failed ≡ false }
-    ensures { IsEnd result }
+    ensures named { result.status ≡ 0 → IsSome result.named }
+    ensures status { IsEnd result.status }
 {
     let bytes = entered.setup.as_slice();
     let setup = match read_setup(rt.alloc(), bytes) {
         Ok(setup) => setup,
-        Err(fault) => return tell(errors, &of_setup(fault)),
+        Err(fault) => return RecordedEnd::unnamed(tell(errors, &of_setup(fault))),
     };
     let found = files_of(rt, bytes, &hosting.trail, keeping, hosting.resumes);
     let Found {
@@ -120,7 +139,7 @@ where
         Ok(found) => found,
         Err(fault) => {
             drop(setup);
-            return tell_fault(errors, &fault);
+            return RecordedEnd::unnamed(tell_fault(errors, &fault));
         }
     };
     let run_context = RunContext {
@@ -140,18 +159,8 @@ where
         // a run that was cut off before it had told anything is begun anew
         resumes: hosting.resumes && !is_torn,
     };
-    let mut served = serve_recorded_on(
-        &run_context,
-        &entered.entrance,
-        &run,
-        start,
-        writer,
-        errors,
-    );
-    let (closed, status) = (served.is_whole, served.status);
-    tell_clock(errors, served.device.notes.end());
-    drop(served);
-    end_recorded(rt, part.as_str(), &hosting.trail, closed, status, errors)
+    let served = serve_recorded_on(&run_context, &entered.entrance, &run, start, writer, errors);
+    end_recorded(rt, served, part.as_str(), &hosting.trail, errors)
 }
 
 /// What a run of `alone` is asked for: the run, where its trail is kept, and what the lines of that outlive.
@@ -173,12 +182,13 @@ fn sit_on<R: AllocGlobal + OpensFiles + Clock, I: BufRead, W: Write, E: Write>(
     reader: &mut Watched<I>,
     writer: &mut Watched<W>,
     errors: &mut Watched<E>,
-) -> u8
+) -> RecordedEnd
 where
     R::File: Lock,
     requires reader { reader.old.failed ≡ false }
     requires writer { writer.old.failed ≡ false }
-    ensures { IsEnd result }
+    ensures named { result.status ≡ 0 → IsSome result.named }
+    ensures status { IsEnd result.status }
 {
     let RecordedAlone {
         run,
@@ -193,22 +203,20 @@ where
         ..
     } = match files_of(rt, setup, trail, *keeping, *resumes) {
         Ok(found) => found,
-        Err(fault) => return tell_fault(errors, &fault),
+        Err(fault) => return RecordedEnd::unnamed(tell_fault(errors, &fault)),
     };
     let device = timed(rt, run.alloc, trail.name, device);
     // a run that was cut off before it had told anything is begun anew
-    let mut recorded = if *resumes && !is_torn {
+    let recorded = if *resumes && !is_torn {
         alone_resumed_on(run.alloc, setup, device, reader, writer, errors)
     } else {
         alone_recorded_on(run, setup, device, reader, writer, errors)
     };
-    let (closed, status) = (recorded.is_whole, recorded.status);
-    tell_clock(errors, recorded.device.notes.end());
-    drop(recorded);
-    end_recorded(rt, part.as_str(), trail, closed, status, errors)
+    end_recorded(rt, recorded, part.as_str(), trail, errors)
 }
 
-/// A session, once its setup file was read, or a fault was found, which is told. The result is the status of the run.
+/// A session, once its setup file was read, or a fault was found, which is told. Its status is 0 only where its trail
+/// has its name.
 pub(crate) fn sit_recorded<R: AllocGlobal + OpensFiles + Clock, I: BufRead, W: Write, E: Write>(
     rt: &R,
     setup: Result<Vec<u8>, ProgramFault>,
@@ -216,21 +224,22 @@ pub(crate) fn sit_recorded<R: AllocGlobal + OpensFiles + Clock, I: BufRead, W: W
     reader: &mut Watched<I>,
     writer: &mut Watched<W>,
     errors: &mut Watched<E>,
-) -> u8
+) -> RecordedEnd
 where
     R::File: Lock,
     requires reader { reader.old.failed ≡ false }
     requires writer { writer.old.failed ≡ false }
-    ensures fault { IfErr setup (λ fault. HasTold fault result (used E.contents errors.old errors.new)) }
-    ensures status { IsEnd result }
+    ensures fault { IfErr setup (λ fault. HasTold fault result.status (used E.contents errors.old errors.new)) }
+    ensures named { result.status ≡ 0 → IsSome result.named }
+    ensures status { IsEnd result.status }
 {
     let setup = match setup {
         Ok(setup) => setup,
-        Err(fault) => return tell(errors, &fault),
+        Err(fault) => return RecordedEnd::unnamed(tell(errors, &fault)),
     };
     // asked before any file is made
     if let Err(fault) = read_setup(asked.run.alloc, setup.as_slice()) {
-        return tell(errors, &of_setup(fault));
+        return RecordedEnd::unnamed(tell(errors, &of_setup(fault)));
     }
     sit_on(rt, setup.as_slice(), asked, reader, writer, errors)
 }

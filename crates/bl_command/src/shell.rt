@@ -155,7 +155,7 @@ where
 {
     entered.warn(errors);
     let status = match outlives(hosting.keeping) {
-        Some(keeping) => serve_recorded(rt, &entered, hosting, keeping, writer, errors),
+        Some(keeping) => serve_recorded(rt, &entered, hosting, keeping, writer, errors).status,
         None => serve_found(rt, &entered, hosting, writer, errors).status,
     };
     entered.leave(rt, errors);
@@ -270,7 +270,7 @@ where
                 keeping,
                 resumes: asked.resumes,
             };
-            sit_recorded(rt, setup, &asked, reader, writer, errors)
+            sit_recorded(rt, setup, &asked, reader, writer, errors).status
         }
         None => {
             let run = AloneRun {

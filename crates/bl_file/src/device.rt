@@ -1,5 +1,5 @@
 //! A file of the system as a device.
-ghost use Rattle.std.specs.Prelude.{◌≡◌, ◌≢◌, false, true};
+ghost use Rattle.std.specs.Prelude.{◌≡◌, ◌≢◌, ◌↔◌, false, true, IsSome};
 ghost use Rattle.std.specs.Option.{ForSome, IfSome};
 ghost use Rattle.bl_disk.specs.File.{all_kept, seen};
 ghost use Rattle.bl_disk.specs.declared.device.DeviceError.TheVariants.{Memory};
@@ -48,6 +48,7 @@ impl<F> SystemFile<F> {
     pub(crate) fn new(file: F, keeping: Keeping, bytes: Vec<u8>) -> Self
         ensures now { stand_now result.stand ≡ all_kept bytes.items }
         ensures sound { result.failed ≡ false }
+        ensures unread { IsSome result.unread }
     {
         let stand = Stand::found(&bytes);
         SystemFile {
@@ -61,7 +62,8 @@ impl<F> SystemFile<F> {
 
     /// The bytes that it had when it was opened; `None` once they were read or the file has changed.
     pub fn found(&self) -> Option<&[u8]>
-        ensures { IfSome result (λ bytes. bytes.now ≡ seen (stand_now self.now.stand)) }
+        ensures bytes { IfSome result (λ bytes. bytes.now ≡ seen (stand_now self.now.stand)) }
+        ensures unread { IsSome result ↔ IsSome self.now.unread }
     {
         match &self.unread {
             Some(bytes) => Some(bytes.as_slice()),

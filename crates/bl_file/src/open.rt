@@ -1,5 +1,5 @@
 //! Files that are made new, and files that are opened again.
-ghost use Rattle.std.specs.Prelude.{◌≡◌, ◌≢◌, [], true, IfErr, IfOk, IsTrue, false};
+ghost use Rattle.std.specs.Prelude.{◌≡◌, ◌≢◌, [], true, IfErr, IfOk, IsSome, IsTrue, false};
 ghost use Rattle.std.specs.Fs.{asks_append, asks_create, asks_create_new, asks_read};
 ghost use Rattle.std.specs.IoError.{error_kind};
 ghost use Rattle.bl_disk.specs.File.{all_kept};
@@ -154,6 +154,7 @@ pub fn open<R: Files>(
 where
     R::File: Lock,
     ensures sound { IfOk result (λ file. file.failed ≡ false) }
+    ensures unread { IfOk result (λ file. IsSome file.unread) }
 {
     let mut file = open_plain::<R>(rt, path)?;
     let mut bytes = Vec::new(alloc);

@@ -13,7 +13,6 @@ use Rattle.bl_record.specs.Recovering.{IsClosed, IsNotResumed, IsResumed, lines_
 use Rattle.bl_record.specs.declared.complete.Completed.{Completed}
 use Rattle.bl_record.specs.declared.fault.ResumeFault.{ResumeFault}
 use Rattle.bl_record.specs.declared.fault.ResumeFault.TheVariants.{Unrecovered, Over, Wrong}
-use Rattle.bl_record.specs.declared.recover.MayCut.{MayCut}
 use Rattle.bl_setup.specs.Setup.{Setup}
 use Rattle.bl_trail.specs.TrueText.{IsTrueText}
 
@@ -57,28 +56,25 @@ module _ (setup : Setup) (text : List ℕ) (c : Completed) (is : IsCompleted set
   lines-are = is.rest.lines ∙ ap lines_in rest-is
 
   -- a run that goes on
-  pub resumes : (may_cut : MayCut) → MayGoOn c.rest may_cut → (h : Chronicle) → h ≡ c.hall → (cut : ℕ) → cut ≡ c.rest.bytes → IsResumed setup text may_cut h cut
-  resumes may_cut may h same cut bytes =
-      subst (λ (h : Chronicle). IsResumed setup text may_cut h cut) (sym same) (record {
+  pub resumes : MayGoOn c.rest → (h : Chronicle) → h ≡ c.hall → (cut : ℕ) → cut ≡ c.rest.bytes → IsResumed setup text h cut
+  resumes may h same cut bytes =
+      subst (λ (h : Chronicle). IsResumed setup text h cut) (sym same) (record {
         finished = is.finished;
         was_cut = bytes ∙ cut-is;
         not_over = not-over may.no_stop;
-        few = λ one. subst (λ n. n ≤ 1) lines-are (may.few one);
+        few = subst (λ n. n ≤ 1) lines-are may.few;
       })
 
   -- one that does not
-  pub refused : (may_cut : MayCut) (fault : ResumeFault) → IsRefused c.rest may_cut fault → IsNotResumed setup text may_cut fault
-  refused may_cut (Unrecovered fault) none = absurd none
-  refused may_cut Over stop = record { found = journal_of is.finished.found; recovered = is.finished.recovered; stop = is-over stop }
-  refused may_cut (Wrong line) (one, more, first) = (
-    one,
-    record {
-      found = journal_of is.finished.found;
-      recovered = is.finished.recovered;
-      more = subst (λ n. 1 < n) lines-are more;
-      is = first ∙ is.rest.first ∙ ap (λ t. suc (lines_in t)) front-is;
-    },
-  )
+  pub refused : (fault : ResumeFault) → IsRefused c.rest fault → IsNotResumed setup text fault
+  refused (Unrecovered fault) none = absurd none
+  refused Over stop = record { found = journal_of is.finished.found; recovered = is.finished.recovered; stop = is-over stop }
+  refused (Wrong line) (more, first) = record {
+    found = journal_of is.finished.found;
+    recovered = is.finished.recovered;
+    more = subst (λ n. 1 < n) lines-are more;
+    is = first ∙ is.rest.first ∙ ap (λ t. suc (lines_in t)) front-is;
+  }
 
   -- a file that was closed
   pub closes : (b : Bookmark) (mid file : File) (events cut : ℕ) → IsKept c.hall b mid → events ≡ length c.hall.trail

@@ -7,8 +7,6 @@ use Rattle.bl_record.specs.Recovering.{IsFinished, lines_in}
 use Rattle.bl_record.specs.declared.complete.Completed.{Completed}
 use Rattle.bl_record.specs.declared.fault.ResumeFault.{ResumeFault}
 use Rattle.bl_record.specs.declared.fault.ResumeFault.TheVariants.{Unrecovered, Over, Wrong}
-use Rattle.bl_record.specs.declared.recover.MayCut.{MayCut}
-use Rattle.bl_record.specs.declared.recover.MayCut.TheVariants.{OneLine}
 use Rattle.bl_record.specs.declared.rest.Rest.{Rest}
 use Rattle.bl_setup.specs.Setup.{Setup}
 
@@ -28,13 +26,13 @@ pub record IsCompleted (setup : Setup) (text : List ℕ) (completed : Completed)
   pub all : completed.bookmark.written ≡ length finished.found.trail
   pub rest : IsRest text completed.right completed.rest
 
--- A run may go on from a text that has this after its right part: no closing stop, and where no more may be cut off, at most one whole line.
-pub record MayGoOn (rest : Rest) (may_cut : MayCut) : Type 0 where
+-- A run may go on from a text that has this after its right part: no closing stop, and at most one whole line.
+pub record MayGoOn (rest : Rest) : Type 0 where
   pub no_stop : rest.is_stop ≡ false
-  pub few : may_cut ≡ OneLine → rest.lines ≤ 1
+  pub few : rest.lines ≤ 1
 
 -- why it may not
-abbrev pub IsRefused : Rest → MayCut → ResumeFault → Type 0
-IsRefused rest may_cut (Unrecovered fault) = ⊥
-IsRefused rest may_cut Over = rest.is_stop ≡ true
-IsRefused rest may_cut (Wrong line) = (may_cut ≡ OneLine) × (1 < rest.lines) × (line ≡ rest.first)
+abbrev pub IsRefused : Rest → ResumeFault → Type 0
+IsRefused rest (Unrecovered fault) = ⊥
+IsRefused rest Over = rest.is_stop ≡ true
+IsRefused rest (Wrong line) = (1 < rest.lines) × (line ≡ rest.first)

@@ -11,8 +11,6 @@ use Rattle.bl_record.specs.declared.fault.RecoverFault.{RecoverFault}
 use Rattle.bl_record.specs.declared.fault.RecoverFault.TheVariants.{Head, OldVersion, Memory, Device}
 use Rattle.bl_record.specs.declared.fault.ResumeFault.{ResumeFault}
 use Rattle.bl_record.specs.declared.fault.ResumeFault.TheVariants.{Unrecovered, Over, Wrong}
-use Rattle.bl_record.specs.declared.recover.MayCut.{MayCut}
-use Rattle.bl_record.specs.declared.recover.MayCut.TheVariants.{OneLine}
 use Rattle.bl_setup.specs.Setup.{Setup}
 use Rattle.bl_trail.specs.TrueText.{IsTrueText}
 
@@ -28,13 +26,13 @@ pub record IsFinished (setup : Setup) (text : List ℕ) (hall : Chronicle) : Typ
   pub on : HasGoneOn found hall
   pub ended : HaveAllEnded (state_now hall)
 
--- A run may go on from the hall, which is finished. So many bytes of the text were not recovered; they are no closing stop, and where no more
--- may be cut off, they have at most one whole line.
-pub record IsResumed (setup : Setup) (text : List ℕ) (may_cut : MayCut) (hall : Chronicle) (cut : ℕ) : Type 0 where
+-- A run may go on from the hall, which is finished. So many bytes of the text were not recovered; they are no closing
+-- stop, and have at most one whole line.
+pub record IsResumed (setup : Setup) (text : List ℕ) (hall : Chronicle) (cut : ℕ) : Type 0 where
   pub finished : IsFinished setup text hall
   pub was_cut : cut ≡ length finished.recovered.rest
   pub not_over : finished.recovered.rest ≢ codes "stop\n"
-  pub few : may_cut ≡ OneLine → lines_in finished.recovered.rest ≤ 1
+  pub few : lines_in finished.recovered.rest ≤ 1
 
 -- The file is closed: it has the true text of so many events, those of a finished hall, and all of it is on the disk. So many bytes of the text
 -- were cut off; a closing stop is not counted.
@@ -74,7 +72,7 @@ pub record HasWrongLines (setup : Setup) (text : List ℕ) (line : ℕ) : Type 0
   pub is : line ≡ suc (lines_in (journal_text setup found))
 
 -- why no run goes on from a text
-abbrev pub IsNotResumed : Setup → List ℕ → MayCut → ResumeFault → Type 0
-IsNotResumed setup text may_cut (Unrecovered fault) = IsNotRecovered setup text fault
-IsNotResumed setup text may_cut Over = IsOver setup text
-IsNotResumed setup text may_cut (Wrong line) = (may_cut ≡ OneLine) × HasWrongLines setup text line
+abbrev pub IsNotResumed : Setup → List ℕ → ResumeFault → Type 0
+IsNotResumed setup text (Unrecovered fault) = IsNotRecovered setup text fault
+IsNotResumed setup text Over = IsOver setup text
+IsNotResumed setup text (Wrong line) = HasWrongLines setup text line

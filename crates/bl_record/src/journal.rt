@@ -25,6 +25,7 @@ use bl_setup::version::Version;
 use bl_trail::text::put_head;
 use bl_wire::watched::Watched;
 use std::alloc::{AllocError, Global};
+use std::marker::Model;
 
 /// A journal. Its file has the text of the trail of a hall, as far as it has kept up with that, and no `stop`.
 #[derive(Drop)]
@@ -45,6 +46,28 @@ pub struct Lines {
     pub text: Vec<u8>,
     /// How far the trail is kept once they are.
     pub bookmark: Bookmark,
+}
+
+/// The file of a journal that is closed, so that the trail in it is whole. Only `Journal::close` makes one, and it may
+/// not be dropped: the trail gets its name, or is told.
+pub struct Closed<D: Device> {
+    device: D,
+}
+
+impl<D: Device> Model for Closed<D> {
+    ghost Value = { D };
+
+    ghost view = { λ closed. closed.device };
+}
+
+impl<D: Device> Closed<D> {
+    /// The file, of which no more is said.
+    pub fn end(self) -> D
+        ensures { result ≡ self }
+    {
+        let Closed { device } = self;
+        device
+    }
 }
 
 /// The head of a trail of version 2.
@@ -200,13 +223,16 @@ impl<D: Device> Journal<D> {
 
     /// Closes the journal: adds `stop`, and has it on the disk. What is there then is the true text of a trail, so who replays it accepts
     /// it. Whenever the machine ends, all that was kept is recovered. A fault is the device's, in this call or before.
-    pub fn close(self) -> Result<D, (DeviceError, D)>
+    pub fn close(self) -> Result<Closed<D>, (DeviceError, D)>
         requires sound { self.fault ≡ None → D.has_failed self.log.device ≡ false }
-        ensures closed { IfOk result (λ device. (hall : Chronicle) → IsKept hall self.bookmark (D.now self.log.device)
-            → D.now device ≡ all_kept (journal_text hall.setup (journal_of hall) ++ codes "stop\n")) }
-        ensures true_text { IfOk result (λ device. (hall : Chronicle) → IsKept hall self.bookmark (D.now self.log.device)
-            → IsTrueText hall.setup (seen (D.now device)) (length hall.trail)) }
-        ensures any_moment { IfOk result (λ device. Passes D.now D.past self.log.device device (Keeps (D.now self.log.device).kept)) }
+        ensures closed { IfOk result (λ closed. (hall : Chronicle)
+            → IsKept hall self.bookmark (D.now self.log.device)
+            → D.now closed ≡ all_kept (journal_text hall.setup (journal_of hall) ++ codes "stop\n")) }
+        ensures true_text { IfOk result (λ closed. (hall : Chronicle)
+            → IsKept hall self.bookmark (D.now self.log.device)
+            → IsTrueText hall.setup (seen (D.now closed)) (length hall.trail)) }
+        ensures any_moment { IfOk result (λ closed. Passes D.now D.past self.log.device closed
+            (Keeps (D.now self.log.device).kept)) }
         ensures any_moment_failed { IfErr result (λ failed. Passes D.now D.past self.log.device failed.1 (Keeps (D.now self.log.device).kept)) }
         ensures failed { IfSome self.fault (λ error. result ≡ Err (error, self.log.device)) }
     {
@@ -224,7 +250,7 @@ impl<D: Device> Journal<D> {
         let added = log.add(b"stop\n");
         let Log { device } = log;
         match added {
-            Ok(()) => Ok(device),
+            Ok(()) => Ok(Closed { device }),
             Err(error) => Err((error, device)),
         }
     }

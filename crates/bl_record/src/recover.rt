@@ -2,14 +2,13 @@
 ghost use Rattle.std.specs.Prelude.{◌≡◌, ◌<◌, ◌≤◌, ℕ, List, false, IfErr, IfNone, IfOk, IfSome, None, OnOk};
 ghost use Rattle.bl_disk.specs.File.{seen};
 ghost use Rattle.bl_disk.specs.Moments.{Passes};
-ghost use Rattle.bl_record.specs.declared.recover.MayCut.{MayCut as AnyCut};
 ghost use Rattle.bl_record.specs.Completing.{IsCompleted, IsRefused, MayGoOn};
 ghost use Rattle.bl_record.specs.Kept.{IsKept};
 ghost use Rattle.bl_record.specs.Recovering.{IsClosed, IsNotRecovered, IsNotResumed, IsResumed, LosesNoHistory};
 
 use crate::complete::{Completed, look};
 use crate::fault::{RecoverFault, ResumeFault};
-use crate::journal::Journal;
+use crate::journal::{Closed, Journal};
 use crate::rest::Rest;
 use bl_disk::device::Device;
 use bl_disk::log::{Log, reopen};
@@ -17,15 +16,6 @@ use bl_hall::hall::Hall;
 use bl_journal::laws::a_crash_loses_nothing_that_was_kept;
 use bl_setup::setup::Setup;
 use std::alloc::Global;
-
-/// What of a file may be cut off before a run goes on from it.
-#[derive(Clone, Copy, Debug, PartialEq, Eq, Drop)]
-pub enum MayCut {
-    /// At most one whole line, and a torn one after it.
-    OneLine,
-    /// All that is not right.
-    All,
-}
 
 /// What a run goes on from.
 #[derive(Drop)]
@@ -38,34 +28,27 @@ pub struct Resumed<D: Device> {
     pub cut: usize,
 }
 
-/// What was recovered of a file, and the file, closed.
-#[derive(Drop)]
+/// What was recovered of a file, and the file, closed. It may not be dropped, as that may not.
 pub struct Recovered<D: Device> {
     /// How many events the trail has.
     pub events: usize,
     /// How many bytes were cut off; a closing `stop` that stood there is not counted.
     pub cut: usize,
     /// The file.
-    pub device: D,
+    pub closed: Closed<D>,
 }
 
 /// Why a run does not go on from a text that has this after its right part, if it does not.
-fn refusal(rest: Rest, may_cut: MayCut) -> Option<ResumeFault>
-    ensures none { IfNone result (MayGoOn rest may_cut) }
-    ensures some { IfSome result (IsRefused rest may_cut) }
+fn refusal(rest: Rest) -> Option<ResumeFault>
+    ensures none { IfNone result (MayGoOn rest) }
+    ensures some { IfSome result (IsRefused rest) }
 {
     if rest.is_stop {
-        return Some(ResumeFault::Over);
-    }
-    match may_cut {
-        MayCut::All => None,
-        MayCut::OneLine => {
-            if rest.lines > 1 {
-                Some(ResumeFault::Wrong(rest.first))
-            } else {
-                None
-            }
-        }
+        Some(ResumeFault::Over)
+    } else if rest.lines > 1 {
+        Some(ResumeFault::Wrong(rest.first))
+    } else {
+        None
     }
 }
 
@@ -74,17 +57,16 @@ fn look_on<D: Device>(
     alloc: Global,
     setup: &Setup,
     device: &mut D,
-    may_cut: MayCut,
 ) -> Result<Completed, ResumeFault>
     requires { D.has_failed device.old ≡ false }
     ensures completed { IfOk result (IsCompleted setup.now (seen (D.now device.old))) }
-    ensures may { IfOk result (λ completed. MayGoOn completed.rest may_cut) }
+    ensures may { IfOk result (λ completed. MayGoOn completed.rest) }
     ensures sound { OnOk result (D.has_failed device.new ≡ false) }
     ensures same { Passes D.now D.past device.old device.new (λ file. file ≡ D.now device.old) }
-    ensures err { IfErr result (IsNotResumed setup.now (seen (D.now device.old)) may_cut) }
+    ensures err { IfErr result (IsNotResumed setup.now (seen (D.now device.old))) }
 {
     let completed = look(alloc, setup, device)?;
-    match refusal(completed.rest, may_cut) {
+    match refusal(completed.rest) {
         None => Ok(completed),
         Some(fault) => {
             drop(completed);
@@ -148,7 +130,7 @@ fn go_on<D: Device>(
     ensures sound { IfOk result (λ resumed. D.has_failed resumed.journal.log.device ≡ false) }
     ensures any_moment { IfOk result (λ resumed. LosesNoHistory D.now D.past setup.now device resumed.journal.log.device) }
     ensures any_moment_failed { IfErr result (λ failed. LosesNoHistory D.now D.past setup.now device failed.1) }
-    ensures err { IfErr result (λ failed. (text : List ℕ) (may_cut : AnyCut) → IsNotResumed setup.now text may_cut failed.0) }
+    ensures err { IfErr result (λ failed. (text : List ℕ) → IsNotResumed setup.now text failed.0) }
 {
     match write_on(alloc, setup, &completed, device) {
         Ok(journal) => {
@@ -171,33 +153,34 @@ fn go_on<D: Device>(
     }
 }
 
-/// Goes on from the file of a journal, whatever a crash left after its right part: cuts that off, ends all that was admitted and has
-/// not ended, and writes the lines of that too; all is on the disk then. So a run can go on from the hall and the journal that come of
-/// it. Whenever the machine ends on the way, what was kept before is recovered again.
+/// Goes on from the file of a journal, where a crash left at most one whole line after its right part, and a torn one:
+/// cuts that off, ends all that was admitted and has not ended, and writes the lines of that too; all is on the disk then.
+/// So a run can go on from the hall and the journal that come of it. Whenever the machine ends on the way, what was kept
+/// before is recovered again.
 ///
-/// `Unrecovered` says why no journal was recovered: `Head` and `OldVersion` by what the file says, `Memory` where a growth is refused,
-/// and `Device` where the device failed. `Over` comes where the trail is closed, and `Wrong` where more would have to be cut off than
-/// may be; these two, `Head` and `OldVersion` leave the file as it was. The device is given back with each fault.
+/// `Unrecovered` says why no journal was recovered: `Head` and `OldVersion` by what the file says, `Memory` where a growth
+/// is refused, and `Device` where the device failed. `Over` comes where the trail is closed, and `Wrong` where more would
+/// have to be cut off: `recover` does that. These two, `Head` and `OldVersion` leave the file as it was. The device is
+/// given back with each fault.
 pub fn resume<D: Device>(
     alloc: Global,
     setup: &Setup,
     device: D,
-    may_cut: MayCut,
 ) -> Result<Resumed<D>, (ResumeFault, D)>
     requires { D.has_failed device ≡ false }
-    ensures resumed { IfOk result (λ resumed. IsResumed setup.now (seen (D.now device)) may_cut resumed.hall resumed.cut) }
+    ensures resumed { IfOk result (λ resumed. IsResumed setup.now (seen (D.now device)) resumed.hall resumed.cut) }
     ensures kept { IfOk result (λ resumed. IsKept resumed.hall resumed.journal.bookmark (D.now resumed.journal.log.device)) }
     ensures fine { IfOk result (λ resumed. resumed.journal.fault ≡ None) }
     ensures sound { IfOk result (λ resumed. D.has_failed resumed.journal.log.device ≡ false) }
     ensures any_moment { IfOk result (λ resumed. LosesNoHistory D.now D.past setup.now device resumed.journal.log.device) }
     ensures any_moment_failed { IfErr result (λ failed. LosesNoHistory D.now D.past setup.now device failed.1) }
-    ensures err { IfErr result (λ failed. IsNotResumed setup.now (seen (D.now device)) may_cut failed.0) }
+    ensures err { IfErr result (λ failed. IsNotResumed setup.now (seen (D.now device)) failed.0) }
 {
     a_crash_loses_nothing_that_was_kept();
     // asked for the proof alone: the names are those of the setup
     let _scheme = setup.names().scheme();
     let mut device = device;
-    match look_on(alloc, setup, &mut device, may_cut) {
+    match look_on(alloc, setup, &mut device) {
         Ok(completed) => go_on(alloc, setup, completed, device),
         Err(fault) => Err((fault, device)),
     }
@@ -212,8 +195,9 @@ fn close_up<D: Device>(
 ) -> Result<Recovered<D>, (RecoverFault, D)>
     requires sound { D.has_failed device ≡ false }
     requires completed { IsCompleted setup.now (seen (D.now device)) completed }
-    ensures closed { IfOk result (λ recovered. IsClosed setup.now (seen (D.now device)) recovered.events recovered.cut (D.now recovered.device)) }
-    ensures any_moment { IfOk result (λ recovered. LosesNoHistory D.now D.past setup.now device recovered.device) }
+    ensures closed { IfOk result (λ recovered. IsClosed setup.now (seen (D.now device)) recovered.events recovered.cut
+        (D.now recovered.closed)) }
+    ensures any_moment { IfOk result (λ recovered. LosesNoHistory D.now D.past setup.now device recovered.closed) }
     ensures any_moment_failed { IfErr result (λ failed. LosesNoHistory D.now D.past setup.now device failed.1) }
     ensures err { IfErr result (λ failed. (text : List ℕ) → IsNotRecovered setup.now text failed.0) }
 {
@@ -230,10 +214,10 @@ fn close_up<D: Device>(
     drop(completed);
     match written {
         Ok(journal) => match journal.close() {
-            Ok(device) => Ok(Recovered {
+            Ok(closed) => Ok(Recovered {
                 events,
                 cut,
-                device,
+                closed,
             }),
             Err((error, device)) => Err((RecoverFault::Device(error), device)),
         },
@@ -253,8 +237,9 @@ pub fn recover<D: Device>(
     device: D,
 ) -> Result<Recovered<D>, (RecoverFault, D)>
     requires { D.has_failed device ≡ false }
-    ensures closed { IfOk result (λ recovered. IsClosed setup.now (seen (D.now device)) recovered.events recovered.cut (D.now recovered.device)) }
-    ensures any_moment { IfOk result (λ recovered. LosesNoHistory D.now D.past setup.now device recovered.device) }
+    ensures closed { IfOk result (λ recovered. IsClosed setup.now (seen (D.now device)) recovered.events recovered.cut
+        (D.now recovered.closed)) }
+    ensures any_moment { IfOk result (λ recovered. LosesNoHistory D.now D.past setup.now device recovered.closed) }
     ensures any_moment_failed { IfErr result (λ failed. LosesNoHistory D.now D.past setup.now device failed.1) }
     ensures fault { IfErr result (λ failed. IsNotRecovered setup.now (seen (D.now device)) failed.0) }
 {

@@ -1,5 +1,5 @@
 //! The journal that a run left.
-ghost use Rattle.std.specs.Prelude.{◌≡◌, ◌↔◌, ◌++◌, codes, false, string_bytes, take, IfOk, IfSome, IsTrue};
+ghost use Rattle.std.specs.Prelude.{◌≡◌, ◌↔◌, ◌++◌, codes, false, string_bytes, take, IfOk, IfSome, IsSome, IsTrue};
 ghost use Rattle.bl_disk.specs.File.{seen};
 ghost use Rattle.bl_file.specs.Files.{file_now};
 ghost use Rattle.bl_recover.specs.Torn.{IsTornHead};
@@ -68,7 +68,8 @@ pub fn same_setup<R: Files>(
 
 /// Whether the head is torn of a file that was opened, and of which nothing was read yet.
 fn is_torn_file<F>(file: &SystemFile<F>) -> bool
-    ensures { IsTrue result → IsTornHead (seen (file_now file.now)) }
+    ensures torn { IsTrue result → IsTornHead (seen (file_now file.now)) }
+    ensures all { IsSome file.now.unread → IsTornHead (seen (file_now file.now)) → IsTrue result }
 {
     match file.found() {
         Some(text) => is_torn_head(text),
@@ -92,7 +93,7 @@ pub fn find<'a, R: Files>(
 where
     R::File: Lock,
     ensures sound { IfOk result (λ found. found.device.failed ≡ false) }
-    ensures torn { IfOk result (λ found. IsTrue found.is_torn → IsTornHead (seen (file_now found.device))) }
+    ensures torn { IfOk result (λ found. IsTrue found.is_torn ↔ IsTornHead (seen (file_now found.device))) }
     ensures part { IfOk result (λ found. string_bytes found.part ≡ trail.now ++ codes ".part") }
     ensures trail { IfOk result (λ found. found.trail.now ≡ trail.now) }
 {

@@ -11,7 +11,7 @@ ghost use Rattle.bl_recover.specs.Recoveries.{HasWritten, said_of, status_of_end
 use crate::fault::RecoveryFault;
 use crate::find::Found;
 use crate::name::keep_name;
-use crate::recover::{Closed, Recovery, RecoveryEnd, tell_closed};
+use crate::recover::{ClosedTrail, Recovery, RecoveryEnd, tell_closed};
 use crate::told::tell_fault;
 use bl_disk::device::{Device, DeviceError};
 use bl_replay::replay::replay;
@@ -77,7 +77,7 @@ pub fn finish_found<R: Files, D: Device, W: Write, E: Write>(
             let part = part.as_str();
             let events = events as usize;
             let named = keep_name(rt, part, trail);
-            let closed = Closed {
+            let closed = ClosedTrail {
                 events,
                 cut: 0,
                 part,

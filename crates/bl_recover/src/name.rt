@@ -1,7 +1,9 @@
 //! The name that a trail is to have: what stands there, and how a file gets it.
+use bl_disk::device::Device;
 use bl_file::device::Keeping;
 use bl_file::open::keep_names;
 use bl_keep::fault::KeepFault;
+use bl_record::journal::Closed;
 use std::fs;
 use std::io::ErrorKind;
 use std::os::unix::fs::MetadataExt;
@@ -36,9 +38,14 @@ pub(crate) fn keep_name<R: Files>(rt: &R, part: &str, trail: &str) -> Result<(),
     Ok(())
 }
 
-/// Gives the file of this name the name of a trail, which replaces nothing, and removes the other name once that is on
-/// the disk.
-pub fn give_name<R: Files>(rt: &R, part: &str, trail: &str) -> Result<(), KeepFault> {
+/// Gives the closed journal of this name the name of its trail, which replaces nothing, and removes the other name once
+/// that is on the disk.
+pub fn give_name<R: Files, D: Device>(
+    rt: &R,
+    _closed: &Closed<D>,
+    part: &str,
+    trail: &str,
+) -> Result<(), KeepFault> {
     match fs::hard_link(rt, part, trail) {
         Ok(()) => keep_name(rt, part, trail),
         Err(error) if error.kind() == ErrorKind::OutOfMemory => Err(KeepFault::Memory),

@@ -66,7 +66,7 @@ pub struct Recovery<D: Device> {
 
 /// A trail that is closed in the file of this name: how many events it has, and how many bytes were cut off.
 #[derive(Drop)]
-pub(crate) struct Closed<'a> {
+pub(crate) struct ClosedTrail<'a> {
     pub(crate) events: usize,
     pub(crate) cut: usize,
     pub(crate) part: &'a str,
@@ -97,7 +97,7 @@ fn tell_named<W: Write, E: Write>(
 
 /// Tells what came of a trail that is closed in the file of this name.
 pub(crate) fn tell_closed<W: Write, E: Write>(
-    closed: &Closed<'_>,
+    closed: &ClosedTrail<'_>,
     named: Result<(), KeepFault>,
     writer: &mut Watched<W>,
     errors: &mut Watched<E>,
@@ -110,7 +110,7 @@ pub(crate) fn tell_closed<W: Write, E: Write>(
     ensures handed_on { result.1 ≡ 0 → writer.new.unflushed ≡ false }
     ensures status { result.1 ≡ status_of_end result.0 }
 {
-    let Closed { events, cut, part } = *closed;
+    let ClosedTrail { events, cut, part } = *closed;
     tell_cut(errors, cut);
     match named {
         Ok(()) => tell_named(events, cut, writer, errors),
@@ -158,12 +158,13 @@ pub fn recover_found<R: Files, D: Device, W: Write, E: Write>(
             Recovered {
                 events,
                 cut,
-                device,
+                closed,
             },
         ) => {
             let part = part.as_str();
-            let named = give_name(rt, part, trail);
-            let closed = Closed { events, cut, part };
+            let named = give_name(rt, &closed, part, trail);
+            let device = closed.end();
+            let closed = ClosedTrail { events, cut, part };
             let (end, status) = tell_closed(&closed, named, writer, errors);
             Recovery {
                 end,

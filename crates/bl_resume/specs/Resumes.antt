@@ -11,7 +11,6 @@ use Rattle.bl_hall.specs.Chronicle.{Chronicle, state_now}
 use Rattle.bl_order.specs.Machine.{most_sessions}
 use Rattle.bl_record.specs.Recovering.{IsNotResumed, IsResumed}
 use Rattle.bl_record.specs.declared.fault.ResumeFault.{ResumeFault}
-use Rattle.bl_record.specs.declared.recover.MayCut.TheVariants.{OneLine}
 use Rattle.bl_recover.specs.Telling.{cut_line, fault_text, resume_fault, status_by}
 use Rattle.bl_recover.specs.declared.fault.RecoveryFault.{RecoveryFault}
 use Rattle.bl_recover.specs.declared.fault.RecoveryFault.TheVariants.{NoMoreSessions, Program}
@@ -70,14 +69,14 @@ pub record HasResumed (setup text : List ℕ) (is_whole : Bool) (file : File) (r
   pub is : IsSetup setup over
   pub begun : Chronicle
   pub cut : ℕ
-  pub resumed : IsResumed over text OneLine begun cut
+  pub resumed : IsResumed over text begun cut
   pub on : HasGoneOn begun cut is_whole file run
 
 -- why it is not: the bytes are no setup, or what the file says
 abbrev pub IsNotGoneOnWith : List ℕ → List ℕ → RecoveryFault → Use → Use → Type 0
 IsNotGoneOnWith setup text fault input output =
     ((program : ProgramFault) × (fault ≡ Program program) × IsNotBegun setup program input output)
-    ⊎ ((over : Setup) × (of : ResumeFault) × IsSetup setup over × (fault ≡ resume_fault of) × IsNotResumed over text OneLine of
+    ⊎ ((over : Setup) × (of : ResumeFault) × IsSetup setup over × (fault ≡ resume_fault of) × IsNotResumed over text of
     × Keeps input.before input.after × Keeps output.before output.after)
 
 -- nothing was gone on with, and the fault was told

@@ -1,5 +1,6 @@
 //! The run.
 ghost use Rattle.std.specs.Prelude.{◌≡◌, ◌⊎◌, ◌<◌, ℕ, false, true, length, IsTrue};
+ghost use Rattle.bl_alone.specs.Files.{file_in, is_whole};
 ghost use Rattle.bl_alone.specs.Recording.{HasRecorded};
 ghost use Rattle.bl_disk.specs.File.{seen};
 ghost use Rattle.bl_hall.specs.Chronicle.{state_now};
@@ -11,9 +12,9 @@ ghost use Rattle.bl_wire.specs.Watch.{Puts, end_state, used};
 
 use bl_alone::close::{close_after, file_of};
 use bl_alone::recorder::Recorder;
-use bl_alone::run::{Recorded, tell_recorded};
+use bl_alone::run::{Recorded, RecordedFile, tell_recorded};
 use bl_disk::device::Device;
-use bl_record::recover::{MayCut, Resumed, resume};
+use bl_record::recover::{Resumed, resume};
 use bl_recover::fault::{RecoveryFault, of_resume};
 use bl_recover::told::{tell_cut, tell_fault};
 use bl_session::alone::{serve_after, sessions_in};
@@ -37,13 +38,12 @@ fn end_with<D: Device, E: Write>(
     ensures puts { Puts (fault_text fault.now) (end_state E.contents errors.old) (end_state E.contents errors.new) }
     ensures status { result.status ≡ status_by fault.now }
     ensures range { (result.status ≡ 3) ⊎ (result.status ≡ 4) }
-    ensures part { result.is_whole ≡ false }
+    ensures part { result.file ≡ RecordedFile.Left device }
 {
     let status = tell_fault(errors, fault);
     Recorded {
         status,
-        device,
-        is_whole: false,
+        file: RecordedFile::Left(device),
     }
 }
 
@@ -62,13 +62,13 @@ fn sit<D: Device, R: BufRead, W: Write, E: Write>(
     requires journal { HasRecorded D.now D.has_failed resumed.journal resumed.hall }
     requires reader { reader.old.failed ≡ false }
     requires writer { writer.old.failed ≡ false }
-    ensures run { HasSatAfter resumed.hall resumed.cut result.is_whole (D.now result.device) (record {
+    ensures run { HasSatAfter resumed.hall resumed.cut (is_whole result.file) (file_in D.now result.file) (record {
       status = result.status;
       input = used R.remaining reader.old reader.new;
       output = used W.contents writer.old writer.new;
       errors = used E.contents errors.old errors.new;
     }) }
-    ensures whole { result.status ≡ 0 → result.is_whole ≡ true }
+    ensures whole { result.status ≡ 0 → is_whole result.file ≡ true }
     ensures handed_on { result.status ≡ 0 → writer.new.unflushed ≡ false }
     ensures status { IsEnd result.status }
 {
@@ -99,13 +99,13 @@ fn go_on<D: Device, R: BufRead, W: Write, E: Write>(
     requires journal { HasRecorded D.now D.has_failed resumed.journal resumed.hall }
     requires reader { reader.old.failed ≡ false }
     requires writer { writer.old.failed ≡ false }
-    ensures run { HasGoneOn resumed.hall resumed.cut result.is_whole (D.now result.device) (record {
+    ensures run { HasGoneOn resumed.hall resumed.cut (is_whole result.file) (file_in D.now result.file) (record {
       status = result.status;
       input = used R.remaining reader.old reader.new;
       output = used W.contents writer.old writer.new;
       errors = used E.contents errors.old errors.new;
     }) }
-    ensures whole { result.status ≡ 0 → result.is_whole ≡ true }
+    ensures whole { result.status ≡ 0 → is_whole result.file ≡ true }
     ensures handed_on { result.status ≡ 0 → writer.new.unflushed ≡ false }
     ensures status { IsEnd result.status }
 {
@@ -135,13 +135,14 @@ pub fn alone_resumed_on<D: Device, R: BufRead, W: Write, E: Write>(
     requires sound { D.has_failed device ≡ false }
     requires reader { reader.old.failed ≡ false }
     requires writer { writer.old.failed ≡ false }
-    ensures run { IsResuming setup.now (seen (D.now device)) result.is_whole (D.now result.device) (record {
-      status = result.status;
-      input = used R.remaining reader.old reader.new;
-      output = used W.contents writer.old writer.new;
-      errors = used E.contents errors.old errors.new;
-    }) }
-    ensures whole { result.status ≡ 0 → result.is_whole ≡ true }
+    ensures run { IsResuming setup.now (seen (D.now device)) (is_whole result.file)
+        (file_in D.now result.file) (record {
+          status = result.status;
+          input = used R.remaining reader.old reader.new;
+          output = used W.contents writer.old writer.new;
+          errors = used E.contents errors.old errors.new;
+        }) }
+    ensures whole { result.status ≡ 0 → is_whole result.file ≡ true }
     ensures handed_on { result.status ≡ 0 → writer.new.unflushed ≡ false }
     ensures status { IsEnd result.status }
 {
@@ -152,7 +153,7 @@ pub fn alone_resumed_on<D: Device, R: BufRead, W: Write, E: Write>(
             return end_with(errors, &fault, device);
         }
     };
-    match resume(alloc, &setup, device, MayCut::OneLine) {
+    match resume(alloc, &setup, device) {
         Ok(resumed) => go_on(alloc, setup, resumed, reader, writer, errors),
         Err((fault, device)) => {
             drop(setup);

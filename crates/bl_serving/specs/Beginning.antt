@@ -4,7 +4,6 @@ use Rattle.bl_hall.specs.Chronicle.{Chronicle}
 use Rattle.bl_record.specs.Recovering.{IsNotResumed, IsResumed}
 use Rattle.bl_record.specs.declared.fault.JournalFault.{JournalFault}
 use Rattle.bl_record.specs.declared.fault.ResumeFault.{ResumeFault}
-use Rattle.bl_record.specs.declared.recover.MayCut.TheVariants.{OneLine}
 use Rattle.bl_setup.specs.Setup.{Setup}
 use Rattle.bl_recover.specs.Telling.{resume_fault}
 use Rattle.bl_serving.specs.Telling.{begin_fault}
@@ -15,9 +14,9 @@ use Rattle.bl_serving.specs.declared.fault.ServingFault.TheVariants.{Recovery}
 -- cut off, which has gone on until all had ended that was admitted.
 abbrev pub Begins : Bool → Setup → ℕ → List ℕ → Chronicle → ℕ → Type 0
 Begins false setup limit text hall cut = (hall ≡ record { setup = setup; limit = limit; trail = [] }) × (cut ≡ 0)
-Begins true setup limit text hall cut = IsResumed setup text OneLine hall cut
+Begins true setup limit text hall cut = IsResumed setup text hall cut
 
 -- why no run begins: no journal can be begun, or that of the run that was cut off is not gone on with
 abbrev pub IsUnbegun : Bool → Setup → List ℕ → ServingFault → Type 0
 IsUnbegun false setup text fault = (of : JournalFault) × (fault ≡ begin_fault of)
-IsUnbegun true setup text fault = (of : ResumeFault) × (fault ≡ Recovery (resume_fault of)) × IsNotResumed setup text OneLine of
+IsUnbegun true setup text fault = (of : ResumeFault) × (fault ≡ Recovery (resume_fault of)) × IsNotResumed setup text of

@@ -8,7 +8,7 @@ use crate::fault::{ServingFault, of_begin};
 use bl_disk::device::Device;
 use bl_hall::hall::Hall;
 use bl_record::journal::{Journal, begin};
-use bl_record::recover::{MayCut, Resumed, resume};
+use bl_record::recover::{Resumed, resume};
 use bl_recover::fault::{RecoveryFault, of_resume};
 use bl_setup::setup::Setup;
 use bl_status::fault::ProgramFault;
@@ -69,7 +69,7 @@ fn go_on<D: Device>(alloc: Global, setup: Setup, device: D) -> Result<Begun<D>, 
     ensures recorded { IfOk result (λ begun. HasRecorded D.now D.has_failed begun.journal begun.hall) }
     ensures err { IfErr result (λ failed. IsUnbegun true setup (seen (D.now device)) failed.0) }
 {
-    let resumed = resume(alloc, &setup, device, MayCut::OneLine);
+    let resumed = resume(alloc, &setup, device);
     drop(setup);
     match resumed {
         Ok(Resumed { hall, journal, cut }) => Ok(Begun { hall, journal, cut }),

@@ -4,6 +4,7 @@ ghost use Rattle.bl_gate.specs.Gates.{hall_seen};
 ghost use Rattle.bl_audit.specs.Bookmarks.{HasGrown};
 ghost use Rattle.bl_hall.specs.Chronicle.{Chronicle};
 ghost use Rattle.bl_keeper.specs.Keeping.{HasKept};
+ghost use Rattle.bl_alone.specs.Files.{fault_in, file_after, file_in};
 ghost use Rattle.bl_alone.specs.Recording.{HasRecorded};
 ghost use Rattle.bl_serving.specs.Hosted.{IsLeft};
 
@@ -12,7 +13,7 @@ use bl_disk::device::Device;
 use bl_disk::log::Log;
 use bl_gate::gate::Gate;
 use bl_gate::pass::Pass;
-use bl_record::journal::Journal;
+use bl_record::journal::{Closed, Journal};
 use std::alloc::Global;
 
 /// The file of a journal that is left as it is.
@@ -25,28 +26,31 @@ pub(crate) fn file_of<D: Device>(journal: Journal<D>) -> D
 }
 
 /// Closes a journal that has kept all.
-fn close<D: Device>(journal: Journal<D>) -> (D, Option<ServingFault>)
+fn close<D: Device>(journal: Journal<D>) -> Result<Closed<D>, (ServingFault, D)>
     requires { (hall : Chronicle) × HasRecorded D.now D.has_failed journal hall }
-    ensures left { (hall begun : Chronicle) → HasRecorded D.now D.has_failed journal hall → HasGrown begun hall → IsLeft begun result.1 (D.now result.0) }
+    ensures left { (hall begun : Chronicle) → HasRecorded D.now D.has_failed journal hall → HasGrown begun hall
+        → IsLeft begun (fault_in result) (file_in D.now (file_after result)) }
 {
     match journal.close() {
-        Ok(device) => (device, None),
-        Err((_, device)) => (device, Some(ServingFault::CutShort)),
+        Ok(closed) => Ok(closed),
+        Err((_, device)) => Err((ServingFault::CutShort, device)),
     }
 }
 
-/// Closes the gate, has the journal keep what happened last, and closes it. The file is handed back, with the fault where it is not closed.
+/// Closes the gate, has the journal keep what happened last, and closes it. The file is handed back, closed or with the
+/// fault.
 pub(crate) fn close_after<D: Device>(
     alloc: Global,
     gate: Gate,
     pass: Pass,
     journal: Journal<D>,
-) -> (D, Option<ServingFault>)
+) -> Result<Closed<D>, (ServingFault, D)>
     requires gate { pass.gate ≡ gate }
     requires all { pass.parts ≡ 64 }
     requires sound { journal.fault ≡ None → D.has_failed journal.log.device ≡ false }
     requires kept { journal.fault ≡ None → HasKept (hall_seen pass) journal.bookmark (D.now journal.log.device) }
-    ensures left { (begun : Chronicle) → HasGrown begun (hall_seen pass) → IsLeft begun result.1 (D.now result.0) }
+    ensures left { (begun : Chronicle) → HasGrown begun (hall_seen pass)
+        → IsLeft begun (fault_in result) (file_in D.now (file_after result)) }
 {
     let hall = gate.close(pass);
     let mut journal = journal;
@@ -58,7 +62,7 @@ pub(crate) fn close_after<D: Device>(
         }
         Err(fault) => {
             drop(hall);
-            (file_of(journal), Some(of_end(fault)))
+            Err((of_end(fault), file_of(journal)))
         }
     }
 }

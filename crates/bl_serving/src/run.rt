@@ -7,6 +7,7 @@ ghost use Rattle.bl_hall.specs.Chronicle.{Chronicle};
 ghost use Rattle.bl_keeper.specs.Keeping.{HasKept};
 ghost use Rattle.bl_status.specs.Status.{IsEnd};
 ghost use Rattle.bl_wire.specs.Watch.{Puts, end_state, used};
+ghost use Rattle.bl_alone.specs.Files.{fault_in, file_after, file_in, is_whole};
 ghost use Rattle.bl_alone.specs.Recording.{HasRecorded};
 ghost use Rattle.bl_serving.specs.Hosted.{HasHosted, IsServing, status_with};
 ghost use Rattle.bl_serving.specs.Telling.{status_by, trail_text, words_by};
@@ -14,7 +15,7 @@ ghost use Rattle.bl_serving.specs.Telling.{status_by, trail_text, words_by};
 use crate::begin::{Begun, Start, begin_in};
 use crate::close::{close_after, file_of};
 use crate::fault::{ServingFault, tell_serving};
-use bl_alone::run::Recorded;
+use bl_alone::run::{Recorded, RecordedFile};
 use bl_disk::device::Device;
 use bl_entrance::entrance::Entrance;
 use bl_entrance::options::Options;
@@ -23,7 +24,7 @@ use bl_gate::pass::Pass;
 use bl_host::host::{HostContext, Hosted, host};
 use bl_keeper::keeper::Keeper;
 use bl_keeper::which::Which;
-use bl_record::journal::Journal;
+use bl_record::journal::{Closed, Journal};
 use bl_recover::fault::RecoveryFault;
 use bl_recover::told::tell_cut;
 use bl_run::serve::{RunContext, tell_hosted};
@@ -56,13 +57,12 @@ fn end_with<D: Device, E: Write>(
     ensures puts { Puts (words_by fault.now) (end_state E.contents errors.old) (end_state E.contents errors.new) }
     ensures status { result.status ≡ status_by fault.now }
     ensures range { IsEnd result.status }
-    ensures part { result.is_whole ≡ false }
+    ensures part { result.file ≡ RecordedFile.Left device }
 {
     let status = tell_serving(errors, fault);
     Recorded {
         status,
-        device,
-        is_whole: false,
+        file: RecordedFile::Left(device),
     }
 }
 
@@ -119,28 +119,29 @@ where
 fn tell_end<D: Device, E: Write>(
     errors: &mut Watched<E>,
     status: u8,
-    left: (D, Option<ServingFault>),
+    left: Result<Closed<D>, (ServingFault, D)>,
 ) -> Recorded<D>
-    ensures puts { Puts (trail_text left.1) (end_state E.contents errors.old) (end_state E.contents errors.new) }
-    ensures status { result.status ≡ status_with status left.1 }
+    ensures puts { Puts (trail_text (fault_in left)) (end_state E.contents errors.old)
+        (end_state E.contents errors.new) }
+    ensures status { result.status ≡ status_with status (fault_in left) }
     ensures range { IsEnd status → IsEnd result.status }
-    ensures device { result.device ≡ left.0 }
-    ensures whole { (result.is_whole ≡ true) ↔ (left.1 ≡ None) }
-    ensures fine { result.status ≡ 0 → (status ≡ 0) × (left.1 ≡ None) }
+    ensures file { result.file ≡ file_after left }
+    ensures whole { (is_whole result.file ≡ true) ↔ (fault_in left ≡ None) }
+    ensures fine { result.status ≡ 0 → (status ≡ 0) × (fault_in left ≡ None) }
 {
-    let (device, fault) = left;
-    let Some(fault) = fault else {
-        return Recorded {
-            status,
-            device,
-            is_whole: true,
-        };
+    let (fault, device) = match left {
+        Ok(closed) => {
+            return Recorded {
+                status,
+                file: RecordedFile::Whole(closed),
+            };
+        }
+        Err(failed) => failed,
     };
     let own = tell_serving(errors, &fault);
     Recorded {
         status: if status == 0 { own } else { status },
-        device,
-        is_whole: false,
+        file: RecordedFile::Left(device),
     }
 }
 
@@ -163,8 +164,9 @@ where
     requires gate { made.1.gate ≡ made.0 }
     requires parts { made.1.parts ≡ 64 }
     requires recorded { HasRecorded D.now D.has_failed journal (hall_seen made.1) }
-    ensures run { HasHosted (hall_seen made.1) result.status result.is_whole (D.now result.device) (end_state E.contents errors.old) (end_state E.contents errors.new) }
-    ensures whole { result.status ≡ 0 → result.is_whole ≡ true }
+    ensures run { HasHosted (hall_seen made.1) result.status (is_whole result.file) (file_in D.now result.file)
+        (end_state E.contents errors.old) (end_state E.contents errors.new) }
+    ensures whole { result.status ≡ 0 → is_whole result.file ≡ true }
     ensures range { IsEnd result.status }
 {
     let (gate, pass) = made;
@@ -189,8 +191,7 @@ where
         drop(gate);
         return Recorded {
             status,
-            device: file_of(journal),
-            is_whole: false,
+            file: RecordedFile::Left(file_of(journal)),
         };
     }
     let left = close_after(run_context.alloc, gate, pass, journal);
@@ -222,9 +223,10 @@ where
     T::File: Send,
     requires sound { D.has_failed start.device ≡ false }
     requires writer { writer.old.failed ≡ false }
-    ensures run { IsServing start.resumes start.setup run.now.limit (seen (D.now start.device)) result.status result.is_whole (D.now result.device)
+    ensures run { IsServing start.resumes start.setup run.now.limit (seen (D.now start.device)) result.status
+        (is_whole result.file) (file_in D.now result.file)
         (used W.contents writer.old writer.new) (end_state E.contents errors.old) (end_state E.contents errors.new) }
-    ensures whole { result.status ≡ 0 → result.is_whole ≡ true }
+    ensures whole { result.status ≡ 0 → is_whole result.file ≡ true }
     ensures handed_on { result.status ≡ 0 → writer.new.unflushed ≡ false }
     ensures status { IsEnd result.status }
 {

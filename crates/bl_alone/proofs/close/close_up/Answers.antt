@@ -5,6 +5,7 @@ use Rattle.bl_session.specs.declared.alone.Kept.{Kept}
 use Rattle.bl_setup.specs.Agreement.{Agree}
 use Rattle.bl_setup.specs.Setup.{Setup}
 use Rattle.bl_work.specs.Names.{AreNames}
+use Rattle.bl_alone.specs.Files.{fault_in, file_after, file_in}
 use Rattle.bl_alone.specs.Recording.{IsLeft, IsSafe, hall_of}
 use Rattle.bl_alone.proofs.Leaving.{left_front, left_none, setup_of}
 use Rattle.bl_alone.proofs.close.close_up.Goals as goal
@@ -15,8 +16,10 @@ close-requires g c = (c.requires.0, c.requires.1)
 pub returns-in_default : goal.returns-in_default
 returns-in_default g c = record {
   left = λ kept recorded front agree names.
-      subst (λ (s : Option Kept). IsLeft kept (hall_of s) c.close.result.1 (g.D.Device.now c.close.result.0)) (sym c.in_default.is)
-      (left_none kept c.close.result.1 (g.D.Device.now c.close.result.0) (c.close.ensures.left kept recorded agree names));
+      let fault = fault_in c.close.result in
+      let file = file_in g.D.Device.now (file_after c.close.result) in
+      subst (λ (s : Option Kept). IsLeft kept (hall_of s) fault file) (sym c.in_default.is)
+      (left_none kept fault file (c.close.ensures.left kept recorded agree names));
 }
 
 pub reach-requires : goal.reach-requires
@@ -34,8 +37,8 @@ returns-in-Ok g c = record {
       let there = subst (λ (s : Option Kept). IfSome s (λ one. IsFrontOf kept one.pages.hall)) c.in-Some.is front in
       let is : IsFrontOf kept hall = (there.0, c.hall.ensures ∙ there.1) in
       let same = setup_of kept hall is in
-      let fault = c.close-in-Ok.result.1 in
-      let file = g.D.Device.now c.close-in-Ok.result.0 in
+      let fault = fault_in c.close-in-Ok.result in
+      let file = file_in g.D.Device.now (file_after c.close-in-Ok.result) in
       subst (λ (s : Option Kept). IsLeft kept (hall_of s) fault file) (sym c.in-Some.is)
       (subst (λ h. IsLeft kept (Some h) fault file) c.hall.ensures
       (left_front kept hall fault file is

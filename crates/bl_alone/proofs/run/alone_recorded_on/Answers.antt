@@ -1,5 +1,6 @@
-use Rattle.std.proofs.Common.{inl, inr}
+use Rattle.std.proofs.Common.{ap, inl, inr}
 use Rattle.std.proofs.KnownBytes.{Keeps-refl}
+use Rattle.bl_alone.specs.Files.{is_whole}
 use Rattle.bl_alone.proofs.run.alone_recorded_on.Goals as goal
 
 -- the bytes are no setup
@@ -7,7 +8,7 @@ pub returns-in-Err-clause-run : goal.returns-in-Err-clause-run
 returns-in-Err-clause-run g c =
     inr (record {
       fault = c.of_setup.result;
-      part = c.end_with.ensures.part;
+      part = ap is_whole c.end_with.ensures.part;
       told = c.end_with.ensures.told;
       why = inl (record {
         unread = Keeps-refl _;
@@ -27,7 +28,7 @@ pub returns-in-Err-begin-clause-run : goal.returns-in-Err-begin-clause-run
 returns-in-Err-begin-clause-run g c =
     inr (record {
       fault = c.of_begin.result;
-      part = c.end_with-in-Err-begin.ensures.part;
+      part = ap is_whole c.end_with-in-Err-begin.ensures.part;
       told = c.end_with-in-Err-begin.ensures.told;
       why = inr (record {
         begun = c.in-Ok.setup;

@@ -3,6 +3,7 @@ use Rattle.bl_setup.specs.Agreement.{Agree}
 use Rattle.bl_setup.specs.Setup.{Setup}
 use Rattle.bl_wire.proofs.PutLaws.{puts-all}
 use Rattle.bl_work.specs.Names.{AreNames}
+use Rattle.bl_alone.specs.Files.{fault_in, file_in}
 use Rattle.bl_alone.specs.Recording.{IsLeft, hall_of}
 use Rattle.bl_alone.proofs.Leaving.{ended_as}
 use Rattle.bl_alone.proofs.run.sit.Goals as goal
@@ -24,8 +25,8 @@ returns-clause-run g c text is =
       ended = ended_as setup c.args.run.now.limit _ _ served.result.0 served.result.1 served.ensures.kept served.ensures.own served.ensures.err;
       kept = kept.0;
       told = kept.3;
-      trail = left.1;
-      left = subst (λ d. IsLeft kept.0 session left.1 (g.D.Device.now d)) (sym c.tell_recorded.ensures.device)
+      trail = fault_in left;
+      left = subst (λ file. IsLeft kept.0 session (fault_in left) (file_in g.D.Device.now file)) (sym c.tell_recorded.ensures.file)
           (c.close_after-left.ensures.left kept.0 kept.1 kept.2 (subst Agree (sym kept.3.setup_is) c.names.ensures.agree)
           (subst (λ (s : Setup). AreNames s.names) (sym kept.3.setup_is) (subst AreNames c.names.ensures.value c.scheme-scheme.ensures.names)));
       cut = c.close_after-left.ensures.cut;

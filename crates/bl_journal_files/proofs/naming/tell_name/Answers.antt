@@ -6,6 +6,7 @@ use Rattle.bl_status.specs.Message.{fault_line}
 use Rattle.bl_status.specs.Unkept.{unkept_fault}
 use Rattle.bl_recover.specs.Telling.{left_text}
 use Rattle.bl_journal_files.specs.Naming.{naming_text}
+use Rattle.bl_journal_files.specs.declared.naming.Named.{Named}
 use Rattle.bl_journal_files.proofs.naming.tell_name.Goals as goal
 
 -- the fault is told, and then where the trail is
@@ -16,7 +17,7 @@ returns-then-status-eq0-clause-puts g c =
     let new = end_state g.E.Write.contents c.tell_left.new.errors in
     let fault = c.in-Err.fault in
     let part = c.args.part.now in
-    subst (λ (named : Result (Unit {0}) KeepFault). Puts (naming_text part named) old new) (sym c.in-Err.is)
+    subst (λ (named : Result Named KeepFault). Puts (naming_text part named) old new) (sym c.in-Err.is)
     (puts-append (fault_line (unkept_fault fault)) (left_text part) old told new
     (subst (λ f. Puts (fault_line f) old told) c.of_keep.ensures c.tell-own.ensures.puts) c.tell_left.ensures.puts)
 
@@ -27,6 +28,6 @@ returns-else-status-eq0-clause-puts g c =
     let new = end_state g.E.Write.contents c.tell_left.new.errors in
     let fault = c.in-Err.fault in
     let part = c.args.part.now in
-    subst (λ (named : Result (Unit {0}) KeepFault). Puts (naming_text part named) old new) (sym c.in-Err.is)
+    subst (λ (named : Result Named KeepFault). Puts (naming_text part named) old new) (sym c.in-Err.is)
     (puts-append (fault_line (unkept_fault fault)) (left_text part) old told new
     (subst (λ f. Puts (fault_line f) old told) c.of_keep.ensures c.tell-own.ensures.puts) c.tell_left.ensures.puts)

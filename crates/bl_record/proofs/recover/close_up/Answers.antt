@@ -12,7 +12,7 @@ pub returns-in-Ok-close-clause-closed : goal.returns-in-Ok-close-clause-closed
 returns-in-Ok-close-clause-closed g c =
     let h = c.args.completed.hall in
     closes c.args.setup.now (seen (g.D.Device.now c.args.device)) c.args.completed c.requires.completed c.in-Ok.journal.bookmark
-    (g.D.Device.now c.in-Ok.journal.log.device) (g.D.Device.now c.in-Ok-close.device) (length c.trail-events.result.now) c.if-completed.cut c.in-Ok.ensures.kept
+    (g.D.Device.now c.in-Ok.journal.log.device) (g.D.Device.now c.in-Ok-close.closed) (length c.trail-events.result.now) c.if-completed.cut c.in-Ok.ensures.kept
     (ap length c.trail-events.ensures.value ∙ length-map h.trail kept_of) (c.in-Ok-close.ensures.closed h c.in-Ok.ensures.kept)
     (c.in-Ok-close.ensures.true_text h c.in-Ok.ensures.kept)
     (λ stop. elim c.if-completed.branch [ then-completed w ↦ w.cut-is | else-completed w ↦ cc ])
@@ -22,7 +22,7 @@ pub returns-in-Ok-close-clause-any_moment : goal.returns-in-Ok-close-clause-any_
 returns-in-Ok-close-clause-any_moment g c =
     none-closing g.D.Device.now g.D.Device.past c.a_crash_loses_nothing_that_was_kept.ensures c.args.setup.now c.names.ensures.agree
     (subst AreNames c.names.ensures.value c.scheme-scheme.ensures.names) c.args.completed.hall c.in-Ok.journal.bookmark c.args.device c.in-Ok.journal.log.device
-    c.in-Ok-close.device (its-setup c.args.setup.now (seen (g.D.Device.now c.args.device)) c.args.completed c.requires.completed) c.in-Ok.ensures.kept
+    c.in-Ok-close.closed (its-setup c.args.setup.now (seen (g.D.Device.now c.args.device)) c.args.completed c.requires.completed) c.in-Ok.ensures.kept
     c.in-Ok.ensures.any_moment c.in-Ok-close.ensures.any_moment
 
 pub returns-in-Err-close-clause-any_moment_failed : goal.returns-in-Err-close-clause-any_moment_failed

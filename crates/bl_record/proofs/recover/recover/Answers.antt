@@ -10,9 +10,9 @@ returns-in-Ok-clause-any_moment g c =
     let now = g.D.Device.now in
     let past = g.D.Device.past in
     let mid = c.look.new.device in
-    ok-on c.close_up.result (λ r. LosesNoHistory now past c.args.setup.now mid r.device) (λ r. LosesNoHistory now past c.args.setup.now c.args.device r.device)
+    ok-on c.close_up.result (λ r. LosesNoHistory now past c.args.setup.now mid r.closed) (λ r. LosesNoHistory now past c.args.setup.now c.args.device r.closed)
     (λ r loses. none-after g.D.Device.now g.D.Device.past c.a_crash_loses_nothing_that_was_kept.ensures c.args.setup.now c.names.ensures.agree
-    (subst AreNames c.names.ensures.value c.scheme-scheme.ensures.names) c.args.device mid r.device c.look.ensures.same loses) c.close_up.ensures.any_moment
+    (subst AreNames c.names.ensures.value c.scheme-scheme.ensures.names) c.args.device mid r.closed c.look.ensures.same loses) c.close_up.ensures.any_moment
 
 pub returns-in-Ok-clause-any_moment_failed : goal.returns-in-Ok-clause-any_moment_failed
 returns-in-Ok-clause-any_moment_failed g c =

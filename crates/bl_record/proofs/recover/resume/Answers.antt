@@ -4,7 +4,6 @@ use Rattle.bl_record.proofs.Histories.{err-on, none-after, none-nowhere, ok-both
 use Rattle.bl_record.proofs.recover.resume.Goals as goal
 use Rattle.bl_record.proofs.Resuming.{resumes}
 use Rattle.bl_record.specs.Recovering.{IsNotResumed, IsResumed, LosesNoHistory}
-use Rattle.bl_record.specs.declared.recover.MayCut.{MayCut}
 use Rattle.bl_work.specs.Names.{AreNames}
 
 pub returns-in-Ok-clause-any_moment : goal.returns-in-Ok-clause-any_moment
@@ -33,12 +32,12 @@ pub returns-in-Ok-clause-resumed : goal.returns-in-Ok-clause-resumed
 returns-in-Ok-clause-resumed g c =
     let completed = c.in-Ok.completed in
     let text = seen (g.D.Device.now c.args.device) in
-    ok-both c.go_on.result (λ r. r.hall ≡ completed.hall) (λ r. r.cut ≡ completed.rest.bytes) (λ r. IsResumed c.args.setup.now text c.args.may_cut r.hall r.cut)
-    (λ r same bytes. resumes c.args.setup.now text completed c.in-Ok.ensures.completed c.args.may_cut c.in-Ok.ensures.may r.hall same r.cut bytes)
+    ok-both c.go_on.result (λ r. r.hall ≡ completed.hall) (λ r. r.cut ≡ completed.rest.bytes) (λ r. IsResumed c.args.setup.now text r.hall r.cut)
+    (λ r same bytes. resumes c.args.setup.now text completed c.in-Ok.ensures.completed c.in-Ok.ensures.may r.hall same r.cut bytes)
     c.go_on.ensures.hall c.go_on.ensures.cut
 
 pub returns-in-Ok-clause-err : goal.returns-in-Ok-clause-err
 returns-in-Ok-clause-err g c =
     let text = seen (g.D.Device.now c.args.device) in
-    err-on c.go_on.result (λ f. (text : List ℕ) (may_cut : MayCut) → IsNotResumed c.args.setup.now text may_cut f.0)
-    (λ f. IsNotResumed c.args.setup.now text c.args.may_cut f.0) (λ f not. not text c.args.may_cut) c.go_on.ensures.err
+    err-on c.go_on.result (λ f. (text : List ℕ) → IsNotResumed c.args.setup.now text f.0)
+    (λ f. IsNotResumed c.args.setup.now text f.0) (λ f not. not text) c.go_on.ensures.err

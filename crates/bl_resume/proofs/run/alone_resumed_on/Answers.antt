@@ -1,5 +1,6 @@
-use Rattle.std.proofs.Common.{inl, inr, refl}
+use Rattle.std.proofs.Common.{ap, inl, inr, refl}
 use Rattle.std.proofs.KnownBytes.{Keeps-refl}
+use Rattle.bl_alone.specs.Files.{is_whole}
 use Rattle.bl_recover.specs.declared.fault.RecoveryFault.TheVariants.{Program}
 use Rattle.bl_wire.proofs.PutLaws.{puts-all}
 use Rattle.bl_resume.proofs.run.alone_resumed_on.Goals as goal
@@ -24,7 +25,7 @@ returns-in-Err-clause-run g c =
           };
         },
       );
-      part = c.end_with.ensures.part;
+      part = ap is_whole c.end_with.ensures.part;
       status_is = c.end_with.ensures.status;
       said = puts-all _ _ _ c.end_with.ensures.puts;
     })
@@ -55,7 +56,7 @@ returns-in-Err-resume-clause-run g c =
         Keeps-refl _,
         Keeps-refl _,
       );
-      part = c.end_with-in-Err-resume.ensures.part;
+      part = ap is_whole c.end_with-in-Err-resume.ensures.part;
       status_is = c.end_with-in-Err-resume.ensures.status;
       said = puts-all _ _ _ c.end_with-in-Err-resume.ensures.puts;
     })

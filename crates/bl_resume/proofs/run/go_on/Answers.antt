@@ -1,5 +1,6 @@
-use Rattle.std.proofs.Common.{rules, inr, ◌≤◌, length}
+use Rattle.std.proofs.Common.{rules, ap, inr, ◌≤◌, length}
 use Rattle.std.proofs.KnownBytes.{Keeps-refl}
+use Rattle.bl_alone.specs.Files.{is_whole}
 use Rattle.bl_hall.specs.Chronicle.{state_now}
 use Rattle.bl_order.specs.Machine.{most_sessions}
 use Rattle.bl_wire.proofs.PutLaws.{puts-all}
@@ -11,7 +12,7 @@ returns-clause-run g c =
     let full : most_sessions ≤ length (state_now c.args.resumed.hall).sessions = search rules in
     inr (record {
       full = full;
-      part = c.end_with.ensures.part;
+      part = ap is_whole c.end_with.ensures.part;
       status_is = c.end_with.ensures.status;
       said = puts-all _ _ _ c.end_with.ensures.puts;
       unread = Keeps-refl _;

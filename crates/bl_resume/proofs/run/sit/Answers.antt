@@ -4,6 +4,7 @@ use Rattle.bl_setup.specs.Agreement.{Agree}
 use Rattle.bl_setup.specs.Setup.{Setup}
 use Rattle.bl_wire.proofs.PutLaws.{puts-all, puts-two}
 use Rattle.bl_work.specs.Names.{AreNames}
+use Rattle.bl_alone.specs.Files.{fault_in, file_in}
 use Rattle.bl_alone.specs.Recording.{IsLeft}
 use Rattle.bl_alone.specs.Telling.{text_of_all}
 use Rattle.bl_recover.specs.Telling.{cut_line}
@@ -26,8 +27,8 @@ returns-clause-run g c =
       kept = kept.0;
       since = kept.2;
       told = kept.4;
-      trail = left.1;
-      left = subst (λ d. IsLeft kept.0 (Some hall) left.1 (g.D.Device.now d)) (sym c.tell_recorded.ensures.device)
+      trail = fault_in left;
+      left = subst (λ file. IsLeft kept.0 (Some hall) (fault_in left) (file_in g.D.Device.now file)) (sym c.tell_recorded.ensures.file)
           (c.close_after-left.ensures.left kept.0 kept.1 kept.3 (subst Agree (sym same) c.names.ensures.agree)
           (subst (λ (s : Setup). AreNames s.names) (sym same) (subst AreNames c.names.ensures.value c.scheme-scheme.ensures.names)));
       cut_short = c.close_after-left.ensures.cut;
@@ -37,5 +38,5 @@ returns-clause-run g c =
       status_is = told.2;
       said = λ fine.
           puts-all _ _ _
-          (puts-two _ (cut_line c.args.resumed.cut) (text_of_all (option_to_list told.0 ++ option_to_list left.1)) _ _ _ refl c.tell_cut.ensures.puts told.3) fine;
+          (puts-two _ (cut_line c.args.resumed.cut) (text_of_all (option_to_list told.0 ++ option_to_list (fault_in left))) _ _ _ refl c.tell_cut.ensures.puts told.3) fine;
     }

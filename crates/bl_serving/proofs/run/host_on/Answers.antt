@@ -4,6 +4,7 @@ use Rattle.bl_wire.proofs.PutLaws.{puts-append, puts-is}
 use Rattle.bl_disk.specs.File.{File}
 use Rattle.bl_gate.specs.Gates.{hall_seen}
 use Rattle.bl_run.specs.Serving.{hosted_text}
+use Rattle.bl_alone.specs.Files.{fault_in, file_in}
 use Rattle.bl_serving.specs.Hosted.{IsLeft, status_with}
 use Rattle.bl_serving.specs.Telling.{trail_text}
 use Rattle.bl_serving.proofs.run.host_on.Goals as goal
@@ -45,11 +46,11 @@ returns-clause-run g c =
       threads = h.whole;
       ended = ended;
       memory = h.memory;
-      trail = left.1;
-      left = λ whole. subst (λ (d : _). IsLeft begun left.1 (now d)) (sym end.device)
+      trail = fault_in left;
+      left = λ whole. subst (λ file. IsLeft begun (fault_in left) (file_in now file)) (sym end.file)
           (c.close_after-left.ensures.left begun (c.host_kept-hosted.ensures.grown started));
       unclosed = λ unstarted. let bad : true ≡ false = sym started ∙ unstarted in cc;
       whole = (λ whole. (started, end.whole.0 whole), λ both. end.whole.1 both.1);
-      status_is = end.status ∙ ap (λ s. status_with s left.1) told.status;
-      said = puts-append (hosted_text h.whole ended h.memory) (trail_text left.1) _ _ _ told.puts end.puts;
+      status_is = end.status ∙ ap (λ s. status_with s (fault_in left)) told.status;
+      said = puts-append (hosted_text h.whole ended h.memory) (trail_text (fault_in left)) _ _ _ told.puts end.puts;
     }

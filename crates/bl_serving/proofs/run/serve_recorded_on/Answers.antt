@@ -4,6 +4,7 @@ use Rattle.std.specs.Prelude.{not}
 use Rattle.bl_wire.specs.Watch.{end_state}
 use Rattle.bl_wire.proofs.PutLaws.{puts-append}
 use Rattle.bl_hall.specs.Chronicle.{Chronicle}
+use Rattle.bl_alone.specs.Files.{file_in, is_whole}
 use Rattle.bl_alone.specs.Recording.{HasRecorded}
 use Rattle.bl_recover.specs.Telling.{cut_line}
 use Rattle.bl_serving.specs.Hosted.{HasHosted}
@@ -17,12 +18,12 @@ use Rattle.bl_serving.proofs.run.serve_recorded_on.Goals as goal
 -- nothing was begun
 pub returns-in-Err-clause-run : goal.returns-in-Err-clause-run
 returns-in-Err-clause-run g c =
-    inr (c.in-Err.fault, c.end_with.ensures.part, (c.end_with.ensures.status, inl (Keeps-refl _, c.end_with.ensures.puts, inl c.in-Err.ensures.err)))
+    inr (c.in-Err.fault, ap is_whole c.end_with.ensures.part, (c.end_with.ensures.status, inl (Keeps-refl _, c.end_with.ensures.puts, inl c.in-Err.ensures.err)))
 
 -- a growth was refused for the gate
 pub returns-in-Err-new-clause-run : goal.returns-in-Err-new-clause-run
 returns-in-Err-new-clause-run g c =
-    inr (Recovery (Program NoMemory), c.end_with-in-Err-new.ensures.part, (c.end_with-in-Err-new.ensures.status, inl (Keeps-refl _, c.end_with-in-Err-new.ensures.puts, inr refl)))
+    inr (Recovery (Program NoMemory), ap is_whole c.end_with-in-Err-new.ensures.part, (c.end_with-in-Err-new.ensures.status, inl (Keeps-refl _, c.end_with-in-Err-new.ensures.puts, inr refl)))
 
 -- `listening` was not told
 pub returns-then-not-put_out-clause-run : goal.returns-then-not-put_out-clause-run
@@ -32,7 +33,7 @@ returns-then-not-put_out-clause-run g c =
     let untold : c.put_out.result ≡ false = search rules in
     inr (
       fault,
-      c.end_with-then-not-put_out.ensures.part,
+      ap is_whole c.end_with-then-not-put_out.ensures.part,
       (
         c.end_with-then-not-put_out.ensures.status,
         inr (
@@ -64,7 +65,7 @@ returns-clause-run g c =
       listens = c.put_out.ensures.all (search rules);
       between = end_state g.E.Write.contents c.tell_cut.new.errors;
       told = c.tell_cut.ensures.puts;
-      hosted = subst (λ (h : Chronicle). HasHosted h served.result.status served.result.is_whole (g.D.Device.now served.result.device)
+      hosted = subst (λ (h : Chronicle). HasHosted h served.result.status (is_whole served.result.file) (file_in g.D.Device.now served.result.file)
           (end_state g.E.Write.contents c.tell_cut.new.errors) (end_state g.E.Write.contents served.new.errors))
           (hall_of_new made.1 made.0 begun.hall c.in-Ok-new.ensures.gate.0 c.in-Ok-new.ensures.gate.1 c.in-Ok-new.ensures.seen.0) served.ensures.run;
     })
