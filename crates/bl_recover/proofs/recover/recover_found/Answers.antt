@@ -1,12 +1,17 @@
-use Rattle.std.proofs.Common.{inr}
+use Rattle.std.proofs.Common.{inr, subst, sym}
 use Rattle.std.proofs.KnownBytes.{Keeps-refl}
+use Rattle.bl_disk.specs.File.{seen}
+use Rattle.bl_recover.specs.Recoveries.{HasEnded}
 use Rattle.bl_recover.proofs.Recoveries.{ends, has_ended}
 use Rattle.bl_recover.proofs.recover.recover_found.Goals as goal
 
 -- the trail is closed
 pub returns-in-Ok-clause-ended : goal.returns-in-Ok-clause-ended
 returns-in-Ok-clause-ended g c =
-    has_ended c.args.setup.now _ _ c.in-Ok.field-0.events c.in-Ok.field-0.cut c.tell_closed-status.result.0 c.in-Ok.ensures.closed c.tell_closed-status.ensures.closed
+    let now = g.D.Device.now in
+    let end = c.tell_closed-status.result.0 in
+    subst (λ device. HasEnded c.args.setup.now (seen (now c.args.found.device)) end (now device)) (sym c.end-device.ensures)
+    (has_ended c.args.setup.now _ _ c.in-Ok.field-0.events c.in-Ok.field-0.cut end c.in-Ok.ensures.closed c.tell_closed-status.ensures.closed)
 
 pub returns-in-Ok-clause-range : goal.returns-in-Ok-clause-range
 returns-in-Ok-clause-range g c = ends c.in-Ok.field-0.events c.in-Ok.field-0.cut _ _ c.tell_closed-status.ensures.closed c.tell_closed-status.ensures.status
