@@ -66,7 +66,8 @@ fn words_of<R: AllocGlobal + Env>(rt: &R) -> io::Result<Vec<String>> {
     Ok(words)
 }
 
-/// How many threads and sessions there are, and how long one may be idle, by what is hosted.
+/// How many threads and sessions there are, how long one may be idle, and how many bytes the trail may have, by what is
+/// hosted.
 #[tactic(auto, using(crate::proofs::Hosting::idle_is_in_range))]
 pub(crate) fn options_of(hosting: &Hosting<'_>) -> Options
     requires { IsHostingInRange hosting.now }
@@ -75,6 +76,7 @@ pub(crate) fn options_of(hosting: &Hosting<'_>) -> Options
     ensures sessions { result.sessions ≡ hosting.now.sessions }
     ensures clients { result.clients ≡ hosting.now.clients }
     ensures idle { result.idle ≡ hosting.now.idle }
+    ensures trail_limit { result.trail_limit ≡ hosting.now.trail_limit }
 {
     Options {
         workers: hosting.workers,
@@ -82,6 +84,7 @@ pub(crate) fn options_of(hosting: &Hosting<'_>) -> Options
         sessions: hosting.sessions,
         clients: hosting.clients,
         idle: hosting.idle,
+        trail_limit: hosting.trail_limit,
     }
 }
 
@@ -94,6 +97,7 @@ fn run_of<'a>(hosting: &Hosting<'a>) -> ServeRun<'a>
     ensures sessions { result.options.sessions ≡ hosting.now.sessions }
     ensures clients { result.options.clients ≡ hosting.now.clients }
     ensures idle { result.options.idle ≡ hosting.now.idle }
+    ensures trail_limit { result.options.trail_limit ≡ hosting.now.trail_limit }
     ensures trail { result.trail ≡ hosting.now.trail }
 {
     ServeRun {

@@ -58,6 +58,7 @@ fn is_same(one: &Hosting<'_>, other: &Hosting<'_>) -> bool {
     let name = one.trail.name == other.trail.name;
     let keeping = one.keeping == other.keeping;
     let numbers = one.limit == other.limit
+        && one.trail_limit == other.trail_limit
         && one.workers == other.workers
         && one.session_threads == other.session_threads
         && one.sessions == other.sessions
@@ -77,6 +78,7 @@ const PLAIN: Hosting<'static> = Hosting {
         replaces: false,
         claims: false,
     },
+    trail_limit: 1_073_741_824,
     keeping: TrailKeeping::AtEnd,
     resumes: false,
     workers: 2,
@@ -93,7 +95,8 @@ fn reads_serve(rt: HostRuntime) -> Result<(), Fail> {
     assert!(rt; name_serve(rt.alloc(), least, &PLAIN)?);
     let all =
         "bl_server serve --sessions 1000 --clients 200 --claim-trail --limit 7 --session-threads 3 --trail other.trail \
-        --keep synced --workers 16 --replace --resume --port 65535 --setup base.txt --idle 60 --log who.log";
+        --keep synced --workers 16 --replace --resume --port 65535 --setup base.txt --idle 60 --log who.log \
+        --trail-limit 70000";
     let wanted = Hosting {
         limit: 7,
         entrance: NamedEntrance::Port(65_535),
@@ -102,6 +105,7 @@ fn reads_serve(rt: HostRuntime) -> Result<(), Fail> {
             replaces: true,
             claims: true,
         },
+        trail_limit: 70_000,
         keeping: TrailKeeping::Synced,
         resumes: true,
         workers: 16,
@@ -137,6 +141,15 @@ fn reads_where_clients_come_in(rt: HostRuntime) -> Result<(), Fail> {
     Ok(())
 }
 
+/// A trail is not held to less than its head may take.
+#[test]
+fn refuses_a_trail_too_short(rt: HostRuntime) -> Result<(), Fail> {
+    let short =
+        "bl_server serve --setup base.txt --port 7654 --trail run.trail --trail-limit 65535";
+    assert_eq!(rt; status_without_a_command(rt.alloc(), short)?, Some(2));
+    Ok(())
+}
+
 /// Each number is taken at both ends of its range, and refused one past each.
 #[test]
 fn reads_numbers_in_their_ranges(rt: HostRuntime) -> Result<(), Fail> {
@@ -166,6 +179,12 @@ fn reads_numbers_in_their_ranges(rt: HostRuntime) -> Result<(), Fail> {
             "1",
             "86400",
             "86401",
+        ),
+        (
+            "--trail run.trail --port 7654 --trail-limit",
+            "65536",
+            "1073741824",
+            "1073741825",
         ),
         (
             "--trail run.trail --port 7654 --limit",

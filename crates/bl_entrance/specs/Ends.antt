@@ -3,7 +3,7 @@ use Rattle.std.specs.Prelude.{ℕ, Bool, true, false, List, Option, Some, None, 
 use Rattle.bl_entrance.specs.declared.ended.Ended.{Ended}
 use Rattle.bl_entrance.specs.declared.ended.Ending.{Ending}
 use Rattle.bl_entrance.specs.declared.ended.Why.{Why}
-use Rattle.bl_entrance.specs.declared.ended.Why.TheVariants.{Accept, NotKept, Idle, Session}
+use Rattle.bl_entrance.specs.declared.ended.Why.TheVariants.{Accept, NotKept, Idle, TrailFull, Session}
 use Rattle.bl_record.specs.declared.fault.JournalFault.{JournalFault}
 use Rattle.bl_record.specs.declared.fault.JournalFault.TheVariants as keeping
 use Rattle.bl_wire.specs.declared.fault.SessionFault.{SessionFault}
@@ -19,11 +19,13 @@ why_by TooLong refused = Session TooLong
 why_by Memory refused = Session Memory
 why_by Clash refused = Session Clash
 
--- why the session of a connection that leaves ended early, if it did: who was idle for too long is idle, whatever else
-abbrev pub end_by : Bool → Option SessionFault → Option JournalFault → Option Why
-end_by true fault refused = Some Idle
-end_by false (Some fault) refused = Some (why_by fault refused)
-end_by false None refused = None
+-- why the session of a connection that leaves ended early, if it did: who was idle for too long is idle, whatever else;
+-- then a fault goes before that its line would never have fitted in the trail
+abbrev pub end_by : (is_idle is_full : Bool) → Option SessionFault → Option JournalFault → Option Why
+end_by true is_full fault refused = Some Idle
+end_by false is_full (Some fault) refused = Some (why_by fault refused)
+end_by false true None refused = Some TrailFull
+end_by false false None refused = None
 
 -- the early end of the session with this number, for this reason, if it has one
 abbrev pub early_end : ℕ → Option Why → Option Ended
@@ -40,6 +42,7 @@ abbrev pub ended_words : Why → List ℕ
 ended_words Accept = codes "accept fault"
 ended_words NotKept = codes "not kept"
 ended_words Idle = codes "idle"
+ended_words TrailFull = codes "trail full"
 ended_words (Session Read) = codes "read fault"
 ended_words (Session Write) = codes "write fault"
 ended_words (Session TooLong) = codes "too long"

@@ -14,6 +14,8 @@ pub enum Why {
     NotKept,
     /// It sent nothing, or took nothing, for too long.
     Idle,
+    /// Its line would never have fitted in the trail.
+    TrailFull,
     /// Its service ended with this fault.
     Session(SessionFault),
 }
@@ -48,21 +50,23 @@ impl Ending {
     }
 }
 
-/// How the session of a connection ended that leaves, if that was early: it was idle for too long, or its service ended
-/// with this fault.
+/// How the session of a connection ended that leaves, if that was early: it was idle for too long, its service ended
+/// with this fault, or its line would never have fitted in the trail.
 pub fn ending_of(
     session: u32,
     is_idle: bool,
+    is_full: bool,
     fault: Option<SessionFault>,
     refused: Option<JournalFault>,
 ) -> Option<Ending>
-    ensures { ended_of result ≡ early_end session (end_by is_idle fault refused) }
+    ensures { ended_of result ≡ early_end session (end_by is_idle is_full fault refused) }
 {
     if is_idle {
         return Some(Ending::new(session, Why::Idle));
     }
     match fault {
         Some(fault) => Some(Ending::new(session, why_refused(fault, refused))),
+        None if is_full => Some(Ending::new(session, Why::TrailFull)),
         None => None,
     }
 }
@@ -94,6 +98,7 @@ pub fn ended_words(why: Why) -> &'static str
         Why::Accept => "accept fault",
         Why::NotKept => "not kept",
         Why::Idle => "idle",
+        Why::TrailFull => "trail full",
         Why::Session(SessionFault::Read) => "read fault",
         Why::Session(SessionFault::Write) => "write fault",
         Why::Session(SessionFault::TooLong) => "too long",

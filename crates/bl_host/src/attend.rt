@@ -192,7 +192,8 @@ impl<'a, K: Keep, T: Wait + Clock> Attendant<'a, K, T> {
     }
 
     /// Sees off a connection that leaves, or that was idle for too long: if it ended early, that is told. Its output is
-    /// ended where its session is over; where nothing more is kept, no further connection is taken.
+    /// ended where its session is over; where nothing more is kept, or no line will fit in the trail any more, no
+    /// further connection is taken.
     fn see_off<P, F: Write + Drop>(
         &mut self,
         context: &ThreadContext<'a, P, K, T>,
@@ -202,21 +203,23 @@ impl<'a, K: Keep, T: Wait + Clock> Attendant<'a, K, T> {
     ) -> Parted
         ensures rounds { self.new.rounds ≡ self.old.rounds }
         ensures parted { result.ended
-            ≡ early_end gone.entry.number (end_by idle gone.entry.fault gone.entry.stream.refused) }
+            ≡ early_end gone.entry.number (end_by idle gone.entry.full gone.entry.fault
+            gone.entry.stream.refused) }
     {
         let Gone {
             number,
             stream,
             fault,
+            full,
             lines,
             events,
         } = gone;
         self.events = events;
         let (greeted, refused) = stream.into_parts();
-        if matches!(refused, Some(JournalFault::Device(_))) {
+        if matches!(refused, Some(JournalFault::Device(_))) || (full && context.quota.is_full()) {
             acceptor.close(context.rt, context.alarms);
         }
-        let ending = ending_of(number, idle, fault, refused);
+        let ending = ending_of(number, idle, full, fault, refused);
         if ending.is_none() {
             greeted.inner().end_output();
         }
@@ -322,6 +325,7 @@ impl<'a, P: Pause, K: Keep, T: Wait + Clock> ThreadContext<'a, P, K, T> {
             looks: acceptor.looks(),
             called: true,
         };
+        let (round_context, mut quota) = (self.round_context(), self.asked_quota());
         acceptor.come(self.rt, thread);
         for _ in self.rt.forever() {
             attendant.look(self, acceptor);
@@ -329,7 +333,7 @@ impl<'a, P: Pause, K: Keep, T: Wait + Clock> ThreadContext<'a, P, K, T> {
                 attendant.take(self, acceptor);
                 attendant.welcome(self, acceptor);
             }
-            attendant.rounds.round(self.rt, self.pause, self.calls());
+            attendant.rounds.round(&round_context, &mut quota);
             attendant.note_greetings(self, acceptor);
             attendant.see_all_off(self, acceptor);
             if attendant.rounds.len() == 0 && acceptor.is_over(self.rt, thread) {

@@ -2,11 +2,12 @@
 ghost use Rattle.std.specs.Prelude.{◌≡◌};
 ghost use Rattle.bl_gate.specs.Gates.{Follows};
 
+use crate::shared::{AskedQuota, SharedQuota};
 use bl_gate::gate::Gate;
 use bl_gate::pass::Pass;
 use bl_keeper::keep::Keep;
 use bl_rounds::alarm::Alarms;
-use bl_rounds::rounds::Calls;
+use bl_rounds::rounds::{Calls, RoundContext};
 use bl_worker::bell::Bell;
 use bl_worker::pause::Pause;
 use bl_worker::worker::run_worker;
@@ -14,8 +15,8 @@ use std::alloc::Global;
 use std::sync::Wait;
 
 /// What each thread works with: the runtime, where memory comes from, the gate, the bell at which workers wait and the
-/// alarms of the session threads, what its turns do between a start and an end, and what keeps all that has happened
-/// before a session is told.
+/// alarms of the session threads, what its turns do between a start and an end, what keeps all that has happened before a
+/// session is told, and the quota of the trail.
 #[derive(Drop)]
 pub(crate) struct ThreadContext<'a, P, K, T> {
     pub(crate) rt: &'a T,
@@ -25,6 +26,7 @@ pub(crate) struct ThreadContext<'a, P, K, T> {
     pub(crate) alarms: &'a Alarms,
     pub(crate) pause: &'a P,
     pub(crate) keep: &'a K,
+    pub(crate) quota: &'a SharedQuota,
 }
 
 impl<'a, P: Pause, K: Keep, T: Wait> ThreadContext<'a, P, K, T> {
@@ -33,6 +35,23 @@ impl<'a, P: Pause, K: Keep, T: Wait> ThreadContext<'a, P, K, T> {
         Calls {
             alarms: self.alarms,
             bell: self.bell,
+        }
+    }
+
+    /// What a session thread does its rounds with.
+    pub(crate) fn round_context(&self) -> RoundContext<'a, P, T> {
+        RoundContext {
+            rt: self.rt,
+            pause: self.pause,
+            calls: self.calls(),
+        }
+    }
+
+    /// The quota of the trail, as this thread asks it.
+    pub(crate) fn asked_quota(&self) -> AskedQuota<'a, T> {
+        AskedQuota {
+            rt: self.rt,
+            shared: self.quota,
         }
     }
 

@@ -6,6 +6,7 @@ ghost use Rattle.bl_host.specs.Gathering.{GivesMore};
 
 use crate::attend::SessionAcceptor;
 use crate::context::ThreadContext;
+use crate::shared::{SharedQuota, count_trail};
 use crate::threads::{join_threads, start_sessions, start_workers};
 use bl_entrance::acceptor::{Acceptor, SharedLog};
 use bl_entrance::ended::Ended;
@@ -122,7 +123,8 @@ fn make_watches<R: Net>(rt: &R, alloc: Global, entrance: &Entrance, count: u32) 
     Waiting { watches, alarms }
 }
 
-/// Starts the threads in a scope of their own, and waits for them.
+/// Starts the threads in a scope of their own, and waits for them. The trail is counted before, with all that it has.
+#[tactic(auto, using(crate::proofs::Passes::follows_on))]
 fn run_scope<
     P: Pause + Sync,
     K: Keep + Sync,
@@ -133,7 +135,7 @@ fn run_scope<
     host_context: &HostContext<'_, P, K, T, F>,
     acceptor: &D,
     waiting: Waiting,
-    pass: Pass,
+    mut pass: Pass,
     options: Options,
 ) -> Joined
     requires gate { pass.gate ≡ host_context.now.gate.now }
@@ -145,6 +147,8 @@ fn run_scope<
     let (rt, alloc, gate) = (host_context.rt, host_context.alloc, host_context.gate);
     let (pause, keep) = (host_context.pause, host_context.keep);
     let Waiting { watches, alarms } = waiting;
+    let counted = count_trail(rt, gate, &mut pass, options.trail_limit);
+    let quota = &SharedQuota::new(counted);
     let bell = &Bell::new();
     let alarms = &alarms;
     thread::scope(
@@ -162,6 +166,7 @@ fn run_scope<
                 alarms,
                 pause,
                 keep,
+                quota,
             };
             run_threads(scope, &context, pass, acceptor, watches, options)
         },

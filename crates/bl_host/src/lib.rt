@@ -2,6 +2,7 @@
 //! end is passed on from below.
 //!
 //!     context    what a thread works with, and what a worker does
+//!     shared     the quota of the trail, which session threads share
 //!     attend     what a session thread does
 //!     threads    threads that are started and joined
 //!     host       all of them, round one gate
@@ -10,6 +11,7 @@
 mod attend;
 mod context;
 pub mod host;
+mod shared;
 mod threads;
 
 pub use bl_entrance::{ended, entrance, options};

@@ -41,7 +41,8 @@ pub(crate) fn start_worker<'s, E, P: Pause + Sync, K: Keep + Sync, T: Threads + 
     let part = context.gate.split_pass(pass);
     let promise = GivesPassBack(Snapshot::of(&part));
     let (rt, alloc, gate) = (context.rt, context.alloc, context.gate);
-    let (bell, alarms, pause, keep) = (context.bell, context.alarms, context.pause, context.keep);
+    let (bell, alarms) = (context.bell, context.alarms);
+    let (pause, keep, quota) = (context.pause, context.keep, context.quota);
     let started = scope.spawn_with(
         promise,
         move || -> Pass
@@ -56,6 +57,7 @@ pub(crate) fn start_worker<'s, E, P: Pause + Sync, K: Keep + Sync, T: Threads + 
                 alarms,
                 pause,
                 keep,
+                quota,
             };
             context.work(part)
         },
@@ -88,7 +90,8 @@ pub(crate) fn start_session<
     let part = context.gate.split_pass(pass);
     let promise = GivesPassBack(Snapshot::of(&part));
     let (rt, alloc, gate) = (context.rt, context.alloc, context.gate);
-    let (bell, alarms, pause, keep) = (context.bell, context.alarms, context.pause, context.keep);
+    let (bell, alarms) = (context.bell, context.alarms);
+    let (pause, keep, quota) = (context.pause, context.keep, context.quota);
     let started = scope.spawn_with(
         promise,
         move || -> Pass
@@ -103,6 +106,7 @@ pub(crate) fn start_session<
                 alarms,
                 pause,
                 keep,
+                quota,
             };
             acceptor.be_attended(&context, part, thread, watch)
         },

@@ -1,6 +1,6 @@
 -- What is answered of a line, by what is counted.
 use Rattle.std.proofs.Common.{◌≡◌, ℕ, ◌≤◌, ◌<◌, ◌+◌, ◌-◌, ◌^◌, min, true, false, Bool, refl, ap, sym, ◌∙◌, subst, arith, true≢false}
-use Rattle.std.specs.Prelude.{◌↔◌, IsTrue}
+use Rattle.std.specs.Prelude.{◌↔◌, IsTrue, not}
 use Rattle.bl_order.specs.Machine.{State}
 use Rattle.bl_sizes.specs.Counts.{IsCounted, in_word}
 use Rattle.bl_sizes.specs.Sizes.{HoldsDocuments}
@@ -16,6 +16,14 @@ pub not-fits : (most own full count size more : ℕ) (room : Bool) → most < 2 
     → (IsTrue room ↔ (count + more ≤ own)) → room ≡ false → ¬ (full + size ≤ most)
 not-fits most own full count size more room small same all are decides never le =
     true≢false (sym (decides.1 (omega (arith, small, same, all, are, le))) ∙ never)
+
+-- so it is decided whether the trail is full
+pub full-is : (most own written count least : ℕ) (room : Bool) → most < 2 ^ 32 → own ≡ most → count ≡ in_word written → (IsTrue room ↔ (count + least ≤ own))
+    → IsTrue (not room) ↔ (¬ (written + least ≤ most))
+full-is most own written count least true small same all decides =
+    (λ no. absurd (true≢false (sym no)), λ never. absurd (never (omega (arith, small, same, all, decides.0 refl))))
+full-is most own written count least false small same all decides =
+    (λ yes le. true≢false (sym (decides.1 (omega (arith, small, same, all, le)))), λ never. refl)
 
 pub less-all : (full count : ℕ) → count ≡ in_word full → in_word full ≤ count
 less-all full count is = omega (arith, is)

@@ -1,11 +1,12 @@
 -- What a quota counts, and what it answers of a line.
-use Rattle.std.specs.Prelude.{◌≡◌, ℕ, ◌≤◌, ◌<◌, true, length, sum_by, Option, Some, None}
+use Rattle.std.specs.Prelude.{◌≡◌, ℕ, ◌+◌, ◌≤◌, ◌<◌, true, length, sum_by, Option, Some, None}
 use Rattle.std.specs.List.{range_with_len}
 use Rattle.bl_work.specs.declared.work.Work.{Work}
 use Rattle.bl_order.specs.Headline.{IsReached}
 use Rattle.bl_order.specs.Machine.{State, has_ended}
 use Rattle.bl_sizes.specs.Counts.{IsCounted, LeadsOn, in_word}
 use Rattle.bl_sizes.specs.Sizes.{FitsAlone, FitsIn, HoldsDocuments, full_size, written_at, written_size}
+use Rattle.bl_sizes.specs.Sizes.{denied_more, line_most, run_most}
 use Rattle.bl_quota.specs.declared.quota.Fit.{Fit}
 use Rattle.bl_quota.specs.declared.quota.Fit.TheVariants.{Now, Later, Never}
 use Rattle.bl_quota.specs.declared.quota.Quota.{Quota}
@@ -51,6 +52,14 @@ abbrev pub IsFit : ℕ → State → Work → Fit → Type 0
 IsFit most x work Now = FitsIn most x work
 IsFit most x work Later = (¬ FitsIn most x work) × FitsAlone most x work
 IsFit most x work Never = ¬ FitsAlone most x work
+
+-- the least that a line may add: the 8 bytes of `create a`, what stands round them, its start and its denial
+abbrev pub least_size : ℕ
+least_size = line_most + 8 + (run_most + denied_more)
+
+-- the trail is full: not even that would stay within the limit beside what was written
+abbrev pub IsFull : ℕ → State → Type 0
+IsFull most x = ¬ (written_size x + least_size ≤ most)
 
 -- under a limit a line is allowed as it fits, and without one each is allowed
 abbrev pub IsAllowed : Option ℕ → State → Work → Fit → Type 0

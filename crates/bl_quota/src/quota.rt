@@ -9,6 +9,9 @@ use bl_work::work::Work;
 /// What the head of a trail takes, with `stop` and 1,000 openings.
 const FRAME: u64 = 38_026;
 
+/// The least that a line adds, `create a`.
+const LEAST: u64 = 128;
+
 /// Whether a line may be admitted.
 #[derive(Clone, Copy, Debug, PartialEq, Eq)]
 pub enum Fit {
@@ -42,7 +45,7 @@ impl Quota {
     ghost use Rattle.std.specs.Prelude.{◌≡◌, ◌<◌, ◌≤◌, ◌+◌, ◌^◌, ◌↔◌, IsTrue};
     ghost use Rattle.bl_work.specs.Readable.{IsReadable};
     ghost use Rattle.bl_sizes.specs.Counts.{IsCounted};
-    ghost use Rattle.bl_quota.specs.Quotas.{IsFit, IsLooked, IsQuota, IsRecounted, IsSettled, WasQuota, limit_of};
+    ghost use Rattle.bl_quota.specs.Quotas.{IsFit, IsFull, IsLooked, IsQuota, IsRecounted, IsSettled, WasQuota, limit_of};
 
     /// The count of a core under a limit: of a run that begins, or of one that goes on.
     pub fn new(core: &Core, most: u32) -> Quota
@@ -132,5 +135,18 @@ impl Quota {
         } else {
             Fit::Never
         }
+    }
+
+    /// Whether no line will ever fit any more, not even the least one, of a core that the quota is of, or what has come
+    /// of it since. It takes no memory.
+    pub fn is_full(&mut self, core: &Core) -> bool
+        ensures full { WasQuota self.old core.now → IsTrue result ↔ IsFull (limit_of self.old) core.now }
+        ensures quota { WasQuota self.old core.now → IsQuota self.new core.now }
+        ensures limit { limit_of self.new ≡ limit_of self.old }
+    {
+        counts_stay();
+        headline();
+        let written = self.recount(core);
+        !self.has_room(written, LEAST)
     }
 }

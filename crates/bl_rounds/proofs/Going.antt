@@ -1,5 +1,5 @@
 -- How a member of a crowd that leaves has gone, and how one round follows another.
-use Rattle.std.proofs.Common.{◌≡◌, ◌<◌, ◌∙◌, ℕ, List, [], length, vec_len, get_or, refl, sym, ap, subst, Option, Some, None}
+use Rattle.std.proofs.Common.{◌≡◌, ◌<◌, ◌⊎◌, ◌∙◌, ℕ, Bool, true, false, List, [], length, vec_len, get_or, refl, sym, ap, subst, Option, Some, None, inl, inr}
 use Rattle.std.specs.Prelude.{All}
 use Rattle.std.proofs.lemmas.List.Elements.{All-get_or}
 use Rattle.bl_work.specs.Names.{KnownNames}
@@ -22,6 +22,12 @@ use Rattle.bl_rounds.specs.declared.rounds.Hand.{Hand}
 use Rattle.bl_rounds.specs.declared.seat.Seat.{Seat}
 use Rattle.bl_rounds.proofs.Seating.{at_index}
 
+none_is_not : {T : Type 0} (a : T) → None ≡ Some a → ⊥
+none_is_not a is = cc
+
+false_is_not : false ≡ true → ⊥
+false_is_not is = cc
+
 -- nothing is in hand where none runs and none was run
 none_in : (batch : Batch) → IsIdle batch → loans_in batch ≡ []
 none_in batch idle = rw (idle.0, idle.1) refl
@@ -41,12 +47,12 @@ module _ {S : Type 0} (remaining contents : S → Option (List ℕ)) (crowd : Cr
       (subst (Here crowd.gate.now.base.setup.names) (there.1 there.0) (All-get_or (Here crowd.gate.now.base.setup.names) crowd.members.items i there.0 lt is.members.each))
 
   -- one whose session was over
-  pub gone_over : (gone : Gone S) → IsCrowd remaining contents crowd → Follows crowd.first.value crowd.pass → i < length crowd.members.items → gone.fault ≡ None
+  pub gone_over : (gone : Gone S) → IsCrowd remaining contents crowd → Follows crowd.first.value crowd.pass → i < length crowd.members.items → gone.fault ≡ None → gone.full ≡ false
       → ((d : Member S) → (get_or crowd.members.items i d).fault ≡ None) → ((d : Member S) → gone.stream ≡ (get_or crowd.members.items i d).connection.stream)
       → ((d : Member S) → gone.lines ≡ last_ordinal (get_or crowd.members.items i d).connection.conv)
       → ((d : Member S) → IsServedAmong remaining contents crowd.gate.now.base.setup.names crowd.first.value crowd.pass (get_or crowd.members.items i d).connection)
       → HasGone remaining contents crowd.first.value gone
-  gone_over gone is follows lt none fine stream lines served =
+  gone_over gone is follows lt none room fine stream lines served =
       let there = at_index crowd.members.items i lt in
       let Left : KnownNames → Member S → Type 0 = λ names m. IsServedAmong remaining contents names crowd.first.value crowd.pass m.connection in
       record {
@@ -57,19 +63,21 @@ module _ {S : Type 0} (remaining contents : S → Option (List ℕ)) (crowd : Cr
         stream_is = stream there.0 ∙ ap (λ (m : Member S). m.connection.stream) (there.1 there.0);
         fault_is = none ∙ sym (sym (ap (λ (m : Member S). m.fault) (there.1 there.0)) ∙ fine there.0);
         lines_is = lines there.0 ∙ ap (λ (m : Member S). last_ordinal m.connection.conv) (there.1 there.0);
-        leaves = subst (LeavesAs remaining contents crowd.first.value crowd.pass there.0) (sym none)
-            (subst (λ names. Left names there.0) (names_are is) (subst (Left crowd.gate.now.base.setup.names) (there.1 there.0) (served there.0)));
+        leaves = subst (λ full. LeavesAs remaining contents crowd.first.value crowd.pass there.0 full gone.fault) (sym room)
+            (subst (LeavesAs remaining contents crowd.first.value crowd.pass there.0 false) (sym none)
+            (subst (λ names. Left names there.0) (names_are is) (subst (Left crowd.gate.now.base.setup.names) (there.1 there.0) (served there.0))));
       }
 
   -- one that was put out
   pub gone_out : (gone : Gone S) → IsCrowd remaining contents crowd → Follows crowd.first.value crowd.pass → i < length crowd.members.items
       → ((d : Member S) → gone.stream ≡ (get_or crowd.members.items i d).connection.stream)
       → ((d : Member S) → gone.fault ≡ (get_or crowd.members.items i d).fault)
+      → ((d : Member S) → gone.full ≡ (get_or crowd.members.items i d).full)
       → ((d : Member S) → gone.lines ≡ last_ordinal (get_or crowd.members.items i d).connection.conv)
       → ((d : Member S) → Departs remaining contents crowd.gate.now.base.setup.names crowd.first.value crowd.pass (get_or crowd.members.items i d).connection
       (get_or crowd.members.items i d).reception gone.fault)
       → HasParted remaining contents crowd.first.value gone
-  gone_out gone is follows lt stream same lines departs =
+  gone_out gone is follows lt stream same room lines departs =
       let there = at_index crowd.members.items i lt in
       let Left : KnownNames → Member S → Type 0 = λ names m. Departs remaining contents names crowd.first.value crowd.pass m.connection m.reception gone.fault in
       record {
@@ -80,23 +88,35 @@ module _ {S : Type 0} (remaining contents : S → Option (List ℕ)) (crowd : Cr
         stream_is = stream there.0 ∙ ap (λ (m : Member S). m.connection.stream) (there.1 there.0);
         fault_is = same there.0 ∙ ap (λ (m : Member S). m.fault) (there.1 there.0);
         lines_is = lines there.0 ∙ ap (λ (m : Member S). last_ordinal m.connection.conv) (there.1 there.0);
+        full_is = room there.0 ∙ ap (λ (m : Member S). m.full) (there.1 there.0);
         departs = subst (λ names. Left names there.0) (names_are is) (subst (Left crowd.gate.now.base.setup.names) (there.1 there.0) (departs there.0));
       }
 
--- one that had failed
-pub gone_failed : {S : Type 0} (remaining contents : S → Option (List ℕ)) (first : PassView) (gone : Gone S) (fault : SessionFault) → gone.fault ≡ Some fault
-    → HasParted remaining contents first gone → HasGone remaining contents first gone
-gone_failed remaining contents first gone fault is p = record {
-  pass = p.pass;
-  follows = p.follows;
-  member = p.member;
-  was = p.was;
-  stream_is = p.stream_is;
-  fault_is = p.fault_is;
-  lines_is = p.lines_is;
-  leaves = subst (LeavesAs remaining contents first p.pass p.member) (sym is)
-      (subst (Departs remaining contents p.pass.gate.base.setup.names first p.pass p.member.connection p.member.reception) is p.departs);
-}
+-- one that had failed, or whose line would never have fitted
+module _ {S : Type 0} (remaining contents : S → Option (List ℕ)) (first : PassView) where
+  leaves_so : (pass : PassView) (member : Member S) (full : Bool) (fault : Option SessionFault) → full ≡ member.full
+      → ((of : SessionFault) × (fault ≡ Some of)) ⊎ (full ≡ true)
+      → Departs remaining contents pass.gate.base.setup.names first pass member.connection member.reception fault
+      → LeavesAs remaining contents first pass member full fault
+  leaves_so pass member true fault is why departs = (sym is, departs)
+  leaves_so pass member false (Some fault) is why departs = departs
+  leaves_so pass member false None is why departs = elim why [
+    | inl failed ↦ absurd (none_is_not (failed.0) (failed.1))
+    | inr full ↦ absurd (false_is_not full)
+  ]
+
+  pub gone_early : (gone : Gone S) → ((of : SessionFault) × (gone.fault ≡ Some of)) ⊎ (gone.full ≡ true) → HasParted remaining contents first gone
+      → HasGone remaining contents first gone
+  gone_early gone why p = record {
+    pass = p.pass;
+    follows = p.follows;
+    member = p.member;
+    was = p.was;
+    stream_is = p.stream_is;
+    fault_is = p.fault_is;
+    lines_is = p.lines_is;
+    leaves = leaves_so p.pass p.member gone.full gone.fault p.full_is why p.departs;
+  }
 
 -- ---- one after another
 

@@ -1,5 +1,5 @@
 -- How a thread goes on with its connections.
-use Rattle.std.specs.Prelude.{◌≡◌, ◌≢◌, ◌<◌, ℕ, List, [], Option, Some, None, get_or, length, vec_len}
+use Rattle.std.specs.Prelude.{◌≡◌, ◌≢◌, ◌<◌, ◌⊎◌, ℕ, true, List, [], Option, Some, None, get_or, length, vec_len}
 use Rattle.std.specs.List.{remove}
 use Rattle.bl_gate.specs.Gates.{PassView}
 use Rattle.bl_worker.specs.Batches.{AllRan, HasRoom, IsBatch, IsIdle, loans_in}
@@ -37,14 +37,15 @@ abbrev pub HasTime : ℕ → Option Hand → Type 0
 HasTime time None = Unit {0}
 HasTime time (Some hand) = hand.marks.time ≡ time
 
--- what is known of a member by its seat, where it is to leave: its session is over, or it has failed
+-- what is known of a member by its seat, where it is to leave: its session is over, or it has failed, or its line will
+-- never fit in the trail
 abbrev pub StandsAt : {S : Type 0} → Stage → Member S → Type 0
 StandsAt Goes member = Unit {0}
 StandsAt Asks member = Unit {0}
 StandsAt Waits member = Unit {0}
 StandsAt Sleeps member = Unit {0}
 StandsAt Over member = (state_of member.connection ≡ states.Over) × (member.fault ≡ None)
-StandsAt Failed member = (fault : SessionFault) × (member.fault ≡ Some fault)
+StandsAt Failed member = ((fault : SessionFault) × (member.fault ≡ Some fault)) ⊎ (member.full ≡ true)
 
 -- it is so of the first ones
 abbrev pub StandSo : {S : Type 0} → ℕ → List Seat → List (Member S) → Type 0

@@ -38,11 +38,6 @@ impl Alarms {
         Ok(())
     }
 
-    /// How many alarms there are.
-    pub fn len(&self) -> usize {
-        self.alarms.len()
-    }
-
     /// How many entries have ended; the count wraps.
     pub fn ends(&self) -> u64 {
         self.ends.load(Ordering::SeqCst)

@@ -21,6 +21,7 @@ use bl_crowd::member::Next;
 use bl_gate::gate::Gate;
 use bl_gate::pass::Pass;
 use bl_policy::id::SubjectId;
+use bl_quota::asks::Asks;
 use bl_wire::fault::SessionFault;
 use bl_worker::batch::Batch;
 use bl_worker::bell::{Bell, WorkerBell};
@@ -41,13 +42,14 @@ const MOST_ENTRIES: usize = 64;
 /// How many lines more of a connection are done in a turn at the gate at most.
 const MOST_LINES: usize = 128;
 
-/// A connection that has left: its number, its stream, why it had to, the ordinal of the last line that it has heard,
-/// and how many events the trail had when the thread was last at the gate. It cannot be let go: it has to be taken
-/// apart.
+/// A connection that has left: its number and stream, the fault for which it had to, whether it had to since its line
+/// would never fit, the ordinal of the last line heard, and how many events the trail had at the thread's last turn. It
+/// cannot be let go: it has to be taken apart.
 pub struct Gone<S> {
     pub number: u32,
     pub stream: S,
     pub fault: Option<SessionFault>,
+    pub full: bool,
     pub lines: u32,
     pub events: usize,
 }
@@ -65,6 +67,14 @@ pub struct Greeting {
 pub struct Calls<'a> {
     pub alarms: &'a Alarms,
     pub bell: &'a Bell,
+}
+
+/// What a round works with: the runtime, what its turns do between a start and an end, and what calls those who sleep.
+#[derive(Drop)]
+pub struct RoundContext<'a, P, R> {
+    pub rt: &'a R,
+    pub pause: &'a P,
+    pub calls: Calls<'a>,
 }
 
 impl WorkerBell for Calls<'_> {
@@ -85,7 +95,7 @@ impl WorkerBell for Calls<'_> {
 /// What a thread keeps in mind from one turn at the gate to the next: the count of ends that it has taken in, whether
 /// it may have left entries that are ready, whether nobody was called for those, how many events the trail had, and
 /// what time it is.
-#[derive(Clone, Copy)]
+#[derive(Clone, Copy, Default)]
 pub(crate) struct Marks {
     seen: u64,
     left: bool,
@@ -106,18 +116,10 @@ impl Hand {
     fn new(alloc: Global) -> Result<Hand, AllocError>
         ensures { IfOk result (λ hand. (pass : PassView) → HasRun pass pass hand × IsIdle hand.batch) }
     {
-        let batch = Batch::new(alloc, MOST_ENTRIES)?;
-        let marks = Marks {
-            seen: 0,
-            left: false,
-            uncalled: false,
-            events: 0,
-            time: 0,
-        };
         Ok(Hand {
             alloc,
-            batch,
-            marks,
+            batch: Batch::new(alloc, MOST_ENTRIES)?,
+            marks: Marks::default(),
         })
     }
 
@@ -166,8 +168,7 @@ impl<'a, S: Stream> Model for Rounds<'a, S> {
     ghost invariant = { λ rounds. AreSeated S.remaining S.contents rounds.crowd rounds.seats.items rounds.hand };
 }
 
-/// A member goes on until it has to wait for something, or has had its part of the round. Says what it is to do next,
-/// and whether it has gone on at all.
+/// A member goes on until it waits, or has had its part of the round. What it is to do next, and whether it went on.
 fn advance<S: Stream>(crowd: &mut Crowd<'_, S>, i: usize) -> (Stage, bool)
     requires crowd { IsCrowd S.remaining S.contents crowd.old }
     requires within { i < vec_len crowd.old.members }
@@ -182,12 +183,13 @@ fn advance<S: Stream>(crowd: &mut Crowd<'_, S>, i: usize) -> (Stage, bool)
             Next::Asks => return (Stage::Asks, true),
             Next::Over => return (Stage::Over, true),
             Next::Failed(_) => return (Stage::Failed, true),
+            Next::Full => return (Stage::Failed, true),
         }
     }
     (Stage::Goes, true)
 }
 
-/// What a member does after a turn at the gate, and what it is to do next: one that still asks waits.
+/// What a member does after a turn at the gate, and is to do next: one that still asks waits, for an end.
 fn go_after_turn<S: Stream>(crowd: &mut Crowd<'_, S>, i: usize) -> Stage
     requires crowd { IsCrowd S.remaining S.contents crowd.old }
     requires within { i < vec_len crowd.old.members }
@@ -201,6 +203,7 @@ fn go_after_turn<S: Stream>(crowd: &mut Crowd<'_, S>, i: usize) -> Stage
         Next::Asks => Stage::Waits,
         Next::Over => Stage::Over,
         Next::Failed(_) => Stage::Failed,
+        Next::Full => Stage::Failed,
     }
 }
 
@@ -224,8 +227,7 @@ fn go_one<S: Stream>(crowd: &mut Crowd<'_, S>, seats: &mut Vec<Seat>, i: usize, 
     }
 }
 
-/// A connection that has asked something, or waits, goes on a step as far as that was met; and one that is to leave is
-/// looked at again.
+/// Who has asked something, or waits, goes on a step as far as that was met; who is to leave is looked at again.
 fn go_one_on<S: Stream>(crowd: &mut Crowd<'_, S>, seats: &mut Vec<Seat>, i: usize, time: u64)
     requires crowd { IsCrowd S.remaining S.contents crowd.old }
     requires seated { vec_len seats.old ≡ vec_len crowd.old.members }
@@ -321,10 +323,9 @@ fn call_workers<R: Wait>(rt: &R, bell: &Bell, marks: &mut Marks)
 
 /// A turn at the gate for all; then what it has begun is run with the gate free. Of entries that are long to run it
 /// begins one, and only where somebody waits.
-fn take_turn<S: Stream, P: Pause, R: Wait>(
-    rt: &R,
-    pause: &P,
-    calls: Calls<'_>,
+fn take_turn<S: Stream, P: Pause, R: Wait, Q: Asks>(
+    context: &RoundContext<'_, P, R>,
+    quota: &mut Q,
     crowd: &mut Crowd<'_, S>,
     seats: &mut Vec<Seat>,
     hand: &mut Hand,
@@ -344,11 +345,11 @@ fn take_turn<S: Stream, P: Pause, R: Wait>(
         lines: MOST_LINES,
         long: usize::from(waits),
     };
-    hand.marks.seen = calls.alarms.ends();
-    let round = crowd.round(rt, &mut hand.batch, portion);
-    tell_of(rt, calls, round, waits, &mut hand.marks);
+    hand.marks.seen = context.calls.alarms.ends();
+    let round = crowd.round(context.rt, quota, &mut hand.batch, portion);
+    tell_of(context.rt, context.calls, round, waits, &mut hand.marks);
     go_on_each(crowd, seats, hand.marks.time);
-    hand.batch.run(hand.alloc, pause);
+    hand.batch.run(hand.alloc, context.pause);
 }
 
 /// Whether a turn at the gate may bring something: an entry was run that has not ended, or somebody has asked, or
@@ -381,10 +382,9 @@ fn put_down<S: Stream, R: Wait>(rt: &R, alarms: &Alarms, crowd: &mut Crowd<'_, S
 
 /// Each connection goes on as far as it can, and what they ask is done at the gate, again and again, but not for ever.
 /// Then nothing is in hand.
-fn go_round<S: Stream, P: Pause, R: Wait>(
-    rt: &R,
-    pause: &P,
-    calls: Calls<'_>,
+fn go_round<S: Stream, P: Pause, R: Wait, Q: Asks>(
+    context: &RoundContext<'_, P, R>,
+    quota: &mut Q,
     crowd: &mut Crowd<'_, S>,
     seats: &mut Vec<Seat>,
     hand: &mut Hand,
@@ -400,12 +400,12 @@ fn go_round<S: Stream, P: Pause, R: Wait>(
 {
     for _ in 0..MOST_TURNS {
         go_free(crowd, seats, hand);
-        if !is_called(seats, hand, calls.alarms) {
+        if !is_called(seats, hand, context.calls.alarms) {
             return;
         }
-        take_turn(rt, pause, calls, crowd, seats, hand);
+        take_turn(context, quota, crowd, seats, hand);
     }
-    put_down(rt, calls.alarms, crowd, hand);
+    put_down(context.rt, context.calls.alarms, crowd, hand);
 }
 
 /// Has a member leave, at any moment.
@@ -417,6 +417,7 @@ fn put_out<S: Stream>(crowd: &mut Crowd<'_, S>, i: usize, number: u32, events: u
     ensures gone { HasParted S.remaining S.contents crowd.old.first.value result }
     ensures number { result.number ≡ number }
     ensures fault { (d : Member S) → result.fault ≡ (get_or crowd.old.members.items i d).fault }
+    ensures full { (d : Member S) → result.full ≡ (get_or crowd.old.members.items i d).full }
 {
     let lines = crowd.lines(i);
     let departed = crowd.leave(i);
@@ -424,12 +425,13 @@ fn put_out<S: Stream>(crowd: &mut Crowd<'_, S>, i: usize, number: u32, events: u
         number,
         stream: departed.stream,
         fault: departed.fault,
+        full: departed.full,
         lines,
         events,
     }
 }
 
-/// Parts with a member whose session is over or has failed, by its seat.
+/// Parts with a member whose session is over or has failed, or whose line will never fit, by its seat.
 fn part_with<S: Stream>(crowd: &mut Crowd<'_, S>, i: usize, seat: Seat, events: usize) -> Gone<S>
     requires crowd { IsCrowd S.remaining S.contents crowd.old }
     requires within { i < vec_len crowd.old.members }
@@ -444,6 +446,7 @@ fn part_with<S: Stream>(crowd: &mut Crowd<'_, S>, i: usize, seat: Seat, events: 
         Stage::Over => Gone {
             number: seat.number,
             fault: None,
+            full: false,
             lines: crowd.lines(i),
             events,
             stream: crowd.finish(i),
@@ -453,7 +456,7 @@ fn part_with<S: Stream>(crowd: &mut Crowd<'_, S>, i: usize, seat: Seat, events: 
     }
 }
 
-/// The greeting of a connection, if its session is open and was not told of.
+/// The greeting of a connection whose session is open and was not told of.
 fn greeting_of<S: Stream>(crowd: &Crowd<'_, S>, seats: &[Seat], i: usize) -> Option<Greeting>
     requires seated { length seats.now ≡ vec_len crowd.now.members }
     requires within { i < length seats.now }
@@ -503,10 +506,9 @@ fn note_time(hand: &mut Option<Hand>, time: u64)
 
 /// A round, if there is anybody. Then workers are called, if there may be something for them.
 #[tactic(auto, using(crate::proofs::Going::rest_turned))]
-fn go_in<S: Stream, P: Pause, R: Wait>(
-    rt: &R,
-    pause: &P,
-    calls: Calls<'_>,
+fn go_in<S: Stream, P: Pause, R: Wait, Q: Asks>(
+    context: &RoundContext<'_, P, R>,
+    quota: &mut Q,
     crowd: &mut Crowd<'_, S>,
     seats: &mut Vec<Seat>,
     hand: &mut Option<Hand>,
@@ -524,8 +526,8 @@ fn go_in<S: Stream, P: Pause, R: Wait>(
 {
     match hand {
         Some(hand) => {
-            go_round(rt, pause, calls, crowd, seats, hand);
-            call_workers(rt, calls.bell, &mut hand.marks);
+            go_round(context, quota, crowd, seats, hand);
+            call_workers(context.rt, context.calls.bell, &mut hand.marks);
         }
         None => {}
     }
@@ -623,23 +625,20 @@ impl<'a, S: Stream> Rounds<'a, S> {
         self.time = now;
     }
 
-    /// One round: each connection goes on as far as it can, and what they ask is done at the gate. Then workers are
-    /// called, if there may be something for them. After it nobody asks for a turn at the gate, and who may go on at
-    /// once has gone on in this round.
-    pub fn round<P: Pause, R: Wait>(&mut self, rt: &R, pause: &P, calls: Calls<'_>)
+    /// One round: each goes on as far as it can, and what they ask is done at the gate; workers are called, if there
+    /// may be something for them. Then nobody asks for a turn there, and who may go on at once has just gone on.
+    pub fn round<P: Pause, R: Wait, Q: Asks>(
+        &mut self,
+        context: &RoundContext<'_, P, R>,
+        quota: &mut Q,
+    )
         ensures same { IsSame self.old self.new }
         ensures gone { All (HasGoneOn self.old.time) self.new.seats }
         ensures asks { All (λ (seat : Seat). seat.stage ≢ Stage.Asks) self.new.seats }
     {
         note_time(&mut self.hand, self.time);
-        go_in(
-            rt,
-            pause,
-            calls,
-            &mut self.crowd,
-            &mut self.seats,
-            &mut self.hand,
-        );
+        let (crowd, seats, hand) = (&mut self.crowd, &mut self.seats, &mut self.hand);
+        go_in(context, quota, crowd, seats, hand);
     }
 
     /// Whether the thread may sleep: each connection waits, for its stream or for entries to end. Where somebody waits

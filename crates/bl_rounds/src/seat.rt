@@ -11,13 +11,13 @@ pub enum Stage {
     Goes,
     /// It has asked something of the machine.
     Asks,
-    /// It waits for entries of its session to end.
+    /// It waits for entries to end: those of its session, or some whose end leaves room for its line in the trail.
     Waits,
     /// It waits for its stream.
     Sleeps,
     /// Its session is over, and it is to leave.
     Over,
-    /// It has failed, and is to leave.
+    /// It has failed, or its line will never fit in the trail, and it is to leave.
     Failed,
 }
 

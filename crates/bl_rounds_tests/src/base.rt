@@ -6,8 +6,9 @@ use bl_connection::stream::Ends;
 use bl_gate::gate::Gate;
 use bl_gate::pass::Pass;
 use bl_hall::hall::Hall;
+use bl_quota::asks::{Asks, NoQuota};
 use bl_rounds::alarm::Alarms;
-use bl_rounds::rounds::{Calls, Gone, Rounds};
+use bl_rounds::rounds::{Calls, Gone, RoundContext, Rounds};
 use bl_setup::reader::read_setup;
 use bl_wire::fault::SessionFault;
 use bl_worker::bell::Bell;
@@ -104,17 +105,32 @@ pub(super) fn join<'b, R: AllocGlobal + Abort>(
     assert!(rt; thread.join(stream, number).is_ok());
 }
 
-/// So many rounds. Before each of them every stream may go on that would block.
+/// So many rounds, in which each line may be admitted.
 pub(super) fn go_rounds<R: AllocGlobal + Wait>(rt: &R, thread: &mut Thread<'_, '_>, count: u32) {
+    go_rounds_within(rt, thread, count, &mut NoQuota);
+}
+
+/// So many rounds within a quota. Before each of them every stream may go on that would block.
+pub(super) fn go_rounds_within<R: AllocGlobal + Wait, Q: Asks>(
+    rt: &R,
+    thread: &mut Thread<'_, '_>,
+    count: u32,
+    quota: &mut Q,
+) {
     let alarms = Alarms::new(rt.alloc());
     let bell = Bell::new();
     let calls = Calls {
         alarms: &alarms,
         bell: &bell,
     };
+    let context = RoundContext {
+        rt,
+        pause: &NoPause,
+        calls,
+    };
     for _ in 0..count {
         thread.stir_all();
-        thread.round(rt, &NoPause, calls);
+        thread.round(&context, quota);
     }
 }
 

@@ -1,8 +1,10 @@
 //! Greetings, idle clients, and work that is left to others.
-use super::base::{READER, ROUNDS, base_gate, go_rounds, join, put_away};
+use super::base::{READER, ROUNDS, base_gate, go_rounds, go_rounds_within, join, put_away};
 use super::streams::{Manner, ends_of};
+use bl_quota::asks::NoQuota;
+use bl_quota::quota::Quota;
 use bl_rounds::alarm::Alarms;
-use bl_rounds::rounds::{Calls, Rounds};
+use bl_rounds::rounds::{Calls, RoundContext, Rounds};
 use bl_worker::bell::Bell;
 use bl_worker::pause::NoPause;
 
@@ -62,6 +64,25 @@ fn one_is_idle(rt: HostRuntime) {
     drop(gate);
 }
 
+/// A client whose line would never fit in the trail leaves, and was told what came before.
+#[test]
+fn one_finds_the_trail_full(rt: HostRuntime) {
+    let (gate, pass) = base_gate(&rt);
+    let turn = gate.turn(&rt, pass);
+    let mut quota = Quota::new(turn.hall().core(), 65_536);
+    let mut thread = Rounds::new(rt.alloc(), &gate, turn.leave());
+    join(&rt, &mut thread, 3, READER);
+    go_rounds_within(&rt, &mut thread, ROUNDS, &mut quota);
+    let Some(gone) = thread.leave() else {
+        panic!(rt; "the client is missing");
+    };
+    assert!(rt; gone.full && gone.fault.is_none());
+    assert!(rt; gone.number == 3 && gone.lines == 1);
+    assert!(rt; gone.stream.writer.taken.as_slice() == b"ok\n");
+    drop(thread.close());
+    drop(gate);
+}
+
 /// Workers are called for what a thread has left: of lines that one after another write the same document, and of which
 /// nobody waits for a reply, it runs some alone.
 #[test]
@@ -82,11 +103,16 @@ fn what_is_left_is_told_to_workers(rt: HostRuntime) {
                 .is_ok()
         );
     }
+    let context = RoundContext {
+        rt: &rt,
+        pause: &NoPause,
+        calls,
+    };
     let mut thread = Rounds::new(alloc, &gate, pass);
     let stream = ends_of(alloc, says.as_slice(), pausing_at(2), Manner::PLAIN);
     assert!(rt; thread.join(stream, 1).is_ok());
     for _ in 0..ROUNDS {
-        thread.round(&rt, &NoPause, calls);
+        thread.round(&context, &mut NoQuota);
     }
     assert!(rt; bell.calls() != 0);
     drop(thread.close());

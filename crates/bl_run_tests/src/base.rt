@@ -115,6 +115,7 @@ pub(crate) fn two_of_each(sessions: u32, trail: &str) -> ServeRun<'_> {
             sessions,
             clients: 1000,
             idle: None,
+            trail_limit: 1_073_741_824,
         },
         trail: TrailFile {
             name: trail,

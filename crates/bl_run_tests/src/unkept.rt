@@ -86,6 +86,7 @@ where
         sessions: 3,
         clients: 1000,
         idle: None,
+        trail_limit: 1_073_741_824,
     };
     let hosted = host(&host_context, &Entrance::Port(listener), pass, options);
     Left {

@@ -3,6 +3,7 @@ use Rattle.std.proofs.Common.{◌≡◌, ◌≤◌, ◌∙◌, [], ◌∷◌, Li
 use Rattle.std.specs.Prelude.{Box, IfNone, option_map, ◌↔◌}
 use Rattle.std.specs.Option.{is_some}
 use Rattle.std.specs.Box.{box_value}
+use Rattle.std.specs.Str.Parse.{digits_value, without_leading_plus}
 use Rattle.clap.specs.Faults.{fault_of, is_simple_and_free}
 use Rattle.clap.specs.Kinds.{HasKind}
 use Rattle.clap.specs.declared.error.Error.{Error}
@@ -117,6 +118,7 @@ module _ (a b : ArgMatches) (same : rows_of (found_of a) ≡ rows_of (found_of b
       limit = number_same (codes "limit") hosting.limit has.1.limit;
       entrance = entrance_same hosting.entrance has.1.entrance;
       trail = trail_same (Some hosting.trail) has.1.trail;
+      trail_limit = number_same (codes "trail-limit") hosting.trail_limit has.1.trail_limit;
       workers = number_same (codes "workers") hosting.workers has.1.workers;
       threads = number_same (codes "session-threads") hosting.session_threads has.1.threads;
       sessions = number_same (codes "sessions") hosting.sessions has.1.sessions;
@@ -162,6 +164,12 @@ serve_none options none' (Recover setup trail) is range = words_differ 114 115 _
 
 some_same : {T : Type 0} (a b : T) → Some a ≡ Some b → a ≡ b
 some_same a b e = cc
+
+-- options say one number
+pub one_number : (options : ArgMatches) (name : List ℕ) (m n : ℕ) → HasNumber options name m → HasNumber options name n → m ≡ n
+one_number options name m n one other =
+    let texts : one.0 ≡ other.0 = some_same one.0 other.0 (sym one.1 ∙ other.1) in
+    one.2.1 ∙ ap (λ text. digits_value 10 (without_leading_plus text)) texts ∙ sym other.2.1
 
 -- with no word for how a trail is kept there is no command `alone`
 pub unkept_none : (options : ArgMatches) → ((keeping : TrailKeeping) → HasKeeping options keeping → ⊥) → HasNoCommand (codes "alone") options

@@ -41,6 +41,16 @@ trail_rule = record (new_rule (codes "trail")) {
 abbrev pub kept_trail_rule : Rule
 kept_trail_rule = record (new_rule (codes "trail")) { long = Some (codes "trail"); action = Some Set; value_names = 1 }
 
+-- own choice: `--trail-limit` takes a number from 65,536 to 1,073,741,824, and without it the number is the last
+abbrev pub trail_limit_rule : Rule
+trail_limit_rule = record (new_rule (codes "trail-limit")) {
+  long = Some (codes "trail-limit");
+  action = Some Set;
+  value_names = 1;
+  parser = Some (Signed (pos 65536) (pos 1073741824));
+  defaults = codes "1073741824" ∷ [];
+}
+
 -- `--replace` may be given, and takes nothing
 abbrev pub replace_rule : Rule
 replace_rule = record (new_rule (codes "replace")) { long = Some (codes "replace"); action = Some SetTrue }
@@ -157,7 +167,7 @@ clients_app = with_rule (with_rule (with_rule counts_app clients_rule) idle_rule
 
 -- and what is said of its trail
 abbrev pub files_app : App
-files_app = with_rule (with_rule clients_app replace_rule) claim_rule
+files_app = with_rule (with_rule (with_rule clients_app trail_limit_rule) replace_rule) claim_rule
 
 abbrev pub serve_app : App
 serve_app = with_rule (with_rule files_app keep_rule) resume_rule

@@ -28,10 +28,15 @@ abbrev pub IsIdleInRange : Option ℕ → Type 0
 IsIdleInRange None = Unit {0}
 IsIdleInRange (Some seconds) = (1 ≤ seconds) × (seconds ≤ 86400)
 
+-- the most bytes of a trail are at least 65,536, and at most what `replay` reads
+abbrev pub IsTrailLimit : ℕ → Type 0
+IsTrailLimit bytes = (65536 ≤ bytes) × (bytes ≤ 1073741824)
+
 -- each number of what is hosted is in its range, and a run is resumed only with a trail that is written while it goes on
 pub record IsHostingInRange (hosting : Hosting) : Type 0 where
   pub limit : (1 ≤ hosting.limit) × (hosting.limit ≤ 100000)
   pub entrance : IsEntranceInRange hosting.entrance
+  pub trail_limit : IsTrailLimit hosting.trail_limit
   pub workers : (1 ≤ hosting.workers) × (hosting.workers ≤ 16)
   pub threads : (1 ≤ hosting.session_threads) × (hosting.session_threads ≤ 16)
   pub sessions : (1 ≤ hosting.sessions) × (hosting.sessions ≤ 1000)
@@ -128,6 +133,7 @@ pub record HasHosting (options : ArgMatches) (hosting : Hosting) : Type 0 where
   pub limit : HasNumber options (codes "limit") hosting.limit
   pub entrance : HasEntrance options hosting.entrance
   pub trail : HasTrail options (Some hosting.trail)
+  pub trail_limit : HasNumber options (codes "trail-limit") hosting.trail_limit
   pub workers : HasNumber options (codes "workers") hosting.workers
   pub threads : HasNumber options (codes "session-threads") hosting.session_threads
   pub sessions : HasNumber options (codes "sessions") hosting.sessions

@@ -3,10 +3,10 @@ ghost use Rattle.std.specs.Prelude.{◌≡◌, ◌≤◌, ◌⊎◌, ◌↔◌, 
 ghost use Rattle.clap.specs.Kinds.{HasKind};
 ghost use Rattle.clap.specs.Words.{kind_of, rule_of, app_of};
 ghost use Rattle.clap.specs.declared.builder.command.Command.TheViews.{out-Command as fields_of};
-ghost use Rattle.bl_words.specs.CommandLine.{setup_rule, limit_rule, trail_rule, kept_trail_rule, replace_rule, claim_rule, keep_rule, resume_rule, port_rule, doors_rule, workers_rule, threads_rule, sessions_rule, clients_rule, idle_rule, log_rule, session_app, named_app, kept_app, alone_app, places_app, crews_app, counts_app, clients_app, files_app, serve_app, replay_app, recover_app, root_app, server_app};
+ghost use Rattle.bl_words.specs.CommandLine.{setup_rule, limit_rule, trail_limit_rule, trail_rule, kept_trail_rule, replace_rule, claim_rule, keep_rule, resume_rule, port_rule, doors_rule, workers_rule, threads_rule, sessions_rule, clients_rule, idle_rule, log_rule, session_app, named_app, kept_app, alone_app, places_app, crews_app, counts_app, clients_app, files_app, serve_app, replay_app, recover_app, root_app, server_app};
 ghost use Rattle.bl_status.specs.Status.{IsStatus};
 ghost use Rattle.bl_words.specs.Status.{status_for};
-ghost use Rattle.bl_words.specs.Words.{HasCount, HasEntrance, HasHosting, HasKeeping, HasNoCommand, HasNumber, HasResume, HasTrail, HasTrailFile, IsEntranceInRange, IsHostingInRange, IsIdleInRange, IsInRange, IsOf, IsOfOptions, MayKeep, Name, NameNone, faults_of, setup_of, read_trail_of};
+ghost use Rattle.bl_words.specs.Words.{HasCount, HasEntrance, HasHosting, HasKeeping, HasNoCommand, HasNumber, HasResume, HasTrail, HasTrailFile, IsEntranceInRange, IsHostingInRange, IsIdleInRange, IsInRange, IsOf, IsOfOptions, IsTrailLimit, MayKeep, Name, NameNone, faults_of, setup_of, read_trail_of};
 ghost use Rattle.bl_words.specs.declared.command.Command.{Command as AnyCommand};
 ghost use Rattle.bl_words.specs.declared.command.NamedEntrance.{NamedEntrance as AnyEntrance};
 ghost use Rattle.bl_words.specs.declared.command.Hosting.{Hosting as AnyHosting};
@@ -46,6 +46,8 @@ pub struct Hosting<'a> {
     pub entrance: NamedEntrance<'a>,
     /// Where the trail is kept.
     pub trail: TrailFile<'a>,
+    /// How many bytes it may have, 65,536 to 1,073,741,824.
+    pub trail_limit: u32,
     /// How it is kept.
     pub keeping: TrailKeeping,
     /// Whether the run goes on from the trail of one that was cut off; never where the trail is written at the end.
@@ -105,6 +107,11 @@ pub enum Command<'a> {
 
 /// The weight of the lines that may be admitted in one run, at most.
 const MOST_LIMIT: u32 = 100_000;
+
+/// How many bytes the trail may be held to: the least and the most, which is what `replay` reads.
+const LEAST_TRAIL: u32 = 65_536;
+
+const MOST_TRAIL: u32 = 1_073_741_824;
 
 /// The greatest port.
 const MOST_PORT: u32 = 65_535;
@@ -166,6 +173,19 @@ fn trail_option<'a>(alloc: Global) -> Arg<'a>
         .action(ArgAction::Set)
         .value_name("FILE")
         .help("The trail file")
+}
+
+fn trail_limit_option<'a>(alloc: Global) -> Arg<'a>
+    ensures rule { rule_of result ≡ trail_limit_rule }
+    ensures own { result.global ≡ false }
+{
+    Arg::new(alloc, "trail-limit")
+        .long("trail-limit")
+        .action(ArgAction::Set)
+        .value_parser(value_parser!(u32).range(65_536..=1_073_741_824))
+        .default_value("1073741824")
+        .value_name("BYTES")
+        .help("The most bytes of the trail, 65536 to 1073741824")
 }
 
 /// `--trail` of a command that keeps a trail where it is asked to.
@@ -410,6 +430,7 @@ fn files_parser<'a>(alloc: Global) -> Result<Parser<'a>, AllocError>
     ensures own { IfOk result (λ parser. (fields_of parser).has_globals ≡ false) }
 {
     clients_parser(alloc)?
+        .arg(trail_limit_option(alloc))?
         .arg(replace_option(alloc))?
         .arg(claim_option(alloc))
 }
@@ -477,6 +498,19 @@ fn number(found: &ArgMatches<'_>, name: &str, most: u32) -> Option<u32>
         return None;
     }
     Some(number)
+}
+
+/// How many bytes the options say that the trail may have; `None` where that is no number in its range.
+fn trail_limit_of(options: &ArgMatches<'_>) -> Option<u32>
+    ensures range { IfSome result IsTrailLimit }
+    ensures written { IfSome result (HasNumber options.now (codes "trail-limit")) }
+    ensures none { IfNone result ((n : ℕ) → HasNumber options.now (codes "trail-limit") n → IsTrailLimit n → ⊥) }
+{
+    let bytes = number(options, "trail-limit", MOST_TRAIL)?;
+    if bytes < LEAST_TRAIL {
+        return None;
+    }
+    Some(bytes)
 }
 
 /// The file of this name, with what the options say of it.
@@ -562,6 +596,7 @@ fn hosting_of<'a>(options: &ArgMatches<'a>) -> Option<Hosting<'a>>
     let limit = number(options, "limit", MOST_LIMIT)?;
     let entrance = entrance_of(options)?;
     let trail = trail_of(options)?;
+    let trail_limit = trail_limit_of(options)?;
     let workers = number(options, "workers", MOST_THREADS)?;
     let session_threads = number(options, "session-threads", MOST_THREADS)?;
     let sessions = number(options, "sessions", MOST_SESSIONS)?;
@@ -578,6 +613,7 @@ fn hosting_of<'a>(options: &ArgMatches<'a>) -> Option<Hosting<'a>>
         limit,
         entrance,
         trail,
+        trail_limit,
         keeping,
         resumes,
         workers,

@@ -1,5 +1,5 @@
-use Rattle.std.proofs.Common.{◌<◌, ◌∙◌, None, refl, subst}
-use Rattle.bl_rounds.proofs.Going.{gone_failed, gone_over}
+use Rattle.std.proofs.Common.{◌<◌, ◌∙◌, None, false, inl, inr, refl, subst}
+use Rattle.bl_rounds.proofs.Going.{gone_early, gone_over}
 use Rattle.bl_rounds.proofs.Seating.{at_index}
 use Rattle.bl_rounds.proofs.rounds.part_with.Goals as goal
 
@@ -12,8 +12,8 @@ returns-in-Over-clause-gone g c =
     let lt = subst (λ n. c.args.i < n) crowd.members.ok.0 c.requires.within in
     let over = rw c.in-Over.is at c.requires.stands in
     gone_over g.S.Stream.remaining g.S.Stream.contents crowd c.args.i
-    (record { number = c.args.seat.number; stream = c.finish.result; fault = None; lines = c.lines.result; events = c.args.events })
-    c.requires.crowd c.requires.follows lt refl (λ d. (over d).1) c.finish.ensures.stream c.lines.ensures c.finish.ensures.served
+    (record { number = c.args.seat.number; stream = c.finish.result; fault = None; full = false; lines = c.lines.result; events = c.args.events })
+    c.requires.crowd c.requires.follows lt refl refl (λ d. (over d).1) c.finish.ensures.stream c.lines.ensures c.finish.ensures.served
 
 pub returns-in-Failed-clause-gone : goal.returns-in-Failed-clause-gone
 returns-in-Failed-clause-gone g c =
@@ -21,4 +21,9 @@ returns-in-Failed-clause-gone g c =
     let lt = subst (λ n. c.args.i < n) crowd.members.ok.0 c.requires.within in
     let d = (at_index crowd.members.items c.args.i lt).0 in
     let failed = rw c.in-Failed.is at c.requires.stands in
-    gone_failed g.S.Stream.remaining g.S.Stream.contents crowd.first.value c.put_out.result (failed d).0 (c.put_out.ensures.fault d ∙ (failed d).1) c.put_out.ensures.gone
+    gone_early g.S.Stream.remaining g.S.Stream.contents crowd.first.value c.put_out.result
+    (elim (failed d) [
+      | inl fault ↦ inl (fault.0, c.put_out.ensures.fault d ∙ fault.1)
+      | inr full ↦ inr (c.put_out.ensures.full d ∙ full)
+    ])
+    c.put_out.ensures.gone

@@ -11,6 +11,10 @@ pub returns-in_err-entrance-clause-none : goal.returns-in_err-entrance-clause-no
 returns-in_err-entrance-clause-none c =
     at_none _ ((hosting : Hosting) → HasHosting c.args.options.now hosting → IsHostingInRange hosting → ⊥) (λ hosting has range. c.in_err-entrance.ensures.none hosting.entrance has.entrance range.entrance)
 
+pub returns-in_err-trail_limit-clause-none : goal.returns-in_err-trail_limit-clause-none
+returns-in_err-trail_limit-clause-none c =
+    at_none _ ((hosting : Hosting) → HasHosting c.args.options.now hosting → IsHostingInRange hosting → ⊥) (λ hosting has range. c.in_err-trail_limit.ensures.none hosting.trail_limit has.trail_limit range.trail_limit)
+
 pub returns-in_err-workers-clause-none : goal.returns-in_err-workers-clause-none
 returns-in_err-workers-clause-none c =
     at_none _ ((hosting : Hosting) → HasHosting c.args.options.now hosting → IsHostingInRange hosting → ⊥) (λ hosting has range. c.in_err-workers.ensures.none hosting.workers has.workers range.workers.0 range.workers.1)
