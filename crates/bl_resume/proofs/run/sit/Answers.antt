@@ -8,7 +8,7 @@ use Rattle.bl_alone.specs.Files.{fault_in, file_in}
 use Rattle.bl_alone.specs.Recording.{IsLeft}
 use Rattle.bl_alone.specs.Telling.{text_of_all}
 use Rattle.bl_recover.specs.Telling.{cut_line}
-use Rattle.bl_resume.proofs.Ending.{ended_after}
+use Rattle.bl_resume.proofs.Ending.{ended_after, when_served}
 use Rattle.bl_resume.proofs.run.sit.Goals as goal
 
 pub returns-clause-run : goal.returns-clause-run
@@ -40,3 +40,7 @@ returns-clause-run g c =
           puts-all _ _ _
           (puts-two _ (cut_line c.args.resumed.cut) (text_of_all (option_to_list told.0 ++ option_to_list (fault_in left))) _ _ _ refl c.tell_cut.ensures.puts told.3) fine;
     }
+
+pub returns-clause-handed_on : goal.returns-clause-handed_on
+returns-clause-handed_on g c zero =
+    when_served c.serve_after-served.result.0 _ c.serve_after-served.ensures.handed_on (c.tell_recorded.ensures.fine zero).0
