@@ -156,6 +156,7 @@ pub(super) fn put_away<S: Drop>(gone: Gone<S>) {
         number: _,
         stream,
         fault: _,
+        full: _,
         lines: _,
         events: _,
     } = gone;
