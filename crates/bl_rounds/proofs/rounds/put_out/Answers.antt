@@ -9,4 +9,4 @@ returns-clause-gone g c =
     let left = c.leave-departed in
     gone_out g.S.Stream.remaining g.S.Stream.contents crowd c.args.i
     (record { number = c.args.number; stream = left.result.stream; fault = left.result.fault; full = left.result.full; lines = c.lines-lines.result; events = c.args.events })
-    c.requires.crowd c.requires.follows lt (λ d. (left.ensures.stream d).0) (λ d. (left.ensures.stream d).1) (λ d. (left.ensures.stream d).2) c.lines-lines.ensures left.ensures.departs
+    c.requires.crowd c.requires.follows lt (λ d. (left.ensures.stream d).0) (λ d. (left.ensures.stream d).1) left.ensures.full c.lines-lines.ensures left.ensures.departs
