@@ -124,7 +124,6 @@ fn make_watches<R: Net>(rt: &R, alloc: Global, entrance: &Entrance, count: u32) 
 }
 
 /// Starts the threads in a scope of their own, and waits for them. The trail is counted before, with all that it has.
-#[tactic(auto, using(crate::proofs::Passes::follows_on))]
 fn run_scope<
     P: Pause + Sync,
     K: Keep + Sync,

@@ -57,7 +57,7 @@ pub(crate) struct AskedQuota<'a, T> {
 }
 
 impl<T: Wait> Asks for AskedQuota<'_, T> {
-    ghost use Rattle.std.specs.Prelude.{None, ⊥};
+    ghost use Rattle.std.specs.Prelude.{None};
 
     ghost bound = { λ _. None };
 

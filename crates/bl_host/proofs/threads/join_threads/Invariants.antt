@@ -1,5 +1,5 @@
 use Rattle.std.proofs.Common.{◌≡◌, ◌+◌, length}
-use Rattle.std.specs.Prelude.{All, vec_len}
+use Rattle.std.specs.Prelude.{All}
 use Rattle.std.specs.Vec.Iter.{into_iter_len, into_iter_items}
 use Rattle.bl_host.specs.Threads.{IsPart, Remains}
 use Rattle.bl_host.proofs.threads.join_threads.Given as goal

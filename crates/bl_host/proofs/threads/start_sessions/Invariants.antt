@@ -1,4 +1,4 @@
-use Rattle.std.proofs.Common.{◌≡◌, ◌+◌, ◌≤◌}
+use Rattle.std.proofs.Common.{◌≡◌, ◌+◌}
 use Rattle.std.specs.Prelude.{All, vec_len}
 use Rattle.bl_host.specs.Threads.{IsPart, Remains}
 use Rattle.bl_host.proofs.threads.start_sessions.Given as goal
