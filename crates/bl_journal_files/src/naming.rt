@@ -1,5 +1,5 @@
 //! The closed journal of a run gets the name of its trail.
-ghost use Rattle.std.specs.Prelude.{◌≡◌, ◌↔◌, IsOk, IsSome};
+ghost use Rattle.std.specs.Prelude.{◌≡◌, ◌↔◌, IsOk, IsSome, None};
 ghost use Rattle.bl_status.specs.Status.{IsEnd, status_after};
 ghost use Rattle.bl_wire.specs.Watch.{Puts, end_state};
 ghost use Rattle.bl_journal_files.specs.Naming.{naming_faults, naming_text};
@@ -37,6 +37,7 @@ impl RecordedEnd {
     /// A run with this status whose trail has no name.
     pub fn unnamed(status: u8) -> Self
         ensures status { result.status ≡ status }
+        ensures named { result.named ≡ None }
     {
         RecordedEnd {
             status,
