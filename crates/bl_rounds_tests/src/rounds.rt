@@ -78,7 +78,8 @@ fn one_finds_the_trail_full(rt: HostRuntime) {
     };
     assert!(rt; gone.full && gone.fault.is_none());
     assert!(rt; gone.number == 3 && gone.lines == 1);
-    assert!(rt; gone.stream.writer.taken.as_slice() == b"ok\n");
+    assert!(rt; gone.stream.writer.taken.as_slice() == b"ok\n".as_slice());
+    put_away(gone);
     drop(thread.close());
     drop(gate);
 }
