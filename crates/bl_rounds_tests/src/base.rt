@@ -123,15 +123,25 @@ pub(super) fn go_rounds_within<R: AllocGlobal + Wait, Q: Asks>(
         alarms: &alarms,
         bell: &bell,
     };
+    for _ in 0..count {
+        thread.stir_all();
+        go_round(rt, thread, calls, quota);
+    }
+}
+
+/// A round, in which the thread is told of calls here.
+fn go_round<'a, R: Wait, Q: Asks>(
+    rt: &'a R,
+    thread: &mut Thread<'_, '_>,
+    calls: Calls<'a>,
+    quota: &mut Q,
+) {
     let context = RoundContext {
         rt,
         pause: &NoPause,
         calls,
     };
-    for _ in 0..count {
-        thread.stir_all();
-        thread.round(&context, quota);
-    }
+    thread.round(&context, quota);
 }
 
 /// The next client that leaves has this number, was told what it is to be told, and ends as it is to end.
