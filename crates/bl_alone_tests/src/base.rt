@@ -1,5 +1,5 @@
 //! A run over the base setup, and its trail.
-use bl_alone::run::{RecordedFile, RecordedRun, alone_recorded_on};
+use bl_alone::run::{Recorded, RecordedFile, RecordedRun, alone_recorded_on};
 use bl_disk_tests::torn::Torn;
 use bl_resume::run::alone_resumed_on;
 use bl_wire::watched::Watched;
@@ -79,11 +79,18 @@ pub(crate) fn run_over(
     let mut reader = Watched::new(LINES);
     let mut writer = Watched::new(Vec::new(alloc));
     let mut errors = Watched::new(Vec::new(alloc));
-    let recorded = alone_recorded_on(&run, setup, torn, &mut reader, &mut writer, &mut errors);
-    let (is_whole, torn) = parts_of(recorded.file);
+    let Recorded { status, file } = alone_recorded_on(
+        &run,
+        setup,
+        torn,
+        &mut reader,
+        &mut writer,
+        &mut errors,
+    );
+    let (is_whole, torn) = parts_of(file);
     let kept = torn.now().kept.to_vec(alloc)?;
     Ok(Ran {
-        status: recorded.status,
+        status,
         is_whole,
         told: writer.into_inner(),
         said: errors.into_inner(),
@@ -107,11 +114,18 @@ pub(crate) fn resume_after(alloc: Global, bytes: &[u8]) -> Result<Ran, AllocErro
     let mut reader = Watched::new(LINES);
     let mut writer = Watched::new(Vec::new(alloc));
     let mut errors = Watched::new(Vec::new(alloc));
-    let resumed = alone_resumed_on(alloc, BASE, torn, &mut reader, &mut writer, &mut errors);
-    let (is_whole, torn) = parts_of(resumed.file);
+    let Recorded { status, file } = alone_resumed_on(
+        alloc,
+        BASE,
+        torn,
+        &mut reader,
+        &mut writer,
+        &mut errors,
+    );
+    let (is_whole, torn) = parts_of(file);
     let kept = torn.now().kept.to_vec(alloc)?;
     Ok(Ran {
-        status: resumed.status,
+        status,
         is_whole,
         told: writer.into_inner(),
         said: errors.into_inner(),
