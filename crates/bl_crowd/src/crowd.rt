@@ -23,6 +23,7 @@ use bl_policy::id::SubjectId;
 use bl_quota::asks::Asks;
 use bl_wire::fault::SessionFault;
 use bl_worker::batch::Batch;
+use bl_worker::bell::EndToRing;
 use std::alloc::{AllocError, Global};
 use std::snapshot::Snapshot;
 use std::sync::Wait;
@@ -76,15 +77,14 @@ pub struct Portion {
     pub long: usize,
 }
 
-/// What a round came to.
-#[derive(Clone, Copy, Debug, PartialEq, Eq)]
+/// What a round came to. What has ended is to be rung.
 pub struct Round {
     /// How many entries it has begun.
     pub begun: usize,
-    /// Whether an entry has ended that was run before.
-    pub ended: bool,
-    /// Whether an entry has ended that it has begun.
-    pub over: bool,
+    /// That an entry has ended that was run before, if one has.
+    pub ended: Option<EndToRing>,
+    /// That an entry has ended that it has begun, if one has.
+    pub over: Option<EndToRing>,
     /// Whether an entry is ready that it has left to others.
     pub left: bool,
     /// How many events the trail had then.
@@ -199,11 +199,12 @@ impl<'a, S: Stream> Crowd<'a, S> {
         self.members[i].greeted()
     }
 
-    /// One turn at the gate with what is in hand. It ends what was run, does what each member asks, and what it asks
-    /// at the next lines of what was read, so many at most; and begins what is ready, until the batch is full, as
-    /// many were begun as it may have in hand, or nothing is ready. It begins no more where an entry is ready that is
-    /// long to run, once as many were begun as the portion says. What was begun is to be run with the gate free, by
-    /// `Batch::run`, and ends in the next round. A line is admitted only where the quota says that it fits.
+    /// One turn at the gate with what is in hand. It ends what was run; where there was any, what waited for that and is
+    /// short to run is run in the turn. It does what each member asks, and what it asks at the next lines of what was
+    /// read, so many at most; and begins what is ready, until the batch is full, as many were begun as it may have in
+    /// hand, or nothing is ready. It begins no more where an entry is ready that is long to run, once as many were
+    /// begun as the portion says. What was begun is to be run with the gate free, by `Batch::run`, and ends in the next
+    /// round. A line is admitted only where the quota says that it fits.
     pub fn round<R: Wait, Q: Asks>(
         &mut self,
         rt: &R,
@@ -234,14 +235,14 @@ impl<'a, S: Stream> Crowd<'a, S> {
         ensures left { MatchBool result.left
             ((portion.long ≤ result.begun) ⊎ (batch.new.most ≤ vec_len batch.new.lents))
             ((n : ℕ) → ¬ MayStart (state_seen self.new.pass) n) }
-        ensures ended { IsTrue result.ended ↔ (0 < vec_len batch.old.ran) }
-        ensures over { IsTrue result.over ↔ (vec_len batch.new.lents < result.begun) }
+        ensures ended { IsSome result.ended ↔ (0 < vec_len batch.old.ran) }
+        ensures over { IsSome result.over ↔ (vec_len batch.new.lents < result.begun) }
         ensures events { result.events ≡ length self.new.pass.seen }
         ensures len { vec_len self.new.members ≡ vec_len self.old.members }
         ensures same { (self.new.first ≡ self.old.first) × (self.new.gate ≡ self.old.gate) }
     {
         let mut turn = self.gate.turn(rt, self.pass.take());
-        let some = batch.end_all(&mut turn);
+        let ended = batch.end_on(self.alloc, &mut turn);
         meet_on_all(&mut turn, quota, &mut self.members, portion.lines);
         let (begun, over) = batch.begin_ready(&mut turn, portion.long);
         let left = turn.ready().is_some();
@@ -249,16 +250,16 @@ impl<'a, S: Stream> Crowd<'a, S> {
         self.pass = turn.leave();
         Round {
             begun,
-            ended: some,
+            ended,
             over,
             left,
             events,
         }
     }
 
-    /// Ends what was run, in one turn at the gate in which nothing is begun, and says whether there was any. Then
-    /// nothing is in hand.
-    pub fn put_down<R: Wait>(&mut self, rt: &R, batch: &mut Batch) -> bool
+    /// Ends what was run, in one turn at the gate in which nothing is begun; where there was any, that is to be rung.
+    /// Then nothing is in hand.
+    pub fn put_down<R: Wait>(&mut self, rt: &R, batch: &mut Batch) -> Option<EndToRing>
         requires crowd { IsCrowd S.remaining S.contents self.old }
         requires ran { AllRan batch.old }
         requires room { HasRoom batch.old }
@@ -269,7 +270,7 @@ impl<'a, S: Stream> Crowd<'a, S> {
             → IsBatch since self.new.pass (loans_in batch.new) }
         ensures idle { IsIdle batch.new }
         ensures room { HasRoom batch.new × (batch.new.most ≡ batch.old.most) }
-        ensures some { IsTrue result ↔ (0 < vec_len batch.old.ran) }
+        ensures some { IsSome result ↔ (0 < vec_len batch.old.ran) }
         ensures same { (self.new.members ≡ self.old.members) × (self.new.first ≡ self.old.first)
             × (self.new.gate ≡ self.old.gate) }
     {

@@ -7,7 +7,7 @@ ghost use Rattle.bl_host.specs.Gathering.{GivesMore};
 use crate::attend::SessionAcceptor;
 use crate::context::ThreadContext;
 use crate::shared::{SharedQuota, count_trail};
-use crate::threads::{join_threads, start_sessions, start_workers};
+use crate::threads::{join_threads, join_workers, start_sessions, start_workers};
 use bl_entrance::acceptor::{Acceptor, SharedLog};
 use bl_entrance::ended::Ended;
 use bl_entrance::entrance::Entrance;
@@ -84,8 +84,8 @@ fn run_threads<
         && start_sessions(scope, context, &mut pass, watches, acceptor, &mut sessions)
         && all;
     join_threads(context.rt, context.gate, &mut pass, sessions);
-    context.bell.close(context.rt);
-    join_threads(context.rt, context.gate, &mut pass, workers);
+    let closed = context.bell.close(context.rt);
+    join_workers(context.rt, context.gate, &mut pass, workers, closed);
     Joined { pass, whole }
 }
 

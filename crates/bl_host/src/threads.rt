@@ -9,6 +9,7 @@ use bl_entrance::watch::Watch;
 use bl_gate::gate::Gate;
 use bl_gate::pass::Pass;
 use bl_keeper::keep::Keep;
+use bl_worker::bell::Closed;
 use bl_worker::pause::Pause;
 use std::snapshot::Snapshot;
 use std::sync::Wait;
@@ -195,4 +196,21 @@ pub(crate) fn join_threads<T: Threads>(
         let part = running.join(rt);
         gate.meet(pass, part);
     }
+}
+
+/// Waits for each of these workers, which return since their bell is closed, and takes its pass in.
+pub(crate) fn join_workers<T: Threads>(
+    rt: &T,
+    gate: &Gate,
+    pass: &mut Pass,
+    workers: Vec<RunningThread>,
+    closed: Closed,
+)
+    requires gate { pass.old.gate ≡ gate.now }
+    requires workers { All (λ running. IsPart gate.now running.promise.0.value) workers.items }
+    ensures rest { Remains pass.old pass.new }
+    ensures parts { pass.new.parts ≡ pass.old.parts + vec_len workers }
+{
+    let _ = closed;
+    join_threads(rt, gate, pass, workers);
 }

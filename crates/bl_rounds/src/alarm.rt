@@ -1,4 +1,5 @@
 //! How session threads that sleep are woken.
+use bl_worker::bell::EndToRing;
 use mio::Waker;
 use std::alloc::{AllocError, Global};
 use std::sync::atomic::{AtomicBool, AtomicU64, Ordering};
@@ -45,7 +46,8 @@ impl Alarms {
 
     /// Says that an entry has ended, and wakes each thread that is to know. Where none is it makes no call of the
     /// system.
-    pub fn ring_end(&self) {
+    pub fn ring_end(&self, end: EndToRing) {
+        end.rung();
         self.ends.fetch_add(1, Ordering::SeqCst);
         for alarm in &self.alarms {
             if alarm.armed.load(Ordering::SeqCst) && alarm.armed.swap(false, Ordering::SeqCst) {

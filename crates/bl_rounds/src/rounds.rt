@@ -24,7 +24,7 @@ use bl_policy::id::SubjectId;
 use bl_quota::asks::Asks;
 use bl_wire::fault::SessionFault;
 use bl_worker::batch::Batch;
-use bl_worker::bell::{Bell, WorkerBell};
+use bl_worker::bell::{Bell, Closed, EndToRing, WorkerBell};
 use bl_worker::pause::Pause;
 use std::alloc::{AllocError, Global};
 use std::marker::Model;
@@ -82,12 +82,12 @@ impl WorkerBell for Calls<'_> {
         self.bell.calls()
     }
 
-    fn ring_end<R: Wait>(&self, rt: &R) {
+    fn ring_end<R: Wait>(&self, rt: &R, end: EndToRing) {
         let _ = rt;
-        self.alarms.ring_end();
+        self.alarms.ring_end(end);
     }
 
-    fn wait_work<R: Wait>(&self, rt: &R, seen: u64) -> bool {
+    fn wait_work<R: Wait>(&self, rt: &R, seen: u64) -> Option<Closed> {
         self.bell.wait_work(rt, seen)
     }
 }
@@ -287,9 +287,10 @@ fn go_free<S: Stream>(crowd: &mut Crowd<'_, S>, seats: &mut Vec<Seat>, hand: &Ha
 }
 
 /// Rings if an entry has ended.
-fn ring_if(alarms: &Alarms, ended: bool) {
-    if ended {
-        alarms.ring_end();
+fn ring_if(alarms: &Alarms, ended: Option<EndToRing>) {
+    match ended {
+        Some(end) => alarms.ring_end(end),
+        None => {}
     }
 }
 
@@ -298,15 +299,22 @@ fn ring_if(alarms: &Alarms, ended: bool) {
 fn tell_of<R: Wait>(rt: &R, calls: Calls<'_>, round: Round, waits: bool, marks: &mut Marks)
     ensures { marks.new.time ≡ marks.old.time }
 {
-    if round.ended {
+    let Round {
+        begun,
+        ended,
+        over,
+        left,
+        events,
+    } = round;
+    if ended.is_some() {
         marks.seen = marks.seen.wrapping_add(1);
     }
-    ring_if(calls.alarms, round.ended);
-    ring_if(calls.alarms, round.over);
-    marks.left = round.left;
-    marks.uncalled = round.left;
-    marks.events = round.events;
-    if waits && round.begun < MOST_ENTRIES {
+    ring_if(calls.alarms, ended);
+    ring_if(calls.alarms, over);
+    marks.left = left;
+    marks.uncalled = left;
+    marks.events = events;
+    if waits && begun < MOST_ENTRIES {
         call_workers(rt, calls.bell, marks);
     }
 }
@@ -374,10 +382,11 @@ fn put_down<S: Stream, R: Wait>(rt: &R, alarms: &Alarms, crowd: &mut Crowd<'_, S
     ensures idle { IsIdle hand.new.batch }
 {
     let ended = crowd.put_down(rt, &mut hand.batch);
+    let some = ended.is_some();
     ring_if(alarms, ended);
     // others may have waited for it, and nobody was called for those
-    hand.marks.left |= ended;
-    hand.marks.uncalled |= ended;
+    hand.marks.left |= some;
+    hand.marks.uncalled |= some;
 }
 
 /// Each connection goes on as far as it can, and what they ask is done at the gate, again and again, but not for ever.

@@ -23,7 +23,7 @@ use bl_hall::reply::{AnswersFault, Reply};
 use bl_policy::id::SubjectId;
 use bl_wire::fault::SessionFault;
 use bl_work::work::Work;
-use bl_worker::bell::Bell;
+use bl_worker::bell::{Bell, EndToRing};
 use bl_worker::pause::Pause;
 use bl_worker::turn::{Turn, work_on, work_once};
 use std::alloc::{AllocError, Global};
@@ -86,7 +86,7 @@ impl<'a, P: Pause, T: Wait> Visitor<'a, P, T> {
             Turn::Idle => false,
             Turn::Missed(_) => true,
             Turn::Denied(_) | Turn::Done(_) | Turn::Lost(_) => {
-                self.bell.ring_end(self.rt);
+                self.bell.ring_end(self.rt, EndToRing::new());
                 true
             }
         }

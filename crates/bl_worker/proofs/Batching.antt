@@ -1,6 +1,6 @@
 -- Batches of entries in hand, step by step.
 use Rattle.std.proofs.Common.{◌≡◌, ◌≢◌, ℕ, ◌+◌, ◌<◌, ◌≤◌, ◌⊎◌, Bool, length, inl, inr, List, [], ◌∷◌, ◌++◌, map, true, false, refl, sym, ap, ◌∙◌, subst, arith, append_assoc, append-nil}
-use Rattle.std.specs.Prelude.{◌==◌, All, IsTrue, MatchBool, MatchResult, reverse, Result, Ok, Err}
+use Rattle.std.specs.Prelude.{◌==◌, ◌↔◌, All, IsSome, IsTrue, MatchBool, MatchResult, Option, reverse, Result, Ok, Err}
 use Rattle.std.proofs.lemmas.Bool.Decides.{nat_tests}
 use Rattle.std.proofs.lemmas.List.{map-append, reverse-append}
 use Rattle.std.proofs.lemmas.List.Elements.{All-nil, All-cons, All-head, All-tail, All-push, All-weaker}
@@ -15,8 +15,9 @@ use Rattle.bl_gate.proofs.Following.{base_stays, follows_itself, follows_then}
 use Rattle.bl_gate.proofs.Lending.{begun_once}
 use Rattle.bl_gate.proofs.Passing.{trail_front, trail_back}
 use Rattle.bl_worker.specs.Batches.{EndsNone, IsBatch, lent_by, loan_of, times_lent}
-use Rattle.bl_worker.specs.Turns.{Settles}
-use Rattle.bl_worker.specs.Hands.{HasBegun, HasMade, IsBegunOf, MissesNone, events_of}
+use Rattle.bl_worker.specs.Turns.{HasWorked, IsTurnOf, Settles}
+use Rattle.bl_worker.specs.Hands.{HasBegun, HasMade, IsBegunOf, IsNoMiss, MissesNone, events_of}
+use Rattle.bl_worker.specs.declared.turn.Turn.{Turn}
 use Rattle.bl_worker.specs.declared.turn.Turn.TheVariants.{Idle, Missed, Denied, Done, Lost}
 use Rattle.bl_worker.specs.declared.turn.Begun.{Begun}
 use Rattle.bl_worker.specs.declared.turn.Begun.TheVariants.{Over, Runs}
@@ -257,3 +258,19 @@ one_ended false now was count more after before none is = omega (arith, before, 
 pub one_held : (over : Bool) (now was count more after : ℕ) → AreInHand over now was count → more ≡ 1 → after ≡ now + more → AreInHand over after was (count + 1)
 one_held true now was count more after before one is = omega (arith, before, one, is)
 one_held false now was count more after before one is = omega (arith, before, one, is)
+
+-- where some have ended, that is to be rung
+pub rung_if : {E : Type 0} (ended : Option E) (over : Bool) (now was count : ℕ) → AreInHand over now was count → IsSome ended ↔ IsTrue over
+    → (IsSome ended ↔ (now < was + count)) × (now ≤ was + count)
+rung_if ended true now was count held (to, from) = ((λ _. held, λ _. from refl), omega (arith, held))
+rung_if ended false now was count held (to, from) = ((λ is. absurd (to is), λ few. absurd (omega (arith, held, few))), omega (arith, held))
+
+-- ---- what was begun and is over
+
+-- an entry that might start, and is over, has ended
+pub over_ended : (p q : PassView) (n : ℕ) (turn : Turn) → HasWorked p q turn → IsTurnOf n turn → IsNoMiss turn → has_ended (state_seen q) n ≡ true
+over_ended p q n Idle worked of misses = absurd of
+over_ended p q n (Missed m) worked of misses = absurd misses
+over_ended p q n (Denied m) worked of misses = subst (λ (k : ℕ). has_ended (state_seen q) k ≡ true) of worked.ended
+over_ended p q n (Done m) worked of misses = subst (λ (k : ℕ). has_ended (state_seen q) k ≡ true) of worked.ended
+over_ended p q n (Lost m) worked of misses = subst (λ (k : ℕ). has_ended (state_seen q) k ≡ true) of worked.ended

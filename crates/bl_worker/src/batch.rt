@@ -1,8 +1,8 @@
 //! Many entries in hand, from one turn at the gate to the next.
-ghost use Rattle.std.specs.Prelude.{◌≡◌, ◌<◌, ◌≤◌, ◌+◌, ◌↔◌, ◌++◌, ◌∷◌, [], false, true, ℕ, IfOk, IsTrue, List};
+ghost use Rattle.std.specs.Prelude.{◌≡◌, ◌<◌, ◌≤◌, ◌+◌, ◌↔◌, ◌++◌, ◌∷◌, [], false, true, ℕ, IfOk, IsSome, IsTrue, List};
 ghost use Rattle.std.specs.Prelude.{MatchBool, length, vec_len};
 ghost use Rattle.bl_hall.specs.Chronicle.{HasTrail};
-ghost use Rattle.bl_order.specs.Machine.{MayStart};
+ghost use Rattle.bl_order.specs.Machine.{MayStart, has_ended};
 ghost use Rattle.bl_gate.specs.Gates.{Follows, PassView, HasLoanInHand, hall_seen, state_seen};
 ghost use Rattle.bl_eval.specs.Loan.{Loan};
 ghost use Rattle.bl_worker.specs.Batches.{AllRan, EndsNone, HasRoom, IsBatch, IsIdle, IsNoEnd, NoneRan};
@@ -10,23 +10,14 @@ ghost use Rattle.bl_worker.specs.Batches.{lent_by, loan_of, loans_in};
 ghost use Rattle.bl_worker.specs.Hands.{HasMade};
 ghost use Rattle.bl_worker.specs.Turns.{AddsTurnsAlone, Settles};
 
+use crate::bell::EndToRing;
 use crate::pause::Pause;
+use crate::short::{is_long, run_short};
 use crate::turn::{Begun, Turn, begin};
-use bl_core::machine::Core;
-use bl_core::origin::Origin;
 use bl_eval::evaluate::eval;
 use bl_eval::lent::{Done, Lent, Unrun};
 use bl_gate::turn::Turn as AtGate;
-use bl_policy::id::DocId;
-use bl_work::script::Script;
-use bl_work::work::Work;
 use std::alloc::{AllocError, Global};
-
-/// An entry that may look at so many bytes is long to run.
-const LONG: usize = 16_384;
-
-/// How many entries stand at most between an entry that may be short to run and its line.
-const MOST_PARENTS: u32 = 8;
 
 /// What a thread has in hand from one turn at the gate to the next: entries that run, and those that it has run, or
 /// could not run, and has yet to end. It has to be closed with nothing in hand.
@@ -37,13 +28,14 @@ pub struct Batch {
 }
 
 /// Ends an entry that was run, or could not be.
-fn end(turn: &mut AtGate<'_>, run: Result<Done, Unrun>)
+pub(crate) fn end(turn: &mut AtGate<'_>, run: Result<Done, Unrun>)
     requires { HasLoanInHand turn.old (loan_of run) }
     ensures follows { Follows turn.old turn.new }
     ensures trail { HasTrail (hall_seen turn.new) }
     ensures adds { AddsTurnsAlone turn.old turn.new }
     ensures batch { (first : PassView) (loans : List Loan) → IsBatch first turn.old (loan_of run ∷ loans)
         → IsBatch first turn.new loans }
+    ensures ended { IsTrue (has_ended (state_seen turn.new) (loan_of run).entry) }
 {
     match run {
         Ok(done) => turn.finish(done),
@@ -58,60 +50,6 @@ fn ends(turn: Turn) -> bool
     match turn {
         Turn::Idle | Turn::Missed(_) => false,
         Turn::Denied(_) | Turn::Done(_) | Turn::Lost(_) => true,
-    }
-}
-
-/// The line that an entry comes from, by its place; none where there are many entries in between.
-fn line_of(core: &Core, n: u32) -> Option<u32> {
-    let mut at = n;
-    for _ in 0..MOST_PARENTS {
-        match core.origin(at)? {
-            Origin::Line { .. } => return Some(at),
-            Origin::Child { parent, .. } => at = parent,
-        }
-    }
-    None
-}
-
-/// How many bytes a document has, if it is not lent.
-fn length_of(core: &Core, doc: DocId) -> usize {
-    if doc.position() as usize >= core.setup().contents().len() {
-        return 0;
-    }
-    match core.content(doc) {
-        Some(content) => content.bytes().len(),
-        None => 0,
-    }
-}
-
-/// How many bytes a behaviour of a script may look at.
-fn bytes_of(core: &Core, script: &Script, index: usize) -> usize
-    requires { index < length script.now }
-{
-    let mut bytes = 0usize;
-    for access in script.accesses(index) {
-        bytes = bytes.saturating_add(length_of(core, access.doc));
-    }
-    bytes
-}
-
-/// How many bytes some behaviour of a script may look at, at most.
-fn most_of(core: &Core, script: &Script) -> usize {
-    let mut most = 0;
-    for index in 0..script.weight() {
-        most = bytes_of(core, script, index).max(most);
-    }
-    most
-}
-
-/// Whether some entry of the line that this one comes from may look at much, so that it is worth a thread of its own.
-fn is_long(core: &Core, n: u32) -> bool {
-    let Some(line) = line_of(core, n) else {
-        return true;
-    };
-    match core.work(line) {
-        Some(Work::Behaviour(script)) => most_of(core, script) >= LONG,
-        Some(Work::Rule(_)) | None => false,
     }
 }
 
@@ -146,8 +84,8 @@ impl Batch {
         self.lents.is_empty() && self.ran.is_empty()
     }
 
-    /// Ends all that was run, and says whether there was any.
-    pub fn end_all(&mut self, turn: &mut AtGate<'_>) -> bool
+    /// Ends all that was run; where there was any, that is to be rung.
+    pub fn end_all(&mut self, turn: &mut AtGate<'_>) -> Option<EndToRing>
         requires trail { HasTrail (hall_seen turn.old) }
         requires ran { AllRan self.old }
         requires room { HasRoom self.old }
@@ -160,13 +98,35 @@ impl Batch {
         ensures idle { IsIdle self.new }
         ensures room { HasRoom self.new }
         ensures most { self.new.most ≡ self.old.most }
-        ensures some { IsTrue result ↔ (0 < vec_len self.old.ran) }
+        ensures some { IsSome result ↔ (0 < vec_len self.old.ran) }
     {
         let some = !self.ran.is_empty();
         while let Some(run) = self.ran.pop() {
             end(turn, run);
         }
-        some
+        EndToRing::if_any(some)
+    }
+
+    /// Ends all that was run, as `end_all` does; and where there was any, runs what is ready then and short to run, in
+    /// the turn itself. So entries that wait for one another do not take a turn each.
+    pub fn end_on(&mut self, alloc: Global, turn: &mut AtGate<'_>) -> Option<EndToRing>
+        requires trail { HasTrail (hall_seen turn.old) }
+        requires ran { AllRan self.old }
+        requires room { HasRoom self.old }
+        requires batch { (first : PassView) × IsBatch first turn.old (loans_in self.old) }
+        ensures follows { Follows turn.old turn.new }
+        ensures trail { HasTrail (hall_seen turn.new) }
+        ensures adds { AddsTurnsAlone turn.old turn.new }
+        ensures batch { (first : PassView) → IsBatch first turn.old (loans_in self.old)
+            → IsBatch first turn.new (loans_in self.new) }
+        ensures idle { IsIdle self.new }
+        ensures room { HasRoom self.new }
+        ensures most { self.new.most ≡ self.old.most }
+        ensures some { IsSome result ↔ (0 < vec_len self.old.ran) }
+    {
+        let ended = self.end_all(turn)?;
+        run_short(alloc, turn);
+        Some(ended)
     }
 
     /// Takes in hand what runs of an entry that was begun, and says whether it has ended instead.
@@ -192,8 +152,12 @@ impl Batch {
 
     /// Begins entries that are ready, whosever, until as many are in hand as may be, as many were begun, none is
     /// ready, or one is that is long to run; but of those too it begins so few. Says how many it has begun, each by one
-    /// event, and whether one of them has ended and is not in hand.
-    pub fn begin_ready(&mut self, turn: &mut AtGate<'_>, few: usize) -> (usize, bool)
+    /// event; where one of them has ended and is not in hand, that is to be rung.
+    pub fn begin_ready(
+        &mut self,
+        turn: &mut AtGate<'_>,
+        few: usize,
+    ) -> (usize, Option<EndToRing>)
         requires trail { HasTrail (hall_seen turn.old) }
         requires ran { NoneRan self.old }
         requires room { HasRoom self.old }
@@ -206,8 +170,8 @@ impl Batch {
         ensures room { HasRoom self.new }
         ensures most { self.new.most ≡ self.old.most }
         ensures made { HasMade result.0 turn.old turn.new }
-        ensures ended { MatchBool result.1 (vec_len self.new.lents < vec_len self.old.lents + result.0)
-            (vec_len self.new.lents ≡ vec_len self.old.lents + result.0) }
+        ensures ended { IsSome result.1 ↔ (vec_len self.new.lents < vec_len self.old.lents + result.0) }
+        ensures held { vec_len self.new.lents ≤ vec_len self.old.lents + result.0 }
         ensures none { result.0 < few → vec_len self.new.lents < self.new.most
             → (n : ℕ) → ¬ MayStart (state_seen turn.new) n }
     {
@@ -215,20 +179,20 @@ impl Batch {
         let mut over = false;
         for count in 0..most {
             if self.lents.len() >= self.most {
-                return (count, over);
+                return (count, EndToRing::if_any(over));
             }
             let Some(n) = turn.ready() else {
-                return (count, over);
+                return (count, EndToRing::if_any(over));
             };
             if is_left(turn, n, count, few) {
-                return (count, over);
+                return (count, EndToRing::if_any(over));
             }
             let begun = begin(turn, n);
             if self.hold(begun) {
                 over = true;
             }
         }
-        (most, over)
+        (most, EndToRing::if_any(over))
     }
 
     /// Runs all that is in hand with the gate free. What could not be run is in hand still.

@@ -6,6 +6,7 @@ ghost use Rattle.bl_gate.specs.Gates.{Follows, hall_seen, state_seen};
 ghost use Rattle.bl_worker.specs.Turns.{AddsTurnsAlone, AddsTurnsOf, Settles};
 ghost use Rattle.bl_worker.specs.Hands.{Holds, HasInHand, IsHandOf, IsLent, MissesNone, RunsEntry, SettlesBut};
 
+use crate::bell::EndToRing;
 use crate::pause::Pause;
 use crate::turn::{Begun, Turn, begin_next};
 use bl_eval::evaluate::eval;
@@ -52,9 +53,14 @@ fn put_down(turn: &mut AtGate<'_>, hand: Hand) -> bool
     true
 }
 
-/// A worker's turn at the gate: it ends the entry in hand, and begins one that is ready, if there is one. Says whether
-/// an entry has ended.
-pub(crate) fn take_turn<R: Wait>(rt: &R, gate: &Gate, pass: &mut Pass, hand: Hand) -> (bool, Begun)
+/// A worker's turn at the gate: it ends the entry in hand, and begins one that is ready, if there is one. Where an entry
+/// has ended, that is to be rung.
+pub(crate) fn take_turn<R: Wait>(
+    rt: &R,
+    gate: &Gate,
+    pass: &mut Pass,
+    hand: Hand,
+) -> (Option<EndToRing>, Begun)
     requires gate { pass.old.gate ≡ gate.now }
     requires held { HasInHand pass.old hand }
     ensures follows { Follows pass.old pass.new }
@@ -73,5 +79,5 @@ pub(crate) fn take_turn<R: Wait>(rt: &R, gate: &Gate, pass: &mut Pass, hand: Han
         Begun::Over(Turn::Idle) | Begun::Runs(_) => false,
         Begun::Over(_) => true,
     };
-    (put_down || over, begun)
+    (EndToRing::if_any(put_down || over), begun)
 }

@@ -3,6 +3,7 @@
 //!     turn      one turn: an entry starts and ends
 //!     hand      what a worker has in hand from one turn at the gate to the next
 //!     batch     many entries in hand, from one turn at the gate to the next
+//!     short     what is long to run, and what is short and is run in a turn at the gate
 //!     pause     what a turn does between the start and the end
 //!     bell      how threads that have nothing to do are woken
 //!     worker    a worker, turn by turn
@@ -12,5 +13,6 @@ pub mod batch;
 pub mod bell;
 pub(crate) mod hand;
 pub mod pause;
+pub(crate) mod short;
 pub mod turn;
 pub mod worker;

@@ -3,7 +3,7 @@ ghost use Rattle.std.specs.Prelude.{◌≡◌};
 ghost use Rattle.bl_gate.specs.Gates.{Follows};
 ghost use Rattle.bl_worker.specs.Turns.{AddsTurnsAlone, AdmitsNoLine, Settles};
 
-use crate::bell::WorkerBell;
+use crate::bell::{Closed, WorkerBell};
 use crate::hand::{Hand, evaluate, take_turn};
 use crate::pause::Pause;
 use crate::turn::{Begun, Turn};
@@ -15,14 +15,14 @@ use std::sync::Wait;
 
 /// Waits a moment where there was nothing to do: at first for another thread's step, and then at the bell. Says whether
 /// the bell is closed.
-fn rest<B: WorkerBell, R: Wait>(rt: &R, bell: &B, backoff: &Backoff, seen: u64) -> bool {
+fn rest<B: WorkerBell, R: Wait>(rt: &R, bell: &B, backoff: &Backoff, seen: u64) -> Option<Closed> {
     for _ in rt.forever() {
         if backoff.is_completed() {
             break;
         }
         backoff.snooze();
         if bell.calls() != seen {
-            return false;
+            return None;
         }
     }
     bell.wait_work(rt, seen)
@@ -31,7 +31,7 @@ fn rest<B: WorkerBell, R: Wait>(rt: &R, bell: &B, backoff: &Backoff, seen: u64) 
 /// Takes turns at the gate until the bell is closed and nothing is ready, and rings after each in which an entry has
 /// ended. In one turn it ends the entry that it has run and begins the next one, which it runs with the gate free.
 /// While there is nothing to do it sleeps at the bell, until workers are called. When it returns, every entry that it
-/// started has ended.
+/// started has ended, and the bell is closed.
 pub fn run_worker<P: Pause, B: WorkerBell, R: Wait>(
     rt: &R,
     alloc: Global,
@@ -39,7 +39,7 @@ pub fn run_worker<P: Pause, B: WorkerBell, R: Wait>(
     pass: &mut Pass,
     pause: &P,
     bell: &B,
-)
+) -> Closed
     requires gate { pass.old.gate ≡ gate.now }
     ensures follows { Follows pass.old pass.new }
     ensures lines { AdmitsNoLine pass.old pass.new }
@@ -47,19 +47,24 @@ pub fn run_worker<P: Pause, B: WorkerBell, R: Wait>(
     ensures settles { Settles pass.old pass.new }
 {
     let backoff = Backoff::new();
-    let mut closed = false;
+    let mut closed = None;
     let mut hand = Hand::Empty;
     for _ in rt.forever() {
         let seen = bell.calls();
         let (ended, begun) = take_turn(rt, gate, pass, hand);
-        if ended {
-            backoff.reset();
-            bell.ring_end(rt);
+        match ended {
+            Some(end) => {
+                backoff.reset();
+                bell.ring_end(rt, end);
+            }
+            None => {}
         }
         hand = match begun {
             Begun::Runs(lent) => evaluate(alloc, pause, lent),
-            Begun::Over(Turn::Idle) if closed => return,
             Begun::Over(Turn::Idle) => {
+                if let Some(closed) = closed {
+                    return closed;
+                }
                 closed = rest(rt, bell, &backoff, seen);
                 Hand::Empty
             }

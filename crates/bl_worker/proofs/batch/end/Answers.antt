@@ -1,4 +1,6 @@
-use Rattle.std.proofs.Common.{◌∷◌, ℕ, subst}
+use Rattle.std.proofs.Common.{◌≡◌, ◌∷◌, ℕ, true, sym, subst}
+use Rattle.bl_order.specs.Machine.{has_ended}
+use Rattle.bl_gate.specs.Gates.{state_seen}
 use Rattle.std.specs.Prelude.{Result}
 use Rattle.bl_eval.specs.Loan.{Loan}
 use Rattle.bl_order.specs.Machine.{Ends, Loses}
@@ -30,3 +32,13 @@ returns-in-Ok-clause-adds c = adds_call (λ _. IsEventOf (λ (n : ℕ). Unit {0}
 
 pub returns-in-Err-clause-adds : goal.returns-in-Err-clause-adds
 returns-in-Err-clause-adds c = adds_call (λ _. IsEventOf (λ (n : ℕ). Unit {0})) c.args.turn.now c.lose.new.self (Loses c.in-Err.unrun.entry) _ c.lose.ensures.calls tt
+
+pub returns-in-Ok-clause-ended : goal.returns-in-Ok-clause-ended
+returns-in-Ok-clause-ended c =
+    subst (λ (r : Result Loan Loan). has_ended (state_seen c.finish.new.self) (loan_of r).entry ≡ true) (sym c.in-Ok.is)
+    (finished c.args.turn.now c.finish.new.self c.in-Ok.done.entry _ c.finish.ensures.calls c.finish.ensures.follows c.finish.ensures.trail).ended
+
+pub returns-in-Err-clause-ended : goal.returns-in-Err-clause-ended
+returns-in-Err-clause-ended c =
+    subst (λ (r : Result Loan Loan). has_ended (state_seen c.lose.new.self) (loan_of r).entry ≡ true) (sym c.in-Err.is)
+    (gone c.args.turn.now c.lose.new.self c.in-Err.unrun.entry _ c.lose.ensures.calls c.lose.ensures.follows c.lose.ensures.trail).ended

@@ -13,8 +13,8 @@ use Rattle.bl_crowd.proofs.Fitting.{fits_itself, fits_quiet, fits_then, leads_on
 use Rattle.bl_crowd.proofs.Rounding.{are_met_on, crowd_turns}
 use Rattle.bl_crowd.proofs.crowd.Crowd.round.Goals as goal
 
-pub end_all-some-requires-clause-batch : goal.end_all-some-requires-clause-batch
-end_all-some-requires-clause-batch g c =
+pub end_on-ended-requires-clause-batch : goal.end_on-ended-requires-clause-batch
+end_on-ended-requires-clause-batch g c =
     let b = c.requires.batch in
     let loans = loans_in c.args.batch.now in (
       b.0,
@@ -31,10 +31,10 @@ meet_on_all-requires-clause-members g c =
     let items = self.members.items in
     let p = c.take.result in
     let t = c.turn-turn.result in
-    let e = c.end_all-some.ensures in
+    let e = c.end_on-ended.ensures in
     let here = subst (λ (v : PassView). AreMembers R W names self.first.value v items) (sym c.take.ensures.taken) c.requires.crowd.members in
     let begins = crowd_goes R W names self.first.value p t items here (record { follows = c.turn-turn.ensures.follows; trail = c.turn-turn.ensures.trail }) (adds_itself (λ _. IsNoLine) p t c.turn-turn.ensures.own) in
-    (names, self.first.value, crowd_turns R W names self.first.value t c.end_all-some.new.turn items begins e.follows e.trail e.adds)
+    (names, self.first.value, crowd_turns R W names self.first.value t c.end_on-ended.new.turn items begins e.follows e.trail e.adds)
 
 pub returns-clause-crowd : goal.returns-clause-crowd
 returns-clause-crowd g c =
@@ -45,10 +45,10 @@ returns-clause-crowd g c =
     let items = self.members.items in
     let p = c.take.result in
     let t = c.turn-turn.result in
-    let u = c.end_all-some.new.turn in
+    let u = c.end_on-ended.new.turn in
     let v = c.meet_on_all.new.turn in
     let w = c.begin_ready-begun.new.turn in
-    let e = c.end_all-some.ensures in
+    let e = c.end_on-ended.ensures in
     let b = c.begin_ready-begun.ensures in
     let here = subst (λ (x : PassView). AreMembers R W names self.first.value x items) (sym c.take.ensures.taken) c.requires.crowd.members in
     let begins = crowd_goes R W names self.first.value p t items here (record { follows = c.turn-turn.ensures.follows; trail = c.turn-turn.ensures.trail }) (adds_itself (λ _. IsNoLine) p t c.turn-turn.ensures.own) in
@@ -63,16 +63,16 @@ returns-clause-crowd g c =
 pub returns-clause-batch : goal.returns-clause-batch
 returns-clause-batch g c since batch =
     let loans = loans_in c.args.batch.now in
-    let u = c.end_all-some.new.turn in
+    let u = c.end_on-ended.new.turn in
     let v = c.meet_on_all.new.turn in
-    let some = c.end_all-some.ensures.batch since
+    let some = c.end_on-ended.ensures.batch since
     (batch_enters since c.take.result c.turn-turn.result loans (subst (λ (x : PassView). IsBatch since x loans) (sym c.take.ensures.taken) batch) c.turn-turn.ensures.follows c.turn-turn.ensures.trail
     c.turn-turn.ensures.own c.turn-turn.ensures.in_hand)
     in
     let met = c.meet_on_all.ensures in
     subst (λ (x : PassView). IsBatch since x (loans_in c.begin_ready-begun.new.self)) (sym c.leave.ensures)
     (c.begin_ready-begun.ensures.batch since
-    (batch_goes since u v (loans_in c.end_all-some.new.self) some met.goes.follows met.goes.trail met.hand.settles met.hand.in_hand))
+    (batch_goes since u v (loans_in c.end_on-ended.new.self) some met.goes.follows met.goes.trail met.hand.settles met.hand.in_hand))
 
 pub returns-clause-met : goal.returns-clause-met
 returns-clause-met g c =
@@ -84,10 +84,10 @@ returns-clause-met g c =
     let new = c.meet_on_all.new.members.items in
     let p = c.take.result in
     let t = c.turn-turn.result in
-    let u = c.end_all-some.new.turn in
+    let u = c.end_on-ended.new.turn in
     let v = c.meet_on_all.new.turn in
     let w = c.begin_ready-begun.new.turn in
-    let e = c.end_all-some.ensures in
+    let e = c.end_on-ended.ensures in
     let m = c.meet_on_all.ensures in
     let b = c.begin_ready-begun.ensures in
     let here = subst (λ (x : PassView). AreMembers R W names self.first.value x items) (sym c.take.ensures.taken) c.requires.crowd.members in
@@ -117,9 +117,9 @@ pub returns-clause-begun : goal.returns-clause-begun
 returns-clause-begun g c =
     let self = c.args.self.now in
     let t = c.turn-turn.result in
-    let u = c.end_all-some.new.turn in
+    let u = c.end_on-ended.new.turn in
     let v = c.meet_on_all.new.turn in
     let b = c.begin_ready-begun.ensures in
     let from = subst (λ (x : PassView). Follows x t) c.take.ensures.taken c.turn-turn.ensures.follows in
     subst (λ (x : PassView). HasBegunLast c.begin_ready-begun.result.0 self.pass x) (sym c.leave.ensures)
-    (v, follows_then self.pass u v (follows_then self.pass t u from c.end_all-some.ensures.follows) c.meet_on_all.ensures.goes.follows, b.adds, b.made)
+    (v, follows_then self.pass u v (follows_then self.pass t u from c.end_on-ended.ensures.follows) c.meet_on_all.ensures.goes.follows, b.adds, b.made)
