@@ -153,11 +153,7 @@ impl Batch {
     /// Begins entries that are ready, whosever, until as many are in hand as may be, as many were begun, none is
     /// ready, or one is that is long to run; but of those too it begins so few. Says how many it has begun, each by one
     /// event; where one of them has ended and is not in hand, that is to be rung.
-    pub fn begin_ready(
-        &mut self,
-        turn: &mut AtGate<'_>,
-        few: usize,
-    ) -> (usize, Option<EndToRing>)
+    pub fn begin_ready(&mut self, turn: &mut AtGate<'_>, few: usize) -> (usize, Option<EndToRing>)
         requires trail { HasTrail (hall_seen turn.old) }
         requires ran { NoneRan self.old }
         requires room { HasRoom self.old }

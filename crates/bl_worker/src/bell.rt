@@ -28,7 +28,8 @@ impl EndToRing {
     }
 }
 
-/// That a bell is closed, as its owner knows who has closed it, and who was told so where it waited. Nobody else has one.
+/// That a bell is closed, as its owner knows who has closed it, and who was told so where it waited. Nobody else has
+/// one.
 #[derive(Clone, Copy, Debug)]
 pub struct Closed {
     _told: (),

@@ -53,8 +53,8 @@ fn put_down(turn: &mut AtGate<'_>, hand: Hand) -> bool
     true
 }
 
-/// A worker's turn at the gate: it ends the entry in hand, and begins one that is ready, if there is one. Where an entry
-/// has ended, that is to be rung.
+/// A worker's turn at the gate: it ends the entry in hand, and begins one that is ready, if there is one. Where an
+/// entry has ended, that is to be rung.
 pub(crate) fn take_turn<R: Wait>(
     rt: &R,
     gate: &Gate,
