@@ -1,7 +1,6 @@
-use Rattle.std.proofs.Common.{[], ◌∷◌, List, refl, sym, subst}
+use Rattle.std.proofs.Common.{[], ◌∷◌, sym, subst}
 use Rattle.bl_eval.specs.Loan.{Loan}
 use Rattle.bl_gate.specs.Gates.{HasLoanInHand}
-use Rattle.bl_gate.proofs.Following.{follows_then}
 use Rattle.bl_worker.specs.Batches.{IsBatch}
 use Rattle.bl_worker.specs.declared.turn.Begun.TheVariants.{Over, Runs}
 use Rattle.bl_worker.proofs.Adding.{adds_alone, adds_then}
@@ -13,11 +12,11 @@ returns-in-Over-clause-adds c = adds_alone _ c.args.turn.now c.begin.new.turn c.
 
 pub returns-in-Over-clause-batch : goal.returns-in-Over-clause-batch
 returns-in-Over-clause-batch c first b =
-    batch_begun first c.args.turn.now c.begin.new.turn [] (Over c.in-Over._0) b c.begin.ensures.follows c.begin.ensures.trail c.in-Over.ensures.begun c.begin.ensures.in_hand
+    batch_begun first c.args.turn.now c.begin.new.turn [] (Over c.in-Over.field-0) b c.begin.ensures.follows c.begin.ensures.trail c.in-Over.ensures.begun c.begin.ensures.in_hand
 
 pub returns-in-Over-clause-ended : goal.returns-in-Over-clause-ended
 returns-in-Over-clause-ended c =
-    over_ended c.args.turn.now c.begin.new.turn c.args.n c.in-Over._0 c.in-Over.ensures.begun.0 c.in-Over.ensures.entry (c.in-Over.ensures.missed c.requires)
+    over_ended c.args.turn.now c.begin.new.turn c.args.n c.in-Over.field-0 c.in-Over.ensures.begun.0 c.in-Over.ensures.entry (c.in-Over.ensures.missed c.requires.may)
 
 pub end-requires : goal.end-requires
 end-requires c =

@@ -6,7 +6,7 @@ use Rattle.bl_worker.proofs.short.run_short.Goals as goal
 pub loop-count-init : goal.loop-count-init
 loop-count-init c = record {
   follows = follows_itself c.args.turn.now;
-  trail = c.requires;
+  trail = c.requires.trail;
   adds = adds_itself _ c.args.turn.now c.args.turn.now refl;
   batch = λ first b. b;
 }

@@ -7,15 +7,15 @@ use Rattle.bl_worker.proofs.Adding.{adds_no_line, adds_then}
 use Rattle.bl_worker.proofs.Handing.{but_then, hand_of, held_as, holds_what_ran, over_runs_none, settled_all}
 use Rattle.bl_worker.proofs.worker.run_worker.Goals as goal
 
-pub returns-in-Over-Idle-clause-adds : goal.returns-in-Over-Idle-clause-adds
-returns-in-Over-Idle-clause-adds g c =
+pub returns-in-Some-closed-clause-adds : goal.returns-in-Some-closed-clause-adds
+returns-in-Some-closed-clause-adds g c =
     adds_then _ c.args.pass.now c.loop.pass c.take_turn-ended.new.pass c.loop.invariant.4 c.take_turn-ended.ensures.adds c.take_turn-ended.ensures.follows
 
-pub returns-in-Over-Idle-clause-lines : goal.returns-in-Over-Idle-clause-lines
-returns-in-Over-Idle-clause-lines g c = adds_no_line _ c.args.pass.now c.take_turn-ended.new.pass (returns-in-Over-Idle-clause-adds g c)
+pub returns-in-Some-closed-clause-lines : goal.returns-in-Some-closed-clause-lines
+returns-in-Some-closed-clause-lines g c = adds_no_line _ c.args.pass.now c.take_turn-ended.new.pass (returns-in-Some-closed-clause-adds g c)
 
-pub returns-in-Over-Idle-clause-settles : goal.returns-in-Over-Idle-clause-settles
-returns-in-Over-Idle-clause-settles g c =
+pub returns-in-Some-closed-clause-settles : goal.returns-in-Some-closed-clause-settles
+returns-in-Some-closed-clause-settles g c =
     let whole = but_then (Holds c.loop.hand) (RunsEntry c.take_turn-ended.result.1) c.args.pass.now c.loop.pass c.take_turn-ended.new.pass c.loop.invariant.3 c.take_turn-ended.ensures.settles c.take_turn-ended.ensures.follows
     c.take_turn-ended.ensures.trail c.take_turn-ended.ensures.ended in
     settled_all _ c.args.pass.now c.take_turn-ended.new.pass whole (λ n runs. absurd (over_runs_none c.take_turn-ended.result.1 _ c.in-Over-Idle.is n runs))
@@ -32,8 +32,8 @@ loop-preserved-in-Runs g c =
       hand_of c.take_turn-ended.new.pass c.in-Runs.lent c.evaluate.result c.evaluate.ensures (subst (IsLent c.take_turn-ended.new.pass) c.in-Runs.is c.take_turn-ended.ensures.lent),
     )
 
-pub loop-preserved-in-Over-Idle-2 : goal.loop-preserved-in-Over-Idle-2
-loop-preserved-in-Over-Idle-2 g c =
+pub loop-preserved-in_default : goal.loop-preserved-in_default
+loop-preserved-in_default g c =
     let whole = but_then (Holds c.loop.hand) (RunsEntry c.take_turn-ended.result.1) c.args.pass.now c.loop.pass c.take_turn-ended.new.pass c.loop.invariant.3 c.take_turn-ended.ensures.settles c.take_turn-ended.ensures.follows
     c.take_turn-ended.ensures.trail c.take_turn-ended.ensures.ended in (
       tt,

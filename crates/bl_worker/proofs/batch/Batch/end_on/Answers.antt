@@ -1,6 +1,5 @@
-use Rattle.std.proofs.Common.{[], List, sym, subst}
-use Rattle.bl_eval.specs.Loan.{Loan}
-use Rattle.bl_worker.specs.Batches.{IsBatch, loans_in}
+use Rattle.std.proofs.Common.{sym, subst}
+use Rattle.bl_worker.specs.Batches.{IsBatch}
 use Rattle.bl_worker.proofs.Adding.{adds_then}
 use Rattle.bl_worker.proofs.Batching.{none_in}
 use Rattle.bl_worker.proofs.batch.Batch.end_on.Goals as goal
