@@ -84,8 +84,7 @@ fn one_finds_the_trail_full(rt: HostRuntime) {
     drop(gate);
 }
 
-/// Workers are called for what a thread has left: of lines that one after another write the same document, and of which
-/// nobody waits for a reply, it runs some alone.
+/// Workers are called for what a thread has left: a line that is long to run, for whose reply nobody waits.
 #[test]
 fn what_is_left_is_told_to_workers(rt: HostRuntime) {
     let alloc = rt.alloc();
@@ -98,19 +97,23 @@ fn what_is_left_is_told_to_workers(rt: HostRuntime) {
     };
     let mut says = Vec::new(alloc);
     assert!(rt; says.extend_from_slice(b"hello ann\n").is_ok());
-    for _ in 0..20 {
+    for _ in 0..3 {
         assert!(rt;
-            says.extend_from_slice(b"when write memo do add memo \"x\"; end\n")
+            says.extend_from_slice(b"when write memo do add memo \"")
                 .is_ok()
+                && says.extend_from_slice([b'x'; 8_000].as_slice()).is_ok()
+                && says.extend_from_slice(b"\"; end\n").is_ok()
         );
     }
+    let long = b"when read memo do if memo has \"y\" then end; end\n";
+    assert!(rt; says.extend_from_slice(long).is_ok());
     let context = RoundContext {
         rt: &rt,
         pause: &NoPause,
         calls,
     };
     let mut thread = Rounds::new(alloc, &gate, pass);
-    let stream = ends_of(alloc, says.as_slice(), pausing_at(2), Manner::PLAIN);
+    let stream = ends_of(alloc, says.as_slice(), pausing_at(4), Manner::PLAIN);
     assert!(rt; thread.join(stream, 1).is_ok());
     for _ in 0..ROUNDS {
         thread.round(&context, &mut NoQuota);
