@@ -1,10 +1,10 @@
 -- Lines that fit in the trail, and those that are held back.
-use Rattle.std.proofs.Common.{◌≡◌, ℕ, zero, suc, ◌+◌, ◌-◌, ◌<◌, ◌≤◌, ◌⊎◌, inl, inr, List, [], ◌∷◌, ◌++◌, length, take, take_all, refl, sym, ap, subst, ◌∙◌, arith, length-append, Option, Some, None}
+use Rattle.std.proofs.Common.{◌≡◌, ℕ, zero, suc, ◌+◌, ◌-◌, ◌<◌, inl, inr, List, [], ◌∷◌, ◌++◌, length, take, take_all, refl, sym, ap, subst, ◌∙◌, arith, length-append, Option, Some, None}
 use Rattle.std.specs.Prelude.{IsSome, true}
 use Rattle.std.proofs.lemmas.List.{take-append-le}
 use Rattle.bl_work.specs.Names.{KnownNames}
 use Rattle.bl_work.specs.declared.work.Work.{Work}
-use Rattle.bl_order.specs.Machine.{State, Event, Opens, Admits, Starts, Ends, Loses, IsTrail, start, state_after}
+use Rattle.bl_order.specs.Machine.{State, Event, Opens, Admits, Starts, Ends, Loses, IsTrail, start}
 use Rattle.bl_hall.specs.Chronicle.{Chronicle, HasTrail, state_now}
 use Rattle.bl_gate.specs.Counts.{from, gained}
 use Rattle.bl_gate.specs.Gates.{Calls, Follows, OwnsAllSince, PassView, hall_seen, hall_with, state_seen}

@@ -6,3 +6,4 @@ pub mod Departing
 pub mod Crowding
 pub mod Rounding
 pub mod Fitting
+pub mod Opening

@@ -17,13 +17,14 @@ use Rattle.bl_connection.specs.Connections.{state_of}
 use Rattle.bl_connection.specs.declared.connection.Connection.{Connection}
 use Rattle.bl_connection.specs.declared.connection.State.TheVariants as states
 use Rattle.bl_worker.specs.Turns.{AddsTurnsAlone}
-use Rattle.bl_worker.proofs.Adding.{adds_itself, adds_no_line, adds_then}
+use Rattle.bl_worker.proofs.Adding.{adds_no_line}
 use Rattle.bl_worker.proofs.Settling.{settles_call, settles_itself, settles_then}
-use Rattle.bl_serve.specs.Courses.{AdmitsNoLineOf, IsNoLineOf, SpeaksForItsOwn}
+use Rattle.bl_serve.specs.Courses.{SpeaksForItsOwn}
 use Rattle.bl_serve.specs.Together.{GoesOnTo}
 use Rattle.bl_serve.proofs.Going.{state_is}
 use Rattle.bl_serve.proofs.Opened.{sessions_grow}
 use Rattle.bl_crowd.specs.Crowds.{AreMetOn, HasHeardOn, HaveHeardOn, IsMet, IsMetOn}
+use Rattle.bl_crowd.specs.Openings.{AddsItsOwn}
 use Rattle.bl_crowd.specs.Steps.{IsNewSession, KeepsHand}
 use Rattle.bl_crowd.specs.Ways.{AreMembers, HasFailed, IsHome, IsMember}
 use Rattle.bl_crowd.specs.declared.member.Member.{Member}
@@ -32,6 +33,7 @@ use Rattle.bl_crowd.specs.declared.member.Met.TheVariants as mets
 use Rattle.bl_crowd.specs.declared.member.Reception.{Reception}
 use Rattle.bl_crowd.specs.declared.member.Reception.TheVariants.{Awaited, Open, Full}
 use Rattle.bl_crowd.proofs.Crowding.{crowd_goes}
+use Rattle.bl_crowd.proofs.Opening.{own_itself, own_then}
 use Rattle.bl_crowd.proofs.Passing.{goes_itself, goes_then, home_on}
 
 -- ---- what is in hand
@@ -104,34 +106,36 @@ pub record HasGoneOn {S : Type 0} (remaining contents : S → Option (List ℕ))
   pub goes : GoesOnTo before after
   pub way : (names : KnownNames) (first : PassView) → IsHome names before → SpeaksForItsOwn first before → IsMember remaining contents names first before was
       → IsMember remaining contents names first after now × SpeaksForItsOwn first after
-  pub others : (session : ℕ) → now.reception ≢ Open session → AdmitsNoLineOf session before after
+  pub own : AddsItsOwn was.reception now.reception before after
   pub hand : KeepsHand before after
   pub new : (now.reception ≡ was.reception) ⊎ IsNewSession before now.reception
+  pub stays : (session : ℕ) → was.reception ≡ Open session → now.reception ≡ was.reception
 
 module _ {S : Type 0} (remaining contents : S → Option (List ℕ)) where
   pub gone_itself : (p : PassView) (member : Member S) → HasTrail (hall_seen p) → HasGoneOn remaining contents p p member member
   gone_itself p member legal = record {
     goes = goes_itself p legal;
     way = λ names first home speaks here. (here, speaks);
-    others = λ session apart. adds_itself (λ _. IsNoLineOf session) p p refl;
+    own = own_itself member.reception member.reception p p refl;
     hand = hand_itself p;
     new = inl refl;
+    stays = λ session is. refl;
   }
 
   module _ (before p : PassView) (was mid now : Member S) (gone : HasGoneOn remaining contents before p was mid) where
     -- it meets
     pub gone_meets : (q : PassView) → GoesOnTo p q
         → ((names : KnownNames) (first : PassView) → IsHome names p → SpeaksForItsOwn first p → IsMember remaining contents names first p mid → IsMember remaining contents names first q now × SpeaksForItsOwn first q)
-        → ((session : ℕ) → now.reception ≢ Open session → AdmitsNoLineOf session p q) → KeepsHand p q → ((now.reception ≡ mid.reception) ⊎ IsNewSession p now.reception)
+        → AddsItsOwn mid.reception now.reception p q → KeepsHand p q → ((now.reception ≡ mid.reception) ⊎ IsNewSession p now.reception)
         → ((session : ℕ) → mid.reception ≡ Open session → now.reception ≡ mid.reception) → HasGoneOn remaining contents before q was now
-    gone_meets q on way others hand new stays = record {
+    gone_meets q on way own hand new stays = record {
       goes = goes_then before p q gone.goes on;
       way = λ names first home speaks here.
           (let there = gone.way names first home speaks here in way names first (home_on names before p gone.goes.follows home) there.1 there.0);
-      others = λ session apart.
-          adds_then (λ _. IsNoLineOf session) before p q (gone.others session (λ is. apart (stays session is ∙ is))) (others session apart) on.follows;
+      own = own_then was.reception mid.reception now.reception before p q on.follows gone.new stays gone.own own;
       hand = hand_then before p q gone.hand hand on;
       new = new_then before p was.reception mid.reception now.reception gone.goes gone.new new;
+      stays = λ session is. (let kept = gone.stays session is in stays session (kept ∙ is) ∙ kept);
     }
 
     -- it hears
@@ -140,9 +144,10 @@ module _ {S : Type 0} (remaining contents : S → Option (List ℕ)) where
     gone_hears way same = record {
       goes = gone.goes;
       way = λ names first home speaks here. (let there = gone.way names first home speaks here in (way names first there.0, there.1));
-      others = λ session apart. gone.others session (λ is. apart (same ∙ is));
+      own = subst (λ (r : Reception). AddsItsOwn was.reception r before p) (sym same) gone.own;
       hand = gone.hand;
       new = elim gone.new [ inl is ↦ inl (same ∙ is) | inr new ↦ inr (subst (IsNewSession before) (sym same) new) ];
+      stays = λ session is. same ∙ gone.stays session is;
     }
 
 -- ---- that it has met

@@ -9,8 +9,10 @@ ghost use Rattle.bl_work.specs.Names.{KnownNames};
 ghost use Rattle.bl_serve.specs.Courses.{SpeaksForItsOwn};
 ghost use Rattle.bl_serve.specs.Together.{GoesOnTo};
 ghost use Rattle.bl_worker.specs.Batches.{AllRan, HasRoom, IsBatch, IsIdle, NoneRan, loans_in};
+ghost use Rattle.bl_worker.specs.Turns.{AddsTurnsAlone};
 ghost use Rattle.bl_crowd.specs.Crowds.{AreMetOn, HasBegunLast, HaveHeardOn, IsCrowd, IsFound};
 ghost use Rattle.bl_crowd.specs.Fitting.{AdmitsWhatFits};
+ghost use Rattle.bl_crowd.specs.Openings.{AddsTheirOwn};
 ghost use Rattle.bl_crowd.specs.Steps.{KeepsHand};
 ghost use Rattle.bl_crowd.specs.Ways.{AreMembers};
 
@@ -62,6 +64,7 @@ fn meet_on_all<S: Stream, Q: Asks>(
     ensures fits { Q.was quota.old (state_seen turn.old)
         → AdmitsWhatFits (Q.bound quota.old) turn.old turn.new × Q.was quota.new (state_seen turn.new) }
     ensures bound { Q.bound quota.new ≡ Q.bound quota.old }
+    ensures own { AddsTheirOwn members.old.items members.new.items turn.old turn.new }
     ensures heard { HaveHeardOn most members.old.items members.new.items (vec_len members.new) }
 {
     for i in 0..members.len() {
@@ -204,7 +207,7 @@ impl<'a, S: Stream> Crowd<'a, S> {
     /// read, so many at most; and begins what is ready, until the batch is full, as many were begun as it may have in
     /// hand, or nothing is ready. It begins no more where an entry is ready that is long to run, once as many were
     /// begun as the portion says. What was begun is to be run with the gate free, by `Batch::run`, and ends in the next
-    /// round. A line is admitted only where the quota says that it fits.
+    /// round. No session is opened and no line admitted but for members; a line only where the quota says that it fits.
     pub fn round<R: Wait, Q: Asks>(
         &mut self,
         rt: &R,
@@ -229,6 +232,7 @@ impl<'a, S: Stream> Crowd<'a, S> {
             → AdmitsWhatFits (Q.bound quota.old) self.old.pass self.new.pass
             × Q.was quota.new (state_seen self.new.pass)) }
         ensures bound { Q.bound quota.new ≡ Q.bound quota.old }
+        ensures own { AddsTheirOwn self.old.members.items self.new.members.items self.old.pass self.new.pass }
         ensures heard { HaveHeardOn portion.lines self.old.members.items self.new.members.items
             (vec_len self.new.members) }
         ensures begun { HasBegunLast result.begun self.old.pass self.new.pass }
@@ -268,6 +272,7 @@ impl<'a, S: Stream> Crowd<'a, S> {
         ensures goes { GoesOnTo self.old.pass self.new.pass }
         ensures batch { (since : PassView) → IsBatch since self.old.pass (loans_in batch.old)
             → IsBatch since self.new.pass (loans_in batch.new) }
+        ensures adds { AddsTurnsAlone self.old.pass self.new.pass }
         ensures idle { IsIdle batch.new }
         ensures room { HasRoom batch.new × (batch.new.most ≡ batch.old.most) }
         ensures some { IsSome result ↔ (0 < vec_len batch.old.ran) }

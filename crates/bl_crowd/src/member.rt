@@ -8,7 +8,7 @@ ghost use Rattle.bl_quota.specs.Quotas.{IsAllowed};
 ghost use Rattle.bl_quota.specs.declared.quota.Fit.TheVariants.{Now, Later, Never};
 ghost use Rattle.bl_wire.specs.declared.fault.SessionFault.TheVariants as faults;
 ghost use Rattle.bl_engine.specs.declared.request.Request.TheVariants as requests;
-ghost use Rattle.bl_serve.specs.Courses.{AdmitsNoLineOf, SpeaksForItsOwn};
+ghost use Rattle.bl_serve.specs.Courses.{SpeaksForItsOwn};
 ghost use Rattle.bl_serve.specs.Together.{GoesOnTo, SpeaksForNoOther};
 ghost use Rattle.bl_worker.specs.Turns.{AdmitsNoLine};
 ghost use Rattle.bl_crowd.specs.Receptions.{HasEntered, HasReceived, IsRefused};
@@ -183,6 +183,7 @@ impl<'a, S: Stream> Member<'a, S> {
     ghost use Rattle.bl_connection.specs.declared.connection.State.TheVariants as states;
     ghost use Rattle.bl_crowd.specs.Steps.{IsBlocked, IsClash, IsFaultOf, IsGone, IsNewSession, IsOfStream, IsWaiting};
     ghost use Rattle.bl_crowd.specs.Fitting.{AdmitsWhatFits, IsHeldBack};
+    ghost use Rattle.bl_crowd.specs.Openings.{AddsItsOwn};
     ghost use Rattle.bl_crowd.specs.Steps.{greeted_as};
     ghost use Rattle.bl_crowd.specs.Ways.{HasFailed, IsHome, IsMember, IsToRead, IsUnderWay};
     ghost use Rattle.bl_crowd.specs.Crowds.{HasHeardOn, IsMetOn};
@@ -347,6 +348,7 @@ impl<'a, S: Stream> Member<'a, S> {
         ensures goes { GoesOnTo turn.old turn.new }
         ensures lines { AdmitsNoLine turn.old turn.new }
         ensures hand { KeepsHand turn.old turn.new }
+        ensures own { AddsItsOwn self.old.reception self.new.reception turn.old turn.new }
         ensures awaited { self.old.reception ≡ receptions.Awaited }
         ensures tells { state_of self.new.connection ≡ states.Tells }
         ensures new { IsNewSession turn.old self.new.reception }
@@ -369,8 +371,7 @@ impl<'a, S: Stream> Member<'a, S> {
             → IsUnderWay S.remaining S.contents names first turn.old self.old (Some (requests.Admits ordinal work))
             → IsUnderWay S.remaining S.contents names first turn.new self.new None × SpeaksForItsOwn first turn.new) }
         ensures goes { GoesOnTo turn.old turn.new }
-        ensures others { (session : ℕ) → self.old.reception ≢ receptions.Open session
-            → AdmitsNoLineOf session turn.old turn.new }
+        ensures own { AddsItsOwn self.old.reception self.new.reception turn.old turn.new }
         ensures fits { (bound : Option ℕ) → IsAllowed bound (state_seen turn.old) work Now
             → AdmitsWhatFits bound turn.old turn.new }
         ensures hand { KeepsHand turn.old turn.new }
@@ -459,8 +460,7 @@ impl<'a, S: Stream> Member<'a, S> {
             → SpeaksForItsOwn first turn.old → IsMember S.remaining S.contents names first turn.old self.old
             → IsMember S.remaining S.contents names first turn.new self.new × SpeaksForItsOwn first turn.new }
         ensures goes { GoesOnTo turn.old turn.new }
-        ensures others { (session : ℕ) → self.new.reception ≢ receptions.Open session
-            → AdmitsNoLineOf session turn.old turn.new }
+        ensures own { AddsItsOwn self.old.reception self.new.reception turn.old turn.new }
         ensures hand { KeepsHand turn.old turn.new }
         ensures new { (self.new.reception ≡ self.old.reception) ⊎ IsNewSession turn.old self.new.reception }
         ensures stays { (session : ℕ) → self.old.reception ≡ receptions.Open session
@@ -571,10 +571,11 @@ impl<'a, S: Stream> Member<'a, S> {
             → SpeaksForItsOwn first turn.old → IsMember S.remaining S.contents names first turn.old self.old
             → IsMember S.remaining S.contents names first turn.new self.new × SpeaksForItsOwn first turn.new }
         ensures goes { GoesOnTo turn.old turn.new }
-        ensures others { (session : ℕ) → self.new.reception ≢ receptions.Open session
-            → AdmitsNoLineOf session turn.old turn.new }
+        ensures own { AddsItsOwn self.old.reception self.new.reception turn.old turn.new }
         ensures hand { KeepsHand turn.old turn.new }
         ensures new { (self.new.reception ≡ self.old.reception) ⊎ IsNewSession turn.old self.new.reception }
+        ensures stays { (session : ℕ) → self.old.reception ≡ receptions.Open session
+            → self.new.reception ≡ self.old.reception }
         ensures met { (names : KnownNames) (first : PassView) → IsHome names turn.old
             → SpeaksForItsOwn first turn.old → IsMember S.remaining S.contents names first turn.old self.old
             → IsMetOn S.remaining S.contents names (Q.was quota.old (state_seen turn.old)) (Q.bound quota.old)

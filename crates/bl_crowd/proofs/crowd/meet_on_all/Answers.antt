@@ -9,6 +9,7 @@ use Rattle.bl_crowd.specs.Ways.{IsMember}
 use Rattle.bl_crowd.specs.declared.member.Member.{Member}
 use Rattle.bl_crowd.proofs.Crowding.{one_meets, still_behind}
 use Rattle.bl_crowd.proofs.Fitting.{fits_itself, fits_more, met_on_as}
+use Rattle.bl_crowd.proofs.Opening.{own_others, theirs_itself, theirs_more}
 use Rattle.bl_crowd.proofs.Passing.{goes_itself, goes_then}
 use Rattle.bl_crowd.proofs.Rounding.{hand_itself, hand_then, heard_on_more, met_on_more, met_on_since}
 use Rattle.bl_crowd.proofs.crowd.meet_on_all.Goals as goal
@@ -35,6 +36,7 @@ loop-i-init g c = record {
   met = λ names first a i d low. absurd (omega (arith, low));
   fits = λ known. (fits_itself (g.Q.Asks.bound c.args.quota.now) c.args.turn.now c.args.turn.now refl, known);
   bound = refl;
+  own = theirs_itself c.args.members.now.items c.args.members.now.items c.args.turn.now c.args.turn.now refl;
   heard = λ i d low. absurd (omega (arith, low));
   still = λ j d low. refl;
 }
@@ -66,7 +68,7 @@ loop-i-preserved g c =
           (let here = c.loop-i.invariant.members names first a in
           let is = get_or_read_under items i (length items) was was c.index_mut.ensures.value low refl in
           let own = met.way names first here.home here.speaks (subst (IsMember R W names first p) (sym is) (All-get_or (IsMember R W names first p) items i was low here.each)) in
-          one_meets R W names first p q items here i member low met.goes own.1 own.0 met.others fresh);
+          one_meets R W names first p q items here i member low met.goes own.1 own.0 (own_others was.reception member.reception p q met.own) fresh);
       len = c.loop-i.invariant.len;
       met = λ names first a.
           (let here = c.loop-i.invariant.members names first a in
@@ -79,6 +81,8 @@ loop-i-preserved g c =
           (c.loop-i.invariant.met names first a));
       fits = fits_more K L (g.Q.Asks.was c.meet_on.new.quota (state_seen q)) b (g.Q.Asks.bound c.loop-i.quota) c.args.turn.now p q c.loop-i.invariant.bound met.goes.follows c.loop-i.invariant.fits met.fits;
       bound = met.bound ∙ c.loop-i.invariant.bound;
+      own = theirs_more c.args.members.now.items items i was member low (λ d. get_or_read_under items i (length items) was d c.index_mut.ensures.value low refl)
+          (λ d. c.loop-i.invariant.still i d (omega arith)) met.stays p q met.goes.follows c.args.turn.now c.loop-i.invariant.own met.own;
       heard = heard_on_more c.args.members.now.items items i member c.args.most low
           (λ d. subst (λ (m : Member g.row.S.Denot). HasHeardOn c.args.most m member) (get_or_read_under items i (length items) was d c.index_mut.ensures.value low refl ∙ c.loop-i.invariant.still i d (omega arith)) met.heard)
           c.loop-i.invariant.heard;

@@ -1,8 +1,8 @@
-use Rattle.std.proofs.Common.{◌∙◌, ap, sym, subst}
+use Rattle.std.proofs.Common.{◌≡◌, ◌∙◌, ap, sym, subst}
 use Rattle.bl_gate.specs.Gates.{PassView}
 use Rattle.bl_worker.specs.Batches.{IsBatch, loans_in}
-use Rattle.bl_worker.specs.Turns.{IsNoLine}
-use Rattle.bl_worker.proofs.Adding.{adds_itself}
+use Rattle.bl_worker.specs.Turns.{AddsTurnsAlone, IsEventOf, IsNoLine}
+use Rattle.bl_worker.proofs.Adding.{adds_itself, adds_then}
 use Rattle.bl_worker.proofs.Batching.{batch_enters}
 use Rattle.bl_crowd.specs.Ways.{AreMembers}
 use Rattle.bl_crowd.proofs.Crowding.{crowd_goes}
@@ -43,3 +43,12 @@ returns-clause-batch g c since b =
     (c.end_all-some.ensures.batch since
     (batch_enters since c.take.result c.turn-turn.result loans (subst (λ (v : PassView). IsBatch since v loans) (sym c.take.ensures.taken) b) c.turn-turn.ensures.follows c.turn-turn.ensures.trail
     c.turn-turn.ensures.own c.turn-turn.ensures.in_hand))
+
+pub returns-clause-adds : goal.returns-clause-adds
+returns-clause-adds g c =
+    let p = c.args.self.now.pass in
+    let t = c.turn-turn.result in
+    let e = c.end_all-some.ensures in
+    let own : t.own ≡ p.own = c.turn-turn.ensures.own ∙ ap (λ (v : PassView). v.own) c.take.ensures.taken in
+    subst (AddsTurnsAlone p) (sym c.leave.ensures)
+    (adds_then (λ _. IsEventOf (λ n. Unit {0})) p t c.end_all-some.new.turn (adds_itself (λ _. IsEventOf (λ n. Unit {0})) p t own) e.adds e.follows)

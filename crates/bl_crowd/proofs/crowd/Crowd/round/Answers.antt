@@ -7,9 +7,11 @@ use Rattle.bl_worker.proofs.Adding.{adds_itself, adds_no_line}
 use Rattle.bl_worker.proofs.Batching.{batch_enters, batch_goes}
 use Rattle.bl_crowd.specs.Crowds.{AreMetOn, HasBegunLast}
 use Rattle.bl_crowd.specs.Fitting.{AdmitsWhatFits}
+use Rattle.bl_crowd.specs.Openings.{AddsTheirOwn}
 use Rattle.bl_crowd.specs.Ways.{AreMembers}
 use Rattle.bl_crowd.proofs.Crowding.{crowd_goes}
 use Rattle.bl_crowd.proofs.Fitting.{fits_itself, fits_quiet, fits_then, leads_on, met_on_as}
+use Rattle.bl_crowd.proofs.Opening.{theirs_itself, theirs_then, theirs_turns}
 use Rattle.bl_crowd.proofs.Rounding.{are_met_on, crowd_turns}
 use Rattle.bl_crowd.proofs.crowd.Crowd.round.Goals as goal
 
@@ -112,6 +114,23 @@ returns-clause-met g c =
             g.met.Q.Asks.goes_on c.meet_on_all.new.quota (state_seen v) (state_seen w) met.1 (leads_on v w (record { follows = b.follows; trail = b.trail })),
           )),
     )
+
+pub returns-clause-own : goal.returns-clause-own
+returns-clause-own g c =
+    let self = c.args.self.now in
+    let items = self.members.items in
+    let new = c.meet_on_all.new.members.items in
+    let t = c.turn-turn.result in
+    let u = c.end_on-ended.new.turn in
+    let v = c.meet_on_all.new.turn in
+    let w = c.begin_ready-begun.new.turn in
+    let e = c.end_on-ended.ensures in
+    let m = c.meet_on_all.ensures in
+    let b = c.begin_ready-begun.ensures in
+    let own : t.own ≡ self.pass.own = c.turn-turn.ensures.own ∙ ap (λ (x : PassView). x.own) c.take.ensures.taken in
+    let ended = theirs_then items new self.pass t u (theirs_itself items new self.pass t own) (theirs_turns items new t u e.adds) e.follows in
+    subst (AddsTheirOwn items new self.pass) (sym c.leave.ensures)
+    (theirs_then items new self.pass v w (theirs_then items new self.pass u v ended m.own m.goes.follows) (theirs_turns items new v w b.adds) b.follows)
 
 pub returns-clause-begun : goal.returns-clause-begun
 returns-clause-begun g c =

@@ -1,10 +1,9 @@
-use Rattle.std.proofs.Common.{◌∙◌, ap, refl, sym, subst}
+use Rattle.std.proofs.Common.{ap, refl, sym, subst}
 use Rattle.bl_gate.specs.Gates.{PassView}
-use Rattle.bl_serve.proofs.Together.{no_line_of}
 use Rattle.bl_crowd.specs.Steps.{IsClash}
-use Rattle.bl_crowd.specs.declared.member.Reception.TheVariants.{Open}
 use Rattle.bl_crowd.proofs.Fitting.{fits_entered, fits_itself}
 use Rattle.bl_crowd.proofs.Meeting.{admits_open, way_clash, way_entered}
+use Rattle.bl_crowd.proofs.Opening.{own_entered, own_itself}
 use Rattle.bl_crowd.proofs.member.Member.admit.Goals as goal
 
 pub unreachable-requires : goal.unreachable-requires
@@ -13,9 +12,9 @@ unreachable-requires g c =
     let opens = admits_open g.S.Stream.remaining g.S.Stream.contents way.0 way.1 c.args.turn.now c.args.self.now c.args.ordinal c.args.work way.3 c.args.self.now.reception refl in
     c.in_default.not-Open opens.0 opens.1
 
-pub returns-in-Err-clause-others : goal.returns-in-Err-clause-others
-returns-in-Err-clause-others g c session apart =
-    no_line_of session c.in-Open.session c.args.turn.now c.enter.new.turn (λ same. apart (c.in-Open.is ∙ ap Open same)) c.enter.ensures.own
+pub returns-in-Err-clause-own : goal.returns-in-Err-clause-own
+returns-in-Err-clause-own g c =
+    own_itself c.args.self.now.reception c.args.self.now.reception c.args.turn.now c.enter.new.turn (ap (λ (p : PassView). p.own) c.in-Err.ensures.err.0)
 
 pub returns-in-Err-clause-clash : goal.returns-in-Err-clause-clash
 returns-in-Err-clause-clash g c names first home w =
@@ -25,9 +24,9 @@ returns-in-Err-clause-clash g c names first home w =
     (subst (IsClash first c.args.turn.now) (sym c.in-Open.is)
     (way_clash g.S.Stream.remaining g.S.Stream.contents names first c.args.turn.now c.args.self.now c.args.ordinal c.args.work w c.in-Open.session c.in-Open.is why.0 home why.2 why.1))
 
-pub returns-clause-others : goal.returns-clause-others
-returns-clause-others g c session apart =
-    no_line_of session c.in-Open.session c.args.turn.now c.enter.new.turn (λ same. apart (c.in-Open.is ∙ ap Open same)) c.enter.ensures.own
+pub returns-clause-own : goal.returns-clause-own
+returns-clause-own g c =
+    own_entered c.args.turn.now c.enter.new.turn c.in-Open.session c.args.ordinal c.args.work c.args.self.now.reception c.args.self.now.reception c.in-Open.is c.in-Ok.ensures.ok
 
 pub returns-clause-ok : goal.returns-clause-ok
 returns-clause-ok g c names first home speaks w =

@@ -15,7 +15,7 @@ use Rattle.bl_crowd.specs.Ways.{IsMember, IsUnderWay}
 use Rattle.bl_crowd.specs.declared.member.Member.{Member}
 use Rattle.bl_crowd.proofs.Fitting.{fits_itself, fits_quiet, leads_on}
 use Rattle.bl_crowd.proofs.Meeting.{readable, setup_is}
-use Rattle.bl_crowd.proofs.Passing.{none_of}
+use Rattle.bl_crowd.proofs.Opening.{own_itself}
 use Rattle.bl_crowd.proofs.Streaming.{member_full, member_of, way_but, way_taken}
 use Rattle.bl_crowd.proofs.member.Member.meet.Goals as goal
 
@@ -64,8 +64,8 @@ returns-in-Opens-clause-way g c names first home speaks member =
     let opened = c.open.ensures.way names first home speaks (way_taken R W names first c.args.turn.now self c.take.new.self (Some (requests.Opens c.in-Opens.subject)) fine asks member) in
     (member_of R W names first c.open.new.turn c.open.new.self None (c.open.ensures.same.1 ∙ fine) (c.open.ensures.same.0 ∙ none) opened.0, opened.1)
 
-pub returns-in-Opens-clause-others : goal.returns-in-Opens-clause-others
-returns-in-Opens-clause-others g c session apart = none_of session c.args.turn.now c.open.new.turn c.open.ensures.lines
+pub returns-in-Opens-clause-own : goal.returns-in-Opens-clause-own
+returns-in-Opens-clause-own g c = c.open.ensures.own
 
 pub returns-in-Ok-clause-way : goal.returns-in-Ok-clause-way
 returns-in-Ok-clause-way g c names first home speaks member =
@@ -78,8 +78,8 @@ returns-in-Ok-clause-way g c names first home speaks member =
     let admitted = c.in-Ok.ensures.ok names first home speaks (way_taken R W names first c.args.turn.now self c.take.new.self (Some (requests.Admits c.in-Admits.ordinal c.in-Admits.work)) fine asks member) in
     (member_of R W names first c.admit.new.turn c.admit.new.self None (c.admit.ensures.same.2 ∙ fine) (c.admit.ensures.same.1 ∙ none) admitted.0, admitted.1)
 
-pub returns-in-Ok-clause-others : goal.returns-in-Ok-clause-others
-returns-in-Ok-clause-others g c session apart = c.admit.ensures.others session (λ is. apart (c.admit.ensures.same.0 ∙ is))
+pub returns-in-Ok-clause-own : goal.returns-in-Ok-clause-own
+returns-in-Ok-clause-own g c = c.admit.ensures.own
 
 pub returns-in-Err-clause-way : goal.returns-in-Err-clause-way
 returns-in-Err-clause-way g c names first home speaks member =
@@ -102,8 +102,8 @@ returns-in-Err-clause-way g c names first home speaks member =
       subst (SpeaksForItsOwn first) (sym back.0) speaks,
     )
 
-pub returns-in-Err-clause-others : goal.returns-in-Err-clause-others
-returns-in-Err-clause-others g c session apart = c.admit.ensures.others session (λ is. apart (c.admit.ensures.same.0 ∙ is))
+pub returns-in-Err-clause-own : goal.returns-in-Err-clause-own
+returns-in-Err-clause-own g c = c.admit.ensures.own
 
 pub returns-in-Err-clause-fault : goal.returns-in-Err-clause-fault
 returns-in-Err-clause-fault g c fault fine is =
@@ -306,3 +306,24 @@ returns-in-Ok-false-clause-fits g c known = (fits_itself (g.Q.Asks.bound c.args.
 
 pub returns-in-Err-settle-clause-fits : goal.returns-in-Err-settle-clause-fits
 returns-in-Err-settle-clause-fits g c known = (fits_itself (g.Q.Asks.bound c.args.quota.now) c.args.turn.now c.args.turn.now refl, known)
+
+pub returns-in-Some-clause-own : goal.returns-in-Some-clause-own
+returns-in-Some-clause-own g c = own_itself c.args.self.now.reception c.args.self.now.reception c.args.turn.now c.args.turn.now refl
+
+pub returns-in_default-take-clause-own : goal.returns-in_default-take-clause-own
+returns-in_default-take-clause-own g c = own_itself c.args.self.now.reception c.args.self.now.reception c.args.turn.now c.args.turn.now refl
+
+pub returns-in-Later-clause-own : goal.returns-in-Later-clause-own
+returns-in-Later-clause-own g c = own_itself c.args.self.now.reception c.put_off.new.self.reception c.args.turn.now c.args.turn.now refl
+
+pub returns-in-Never-clause-own : goal.returns-in-Never-clause-own
+returns-in-Never-clause-own g c = own_itself c.args.self.now.reception c.put_off-in-Never.new.self.reception c.args.turn.now c.args.turn.now refl
+
+pub returns-in-Ok-true-clause-own : goal.returns-in-Ok-true-clause-own
+returns-in-Ok-true-clause-own g c = own_itself c.args.self.now.reception c.settle.new.self.reception c.args.turn.now c.args.turn.now refl
+
+pub returns-in-Ok-false-clause-own : goal.returns-in-Ok-false-clause-own
+returns-in-Ok-false-clause-own g c = own_itself c.args.self.now.reception c.settle.new.self.reception c.args.turn.now c.args.turn.now refl
+
+pub returns-in-Err-settle-clause-own : goal.returns-in-Err-settle-clause-own
+returns-in-Err-settle-clause-own g c = own_itself c.args.self.now.reception c.settle.new.self.reception c.args.turn.now c.args.turn.now refl

@@ -54,7 +54,7 @@ returns-then-ne-clause-way g c =
     let q = c.meet.new.turn in
     let i = c.loop-heard.invariant in
     let m = c.meet.ensures in
-    let met = gone_meets R W before p was mid now i.gone q m.goes m.way m.others m.hand m.new m.stays in
+    let met = gone_meets R W before p was mid now i.gone q m.goes m.way m.own m.hand m.new m.stays in
     met.way
 
 pub returns-then-ne-clause-goes : goal.returns-then-ne-clause-goes
@@ -69,11 +69,11 @@ returns-then-ne-clause-goes g c =
     let q = c.meet.new.turn in
     let i = c.loop-heard.invariant in
     let m = c.meet.ensures in
-    let met = gone_meets R W before p was mid now i.gone q m.goes m.way m.others m.hand m.new m.stays in
+    let met = gone_meets R W before p was mid now i.gone q m.goes m.way m.own m.hand m.new m.stays in
     met.goes
 
-pub returns-then-ne-clause-others : goal.returns-then-ne-clause-others
-returns-then-ne-clause-others g c =
+pub returns-then-ne-clause-own : goal.returns-then-ne-clause-own
+returns-then-ne-clause-own g c =
     let R = g.S.Stream.remaining in
     let W = g.S.Stream.contents in
     let was = c.args.self.now in
@@ -84,8 +84,8 @@ returns-then-ne-clause-others g c =
     let q = c.meet.new.turn in
     let i = c.loop-heard.invariant in
     let m = c.meet.ensures in
-    let met = gone_meets R W before p was mid now i.gone q m.goes m.way m.others m.hand m.new m.stays in
-    met.others
+    let met = gone_meets R W before p was mid now i.gone q m.goes m.way m.own m.hand m.new m.stays in
+    met.own
 
 pub returns-then-ne-clause-hand : goal.returns-then-ne-clause-hand
 returns-then-ne-clause-hand g c =
@@ -99,7 +99,7 @@ returns-then-ne-clause-hand g c =
     let q = c.meet.new.turn in
     let i = c.loop-heard.invariant in
     let m = c.meet.ensures in
-    let met = gone_meets R W before p was mid now i.gone q m.goes m.way m.others m.hand m.new m.stays in
+    let met = gone_meets R W before p was mid now i.gone q m.goes m.way m.own m.hand m.new m.stays in
     met.hand
 
 pub returns-then-ne-clause-new : goal.returns-then-ne-clause-new
@@ -114,8 +114,23 @@ returns-then-ne-clause-new g c =
     let q = c.meet.new.turn in
     let i = c.loop-heard.invariant in
     let m = c.meet.ensures in
-    let met = gone_meets R W before p was mid now i.gone q m.goes m.way m.others m.hand m.new m.stays in
+    let met = gone_meets R W before p was mid now i.gone q m.goes m.way m.own m.hand m.new m.stays in
     met.new
+
+pub returns-then-ne-clause-stays : goal.returns-then-ne-clause-stays
+returns-then-ne-clause-stays g c =
+    let R = g.S.Stream.remaining in
+    let W = g.S.Stream.contents in
+    let was = c.args.self.now in
+    let mid = c.loop-heard.self in
+    let now = c.meet.new.self in
+    let before = c.args.turn.now in
+    let p = c.loop-heard.turn in
+    let q = c.meet.new.turn in
+    let i = c.loop-heard.invariant in
+    let m = c.meet.ensures in
+    let met = gone_meets R W before p was mid now i.gone q m.goes m.way m.own m.hand m.new m.stays in
+    met.stays
 
 pub returns-then-ne-clause-met : goal.returns-then-ne-clause-met
 returns-then-ne-clause-met g c names first home speaks here =
@@ -129,7 +144,7 @@ returns-then-ne-clause-met g c names first home speaks here =
     let q = c.meet.new.turn in
     let i = c.loop-heard.invariant in
     let m = c.meet.ensures in
-    let met = gone_meets R W before p was mid now i.gone q m.goes m.way m.others m.hand m.new m.stays in
+    let met = gone_meets R W before p was mid now i.gone q m.goes m.way m.own m.hand m.new m.stays in
     let K = g.Q.Asks.was c.args.quota.now (state_seen before) in
     let b = g.Q.Asks.bound c.args.quota.now in
     let L = g.Q.Asks.was c.loop-heard.quota (state_seen p) in
@@ -151,7 +166,7 @@ returns-then-ne-clause-heard g c =
     let q = c.meet.new.turn in
     let i = c.loop-heard.invariant in
     let m = c.meet.ensures in
-    let met = gone_meets R W before p was mid now i.gone q m.goes m.way m.others m.hand m.new m.stays in
+    let met = gone_meets R W before p was mid now i.gone q m.goes m.way m.own m.hand m.new m.stays in
     let other : c.meet.result ≢ mets.Done = search rules in
     let L = g.Q.Asks.was c.loop-heard.quota (state_seen p) in
     heard_unmet c.args.most was mid now c.meet.result other (λ is. (m.waits is).0) m.asks
@@ -169,7 +184,7 @@ returns-in-Ok-false-clause-way g c =
     let q = c.meet.new.turn in
     let i = c.loop-heard.invariant in
     let m = c.meet.ensures in
-    let met = gone_meets R W before p was mid now i.gone q m.goes m.way m.others m.hand m.new m.stays in
+    let met = gone_meets R W before p was mid now i.gone q m.goes m.way m.own m.hand m.new m.stays in
     let on = gone_hears R W before q was now c.hear_more.new.self met (λ names first. c.hear_more.ensures.way names first q) c.hear_more.ensures.same in
     on.way
 
@@ -185,12 +200,12 @@ returns-in-Ok-false-clause-goes g c =
     let q = c.meet.new.turn in
     let i = c.loop-heard.invariant in
     let m = c.meet.ensures in
-    let met = gone_meets R W before p was mid now i.gone q m.goes m.way m.others m.hand m.new m.stays in
+    let met = gone_meets R W before p was mid now i.gone q m.goes m.way m.own m.hand m.new m.stays in
     let on = gone_hears R W before q was now c.hear_more.new.self met (λ names first. c.hear_more.ensures.way names first q) c.hear_more.ensures.same in
     on.goes
 
-pub returns-in-Ok-false-clause-others : goal.returns-in-Ok-false-clause-others
-returns-in-Ok-false-clause-others g c =
+pub returns-in-Ok-false-clause-own : goal.returns-in-Ok-false-clause-own
+returns-in-Ok-false-clause-own g c =
     let R = g.S.Stream.remaining in
     let W = g.S.Stream.contents in
     let was = c.args.self.now in
@@ -201,9 +216,9 @@ returns-in-Ok-false-clause-others g c =
     let q = c.meet.new.turn in
     let i = c.loop-heard.invariant in
     let m = c.meet.ensures in
-    let met = gone_meets R W before p was mid now i.gone q m.goes m.way m.others m.hand m.new m.stays in
+    let met = gone_meets R W before p was mid now i.gone q m.goes m.way m.own m.hand m.new m.stays in
     let on = gone_hears R W before q was now c.hear_more.new.self met (λ names first. c.hear_more.ensures.way names first q) c.hear_more.ensures.same in
-    on.others
+    on.own
 
 pub returns-in-Ok-false-clause-hand : goal.returns-in-Ok-false-clause-hand
 returns-in-Ok-false-clause-hand g c =
@@ -217,7 +232,7 @@ returns-in-Ok-false-clause-hand g c =
     let q = c.meet.new.turn in
     let i = c.loop-heard.invariant in
     let m = c.meet.ensures in
-    let met = gone_meets R W before p was mid now i.gone q m.goes m.way m.others m.hand m.new m.stays in
+    let met = gone_meets R W before p was mid now i.gone q m.goes m.way m.own m.hand m.new m.stays in
     let on = gone_hears R W before q was now c.hear_more.new.self met (λ names first. c.hear_more.ensures.way names first q) c.hear_more.ensures.same in
     on.hand
 
@@ -233,9 +248,25 @@ returns-in-Ok-false-clause-new g c =
     let q = c.meet.new.turn in
     let i = c.loop-heard.invariant in
     let m = c.meet.ensures in
-    let met = gone_meets R W before p was mid now i.gone q m.goes m.way m.others m.hand m.new m.stays in
+    let met = gone_meets R W before p was mid now i.gone q m.goes m.way m.own m.hand m.new m.stays in
     let on = gone_hears R W before q was now c.hear_more.new.self met (λ names first. c.hear_more.ensures.way names first q) c.hear_more.ensures.same in
     on.new
+
+pub returns-in-Ok-false-clause-stays : goal.returns-in-Ok-false-clause-stays
+returns-in-Ok-false-clause-stays g c =
+    let R = g.S.Stream.remaining in
+    let W = g.S.Stream.contents in
+    let was = c.args.self.now in
+    let mid = c.loop-heard.self in
+    let now = c.meet.new.self in
+    let before = c.args.turn.now in
+    let p = c.loop-heard.turn in
+    let q = c.meet.new.turn in
+    let i = c.loop-heard.invariant in
+    let m = c.meet.ensures in
+    let met = gone_meets R W before p was mid now i.gone q m.goes m.way m.own m.hand m.new m.stays in
+    let on = gone_hears R W before q was now c.hear_more.new.self met (λ names first. c.hear_more.ensures.way names first q) c.hear_more.ensures.same in
+    on.stays
 
 pub returns-in-Err-clause-way : goal.returns-in-Err-clause-way
 returns-in-Err-clause-way g c =
@@ -249,7 +280,7 @@ returns-in-Err-clause-way g c =
     let q = c.meet.new.turn in
     let i = c.loop-heard.invariant in
     let m = c.meet.ensures in
-    let met = gone_meets R W before p was mid now i.gone q m.goes m.way m.others m.hand m.new m.stays in
+    let met = gone_meets R W before p was mid now i.gone q m.goes m.way m.own m.hand m.new m.stays in
     let on = gone_hears R W before q was now c.hear_more.new.self met (λ names first. c.hear_more.ensures.way names first q) c.hear_more.ensures.same in
     on.way
 
@@ -265,12 +296,12 @@ returns-in-Err-clause-goes g c =
     let q = c.meet.new.turn in
     let i = c.loop-heard.invariant in
     let m = c.meet.ensures in
-    let met = gone_meets R W before p was mid now i.gone q m.goes m.way m.others m.hand m.new m.stays in
+    let met = gone_meets R W before p was mid now i.gone q m.goes m.way m.own m.hand m.new m.stays in
     let on = gone_hears R W before q was now c.hear_more.new.self met (λ names first. c.hear_more.ensures.way names first q) c.hear_more.ensures.same in
     on.goes
 
-pub returns-in-Err-clause-others : goal.returns-in-Err-clause-others
-returns-in-Err-clause-others g c =
+pub returns-in-Err-clause-own : goal.returns-in-Err-clause-own
+returns-in-Err-clause-own g c =
     let R = g.S.Stream.remaining in
     let W = g.S.Stream.contents in
     let was = c.args.self.now in
@@ -281,9 +312,9 @@ returns-in-Err-clause-others g c =
     let q = c.meet.new.turn in
     let i = c.loop-heard.invariant in
     let m = c.meet.ensures in
-    let met = gone_meets R W before p was mid now i.gone q m.goes m.way m.others m.hand m.new m.stays in
+    let met = gone_meets R W before p was mid now i.gone q m.goes m.way m.own m.hand m.new m.stays in
     let on = gone_hears R W before q was now c.hear_more.new.self met (λ names first. c.hear_more.ensures.way names first q) c.hear_more.ensures.same in
-    on.others
+    on.own
 
 pub returns-in-Err-clause-hand : goal.returns-in-Err-clause-hand
 returns-in-Err-clause-hand g c =
@@ -297,7 +328,7 @@ returns-in-Err-clause-hand g c =
     let q = c.meet.new.turn in
     let i = c.loop-heard.invariant in
     let m = c.meet.ensures in
-    let met = gone_meets R W before p was mid now i.gone q m.goes m.way m.others m.hand m.new m.stays in
+    let met = gone_meets R W before p was mid now i.gone q m.goes m.way m.own m.hand m.new m.stays in
     let on = gone_hears R W before q was now c.hear_more.new.self met (λ names first. c.hear_more.ensures.way names first q) c.hear_more.ensures.same in
     on.hand
 
@@ -313,9 +344,25 @@ returns-in-Err-clause-new g c =
     let q = c.meet.new.turn in
     let i = c.loop-heard.invariant in
     let m = c.meet.ensures in
-    let met = gone_meets R W before p was mid now i.gone q m.goes m.way m.others m.hand m.new m.stays in
+    let met = gone_meets R W before p was mid now i.gone q m.goes m.way m.own m.hand m.new m.stays in
     let on = gone_hears R W before q was now c.hear_more.new.self met (λ names first. c.hear_more.ensures.way names first q) c.hear_more.ensures.same in
     on.new
+
+pub returns-in-Err-clause-stays : goal.returns-in-Err-clause-stays
+returns-in-Err-clause-stays g c =
+    let R = g.S.Stream.remaining in
+    let W = g.S.Stream.contents in
+    let was = c.args.self.now in
+    let mid = c.loop-heard.self in
+    let now = c.meet.new.self in
+    let before = c.args.turn.now in
+    let p = c.loop-heard.turn in
+    let q = c.meet.new.turn in
+    let i = c.loop-heard.invariant in
+    let m = c.meet.ensures in
+    let met = gone_meets R W before p was mid now i.gone q m.goes m.way m.own m.hand m.new m.stays in
+    let on = gone_hears R W before q was now c.hear_more.new.self met (λ names first. c.hear_more.ensures.way names first q) c.hear_more.ensures.same in
+    on.stays
 
 pub returns-in-Err-clause-met : goal.returns-in-Err-clause-met
 returns-in-Err-clause-met g c names first home speaks here =
@@ -329,7 +376,7 @@ returns-in-Err-clause-met g c names first home speaks here =
     let q = c.meet.new.turn in
     let i = c.loop-heard.invariant in
     let m = c.meet.ensures in
-    let met = gone_meets R W before p was mid now i.gone q m.goes m.way m.others m.hand m.new m.stays in
+    let met = gone_meets R W before p was mid now i.gone q m.goes m.way m.own m.hand m.new m.stays in
     let failed = c.hear_more.ensures.failed c.in-Err._fault (search rules) in
     let there = met.way names first home speaks here in
     let K = g.Q.Asks.was c.args.quota.now (state_seen before) in
@@ -347,7 +394,7 @@ loop-heard-preserved g c =
     let q = c.meet.new.turn in
     let i = c.loop-heard.invariant in
     let m = c.meet.ensures in
-    let met = gone_meets R W before p was mid now i.gone q m.goes m.way m.others m.hand m.new m.stays in
+    let met = gone_meets R W before p was mid now i.gone q m.goes m.way m.own m.hand m.new m.stays in
     let done : c.meet.result ≡ mets.Done = search rules in
     let fine = m.fine done in
     let heard : c.hear_more.result ≡ Ok true = search rules in
@@ -373,7 +420,7 @@ returns-clause-way g c =
     let q = c.meet-2.new.turn in
     let i = c.loop-heard.invariant in
     let m = c.meet-2.ensures in
-    let met = gone_meets R W before p was mid now i.gone q m.goes m.way m.others m.hand m.new m.stays in
+    let met = gone_meets R W before p was mid now i.gone q m.goes m.way m.own m.hand m.new m.stays in
     met.way
 
 pub returns-clause-goes : goal.returns-clause-goes
@@ -388,11 +435,11 @@ returns-clause-goes g c =
     let q = c.meet-2.new.turn in
     let i = c.loop-heard.invariant in
     let m = c.meet-2.ensures in
-    let met = gone_meets R W before p was mid now i.gone q m.goes m.way m.others m.hand m.new m.stays in
+    let met = gone_meets R W before p was mid now i.gone q m.goes m.way m.own m.hand m.new m.stays in
     met.goes
 
-pub returns-clause-others : goal.returns-clause-others
-returns-clause-others g c =
+pub returns-clause-own : goal.returns-clause-own
+returns-clause-own g c =
     let R = g.S.Stream.remaining in
     let W = g.S.Stream.contents in
     let was = c.args.self.now in
@@ -403,8 +450,8 @@ returns-clause-others g c =
     let q = c.meet-2.new.turn in
     let i = c.loop-heard.invariant in
     let m = c.meet-2.ensures in
-    let met = gone_meets R W before p was mid now i.gone q m.goes m.way m.others m.hand m.new m.stays in
-    met.others
+    let met = gone_meets R W before p was mid now i.gone q m.goes m.way m.own m.hand m.new m.stays in
+    met.own
 
 pub returns-clause-hand : goal.returns-clause-hand
 returns-clause-hand g c =
@@ -418,7 +465,7 @@ returns-clause-hand g c =
     let q = c.meet-2.new.turn in
     let i = c.loop-heard.invariant in
     let m = c.meet-2.ensures in
-    let met = gone_meets R W before p was mid now i.gone q m.goes m.way m.others m.hand m.new m.stays in
+    let met = gone_meets R W before p was mid now i.gone q m.goes m.way m.own m.hand m.new m.stays in
     met.hand
 
 pub returns-clause-new : goal.returns-clause-new
@@ -433,8 +480,23 @@ returns-clause-new g c =
     let q = c.meet-2.new.turn in
     let i = c.loop-heard.invariant in
     let m = c.meet-2.ensures in
-    let met = gone_meets R W before p was mid now i.gone q m.goes m.way m.others m.hand m.new m.stays in
+    let met = gone_meets R W before p was mid now i.gone q m.goes m.way m.own m.hand m.new m.stays in
     met.new
+
+pub returns-clause-stays : goal.returns-clause-stays
+returns-clause-stays g c =
+    let R = g.S.Stream.remaining in
+    let W = g.S.Stream.contents in
+    let was = c.args.self.now in
+    let mid = c.loop-heard.self in
+    let now = c.meet-2.new.self in
+    let before = c.args.turn.now in
+    let p = c.loop-heard.turn in
+    let q = c.meet-2.new.turn in
+    let i = c.loop-heard.invariant in
+    let m = c.meet-2.ensures in
+    let met = gone_meets R W before p was mid now i.gone q m.goes m.way m.own m.hand m.new m.stays in
+    met.stays
 
 pub returns-clause-met : goal.returns-clause-met
 returns-clause-met g c names first home speaks here =
@@ -448,7 +510,7 @@ returns-clause-met g c names first home speaks here =
     let q = c.meet-2.new.turn in
     let i = c.loop-heard.invariant in
     let m = c.meet-2.ensures in
-    let met = gone_meets R W before p was mid now i.gone q m.goes m.way m.others m.hand m.new m.stays in
+    let met = gone_meets R W before p was mid now i.gone q m.goes m.way m.own m.hand m.new m.stays in
     let K = g.Q.Asks.was c.args.quota.now (state_seen before) in
     let b = g.Q.Asks.bound c.args.quota.now in
     let L = g.Q.Asks.was c.loop-heard.quota (state_seen p) in
@@ -470,7 +532,7 @@ returns-clause-heard g c =
     let q = c.meet-2.new.turn in
     let i = c.loop-heard.invariant in
     let m = c.meet-2.ensures in
-    let met = gone_meets R W before p was mid now i.gone q m.goes m.way m.others m.hand m.new m.stays in
+    let met = gone_meets R W before p was mid now i.gone q m.goes m.way m.own m.hand m.new m.stays in
     heard_all c.args.most was mid now c.loop-heard._heard (omega (arith, c.loop-heard-test.false)) i.nearer m.hears
 
 pub returns-then-ne-clause-fits : goal.returns-then-ne-clause-fits

@@ -1,6 +1,7 @@
 use Rattle.std.proofs.Common.{subst}
 use Rattle.bl_connection.specs.Connections.{OpensAs}
 use Rattle.bl_crowd.proofs.Meeting.{awaited, new_received, serves, way_received}
+use Rattle.bl_crowd.proofs.Opening.{own_received}
 use Rattle.bl_crowd.proofs.Passing.{speaks_on}
 use Rattle.bl_crowd.proofs.Stages.{opens_state}
 use Rattle.bl_crowd.proofs.member.Member.open.Goals as goal
@@ -33,3 +34,9 @@ pub returns-clause-awaited : goal.returns-clause-awaited
 returns-clause-awaited g c =
     let way = c.requires.way in
     (awaited g.S.Stream.remaining g.S.Stream.contents way.0 way.1 c.args.turn.now c.args.self.now c.args.subject way.3).0
+
+pub returns-clause-own : goal.returns-clause-own
+returns-clause-own g c =
+    let way = c.requires.way in
+    let is = (awaited g.S.Stream.remaining g.S.Stream.contents way.0 way.1 c.args.turn.now c.args.self.now c.args.subject way.3).0 in
+    own_received c.args.turn.now c.receive-self.new.turn c.args.subject c.args.self.now.reception c.receive-self.result is c.receive-self.ensures.goes.follows c.receive-self.ensures.received
