@@ -2,7 +2,8 @@
 use Rattle.std.specs.Prelude.{◌≡◌, ◌⊎◌, ℕ, List, Some, None, Result, Ok, Err}
 use Rattle.std.specs.Io.KnownBytes.{Keeps}
 use Rattle.bl_status.specs.declared.fault.ProgramFault.{ProgramFault}
-use Rattle.bl_status.specs.declared.fault.ProgramFault.TheVariants.{CannotListen, CannotReadTrail, CannotWriteTrail, NoMemory}
+use Rattle.bl_status.specs.declared.fault.ProgramFault.TheVariants.{CannotListen, CannotReadTrail, CannotWriteTrail}
+use Rattle.bl_status.specs.declared.fault.ProgramFault.TheVariants.{NoMemory}
 use Rattle.clap.specs.declared.error.kind.ErrorKind.{ErrorKind}
 use Rattle.clap.specs.declared.error.kind.ErrorKind.TheVariants.{DisplayHelp, DisplayVersion}
 use Rattle.bl_wire.specs.Watch.{Use}
@@ -20,10 +21,11 @@ pub record IsReplay (setup trail : List ℕ) (run : Run) : Type 0 where
 
 -- the fault was told, and nothing was read or written
 abbrev pub HasOnlyTold : ProgramFault → Run → Type 0
-HasOnlyTold fault run = HasTold fault run.status run.errors × Keeps run.input.before run.input.after × Keeps run.output.before run.output.after
+HasOnlyTold fault run = HasTold fault run.status run.errors × Keeps run.input.before run.input.after
+    × Keeps run.output.before run.output.after
 
--- a run of this command, after its files had these bytes; without a listener nothing can be served over TCP, and without
--- files no trail kept or recovered
+-- a run of this command, after its files had these bytes; without a listener nothing can be served over TCP, and
+-- without files no trail kept or recovered
 abbrev pub IsRunOf : Command → Files → Run → Type 0
 IsRunOf (Alone path limit None keeping resumes) files run = IsRun files.setup.items limit run
 IsRunOf (Alone path limit (Some trail) keeping resumes) files run = HasOnlyTold CannotWriteTrail run
@@ -42,7 +44,8 @@ IsShown DisplayHelp output errors = Keeps errors.before errors.after
 IsShown DisplayVersion output errors = Keeps errors.before errors.after
 IsShown _ output errors = Keeps output.before output.after
 
--- Words that name no command. Help and the version are shown on the output, and anything else on standard error, and nothing on the other; or a
--- growth was refused, which alone is told.
+-- Words that name no command. Help and the version are shown on the output, and anything else on standard error, and
+-- nothing on the other; or a growth was refused, which alone is told.
 pub record IsRefused (kind : ErrorKind) (status : ℕ) (output errors : Use) : Type 0 where
-  pub why : ((status ≡ status_for kind) × IsShown kind output errors) ⊎ (HasTold NoMemory status errors × Keeps output.before output.after)
+  pub why : ((status ≡ status_for kind) × IsShown kind output errors)
+      ⊎ (HasTold NoMemory status errors × Keeps output.before output.after)

@@ -1,4 +1,5 @@
-//! Runs whose trail is written as they go, in a journal: they take its files from the system, and give it the trail's name once it is closed.
+//! Runs whose trail is written as they go, in a journal: they take its files from the system, and give it the trail's
+//! name once it is closed.
 ghost use Rattle.std.specs.Prelude.{◌≡◌, ◌↔◌, [], false, true, IfErr, IfOk, IsSome, IsTrue};
 ghost use Rattle.bl_alone.specs.Files.{is_whole};
 ghost use Rattle.bl_disk.specs.File.{all_kept, seen};

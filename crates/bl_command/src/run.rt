@@ -100,7 +100,8 @@ fn refuse<W: Write, E: Write>(
 ) -> u8
     requires writer { writer.old.failed ≡ false }
     requires errors { errors.old.failed ≡ false }
-    ensures refused { IsRefused (kind_of error.now) result (used W.contents writer.old writer.new) (used E.contents errors.old errors.new) }
+    ensures refused { IsRefused (kind_of error.now) result (used W.contents writer.old writer.new)
+        (used E.contents errors.old errors.new) }
     ensures status { IsStatus result }
 {
     let status = status_of(error);
@@ -136,7 +137,9 @@ pub fn run_asked<R: BufRead, W: Write, E: Write>(
       output = used W.contents writer.old writer.new;
       errors = used E.contents errors.old errors.new;
     })) }
-    ensures refused { IfErr asked.entry (λ error. IsRefused (kind_of error) result (used W.contents writer.old writer.new) (used E.contents errors.old errors.new)) }
+    ensures refused { IfErr asked.entry
+        (λ error. IsRefused (kind_of error) result (used W.contents writer.old writer.new)
+        (used E.contents errors.old errors.new)) }
     ensures status { IsStatus result }
 {
     match asked {

@@ -166,8 +166,8 @@ where
     status
 }
 
-/// A run of what is hosted, once all was taken from the system that it has to have, or a fault was found, which is told.
-/// The result is the status of the run.
+/// A run of what is hosted, once all was taken from the system that it has to have, or a fault was found, which is
+/// told. The result is the status of the run.
 fn serve_or_tell<
     R: AllocGlobal + OpensFiles + Clock + Threads + Wait + Net + Sync,
     W: Write,
@@ -227,7 +227,8 @@ fn sit_found<T: OpensFiles, R: BufRead, W: Write, E: Write>(
     requires writer { writer.old.failed ≡ false }
     ensures fault { IfErr setup (λ fault. HasTold fault result.status (used E.contents errors.old errors.new)) }
     ensures run { IfOk setup (λ bytes. IsAloneKept bytes.items run.now result
-        (used R.remaining reader.old reader.new) (used W.contents writer.old writer.new) (used E.contents errors.old errors.new)) }
+        (used R.remaining reader.old reader.new) (used W.contents writer.old writer.new)
+            (used E.contents errors.old errors.new)) }
     ensures kept { result.status ≡ 0 → IsSome result.kept }
     ensures status { IsEnd result.status }
 {
@@ -237,8 +238,8 @@ fn sit_found<T: OpensFiles, R: BufRead, W: Write, E: Write>(
     }
 }
 
-/// A session that `alone` is asked for with a trail: the weight of its lines at most, where its trail is kept and how, and
-/// whether it goes on from a run that was cut off.
+/// A session that `alone` is asked for with a trail: the weight of its lines at most, where its trail is kept and how,
+/// and whether it goes on from a run that was cut off.
 #[derive(Drop)]
 struct KeptAlone<'a> {
     limit: u32,
@@ -248,8 +249,8 @@ struct KeptAlone<'a> {
     ghost limited: { (1 ≤ limit) × (limit ≤ 100000) },
 }
 
-/// A session with a trail, written at its end or as it goes, once its setup file was read, or a fault was found, which is
-/// told. The result is the status of the run.
+/// A session with a trail, written at its end or as it goes, once its setup file was read, or a fault was found, which
+/// is told. The result is the status of the run.
 fn sit_kept<T: AllocGlobal + OpensFiles + Clock, R: BufRead, W: Write, E: Write>(
     rt: &T,
     setup: Result<Vec<u8>, ProgramFault>,
@@ -370,7 +371,8 @@ where
     run_asked(alloc, asked, files, reader, writer, errors)
 }
 
-/// The same over standard input and output. What was written is handed on, and an output that failed is not called again.
+/// The same over standard input and output. What was written is handed on, and an output that failed is not called
+/// again.
 fn run_sitting<R: AllocGlobal + OpensFiles + Clock + Print + Eprint + Input, E: Write>(
     rt: &R,
     asked: Result<Command<'_>, Error>,
@@ -400,8 +402,9 @@ where
     status
 }
 
-/// A run of the program. The result is its status: 0 where all was done, or help or the version was asked for, 1 for a trail
-/// that was rejected, 2 for bad arguments, 3 for a fault of the setup, of a file, of the port or of the session, and 4 when out of memory.
+/// A run of the program. The result is its status: 0 where all was done, or help or the version was asked for, 1 for a
+/// trail that was rejected, 2 for bad arguments, 3 for a fault of the setup, of a file, of the port or of the session,
+/// and 4 when out of memory.
 pub fn run<
     R: AllocGlobal
         + Env

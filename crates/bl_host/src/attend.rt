@@ -32,7 +32,8 @@ const MOST_TAKEN: u32 = 64;
 type Line<'a, K, T> = KeptStream<'a, Greeted<Socket>, K, T>;
 
 /// A session thread: its number, where it waits, its connections and where they came from, how many events the trail
-/// had when it was told that last, when it looks for idle connections, and whether somebody may wait for it at the acceptor.
+/// had when it was told that last, when it looks for idle connections, and whether somebody may wait for it at the
+/// acceptor.
 struct Attendant<'a, K: Keep, T: Wait> {
     thread: usize,
     watch: Watch,
@@ -104,8 +105,8 @@ impl<'a, K: Keep, T: Wait + Clock> Attendant<'a, K, T> {
         }
     }
 
-    /// A connection that was given to it is open no more, and there may be room for one that waits at the acceptor: notes
-    /// how it ended after so many lines, and tells of it, if that was early.
+    /// A connection that was given to it is open no more, and there may be room for one that waits at the acceptor:
+    /// notes how it ended after so many lines, and tells of it, if that was early.
     fn part<P, F: Write + Drop>(
         &mut self,
         context: &ThreadContext<'a, P, K, T>,
@@ -304,8 +305,8 @@ impl<'a, K: Keep, T: Wait + Clock> Attendant<'a, K, T> {
 }
 
 impl<'a, P: Pause, K: Keep, T: Wait + Clock> ThreadContext<'a, P, K, T> {
-    /// Serves the connections that it is given at the acceptor, all at once, until all were taken or no further one is, and
-    /// those that it has are over.
+    /// Serves the connections that it is given at the acceptor, all at once, until all were taken or no further one is,
+    /// and those that it has are over.
     pub(crate) fn attend<F: Write + Drop>(
         &self,
         pass: Pass,

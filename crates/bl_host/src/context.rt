@@ -15,8 +15,8 @@ use std::alloc::Global;
 use std::sync::Wait;
 
 /// What each thread works with: the runtime, where memory comes from, the gate, the bell at which workers wait and the
-/// alarms of the session threads, what its turns do between a start and an end, what keeps all that has happened before a
-/// session is told, and the quota of the trail.
+/// alarms of the session threads, what its turns do between a start and an end, what keeps all that has happened before
+/// a session is told, and the quota of the trail.
 #[derive(Drop)]
 pub(crate) struct ThreadContext<'a, P, K, T> {
     pub(crate) rt: &'a T,

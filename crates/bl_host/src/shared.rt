@@ -25,8 +25,8 @@ pub(crate) fn count_trail<T: Wait>(rt: &T, gate: &Gate, pass: &mut Pass, most: u
     quota
 }
 
-/// The quota of a server: it is locked in a turn at the gate alone, so that nobody waits for it. And whether the trail was
-/// found to be full.
+/// The quota of a server: it is locked in a turn at the gate alone, so that nobody waits for it. And whether the trail
+/// was found to be full.
 #[derive(Drop)]
 pub(crate) struct SharedQuota {
     quota: Mutex<Quota>,
@@ -48,8 +48,8 @@ impl SharedQuota {
     }
 }
 
-/// The quota of a server as one of its threads asks it. What a lock holds no contract says, so nothing is known here of what
-/// is answered.
+/// The quota of a server as one of its threads asks it. What a lock holds no contract says, so nothing is known here of
+/// what is answered.
 #[derive(Drop)]
 pub(crate) struct AskedQuota<'a, T> {
     pub(crate) rt: &'a T,

@@ -72,12 +72,12 @@ fn keep_setup<R: Files>(
     }
 }
 
-/// Makes the files of a new run whose trail is to have this name: one with the bytes of its setup, and the journal, which is empty, for this
-/// program alone. What is in them outlives what is asked for.
+/// Makes the files of a new run whose trail is to have this name: one with the bytes of its setup, and the journal,
+/// which is empty, for this program alone. What is in them outlives what is asked for.
 ///
-/// The first of these faults is told: `TrailIsThere` where something stands under the trail's name that it may not replace, or a journal
-/// is there; `OtherSetup` where the file of the setup is there, with other bytes; `InUse` where another program has the journal by then; and
-/// where a file cannot be made or written, or a growth was refused, that.
+/// The first of these faults is told: `TrailIsThere` where something stands under the trail's name that it may not
+/// replace, or a journal is there; `OtherSetup` where the file of the setup is there, with other bytes; `InUse` where
+/// another program has the journal by then; and where a file cannot be made or written, or a growth was refused, that.
 pub fn make_journal<'a, R: Files>(
     rt: &R,
     alloc: Global,

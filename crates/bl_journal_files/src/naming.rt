@@ -65,9 +65,9 @@ fn take_place<R: Files, D: Device>(
     }
 }
 
-/// Gives the closed journal of this name the name of its trail, and has that on the disk. It replaces nothing there but a
-/// trail, where that may be replaced. `Unwritable` comes where it could not have the name, and `Memory` where a growth was
-/// refused. The file is handed back.
+/// Gives the closed journal of this name the name of its trail, and has that on the disk. It replaces nothing there but
+/// a trail, where that may be replaced. `Unwritable` comes where it could not have the name, and `Memory` where a
+/// growth was refused. The file is handed back.
 pub fn name_trail<R: Files, D: Device>(
     rt: &R,
     alloc: Global,
@@ -97,7 +97,8 @@ pub fn tell_name<E: Write>(
     status: u8,
     named: Result<Named, KeepFault>,
 ) -> RecordedEnd
-    ensures puts { Puts (naming_text part.now named) (end_state E.contents errors.old) (end_state E.contents errors.new) }
+    ensures puts { Puts (naming_text part.now named) (end_state E.contents errors.old)
+        (end_state E.contents errors.new) }
     ensures status { result.status ≡ status_after status (naming_faults named) }
     ensures named { IsSome result.named ↔ IsOk named }
     ensures fine { result.status ≡ 0 → IsSome result.named }

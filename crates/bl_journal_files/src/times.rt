@@ -9,8 +9,8 @@ use std::alloc::Global;
 use std::rt::Files;
 use std::time::Clock;
 
-/// The journal in this file, with the times at which it is written noted beside the name of its trail. Where they cannot be, the clock has
-/// its fault, and the journal goes on.
+/// The journal in this file, with the times at which it is written noted beside the name of its trail. Where they
+/// cannot be, the clock has its fault, and the journal goes on.
 pub fn timed<'a, R: Files + Clock, D: Device>(
     rt: &'a R,
     alloc: Global,

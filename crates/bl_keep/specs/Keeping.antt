@@ -1,5 +1,6 @@
 -- The file that a trail is written to before it takes its name.
-use Rattle.std.specs.Prelude.{◌≡◌, ◌⊎◌, ◌≤◌, ◌<◌, ◌+◌, ℕ, zero, suc, List, [], ◌∷◌, ◌++◌, ⊤, codes, decimal, length, string_bytes, take, Option, Some, None}
+use Rattle.std.specs.Prelude.{◌≡◌, ◌⊎◌, ◌≤◌, ◌<◌, ◌+◌, ℕ, zero, suc, List, [], ◌∷◌, ◌++◌, ⊤, codes, decimal, length}
+use Rattle.std.specs.Prelude.{string_bytes, take, Option, Some, None}
 use Rattle.std.specs.Path.{HasNoSlash, slash}
 use Rattle.std.specs.Str.{IsCharBoundary}
 use Rattle.bl_keep.specs.declared.part.PartFile.{PartFile}
@@ -11,14 +12,16 @@ part_suffix zero = codes ".part"
 part_suffix (suc zero) = codes ".part"
 part_suffix (suc (suc n)) = codes ".part." ++ decimal (suc (suc n))
 
--- A path is its folder part, which is empty or ends with a slash, and then its last component, which has no slash (POSIX, "Pathname").
+-- A path is its folder part, which is empty or ends with a slash, and then its last component, which has no slash
+-- (POSIX, "Pathname").
 pub record IsPath (path folder last : List ℕ) : Type 0 where
   pub is : path ≡ folder ++ last
   pub until_slash : (folder ≡ []) ⊎ ((above : List ℕ) × (folder ≡ above ++ slash ∷ []))
   pub no_slash : HasNoSlash last
 
--- own choice: A front of a component, after which so many bytes have room in the 255 that a component may have (`NAME_MAX` of POSIX systems). It is all
--- of the component where that has room; else it ends where a character does, and leaves 3 bytes unused at most.
+-- own choice: A front of a component, after which so many bytes have room in the 255 that a component may have
+-- (`NAME_MAX` of POSIX systems). It is all of the component where that has room; else it ends where a character does,
+-- and leaves 3 bytes unused at most.
 pub record IsFront (last : List ℕ) (room : ℕ) (front : List ℕ) : Type 0 where
   pub is : front ≡ take (length front) last
   pub boundary : IsCharBoundary last (length front)
@@ -45,7 +48,8 @@ pub record IsPartName (name : List ℕ) (number : ℕ) (part : List ℕ) : Type 
 abbrev pub IsBeside : List ℕ → List ℕ → Type 0
 IsBeside name part = (number : ℕ) × (1 ≤ number) × (number ≤ 99) × IsPartName name number part
 
--- What is left of a trail is in the file that was claimed for it, or else in one that was made beside its name; nothing is left where none could be.
+-- What is left of a trail is in the file that was claimed for it, or else in one that was made beside its name; nothing
+-- is left where none could be.
 abbrev pub IsLeftIn : {F : Type 0} → List ℕ → Option (PartFile F) → Option Left → Type 0
 IsLeftIn name (Some part) None = ⊥
 IsLeftIn name (Some part) (Some left) = left.name ≡ part.name

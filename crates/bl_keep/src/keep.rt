@@ -9,12 +9,13 @@ use bl_hall::hall::Hall;
 use std::alloc::Global;
 use std::rt::Files;
 
-/// Keeps the trail of a hall in a file. It is written to the file that was claimed, or to a new one beside its name, and takes its name once it is
-/// whole. What stands under the name stays, but for a trail where that may be replaced. Where the trail is not kept, nothing that was written is
-/// removed, and what is left says where it is. What a file has no clause can say.
+/// Keeps the trail of a hall in a file. It is written to the file that was claimed, or to a new one beside its name,
+/// and takes its name once it is whole. What stands under the name stays, but for a trail where that may be replaced.
+/// Where the trail is not kept, nothing that was written is removed, and what is left says where it is. What a file has
+/// no clause can say.
 ///
-/// The fault is `Unwritable` where no file could be made beside the name, where its file could not be written, and where the trail could not have
-/// its name; it is `Memory` where a growth was refused.
+/// The fault is `Unwritable` where no file could be made beside the name, where its file could not be written, and
+/// where the trail could not have its name; it is `Memory` where a growth was refused.
 pub fn keep<R: Files>(
     rt: &R,
     alloc: Global,

@@ -27,8 +27,9 @@ fn take_place<F: Drop, R: Files>(rt: &R, whole: Whole<F>, name: &str) -> Result<
     }
 }
 
-/// Gives a whole trail its name. Its file is linked to the name, which replaces nothing, and then loses the one that it was written under; where a
-/// trail stands under the name that may be replaced, it takes its place. Where neither can be, the trail stays in its file.
+/// Gives a whole trail its name. Its file is linked to the name, which replaces nothing, and then loses the one that it
+/// was written under; where a trail stands under the name that may be replaced, it takes its place. Where neither can
+/// be, the trail stays in its file.
 pub(crate) fn take_name<F: Drop, R: Files>(
     rt: &R,
     alloc: Global,

@@ -1,5 +1,6 @@
 //! The file that a trail is written to before it has its name: a new one, beside that name.
-ghost use Rattle.std.specs.Prelude.{◌≡◌, ◌≤◌, ◌↔◌, ◌⊎◌, IsTrue, IfErr, IfOk, IfSome, codes, drop, is_some, string_bytes, take, true};
+ghost use Rattle.std.specs.Prelude.{◌≡◌, ◌≤◌, ◌↔◌, ◌⊎◌, IsTrue, IfErr, IfOk, IfSome, codes, drop, is_some};
+ghost use Rattle.std.specs.Prelude.{string_bytes, take, true};
 ghost use Rattle.std.specs.Fs.{asks_create_new, asks_write};
 ghost use Rattle.std.specs.Str.{IsCharBoundary};
 ghost use Rattle.bl_keep.specs.Keeping.{HasRoom, IsBeside, IsPartName, IsPath, part_suffix};
@@ -76,8 +77,8 @@ fn suffix(alloc: Global, number: u32) -> Result<String, AllocError>
     }
 }
 
-/// The name of the file that a trail is written to before it has its own name: with `.part` after it, or `.part.N` from the second try on;
-/// where that would be too long, the end of the last component is cut off before it.
+/// The name of the file that a trail is written to before it has its own name: with `.part` after it, or `.part.N` from
+/// the second try on; where that would be too long, the end of the last component is cut off before it.
 fn part_name(alloc: Global, name: &str, number: u32) -> Result<String, AllocError>
     requires { number ≤ 99 }
     ensures { IfOk result (λ part. IsPartName name.now number (string_bytes part)) }
@@ -87,8 +88,8 @@ fn part_name(alloc: Global, name: &str, number: u32) -> Result<String, AllocErro
     format!(in alloc; "{front}{suffix}")
 }
 
-/// How the file is opened: it is written and made new, which follows no link and takes no name that is there, and nobody but its owner may read
-/// or write it.
+/// How the file is opened: it is written and made new, which follows no link and takes no name that is there, and
+/// nobody but its owner may read or write it.
 fn part_options() -> OpenOptions
     ensures new { IsTrue (asks_create_new result) }
     ensures write { IsTrue (asks_write result) }
@@ -155,8 +156,8 @@ pub fn is_free<R: Files>(rt: &R, alloc: Global, trail: &TrailFile<'_>) -> bool {
 
 /// Makes the file of a trail that claims its name; nothing where it does not. The name has to be free now.
 ///
-/// `Unwritable` comes where something stands under the name, but for a trail that may be replaced, where the name is empty, and where no file
-/// can be made beside it; `Memory` comes where a growth was refused. No file is made then.
+/// `Unwritable` comes where something stands under the name, but for a trail that may be replaced, where the name is
+/// empty, and where no file can be made beside it; `Memory` comes where a growth was refused. No file is made then.
 pub fn claim<R: Files>(
     rt: &R,
     alloc: Global,
@@ -164,7 +165,8 @@ pub fn claim<R: Files>(
 ) -> Result<Option<PartFile<R::File>>, KeepFault>
     ensures claims { IfErr result (λ _. trail.now.claims ≡ true) }
     ensures made { IfOk result (λ claimed. IsTrue (is_some claimed) ↔ (trail.now.claims ≡ true)) }
-    ensures name { IfOk result (λ claimed. IfSome claimed (λ part. IsBeside trail.now.name.now (string_bytes part.name))) }
+    ensures name { IfOk result
+        (λ claimed. IfSome claimed (λ part. IsBeside trail.now.name.now (string_bytes part.name))) }
 {
     if !trail.claims {
         return Ok(None);

@@ -28,8 +28,8 @@ pub struct Unkept {
     pub left: Option<Left>,
 }
 
-/// A file that has a whole trail. Only `write_whole` makes one, and it may not be dropped: the trail takes its name, or what is left of it is
-/// told.
+/// A file that has a whole trail. Only `write_whole` makes one, and it may not be dropped: the trail takes its name, or
+/// what is left of it is told.
 pub(crate) struct Whole<F> {
     name: String,
     file: F,
@@ -91,7 +91,9 @@ pub(crate) fn write_whole<F: Write + Drop>(
     hall: &Hall,
     part: PartFile<F>,
 ) -> Result<Whole<F>, Unkept>
-    ensures text { IfOk result (λ whole. Appends (F.contents part.file) (F.contents whole.file) (trail_text hall.now.setup hall.now.limit hall.now.trail)) }
+    ensures text { IfOk result
+        (λ whole. Appends (F.contents part.file) (F.contents whole.file)
+        (trail_text hall.now.setup hall.now.limit hall.now.trail)) }
     ensures name { IfOk result (λ whole. whole.name ≡ part.name) }
     ensures left { IfErr result (λ unkept. unkept.left ≡ Some (record { name = part.name; whole = false })) }
 {

@@ -11,7 +11,8 @@ use Rattle.bl_status.specs.Status.{status_of}
 use Rattle.bl_status.specs.declared.fault.ProgramFault.TheVariants.{CannotWriteTrail, NoMemory}
 use Rattle.bl_recover.specs.declared.fault.RecoveryFault.{RecoveryFault}
 use Rattle.bl_recover.specs.declared.fault.RecoveryFault.TheVariants.{NoTrail, TrailIsThere, InUse, OtherSetup}
-use Rattle.bl_recover.specs.declared.fault.RecoveryFault.TheVariants.{OldVersion, WrongAt, NotBegun, Over, NoMoreSessions, Program}
+use Rattle.bl_recover.specs.declared.fault.RecoveryFault.TheVariants.{OldVersion, WrongAt, NotBegun, Over}
+use Rattle.bl_recover.specs.declared.fault.RecoveryFault.TheVariants.{NoMoreSessions, Program}
 
 -- own choice: the words for each fault
 abbrev pub words_by : RecoveryFault → List ℕ

@@ -7,8 +7,8 @@ use Rattle.bl_trail.specs.TrueText.{IsLimit, head_lines, joined}
 abbrev pub head_front : List ℕ
 head_front = codes "trail 2\nlimit "
 
--- Own choice: a head is torn where there is a first part of what it begins with, which may be nothing or all of that; or that and the
--- numeral of a limit, and no LF behind it.
+-- Own choice: a head is torn where there is a first part of what it begins with, which may be nothing or all of that;
+-- or that and the numeral of a limit, and no LF behind it.
 abbrev pub IsTornHead : List ℕ → Type 0
 IsTornHead text = ((missing : List ℕ) × (head_front ≡ text ++ missing))
     ⊎ ((limit : ℕ) × IsLimit limit × (text ≡ head_front ++ decimal limit))

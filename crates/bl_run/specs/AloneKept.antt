@@ -21,10 +21,11 @@ use Rattle.bl_status.specs.Status.{status_after}
 -- the session of this setup was served, or ended early by the fault
 abbrev pub HasEnded : setups.Setup → ℕ → Option ProgramFault → Use → Use → Type 0
 HasEnded setup limit None input output = IsServed setup limit input output
-HasEnded setup limit (Some fault) input output = (of : SessionFault) × IsOfSession of fault × IsCutShort setup limit of input output
+HasEnded setup limit (Some fault) input output = (of : SessionFault) × IsOfSession of fault
+    × IsCutShort setup limit of input output
 
--- A session of the setup that the text is began, and has ended. Its fault is told, and behind it that of the trail; the first gives the status.
--- Where neither has one the trail was kept.
+-- A session of the setup that the text is began, and has ended. Its fault is told, and behind it that of the trail; the
+-- first gives the status. Where neither has one the trail was kept.
 pub record HasSat (setup : List ℕ) (limit : ℕ) (finished : Finished) (input output errors : Use) : Type 0 where
   pub begun : setups.Setup
   pub is : IsSetup setup begun
@@ -33,7 +34,8 @@ pub record HasSat (setup : List ℕ) (limit : ℕ) (finished : Finished) (input 
   pub trail : Option Unkept
   pub kept : fault ≡ None → trail ≡ None → IsSome finished.kept
   pub status_is : finished.status ≡ status_after 0 (option_to_list fault ++ unkept_faults trail)
-  pub said : errors.failed ≡ false → Appends errors.before errors.after (flat_map fault_line (option_to_list fault) ++ unkept_text trail)
+  pub said : errors.failed ≡ false
+      → Appends errors.before errors.after (flat_map fault_line (option_to_list fault) ++ unkept_text trail)
 
 -- the setup is one, and the trail's file could not be claimed, which was asked for; nothing was read or written
 pub record IsUnclaimed (setup : List ℕ) (run : AloneRun) (fault : ProgramFault) (input output : Use) : Type 0 where
@@ -47,4 +49,5 @@ pub record IsUnclaimed (setup : List ℕ) (run : AloneRun) (fault : ProgramFault
 -- a session was had; or none began, and the fault was told
 abbrev pub IsAloneKept : List ℕ → AloneRun → Finished → Use → Use → Use → Type 0
 IsAloneKept setup run finished input output errors = HasSat setup run.limit finished input output errors
-    ⊎ ((fault : ProgramFault) × HasTold fault finished.status errors × (IsNotBegun setup fault input output ⊎ IsUnclaimed setup run fault input output))
+    ⊎ ((fault : ProgramFault) × HasTold fault finished.status errors
+        × (IsNotBegun setup fault input output ⊎ IsUnclaimed setup run fault input output))

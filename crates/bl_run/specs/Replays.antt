@@ -37,10 +37,12 @@ pub record HasReplayed (setup trail : List ℕ) (status : ℕ) (output : Use) : 
   pub status_is : status ≡ status_by verdict
   pub told : Appends output.before output.after (verdict_line verdict)
 
--- the verdict was not told whole: the setup is one, and a growth was refused before anything was told, or the output failed
+-- the verdict was not told whole: the setup is one, and a growth was refused before anything was told, or the output
+-- failed
 pub record IsCut (setup trail : List ℕ) (fault : ProgramFault) (output : Use) : Type 0 where
   pub begun : setups.Setup
   pub is : IsSetup setup begun
   pub why : ((fault ≡ NoMemory) × Keeps output.before output.after)
       ⊎ ((fault ≡ Write) × (output.failed ≡ true)
-      × ((verdict : Verdict) × IsVerdict begun trail verdict × ((n : ℕ) × Appends output.before output.after (take n (verdict_line verdict)))))
+      × ((verdict : Verdict) × IsVerdict begun trail verdict
+          × ((n : ℕ) × Appends output.before output.after (take n (verdict_line verdict)))))

@@ -34,13 +34,16 @@ pub record HasServed (setup : List ℕ) (limit : ℕ) (run : Run) : Type 0 where
 -- the session was served, or the run ended with a fault and told it
 abbrev pub IsRun : List ℕ → ℕ → Run → Type 0
 IsRun setup limit run =
-    HasServed setup limit run ⊎ ((fault : ProgramFault) × HasTold fault run.status run.errors × HasFailed setup limit fault run.input run.output)
+    HasServed setup limit run
+        ⊎ ((fault : ProgramFault) × HasTold fault run.status run.errors
+        × HasFailed setup limit fault run.input run.output)
 
 -- no verdict was told: the setup is none, or the verdict was cut
 abbrev pub HasNoVerdict : List ℕ → List ℕ → ProgramFault → Use → Type 0
 HasNoVerdict setup trail fault output = IsNotRead setup fault output ⊎ IsCut setup trail fault output
 
--- the verdict was told, and nothing was said; or the run ended with a fault of the setup, of memory or of the output, and told it
+-- the verdict was told, and nothing was said; or the run ended with a fault of the setup, of memory or of the output,
+-- and told it
 abbrev pub IsReplayOn : List ℕ → List ℕ → ℕ → Use → Use → Type 0
 IsReplayOn setup trail status output errors =
     (HasReplayed setup trail status output × Keeps errors.before errors.after)

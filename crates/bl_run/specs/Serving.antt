@@ -1,5 +1,6 @@
 -- What a run of the command `serve` tells, and how it ends.
-use Rattle.std.specs.Prelude.{◌≡◌, ◌⊎◌, ℕ, Bool, true, false, not, List, [], ◌∷◌, ◌++◌, Option, None, IsSome, codes, decimal, take}
+use Rattle.std.specs.Prelude.{◌≡◌, ◌⊎◌, ℕ, Bool, true, false, not, List, [], ◌∷◌, ◌++◌, Option, None, IsSome, codes}
+use Rattle.std.specs.Prelude.{decimal, take}
 use Rattle.std.specs.List.{flat_map}
 use Rattle.std.specs.Io.KnownBytes.{Appends, Keeps}
 use Rattle.bl_setup.specs.Setup as setups
@@ -59,17 +60,19 @@ abbrev pub found : Bool → ProgramFault → List ProgramFault
 found true fault = fault ∷ []
 found false fault = []
 
--- the faults that were found by the end of the threads, in order: a thread was not started, a session's fault was not told
+-- the faults that were found by the end of the threads, in order: a thread was not started, a session's fault was not
+-- told
 abbrev pub faults_found : Bool → Bool → List ProgramFault
 faults_found whole memory = found (not whole) NoMemory ++ found memory NoMemory
 
 -- what is told of them, and of the sessions that ended early
 abbrev pub hosted_text : Bool → List Ended → Bool → List ℕ
 hosted_text whole ended memory =
-    flat_map fault_line (found (not whole) NoMemory) ++ (flat_map ended_line ended ++ flat_map fault_line (found memory NoMemory))
+    flat_map fault_line (found (not whole) NoMemory) ++
+        (flat_map ended_line ended ++ flat_map fault_line (found memory NoMemory))
 
--- A run that listened. What was found is told in its order, the trail's fault last, and the first fault gives the status. No trail is
--- written where a thread was not started; else it is kept, or that it is not is told.
+-- A run that listened. What was found is told in its order, the trail's fault last, and the first fault gives the
+-- status. No trail is written where a thread was not started; else it is kept, or that it is not is told.
 pub record HasHosted (finished : Finished) (errors : Use) : Type 0 where
   pub whole : Bool
   pub ended : List Ended
@@ -78,7 +81,8 @@ pub record HasHosted (finished : Finished) (errors : Use) : Type 0 where
   pub unwritten : whole ≡ false → trail ≡ None
   pub kept : whole ≡ true → trail ≡ None → IsSome finished.kept
   pub status_is : finished.status ≡ status_after 0 (faults_found whole memory ++ unkept_faults trail)
-  pub said : errors.failed ≡ false → Appends errors.before errors.after (hosted_text whole ended memory ++ unkept_text trail)
+  pub said : errors.failed ≡ false
+      → Appends errors.before errors.after (hosted_text whole ended memory ++ unkept_text trail)
 
 -- the setup is one, `listening` was told, and then sessions were served
 pub record HasListened (setup : List ℕ) (finished : Finished) (output errors : Use) : Type 0 where

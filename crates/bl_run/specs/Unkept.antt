@@ -6,8 +6,8 @@ use Rattle.bl_status.specs.Unkept.{unkept_faults, unkept_text}
 use Rattle.bl_status.specs.Status.{status_after}
 use Rattle.bl_wire.specs.Watch.{EndState, Puts}
 
--- What became of a trail, where there is one to keep, and what is said of it: it is kept, or the fault is told and gives the status, unless there
--- was one before.
+-- What became of a trail, where there is one to keep, and what is said of it: it is kept, or the fault is told and
+-- gives the status, unless there was one before.
 pub record TellsTrail (has_one : Bool) (status : ℕ) (finished : Finished) (old new : EndState) : Type 0 where
   pub trail : Option Unkept
   pub unwritten : has_one ≡ false → trail ≡ None

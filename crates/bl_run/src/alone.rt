@@ -44,7 +44,9 @@ fn serve_setup<R: BufRead, W: Write>(
     ensures served { OnOk result ((begun : AnySetup) × IsSetup setup.now begun
         × IsServed begun limit (used R.remaining reader.old reader.new) (used W.contents writer.old writer.new)) }
     ensures handed_on { OnOk result (writer.new.unflushed ≡ false) }
-    ensures failed { IfErr result (λ fault. HasFailed setup.now limit fault (used R.remaining reader.old reader.new) (used W.contents writer.old writer.new)) }
+    ensures failed { IfErr result
+        (λ fault. HasFailed setup.now limit fault (used R.remaining reader.old reader.new)
+        (used W.contents writer.old writer.new)) }
 {
     let setup = match read_setup(alloc, setup) {
         Ok(setup) => setup,
@@ -59,7 +61,8 @@ fn serve_setup<R: BufRead, W: Write>(
     }
 }
 
-/// One session over a reader and a writer, after the setup of these bytes: the command `alone`. The limit is 1 to 100,000.
+/// One session over a reader and a writer, after the setup of these bytes: the command `alone`. The limit is 1 to
+/// 100,000.
 ///
 /// The result is the status of the run: 0 where the session was served, 3 for a fault of the setup
 /// or of the session, and 4 when out of memory. The words of a fault go to `errors` and nothing else
@@ -112,7 +115,8 @@ fn sit<R: BufRead, W: Write>(
     requires most { limit ≤ 100000 }
     requires reader { reader.old.failed ≡ false }
     requires writer { writer.old.failed ≡ false }
-    ensures ended { HasEnded setup limit (result_err result.0) (used R.remaining reader.old reader.new) (used W.contents writer.old writer.new) }
+    ensures ended { HasEnded setup limit (result_err result.0) (used R.remaining reader.old reader.new)
+        (used W.contents writer.old writer.new) }
     ensures handed_on { OnOk result.0 (writer.new.unflushed ≡ false) }
     ensures kept { OnOk result.0 (IsSome result.1) }
 {
@@ -125,7 +129,8 @@ fn sit<R: BufRead, W: Write>(
 
 /// Tells the fault of a session, where it has one, and gives the status by it.
 fn tell_served<E: Write>(errors: &mut Watched<E>, served: &Result<(), ProgramFault>) -> u8
-    ensures puts { Puts (flat_map fault_line (option_to_list (result_err served.now))) (end_state E.contents errors.old) (end_state E.contents errors.new) }
+    ensures puts { Puts (flat_map fault_line (option_to_list (result_err served.now)))
+        (end_state E.contents errors.old) (end_state E.contents errors.new) }
     ensures status { result ≡ status_after 0 (option_to_list (result_err served.now)) }
     ensures fine { result ≡ 0 → IsOk served.now }
     ensures range { IsEnd result }
@@ -136,7 +141,8 @@ fn tell_served<E: Write>(errors: &mut Watched<E>, served: &Result<(), ProgramFau
     }
 }
 
-/// Keeps the trail of what a session kept, and tells where that fails; nothing where no session began. The status is that after it.
+/// Keeps the trail of what a session kept, and tells where that fails; nothing where no session began. The status is
+/// that after it.
 fn keep_session<T: Files, E: Write>(
     rt: &T,
     run: &AloneRun<'_>,
@@ -145,7 +151,8 @@ fn keep_session<T: Files, E: Write>(
     status: u8,
     errors: &mut Watched<E>,
 ) -> Finished
-    ensures trail { TellsTrail (is_some session) status result (end_state E.contents errors.old) (end_state E.contents errors.new) }
+    ensures trail { TellsTrail (is_some session) status result (end_state E.contents errors.old)
+        (end_state E.contents errors.new) }
     ensures done { IsSome session → result.status ≡ 0 → IsSome result.kept }
     ensures range { IsEnd status → IsEnd result.status }
 {
@@ -171,7 +178,8 @@ fn sit_and_keep<T: Files, R: BufRead, W: Write, E: Write>(
     requires reader { reader.old.failed ≡ false }
     requires writer { writer.old.failed ≡ false }
     ensures run { (setup : List ℕ) → IsSetup setup begun.setup → HasSat setup run.now.limit result
-        (used R.remaining reader.old reader.new) (used W.contents writer.old writer.new) (used E.contents errors.old errors.new) }
+        (used R.remaining reader.old reader.new) (used W.contents writer.old writer.new)
+            (used E.contents errors.old errors.new) }
     ensures kept { result.status ≡ 0 → IsSome result.kept }
     ensures handed_on { result.status ≡ 0 → writer.new.unflushed ≡ false }
     ensures status { IsEnd result.status }
@@ -183,10 +191,12 @@ fn sit_and_keep<T: Files, R: BufRead, W: Write, E: Write>(
     keep_session(rt, run, session, claimed, status, errors)
 }
 
-/// One session over a reader and a writer, after the setup of these bytes, whose trail is kept: the command `alone` with `--trail`.
+/// One session over a reader and a writer, after the setup of these bytes, whose trail is kept: the command `alone`
+/// with `--trail`.
 ///
-/// It goes as `alone_on` says. When the session has ended, well or not, its trail is kept; where that fails, it is told after a fault of the
-/// session. The first fault gives the status, and without one it is 0. No trail is kept where no session began.
+/// It goes as `alone_on` says. When the session has ended, well or not, its trail is kept; where that fails, it is told
+/// after a fault of the session. The first fault gives the status, and without one it is 0. No trail is kept where no
+/// session began.
 pub fn alone_kept_on<T: Files, R: BufRead, W: Write, E: Write>(
     rt: &T,
     setup: &[u8],
@@ -198,7 +208,8 @@ pub fn alone_kept_on<T: Files, R: BufRead, W: Write, E: Write>(
     requires reader { reader.old.failed ≡ false }
     requires writer { writer.old.failed ≡ false }
     ensures run { IsAloneKept setup.now run.now result
-        (used R.remaining reader.old reader.new) (used W.contents writer.old writer.new) (used E.contents errors.old errors.new) }
+        (used R.remaining reader.old reader.new) (used W.contents writer.old writer.new)
+            (used E.contents errors.old errors.new) }
     ensures kept { result.status ≡ 0 → IsSome result.kept }
     ensures handed_on { result.status ≡ 0 → writer.new.unflushed ≡ false }
     ensures status { IsEnd result.status }

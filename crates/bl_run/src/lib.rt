@@ -1,4 +1,5 @@
-//! The runs of the program's commands over the ends that they are given, with what they say and the status that each ends with.
+//! The runs of the program's commands over the ends that they are given, with what they say and the status that each
+//! ends with.
 //!
 //!     told       what a run of `serve` says of its sessions on standard error
 //!     alone      one session on an input and an output

@@ -34,9 +34,12 @@ fn told_as(verdict: Verdict) -> (&'static str, u64, u8)
 /// Tells a verdict on a line of its own, and gives the status.
 fn tell_verdict<W: Write>(writer: &mut Watched<W>, verdict: Verdict) -> Result<u8, ProgramFault>
     requires { writer.old.failed ≡ false }
-    ensures told { IfOk result (λ status. Appends (W.contents writer.old.inner) (W.contents writer.new.inner) (verdict_line verdict) × (status ≡ status_by verdict)) }
+    ensures told { IfOk result
+        (λ status. Appends (W.contents writer.old.inner) (W.contents writer.new.inner) (verdict_line verdict)
+        × (status ≡ status_by verdict)) }
     ensures failed { IfErr result (λ fault. (fault ≡ ProgramFault.Write) × (writer.new.failed ≡ true)
-        × ((n : ℕ) × Appends (W.contents writer.old.inner) (W.contents writer.new.inner) (take n (verdict_line verdict)))) }
+        × ((n : ℕ) × Appends (W.contents writer.old.inner) (W.contents writer.new.inner)
+            (take n (verdict_line verdict)))) }
     ensures handed_on { OnOk result (writer.new.unflushed ≡ false) }
 {
     let (word, number, status) = told_as(verdict);
@@ -50,7 +53,8 @@ fn tell_verdict<W: Write>(writer: &mut Watched<W>, verdict: Verdict) -> Result<u
     }
 }
 
-/// The verdict on the trail of these bytes over a setup, told on a line of its own. The result is the status by the verdict.
+/// The verdict on the trail of these bytes over a setup, told on a line of its own. The result is the status by the
+/// verdict.
 fn tell_judged<W: Write>(
     alloc: Global,
     setup: &Setup,
@@ -58,8 +62,10 @@ fn tell_judged<W: Write>(
     writer: &mut Watched<W>,
 ) -> Result<u8, ProgramFault>
     requires { writer.old.failed ≡ false }
-    ensures told { (text : List ℕ) → IsSetup text setup.now → IfOk result (λ status. HasReplayed text trail.now status (used W.contents writer.old writer.new)) }
-    ensures failed { (text : List ℕ) → IsSetup text setup.now → IfErr result (λ fault. IsCut text trail.now fault (used W.contents writer.old writer.new)) }
+    ensures told { (text : List ℕ) → IsSetup text setup.now
+        → IfOk result (λ status. HasReplayed text trail.now status (used W.contents writer.old writer.new)) }
+    ensures failed { (text : List ℕ) → IsSetup text setup.now
+        → IfErr result (λ fault. IsCut text trail.now fault (used W.contents writer.old writer.new)) }
     ensures handed_on { OnOk result (writer.new.unflushed ≡ false) }
 {
     match replay(alloc, setup, trail) {
@@ -77,8 +83,10 @@ fn judge<W: Write>(
     writer: &mut Watched<W>,
 ) -> Result<u8, ProgramFault>
     requires { writer.old.failed ≡ false }
-    ensures told { IfOk result (λ status. HasReplayed setup.now trail.now status (used W.contents writer.old writer.new)) }
-    ensures failed { IfErr result (λ fault. HasNoVerdict setup.now trail.now fault (used W.contents writer.old writer.new)) }
+    ensures told { IfOk result
+        (λ status. HasReplayed setup.now trail.now status (used W.contents writer.old writer.new)) }
+    ensures failed { IfErr result
+        (λ fault. HasNoVerdict setup.now trail.now fault (used W.contents writer.old writer.new)) }
     ensures handed_on { OnOk result (writer.new.unflushed ≡ false) }
 {
     match read_setup(alloc, setup) {
@@ -93,9 +101,10 @@ fn judge<W: Write>(
 
 /// A replay of the trail of these bytes over the setup of these bytes: the command `replay`.
 ///
-/// The verdict is told on `writer`, as `accepted N` with the number of events or `rejected N` with the number of the first
-/// line that is not right. The result is the status of the run: 0 where the trail is accepted, 1 where it is rejected, 3 for
-/// a fault of the setup or of the output, and 4 when out of memory. The words of a fault go to `errors` and nothing else does.
+/// The verdict is told on `writer`, as `accepted N` with the number of events or `rejected N` with the number of the
+/// first line that is not right. The result is the status of the run: 0 where the trail is accepted, 1 where it is
+/// rejected, 3 for a fault of the setup or of the output, and 4 when out of memory. The words of a fault go to `errors`
+/// and nothing else does.
 pub fn replay_on<W: Write, E: Write>(
     alloc: Global,
     setup: &[u8],
@@ -105,7 +114,8 @@ pub fn replay_on<W: Write, E: Write>(
 ) -> u8
     requires writer { writer.old.failed ≡ false }
     requires errors { errors.old.failed ≡ false }
-    ensures run { IsReplayOn setup.now trail.now result (used W.contents writer.old writer.new) (used E.contents errors.old errors.new) }
+    ensures run { IsReplayOn setup.now trail.now result (used W.contents writer.old writer.new)
+        (used E.contents errors.old errors.new) }
     ensures handed_on { (result ≡ 0) ⊎ (result ≡ 1) → writer.new.unflushed ≡ false }
     ensures status { IsStatus result }
 {

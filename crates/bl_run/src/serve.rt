@@ -7,7 +7,8 @@ ghost use Rattle.bl_run.specs.Unkept.{TellsTrail};
 ghost use Rattle.bl_status.specs.Message.{fault_line};
 ghost use Rattle.bl_run.specs.Serving.{ended_line};
 ghost use Rattle.bl_status.specs.Runs.{HasTold};
-ghost use Rattle.bl_run.specs.Serving.{HasHosted, IsNewGate, IsPrepared, IsServe, IsUnannounced, IsUnprepared, faults_found, found, hosted_text, listening};
+ghost use Rattle.bl_run.specs.Serving.{HasHosted, IsNewGate, IsPrepared, IsServe, IsUnannounced, IsUnprepared};
+ghost use Rattle.bl_run.specs.Serving.{faults_found, found, hosted_text, listening};
 ghost use Rattle.bl_status.specs.Status.{IsEnd, status_after};
 
 use crate::told::tell_ended;
@@ -39,8 +40,8 @@ use std::sync::Wait;
 use std::thread::Threads;
 use std::time::Clock;
 
-/// What a run of `serve` stands on: the runtime, where memory comes from, what each turn does between a start and an end,
-/// and the log of connections, if there is one.
+/// What a run of `serve` stands on: the runtime, where memory comes from, what each turn does between a start and an
+/// end, and the log of connections, if there is one.
 #[derive(Drop)]
 pub struct RunContext<'a, P, T: Files> {
     pub rt: &'a T,
@@ -49,8 +50,8 @@ pub struct RunContext<'a, P, T: Files> {
     pub log: Option<&'a SharedLog<T::File>>,
 }
 
-/// What a run of `serve` was asked for: the weight of the lines that are admitted at most, 1 to 100,000, how many threads and sessions
-/// there are, and where the trail is kept.
+/// What a run of `serve` was asked for: the weight of the lines that are admitted at most, 1 to 100,000, how many
+/// threads and sessions there are, and where the trail is kept.
 #[derive(Clone, Copy)]
 pub struct ServeRun<'a> {
     pub limit: u32,
@@ -78,7 +79,8 @@ fn gate_over(alloc: Global, setup: Setup, limit: u32) -> Result<(Gate, Pass), Pr
     }
 }
 
-/// What stands before the first session: the gate, all parts of the right to close it, and the file that was claimed for the trail.
+/// What stands before the first session: the gate, all parts of the right to close it, and the file that was claimed
+/// for the trail.
 struct Prepared<F> {
     gate: Gate,
     pass: Pass,
@@ -108,8 +110,8 @@ fn announce<T: Files, W: Write>(
     }
 }
 
-/// All before the first session: the setup of these bytes is read, the gate is made, the trail's file is claimed if that is asked for, and
-/// `listening` is told.
+/// All before the first session: the setup of these bytes is read, the gate is made, the trail's file is claimed if
+/// that is asked for, and `listening` is told.
 fn prepare<T: Files, W: Write>(
     rt: &T,
     alloc: Global,
@@ -117,9 +119,11 @@ fn prepare<T: Files, W: Write>(
     run: &ServeRun<'_>,
     writer: &mut Watched<W>,
 ) -> Result<Prepared<T::File>, ProgramFault>
-    ensures ok { IfOk result (λ made. IsPrepared setup.now run.now.limit made.gate made.pass (used W.contents writer.old writer.new)) }
+    ensures ok { IfOk result
+        (λ made. IsPrepared setup.now run.now.limit made.gate made.pass (used W.contents writer.old writer.new)) }
     ensures handed_on { OnOk result (writer.new.unflushed ≡ false) }
-    ensures err { IfErr result (λ fault. IsUnprepared setup.now run.now.trail.claims fault (used W.contents writer.old writer.new)) }
+    ensures err { IfErr result
+        (λ fault. IsUnprepared setup.now run.now.trail.claims fault (used W.contents writer.old writer.new)) }
 {
     let setup = match read_setup(alloc, setup) {
         Ok(setup) => setup,
@@ -143,14 +147,16 @@ fn prepare<T: Files, W: Write>(
     })
 }
 
-/// Tells a fault where it was found, and gives the status that the run then has: that of the first fault, and 0 for none.
+/// Tells a fault where it was found, and gives the status that the run then has: that of the first fault, and 0 for
+/// none.
 fn tell_found<E: Write>(
     errors: &mut Watched<E>,
     status: u8,
     is_found: bool,
     fault: &ProgramFault,
 ) -> u8
-    ensures puts { Puts (flat_map fault_line (found is_found fault.now)) (end_state E.contents errors.old) (end_state E.contents errors.new) }
+    ensures puts { Puts (flat_map fault_line (found is_found fault.now)) (end_state E.contents errors.old)
+        (end_state E.contents errors.new) }
     ensures status { result ≡ status_after status (found is_found fault.now) }
     ensures stays { 0 < status → result ≡ status }
     ensures rises { is_found ≡ true → 0 < result }
@@ -165,22 +171,24 @@ fn tell_found<E: Write>(
 
 /// Tells each session that ended early.
 fn tell_sessions<E: Write>(errors: &mut Watched<E>, ended: &[Ended])
-    ensures puts { Puts (flat_map ended_line ended.now) (end_state E.contents errors.old) (end_state E.contents errors.new) }
+    ensures puts { Puts (flat_map ended_line ended.now) (end_state E.contents errors.old)
+        (end_state E.contents errors.new) }
 {
     for one in ended {
         tell_ended(errors, one);
     }
 }
 
-/// Tells what was found by the end of the threads, in this order: that one was not started, the sessions that ended early, and that
-/// there was no memory to tell one. The result is the status by that.
+/// Tells what was found by the end of the threads, in this order: that one was not started, the sessions that ended
+/// early, and that there was no memory to tell one. The result is the status by that.
 pub fn tell_hosted<E: Write>(
     errors: &mut Watched<E>,
     whole: bool,
     ended: &[Ended],
     memory: bool,
 ) -> u8
-    ensures puts { Puts (hosted_text whole ended.now memory) (end_state E.contents errors.old) (end_state E.contents errors.new) }
+    ensures puts { Puts (hosted_text whole ended.now memory) (end_state E.contents errors.old)
+        (end_state E.contents errors.new) }
     ensures status { result ≡ status_after 0 (faults_found whole memory) }
     ensures rises { whole ≡ false → 0 < result }
     ensures range { IsEnd result }
@@ -247,8 +255,8 @@ pub(crate) fn tell_trail<E: Write>(
     }
 }
 
-/// All after `listening`: the sessions are served, what was found is told, and the trail is kept where each thread was started. The status is 0
-/// only where it was kept.
+/// All after `listening`: the sessions are served, what was found is told, and the trail is kept where each thread was
+/// started. The status is 0 only where it was kept.
 fn host_on<P: Pause + Sync, T: Threads + Wait + Files + Net + Clock + Sync, E: Write>(
     run_context: &RunContext<'_, P, T>,
     entrance: &Entrance,
@@ -304,9 +312,10 @@ where
 
 /// Sessions of who comes in at an entrance, after the setup of these bytes: the command `serve`.
 ///
-/// `listening` is told on `writer` before the first session is served. The status of the run is 0 where all was done and the trail was kept, 3 for a
-/// fault of the setup, of the output or of the trail file, and 4 when out of memory. A session that ends early is told and
-/// changes no status. Where several faults were found all are told, and the first gives the status.
+/// `listening` is told on `writer` before the first session is served. The status of the run is 0 where all was done
+/// and the trail was kept, 3 for a fault of the setup, of the output or of the trail file, and 4 when out of memory. A
+/// session that ends early is told and changes no status. Where several faults were found all are told, and the first
+/// gives the status.
 pub fn serve_on<
     P: Pause + Sync,
     T: Threads + Wait + Files + Net + Clock + Sync,
@@ -322,7 +331,8 @@ pub fn serve_on<
 ) -> Finished
 where
     T::File: Send,
-    ensures run { IsServe setup.now run.now.trail.claims result (used W.contents writer.old writer.new) (used E.contents errors.old errors.new) }
+    ensures run { IsServe setup.now run.now.trail.claims result (used W.contents writer.old writer.new)
+        (used E.contents errors.old errors.new) }
     ensures handed_on { result.status ≡ 0 → writer.new.unflushed ≡ false }
     ensures kept { result.status ≡ 0 → IsSome result.kept }
     ensures status { IsEnd result.status }

@@ -1,5 +1,5 @@
-//! What a run of `serve` says of its sessions on standard error. Nothing of it needs memory, and once standard error has
-//! failed nothing more is said.
+//! What a run of `serve` says of its sessions on standard error. Nothing of it needs memory, and once standard error
+//! has failed nothing more is said.
 ghost use Rattle.bl_wire.specs.Watch.{Puts, end_state};
 ghost use Rattle.bl_run.specs.Serving.{ended_line};
 
@@ -8,7 +8,8 @@ use bl_wire::put::{put, put_number, put_out};
 use bl_wire::watched::Watched;
 use std::io::Write;
 
-/// Tells how a session of `serve` ended early, on a line of its own. Where `errors` failed it is marked, and only a part was said.
+/// Tells how a session of `serve` ended early, on a line of its own. Where `errors` failed it is marked, and only a
+/// part was said.
 pub fn tell_ended<E: Write>(errors: &mut Watched<E>, ended: &Ended)
     ensures puts { Puts (ended_line ended.now) (end_state E.contents errors.old) (end_state E.contents errors.new) }
 {

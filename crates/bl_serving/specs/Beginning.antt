@@ -10,8 +10,8 @@ use Rattle.bl_serving.specs.Telling.{begin_fault}
 use Rattle.bl_serving.specs.declared.fault.ServingFault.{ServingFault}
 use Rattle.bl_serving.specs.declared.fault.ServingFault.TheVariants.{Recovery}
 
--- The hall that a run begins with, and how many bytes are cut off its file, which has this text: a new hall, or that of the run that was
--- cut off, which has gone on until all had ended that was admitted.
+-- The hall that a run begins with, and how many bytes are cut off its file, which has this text: a new hall, or that of
+-- the run that was cut off, which has gone on until all had ended that was admitted.
 abbrev pub Begins : Bool → Setup → ℕ → List ℕ → Chronicle → ℕ → Type 0
 Begins false setup limit text hall cut = (hall ≡ record { setup = setup; limit = limit; trail = [] }) × (cut ≡ 0)
 Begins true setup limit text hall cut = IsResumed setup text hall cut

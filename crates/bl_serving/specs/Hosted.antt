@@ -18,7 +18,8 @@ use Rattle.bl_serving.specs.Telling.{status_by, trail_text, words_by}
 use Rattle.bl_serving.specs.declared.fault.ServingFault.{ServingFault}
 use Rattle.bl_serving.specs.declared.fault.ServingFault.TheVariants.{Recovery}
 
--- what is left of the trail of a run that began in this hall: it is whole, and that of the hall later; or there is a fault
+-- what is left of the trail of a run that began in this hall: it is whole, and that of the hall later; or there is a
+-- fault
 abbrev pub IsLeft : Chronicle → Option ServingFault → File → Type 0
 IsLeft begun None file = (hall : Chronicle) × HasGrown begun hall × IsWhole hall file
 IsLeft begun (Some fault) file = Unit {0}
@@ -29,9 +30,11 @@ status_with status None = status
 status_with zero (Some fault) = status_by fault
 status_with (suc n) (Some fault) = suc n
 
--- Sessions were served in the hall that the run began with. What was found is told in its order, the trail's fault last, and the first fault
--- gives the status. Where each thread was started the trail is whole, or has a fault; where one was not, it is left as it is.
-pub record HasHosted (begun : Chronicle) (status : ℕ) (is_whole : Bool) (file : File) (before after : EndState) : Type 0 where
+-- Sessions were served in the hall that the run began with. What was found is told in its order, the trail's fault
+-- last, and the first fault gives the status. Where each thread was started the trail is whole, or has a fault; where
+-- one was not, it is left as it is.
+pub record HasHosted (begun : Chronicle) (status : ℕ) (is_whole : Bool) (file : File)
+    (before after : EndState) : Type 0 where
   pub threads : Bool
   pub ended : List Ended
   pub memory : Bool
@@ -43,7 +46,8 @@ pub record HasHosted (begun : Chronicle) (status : ℕ) (is_whole : Bool) (file 
   pub said : Puts (hosted_text threads ended memory ++ trail_text trail) before after
 
 -- Sessions were served: after what was cut off was told, and `listening`.
-pub record HasServed (resumes : Bool) (setup : Setup) (limit : ℕ) (text : List ℕ) (status : ℕ) (is_whole : Bool) (file : File) (output : Use) (before after : EndState) : Type 0 where
+pub record HasServed (resumes : Bool) (setup : Setup) (limit : ℕ) (text : List ℕ) (status : ℕ) (is_whole : Bool)
+    (file : File) (output : Use) (before after : EndState) : Type 0 where
   pub begun : Chronicle
   pub cut : ℕ
   pub begins : Begins resumes setup limit text begun cut
@@ -52,15 +56,20 @@ pub record HasServed (resumes : Bool) (setup : Setup) (limit : ℕ) (text : List
   pub told : Puts (cut_line cut) before between
   pub hosted : HasHosted begun status is_whole file between after
 
--- No session was served, since nothing was begun; or a growth was refused for the gate; or `listening` could not be told. The fault is told.
+-- No session was served, since nothing was begun; or a growth was refused for the gate; or `listening` could not be
+-- told. The fault is told.
 abbrev pub IsUnserved : Bool → Setup → ℕ → List ℕ → ServingFault → ℕ → Use → EndState → EndState → Type 0
 IsUnserved resumes setup limit text fault status output before after = (status ≡ status_by fault)
-    × ((Keeps output.before output.after × Puts (words_by fault) before after × (IsUnbegun resumes setup text fault ⊎ (fault ≡ Recovery (Program NoMemory))))
-    ⊎ ((fault ≡ Recovery (Program Write)) × (output.failed ≡ true) × ((n : ℕ) × Appends output.before output.after (take n listening))
-    × ((begun : Chronicle) × (cut : ℕ) × Begins resumes setup limit text begun cut × Puts (cut_line cut ++ words_by fault) before after)))
+    × ((Keeps output.before output.after × Puts (words_by fault) before after
+        × (IsUnbegun resumes setup text fault ⊎ (fault ≡ Recovery (Program NoMemory))))
+    ⊎ ((fault ≡ Recovery (Program Write)) × (output.failed ≡ true)
+        × ((n : ℕ) × Appends output.before output.after (take n listening))
+    × ((begun : Chronicle) × (cut : ℕ) × Begins resumes setup limit text begun cut
+        × Puts (cut_line cut ++ words_by fault) before after)))
 
 -- sessions were served, or none was
 abbrev pub IsServing : Bool → Setup → ℕ → List ℕ → ℕ → Bool → File → Use → EndState → EndState → Type 0
 IsServing resumes setup limit text status is_whole file output before after =
     HasServed resumes setup limit text status is_whole file output before after
-    ⊎ ((fault : ServingFault) × (is_whole ≡ false) × IsUnserved resumes setup limit text fault status output before after)
+    ⊎ ((fault : ServingFault) × (is_whole ≡ false)
+        × IsUnserved resumes setup limit text fault status output before after)

@@ -14,7 +14,8 @@ use bl_setup::setup::Setup;
 use bl_status::fault::ProgramFault;
 use std::alloc::Global;
 
-/// What a run begins with: its hall, the journal that has kept all that happened there, and how many bytes were cut off the file.
+/// What a run begins with: its hall, the journal that has kept all that happened there, and how many bytes were cut off
+/// the file.
 #[derive(Drop)]
 pub(crate) struct Begun<D: Device> {
     pub(crate) hall: Hall,
@@ -22,7 +23,8 @@ pub(crate) struct Begun<D: Device> {
     pub(crate) cut: usize,
 }
 
-/// What a run starts from: its setup, its file, and whether it goes on from what that has; else what is there is cut off.
+/// What a run starts from: its setup, its file, and whether it goes on from what that has; else what is there is cut
+/// off.
 #[derive(Drop)]
 pub struct Start<D: Device> {
     pub setup: Setup,
@@ -62,7 +64,8 @@ fn begin_anew<D: Device>(
     }
 }
 
-/// The hall of a run that was cut off, in which all has ended that was admitted, and its journal, which goes on in the same file.
+/// The hall of a run that was cut off, in which all has ended that was admitted, and its journal, which goes on in the
+/// same file.
 fn go_on<D: Device>(alloc: Global, setup: Setup, device: D) -> Result<Begun<D>, (ServingFault, D)>
     requires sound { D.has_failed device ≡ false }
     ensures begins { IfOk result (λ begun. Begins true setup 0 (seen (D.now device)) begun.hall begun.cut) }
@@ -77,8 +80,8 @@ fn go_on<D: Device>(alloc: Global, setup: Setup, device: D) -> Result<Begun<D>, 
     }
 }
 
-/// The hall of a run and its journal: new ones, under this limit, or those of a run that was cut off, under its own. The file is given back
-/// with a fault.
+/// The hall of a run and its journal: new ones, under this limit, or those of a run that was cut off, under its own.
+/// The file is given back with a fault.
 pub(crate) fn begin_in<D: Device>(
     alloc: Global,
     limit: u32,
@@ -86,7 +89,8 @@ pub(crate) fn begin_in<D: Device>(
 ) -> Result<Begun<D>, (ServingFault, D)>
     requires limited { (1 ≤ limit) × (limit ≤ 100000) }
     requires sound { D.has_failed start.device ≡ false }
-    ensures begins { IfOk result (λ begun. Begins start.resumes start.setup limit (seen (D.now start.device)) begun.hall begun.cut) }
+    ensures begins { IfOk result
+        (λ begun. Begins start.resumes start.setup limit (seen (D.now start.device)) begun.hall begun.cut) }
     ensures recorded { IfOk result (λ begun. HasRecorded D.now D.has_failed begun.journal begun.hall) }
     ensures err { IfErr result (λ failed. IsUnbegun start.resumes start.setup (seen (D.now start.device)) failed.0) }
 {

@@ -46,7 +46,8 @@ pub(crate) fn of_end(fault: JournalFault) -> ServingFault
     }
 }
 
-/// Tells a fault on a line of its own, and gives the status. Where `errors` failed it is marked, and only a part was said.
+/// Tells a fault on a line of its own, and gives the status. Where `errors` failed it is marked, and only a part was
+/// said.
 pub fn tell_serving<E: Write>(errors: &mut Watched<E>, fault: &ServingFault) -> u8
     ensures puts { Puts (words_by fault.now) (end_state E.contents errors.old) (end_state E.contents errors.new) }
     ensures status { result ≡ status_by fault.now }

@@ -40,7 +40,8 @@ use std::sync::Wait;
 use std::thread::Threads;
 use std::time::Clock;
 
-/// What a run was asked for: the weight of the lines that are admitted at most, 1 to 100,000, and how many threads and sessions there are.
+/// What a run was asked for: the weight of the lines that are admitted at most, 1 to 100,000, and how many threads and
+/// sessions there are.
 #[derive(Clone, Copy)]
 pub struct ServingRun {
     pub limit: u32,
@@ -96,7 +97,8 @@ where
     ensures parts { result.hosted.whole ≡ true → result.hosted.pass.parts ≡ 64 }
     ensures grown { result.hosted.whole ≡ true → HasGrown (hall_seen pass) (hall_seen result.hosted.pass) }
     ensures sound { result.journal.fault ≡ None → D.has_failed result.journal.log.device ≡ false }
-    ensures kept { result.journal.fault ≡ None → HasKept (hall_seen result.hosted.pass) result.journal.bookmark (D.now result.journal.log.device) }
+    ensures kept { result.journal.fault ≡ None
+        → HasKept (hall_seen result.hosted.pass) result.journal.bookmark (D.now result.journal.log.device) }
 {
     let mut pass = pass;
     let part = gate.split_pass(&mut pass);
@@ -145,7 +147,8 @@ fn tell_end<D: Device, E: Write>(
     }
 }
 
-/// All after `listening`: the sessions are served, what was found is told, and the journal is closed where each thread was started.
+/// All after `listening`: the sessions are served, what was found is told, and the journal is closed where each thread
+/// was started.
 fn host_on<
     D: Device + Send,
     P: Pause + Sync,
@@ -198,13 +201,13 @@ where
     tell_end(errors, status, left)
 }
 
-/// Sessions of who comes in at an entrance, over a setup, whose trail is kept in a file before any of it is told: the command
-/// `serve` with `--keep`.
+/// Sessions of who comes in at an entrance, over a setup, whose trail is kept in a file before any of it is told: the
+/// command `serve` with `--keep`.
 ///
-/// `listening` is told on `writer` before the first session is served; before that the file has the head of the trail, or, where the run
-/// goes on from another, all that this had admitted has ended. The status is 0 where all was done and the trail is whole, 3 for a fault of the
-/// setup, of the output or of the trail, and 4 when out of memory. A session that ends early is told and changes no status. The file is handed
-/// back.
+/// `listening` is told on `writer` before the first session is served; before that the file has the head of the trail,
+/// or, where the run goes on from another, all that this had admitted has ended. The status is 0 where all was done and
+/// the trail is whole, 3 for a fault of the setup, of the output or of the trail, and 4 when out of memory. A session
+/// that ends early is told and changes no status. The file is handed back.
 pub fn serve_recorded_on<
     D: Device + Send,
     P: Pause + Sync,

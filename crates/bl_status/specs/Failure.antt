@@ -12,7 +12,9 @@ use Rattle.bl_wire.specs.Watch.{Use}
 use Rattle.bl_wire.specs.declared.fault.SessionFault.{SessionFault}
 use Rattle.bl_wire.specs.declared.fault.SessionFault.TheVariants as failing
 use Rattle.bl_status.specs.declared.fault.ProgramFault.{ProgramFault}
-use Rattle.bl_status.specs.declared.fault.ProgramFault.TheVariants.{CannotReadSetup, Setup, CannotReadTrail, CannotWriteTrail, CannotListen, Read, Write, TooLong, NoMemory}
+use Rattle.bl_status.specs.declared.fault.ProgramFault.TheVariants.{CannotReadSetup, Setup, CannotReadTrail}
+use Rattle.bl_status.specs.declared.fault.ProgramFault.TheVariants.{CannotWriteTrail, CannotListen, Read, Write}
+use Rattle.bl_status.specs.declared.fault.ProgramFault.TheVariants.{TooLong, NoMemory}
 
 -- the words for a kind of fault; that of memory has none, and is told without a line
 abbrev pub kind_words : SetupFaultKind → List ℕ
@@ -43,8 +45,9 @@ IsOfSession failing.TooLong fault = fault ≡ TooLong
 IsOfSession failing.Memory fault = fault ≡ NoMemory
 IsOfSession failing.Clash fault = ⊥
 
--- The text is no setup, unless memory was refused, and nothing was written. The fault that is told is the first of the text, with
--- its line and kind; where memory was refused, that was at a line that is read, with the lines before it right.
+-- The text is no setup, unless memory was refused, and nothing was written. The fault that is told is the first of the
+-- text, with its line and kind; where memory was refused, that was at a line that is read, with the lines before it
+-- right.
 pub record IsNotRead (setup : List ℕ) (fault : ProgramFault) (output : Use) : Type 0 where
   pub unwritten : Keeps output.before output.after
   pub of : SetupFault

@@ -1,7 +1,9 @@
 -- What a run says on standard error of the fault that ends it.
 use Rattle.std.specs.Prelude.{ℕ, List, [], ◌∷◌, ◌++◌, codes, decimal}
 use Rattle.bl_status.specs.declared.fault.ProgramFault.{ProgramFault}
-use Rattle.bl_status.specs.declared.fault.ProgramFault.TheVariants.{CannotReadSetup, Setup, CannotReadTrail, CannotWriteTrail, CannotListen, Read, Write, TooLong, NoMemory}
+use Rattle.bl_status.specs.declared.fault.ProgramFault.TheVariants.{CannotReadSetup, Setup, CannotReadTrail}
+use Rattle.bl_status.specs.declared.fault.ProgramFault.TheVariants.{CannotWriteTrail, CannotListen, Read, Write}
+use Rattle.bl_status.specs.declared.fault.ProgramFault.TheVariants.{TooLong, NoMemory}
 
 -- own choice: the words for each fault; of a setup those for what is wrong with its line
 abbrev pub words_of : ProgramFault → List ℕ

@@ -1,7 +1,9 @@
 -- The status that a run ends with.
 use Rattle.std.specs.Prelude.{◌≡◌, ◌⊎◌, ℕ, zero, suc, List, [], ◌∷◌}
 use Rattle.bl_status.specs.declared.fault.ProgramFault.{ProgramFault}
-use Rattle.bl_status.specs.declared.fault.ProgramFault.TheVariants.{CannotReadSetup, Setup, CannotReadTrail, CannotWriteTrail, CannotListen, Read, Write, TooLong, NoMemory}
+use Rattle.bl_status.specs.declared.fault.ProgramFault.TheVariants.{CannotReadSetup, Setup, CannotReadTrail}
+use Rattle.bl_status.specs.declared.fault.ProgramFault.TheVariants.{CannotWriteTrail, CannotListen, Read, Write}
+use Rattle.bl_status.specs.declared.fault.ProgramFault.TheVariants.{TooLong, NoMemory}
 
 -- 4 when out of memory, and 3 for anything else
 abbrev pub status_of : ProgramFault → ℕ

@@ -1,5 +1,6 @@
 -- What a run says of a trail that is not kept.
-use Rattle.std.specs.Prelude.{◌≡◌, ◌⊎◌, ℕ, List, [], ◌∷◌, ◌++◌, Bool, true, false, Option, Some, None, codes, string_bytes}
+use Rattle.std.specs.Prelude.{◌≡◌, ◌⊎◌, ℕ, List, [], ◌∷◌, ◌++◌, Bool, true, false, Option, Some, None, codes}
+use Rattle.std.specs.Prelude.{string_bytes}
 use Rattle.bl_keep.specs.declared.fault.KeepFault.{KeepFault}
 use Rattle.bl_keep.specs.declared.fault.KeepFault.TheVariants.{Unwritable, Memory}
 use Rattle.bl_keep.specs.declared.whole.Left.{Left}

@@ -1,4 +1,5 @@
-//! What a run says on standard error. Nothing of it needs memory, and once standard error has failed nothing more is said.
+//! What a run says on standard error. Nothing of it needs memory, and once standard error has failed nothing more is
+//! said.
 ghost use Rattle.std.specs.Prelude.{◌≡◌, ◌⊎◌};
 ghost use Rattle.bl_wire.specs.Watch.{Puts, end_state, used};
 ghost use Rattle.bl_status.specs.Unkept.{left_line, left_words as words_left};
@@ -47,8 +48,8 @@ pub fn tell<E: Write>(errors: &mut Watched<E>, fault: &ProgramFault) -> u8
     fault.status()
 }
 
-/// Tells where what is left of a trail is that was not kept, on a line of its own; nothing where nothing is left. Where `errors` failed it is
-/// marked, and only a part was said.
+/// Tells where what is left of a trail is that was not kept, on a line of its own; nothing where nothing is left. Where
+/// `errors` failed it is marked, and only a part was said.
 pub fn tell_left<E: Write>(errors: &mut Watched<E>, left: &Option<Left>)
     ensures puts { Puts (left_line left.now) (end_state E.contents errors.old) (end_state E.contents errors.new) }
 {

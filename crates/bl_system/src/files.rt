@@ -40,11 +40,14 @@ fn read_trail_bytes<F: Read + Drop>(alloc: Global, file: F) -> io::Result<Vec<u8
     read_most(alloc, file, MOST_TRAIL)
 }
 
-/// What was read of a setup file, all of it or one byte more than it may have; the setup's own reader tells a file that is too long.
+/// What was read of a setup file, all of it or one byte more than it may have; the setup's own reader tells a file that
+/// is too long.
 fn setup_read(bytes: io::Result<Vec<u8>>) -> Result<Vec<u8>, ProgramFault>
     ensures ok { IfOk bytes (λ setup. result ≡ Ok setup) }
-    ensures memory { IfErr bytes (λ error. error_kind error ≡ ErrorKind.OutOfMemory → result ≡ Err ProgramFault.NoMemory) }
-    ensures other { IfErr bytes (λ error. error_kind error ≢ ErrorKind.OutOfMemory → result ≡ Err ProgramFault.CannotReadSetup) }
+    ensures memory { IfErr bytes
+        (λ error. error_kind error ≡ ErrorKind.OutOfMemory → result ≡ Err ProgramFault.NoMemory) }
+    ensures other { IfErr bytes
+        (λ error. error_kind error ≢ ErrorKind.OutOfMemory → result ≡ Err ProgramFault.CannotReadSetup) }
 {
     match bytes {
         Ok(setup) => Ok(setup),
@@ -52,13 +55,16 @@ fn setup_read(bytes: io::Result<Vec<u8>>) -> Result<Vec<u8>, ProgramFault>
     }
 }
 
-/// What was read of a trail file, of which a byte more than it may have was read where it has one: such a file is not read.
+/// What was read of a trail file, of which a byte more than it may have was read where it has one: such a file is not
+/// read.
 pub fn read_within(bytes: io::Result<Vec<u8>>, most: u64) -> Result<Vec<u8>, ProgramFault>
     ensures ok { IfOk result (λ trail. (bytes ≡ Ok trail) × (length trail.items ≤ most)) }
     ensures within { IfOk bytes (λ all. length all.items ≤ most → result ≡ Ok all) }
     ensures long { IfOk bytes (λ all. most < length all.items → result ≡ Err ProgramFault.CannotReadTrail) }
-    ensures memory { IfErr bytes (λ error. error_kind error ≡ ErrorKind.OutOfMemory → result ≡ Err ProgramFault.NoMemory) }
-    ensures other { IfErr bytes (λ error. error_kind error ≢ ErrorKind.OutOfMemory → result ≡ Err ProgramFault.CannotReadTrail) }
+    ensures memory { IfErr bytes
+        (λ error. error_kind error ≡ ErrorKind.OutOfMemory → result ≡ Err ProgramFault.NoMemory) }
+    ensures other { IfErr bytes
+        (λ error. error_kind error ≢ ErrorKind.OutOfMemory → result ≡ Err ProgramFault.CannotReadTrail) }
 {
     match bytes {
         Ok(trail) if trail.len() as u64 <= most => Ok(trail),
@@ -70,9 +76,12 @@ pub fn read_within(bytes: io::Result<Vec<u8>>, most: u64) -> Result<Vec<u8>, Pro
 /// What was read of a trail file, where it has no more bytes than it may have.
 fn trail_read(bytes: io::Result<Vec<u8>>) -> Result<Vec<u8>, ProgramFault>
     ensures ok { IfOk bytes (λ trail. length trail.items ≤ most_trail_bytes → result ≡ Ok trail) }
-    ensures long { IfOk bytes (λ trail. most_trail_bytes < length trail.items → result ≡ Err ProgramFault.CannotReadTrail) }
-    ensures memory { IfErr bytes (λ error. error_kind error ≡ ErrorKind.OutOfMemory → result ≡ Err ProgramFault.NoMemory) }
-    ensures other { IfErr bytes (λ error. error_kind error ≢ ErrorKind.OutOfMemory → result ≡ Err ProgramFault.CannotReadTrail) }
+    ensures long { IfOk bytes
+        (λ trail. most_trail_bytes < length trail.items → result ≡ Err ProgramFault.CannotReadTrail) }
+    ensures memory { IfErr bytes
+        (λ error. error_kind error ≡ ErrorKind.OutOfMemory → result ≡ Err ProgramFault.NoMemory) }
+    ensures other { IfErr bytes
+        (λ error. error_kind error ≢ ErrorKind.OutOfMemory → result ≡ Err ProgramFault.CannotReadTrail) }
 {
     read_within(bytes, MOST_TRAIL)
 }

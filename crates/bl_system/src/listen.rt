@@ -20,8 +20,10 @@ fn address_of(port: u32) -> (Ipv4Addr, u16)
 /// What came of listening.
 fn listening(bound: io::Result<TcpListener>) -> Result<TcpListener, ProgramFault>
     ensures ok { IfOk bound (λ listener. result ≡ Ok listener) }
-    ensures memory { IfErr bound (λ error. error_kind error ≡ ErrorKind.OutOfMemory → result ≡ Err ProgramFault.NoMemory) }
-    ensures other { IfErr bound (λ error. error_kind error ≢ ErrorKind.OutOfMemory → result ≡ Err ProgramFault.CannotListen) }
+    ensures memory { IfErr bound
+        (λ error. error_kind error ≡ ErrorKind.OutOfMemory → result ≡ Err ProgramFault.NoMemory) }
+    ensures other { IfErr bound
+        (λ error. error_kind error ≢ ErrorKind.OutOfMemory → result ≡ Err ProgramFault.CannotListen) }
 {
     match bound {
         Ok(listener) => Ok(listener),

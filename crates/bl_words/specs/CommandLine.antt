@@ -182,7 +182,9 @@ recover_app = with_rule (with_rule (new_app (codes "recover")) setup_rule) trail
 
 -- own choice: a command has to be given, and the program has a version
 abbrev pub root_app : App
-root_app = with_subcommand (on_top (λ s. record s { has_version = true; subcommand_required = true }) (new_app (codes "bl_server"))) alone_app.top
+root_app = with_subcommand
+    (on_top (λ s. record s { has_version = true; subcommand_required = true })
+    (new_app (codes "bl_server"))) alone_app.top
 
 -- own choice: the commands are `alone`, `serve`, `replay` and `recover`
 abbrev pub server_app : App

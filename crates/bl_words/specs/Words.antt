@@ -32,7 +32,8 @@ IsIdleInRange (Some seconds) = (1 ≤ seconds) × (seconds ≤ 86400)
 abbrev pub IsTrailLimit : ℕ → Type 0
 IsTrailLimit bytes = (65536 ≤ bytes) × (bytes ≤ 1073741824)
 
--- each number of what is hosted is in its range, and a run is resumed only with a trail that is written while it goes on
+-- each number of what is hosted is in its range, and a run is resumed only with a trail that is written while it goes
+-- on
 pub record IsHostingInRange (hosting : Hosting) : Type 0 where
   pub limit : (1 ≤ hosting.limit) × (hosting.limit ≤ 100000)
   pub entrance : IsEntranceInRange hosting.entrance
@@ -52,7 +53,8 @@ MayKeep there Synced resumes = there ≡ true
 
 -- each number is in its range, and a trail is kept so as it may be
 abbrev pub IsInRange : Command → Type 0
-IsInRange (Alone setup limit trail keeping resumes) = ((1 ≤ limit) × (limit ≤ 100000)) × MayKeep (is_some trail) keeping resumes
+IsInRange (Alone setup limit trail keeping resumes) = ((1 ≤ limit) × (limit ≤ 100000))
+    × MayKeep (is_some trail) keeping resumes
 IsInRange (Serve setup hosting) = IsHostingInRange hosting
 IsInRange (Replay setup trail) = Unit {0}
 IsInRange (Recover setup trail) = Unit {0}
@@ -106,7 +108,8 @@ pub record HasTrailFile (options : ArgMatches) (name : List ℕ) (file : TrailFi
 -- the options name this trail file, or none
 abbrev pub HasTrail : ArgMatches → Option TrailFile → Type 0
 HasTrail options None = first_value (found_of options) (codes "trail") ≡ None
-HasTrail options (Some file) = (name : List ℕ) × (first_value (found_of options) (codes "trail") ≡ Some name) × HasTrailFile options name file
+HasTrail options (Some file) = (name : List ℕ) × (first_value (found_of options) (codes "trail") ≡ Some name)
+    × HasTrailFile options name file
 
 -- own choice: the word for how a trail is kept
 abbrev pub keeping_word : TrailKeeping → List ℕ
@@ -124,9 +127,11 @@ HasResume options resumes = (resumes ≡ true) ↔ (first_value (found_of option
 
 -- the options name a port, or the folder of doors, and not both
 abbrev pub HasEntrance : ArgMatches → NamedEntrance → Type 0
-HasEntrance options (Port port) = HasNumber options (codes "port") port × (first_value (found_of options) (codes "doors") ≡ None)
+HasEntrance options (Port port) = HasNumber options (codes "port") port
+    × (first_value (found_of options) (codes "doors") ≡ None)
 HasEntrance options (Doors folder) =
-    (first_value (found_of options) (codes "port") ≡ None) × (first_value (found_of options) (codes "doors") ≡ Some folder.now)
+    (first_value (found_of options) (codes "port") ≡ None)
+        × (first_value (found_of options) (codes "doors") ≡ Some folder.now)
 
 -- the options of `serve` say this of its sessions and its trail
 pub record HasHosting (options : ArgMatches) (hosting : Hosting) : Type 0 where
@@ -146,13 +151,16 @@ pub record HasHosting (options : ArgMatches) (hosting : Hosting) : Type 0 where
 -- the options of a command are these
 abbrev pub HasOptions : ArgMatches → Command → Type 0
 HasOptions options (Alone setup limit trail keeping resumes) =
-    (first_value (found_of options) (codes "setup") ≡ Some setup.now) × HasNumber options (codes "limit") limit × HasTrail options trail × HasKeeping options keeping × HasResume options resumes
+    (first_value (found_of options) (codes "setup") ≡ Some setup.now) × HasNumber options (codes "limit") limit
+        × HasTrail options trail × HasKeeping options keeping × HasResume options resumes
 HasOptions options (Serve setup hosting) =
     (first_value (found_of options) (codes "setup") ≡ Some setup.now) × HasHosting options hosting
 HasOptions options (Replay setup trail) =
-    (first_value (found_of options) (codes "setup") ≡ Some setup.now) × (first_value (found_of options) (codes "trail") ≡ Some trail.now)
+    (first_value (found_of options) (codes "setup") ≡ Some setup.now)
+        × (first_value (found_of options) (codes "trail") ≡ Some trail.now)
 HasOptions options (Recover setup trail) =
-    (first_value (found_of options) (codes "setup") ≡ Some setup.now) × (first_value (found_of options) (codes "trail") ≡ Some trail.now)
+    (first_value (found_of options) (codes "setup") ≡ Some setup.now)
+        × (first_value (found_of options) (codes "trail") ≡ Some trail.now)
 
 -- the command has this word and these options
 pub record IsOfOptions (word : List ℕ) (options : ArgMatches) (command : Command) : Type 0 where

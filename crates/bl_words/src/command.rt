@@ -1,12 +1,21 @@
 //! The command line.
-ghost use Rattle.std.specs.Prelude.{◌≡◌, ◌≤◌, ◌⊎◌, ◌↔◌, ℕ, IsTrue, [], ◌∷◌, false, codes, map, option_copied, string_bytes, IfErr, IfNone, IfOk, IfSome, OnOk, Option};
+ghost use Rattle.std.specs.Prelude.{◌≡◌, ◌≤◌, ◌⊎◌, ◌↔◌, ℕ, IsTrue, [], ◌∷◌, false, codes, map, option_copied};
+ghost use Rattle.std.specs.Prelude.{string_bytes, IfErr, IfNone, IfOk, IfSome, OnOk, Option};
 ghost use Rattle.clap.specs.Kinds.{HasKind};
 ghost use Rattle.clap.specs.Words.{kind_of, rule_of, app_of};
 ghost use Rattle.clap.specs.declared.builder.command.Command.TheViews.{out-Command as fields_of};
-ghost use Rattle.bl_words.specs.CommandLine.{setup_rule, limit_rule, trail_limit_rule, trail_rule, kept_trail_rule, replace_rule, claim_rule, keep_rule, resume_rule, port_rule, doors_rule, workers_rule, threads_rule, sessions_rule, clients_rule, idle_rule, log_rule, session_app, named_app, kept_app, alone_app, places_app, crews_app, counts_app, clients_app, files_app, serve_app, replay_app, recover_app, root_app, server_app};
+ghost use Rattle.bl_words.specs.CommandLine.{setup_rule, limit_rule, trail_limit_rule, trail_rule, kept_trail_rule};
+ghost use Rattle.bl_words.specs.CommandLine.{replace_rule, claim_rule, keep_rule, resume_rule, port_rule, doors_rule};
+ghost use Rattle.bl_words.specs.CommandLine.{workers_rule, threads_rule, sessions_rule, clients_rule, idle_rule};
+ghost use Rattle.bl_words.specs.CommandLine.{log_rule, session_app, named_app, kept_app, alone_app, places_app};
+ghost use Rattle.bl_words.specs.CommandLine.{crews_app, counts_app, clients_app, files_app, serve_app, replay_app};
+ghost use Rattle.bl_words.specs.CommandLine.{recover_app, root_app, server_app};
 ghost use Rattle.bl_status.specs.Status.{IsStatus};
 ghost use Rattle.bl_words.specs.Status.{status_for};
-ghost use Rattle.bl_words.specs.Words.{HasCount, HasEntrance, HasHosting, HasKeeping, HasNoCommand, HasNumber, HasResume, HasTrail, HasTrailFile, IsEntranceInRange, IsHostingInRange, IsIdleInRange, IsInRange, IsOf, IsOfOptions, IsTrailLimit, MayKeep, Name, NameNone, faults_of, setup_of, read_trail_of};
+ghost use Rattle.bl_words.specs.Words.{HasCount, HasEntrance, HasHosting, HasKeeping, HasNoCommand, HasNumber};
+ghost use Rattle.bl_words.specs.Words.{HasResume, HasTrail, HasTrailFile, IsEntranceInRange, IsHostingInRange};
+ghost use Rattle.bl_words.specs.Words.{IsIdleInRange, IsInRange, IsOf, IsOfOptions, IsTrailLimit, MayKeep, Name};
+ghost use Rattle.bl_words.specs.Words.{NameNone, faults_of, setup_of, read_trail_of};
 ghost use Rattle.bl_words.specs.declared.command.Command.{Command as AnyCommand};
 ghost use Rattle.bl_words.specs.declared.command.NamedEntrance.{NamedEntrance as AnyEntrance};
 ghost use Rattle.bl_words.specs.declared.command.Hosting.{Hosting as AnyHosting};
@@ -558,7 +567,8 @@ fn resumes(options: &ArgMatches<'_>) -> bool
 fn entrance_of<'a>(options: &ArgMatches<'a>) -> Option<NamedEntrance<'a>>
     ensures range { IfSome result IsEntranceInRange }
     ensures written { IfSome result (HasEntrance options.now) }
-    ensures none { IfNone result ((entrance : AnyEntrance) → HasEntrance options.now entrance → IsEntranceInRange entrance → ⊥) }
+    ensures none { IfNone result
+        ((entrance : AnyEntrance) → HasEntrance options.now entrance → IsEntranceInRange entrance → ⊥) }
 {
     match (options.get_str("port"), options.get_str("doors")) {
         (Some(_), None) => match number(options, "port", MOST_PORT) {
@@ -578,7 +588,8 @@ struct OutOfRange;
 fn idle_of(options: &ArgMatches<'_>) -> Result<Option<u32>, OutOfRange>
     ensures range { IfOk result IsIdleInRange }
     ensures written { IfOk result (HasCount options.now (codes "idle")) }
-    ensures none { IfErr result (λ _. (idle : Option ℕ) → HasCount options.now (codes "idle") idle → IsIdleInRange idle → ⊥) }
+    ensures none { IfErr result
+        (λ _. (idle : Option ℕ) → HasCount options.now (codes "idle") idle → IsIdleInRange idle → ⊥) }
 {
     match (options.get_str("idle"), number(options, "idle", MOST_IDLE)) {
         (None, _) => Ok(None),
@@ -591,7 +602,8 @@ fn idle_of(options: &ArgMatches<'_>) -> Result<Option<u32>, OutOfRange>
 fn hosting_of<'a>(options: &ArgMatches<'a>) -> Option<Hosting<'a>>
     ensures range { IfSome result IsHostingInRange }
     ensures written { IfSome result (HasHosting options.now) }
-    ensures none { IfNone result ((hosting : AnyHosting) → HasHosting options.now hosting → IsHostingInRange hosting → ⊥) }
+    ensures none { IfNone result
+        ((hosting : AnyHosting) → HasHosting options.now hosting → IsHostingInRange hosting → ⊥) }
 {
     let limit = number(options, "limit", MOST_LIMIT)?;
     let entrance = entrance_of(options)?;
