@@ -1,5 +1,5 @@
 -- What of a session was kept, as it goes on.
-use Rattle.std.proofs.Common.{◌≡◌, ℕ, zero, suc, ◌<◌, ◌≤◌, inl, inr, Bool, List, [], ◌∷◌, ◌++◌, length, refl, sym, ap, subst, ◌∙◌, arith, append-nil, append_assoc, replicate, Option}
+use Rattle.std.proofs.Common.{◌≡◌, ℕ, zero, suc, ◌<◌, ◌≤◌, inl, inr, Bool, List, [], ◌∷◌, ◌++◌, length, refl, sym, ap, subst, ◌∙◌, arith, append-nil, append_assoc, replicate, Option, Some}
 use Rattle.std.specs.Io.KnownBytes.{Appends, Consumes}
 use Rattle.std.proofs.KnownBytes.{Appends-nil, Consumes-nil}
 use Rattle.std.specs.Prelude.{Result, Ok, Err, IfErr, OnOk}
@@ -21,8 +21,10 @@ use Rattle.bl_session.specs.declared.entries.Pages.{Pages}
 use Rattle.bl_session.specs.declared.keep.Stop.{Stop}
 use Rattle.bl_session.specs.declared.keep.Unreached.{Unreached}
 use Rattle.bl_session.specs.declared.keep.Unreached.TheVariants.{Memory, Failed}
+use Rattle.bl_session.specs.Ended.{HasEnded, HasEndedAfter, TellsKeptAfter}
 use Rattle.bl_session.specs.Keeping.{IsFrontOf, IsHeld, IsOpenIn, IsToldAfter, MayStop, fault_of, stop_of}
-use Rattle.bl_session.specs.One.{next_session}
+use Rattle.bl_session.specs.One.{new_hall, next_session}
+use Rattle.bl_session.specs.Outcome.{IsCutShortAfter, IsServedInAfter}
 use Rattle.bl_session.specs.Pages.{Came, StillAnswers, with_events}
 use Rattle.bl_session.specs.Reaching.{CameBy, FinishesKept, IsReachedTo, StopsKept, seen_by, seen_in}
 use Rattle.bl_session.specs.Talks.{HasDone, seen_of}
@@ -205,7 +207,31 @@ module _ {K : Type 0} (reached has_kept : K → Chronicle → Type 0) (keep : K)
   -- the front of the hall that was kept, of which all was told
   pub told_of_kept : (result : Result (Unit {0}) Stop) → OnOk result (FinishesKept (reached keep) begun.setup begun (ends start rest first after) s)
       → IfErr result (λ stop. StopsKept (IsHeld (reached keep) (has_kept keep) (Err stop)) begun.setup begun stop (ends start rest first after) reader_failed writer_failed s)
-      → (kept : Chronicle) × IsHeld (reached keep) (has_kept keep) result kept × IsFrontOf begun kept × IsFrontOf kept s.hall × IsToldAfter begun kept reader writer
-  told_of_kept (Ok done) ok err = (ok.kept, ok.reached, ok.since, ok.front, finished_told begun start rest first after ok.kept s ok.front reader_failed writer_failed ok.told)
-  told_of_kept (Err stop) ok err =
-      (err.kept, err.held, err.since, err.front, stopped_told begun start rest first after err.kept err.at err.began (fault_of stop) reader_failed writer_failed err.stopped)
+      → TellsKeptAfter begun s.hall (IsHeld (reached keep) (has_kept keep) result) reader writer
+  told_of_kept (Ok done) ok err = record {
+    kept = ok.kept;
+    held = ok.reached;
+    since = ok.since;
+    front = ok.front;
+    told = finished_told begun start rest first after ok.kept s ok.front reader_failed writer_failed ok.told;
+  }
+  told_of_kept (Err stop) ok err = record {
+    kept = err.kept;
+    held = err.held;
+    since = err.since;
+    front = err.front;
+    told = stopped_told begun start rest first after err.kept err.at err.began (fault_of stop) reader_failed writer_failed err.stopped;
+  }
+
+-- ---- how a session ended
+
+pub ended_after : (begun hall : Chronicle) (input output : Use) (served : Result (Unit {0}) Stop) → OnOk served (IsServedInAfter begun hall input output)
+    → IfErr served (λ stop. IsCutShortAfter begun (fault_of stop) input output) → HasEndedAfter begun hall served input output
+ended_after begun hall input output (Ok done) own cut = own
+ended_after begun hall input output (Err stop) own cut = cut
+
+-- where nothing had happened before
+pub ended_first : (setup : Setup) (limit : ℕ) (begun hall : Chronicle) (input output : Use) (served : Result (Unit {0}) Stop) → begun ≡ new_hall setup limit
+    → HasEndedAfter begun hall served input output → HasEnded setup limit (Some hall) served input output
+ended_first setup limit begun hall input output (Ok done) is ended = (hall, refl, subst (λ (h : Chronicle). IsServedInAfter h hall input output) is ended)
+ended_first setup limit begun hall input output (Err stop) is ended = subst (λ (h : Chronicle). IsCutShortAfter h (fault_of stop) input output) is ended

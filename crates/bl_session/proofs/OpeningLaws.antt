@@ -1,5 +1,5 @@
 -- How many sessions the events of a hall opened.
-use Rattle.std.proofs.Common.{◌≡◌, ℕ, ◌≤◌, ◌+◌, ◌<◌, cond, List, [], ◌∷◌, length, length-append, map, arith}
+use Rattle.std.proofs.Common.{◌≡◌, ℕ, ◌≤◌, ◌+◌, cond, List, [], ◌∷◌, length, length-append, map, arith}
 use Rattle.std.specs.Prelude.{count_by}
 use Rattle.std.proofs.lemmas.List.Sums.{sum_by-cons}
 use Rattle.bl_order.specs.Machine.{State, Event, Opens, Admits, Starts, Ends, Loses, IsTrail, change, start, state_after, most_sessions, session_at}

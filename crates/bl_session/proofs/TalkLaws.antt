@@ -9,7 +9,6 @@ use Rattle.bl_work.specs.declared.work.Work.{Work}
 use Rattle.bl_setup.specs.Agreement.{Agree}
 use Rattle.bl_setup.specs.Setup.{Setup}
 use Rattle.bl_order.specs.Machine.{Session, State, session_at}
-use Rattle.bl_order.specs.Machine as machine
 use Rattle.std.specs.Io.KnownBytes.{Keeps}
 use Rattle.bl_hall.specs.Chronicle.{Chronicle, state_now}
 use Rattle.bl_wire.specs.Replies.{line_text}

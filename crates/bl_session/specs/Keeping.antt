@@ -52,9 +52,10 @@ IsHeld reached has_kept (Err NotKept) kept = has_kept kept
 abbrev pub IsOpenIn : ℕ → Chronicle → List Request → Type 0
 IsOpenIn session kept told = (told ≡ []) ⊎ (session < length (state_now kept).sessions)
 
--- What is written was told of this trail, which is of the setup and the limit of the hall that the session began in: it begins the text of
--- the lines that were heard, by the state that the trail leads to, and where they ask for a session the trail has it, the next after those
--- that were there. What was heard are the lines that were read, but perhaps the last.
+-- What is written was told of this trail, which is of the setup and the limit of the hall that the session began in: it
+-- begins the text of the lines that were heard, by the state that the trail leads to, and where they ask for a session
+-- the trail has it, the next after those that were there. What was heard are the lines that were read, but perhaps the
+-- last.
 pub record IsToldAfter (begun kept : Chronicle) (reader writer : Use) : Type 0 where
   pub setup_is : kept.setup ≡ begun.setup
   pub limit_is : kept.limit ≡ begun.limit

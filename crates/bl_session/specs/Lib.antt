@@ -10,3 +10,5 @@ pub mod Talks
 pub mod Telling
 pub mod Keeping
 pub mod Reaching
+pub mod Ended
+pub mod Meeting

@@ -1,5 +1,6 @@
 -- One: the trail of one session and one worker, by what becomes of each place.
-use Rattle.std.specs.Prelude.{ℕ, zero, suc, ◌+◌, Bool, if◌then◌else◌, nat_lt, nat_le, List, [], ◌∷◌, ◌++◌, length, sum_by}
+use Rattle.std.specs.Prelude.{ℕ, zero, suc, ◌+◌, Bool, if◌then◌else◌, nat_lt, nat_le}
+use Rattle.std.specs.Prelude.{List, [], ◌∷◌, ◌++◌, length, sum_by}
 use Rattle.bl_work.specs.declared.work.Work.{Work}
 use Rattle.bl_setup.specs.Setup.{Setup}
 use Rattle.bl_order.specs.Machine.{State, Event, runs, has_ended, change, start, state_after, weight_of, entry_weight}
@@ -18,7 +19,8 @@ pub data Fate : Type 0 where
 
 -- a place starts, and ends if it runs
 abbrev pub started_then : State → ℕ → Event → List Event
-started_then x n ending = if runs (change x (machine.Starts n)) n then machine.Starts n ∷ ending ∷ [] else machine.Starts n ∷ []
+started_then x n ending =
+    if runs (change x (machine.Starts n)) n then machine.Starts n ∷ ending ∷ [] else machine.Starts n ∷ []
 
 -- the events of a place that is to start: what does not run ends at its start, and so is never lost while it runs
 abbrev pub events_by : Fate → State → ℕ → List Event

@@ -16,8 +16,9 @@ use Rattle.bl_session.specs.One.{Fate, new_hall, next_session, one_after}
 use Rattle.bl_session.specs.Pages.{with_events}
 use Rattle.bl_session.specs.Transcript.{transcript_after}
 
--- The input was read to its end, or to the end of a first line that was refused and no further, and its transcript is written, by what became
--- of each place after all that had happened in the hall that the session began in. Neither end failed.
+-- The input was read to its end, or to the end of a first line that was refused and no further, and its transcript is
+-- written, by what became of each place after all that had happened in the hall that the session began in. Neither end
+-- failed.
 pub record IsServedAfter (begun : Chronicle) (reader writer : Use) : Type 0 where
   pub bytes : List ℕ
   pub turns : List Turn
@@ -43,10 +44,10 @@ pub record IsServedInAfter (begun hall : Chronicle) (reader writer : Use) : Type
 abbrev pub IsServedIn : Setup → ℕ → Chronicle → Use → Use → Type 0
 IsServedIn setup limit hall reader writer = IsServedInAfter (new_hall setup limit) hall reader writer
 
--- The session ended early. What is written begins the transcript of the lines that were heard: all that were read, but where memory
--- was refused perhaps not the last. Where reading failed it is all blocks whose `wait` came. Where memory was refused it is they as well, but the block that the last
--- line closes may be lacking. Where writing failed a part of what is written next may follow. Of what stands behind a first
--- line that was refused nothing was read.
+-- The session ended early. What is written begins the transcript of the lines that were heard: all that were read, but
+-- where memory was refused perhaps not the last. Where reading failed it is all blocks whose `wait` came. Where memory
+-- was refused it is they as well, but the block that the last line closes may be lacking. Where writing failed a part
+-- of what is written next may follow. Of what stands behind a first line that was refused nothing was read.
 pub record IsCutShortAfter (begun : Chronicle) (fault : SessionFault) (reader writer : Use) : Type 0 where
   pub turns : List Turn
   pub read : Broken fault begun.setup.names reader.before reader.after reader.failed writer.failed turns
@@ -58,8 +59,9 @@ pub record IsCutShortAfter (begun : Chronicle) (fault : SessionFault) (reader wr
   pub heard_is : WereHeard fault heard turns
   pub fate : ℕ → Fate
   pub begins : Begins written (transcript_after (state_now begun) fate heard)
-  pub closed : IsPutAt fault (line_text (state_after (state_now begun) (one_after (state_now begun) fate heard)) (next_session (state_now begun)))
-      reader.before reader.after turns heard written
+  pub closed : IsPutAt fault
+      (line_text (state_after (state_now begun) (one_after (state_now begun) fate heard))
+      (next_session (state_now begun))) reader.before reader.after turns heard written
 
 -- where nothing had happened before it
 abbrev pub IsCutShort : Setup → ℕ → SessionFault → Use → Use → Type 0

@@ -8,13 +8,13 @@ use Rattle.bl_engine.specs.Requests.{SameUpTo}
 use Rattle.bl_engine.specs.declared.request.Request.{Request}
 use Rattle.bl_engine.specs.View.{Ends, View}
 use Rattle.bl_session.specs.Keeping.{IsFrontOf, IsOpenIn, fault_of}
-use Rattle.bl_session.specs.Pages.{AreLater, Came}
+use Rattle.bl_session.specs.Pages.{Came, IsSettled}
 use Rattle.bl_session.specs.Talks.{seen_of}
 use Rattle.bl_session.specs.declared.entries.Pages.{Pages}
 use Rattle.bl_session.specs.declared.keep.Stop.{Stop}
 
--- A front of the hall's trail was reached, which goes on from the hall that the session began in: it has the session once the hall has it, and what is answered up to an
--- ordinal is answered so by it.
+-- A front of the hall's trail was reached, which goes on from the hall that the session began in: it has the session
+-- once the hall has it, and what is answered up to an ordinal is answered so by it.
 pub record IsReachedTo (Reached : Chronicle → Type 0) (begun : Chronicle) (n : ℕ) (s : Pages) : Type 0 where
   pub kept : Chronicle
   pub reached : Reached kept
@@ -25,7 +25,7 @@ pub record IsReachedTo (Reached : Chronicle → Type 0) (begun : Chronicle) (n :
 
 -- what stands for good up to an ordinal is answered so by what is kept
 abbrev pub StandsBy : Chronicle → Pages → ℕ → Type 0
-StandsBy kept s n = AreLater s.next (state_now s.hall).order n
+StandsBy kept s n = IsSettled n s
     × SameUpTo n (line_text (state_now kept) s.session) (line_text (state_now s.hall) s.session)
 
 -- what was told brought the pages here, and a session that was asked for is kept
@@ -44,7 +44,7 @@ seen_by setup begun kept s = record {
 abbrev pub seen_in : Setup → Chronicle → Chronicle → Pages → View
 seen_in setup begun kept s = record {
   replies = line_text (state_now kept) s.session;
-  settled = λ n. AreLater s.next (state_now s.hall).order n;
+  settled = λ n. IsSettled n s;
   came = λ told. CameBy setup begun kept s told;
 }
 

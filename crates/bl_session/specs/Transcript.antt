@@ -7,7 +7,8 @@ use Rattle.bl_wire.specs.Texts.{session_text}
 use Rattle.bl_wire.specs.Replies.{line_text}
 use Rattle.bl_session.specs.One.{Fate, next_session, one_after}
 
--- the transcript of these lines by the trail of one session and one worker after a state, where this becomes of its places
+-- the transcript of these lines by the trail of one session and one worker after a state, where this becomes of its
+-- places
 abbrev pub transcript_after : State → (ℕ → Fate) → List Turn → List ℕ
 transcript_after x fate turns =
     session_text (line_text (state_after x (one_after x fate turns)) (next_session x)) turns

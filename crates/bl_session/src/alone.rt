@@ -1,12 +1,13 @@
 //! A session with one worker, in one thread: lines are admitted without being run, and at each
 //! `wait` and at the end of the input they are run in admission order, over a hall of their own.
-ghost use Rattle.std.specs.Prelude.{◌≡◌, ◌≢◌, ◌<◌, ◌≤◌, ℕ, [], false, length, OnOk, IfErr, IfSome, IsSome, IsTrue};
-ghost use Rattle.bl_hall.specs.Chronicle.{Chronicle, state_now};
+ghost use Rattle.std.specs.Prelude.{◌≡◌, ◌≢◌, ◌≤◌, false, OnOk, IfErr, IsSome};
 ghost use Rattle.bl_wire.specs.Watch.{used};
-ghost use Rattle.bl_session.specs.Keeping.{IsFrontOf, IsHeld, IsToldAfter, IsToldOf, MayStop, fault_of};
-ghost use Rattle.bl_session.specs.Outcome.{IsCutShort, IsCutShortAfter, IsServed, IsServedAfter, IsServedIn, IsServedInAfter};
-ghost use Rattle.bl_order.specs.Machine.{has_ended, most_sessions};
 ghost use Rattle.bl_wire.specs.declared.fault.SessionFault.TheVariants.{Clash};
+ghost use Rattle.bl_session.specs.Ended.{HasEnded, HasEndedAfter, TellsKept, TellsKeptAfter, hall_of};
+ghost use Rattle.bl_session.specs.Keeping.{IsHeld, MayStop};
+ghost use Rattle.bl_session.specs.One.{new_hall};
+ghost use Rattle.bl_session.specs.Outcome.{IsCutShort, IsServed};
+ghost use Rattle.bl_session.specs.Pages.{MayBegin};
 
 pub use crate::entries::sessions_in;
 use crate::entries::{Alone, Pages, begin, hall_over};
@@ -36,8 +37,8 @@ impl Kept {
     }
 }
 
-/// Serves one session over a reader and a writer. The admitted lines weigh at most `limit` together, one for each `when`. The limit is 1
-/// to 100,000.
+/// Serves one session over a reader and a writer. The admitted lines weigh at most `limit` together, one for each
+/// `when`. The limit is 1 to 100,000.
 ///
 /// At `Ok` the input was read to its end, or to the end of a first line that was refused, and its
 /// transcript is written and handed on. `Read` and `Write` come only where that end failed, and that
@@ -51,13 +52,13 @@ pub fn serve_alone<R: BufRead, W: Write>(
     reader: &mut Watched<R>,
     writer: &mut Watched<W>,
 ) -> Result<(), SessionFault>
-    requires some { 1 ≤ limit }
-    requires most { limit ≤ 100000 }
-    requires reader { reader.old.failed ≡ false }
-    requires writer { writer.old.failed ≡ false }
-    ensures ok { OnOk result (IsServed setup limit (used R.remaining reader.old reader.new) (used W.contents writer.old writer.new)) }
+    requires limit { (1 ≤ limit) × (limit ≤ 100000) }
+    requires fine { (reader.old.failed ≡ false) × (writer.old.failed ≡ false) }
+    ensures ok { OnOk result (IsServed setup limit
+        (used R.remaining reader.old reader.new) (used W.contents writer.old writer.new)) }
     ensures handed_on { OnOk result (writer.new.unflushed ≡ false) }
-    ensures err { IfErr result (λ fault. IsCutShort setup limit fault (used R.remaining reader.old reader.new) (used W.contents writer.old writer.new)) }
+    ensures err { IfErr result (λ fault. IsCutShort setup limit fault
+        (used R.remaining reader.old reader.new) (used W.contents writer.old writer.new)) }
     ensures never { IfErr result (λ fault. fault ≢ Clash) }
 {
     let (served, kept) = serve_and_keep(alloc, setup, limit, reader, writer);
@@ -65,7 +66,8 @@ pub fn serve_alone<R: BufRead, W: Write>(
     served
 }
 
-/// Serves one session as `serve_alone` does, and hands back what it kept; nothing where there was no memory for it to begin.
+/// Serves one session as `serve_alone` does, and hands back what it kept; nothing where there was no memory for it to
+/// begin.
 pub fn serve_and_keep<R: BufRead, W: Write>(
     alloc: Global,
     setup: Setup,
@@ -73,13 +75,13 @@ pub fn serve_and_keep<R: BufRead, W: Write>(
     reader: &mut Watched<R>,
     writer: &mut Watched<W>,
 ) -> (Result<(), SessionFault>, Option<Kept>)
-    requires some { 1 ≤ limit }
-    requires most { limit ≤ 100000 }
-    requires reader { reader.old.failed ≡ false }
-    requires writer { writer.old.failed ≡ false }
-    ensures ok { OnOk result.0 (IsServed setup limit (used R.remaining reader.old reader.new) (used W.contents writer.old writer.new)) }
+    requires limit { (1 ≤ limit) × (limit ≤ 100000) }
+    requires fine { (reader.old.failed ≡ false) × (writer.old.failed ≡ false) }
+    ensures ok { OnOk result.0 (IsServed setup limit
+        (used R.remaining reader.old reader.new) (used W.contents writer.old writer.new)) }
     ensures handed_on { OnOk result.0 (writer.new.unflushed ≡ false) }
-    ensures err { IfErr result.0 (λ fault. IsCutShort setup limit fault (used R.remaining reader.old reader.new) (used W.contents writer.old writer.new)) }
+    ensures err { IfErr result.0 (λ fault. IsCutShort setup limit fault
+        (used R.remaining reader.old reader.new) (used W.contents writer.old writer.new)) }
     ensures never { IfErr result.0 (λ fault. fault ≢ Clash) }
     ensures kept { OnOk result.0 (IsSome result.1) }
 {
@@ -91,9 +93,9 @@ pub fn serve_and_keep<R: BufRead, W: Write>(
     }
 }
 
-/// Serves one session in a hall that has a past, over its setup: all that had been admitted there has ended, and fewer than 1,000 sessions
-/// were opened. It is the next one after those, and has what room they have left. Its trail is kept before any of it is told: that it is open,
-/// and the replies to each block. Who keeps it has come as far as this hall.
+/// Serves one session in a hall that has a past, over its setup: all that had been admitted there has ended, and fewer
+/// than 1,000 sessions were opened. It is the next one after those, and has what room they have left. Its trail is kept
+/// before any of it is told: that it is open, and the replies to each block. Who keeps it has come as far as this hall.
 ///
 /// The results are as `serve_keeping` has them, by what has happened since.
 pub fn serve_after<K: Keep, R: BufRead, W: Write>(
@@ -104,23 +106,15 @@ pub fn serve_after<K: Keep, R: BufRead, W: Write>(
     reader: &mut Watched<R>,
     writer: &mut Watched<W>,
 ) -> (Result<(), Stop>, Kept)
-    requires setup { hall.setup ≡ setup }
-    requires ended { (n : ℕ) → n < length (state_now hall).order → IsTrue (has_ended (state_now hall) n) }
-    requires room { length (state_now hall).sessions < most_sessions }
+    requires hall { MayBegin setup hall }
     requires reached { K.reached keep.old hall }
-    requires reader { reader.old.failed ≡ false }
-    requires writer { writer.old.failed ≡ false }
-    ensures ok { OnOk result.0 (IsServedAfter hall
-        (used R.remaining reader.old reader.new) (used W.contents writer.old writer.new)) }
+    requires fine { (reader.old.failed ≡ false) × (writer.old.failed ≡ false) }
+    ensures ended { HasEndedAfter hall result.1.pages.hall result.0
+        (used R.remaining reader.old reader.new) (used W.contents writer.old writer.new) }
     ensures handed_on { OnOk result.0 (writer.new.unflushed ≡ false) }
-    ensures err { IfErr result.0 (λ stop. IsCutShortAfter hall (fault_of stop)
-        (used R.remaining reader.old reader.new) (used W.contents writer.old writer.new)) }
     ensures never { IfErr result.0 (MayStop K.may_fail) }
-    ensures own { OnOk result.0 (IsServedInAfter hall result.1.pages.hall
-        (used R.remaining reader.old reader.new) (used W.contents writer.old writer.new)) }
-    ensures told { (kept : Chronicle) × IsHeld (K.reached keep.new) (K.has_kept keep.new) result.0 kept
-        × IsFrontOf hall kept × IsFrontOf kept result.1.pages.hall
-        × IsToldAfter hall kept (used R.remaining reader.old reader.new) (used W.contents writer.old writer.new) }
+    ensures told { TellsKeptAfter hall result.1.pages.hall (IsHeld (K.reached keep.new) (K.has_kept keep.new) result.0)
+        (used R.remaining reader.old reader.new) (used W.contents writer.old writer.new) }
 {
     let (behind, mut pages) = begin(alloc, setup, hall);
     let served = converse_alone(&behind, &mut pages, keep, reader, writer);
@@ -141,23 +135,16 @@ pub fn serve_keeping<K: Keep, R: BufRead, W: Write>(
     reader: &mut Watched<R>,
     writer: &mut Watched<W>,
 ) -> (Result<(), Stop>, Option<Kept>)
-    requires some { 1 ≤ limit }
-    requires most { limit ≤ 100000 }
-    requires reached { K.reached keep.old (record { setup = setup; limit = limit; trail = [] }) }
-    requires reader { reader.old.failed ≡ false }
-    requires writer { writer.old.failed ≡ false }
-    ensures ok { OnOk result.0 (IsServed setup limit
-        (used R.remaining reader.old reader.new) (used W.contents writer.old writer.new)) }
+    requires limit { (1 ≤ limit) × (limit ≤ 100000) }
+    requires reached { K.reached keep.old (new_hall setup limit) }
+    requires fine { (reader.old.failed ≡ false) × (writer.old.failed ≡ false) }
+    ensures ended { HasEnded setup limit (hall_of result.1) result.0
+        (used R.remaining reader.old reader.new) (used W.contents writer.old writer.new) }
     ensures handed_on { OnOk result.0 (writer.new.unflushed ≡ false) }
-    ensures err { IfErr result.0 (λ stop. IsCutShort setup limit (fault_of stop)
-        (used R.remaining reader.old reader.new) (used W.contents writer.old writer.new)) }
     ensures never { IfErr result.0 (MayStop K.may_fail) }
     ensures kept { OnOk result.0 (IsSome result.1) }
-    ensures own { OnOk result.0 (IfSome result.1 (λ session. IsServedIn setup limit session.pages.hall
-        (used R.remaining reader.old reader.new) (used W.contents writer.old writer.new))) }
-    ensures told { (kept : Chronicle) × IsHeld (K.reached keep.new) (K.has_kept keep.new) result.0 kept
-        × IfSome result.1 (λ session. IsFrontOf kept session.pages.hall)
-        × IsToldOf setup limit kept (used R.remaining reader.old reader.new) (used W.contents writer.old writer.new) }
+    ensures told { TellsKept setup limit result.1 (IsHeld (K.reached keep.new) (K.has_kept keep.new) result.0)
+        (used R.remaining reader.old reader.new) (used W.contents writer.old writer.new) }
 {
     let Ok(hall) = hall_over(alloc, &setup, limit) else {
         drop(setup);

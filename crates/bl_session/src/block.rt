@@ -11,7 +11,8 @@ use bl_core::machine::Core;
 use bl_core::origin::Origin;
 use bl_hall::hall::Hall;
 
-/// The places of the entries of a block, in order of their labels. The replies to those before the position `next` have been taken.
+/// The places of the entries of a block, in order of their labels. The replies to those before the position `next` have
+/// been taken.
 #[derive(Drop)]
 pub struct Block {
     pub places: Vec<u32>,

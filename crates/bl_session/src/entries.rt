@@ -1,22 +1,23 @@
-//! The machine of one worker, over a hall. Lines enter the admission order without being run. When a block ends, the entries start
-//! and end by rising place, and the children of an entry enter at its end, behind all that entered before. An entry that finds no
-//! memory to start or to run is lost, and the others go on.
-ghost use Rattle.std.specs.Prelude.{◌≡◌, ◌<◌, ◌≤◌, ◌++◌, ◌∷◌, [], ℕ, List, count_by, length, IfOk, IsTrue};
+//! The machine of one worker, over a hall. Lines enter the admission order without being run. When a block ends, the
+//! entries start and end by rising place, and the children of an entry enter at its end, behind all that entered
+//! before. An entry that finds no memory to start or to run is lost, and the others go on.
+ghost use Rattle.std.specs.Prelude.{◌≡◌, ◌<◌, ◌≤◌, ◌∷◌, [], ℕ, count_by, length, IfOk, IsTrue};
 ghost use Rattle.bl_order.specs.Headline.{IsReached};
 ghost use Rattle.bl_order.specs.Labels.{tag};
-ghost use Rattle.bl_order.specs.Machine.{MayStart, has_ended, most_sessions, session_at, runs};
+ghost use Rattle.bl_order.specs.Machine.{MayStart, has_ended, runs};
 ghost use Rattle.bl_core.specs.Answers.{loan_at};
 ghost use Rattle.bl_hall.specs.Chronicle.{Chronicle, state_now};
 ghost use Rattle.bl_hall.specs.Told.{reply_in};
 ghost use Rattle.bl_work.specs.Readable.{IsReadable};
 ghost use Rattle.bl_wire.specs.Replies.{label_text, line_text, reply_text};
 ghost use Rattle.bl_wire.specs.Watch.{end_state, Puts};
-ghost use Rattle.bl_engine.specs.declared.request.Request.{Request};
 ghost use Rattle.bl_engine.specs.declared.request.Request.TheVariants.{Opens, Admits, Settles};
 ghost use Rattle.bl_session.specs.Blocks.{Gives};
 ghost use Rattle.bl_session.specs.Keeping.{IsFrontOf};
 ghost use Rattle.bl_session.specs.Openings.{is_opening};
-ghost use Rattle.bl_session.specs.Pages.{AreLater, Came, HasEnded, HasHad, HaveRun, IsOpen, RanUpTo, StillAnswers};
+ghost use Rattle.bl_session.specs.One.{new_hall};
+ghost use Rattle.bl_session.specs.Pages.{Came, HasEnded, HasHad, HaveRun, IsAtStart, IsOpen, IsSettled, MayBegin};
+ghost use Rattle.bl_session.specs.Pages.{GoesOnWith, RanUpTo, StillAnswers, last_of};
 
 use crate::block::Block;
 use bl_core::machine::{Core, Started};
@@ -59,7 +60,7 @@ pub struct Pages {
 pub(crate) fn hall_over(alloc: Global, setup: &Setup, limit: u32) -> Result<Hall, AllocError>
     requires some { 1 ≤ limit }
     requires most { limit ≤ 100000 }
-    ensures { IfOk result (λ hall. hall ≡ record { setup = setup.now; limit = limit; trail = [] }) }
+    ensures { IfOk result (λ hall. hall ≡ new_hall setup.now limit) }
 {
     Hall::new(alloc, setup.copy()?, limit)
 }
@@ -87,13 +88,10 @@ pub fn sessions_in(hall: &Hall) -> u32
 
 /// What a session begins with in a hall over this setup, in which all has ended.
 pub fn begin(alloc: Global, setup: Setup, hall: Hall) -> (Alone, Pages)
-    requires setup { hall.setup ≡ setup }
-    requires ended { (n : ℕ) → n < length (state_now hall).order → IsTrue (has_ended (state_now hall) n) }
-    requires room { length (state_now hall).sessions < most_sessions }
+    requires { MayBegin setup hall }
     ensures alone { result.0.setup ≡ setup }
     ensures hall { result.1.hall ≡ hall }
-    ensures came { Came result.0.setup result.1.hall result.1 [] }
-    ensures settled { AreLater result.1.next (state_now result.1.hall).order 0 }
+    ensures start { IsAtStart result.0.setup result.1 }
 {
     each_place_has_a_phase();
     let session = sessions_in(&hall);
@@ -163,7 +161,8 @@ fn run(alloc: Global, pages: &mut Pages)
 fn put_label<W: Write>(core: &Core, n: u32, writer: &mut Watched<W>)
     requires reached { IsReached core.now }
     requires there { n < length core.now.order }
-    ensures { Puts (label_text (tag core.now.order n).label) (end_state W.contents writer.old) (end_state W.contents writer.new) }
+    ensures { Puts (label_text (tag core.now.order n).label)
+        (end_state W.contents writer.old) (end_state W.contents writer.new) }
 {
     match core.origin(n) {
         Some(Origin::Child { parent, which }) => {
@@ -182,7 +181,8 @@ fn put_label<W: Write>(core: &Core, n: u32, writer: &mut Watched<W>)
 fn put_reply<W: Write>(hall: &Hall, setup: &Setup, n: u32, writer: &mut Watched<W>)
     requires ended { IsTrue (has_ended (state_now hall.now) n) }
     requires setup { setup.now ≡ (state_now hall.now).setup }
-    ensures { Puts (reply_text setup.now.names (reply_in (state_now hall.now) n)) (end_state W.contents writer.old) (end_state W.contents writer.new) }
+    ensures { Puts (reply_text setup.now.names (reply_in (state_now hall.now) n))
+        (end_state W.contents writer.old) (end_state W.contents writer.new) }
 {
     let core = hall.core();
     let Some(answer) = core.answer(n) else {
@@ -199,9 +199,10 @@ impl Alone {
         requires subject { subject < length self.now.setup.policy.subjects }
         requires came { (begun : Chronicle) × Came self.now.setup begun pages.old [] }
         ensures opened { IsOpen self.now.setup pages.new }
-        ensures came { (begun : Chronicle) → Came self.now.setup begun pages.old [] → Came self.now.setup begun pages.new (Opens subject ∷ []) }
-        ensures last { (session_at (state_now pages.new.hall) pages.new.session).last ≡ 0 }
-        ensures settled { (n : ℕ) → AreLater pages.new.next (state_now pages.new.hall).order n }
+        ensures came { (begun : Chronicle) → Came self.now.setup begun pages.old []
+            → Came self.now.setup begun pages.new (Opens subject ∷ []) }
+        ensures last { last_of pages.new ≡ 0 }
+        ensures settled { (n : ℕ) → IsSettled n pages.new }
         ensures front { IsFrontOf pages.old.hall pages.new.hall }
     {
         match pages.hall.open(subject) {
@@ -215,11 +216,11 @@ impl Alone {
     pub fn ask(&self, pages: &mut Pages, ordinal: u32, work: Work)
         requires readable { IsReadable self.now.setup.names work }
         requires opened { IsOpen self.now.setup pages.old }
-        requires last { (session_at (state_now pages.old.hall) pages.old.session).last < ordinal }
+        requires last { last_of pages.old < ordinal }
         ensures opened { IsOpen self.now.setup pages.new }
-        ensures came { (begun : Chronicle) (told : List Request) → Came self.now.setup begun pages.old told → Came self.now.setup begun pages.new (told ++ Admits ordinal work ∷ []) }
-        ensures last { (session_at (state_now pages.new.hall) pages.new.session).last ≤ ordinal }
-        ensures settled { (n : ℕ) → n < ordinal → AreLater pages.old.next (state_now pages.old.hall).order n → StillAnswers n pages.old pages.new }
+        ensures came { GoesOnWith self.now.setup pages.old pages.new (Admits ordinal work) }
+        ensures last { last_of pages.new ≤ ordinal }
+        ensures settled { (n : ℕ) → n < ordinal → IsSettled n pages.old → StillAnswers n pages.old pages.new }
         ensures front { IsFrontOf pages.old.hall pages.new.hall }
     {
         match pages
@@ -234,15 +235,16 @@ impl Alone {
         }
     }
 
-    /// Runs all that was admitted. The block has the replies to the lines above `after`; an error comes where it was refused memory.
+    /// Runs all that was admitted. The block has the replies to the lines above `after`; an error comes where it was
+    /// refused memory.
     pub fn settle(&self, pages: &mut Pages, after: u32) -> Result<Block, AllocError>
         requires opened { IsOpen self.now.setup pages.old }
-        requires settled { AreLater pages.old.next (state_now pages.old.hall).order after }
+        requires settled { IsSettled after pages.old }
         ensures opened { IsOpen self.now.setup pages.new }
-        ensures came { (begun : Chronicle) (told : List Request) → Came self.now.setup begun pages.old told → Came self.now.setup begun pages.new (told ++ Settles ∷ []) }
-        ensures last { (session_at (state_now pages.new.hall) pages.new.session).last ≡ (session_at (state_now pages.old.hall) pages.old.session).last }
-        ensures settled { (n : ℕ) → AreLater pages.old.next (state_now pages.old.hall).order n → StillAnswers n pages.old pages.new }
-        ensures done { (n : ℕ) → AreLater pages.new.next (state_now pages.new.hall).order n }
+        ensures came { GoesOnWith self.now.setup pages.old pages.new Settles }
+        ensures last { last_of pages.new ≡ last_of pages.old }
+        ensures settled { (n : ℕ) → IsSettled n pages.old → StillAnswers n pages.old pages.new }
+        ensures done { (n : ℕ) → IsSettled n pages.new }
         ensures block { IfOk result (λ block. Gives (state_now pages.new.hall) pages.new.session block after) }
         ensures front { IsFrontOf pages.old.hall pages.new.hall }
     {
@@ -266,7 +268,8 @@ impl Alone {
     )
         requires opened { IsOpen self.now.setup pages.now }
         requires gives { (n : ℕ) × (n < ordinal) × Gives (state_now pages.now.hall) pages.now.session block.old n }
-        ensures text { Puts (line_text (state_now pages.now.hall) pages.now.session ordinal) (end_state W.contents writer.old) (end_state W.contents writer.new) }
+        ensures text { Puts (line_text (state_now pages.now.hall) pages.now.session ordinal)
+            (end_state W.contents writer.old) (end_state W.contents writer.new) }
         ensures gives { Gives (state_now pages.now.hall) pages.now.session block.new ordinal }
     {
         replies_go_by_lines();

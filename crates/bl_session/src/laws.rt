@@ -15,9 +15,9 @@ ghost use Rattle.bl_wire.specs.declared.turn.Turn.{Turn};
 
 use bl_order::laws::{each_state_holds, headline, steps_lead_on, the_order_has_room};
 
-/// The events of one session and one worker are a trail, whatever becomes of its places, so that the headline holds at every moment of
-/// what `serve_alone` runs, and at its end every place has ended: of any turns that lines are, of those that were served, and of those that were heard
-/// before a fault.
+/// The events of one session and one worker are a trail, whatever becomes of its places, so that the headline holds at
+/// every moment of what `serve_alone` runs, and at its end every place has ended: of any turns that lines are, of those
+/// that were served, and of those that were heard before a fault.
 pub fn one_is_a_trail()
     ensures turns { (setup : Setup) (limit : ℕ) (fate : ℕ → Fate) (turns : List Turn) → Agree setup →
         All (StandsIn setup.names) turns → length turns < 2 ^ 32 → IsOneTrail setup limit fate turns }
@@ -32,8 +32,8 @@ pub fn one_is_a_trail()
     the_order_has_room();
 }
 
-/// What one worker writes is a transcript by its trail, in which it is session 0: of any turns, and of those that were served,
-/// whose transcript is what was written.
+/// What one worker writes is a transcript by its trail, in which it is session 0: of any turns, and of those that were
+/// served, whose transcript is what was written.
 pub fn what_is_written_is_a_transcript()
     ensures turns { (setup : Setup) (limit : ℕ) (fate : ℕ → Fate) (turns : List Turn) →
         IsTranscript setup limit (one setup limit fate turns) 0 turns (transcript setup limit fate turns) }

@@ -1,15 +1,12 @@
-//! The conversation of a session with one worker: it hears what the reader shows, what it asks is done by the hall, and what it tells
-//! is written. What was written is handed on before a read that may wait.
-ghost use Rattle.std.specs.Prelude.{◌≡◌, ◌≤◌, [], ℕ, false, Option, Some, List, OnOk, IfErr, Err};
+//! The conversation of a session with one worker: it hears what the reader shows, what it asks is done by the hall, and
+//! what it tells is written. What was written is handed on before a read that may wait.
+ghost use Rattle.std.specs.Prelude.{◌≡◌, ◌≤◌, false, OnOk, IfErr, Err};
 ghost use Rattle.bl_setup.specs.Agreement.{Agree};
-ghost use Rattle.bl_hall.specs.Chronicle.{Chronicle, state_now};
+ghost use Rattle.bl_wire.specs.Watch.{end_state, used};
 ghost use Rattle.bl_engine.specs.Conversations.{waits_left};
-ghost use Rattle.bl_engine.specs.declared.request.Request.TheVariants.{Settles};
-ghost use Rattle.bl_engine.specs.View.{ends};
 ghost use Rattle.bl_session.specs.Keeping.{IsHeld, MayStop};
-ghost use Rattle.bl_session.specs.Pages.{AreLater, Came};
-ghost use Rattle.bl_session.specs.Reaching.{FinishesKept, IsReachedTo, StopsKept};
-ghost use Rattle.bl_session.specs.Talks.{IsAsking, IsUnderWay};
+ghost use Rattle.bl_session.specs.Meeting.{AreFine, Asks, IsOver, IsStopped, Meets, StopsFrom, point_of, settling};
+ghost use Rattle.bl_session.specs.Pages.{IsAtStart};
 
 use crate::block::Block;
 use crate::entries::{Alone, Pages};
@@ -54,19 +51,13 @@ fn settle<K: Keep, W: Write>(
     keep: &mut K,
     writer: &mut Watched<W>,
 ) -> Result<(), Stop>
-    requires writer { writer.old.failed ≡ false }
-    requires asks { (start rest first : Option (List ℕ)) × (begun : Chronicle) × IsAsking behind.now.setup begun (ends start rest first (W.contents writer.old.inner)) conv.old (Some Settles) pages.old
-        × IsReachedTo (K.reached keep.old) begun conv.old.after pages.old }
-    ensures ok { OnOk result ((start rest first : Option (List ℕ)) (begun : Chronicle) → IsAsking behind.now.setup begun (ends start rest first (W.contents writer.old.inner)) conv.old (Some Settles) pages.old
-        → IsUnderWay behind.now.setup begun (ends start rest first (W.contents writer.new.inner)) conv.new pages.new) }
-    ensures fine { OnOk result (writer.new.failed ≡ false) }
+    requires asks { Asks behind.now (settling K.reached W.contents conv.old pages.old keep.old writer.old) }
+    ensures ok { OnOk result (Meets behind.now (settling K.reached W.contents conv.old pages.old keep.old writer.old)
+        conv.new pages.new (K.reached keep.new) (end_state W.contents writer.new)) }
     ensures nearer { OnOk result (waits_left conv.new ≤ waits_left conv.old) }
-    ensures reached { OnOk result ((begun : Chronicle) → IsReachedTo (K.reached keep.old) begun conv.old.after pages.old
-        → IsReachedTo (K.reached keep.new) begun conv.new.after pages.new) }
-    ensures err { IfErr result (λ stop. (start rest first : Option (List ℕ)) (begun : Chronicle) → IsAsking behind.now.setup begun (ends start rest first (W.contents writer.old.inner)) conv.old (Some Settles) pages.old
-        → IsReachedTo (K.reached keep.old) begun conv.old.after pages.old
-        → StopsKept (IsHeld (K.reached keep.new) (K.has_kept keep.new) (Err stop)) behind.now.setup begun
-        stop (ends start rest first (W.contents writer.new.inner)) false writer.new.failed pages.new) }
+    ensures err { IfErr result (λ stop. StopsFrom stop behind.now
+        (settling K.reached W.contents conv.old pages.old keep.old writer.old)
+        (IsHeld (K.reached keep.new) (K.has_kept keep.new) (Err stop)) pages.new (end_state W.contents writer.new)) }
     ensures never { IfErr result (MayStop K.may_fail) }
 {
     let after = conv.after();
@@ -91,21 +82,15 @@ fn meet<K: Keep, W: Write>(
     keep: &mut K,
     writer: &mut Watched<W>,
 ) -> Result<(), Stop>
-    requires writer { writer.old.failed ≡ false }
     requires agree { Agree behind.now.setup }
-    requires asks { (start rest first : Option (List ℕ)) × (begun : Chronicle) × IsAsking behind.now.setup begun (ends start rest first (W.contents writer.old.inner)) talk.old.conv talk.old.request pages.old
-        × IsReachedTo (K.reached keep.old) begun talk.old.conv.after pages.old }
-    ensures ok { OnOk result ((start rest first : Option (List ℕ)) (begun : Chronicle) → IsAsking behind.now.setup begun (ends start rest first (W.contents writer.old.inner)) talk.old.conv talk.old.request pages.old
-        → IsUnderWay behind.now.setup begun (ends start rest first (W.contents writer.new.inner)) talk.new.conv pages.new) }
-    ensures fine { OnOk result (writer.new.failed ≡ false) }
+    requires asks { Asks behind.now (point_of K.reached W.contents talk.old pages.old keep.old writer.old) }
+    ensures ok { OnOk result (Meets behind.now (point_of K.reached W.contents talk.old pages.old keep.old writer.old)
+        talk.new.conv pages.new (K.reached keep.new) (end_state W.contents writer.new)) }
     ensures names { talk.new.names ≡ talk.old.names }
     ensures nearer { OnOk result (waits_left talk.new.conv ≤ waits_left talk.old.conv) }
-    ensures reached { OnOk result ((begun : Chronicle) → IsReachedTo (K.reached keep.old) begun talk.old.conv.after pages.old
-        → IsReachedTo (K.reached keep.new) begun talk.new.conv.after pages.new) }
-    ensures err { IfErr result (λ stop. (start rest first : Option (List ℕ)) (begun : Chronicle) → IsAsking behind.now.setup begun (ends start rest first (W.contents writer.old.inner)) talk.old.conv talk.old.request pages.old
-        → IsReachedTo (K.reached keep.old) begun talk.old.conv.after pages.old
-        → StopsKept (IsHeld (K.reached keep.new) (K.has_kept keep.new) (Err stop)) behind.now.setup begun
-        stop (ends start rest first (W.contents writer.new.inner)) false writer.new.failed pages.new) }
+    ensures err { IfErr result (λ stop. StopsFrom stop behind.now
+        (point_of K.reached W.contents talk.old pages.old keep.old writer.old)
+        (IsHeld (K.reached keep.new) (K.has_kept keep.new) (Err stop)) pages.new (end_state W.contents writer.new)) }
     ensures never { IfErr result (MayStop K.may_fail) }
 {
     let Some(request) = talk.request.take() else {
@@ -136,17 +121,14 @@ pub fn converse_alone<K: Keep, R: BufRead, W: Write>(
     writer: &mut Watched<W>,
 ) -> Result<(), Stop>
     requires fine { (reader.old.failed ≡ false) × (writer.old.failed ≡ false) }
-    requires came { Came behind.now.setup pages.old.hall pages.old [] }
-    requires settled { AreLater pages.old.next (state_now pages.old.hall).order 0 }
+    requires start { IsAtStart behind.now.setup pages.old }
     requires reached { K.reached keep.old pages.old.hall }
-    ensures ok { OnOk result (FinishesKept (K.reached keep.new) behind.now.setup pages.old.hall
-        (ends (R.remaining reader.old.inner) (R.remaining reader.new.inner)
-        (W.contents writer.old.inner) (W.contents writer.new.inner)) pages.new) }
-    ensures fine { OnOk result ((reader.new.failed ≡ false) × (writer.new.failed ≡ false) × (writer.new.unflushed ≡ false)) }
-    ensures err { IfErr result (λ stop. StopsKept (IsHeld (K.reached keep.new) (K.has_kept keep.new) (Err stop))
-        behind.now.setup pages.old.hall stop
-        (ends (R.remaining reader.old.inner) (R.remaining reader.new.inner)
-        (W.contents writer.old.inner) (W.contents writer.new.inner)) reader.new.failed writer.new.failed pages.new) }
+    ensures ok { OnOk result (IsOver (K.reached keep.new) behind.now.setup pages.old.hall pages.new
+        (used R.remaining reader.old reader.new) (used W.contents writer.old writer.new)) }
+    ensures fine { OnOk result (AreFine reader.new writer.new) }
+    ensures err { IfErr result (λ stop. IsStopped (IsHeld (K.reached keep.new) (K.has_kept keep.new) (Err stop))
+        behind.now.setup pages.old.hall stop pages.new
+        (used R.remaining reader.old reader.new) (used W.contents writer.old writer.new)) }
     ensures never { IfErr result (MayStop K.may_fail) }
 {
     let names = behind.setup.names();

@@ -34,7 +34,7 @@ returns-in_err-new-clause-err g c =
       at = s;
       began = front_self s.hall;
       stopped = broken_before setup.names start first (line_text (state_now s.hall) s.session) (λ n. StandsBy s.hall s n) (λ told. CameBy setup begun s.hall s told)
-          c.args.reader.now.failed c.args.writer.now.failed (c.requires.settled, λ k le. refl) (c.requires.came, inl refl) c.requires.fine.0 c.requires.fine.1;
+          c.args.reader.now.failed c.args.writer.now.failed (c.requires.start.settled, λ k le. refl) (c.requires.start.came, inl refl) c.requires.fine.0 c.requires.fine.1;
     })
 
 pub waits-init : goal.waits-init
@@ -44,7 +44,7 @@ waits-init g c =
     record {
       fine = c.requires.fine;
       names = c.names-names.ensures.value;
-      under = begins_talk c.args.behind.now.setup c.args.pages.now.hall start first c.in_ok-new.field-0 c.args.pages.now c.requires.came c.in_ok-new.ensures.need c.in_ok-new.ensures.spoke;
+      under = begins_talk c.args.behind.now.setup c.args.pages.now.hall start first c.in_ok-new.field-0 c.args.pages.now c.requires.start.came c.in_ok-new.ensures.need c.in_ok-new.ensures.spoke;
       reached = reached_now (g.K.Keep.reached c.args.keep.now) c.args.pages.now.hall c.args.pages.now c.in_ok-new.field-0.after c.requires.reached (front_self c.args.pages.now.hall);
     }
 
@@ -95,7 +95,7 @@ meet-requires-clause-asks g c =
     let need = sym c.need.ensures ∙ c.in-Input.is in
     let a = has_heard setup begun start r first w conv s u c.waits.talk.names.now r' w' c.listen.new.listener.conv c.listen.new.listener.request c.waits.invariant.names need c.in_ok-listen-in-Input.ensures.ok c.listen.ensures.written in
     let back = reached_to (g.K.Keep.reached c.waits.keep) begun c.waits.pages c.waits.talk.conv.after c.listen.new.listener.conv.after (omega (arith, c.in_ok-listen-in-Input.ensures.ok.block.after)) c.waits.invariant.reached in
-    (start, r', first, begun, a, back)
+    record { fine = c.in_ok-listen-in-Input.ensures.fine.1; start = start; rest = r'; first = first; begun = begun; asking = a; reached = back }
 
 pub waits-preserved-in_ok-meet-in-Input : goal.waits-preserved-in_ok-meet-in-Input
 waits-preserved-in_ok-meet-in-Input g c =
@@ -113,10 +113,10 @@ waits-preserved-in_ok-meet-in-Input g c =
     let need = sym c.need.ensures ∙ c.in-Input.is in
     let a = has_heard setup begun start r first w conv s u c.waits.talk.names.now r' w' c.listen.new.listener.conv c.listen.new.listener.request c.waits.invariant.names need c.in_ok-listen-in-Input.ensures.ok c.listen.ensures.written in
     record {
-      fine = (c.in_ok-listen-in-Input.ensures.fine.0, c.in_ok-meet-in-Input.ensures.fine);
+      fine = (c.in_ok-listen-in-Input.ensures.fine.0, c.in_ok-meet-in-Input.ensures.ok.fine);
       names = ap (λ b. b.now) c.in_ok-meet-in-Input.ensures.names ∙ ap (λ b. b.now) c.in_ok-listen-in-Input.ensures.names ∙ c.waits.invariant.names;
-      under = c.in_ok-meet-in-Input.ensures.ok start r' first begun a;
-      reached = c.in_ok-meet-in-Input.ensures.reached begun (reached_to (g.K.Keep.reached c.waits.keep) begun c.waits.pages c.waits.talk.conv.after c.listen.new.listener.conv.after (omega (arith, c.in_ok-listen-in-Input.ensures.ok.block.after)) c.waits.invariant.reached);
+      under = c.in_ok-meet-in-Input.ensures.ok.on start r' first begun a;
+      reached = c.in_ok-meet-in-Input.ensures.ok.reached begun (reached_to (g.K.Keep.reached c.waits.keep) begun c.waits.pages c.waits.talk.conv.after c.listen.new.listener.conv.after (omega (arith, c.in_ok-listen-in-Input.ensures.ok.block.after)) c.waits.invariant.reached);
     }
 
 pub returns-in_err-meet-in-Input-clause-err : goal.returns-in_err-meet-in-Input-clause-err
@@ -181,7 +181,7 @@ meet-requires-in-End-clause-asks g c =
     let need = sym c.need.ensures ∙ c.in-End.is in
     let a = has_heard_end setup begun start r first w conv s u c.names-names.result.now c.end.new.self c.in_ok-talk-in-End.field-0 c.names-names.ensures.value need c.in_ok-talk-in-End.ensures.ok c.in_ok-talk-in-End.ensures.block in
     let back = reached_to (g.K.Keep.reached c.waits.keep) begun c.waits.pages c.waits.talk.conv.after c.end.new.self.after (omega (arith, c.in_ok-talk-in-End.ensures.block.after)) c.waits.invariant.reached in
-    (start, r, first, begun, a, back)
+    record { fine = c.waits.invariant.fine.1; start = start; rest = r; first = first; begun = begun; asking = a; reached = back }
 
 pub waits-preserved-in_ok-meet-in-End : goal.waits-preserved-in_ok-meet-in-End
 waits-preserved-in_ok-meet-in-End g c =
@@ -197,10 +197,10 @@ waits-preserved-in_ok-meet-in-End g c =
     let need = sym c.need.ensures ∙ c.in-End.is in
     let a = has_heard_end setup begun start r first w conv s u c.names-names.result.now c.end.new.self c.in_ok-talk-in-End.field-0 c.names-names.ensures.value need c.in_ok-talk-in-End.ensures.ok c.in_ok-talk-in-End.ensures.block in
     record {
-      fine = (c.waits.invariant.fine.0, c.in_ok-meet-in-End.ensures.fine);
+      fine = (c.waits.invariant.fine.0, c.in_ok-meet-in-End.ensures.ok.fine);
       names = ap (λ b. b.now) c.in_ok-meet-in-End.ensures.names ∙ c.waits.invariant.names;
-      under = c.in_ok-meet-in-End.ensures.ok start r first begun a;
-      reached = c.in_ok-meet-in-End.ensures.reached begun (reached_to (g.K.Keep.reached c.waits.keep) begun c.waits.pages c.waits.talk.conv.after c.end.new.self.after (omega (arith, c.in_ok-talk-in-End.ensures.block.after)) c.waits.invariant.reached);
+      under = c.in_ok-meet-in-End.ensures.ok.on start r first begun a;
+      reached = c.in_ok-meet-in-End.ensures.ok.reached begun (reached_to (g.K.Keep.reached c.waits.keep) begun c.waits.pages c.waits.talk.conv.after c.end.new.self.after (omega (arith, c.in_ok-talk-in-End.ensures.block.after)) c.waits.invariant.reached);
     }
 
 pub returns-in_err-meet-in-End-clause-err : goal.returns-in_err-meet-in-End-clause-err

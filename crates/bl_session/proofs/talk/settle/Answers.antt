@@ -18,7 +18,10 @@ use Rattle.bl_session.proofs.TalkLaws.{has_settled, all_left, may_later, passes_
 use Rattle.bl_session.proofs.talk.settle.Goals as goal
 
 pub settle-requires-clause-opened : goal.settle-requires-clause-opened
-settle-requires-clause-opened g c = settling_open c.args.behind.now.setup c.requires.asks.3 _ c.args.conv.now c.args.pages.now c.requires.asks.4
+settle-requires-clause-opened g c = settling_open c.args.behind.now.setup c.requires.asks.begun _ c.args.conv.now c.args.pages.now c.requires.asks.asking
+
+pub tell_all-requires-clause-writer : goal.tell_all-requires-clause-writer
+tell_all-requires-clause-writer g c = c.requires.asks.fine
 
 pub returns-in_err-block-clause-err : goal.returns-in_err-block-clause-err
 returns-in_err-block-clause-err g c =
@@ -41,12 +44,12 @@ returns-in_err-block-clause-err g c =
           (λ n. StandsBy k.kept t n) (λ told. CameBy setup begun k.kept t told) conv.after (c.settle.ensures.done conv.after, k.same)
           (λ later same. (refl, λ k low high. same k high ∙ still.same k high))
           Memory false c.args.writer.now.failed conv a.so_far a.on (inr (c.settle.ensures.came begun a.so_far.asked a.done.came, inr (k.opened c.settle.ensures.opened.there))) refl refl
-          (λ n. (refl, c.requires.writer));
+          (λ n. (refl, c.requires.asks.fine));
     })
 
 pub reach-requires : goal.reach-requires
 reach-requires g c =
-    let k = c.requires.asks.5 in
+    let k = c.requires.asks.reached in
     (k.kept, k.reached, front_on k.kept c.args.pages.now.hall c.settle.new.pages.hall k.front c.settle.ensures.front)
 
 pub returns-in_err-reach-clause-err : goal.returns-in_err-reach-clause-err
@@ -70,7 +73,7 @@ returns-in_err-reach-clause-err g c =
       stopped = stopped_unreached (λ fault. Stopped fault setup.names (ends start rest first w) false c.args.writer.now.failed (seen_by setup begun k.kept s)) why
           (broken_asked setup.names start rest first w (MayGive s conv.after) (line_text (state_now s.hall) s.session) (λ n. StandsBy k.kept s n) (λ told. CameBy setup begun k.kept s told)
           conv.after (a.done.settled, k.same) (may_later s conv.after) Memory false c.args.writer.now.failed conv (Some Settles) a.so_far a.on
-          (came_by (reached c.args.keep.now) begun setup conv.after (last_ordinal a.on.old) conv.after s a.so_far.asked k a.done) refl refl (refl, c.requires.writer));
+          (came_by (reached c.args.keep.now) begun setup conv.after (last_ordinal a.on.old) conv.after s a.so_far.asked k a.done) refl refl (refl, c.requires.asks.fine));
     })
 
 pub returns-in_err-reach-clause-never : goal.returns-in_err-reach-clause-never
@@ -79,18 +82,22 @@ returns-in_err-reach-clause-never g c =
     passes_on c.from_residual-in_err-reach.result (stop_of why) _ c.from_residual-in_err-reach.ensures.1 (may_stop_unreached g.K.Keep.may_fail why c.in_err-reach.ensures.never)
 
 pub returns-clause-ok : goal.returns-clause-ok
-returns-clause-ok g c start rest first begun a =
+returns-clause-ok g c =
     let setup = c.args.behind.now.setup in
     let conv = c.args.conv.now in
-    has_settled setup begun start rest first (g.W.Write.contents c.args.writer.now.inner) conv c.answered.new.self c.args.pages.now c.settle.new.pages a
-    c.settle.ensures.settled c.answered.ensures.block c.answered.ensures.answered (left_above (state_now c.settle.new.pages.hall) c.settle.new.pages.session c.after-after.result)
-    (λ k lt. all_left (state_now c.settle.new.pages.hall) c.settle.new.pages.session c.after-after.result k (omega (arith, c.after-after.ensures, lt)))
-    _ c.tell_all.new.conv (g.W.Write.contents c.tell_all.new.writer.inner) c.in_ok-tell_all.ensures.ok c.settle.ensures.opened (c.settle.ensures.came begun) c.settle.ensures.last c.settle.ensures.done
-
-pub returns-clause-reached : goal.returns-clause-reached
-returns-clause-reached g c begun k =
-    reached_now (g.K.Keep.reached c.reach.new.self) begun c.settle.new.pages c.tell_all.new.conv.after c.in_ok-reach.ensures.reached
-    (front_on begun c.args.pages.now.hall c.settle.new.pages.hall (since_hall (g.K.Keep.reached c.args.keep.now) begun c.args.pages.now c.args.conv.now.after k) c.settle.ensures.front)
+    let s = c.args.pages.now in
+    let t = c.settle.new.pages in
+    record {
+      fine = c.in_ok-tell_all.ensures.fine;
+      on = λ start rest first begun a.
+          has_settled setup begun start rest first (g.W.Write.contents c.args.writer.now.inner) conv c.answered.new.self s t a
+          c.settle.ensures.settled c.answered.ensures.block c.answered.ensures.answered (left_above (state_now t.hall) t.session c.after-after.result)
+          (λ k lt. all_left (state_now t.hall) t.session c.after-after.result k (omega (arith, c.after-after.ensures, lt)))
+          _ c.tell_all.new.conv (g.W.Write.contents c.tell_all.new.writer.inner) c.in_ok-tell_all.ensures.ok c.settle.ensures.opened (c.settle.ensures.came begun) c.settle.ensures.last c.settle.ensures.done;
+      reached = λ begun k.
+          reached_now (g.K.Keep.reached c.reach.new.self) begun t c.tell_all.new.conv.after c.in_ok-reach.ensures.reached
+          (front_on begun s.hall t.hall (since_hall (g.K.Keep.reached c.args.keep.now) begun s conv.after k) c.settle.ensures.front);
+    }
 
 pub returns-in_err-tell_all-clause-err : goal.returns-in_err-tell_all-clause-err
 returns-in_err-tell_all-clause-err g c =

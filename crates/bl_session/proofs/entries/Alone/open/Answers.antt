@@ -1,4 +1,4 @@
-use Rattle.std.proofs.Common.{◌≡◌, ap, subst, ◌∙◌, arith, length, length-append, refl, [], ◌∷◌, append-nil, sym}
+use Rattle.std.proofs.Common.{◌≡◌, ap, subst, ◌∙◌, arith, length, length-append, refl, [], ◌∷◌, sym}
 use Rattle.bl_setup.specs.Setup.{Setup}
 use Rattle.bl_order.specs.Machine.{Session, State, Opens, change, session_at, start}
 use Rattle.bl_core.specs.Answers.{IsNotOpened}
