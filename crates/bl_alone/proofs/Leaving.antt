@@ -1,19 +1,13 @@
 -- What is left of a trail.
-use Rattle.std.proofs.Common.{◌≡◌, ◌++◌, ◌∙◌, refl, sym, ap, subst, append_assoc, true≢false, Option, Some, None}
-use Rattle.std.specs.Prelude.{IfSome, IsSome, OnOk, IfErr, Result, Ok, Err}
+use Rattle.std.proofs.Common.{◌≡◌, ◌++◌, ◌∙◌, sym, ap, subst, append_assoc, Option, Some, None}
 use Rattle.bl_audit.specs.Bookmarks.{HasGrown}
 use Rattle.bl_disk.specs.File.{File}
 use Rattle.bl_hall.specs.Chronicle.{Chronicle}
 use Rattle.bl_journal.specs.Journals.{IsRecovered}
 use Rattle.bl_session.proofs.KeepLaws.{front_on}
-use Rattle.bl_session.specs.Keeping.{IsFrontOf, fault_of}
-use Rattle.bl_session.specs.Outcome.{IsCutShort, IsServedIn}
-use Rattle.bl_session.specs.declared.alone.Kept.{Kept}
-use Rattle.bl_session.specs.declared.keep.Stop.{Stop}
+use Rattle.bl_session.specs.Keeping.{IsFrontOf}
 use Rattle.bl_setup.specs.Setup.{Setup}
-use Rattle.bl_wire.specs.Watch.{Use}
-use Rattle.bl_alone.specs.Recording.{IsLeft, IsSafe, hall_of}
-use Rattle.bl_alone.specs.Sessions.{HasEnded}
+use Rattle.bl_alone.specs.Recording.{IsLeft, IsSafe}
 use Rattle.bl_alone.specs.declared.fault.AloneFault.{AloneFault}
 
 -- the hall has grown from each front of it
@@ -50,11 +44,3 @@ left_front kept hall (Some fault) file is left = (left.0, safe_front kept hall f
 pub left_none : (kept : Chronicle) (fault : Option AloneFault) (file : File) → IsLeft kept (Some kept) fault file → IsLeft kept None fault file
 left_none kept None file left = (left.0, left.1, tt, left.3)
 left_none kept (Some fault) file left = left
-
--- how a session ended
-pub ended_as : (setup : Setup) (limit : _) (input output : Use) (served : Result (Unit {0}) Stop) (session : Option Kept) → OnOk served (IsSome session)
-    → OnOk served (IfSome session (λ one. IsServedIn setup limit one.pages.hall input output)) → IfErr served (λ stop. IsCutShort setup limit (fault_of stop) input output)
-    → HasEnded setup limit (hall_of session) served input output
-ended_as setup limit input output (Ok done) (Some one) some own cut = (one.pages.hall, refl, own)
-ended_as setup limit input output (Ok done) None some own cut = absurd (true≢false (sym some))
-ended_as setup limit input output (Err stop) session some own cut = cut

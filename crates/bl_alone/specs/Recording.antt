@@ -1,6 +1,5 @@
 -- What a journal has kept of a session, and what is left of it.
 use Rattle.std.specs.Prelude.{◌≡◌, ◌⊎◌, ℕ, Bool, false, [], ◌++◌, codes, length, Option, Some, None, IfSome}
-use Rattle.std.specs.Option.{option_map}
 use Rattle.bl_disk.specs.File.{File, all_kept, seen}
 use Rattle.bl_hall.specs.Chronicle.{Chronicle}
 use Rattle.bl_journal.specs.Journals.{journal_text}
@@ -9,7 +8,6 @@ use Rattle.bl_record.specs.Kept.{IsKept, LosesNothing}
 use Rattle.bl_record.specs.declared.journal.Journal.{Journal}
 use Rattle.bl_status.specs.declared.fault.ProgramFault.TheVariants.{NoMemory}
 use Rattle.bl_session.specs.Keeping.{IsFrontOf}
-use Rattle.bl_session.specs.declared.alone.Kept.{Kept}
 use Rattle.bl_setup.specs.Setup.{Setup}
 use Rattle.bl_trail.specs.TrueText.{IsTrueText}
 use Rattle.bl_alone.specs.declared.fault.AloneFault.{AloneFault}
@@ -33,10 +31,6 @@ IsSafe hall file = LosesNothing hall.setup (journal_of hall) file
 pub record IsWhole (hall : Chronicle) (file : File) : Type 0 where
   pub there : file ≡ all_kept (journal_text hall.setup (journal_of hall) ++ codes "stop\n")
   pub true_text : IsTrueText hall.setup (seen file) (length hall.trail)
-
--- the hall that a session kept
-abbrev pub hall_of : Option Kept → Option Chronicle
-hall_of session = option_map (λ (one : Kept). one.pages.hall) session
 
 -- the file took no more, or a growth was refused
 abbrev pub IsOfTrail : AloneFault → Type 0

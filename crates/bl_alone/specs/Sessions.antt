@@ -1,5 +1,5 @@
 -- How a run of the command `alone` ends whose trail is kept as it goes.
-use Rattle.std.specs.Prelude.{◌≡◌, ◌⊎◌, ◌↔◌, ℕ, Bool, true, false, List, ◌++◌, Option, Some, None, Result, Ok, Err}
+use Rattle.std.specs.Prelude.{◌≡◌, ◌⊎◌, ◌↔◌, ℕ, Bool, true, false, List, ◌++◌, Option, Some, None, Result, Err}
 use Rattle.std.specs.Io.KnownBytes.{Appends, Keeps}
 use Rattle.std.specs.Option.{option_to_list}
 use Rattle.bl_disk.specs.File.{File}
@@ -8,8 +8,8 @@ use Rattle.bl_status.specs.Failure.{IsNotBegun}
 use Rattle.bl_status.specs.Runs.{HasTold, Run}
 use Rattle.bl_status.specs.Unkept.{IsUnkept}
 use Rattle.bl_status.specs.declared.fault.ProgramFault.{ProgramFault}
-use Rattle.bl_session.specs.Keeping.{IsToldOf, fault_of}
-use Rattle.bl_session.specs.Outcome.{IsCutShort, IsServedIn}
+use Rattle.bl_session.specs.Ended.{HasEnded}
+use Rattle.bl_session.specs.Keeping.{IsToldOf}
 use Rattle.bl_session.specs.declared.keep.Stop.{Stop}
 use Rattle.bl_session.specs.declared.keep.Stop.TheVariants.{NotKept}
 use Rattle.bl_setup.specs.Grammar.{IsSetup}
@@ -19,12 +19,6 @@ use Rattle.bl_alone.specs.Recording.{IsLeft}
 use Rattle.bl_alone.specs.Telling.{IsOfSessionEnd, status_of_all, text_of_all}
 use Rattle.bl_alone.specs.declared.fault.AloneFault.{AloneFault}
 use Rattle.bl_alone.specs.declared.fault.AloneFault.TheVariants.{CutShort}
-
--- the session was served, and the hall has its trail; or it was cut short
-abbrev pub HasEnded : setups.Setup → ℕ → Option Chronicle → Result (Unit {0}) Stop → Use → Use → Type 0
-HasEnded setup limit session (Ok done) input output = (hall : Chronicle) × (session ≡ Some hall) × IsServedIn setup
-    limit hall input output
-HasEnded setup limit session (Err stop) input output = IsCutShort setup limit (fault_of stop) input output
 
 -- A session of the setup that the text is has ended, and all that is written was told of a trail that the file has:
 -- whole, or so that a crash loses none of it. The fault of the session is told, and then that of the trail; where the

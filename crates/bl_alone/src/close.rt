@@ -1,12 +1,13 @@
 //! Closes a journal after its session.
 ghost use Rattle.std.specs.Prelude.{◌≡◌, Err, IfSome, Some};
 ghost use Rattle.bl_hall.specs.Chronicle.{Chronicle};
+ghost use Rattle.bl_session.specs.Ended.{hall_of};
 ghost use Rattle.bl_session.specs.Keeping.{IsFrontOf, IsHeld};
 ghost use Rattle.bl_session.specs.declared.keep.Stop.TheVariants.{NotKept};
 ghost use Rattle.bl_setup.specs.Agreement.{Agree};
 ghost use Rattle.bl_work.specs.Names.{AreNames};
 ghost use Rattle.bl_alone.specs.Files.{fault_in, file_after, file_in};
-ghost use Rattle.bl_alone.specs.Recording.{HasRecorded, IsLeft, IsSafe, hall_of};
+ghost use Rattle.bl_alone.specs.Recording.{HasRecorded, IsLeft, IsSafe};
 ghost use Rattle.bl_alone.specs.declared.fault.AloneFault.TheVariants.{CutShort};
 
 use crate::fault::AloneFault;

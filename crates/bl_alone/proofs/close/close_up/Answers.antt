@@ -1,12 +1,13 @@
 use Rattle.std.proofs.Common.{◌∙◌, inl, inr, refl, sym, subst, Option, Some}
 use Rattle.std.specs.Prelude.{IfSome}
+use Rattle.bl_session.specs.Ended.{hall_of}
 use Rattle.bl_session.specs.Keeping.{IsFrontOf}
 use Rattle.bl_session.specs.declared.alone.Kept.{Kept}
 use Rattle.bl_setup.specs.Agreement.{Agree}
 use Rattle.bl_setup.specs.Setup.{Setup}
 use Rattle.bl_work.specs.Names.{AreNames}
 use Rattle.bl_alone.specs.Files.{fault_in, file_after, file_in}
-use Rattle.bl_alone.specs.Recording.{IsLeft, IsSafe, hall_of}
+use Rattle.bl_alone.specs.Recording.{IsLeft, IsSafe}
 use Rattle.bl_alone.proofs.Leaving.{left_front, left_none, setup_of}
 use Rattle.bl_alone.proofs.close.close_up.Goals as goal
 

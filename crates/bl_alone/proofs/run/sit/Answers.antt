@@ -4,8 +4,8 @@ use Rattle.bl_setup.specs.Setup.{Setup}
 use Rattle.bl_wire.proofs.PutLaws.{puts-all}
 use Rattle.bl_work.specs.Names.{AreNames}
 use Rattle.bl_alone.specs.Files.{fault_in, file_in}
-use Rattle.bl_alone.specs.Recording.{IsLeft, hall_of}
-use Rattle.bl_alone.proofs.Leaving.{ended_as}
+use Rattle.bl_alone.specs.Recording.{IsLeft}
+use Rattle.bl_session.specs.Ended.{hall_of}
 use Rattle.bl_alone.proofs.run.sit.Goals as goal
 
 -- how the session ended, what is left of its trail, and what was told of both
@@ -22,13 +22,13 @@ returns-clause-run g c text is =
       is = is;
       served = served.result.0;
       session = session;
-      ended = ended_as setup c.args.run.now.limit _ _ served.result.0 served.result.1 served.ensures.kept served.ensures.own served.ensures.err;
-      kept = kept.0;
-      told = kept.3;
+      ended = served.ensures.ended;
+      kept = kept.kept;
+      told = kept.told;
       trail = fault_in left;
-      left = subst (λ file. IsLeft kept.0 session (fault_in left) (file_in g.D.Device.now file)) (sym c.tell_recorded.ensures.file)
-          (c.close_after-left.ensures.left kept.0 kept.1 kept.2 (subst Agree (sym kept.3.setup_is) c.names.ensures.agree)
-          (subst (λ (s : Setup). AreNames s.names) (sym kept.3.setup_is) (subst AreNames c.names.ensures.value c.scheme-scheme.ensures.names)));
+      left = subst (λ file. IsLeft kept.kept session (fault_in left) (file_in g.D.Device.now file)) (sym c.tell_recorded.ensures.file)
+          (c.close_after-left.ensures.left kept.kept kept.held kept.front (subst Agree (sym kept.told.setup_is) c.names.ensures.agree)
+          (subst (λ (s : Setup). AreNames s.names) (sym kept.told.setup_is) (subst AreNames c.names.ensures.value c.scheme-scheme.ensures.names)));
       cut = c.close_after-left.ensures.cut;
       whole = c.tell_recorded.ensures.whole;
       stopped = told.0;
