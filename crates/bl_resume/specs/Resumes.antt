@@ -1,5 +1,6 @@
 -- How a run of the command `alone` ends that goes on from one that was cut off.
-use Rattle.std.specs.Prelude.{◌≡◌, ◌⊎◌, ◌↔◌, ◌≤◌, ℕ, Bool, true, false, List, ◌++◌, length, Option, Some, None, Result, Ok, Err}
+use Rattle.std.specs.Prelude.{◌≡◌, ◌⊎◌, ◌↔◌, ◌≤◌, ℕ, Bool, true, false, List, ◌++◌, length}
+use Rattle.std.specs.Prelude.{Option, Some, None, Result, Err}
 use Rattle.std.specs.Io.KnownBytes.{Appends, Keeps}
 use Rattle.std.specs.Option.{option_to_list}
 use Rattle.bl_alone.specs.Recording.{IsLeft}
@@ -17,22 +18,18 @@ use Rattle.bl_recover.specs.declared.fault.RecoveryFault.TheVariants.{NoMoreSess
 use Rattle.bl_status.specs.Failure.{IsNotBegun}
 use Rattle.bl_status.specs.Runs.{Run}
 use Rattle.bl_status.specs.declared.fault.ProgramFault.{ProgramFault}
-use Rattle.bl_session.specs.Keeping.{IsFrontOf, IsToldAfter, fault_of}
-use Rattle.bl_session.specs.Outcome.{IsCutShortAfter, IsServedInAfter}
+use Rattle.bl_session.specs.Ended.{HasEndedAfter}
+use Rattle.bl_session.specs.Keeping.{IsFrontOf, IsToldAfter}
 use Rattle.bl_session.specs.declared.keep.Stop.{Stop}
 use Rattle.bl_session.specs.declared.keep.Stop.TheVariants.{NotKept}
 use Rattle.bl_setup.specs.Grammar.{IsSetup}
 use Rattle.bl_setup.specs.Setup.{Setup}
 use Rattle.bl_wire.specs.Watch.{Use}
 
--- the session was served after all that had happened, and the hall has gone on by its trail; or it was cut short
-abbrev pub HasEndedAfter : Chronicle → Chronicle → Result (Unit {0}) Stop → Use → Use → Type 0
-HasEndedAfter begun hall (Ok done) input output = IsServedInAfter begun hall input output
-HasEndedAfter begun hall (Err stop) input output = IsCutShortAfter begun (fault_of stop) input output
-
--- A session has ended that began in this hall. All that is written was told of a trail that goes on from the hall's and that the file has:
--- whole, or so that a crash loses none of it. So many bytes were cut off before, which is told; then the fault of the session, and that of
--- the trail. Where the trail was not kept while the session was served, it is cut short.
+-- A session has ended that began in this hall. All that is written was told of a trail that goes on from the hall's and
+-- that the file has: whole, or so that a crash loses none of it. So many bytes were cut off before, which is told; then
+-- the fault of the session, and that of the trail. Where the trail was not kept while the session was served, it is cut
+-- short.
 pub record HasSatAfter (begun : Chronicle) (cut : ℕ) (is_whole : Bool) (file : File) (run : Run) : Type 0 where
   pub served : Result (Unit {0}) Stop
   pub hall : Chronicle
@@ -88,4 +85,5 @@ pub record HasNotResumed (setup text : List ℕ) (is_whole : Bool) (run : Run) :
   pub said : run.errors.failed ≡ false → Appends run.errors.before run.errors.after (fault_text fault)
 
 abbrev pub IsResuming : List ℕ → List ℕ → Bool → File → Run → Type 0
-IsResuming setup text is_whole file run = HasResumed setup text is_whole file run ⊎ HasNotResumed setup text is_whole run
+IsResuming setup text is_whole file run =
+    HasResumed setup text is_whole file run ⊎ HasNotResumed setup text is_whole run

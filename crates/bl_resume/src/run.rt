@@ -4,9 +4,10 @@ ghost use Rattle.bl_alone.specs.Files.{file_in, is_whole};
 ghost use Rattle.bl_alone.specs.Recording.{HasRecorded};
 ghost use Rattle.bl_disk.specs.File.{seen};
 ghost use Rattle.bl_hall.specs.Chronicle.{state_now};
-ghost use Rattle.bl_order.specs.Machine.{has_ended, most_sessions};
+ghost use Rattle.bl_order.specs.Machine.{has_ended};
 ghost use Rattle.bl_recover.specs.Telling.{fault_text, status_by};
 ghost use Rattle.bl_resume.specs.Resumes.{HasGoneOn, HasSatAfter, IsResuming};
+ghost use Rattle.bl_session.specs.Pages.{MayBegin};
 ghost use Rattle.bl_status.specs.Status.{IsEnd};
 ghost use Rattle.bl_wire.specs.Watch.{Puts, end_state, used};
 
@@ -56,9 +57,7 @@ fn sit<D: Device, R: BufRead, W: Write, E: Write>(
     writer: &mut Watched<W>,
     errors: &mut Watched<E>,
 ) -> Recorded<D>
-    requires setup { resumed.hall.setup ≡ setup }
-    requires ended { (n : ℕ) → n < length (state_now resumed.hall).order → IsTrue (has_ended (state_now resumed.hall) n) }
-    requires room { length (state_now resumed.hall).sessions < most_sessions }
+    requires hall { MayBegin setup resumed.hall }
     requires journal { HasRecorded D.now D.has_failed resumed.journal resumed.hall }
     requires reader { reader.old.failed ≡ false }
     requires writer { writer.old.failed ≡ false }
@@ -95,7 +94,8 @@ fn go_on<D: Device, R: BufRead, W: Write, E: Write>(
     errors: &mut Watched<E>,
 ) -> Recorded<D>
     requires setup { resumed.hall.setup ≡ setup }
-    requires ended { (n : ℕ) → n < length (state_now resumed.hall).order → IsTrue (has_ended (state_now resumed.hall) n) }
+    requires ended { (n : ℕ) → n < length (state_now resumed.hall).order
+        → IsTrue (has_ended (state_now resumed.hall) n) }
     requires journal { HasRecorded D.now D.has_failed resumed.journal resumed.hall }
     requires reader { reader.old.failed ≡ false }
     requires writer { writer.old.failed ≡ false }
@@ -119,11 +119,13 @@ fn go_on<D: Device, R: BufRead, W: Write, E: Write>(
     end_with(errors, &RecoveryFault::NoMoreSessions, device)
 }
 
-/// One session over a reader and a writer, over the setup of these bytes, in the hall of a run that was cut off and left its journal in
-/// this file: the command `alone` with `--resume`. What is not right at the end of the file is cut off, at most one whole line and a torn
-/// one, what had been admitted and had not ended is run, and the session is the next one of that hall, under its limit.
+/// One session over a reader and a writer, over the setup of these bytes, in the hall of a run that was cut off and
+/// left its journal in this file: the command `alone` with `--resume`. What is not right at the end of the file is cut
+/// off, at most one whole line and a torn one, what had been admitted and had not ended is run, and the session is the
+/// next one of that hall, under its limit.
 ///
-/// The result is as `alone_recorded_on` has it. Where the file is not gone on with, that is told, and nothing is read or written.
+/// The result is as `alone_recorded_on` has it. Where the file is not gone on with, that is told, and nothing is read
+/// or written.
 pub fn alone_resumed_on<D: Device, R: BufRead, W: Write, E: Write>(
     alloc: Global,
     setup: &[u8],

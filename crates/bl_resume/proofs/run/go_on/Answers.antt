@@ -6,6 +6,10 @@ use Rattle.bl_order.specs.Machine.{most_sessions}
 use Rattle.bl_wire.proofs.PutLaws.{puts-all}
 use Rattle.bl_resume.proofs.run.go_on.Goals as goal
 
+-- fewer sessions were opened than may be
+pub sit-requires-clause-hall : goal.sit-requires-clause-hall
+sit-requires-clause-hall g c = record { setup_is = c.requires.setup; ended = c.requires.ended; room = search rules }
+
 -- as many sessions were opened as may be
 pub returns-clause-run : goal.returns-clause-run
 returns-clause-run g c =

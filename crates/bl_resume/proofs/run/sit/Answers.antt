@@ -8,28 +8,27 @@ use Rattle.bl_alone.specs.Files.{fault_in, file_in}
 use Rattle.bl_alone.specs.Recording.{IsLeft}
 use Rattle.bl_alone.specs.Telling.{text_of_all}
 use Rattle.bl_recover.specs.Telling.{cut_line}
-use Rattle.bl_resume.proofs.Ending.{ended_after, when_served}
+use Rattle.bl_resume.proofs.Ending.{when_served}
 use Rattle.bl_resume.proofs.run.sit.Goals as goal
 
 pub returns-clause-run : goal.returns-clause-run
 returns-clause-run g c =
-    let begun = c.args.resumed.hall in
     let served = c.serve_after-served in
     let hall = served.result.1.pages.hall in
     let kept = served.ensures.told in
     let left = c.close_after-left.result in
     let told = c.tell_recorded.ensures.told in
-    let same = kept.4.setup_is ∙ c.requires.setup in
+    let same = kept.told.setup_is ∙ c.requires.hall.setup_is in
     record {
       served = served.result.0;
       hall = hall;
-      ended = ended_after begun hall _ _ served.result.0 served.ensures.own served.ensures.err;
-      kept = kept.0;
-      since = kept.2;
-      told = kept.4;
+      ended = served.ensures.ended;
+      kept = kept.kept;
+      since = kept.since;
+      told = kept.told;
       trail = fault_in left;
-      left = subst (λ file. IsLeft kept.0 (Some hall) (fault_in left) (file_in g.D.Device.now file)) (sym c.tell_recorded.ensures.file)
-          (c.close_after-left.ensures.left kept.0 kept.1 kept.3 (subst Agree (sym same) c.names.ensures.agree)
+      left = subst (λ file. IsLeft kept.kept (Some hall) (fault_in left) (file_in g.D.Device.now file)) (sym c.tell_recorded.ensures.file)
+          (c.close_after-left.ensures.left kept.kept kept.held kept.front (subst Agree (sym same) c.names.ensures.agree)
           (subst (λ (s : Setup). AreNames s.names) (sym same) (subst AreNames c.names.ensures.value c.scheme-scheme.ensures.names)));
       cut_short = c.close_after-left.ensures.cut;
       whole = c.tell_recorded.ensures.whole;
