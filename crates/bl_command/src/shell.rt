@@ -228,7 +228,7 @@ fn sit_found<T: OpensFiles, R: BufRead, W: Write, E: Write>(
     ensures fault { IfErr setup (λ fault. HasTold fault result.status (used E.contents errors.old errors.new)) }
     ensures run { IfOk setup (λ bytes. IsAloneKept bytes.items run.now result
         (used R.remaining reader.old reader.new) (used W.contents writer.old writer.new)
-            (used E.contents errors.old errors.new)) }
+        (used E.contents errors.old errors.new)) }
     ensures kept { result.status ≡ 0 → IsSome result.kept }
     ensures status { IsEnd result.status }
 {

@@ -50,4 +50,4 @@ pub record IsUnclaimed (setup : List ℕ) (run : AloneRun) (fault : ProgramFault
 abbrev pub IsAloneKept : List ℕ → AloneRun → Finished → Use → Use → Use → Type 0
 IsAloneKept setup run finished input output errors = HasSat setup run.limit finished input output errors
     ⊎ ((fault : ProgramFault) × HasTold fault finished.status errors
-        × (IsNotBegun setup fault input output ⊎ IsUnclaimed setup run fault input output))
+    × (IsNotBegun setup fault input output ⊎ IsUnclaimed setup run fault input output))

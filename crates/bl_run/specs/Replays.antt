@@ -45,4 +45,4 @@ pub record IsCut (setup trail : List ℕ) (fault : ProgramFault) (output : Use) 
   pub why : ((fault ≡ NoMemory) × Keeps output.before output.after)
       ⊎ ((fault ≡ Write) × (output.failed ≡ true)
       × ((verdict : Verdict) × IsVerdict begun trail verdict
-          × ((n : ℕ) × Appends output.before output.after (take n (verdict_line verdict)))))
+      × ((n : ℕ) × Appends output.before output.after (take n (verdict_line verdict)))))

@@ -35,8 +35,8 @@ pub record HasServed (setup : List ℕ) (limit : ℕ) (run : Run) : Type 0 where
 abbrev pub IsRun : List ℕ → ℕ → Run → Type 0
 IsRun setup limit run =
     HasServed setup limit run
-        ⊎ ((fault : ProgramFault) × HasTold fault run.status run.errors
-        × HasFailed setup limit fault run.input run.output)
+    ⊎ ((fault : ProgramFault) × HasTold fault run.status run.errors
+    × HasFailed setup limit fault run.input run.output)
 
 -- no verdict was told: the setup is none, or the verdict was cut
 abbrev pub HasNoVerdict : List ℕ → List ℕ → ProgramFault → Use → Type 0

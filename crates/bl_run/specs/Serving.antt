@@ -69,7 +69,7 @@ faults_found whole memory = found (not whole) NoMemory ++ found memory NoMemory
 abbrev pub hosted_text : Bool → List Ended → Bool → List ℕ
 hosted_text whole ended memory =
     flat_map fault_line (found (not whole) NoMemory) ++
-        (flat_map ended_line ended ++ flat_map fault_line (found memory NoMemory))
+    (flat_map ended_line ended ++ flat_map fault_line (found memory NoMemory))
 
 -- A run that listened. What was found is told in its order, the trail's fault last, and the first fault gives the
 -- status. No trail is written where a thread was not started; else it is kept, or that it is not is told.

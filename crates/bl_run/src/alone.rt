@@ -179,7 +179,7 @@ fn sit_and_keep<T: Files, R: BufRead, W: Write, E: Write>(
     requires writer { writer.old.failed ≡ false }
     ensures run { (setup : List ℕ) → IsSetup setup begun.setup → HasSat setup run.now.limit result
         (used R.remaining reader.old reader.new) (used W.contents writer.old writer.new)
-            (used E.contents errors.old errors.new) }
+        (used E.contents errors.old errors.new) }
     ensures kept { result.status ≡ 0 → IsSome result.kept }
     ensures handed_on { result.status ≡ 0 → writer.new.unflushed ≡ false }
     ensures status { IsEnd result.status }
@@ -209,7 +209,7 @@ pub fn alone_kept_on<T: Files, R: BufRead, W: Write, E: Write>(
     requires writer { writer.old.failed ≡ false }
     ensures run { IsAloneKept setup.now run.now result
         (used R.remaining reader.old reader.new) (used W.contents writer.old writer.new)
-            (used E.contents errors.old errors.new) }
+        (used E.contents errors.old errors.new) }
     ensures kept { result.status ≡ 0 → IsSome result.kept }
     ensures handed_on { result.status ≡ 0 → writer.new.unflushed ≡ false }
     ensures status { IsEnd result.status }

@@ -39,7 +39,7 @@ fn tell_verdict<W: Write>(writer: &mut Watched<W>, verdict: Verdict) -> Result<u
         × (status ≡ status_by verdict)) }
     ensures failed { IfErr result (λ fault. (fault ≡ ProgramFault.Write) × (writer.new.failed ≡ true)
         × ((n : ℕ) × Appends (W.contents writer.old.inner) (W.contents writer.new.inner)
-            (take n (verdict_line verdict)))) }
+        (take n (verdict_line verdict)))) }
     ensures handed_on { OnOk result (writer.new.unflushed ≡ false) }
 {
     let (word, number, status) = told_as(verdict);

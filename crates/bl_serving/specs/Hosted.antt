@@ -61,15 +61,15 @@ pub record HasServed (resumes : Bool) (setup : Setup) (limit : ℕ) (text : List
 abbrev pub IsUnserved : Bool → Setup → ℕ → List ℕ → ServingFault → ℕ → Use → EndState → EndState → Type 0
 IsUnserved resumes setup limit text fault status output before after = (status ≡ status_by fault)
     × ((Keeps output.before output.after × Puts (words_by fault) before after
-        × (IsUnbegun resumes setup text fault ⊎ (fault ≡ Recovery (Program NoMemory))))
+    × (IsUnbegun resumes setup text fault ⊎ (fault ≡ Recovery (Program NoMemory))))
     ⊎ ((fault ≡ Recovery (Program Write)) × (output.failed ≡ true)
-        × ((n : ℕ) × Appends output.before output.after (take n listening))
+    × ((n : ℕ) × Appends output.before output.after (take n listening))
     × ((begun : Chronicle) × (cut : ℕ) × Begins resumes setup limit text begun cut
-        × Puts (cut_line cut ++ words_by fault) before after)))
+    × Puts (cut_line cut ++ words_by fault) before after)))
 
 -- sessions were served, or none was
 abbrev pub IsServing : Bool → Setup → ℕ → List ℕ → ℕ → Bool → File → Use → EndState → EndState → Type 0
 IsServing resumes setup limit text status is_whole file output before after =
     HasServed resumes setup limit text status is_whole file output before after
     ⊎ ((fault : ServingFault) × (is_whole ≡ false)
-        × IsUnserved resumes setup limit text fault status output before after)
+    × IsUnserved resumes setup limit text fault status output before after)

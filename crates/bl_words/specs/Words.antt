@@ -131,7 +131,7 @@ HasEntrance options (Port port) = HasNumber options (codes "port") port
     × (first_value (found_of options) (codes "doors") ≡ None)
 HasEntrance options (Doors folder) =
     (first_value (found_of options) (codes "port") ≡ None)
-        × (first_value (found_of options) (codes "doors") ≡ Some folder.now)
+    × (first_value (found_of options) (codes "doors") ≡ Some folder.now)
 
 -- the options of `serve` say this of its sessions and its trail
 pub record HasHosting (options : ArgMatches) (hosting : Hosting) : Type 0 where
@@ -152,15 +152,15 @@ pub record HasHosting (options : ArgMatches) (hosting : Hosting) : Type 0 where
 abbrev pub HasOptions : ArgMatches → Command → Type 0
 HasOptions options (Alone setup limit trail keeping resumes) =
     (first_value (found_of options) (codes "setup") ≡ Some setup.now) × HasNumber options (codes "limit") limit
-        × HasTrail options trail × HasKeeping options keeping × HasResume options resumes
+    × HasTrail options trail × HasKeeping options keeping × HasResume options resumes
 HasOptions options (Serve setup hosting) =
     (first_value (found_of options) (codes "setup") ≡ Some setup.now) × HasHosting options hosting
 HasOptions options (Replay setup trail) =
     (first_value (found_of options) (codes "setup") ≡ Some setup.now)
-        × (first_value (found_of options) (codes "trail") ≡ Some trail.now)
+    × (first_value (found_of options) (codes "trail") ≡ Some trail.now)
 HasOptions options (Recover setup trail) =
     (first_value (found_of options) (codes "setup") ≡ Some setup.now)
-        × (first_value (found_of options) (codes "trail") ≡ Some trail.now)
+    × (first_value (found_of options) (codes "trail") ≡ Some trail.now)
 
 -- the command has this word and these options
 pub record IsOfOptions (word : List ℕ) (options : ArgMatches) (command : Command) : Type 0 where
