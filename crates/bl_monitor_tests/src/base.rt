@@ -1,6 +1,5 @@
-//! A monitor over the base setup, and what the tests ask of it. A monitor is let go by `drop`, which is proved once for all tests, and
-//! not at the end of a scope, where the proof takes it apart each time.
-ghost use Rattle.std.specs.Prelude.{IfOk};
+//! What the tests ask of a monitor over the base setup, step by step, and what it has to say.
+ghost use Rattle.std.specs.Prelude.{IfSome};
 ghost use Rattle.bl_monitor.specs.Heard.{Knows};
 
 use bl_monitor::monitor::{Entry, Monitor, MonitorFault, Version};
@@ -10,10 +9,10 @@ use bl_policy::id::{DocId, SubjectId};
 use bl_read::line::read_line;
 use bl_setup::reader::read_setup;
 use bl_setup::setup::Setup;
-use bl_work::answer::Answer;
+use bl_work::answer::{Answer, Outputs};
 use bl_work::asked::Line;
-use std::alloc::Global;
-use std::test::Fail;
+use std::alloc::{AllocGlobal, Global};
+use std::process::Abort;
 
 /// The base setup up to the content of `note`.
 const BEFORE_NOTE: &[u8] = b"ranks u c s t\n\
@@ -37,55 +36,88 @@ allow cat memo r\n\
 allow root note r w\n";
 
 /// `when read memo do show memo; end`
-pub(super) const SHOW_MEMO: &[u8] = b"when read memo do show memo; end";
+pub(super) const SHOW_MEMO: &str = "when read memo do show memo; end";
 
 /// A line that spawns a reader of what it added to.
-pub(super) const ADD_AND_SPAWN: &[u8] =
-    b"when write memo do add memo \"a\"; spawn when read memo do show memo; end; end";
+pub(super) const ADD_AND_SPAWN: &str =
+    "when write memo do add memo \"a\"; spawn when read memo do show memo; end; end";
+
+/// The subjects of the base setup, in order, and one behind them.
+pub(super) const ANN: u16 = 0;
+
+pub(super) const BOB: u16 = 1;
+
+pub(super) const ROOT: u16 = 3;
+
+pub(super) const DAN: u16 = 4;
+
+/// The documents of the base setup that something is denied of, in order.
+pub(super) const MEMO: u16 = 0;
+
+pub(super) const NOTE: u16 = 1;
+
+/// Why something is denied, to which subject, and of which document, where it is of one.
+pub(super) type Denied = (Clause, u16, Option<u16>);
+
+/// What a monitor answers.
+#[derive(Clone, Copy)]
+pub(super) enum Answered {
+    /// It is done, and shows these texts.
+    Shows(&'static [&'static str]),
+    /// It is a rule, and done.
+    Rules,
+    /// It is denied.
+    Is(Denied),
+    /// It is lost.
+    Loses,
+}
+
+/// What is asked of a monitor, and what it has to say.
+#[derive(Clone, Copy)]
+pub(super) enum Step {
+    /// A line of the subject of this name.
+    Line(&'static str, &'static str, Answered),
+    /// A line of the subject of this name, which is lost.
+    Lost(&'static str, &'static str),
+    /// The child of this parent with this number.
+    Child(u32, u32, Answered),
+    /// There is no such child.
+    NoChild(u32, u32),
+    /// What the policy had against an entry.
+    Fault(u32, Option<Denied>),
+    /// How many children an entry has.
+    Children(u32, Option<u32>),
+    /// The behaviours that an entry spawned.
+    Spawned(u32, &'static [u8]),
+}
 
 /// The base setup with this content of `note`, and with further lines.
-fn setup_with(alloc: Global, note: &[u8], more: &[u8]) -> Result<Setup, Fail> {
+fn setup_with(alloc: Global, note: &[u8], more: &[u8]) -> Option<Setup> {
     let mut text = Vec::new(alloc);
-    text.extend_from_slice(BEFORE_NOTE)?;
-    text.extend_from_slice(note)?;
-    text.extend_from_slice(BEHIND_NOTE)?;
-    text.extend_from_slice(more)?;
-    Ok(read_setup(alloc, &text)?)
+    text.extend_from_slice(BEFORE_NOTE).ok()?;
+    text.extend_from_slice(note).ok()?;
+    text.extend_from_slice(BEHIND_NOTE).ok()?;
+    text.extend_from_slice(more).ok()?;
+    read_setup(alloc, &text).ok()
 }
 
 /// A monitor over the base setup with this content of `note`, and with further lines.
-pub(super) fn monitor_over(alloc: Global, note: &[u8], more: &[u8]) -> Result<Monitor, Fail> {
-    Ok(Monitor::new(alloc, setup_with(alloc, note, more)?, Version::Two)?)
-}
-
-/// A monitor of version 1 over the base setup.
-pub(super) fn monitor_of_version_one(alloc: Global) -> Result<Monitor, Fail> {
-    Ok(Monitor::new(alloc, setup_with(alloc, b"\"n1\"", b"")?, Version::One)?)
-}
-
-/// A monitor over the base setup.
-pub(super) fn base_monitor(alloc: Global) -> Result<Monitor, Fail> {
-    monitor_over(alloc, b"\"n1\"", b"")
+fn monitor_over(alloc: Global, note: &[u8], more: &[u8], version: Version) -> Option<Monitor> {
+    Monitor::new(alloc, setup_with(alloc, note, more)?, version).ok()
 }
 
 /// A line of the subject that a first line greets for.
-fn entry_of(
-    alloc: Global,
-    setup: &Setup,
-    first: &[u8],
-    text: &[u8],
-    lost: bool,
-) -> Result<Entry, Fail>
-    ensures { IfOk result (Knows setup.now) }
+fn entry_of(alloc: Global, setup: &Setup, first: &[u8], text: &[u8], lost: bool) -> Option<Entry>
+    ensures { IfSome result (Knows setup.now) }
 {
     read_lines_are_in_the_setup();
-    let Line::Hello(subject) = read_line(alloc, setup.names(), first)? else {
-        return Err(Fail::new("no greeting"));
+    let Line::Hello(subject) = read_line(alloc, setup.names(), first).ok()? else {
+        return None;
     };
-    let Line::Work(work) = read_line(alloc, setup.names(), text)? else {
-        return Err(Fail::new("no work"));
+    let Line::Work(work) = read_line(alloc, setup.names(), text).ok()? else {
+        return None;
     };
-    Ok(Entry::Line {
+    Some(Entry::Line {
         subject,
         work,
         lost,
@@ -93,21 +125,16 @@ fn entry_of(
 }
 
 /// The answer of a line of the subject that a first line greets for.
-pub(super) fn answer_to(
+fn answer_to(
     monitor: &mut Monitor,
     alloc: Global,
-    first: &[u8],
-    text: &[u8],
+    first: &str,
+    text: &str,
     lost: bool,
-) -> Result<Answer, Fail> {
-    let setup = monitor.share_setup()?;
-    let entry = entry_of(alloc, &setup, first, text, lost)?;
-    Ok(monitor.next(entry)?)
-}
-
-/// The answer of a line of `ann`.
-fn answer_to_ann(monitor: &mut Monitor, alloc: Global, text: &[u8]) -> Result<Answer, Fail> {
-    answer_to(monitor, alloc, b"hello ann", text, false)
+) -> Option<Answer> {
+    let setup = monitor.share_setup().ok()?;
+    let entry = entry_of(alloc, &setup, first.as_bytes(), text.as_bytes(), lost)?;
+    monitor.next(entry).ok()
 }
 
 /// The answer of the next child.
@@ -119,109 +146,39 @@ fn child(monitor: &mut Monitor, parent: u32, which: u32) -> Result<Answer, Monit
     })
 }
 
-/// Whether the behaviour ran, and showed these texts.
-fn is_done(answer: &Answer, texts: &[&[u8]]) -> bool {
-    match answer {
-        Answer::Done(outputs) => {
-            outputs.texts().len() == texts.len()
-                && outputs
-                    .texts()
-                    .iter()
-                    .zip(texts)
-                    .all(|(shown, text)| shown.bytes() == *text)
-        }
-        Answer::RuleDone | Answer::Denied(_) | Answer::Lost => false,
-    }
-}
-
-/// Whether a line of the subject that a first line greets for is done, and shows these texts.
-pub(super) fn is_shown(
-    monitor: &mut Monitor,
-    alloc: Global,
-    first: &[u8],
-    text: &[u8],
-    texts: &[&[u8]],
-) -> Result<bool, Fail> {
-    let answer = answer_to(monitor, alloc, first, text, false)?;
-    Ok(is_done(&answer, texts))
-}
-
-/// Whether a rule of the subject that a first line greets for is done.
-pub(super) fn is_rule_done(
-    monitor: &mut Monitor,
-    alloc: Global,
-    first: &[u8],
-    text: &[u8],
-) -> Result<bool, Fail> {
-    match answer_to(monitor, alloc, first, text, false)? {
-        Answer::RuleDone => Ok(true),
-        Answer::Done(_) | Answer::Denied(_) | Answer::Lost => Ok(false),
-    }
-}
-
-/// Whether a line of `ann` is done, and shows these texts.
-pub(super) fn ann_is_shown(
-    monitor: &mut Monitor,
-    alloc: Global,
-    text: &[u8],
-    texts: &[&[u8]],
-) -> Result<bool, Fail> {
-    is_shown(monitor, alloc, b"hello ann", text, texts)
-}
-
-/// Whether a child is done, and shows these texts.
-pub(super) fn child_is_shown(
-    monitor: &mut Monitor,
-    parent: u32,
-    which: u32,
-    texts: &[&[u8]],
-) -> Result<bool, Fail> {
-    let answer = child(monitor, parent, which)?;
-    Ok(is_done(&answer, texts))
-}
-
-/// Whether a child is denied so.
-pub(super) fn child_is_denied(
-    monitor: &mut Monitor,
-    parent: u32,
-    which: u32,
-    denial: Denial,
-) -> Result<bool, Fail> {
-    let answer = child(monitor, parent, which)?;
-    Ok(is_denial(&answer, denial))
+/// Whether these are the texts that were shown.
+fn are_shown(outputs: &Outputs, texts: &[&str]) -> bool {
+    outputs.texts().len() == texts.len()
+        && outputs
+            .texts()
+            .iter()
+            .zip(texts)
+            .all(|(shown, text)| shown.bytes() == text.as_bytes())
 }
 
 /// Whether this is the denial.
-pub(super) fn is_denial(answer: &Answer, denial: Denial) -> bool {
-    match answer {
-        Answer::Denied(found) => *found == denial,
-        Answer::Done(_) | Answer::RuleDone | Answer::Lost => false,
+fn is_denied(denial: &Denial, wanted: Denied) -> bool {
+    let (clause, subject, object) = wanted;
+    denial.clause == clause
+        && denial.subject == SubjectId::new(subject)
+        && denial.object == object.map(DocId::new)
+}
+
+/// Whether this is the answer.
+fn is_answer(answer: &Answer, wanted: Answered) -> bool {
+    match (answer, wanted) {
+        (Answer::Done(outputs), Answered::Shows(texts)) => are_shown(outputs, texts),
+        (Answer::RuleDone, Answered::Rules) | (Answer::Lost, Answered::Loses) => true,
+        (Answer::Denied(denial), Answered::Is(wanted)) => is_denied(denial, wanted),
+        _ => false,
     }
 }
 
-/// Whether this is `denied star ann note`.
-fn is_star_ann_note(answer: &Answer) -> bool {
-    match answer {
-        Answer::Denied(denial) => Some(*denial) == star_ann_note(),
-        Answer::Done(_) | Answer::RuleDone | Answer::Lost => false,
-    }
-}
-
-/// Whether a line of `ann` is `denied star ann note`.
-pub(super) fn ann_is_denied_note(
-    monitor: &mut Monitor,
-    alloc: Global,
-    text: &[u8],
-) -> Result<bool, Fail> {
-    let answer = answer_to_ann(monitor, alloc, text)?;
-    Ok(is_star_ann_note(&answer))
-}
-
-/// Whether a line of `ann` that is lost is answered so.
-pub(super) fn is_lost(monitor: &mut Monitor, alloc: Global, text: &[u8]) -> Result<bool, Fail> {
-    match answer_to(monitor, alloc, b"hello ann", text, true)? {
-        Answer::Lost => Ok(true),
-        Answer::Done(_) | Answer::RuleDone | Answer::Denied(_) => Ok(false),
+/// Whether an answer came, and is this one.
+fn is_answered(came: Option<Answer>, wanted: Answered) -> bool {
+    match came {
+        Some(answer) => is_answer(&answer, wanted),
+        None => false,
     }
 }
 
@@ -233,21 +190,74 @@ fn is_no_child(monitor: &mut Monitor, parent: u32, which: u32) -> bool {
     }
 }
 
-/// Whether there is none of these children.
-pub(super) fn are_no_children(monitor: &mut Monitor, children: &[(u32, u32)]) -> bool {
-    for (parent, which) in children {
-        if !is_no_child(monitor, *parent, *which) {
-            return false;
-        }
+/// Whether this is what the policy had against an entry.
+fn is_fault(fault: Option<Denial>, wanted: Option<Denied>) -> bool {
+    match (fault, wanted) {
+        (Some(denial), Some(wanted)) => is_denied(&denial, wanted),
+        (None, None) => true,
+        _ => false,
     }
-    true
 }
 
-/// `denied star ann note`
-pub(super) fn star_ann_note() -> Option<Denial> {
-    Some(Denial {
-        clause: Clause::Star,
-        subject: SubjectId::new(0),
-        object: Some(DocId::new(1)),
-    })
+/// Whether these are the behaviours that an entry spawned.
+fn has_spawned(monitor: &Monitor, n: u32, wanted: &[u8]) -> bool {
+    monitor.spawned(n) == wanted
+}
+
+/// Whether a monitor says what it has to.
+fn stands(monitor: &mut Monitor, alloc: Global, step: &Step) -> bool {
+    match step {
+        Step::Line(first, text, wanted) => {
+            is_answered(answer_to(monitor, alloc, first, text, false), *wanted)
+        }
+        Step::Lost(first, text) => {
+            is_answered(
+                answer_to(monitor, alloc, first, text, true),
+                Answered::Loses,
+            )
+        }
+        Step::Child(parent, which, wanted) => is_answered(
+            child(monitor, *parent, *which).ok(),
+            *wanted,
+        ),
+        Step::NoChild(parent, which) => is_no_child(monitor, *parent, *which),
+        Step::Fault(n, wanted) => is_fault(monitor.fault(*n), *wanted),
+        Step::Children(n, wanted) => monitor.children(*n) == *wanted,
+        Step::Spawned(n, wanted) => has_spawned(monitor, *n, wanted),
+    }
+}
+
+/// Asserts that a monitor says what it has to, step by step.
+fn assert_of<R: AllocGlobal + Abort>(rt: &R, monitor: &mut Monitor, steps: &[Step]) {
+    for (n, step) in steps.iter().enumerate() {
+        assert!(rt; stands(monitor, rt.alloc(), step), "step {n}");
+    }
+}
+
+/// Asserts that of a monitor of this version, over the base setup with this content of `note` and with further lines.
+/// It is let go by `drop`, which is proved once for all tests.
+pub(super) fn assert_steps_over<R: AllocGlobal + Abort>(
+    rt: &R,
+    note: &str,
+    more: &str,
+    version: Version,
+    steps: &[Step],
+) {
+    match monitor_over(rt.alloc(), note.as_bytes(), more.as_bytes(), version) {
+        Some(mut monitor) => {
+            assert_of(rt, &mut monitor, steps);
+            drop(monitor);
+        }
+        None => panic!(rt; "no monitor"),
+    }
+}
+
+/// Asserts that of a monitor over the base setup with further lines.
+pub(super) fn assert_steps_with<R: AllocGlobal + Abort>(rt: &R, more: &str, steps: &[Step]) {
+    assert_steps_over(rt, "\"n1\"", more, Version::Two, steps);
+}
+
+/// Asserts that of a monitor over the base setup.
+pub(super) fn assert_steps<R: AllocGlobal + Abort>(rt: &R, steps: &[Step]) {
+    assert_steps_with(rt, "", steps);
 }
