@@ -145,6 +145,13 @@ fn cell_from(failures: &[Failures; 8], modes: ModeSet) -> Cell
     }
 }
 
+/// A level, and what the modes of one subject fail at it.
+#[derive(Clone, Copy)]
+struct LevelFailures {
+    level: Level,
+    failures: [Failures; 8],
+}
+
 impl Subject {
     /// What the modes fail at this level. Levels that dominate each other are one, so the star property holds of a write
     /// where it holds of a read and of an append.
@@ -167,6 +174,28 @@ impl Subject {
         }
     }
 
+    /// What the modes fail at this level, with the level.
+    fn failures_at(&self, level: &Level) -> LevelFailures
+        ensures level { result.level ≡ level.now }
+        ensures failures { AreFailuresOf (clearance_from self.now) level.now result.failures }
+    {
+        LevelFailures {
+            level: *level,
+            failures: *self.failures(level),
+        }
+    }
+
+    /// Goes on to what the modes fail at this level, which is asked only where the level before was another.
+    fn turn_to(&self, last: &mut LevelFailures, level: &Level)
+        requires { AreFailuresOf (clearance_from self.now) last.old.level last.old.failures }
+        ensures level { last.new.level ≡ level.now }
+        ensures failures { AreFailuresOf (clearance_from self.now) level.now last.new.failures }
+    {
+        if last.level != *level {
+            *last = self.failures_at(level);
+        }
+    }
+
     /// The cell of this subject and a document of this level, where the matrix has these modes.
     pub(super) fn cell(&self, level: &Level, modes: ModeSet) -> Cell
         ensures { result ≡ cell_of (clearance_from self.now) level.now modes }
@@ -176,15 +205,17 @@ impl Subject {
 }
 
 /// Mends the cells of one subject and the documents of these levels, from the first of its cells on. Their modes stay,
-/// and so do all other cells.
+/// and so do all other cells. Documents that follow each other often have one level: what it fails is asked once.
 pub(super) fn mend_row(cells: &mut [Cell], first: usize, subject: &Subject, levels: &[Level])
     requires within { first + length levels.now ≤ length cells.old }
     ensures modes { modes_of cells.new ≡ modes_of cells.old }
     ensures mended { HasMendedRow first (clearance_from subject.now) levels.now cells.old cells.new }
 {
+    let mut last = subject.failures_at(&subject.greatest);
     for (column, level) in levels.iter().enumerate() {
+        subject.turn_to(&mut last, level);
         let modes = cells[first + column].modes;
-        cells[first + column] = subject.cell(level, modes);
+        cells[first + column] = cell_from(&last.failures, modes);
     }
 }
 
