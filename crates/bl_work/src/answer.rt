@@ -1,5 +1,6 @@
 //! What an entry is answered.
 ghost use Rattle.std.specs.Prelude.{◌≡◌, IfOk};
+ghost use Rattle.bl_work.specs.Few.{items_of};
 
 use crate::few::Few;
 use bl_document::document::Document;
@@ -30,6 +31,13 @@ impl Outputs {
         Outputs {
             texts: Few::new(texts),
         }
+    }
+
+    /// Outputs of these few texts. It takes no memory.
+    pub fn of(texts: Few<Document>) -> Outputs
+        ensures { result ≡ items_of texts }
+    {
+        Outputs { texts }
     }
 
     /// Equal outputs, each text with one more owner.
