@@ -17,12 +17,19 @@ loans-suc e (x ∷ xs) [] i d c lt lt' = absurd (omega arith)
 loans-suc e (x ∷ xs) (y ∷ cs) zero d c lt lt' = refl
 loans-suc e (x ∷ xs) (y ∷ cs) (suc i) d c lt lt' = ap (λ l. loan e x y ∷ l) (loans-suc e xs cs i d c (omega arith) (omega arith))
 
-pub lend-more : (e : ℕ) (gs : List Grant) (g : Grant) (xs : List Access) (cs : List (List ℕ)) (i : ℕ) (a : Access) (t : List ℕ)
-    → map loaned_of gs ≡ loans e (take i xs) (take i cs) → a ≡ get_or xs i a → t ≡ get_or cs i t → loaned_of g ≡ loan e a t
-    → i < length xs → i < length cs → map loaned_of (gs ++ g ∷ []) ≡ loans e (take (i + 1) xs) (take (i + 1) cs)
-lend-more e gs g xs cs i a t was from at one lt lt' =
-    rw add-one (map-append loaned_of gs (g ∷ []) ∙ ap (λ l. l ++ loaned_of g ∷ []) was
-    ∙ ap (λ x. loans e (take i xs) (take i cs) ++ x ∷ []) (one ∙ ap (λ c. loan e a c) at ∙ ap (λ x. loan e x (get_or cs i t)) from) ∙ sym (loans-suc e xs cs i a t lt lt'))
+pub lend-more : (e : ℕ) (so_far now : List Loaned) (xs : List Access) (cs : List (List ℕ)) (i : ℕ) (a : Access) (t : List ℕ)
+    → so_far ≡ loans e (take i xs) (take i cs) → a ≡ get_or xs i a → t ≡ get_or cs i t → now ≡ so_far ++ loan e a t ∷ []
+    → i < length xs → i < length cs → now ≡ loans e (take (i + 1) xs) (take (i + 1) cs)
+lend-more e so_far now xs cs i a t was from at one lt lt' =
+    rw add-one (one ∙ ap (λ l. l ++ loan e a t ∷ []) was
+    ∙ ap (λ x. loans e (take i xs) (take i cs) ++ x ∷ []) (ap (λ c. loan e a c) at ∙ ap (λ x. loan e x (get_or cs i t)) from) ∙ sym (loans-suc e xs cs i a t lt lt'))
+
+-- of a first part of the accesses there are no more grants than accesses
+pub loans-few : (e : ℕ) (xs : List Access) (cs : List (List ℕ)) (i : ℕ) → length (loans e (take i xs) (take i cs)) ≤ length xs
+loans-few e xs cs zero = omega arith
+loans-few e [] cs (suc i) = omega arith
+loans-few e (x ∷ xs) [] (suc i) = omega arith
+loans-few e (x ∷ xs) (y ∷ cs) (suc i) = omega (arith, loans-few e xs cs i)
 
 -- a grant of the code, as it was lent
 abbrev pub was : Grant → Loaned

@@ -1,7 +1,6 @@
 //! The grants of one behaviour: one for each access that it declares, in order.
-ghost use Rattle.std.specs.Prelude.{◌≡◌, ◌+◌, ◌<◌, ◌≤◌, ◌↔◌, ◌==◌, length, map, [], IsTrue, IfOk, OnOk, OnErr, MatchOption, slice_index_or, vec_len};
+ghost use Rattle.std.specs.Prelude.{◌≡◌, ◌+◌, ◌<◌, ◌≤◌, ◌↔◌, ◌==◌, length, map, [], IsTrue, IfOk, OnOk, OnErr, MatchOption, slice_index_or};
 ghost use Rattle.std.specs.List.{list_all, list_any};
-ghost use Rattle.std.specs.Vec.{vec_capacity};
 ghost use Rattle.bl_policy.specs.declared.access.Access.{Access};
 ghost use Rattle.bl_work.specs.Content.{IsContent, is_content_byte, added};
 ghost use Rattle.bl_work.specs.Modes.{declares, observes, alters, is_write};
@@ -11,6 +10,7 @@ ghost use Rattle.bl_grant.specs.Loans.{loans, accesses_of, entry_of, content_of,
 ghost use Rattle.bl_grant.specs.Granted.{loaned_of};
 
 use crate::grant::{Grant, Returned};
+use crate::lending::Lending;
 use crate::withdrawn::Withdrawn;
 use bl_policy::access::Access;
 use bl_policy::id::DocId;
@@ -20,7 +20,7 @@ use std::marker::Model;
 
 /// The grants of a behaviour, in the order of its accesses: at most 8.
 pub struct Grants {
-    grants: Vec<Grant>,
+    pub(crate) grants: Vec<Grant>,
 }
 
 impl Model for Grants {
@@ -51,7 +51,7 @@ fn place(grants: &[Grant], doc: DocId) -> usize
 }
 
 /// Gives up grants.
-fn abandon(grants: Vec<Grant>) {
+pub(crate) fn abandon(grants: Vec<Grant>) {
     let mut grants = grants;
     while let Some(grant) = grants.pop() {
         let _content = grant.close().into_content();
@@ -72,17 +72,11 @@ impl Grants {
         requires each { length documents.now ≡ length accesses.now }
         ensures { IfOk result (λ g. g ≡ loans entry accesses.now documents.now) }
     {
-        let mut grants = Vec::with_capacity(alloc, accesses.len())?;
+        let mut lending = Lending::new(alloc, accesses.len())?;
         for i in 0..accesses.len() {
-            match Grant::lend(entry, accesses[i], &documents[i]) {
-                Ok(grant) => grants.push_reserved(grant),
-                Err(e) => {
-                    abandon(grants);
-                    return Err(e);
-                }
-            }
+            lending = lending.lend(entry, accesses[i], &documents[i])?;
         }
-        Ok(Grants { grants })
+        Ok(lending.finish())
     }
 
     /// Whether these are the grants that `lend` makes of these, whatever was done with them since.

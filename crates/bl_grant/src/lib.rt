@@ -5,5 +5,6 @@
 pub mod grant;
 pub mod grants;
 mod held;
+pub mod lending;
 pub mod returned;
 pub mod withdrawn;
