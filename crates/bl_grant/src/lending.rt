@@ -10,8 +10,8 @@ use bl_work::document::Document;
 use std::alloc::{AllocError, Global};
 use std::marker::Model;
 
-/// Grants that are lent one by one, with room for those that are still to come: its value is what was lent, and for how many there
-/// is room. No call shows a content or changes one. It has no `Drop`: it is finished.
+/// Grants that are lent one by one, with room for those that are still to come: its value is what was lent, and for how
+/// many there is room. No call shows a content or changes one. It has no `Drop`: it is finished.
 pub struct Lending {
     grants: Vec<Grant>,
 }
@@ -36,8 +36,8 @@ impl Lending {
         Ok(Lending { grants })
     }
 
-    /// Lends one document more, whose bytes are not copied. An error comes only where a growth is refused, and then nothing is lent,
-    /// those before it neither.
+    /// Lends one document more, whose bytes are not copied. An error comes only where a growth is refused, and then
+    /// nothing is lent, those before it neither.
     pub fn lend(
         self,
         entry: u32,
