@@ -10,6 +10,7 @@ use Rattle.bl_work.specs.Body.{statements_of, depth}
 use Rattle.bl_work.specs.declared.script.Condition.{Condition}
 use Rattle.bl_work.specs.declared.script.Stmt.{Stmt}
 use Rattle.bl_work.specs.declared.script.Stmt.TheVariants.{Show, Say, Add, Set, Copy, Pour, If, Spawn}
+use Rattle.bl_work.specs.Few.{items_of}
 use Rattle.bl_work.specs.Effects as effect
 use Rattle.bl_work.specs.Effects.{Effect, after, seen, effects_from, effects_of, holds_of, outputs, children}
 use Rattle.bl_grant.specs.Loaned.{Loaned}
@@ -26,7 +27,7 @@ module _ (start : List Loaned) (es : List Effect) (grants : List Loaned) (told :
       ∙ content-after observes start es doc (sym (ap (λ gs. declares observes gs doc) (ap accesses_of was.contents ∙ accesses-changed start es)) ∙ h))
 
   -- one more text is shown
-  pub is-shown : (told_then : Told) (text : List ℕ) → told_then.shown.items ≡ told.shown.items ++ text ∷ [] → told_then.spawned.items ≡ told.spawned.items
+  pub is-shown : (told_then : Told) (text : List ℕ) → items_of told_then.shown ≡ items_of told.shown ++ text ∷ [] → told_then.spawned.items ≡ told.spawned.items
       → IsAfter start (es ++ effect.Out text ∷ []) grants told_then
   is-shown told_then text shown spawned =
       record {
@@ -36,7 +37,7 @@ module _ (start : List Loaned) (es : List Effect) (grants : List Loaned) (told :
       }
 
   -- one more behaviour is spawned
-  pub is-spawned : (told_then : Told) (k : ℕ) → told_then.shown.items ≡ told.shown.items → told_then.spawned.items ≡ told.spawned.items ++ k ∷ []
+  pub is-spawned : (told_then : Told) (k : ℕ) → items_of told_then.shown ≡ items_of told.shown → told_then.spawned.items ≡ told.spawned.items ++ k ∷ []
       → IsAfter start (es ++ effect.Child k ∷ []) grants told_then
   is-spawned told_then k shown spawned =
       record {
@@ -74,20 +75,20 @@ module _ (start : List Loaned) (es : List Effect) (grants : List Loaned) (told :
 
 -- each statement
 pub show-run : (grants : List Loaned) (told told_then : Told) (doc : ℕ) → declares observes (accesses_of grants) doc ≡ true
-    → told_then.shown.items ≡ told.shown.items ++ content_of grants doc ∷ [] → told_then.spawned.items ≡ told.spawned.items
+    → items_of told_then.shown ≡ items_of told.shown ++ content_of grants doc ∷ [] → told_then.spawned.items ≡ told.spawned.items
     → HasRun (statement.Show doc statement.Nothing) grants told grants told_then
 show-run grants told told_then doc h shown spawned =
     record {
       on = λ start es was.
           is-shown start es grants told was told_then (seen (content_of start) es doc)
-          (shown ∙ ap (λ t. told.shown.items ++ t ∷ []) (sym (seen-now start es grants told was doc h))) spawned;
+          (shown ∙ ap (λ t. items_of told.shown ++ t ∷ []) (sym (seen-now start es grants told was doc h))) spawned;
     }
 
-pub say-run : (grants : List Loaned) (told told_then : Told) (text : List ℕ) → told_then.shown.items ≡ told.shown.items ++ text ∷ [] → told_then.spawned.items ≡ told.spawned.items
+pub say-run : (grants : List Loaned) (told told_then : Told) (text : List ℕ) → items_of told_then.shown ≡ items_of told.shown ++ text ∷ [] → told_then.spawned.items ≡ told.spawned.items
     → HasRun (statement.Say text statement.Nothing) grants told grants told_then
 say-run grants told told_then text shown spawned = record { on = λ start es was. is-shown start es grants told was told_then text shown spawned }
 
-pub spawn-run : (grants : List Loaned) (told told_then : Told) (k : ℕ) → told_then.shown.items ≡ told.shown.items → told_then.spawned.items ≡ told.spawned.items ++ k ∷ []
+pub spawn-run : (grants : List Loaned) (told told_then : Told) (k : ℕ) → items_of told_then.shown ≡ items_of told.shown → told_then.spawned.items ≡ told.spawned.items ++ k ∷ []
     → HasRun (statement.Spawn k statement.Nothing) grants told grants told_then
 spawn-run grants told told_then k shown spawned = record { on = λ start es was. is-spawned start es grants told was told_then k shown spawned }
 

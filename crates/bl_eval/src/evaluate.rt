@@ -13,6 +13,7 @@ use crate::lent::{Done, Lent, Unrun};
 use crate::told::Told;
 use bl_grant::grants::Grants;
 use bl_work::answer::Outputs;
+use bl_work::few::Few;
 use bl_work::script::{Script, Stmt};
 use std::alloc::{AllocError, Global};
 
@@ -33,13 +34,13 @@ fn perform(alloc: Global, grants: &mut Grants, statements: &[Stmt]) -> Result<Pe
     ensures done { IfOk result (HasPerformed (statements_of statements.now) grants.old grants.new) }
 {
     let mut told = Told {
-        shown: Vec::new(alloc),
+        shown: Few::Nothing,
         spawned: Vec::new(alloc),
     };
     told.run(alloc, grants, statements)?;
     let Told { shown, spawned } = told;
     Ok(Performed {
-        outputs: Outputs::new(shown),
+        outputs: Outputs::of(shown),
         spawned,
     })
 }

@@ -16,6 +16,7 @@ ghost use Rattle.bl_eval.specs.declared.told.Told.{Told};
 use bl_grant::grants::Grants;
 use bl_policy::id::DocId;
 use bl_work::document::Document;
+use bl_work::few::Few;
 use bl_work::laws;
 use bl_work::script::{Condition, Stmt};
 use bstr::ByteSlice;
@@ -24,7 +25,7 @@ use std::alloc::{AllocError, Global};
 /// What a body has shown and spawned so far.
 #[derive(Drop)]
 pub(crate) struct Told {
-    pub(crate) shown: Vec<Document>,
+    pub(crate) shown: Few<Document>,
     pub(crate) spawned: Vec<u8>,
 }
 
@@ -99,21 +100,21 @@ fn pour(alloc: Global, grants: &mut Grants, from: DocId, to: DocId) -> Result<()
 
 impl Told {
     /// Shows a document's content, which is shared and not copied.
-    fn show(&mut self, grants: &Grants, doc: DocId) -> Result<(), AllocError>
+    fn show(&mut self, alloc: Global, grants: &Grants, doc: DocId) -> Result<(), AllocError>
         requires apart { AreApart (accesses_of grants.now) }
         requires observes { IsTrue (declares observes (accesses_of grants.now) doc) }
         ensures { OnOk result (HasRun (statement.Show doc statement.Nothing) grants.now self.old grants.now self.new) }
     {
         let content = grants.content(doc).share()?;
-        self.shown.push(content)?;
+        self.shown.push(alloc, content)?;
         Ok(())
     }
 
     /// Shows a text.
-    fn say(&mut self, text: &Document) -> Result<(), AllocError>
+    fn say(&mut self, alloc: Global, text: &Document) -> Result<(), AllocError>
         ensures { OnOk result ((grants : List Loaned) → HasRun (statement.Say text.now statement.Nothing) grants self.old grants self.new) }
     {
-        self.shown.push(text.share()?)?;
+        self.shown.push(alloc, text.share()?)?;
         Ok(())
     }
 
@@ -140,8 +141,8 @@ impl Told {
         ensures ran { OnOk result (HasRun (statements_of (statement.now ∷ [])) grants.old self.old grants.new self.new) }
     {
         match statement {
-            Stmt::Show(doc) => self.show(grants, *doc),
-            Stmt::Say(text) => self.say(text),
+            Stmt::Show(doc) => self.show(alloc, grants, *doc),
+            Stmt::Say(text) => self.say(alloc, text),
             Stmt::Add(doc, text) => add(alloc, grants, *doc, text),
             Stmt::Set(doc, text) => set(grants, *doc, text),
             Stmt::Copy(from, to) => copy(grants, *from, *to),
