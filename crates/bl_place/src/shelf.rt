@@ -2,15 +2,19 @@
 //!
 //! A content stays on its shelf while it is lent. Nobody else alters it then, so it is what was lent, and what comes back takes its
 //! place.
-ghost use Rattle.std.specs.Prelude.{◌≡◌, ◌<◌, ◌↔◌, ℕ, length, map, slice_index_or, All, IfOk, IsTrue};
+ghost use Rattle.std.specs.Prelude.{◌≡◌, ◌<◌, ◌≤◌, ◌↔◌, ℕ, length, map, slice_index_or, All, IfOk, IsTrue};
 ghost use Rattle.bl_policy.specs.declared.access.Access.{Access};
 ghost use Rattle.bl_work.specs.Statements.{no_part};
+ghost use Rattle.bl_work.specs.Script.{most_accesses};
 ghost use Rattle.bl_grant.specs.Loaned.{Back, back_of};
+ghost use Rattle.bl_grant.specs.Loans.{loans};
 ghost use Rattle.bl_order.specs.Past.{deletes};
-ghost use Rattle.bl_place.specs.Shelves.{AreEmptied, content_in, contents_in, marked, new_shelf, put_back};
+ghost use Rattle.bl_place.specs.Shelves.{AreEmptied, contents_in, marked, new_shelf, put_back};
 
 use crate::place::is_exclusive;
 use bl_eval::lent::{Done, Unrun};
+use bl_grant::grants::Grants;
+use bl_grant::lending::Lending;
 use bl_grant::withdrawn::Withdrawn;
 use bl_policy::access::Access;
 use bl_policy::rule::Rule;
@@ -41,20 +45,24 @@ pub fn shelve(alloc: Global, contents: &[Document]) -> Result<Vec<Shelf>, AllocE
     Ok(shelves)
 }
 
-/// The contents of the documents that the accesses name, in order, each with one more owner.
-pub fn contents_of(
+/// Grants of the contents of these shelves for these accesses, in order, to this entry: 0 to 8 of them. The contents are shared, and
+/// their bytes are not copied. An error comes only where a growth is refused, and then nothing is lent.
+pub fn lend_from(
     alloc: Global,
+    entry: u32,
     shelves: &[Shelf],
     accesses: &[Access],
-) -> Result<Vec<Document>, AllocError>
-    requires { All (λ (a : Access). a.doc < length shelves.now) accesses.now }
-    ensures { IfOk result (λ documents. documents.items ≡ map (λ (a : Access). content_in shelves.now a.doc) accesses.now) }
+) -> Result<Grants, AllocError>
+    requires few { length accesses.now ≤ most_accesses }
+    requires shelves { All (λ (a : Access). a.doc < length shelves.now) accesses.now }
+    ensures { IfOk result (λ grants. grants ≡ loans entry accesses.now (contents_in shelves.now accesses.now)) }
 {
-    let mut documents = Vec::with_capacity(alloc, accesses.len())?;
+    let mut lending = Lending::new(alloc, accesses.len())?;
     for access in accesses {
-        documents.push(shelves[access.doc.position() as usize].content.share()?)?;
+        let shelf = &shelves[access.doc.position() as usize];
+        lending = lending.lend(entry, *access, &shelf.content)?;
     }
-    Ok(documents)
+    Ok(lending.finish())
 }
 
 /// Whether this behaviour had just the contents of these shelves, by its accesses, and was done.
