@@ -11,7 +11,6 @@ use crate::origin::Origin;
 use crate::refusal::{Cause, NotReady, OpenRefused, Refused, StartFault, Starved};
 use crate::session::{Session, SessionNo};
 use bl_eval::lent::{Done, DoneParts, Lent, Unrun, UnrunParts};
-use bl_grant::grants::Grants;
 use bl_grant::withdrawn::Withdrawn;
 use bl_level::level::Level;
 use bl_order::laws::{
@@ -21,9 +20,7 @@ use bl_order::laws::{
 use bl_place::place::{
     Descent, Place, Siblings, Stand, declared, enter_children, enter_queues, work_at,
 };
-use bl_place::shelf::{
-    Shelf, contents_of, empty_deleted, is_done_of, is_unrun_of, mark, take_back,
-};
+use bl_place::shelf::{Shelf, empty_deleted, is_done_of, is_unrun_of, lend_from, mark, take_back};
 use bl_policy::denial::Denial;
 use bl_policy::id::{DocId, SubjectId};
 use bl_policy::policy::Policy;
@@ -187,14 +184,20 @@ impl Core {
         SessionNo::new(number)
     }
 
-    /// Why a line may not be admitted.
+    /// Whether some text reads as this work by the setup's names. It takes no memory.
+    pub fn knows(&self, work: &Work) -> bool
+        ensures { IsTrue result ↔ IsReadable self.now.setup.names work.now }
+    {
+        self.setup.names().knows(work)
+    }
+
+    /// Why a line may not be admitted whose work some text reads as.
     fn cause(&self, session: SessionNo, ordinal: u32, work: &Work) -> Option<Cause>
-        ensures { MatchOption result (Needs self.now (Admits session ordinal work.now)) (λ cause. IsCause self.now session ordinal work.now cause) }
+        requires { IsReadable self.now.setup.names work.now }
+        ensures { MatchOption result (Needs self.now (Admits session ordinal work.now))
+            (λ cause. IsCause self.now session ordinal work.now cause) }
     {
         the_order_has_room();
-        if !self.setup.names().knows(work) {
-            return Some(Cause::Stranger);
-        }
         let number = session.number() as usize;
         if number >= self.sessions.len() {
             return Some(Cause::Session);
@@ -212,6 +215,28 @@ impl Core {
     /// the first cause that holds.
     pub fn line(&mut self, session: SessionNo, ordinal: u32, work: Work) -> Result<u32, Refused>
         ensures ok { IfOk result (λ n. (n ≡ length self.old.order) × (self.new ≡ change self.old (Admits session ordinal work))) }
+        ensures err { OnErr result (self.new ≡ self.old) }
+        ensures cause { MatchResult result (λ _. Needs self.old (Admits session ordinal work))
+            (λ refused. IsCause self.old session ordinal work refused.cause × (refused.work ≡ work)) }
+    {
+        if !self.knows(&work) {
+            let cause = Cause::Stranger;
+            return Err(Refused { cause, work });
+        }
+        self.readable_line(session, ordinal, work)
+    }
+
+    /// Admits a line as `line` does, with a work that some text reads as by the setup's names, as one that was just read: that is not
+    /// asked again.
+    pub fn readable_line(
+        &mut self,
+        session: SessionNo,
+        ordinal: u32,
+        work: Work,
+    ) -> Result<u32, Refused>
+        requires { IsReadable self.old.setup.names work }
+        ensures ok { IfOk result (λ n. (n ≡ length self.old.order)
+            × (self.new ≡ change self.old (Admits session ordinal work))) }
         ensures err { OnErr result (self.new ≡ self.old) }
         ensures cause { MatchResult result (λ _. Needs self.old (Admits session ordinal work))
             (λ refused. IsCause self.old session ordinal work refused.cause × (refused.work ≡ work)) }
@@ -336,9 +361,8 @@ impl Core {
         let accesses = script.accesses(usize::from(index));
         // asked for the proof alone: a behaviour has 1 to 8 accesses
         let _statements = script.body(usize::from(index));
-        let documents = contents_of(self.alloc, self.shelves.as_slice(), accesses)?;
         let owned = script.share()?;
-        let grants = Grants::lend(self.alloc, n, accesses, documents.as_slice())?;
+        let grants = lend_from(self.alloc, n, self.shelves.as_slice(), accesses)?;
         Ok(Lent::new(owned, index, grants))
     }
 
