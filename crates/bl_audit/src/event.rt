@@ -101,7 +101,7 @@ fn numbers_fit(event: &Event)
     match event {
         Event::Open(_) => (),
         Event::Line { session, ordinal } => {
-            fits(session.number());
+            fits(u32::from(*session));
             fits(*ordinal)
         }
         Event::Start(n) => fits(*n),
@@ -134,7 +134,8 @@ fn put_text<W: Write>(
             Ok(at)
         }
         Event::Line { session, ordinal } => {
-            put_next_line(text, writer, core, at, *session, *ordinal)
+            let session = SessionNo::new(u32::from(*session));
+            put_next_line(text, writer, core, at, session, *ordinal)
         }
         Event::Start(n) => {
             put_start(writer, names, *n, &start_words(core.answer(*n)));

@@ -14,7 +14,7 @@ fn events_of_a_child() -> [Event; 7] {
         Event::Open(SubjectId::new(ANN)),
         Event::Open(SubjectId::new(BOB)),
         Event::Line {
-            session: SessionNo::new(0),
+            session: 0,
             ordinal: 1,
         },
         Event::Start(0),

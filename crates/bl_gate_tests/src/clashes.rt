@@ -200,7 +200,7 @@ fn clash(rt: HostRuntime) {
     assert!(rt; !ended.read_failed && !ended.write_failed);
     assert!(rt; ended.writer.as_slice() == b"ok\n".as_slice());
     let intruded = Event::Line {
-        session: SessionNo::new(0),
+        session: 0,
         ordinal: 9,
     };
     assert!(rt; ended.hall.trail() == [opened(), intruded].as_slice());

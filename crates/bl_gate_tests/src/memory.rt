@@ -141,7 +141,7 @@ fn opened() -> Event {
 /// The event of its line.
 fn admitted() -> Event {
     Event::Line {
-        session: SessionNo::new(0),
+        session: 0,
         ordinal: 1,
     }
 }

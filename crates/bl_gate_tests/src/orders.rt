@@ -1,7 +1,6 @@
 //! Entries that end in another order than they started.
 use super::base::{ANN, admit, base_gate, begin, right};
 use super::ends::finish_after_another;
-use bl_core::session::SessionNo;
 use bl_hall::event::Event;
 use bl_policy::id::SubjectId;
 use std::process::Abort;
@@ -9,7 +8,7 @@ use std::process::Abort;
 /// A line of the one session.
 fn line(ordinal: u32) -> Event {
     Event::Line {
-        session: SessionNo::new(0),
+        session: 0,
         ordinal,
     }
 }

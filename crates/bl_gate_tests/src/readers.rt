@@ -3,7 +3,6 @@ ghost use Rattle.std.specs.Prelude.{◌≡◌, ◌+◌};
 
 use super::base::base_gate;
 use super::served::{READ_ONE, TOLD_ONE, admitted, comes, opened};
-use bl_core::session::SessionNo;
 use bl_gate::gate::Gate;
 use bl_gate::pass::Pass;
 use bl_hall::event::Event;
@@ -199,7 +198,7 @@ fn serve_both<R: Threads + Wait + Clock + Sync>(
 /// end, and then of the first line's end.
 fn overlap(trail: &[Event]) -> bool {
     let later = Event::Line {
-        session: SessionNo::new(1),
+        session: 1,
         ordinal: 1,
     };
     let events = [

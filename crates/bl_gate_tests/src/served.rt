@@ -1,6 +1,5 @@
 //! How a session over a gate ended.
 use super::base::{ANN, base_gate};
-use bl_core::session::SessionNo;
 use bl_hall::event::Event;
 use bl_hall::hall::Hall;
 use bl_policy::id::SubjectId;
@@ -42,7 +41,7 @@ pub(super) fn opened() -> Event {
 /// The event of the first line of the first session.
 pub(super) fn admitted() -> Event {
     Event::Line {
-        session: SessionNo::new(0),
+        session: 0,
         ordinal: 1,
     }
 }

@@ -15,7 +15,7 @@ use std::process::Abort;
 /// A line of the one session.
 fn line(ordinal: u32) -> Event {
     Event::Line {
-        session: SessionNo::new(0),
+        session: 0,
         ordinal,
     }
 }

@@ -1,6 +1,5 @@
 //! One turn through the gate.
 use super::base::{ANN, ask, base_gate, is_answered};
-use bl_core::session::SessionNo;
 use bl_hall::event::Event;
 use bl_policy::id::SubjectId;
 use bl_worker::pause::NoPause;
@@ -11,7 +10,7 @@ fn events_of_a_turn() -> [Event; 4] {
     [
         Event::Open(SubjectId::new(ANN)),
         Event::Line {
-            session: SessionNo::new(0),
+            session: 0,
             ordinal: 1,
         },
         Event::Start(0),

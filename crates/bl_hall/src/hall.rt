@@ -7,7 +7,7 @@ use crate::rooms::Rooms;
 use crate::walk::{label_of, places_above, write_label};
 use bl_core::foreign::{Foreign, ForeignUnrun};
 use bl_core::machine::{Core, Started};
-use bl_core::refusal::{NotReady, OpenRefused, Refused, StartFault, Starved};
+use bl_core::refusal::{Cause, NotReady, OpenRefused, Refused, StartFault, Starved};
 use bl_core::session::SessionNo;
 use bl_eval::lent::{Done, Lent, Unrun};
 use bl_order::laws::{headline, may_start_is_tested, the_order_has_room};
@@ -50,6 +50,7 @@ impl Model for Hall {
 
 impl Hall {
     ghost use Rattle.std.specs.Prelude.{◌≡◌, ◌<◌, ◌≤◌, ◌↔◌, ℕ, IsTrue, IsSome, IsNone, IsOk, length, map, All, [], IfOk, OnErr, OnOk, IfErr, IfSome, MatchResult, MatchOption, Some, None, Ok, Err};
+    ghost use Rattle.bl_work.specs.Readable.{IsReadable};
     ghost use Rattle.bl_order.specs.Known.{KnowsAnswer};
     ghost use Rattle.bl_order.specs.Labels.{tag};
     ghost use Rattle.bl_order.specs.Machine.{Opens, Admits, Starts, Ends, Loses, MayStart, Needs, has_ended, runs};
@@ -118,10 +119,34 @@ impl Hall {
             (λ refused. IsCause (state_now self.old) session ordinal work refused.cause × (refused.work ≡ work)) }
         ensures continues { Continues self.old self.new }
     {
+        if !self.core.knows(&work) {
+            let cause = Cause::Stranger;
+            return Err(Refused { cause, work });
+        }
+        self.readable_line(session, ordinal, work)
+    }
+
+    /// Admits a line as `line` does, with a work that some text reads as by the setup's names, as one that was just read: that is not
+    /// asked again.
+    pub fn readable_line(
+        &mut self,
+        session: SessionNo,
+        ordinal: u32,
+        work: Work,
+    ) -> Result<u32, Refused>
+        requires { IsReadable (state_now self.old).setup.names work }
+        ensures ok { IfOk result (λ n. (n ≡ length (state_now self.old).order)
+            × (self.new ≡ with_event self.old (Admits session ordinal work))) }
+        ensures err { OnErr result (self.new ≡ self.old) }
+        ensures cause { MatchResult result (λ _. Needs (state_now self.old) (Admits session ordinal work))
+            (λ refused. IsCause (state_now self.old) session ordinal work refused.cause × (refused.work ≡ work)) }
+        ensures continues { Continues self.old self.new }
+    {
         the_order_has_room();
-        match self.core.line(session, ordinal, work) {
+        match self.core.readable_line(session, ordinal, work) {
             Ok(n) => {
                 link_line(&mut self.links, &mut self.tallies, session, n);
+                let session = session.number() as u16;
                 self.events.push_reserved(Event::Line { session, ordinal });
                 Ok(n)
             }

@@ -1,11 +1,12 @@
-use Rattle.std.proofs.Common.{◌+◌, length, ap, ◌∙◌, arith}
+use Rattle.std.proofs.Common.{[], ◌+◌, ◌∷◌, ◌++◌, length, ap, ◌∙◌, arith}
 use Rattle.std.specs.Prelude.{Some, slice_set}
 use Rattle.bl_order.specs.Machine.{State, Admits}
 use Rattle.bl_hall.specs.declared.hall.Hall.TheInside.{Inside}
+use Rattle.bl_hall.specs.declared.event.Event.TheVariants as kept_as
 use Rattle.bl_hall.specs.Linked.{tally_at}
 use Rattle.bl_hall.proofs.Events.{line-few, line-kept, line-place, line-room}
 use Rattle.bl_hall.proofs.Keeping.{Next, continues, core-is, event-room, view-next}
-use Rattle.bl_hall.proofs.hall.Hall.line.Goals as goal
+use Rattle.bl_hall.proofs.hall.Hall.readable_line.Goals as goal
 
 pub link_line-requires-clause-room : goal.link_line-requires-clause-room
 link_line-requires-clause-room c =
@@ -25,10 +26,10 @@ push_reserved-requires c =
 
 pub invariant_of-self : goal.invariant_of-self
 invariant_of-self c =
-    let d : Inside = record { alloc = c.self.inside.alloc; core = c.line.new.self; events = c.push_reserved.new.self; links = c.link_line.new.links; tallies = c.link_line.new.tallies } in
+    let d : Inside = record { alloc = c.self.inside.alloc; core = c.readable_line.new.self; events = c.push_reserved.new.self; links = c.link_line.new.links; tallies = c.link_line.new.tallies } in
     let next : Next c.self.inside d (Admits c.args.session c.args.ordinal c.args.work) = record {
       core = c.in-Ok.ensures.ok.1;
-      events = c.push_reserved.ensures.items;
+      events = c.push_reserved.ensures.items ∙ ap (λ i. c.self.inside.events.items ++ kept_as.Line i c.args.ordinal ∷ []) c.number-session.ensures;
       events_room = c.push_reserved.ensures.capacity;
       links_room = c.link_line.ensures.links_room;
       tallies_room = c.link_line.ensures.tallies_room;
@@ -39,10 +40,10 @@ invariant_of-self c =
 
 pub returns-in-Ok-clause-ok : goal.returns-in-Ok-clause-ok
 returns-in-Ok-clause-ok c =
-    let d : Inside = record { alloc = c.self.inside.alloc; core = c.line.new.self; events = c.push_reserved.new.self; links = c.link_line.new.links; tallies = c.link_line.new.tallies } in
+    let d : Inside = record { alloc = c.self.inside.alloc; core = c.readable_line.new.self; events = c.push_reserved.new.self; links = c.link_line.new.links; tallies = c.link_line.new.tallies } in
     let next : Next c.self.inside d (Admits c.args.session c.args.ordinal c.args.work) = record {
       core = c.in-Ok.ensures.ok.1;
-      events = c.push_reserved.ensures.items;
+      events = c.push_reserved.ensures.items ∙ ap (λ i. c.self.inside.events.items ++ kept_as.Line i c.args.ordinal ∷ []) c.number-session.ensures;
       events_room = c.push_reserved.ensures.capacity;
       links_room = c.link_line.ensures.links_room;
       tallies_room = c.link_line.ensures.tallies_room;
@@ -53,10 +54,10 @@ returns-in-Ok-clause-ok c =
 
 pub returns-in-Ok-clause-continues : goal.returns-in-Ok-clause-continues
 returns-in-Ok-clause-continues c =
-    let d : Inside = record { alloc = c.self.inside.alloc; core = c.line.new.self; events = c.push_reserved.new.self; links = c.link_line.new.links; tallies = c.link_line.new.tallies } in
+    let d : Inside = record { alloc = c.self.inside.alloc; core = c.readable_line.new.self; events = c.push_reserved.new.self; links = c.link_line.new.links; tallies = c.link_line.new.tallies } in
     let next : Next c.self.inside d (Admits c.args.session c.args.ordinal c.args.work) = record {
       core = c.in-Ok.ensures.ok.1;
-      events = c.push_reserved.ensures.items;
+      events = c.push_reserved.ensures.items ∙ ap (λ i. c.self.inside.events.items ++ kept_as.Line i c.args.ordinal ∷ []) c.number-session.ensures;
       events_room = c.push_reserved.ensures.capacity;
       links_room = c.link_line.ensures.links_room;
       tallies_room = c.link_line.ensures.tallies_room;
