@@ -25,7 +25,7 @@ use bl_policy::id::SubjectId;
 use bl_quota::asks::Asks;
 use bl_wire::fault::SessionFault;
 use bl_worker::batch::Batch;
-use bl_worker::bell::EndToRing;
+use bl_worker::count::{EndToRing, Looked, Seen};
 use std::alloc::{AllocError, Global};
 use std::snapshot::Snapshot;
 use std::sync::Wait;
@@ -92,6 +92,8 @@ pub struct Round {
     pub left: bool,
     /// How many events the trail had then.
     pub events: usize,
+    /// The count of ends, with the end of what was run before, as it was before the members' asks were met.
+    pub looked: Looked,
 }
 
 impl<'a, S: Stream> Crowd<'a, S> {
@@ -214,6 +216,7 @@ impl<'a, S: Stream> Crowd<'a, S> {
         quota: &mut Q,
         batch: &mut Batch,
         portion: Portion,
+        seen: Seen,
     ) -> Round
         requires crowd { IsCrowd S.remaining S.contents self.old }
         requires ran { AllRan batch.old }
@@ -247,6 +250,7 @@ impl<'a, S: Stream> Crowd<'a, S> {
     {
         let mut turn = self.gate.turn(rt, self.pass.take());
         let ended = batch.end_on(self.alloc, &mut turn);
+        let looked = seen.look(&turn).and(&ended);
         meet_on_all(&mut turn, quota, &mut self.members, portion.lines);
         let (begun, over) = batch.begin_ready(&mut turn, portion.long);
         let left = turn.ready().is_some();
@@ -258,6 +262,7 @@ impl<'a, S: Stream> Crowd<'a, S> {
             over,
             left,
             events,
+            looked,
         }
     }
 

@@ -32,7 +32,7 @@ impl Pause for HoldFirst {
             return;
         }
         for _ in 0..MOST_TURNS {
-            if self.bell.ends() > 0 {
+            if self.bell.ends().count() > 0 {
                 self.held.store(1, Ordering::SeqCst);
                 return;
             }
@@ -78,7 +78,7 @@ fn work_both<R: Threads + Wait + Sync>(
 /// Closes a bell once it was rung for two entries that have ended.
 fn close_after_two<R: Wait>(rt: &R, bell: &Bell) {
     for _ in 0..MOST_TURNS {
-        if bell.ends() > 1 {
+        if bell.ends().count() > 1 {
             break;
         }
         thread::yield_now();

@@ -1,25 +1,24 @@
 //! How session threads that sleep are woken.
-use bl_worker::bell::EndToRing;
+use bl_worker::count::{Count, Counted, EndToRing, Flag, Looked, Seen, Woken};
 use mio::Waker;
 use std::alloc::{AllocError, Global};
-use std::sync::atomic::{AtomicBool, AtomicU64, Ordering};
 
 /// What wakes one thread, and whether the end of an entry is to.
 #[derive(Drop)]
 struct Alarm {
-    armed: AtomicBool,
+    armed: Flag,
     waker: Waker,
 }
 
 /// The alarms of all session threads, each by the number of its thread, and how many entries have ended.
 ///
-/// A thread that waits for an entry to end reads the count of ends, looks for the end, and sleeps only if `arm` finds
-/// the same count still. Who ends an entry counts first and looks for armed alarms after; who sleeps arms first and
-/// looks at the count after. So one of the two sees the other, and no end is missed. An alarm that is rung before its
-/// thread sleeps ends that sleep at once. Whom a ring wakes, and when, is not proved.
+/// A thread that waits for an entry to end reads the count of ends, looks for the end in a turn at the gate, and sleeps
+/// only if `arm` finds the same count still. Who ends an entry counts first and looks for armed alarms after; who sleeps
+/// arms first and looks at the count after. So one of the two sees the other, and no end is missed. An alarm that is
+/// rung before its thread sleeps ends that sleep at once. Whom a ring wakes, and when, is not proved.
 #[derive(Drop)]
 pub struct Alarms {
-    ends: AtomicU64,
+    ends: Count,
     alarms: Vec<Alarm>,
 }
 
@@ -27,41 +26,45 @@ impl Alarms {
     /// No alarm.
     pub fn new(alloc: Global) -> Alarms {
         Alarms {
-            ends: AtomicU64::new(0),
+            ends: Count::new(),
             alarms: Vec::new(alloc),
         }
     }
 
     /// Takes in the alarm of one more thread, which gets the next number. An error comes where memory was refused.
     pub fn add(&mut self, waker: Waker) -> Result<(), AllocError> {
-        let armed = AtomicBool::new(false);
+        let armed = Flag::new();
         self.alarms.push(Alarm { armed, waker })?;
         Ok(())
     }
 
     /// How many entries have ended; the count wraps.
-    pub fn ends(&self) -> u64 {
-        self.ends.load(Ordering::SeqCst)
+    pub fn ends(&self) -> Seen {
+        self.ends.read()
     }
 
     /// Says that an entry has ended, and wakes each thread that is to know. Where none is it makes no call of the
     /// system.
     pub fn ring_end(&self, end: EndToRing) {
-        end.rung();
-        self.ends.fetch_add(1, Ordering::SeqCst);
+        self.wake_armed(self.ends.add_end(end));
+    }
+
+    /// Wakes each thread that is to know, since an end was counted.
+    fn wake_armed(&self, counted: Counted) -> Woken {
         for alarm in &self.alarms {
-            if alarm.armed.load(Ordering::SeqCst) && alarm.armed.swap(false, Ordering::SeqCst) {
+            if alarm.armed.lower(&counted) {
                 let _ = alarm.waker.wake();
             }
         }
+        counted.woken()
     }
 
-    /// Has the next end wake a thread, and says whether none has come since the count was `seen`: then it may sleep.
-    pub fn arm(&self, thread: usize, seen: u64) -> bool {
+    /// Has the next end wake a thread, and says whether none has come since it has looked: then it may sleep.
+    pub fn arm(&self, thread: usize, looked: &Looked) -> bool {
         match self.alarms.get(thread) {
             Some(alarm) => {
-                alarm.armed.store(true, Ordering::SeqCst);
-                self.ends() == seen
+                let raised = alarm.armed.raise();
+                !self.ends.has_come(looked, raised)
             }
             None => false,
         }

@@ -24,7 +24,8 @@ use bl_policy::id::SubjectId;
 use bl_quota::asks::Asks;
 use bl_wire::fault::SessionFault;
 use bl_worker::batch::Batch;
-use bl_worker::bell::{Bell, Closed, EndToRing, WorkerBell};
+use bl_worker::bell::{Bell, Closed, WorkerBell};
+use bl_worker::count::{EndToRing, Looked, Seen};
 use bl_worker::pause::Pause;
 use std::alloc::{AllocError, Global};
 use std::marker::Model;
@@ -78,7 +79,7 @@ pub struct RoundContext<'a, P, R> {
 }
 
 impl WorkerBell for Calls<'_> {
-    fn calls(&self) -> u64 {
+    fn calls(&self) -> Seen {
         self.bell.calls()
     }
 
@@ -87,21 +88,41 @@ impl WorkerBell for Calls<'_> {
         self.alarms.ring_end(end);
     }
 
-    fn wait_work<R: Wait>(&self, rt: &R, seen: u64) -> Option<Closed> {
-        self.bell.wait_work(rt, seen)
+    fn wait_work<R: Wait>(&self, rt: &R, looked: Looked) -> Option<Closed> {
+        self.bell.wait_work(rt, looked)
     }
 }
 
-/// What a thread keeps in mind from one turn at the gate to the next: the count of ends that it has taken in, whether
-/// it may have left entries that are ready, whether nobody was called for those, how many events the trail had, and
-/// what time it is.
-#[derive(Clone, Copy, Default)]
+/// What a thread keeps in mind from one turn at the gate to the next: the count of ends as it has looked, if it has,
+/// whether it may have left entries that are ready, whether nobody was called for those, how many events the trail had,
+/// and what time it is.
+#[derive(Default, Drop)]
 pub(crate) struct Marks {
-    seen: u64,
+    looked: Option<Looked>,
     left: bool,
     uncalled: bool,
     events: usize,
     time: u64,
+}
+
+impl Marks {
+    /// Whether a turn at the gate may bring something to who waits: entries were left ready, or one has ended since the
+    /// thread has looked.
+    fn is_called(&self, alarms: &Alarms) -> bool {
+        match &self.looked {
+            Some(looked) => self.left || looked.is_behind(&alarms.ends()),
+            None => true,
+        }
+    }
+
+    /// Has the next end wake a thread, and says whether it may sleep: no entries were left ready, and none has ended
+    /// since it has looked.
+    fn arm(&self, alarms: &Alarms, thread: usize) -> bool {
+        match &self.looked {
+            Some(looked) => !self.left && alarms.arm(thread, looked),
+            None => false,
+        }
+    }
 }
 
 /// What a thread has in hand, and keeps in mind, from one turn at the gate to the next.
@@ -294,8 +315,7 @@ fn ring_if(alarms: &Alarms, ended: Option<EndToRing>) {
     }
 }
 
-/// Calls who is to know of a turn at the gate. An end before the members met is taken in; one that came after calls
-/// for another turn. Workers are called at once where somebody waits and entries were left that are long to run.
+/// Calls who is to know of a turn at the gate. An end that came after the members met calls for another turn. Workers are called at once where somebody waits and entries were left that are long to run.
 fn tell_of<R: Wait>(rt: &R, calls: Calls<'_>, round: Round, waits: bool, marks: &mut Marks)
     ensures { marks.new.time ≡ marks.old.time }
 {
@@ -305,10 +325,9 @@ fn tell_of<R: Wait>(rt: &R, calls: Calls<'_>, round: Round, waits: bool, marks: 
         over,
         left,
         events,
+        looked,
     } = round;
-    if ended.is_some() {
-        marks.seen = marks.seen.wrapping_add(1);
-    }
+    marks.looked = Some(looked);
     ring_if(calls.alarms, ended);
     ring_if(calls.alarms, over);
     marks.left = left;
@@ -353,8 +372,8 @@ fn take_turn<S: Stream, P: Pause, R: Wait, Q: Asks>(
         lines: MOST_LINES,
         long: usize::from(waits),
     };
-    hand.marks.seen = context.calls.alarms.ends();
-    let round = crowd.round(context.rt, quota, &mut hand.batch, portion);
+    let seen = context.calls.alarms.ends();
+    let round = crowd.round(context.rt, quota, &mut hand.batch, portion, seen);
     tell_of(context.rt, context.calls, round, waits, &mut hand.marks);
     go_on_each(crowd, seats, hand.marks.time);
     hand.batch.run(hand.alloc, context.pause);
@@ -368,7 +387,7 @@ fn is_called(seats: &[Seat], hand: &Hand, alarms: &Alarms) -> bool
 {
     !hand.batch.is_idle()
         || has(seats, Stage::Asks)
-        || (has(seats, Stage::Waits) && (hand.marks.left || alarms.ends() != hand.marks.seen))
+        || (has(seats, Stage::Waits) && hand.marks.is_called(alarms))
 }
 
 /// Ends what was run. Then nothing is in hand.
@@ -659,9 +678,7 @@ impl<'a, S: Stream> Rounds<'a, S> {
             return false;
         }
         match &self.hand {
-            Some(hand) if has(&self.seats, Stage::Waits) => {
-                !hand.marks.left && alarms.arm(thread, hand.marks.seen)
-            }
+            Some(hand) if has(&self.seats, Stage::Waits) => hand.marks.arm(alarms, thread),
             Some(_) | None => true,
         }
     }

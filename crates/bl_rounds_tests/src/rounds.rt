@@ -118,7 +118,7 @@ fn what_is_left_is_told_to_workers(rt: HostRuntime) {
     for _ in 0..ROUNDS {
         thread.round(&context, &mut NoQuota);
     }
-    assert!(rt; bell.calls() != 0);
+    assert!(rt; bell.calls().count() != 0);
     drop(thread.close());
     drop(gate);
 }

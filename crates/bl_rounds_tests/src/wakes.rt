@@ -1,9 +1,11 @@
 //! What wakes a thread that waits.
+
+use super::base::base_gate;
 use bl_connection::stream::{Answer, Stream};
 use bl_entrance::socket::Socket;
 use bl_entrance::watch::{Found, Watch, found_by};
 use bl_rounds::alarm::Alarms;
-use bl_worker::bell::EndToRing;
+use bl_worker::count::EndToRing;
 use std::io;
 use std::io::Write;
 use std::net::{Ipv4Addr, Net, Shutdown, TcpListener, TcpStream};
@@ -25,7 +27,7 @@ fn listen<R: Net<Listener = TcpListener, Stream = TcpStream> + Abort>(rt: &R) ->
     listener
 }
 
-/// A thread that may sleep is woken by the next end, and one that has missed none only.
+/// A thread that may sleep is woken by the next end, and one that has missed none only; its own end is no news to it.
 #[test]
 fn an_end_wakes_who_waits_for_one(rt: HostRuntime) {
     let listener = listen(&rt);
@@ -33,13 +35,23 @@ fn an_end_wakes_who_waits_for_one(rt: HostRuntime) {
     right(&rt, watch.watch_listener(&listener));
     let mut alarms = Alarms::new(rt.alloc());
     assert!(rt; alarms.add(right(&rt, watch.waker())).is_ok());
-    let none = alarms.ends();
-    alarms.ring_end(EndToRing::new());
-    let one = alarms.ends();
-    assert!(rt; one != none);
-    assert!(rt; !alarms.arm(0, none));
-    assert!(rt; alarms.arm(0, one));
-    assert!(rt; !alarms.arm(1, one));
+    let (gate, pass) = base_gate(&rt);
+    let turn = gate.turn(&rt, pass);
+    let none = alarms.ends().look(&turn);
+    let end = EndToRing::if_any(true);
+    let own = alarms.ends().look(&turn).and(&end);
+    match end {
+        Some(end) => alarms.ring_end(end),
+        None => {}
+    }
+    let one = alarms.ends().look(&turn);
+    drop(turn.leave());
+    drop(gate);
+    assert!(rt; none.is_behind(&alarms.ends()));
+    assert!(rt; !alarms.arm(0, &none));
+    assert!(rt; alarms.arm(0, &own));
+    assert!(rt; alarms.arm(0, &one));
+    assert!(rt; !alarms.arm(1, &one));
     alarms.ring_end(EndToRing::new());
     assert!(rt; watch.wait(None));
     assert!(rt; watch.events().count() == 1);

@@ -1,11 +1,11 @@
 //! The machine behind a session over a gate. Lines enter through the gate, and who waits for their answers takes turns
 //! meanwhile. Other threads call the gate too, so what the hall answers is that of a trail which goes on; what was told
 //! stays told, and is kept nowhere.
-ghost use Rattle.std.specs.Prelude.{◌≡◌, ◌≤◌, ◌<◌, ◌∷◌, All, [], None, IfOk, IfErr, OnOk, OnErr, IsSome, length, map};
-ghost use Rattle.bl_gate.specs.Gates.{hall_seen, state_seen};
+ghost use Rattle.std.specs.Prelude.{◌≡◌, ◌≤◌, ◌<◌, ◌∷◌, All, [], None, IfOk, IfErr, IfSome, OnOk, OnErr, IsSome, length, map};
+ghost use Rattle.bl_gate.specs.Gates.{Follows, hall_seen, state_seen};
 ghost use Rattle.bl_order.specs.Known.{KnowsAnswer};
 ghost use Rattle.bl_hall.specs.Chronicle.{HasTrail};
-ghost use Rattle.bl_hall.specs.Told.{AreAnswers, reply_of};
+ghost use Rattle.bl_hall.specs.Told.{AreAnswers, IsUnanswered, reply_of};
 ghost use Rattle.bl_work.specs.Readable.{IsReadable};
 ghost use Rattle.bl_engine.specs.declared.request.Request.TheVariants.{Opens, Admits, Settles};
 ghost use Rattle.bl_engine.specs.declared.conversation.Opening.TheVariants.{Open, Full};
@@ -23,7 +23,8 @@ use bl_hall::reply::{AnswersFault, Reply};
 use bl_policy::id::SubjectId;
 use bl_wire::fault::SessionFault;
 use bl_work::work::Work;
-use bl_worker::bell::{Bell, EndToRing};
+use bl_worker::bell::Bell;
+use bl_worker::count::{EndToRing, Looked, Seen};
 use bl_worker::pause::Pause;
 use bl_worker::turn::{Turn, work_on, work_once};
 use std::alloc::{AllocError, Global};
@@ -106,6 +107,32 @@ impl<'a, P: Pause, T: Wait> Visitor<'a, P, T> {
         }
     }
 
+    /// Looks in a turn at the gate for the replies to the session's lines above an ordinal, once the count of ends was
+    /// read.
+    fn answers(
+        &self,
+        pass: &mut Pass,
+        session: SessionNo,
+        after: u32,
+        seen: Seen,
+    ) -> (Result<Option<Vec<Reply>>, AnswersFault>, Looked)
+        requires gate { pass.old.gate ≡ self.now.gate.now }
+        ensures follows { Follows pass.old pass.new }
+        ensures trail { HasTrail (hall_seen pass.new) }
+        ensures own { pass.new.own ≡ pass.old.own }
+        ensures replies { IfOk result.0 (λ found. IfSome found (λ replies.
+            AreAnswers (state_seen pass.new) session after (map reply_of replies.items))) }
+        ensures known { IfOk result.0 (λ found. IfSome found (λ replies.
+            All (λ reply. KnowsAnswer (state_seen pass.new).setup reply.answer) replies.items)) }
+        ensures fault { IfErr result.0 (λ fault. IsUnanswered (state_seen pass.new) session fault) }
+    {
+        let turn = self.gate.turn(self.rt, pass.take());
+        let looked = seen.look(&turn);
+        let found = turn.answers(session, after);
+        *pass = turn.leave();
+        (found, looked)
+    }
+
     /// The replies to the session's lines above an ordinal. It takes turns until they are there, and waits at the bell
     /// for an entry to end where nothing is ready. An error comes only where a growth was refused.
     fn hear(
@@ -125,12 +152,13 @@ impl<'a, P: Pause, T: Wait> Visitor<'a, P, T> {
     {
         for _ in self.rt.forever() {
             let seen = self.bell.ends();
-            match self.gate.answers(self.rt, pass, session, after) {
+            let (found, looked) = self.answers(pass, session, after, seen);
+            match found {
                 Ok(Some(replies)) => return Ok(replies),
                 Ok(None) => {
                     let turn = work_once(self.rt, self.alloc, self.gate, pass, self.pause);
                     if !self.tell(turn) {
-                        self.bell.wait_end(self.rt, seen);
+                        self.bell.wait_end(self.rt, looked);
                     }
                 }
                 Err(AnswersFault::Memory) => return Err(AllocError),

@@ -10,7 +10,7 @@ ghost use Rattle.bl_worker.specs.Batches.{lent_by, loan_of, loans_in};
 ghost use Rattle.bl_worker.specs.Hands.{HasMade};
 ghost use Rattle.bl_worker.specs.Turns.{AddsTurnsAlone, Settles};
 
-use crate::bell::EndToRing;
+use crate::count::EndToRing;
 use crate::pause::Pause;
 use crate::short::{is_long, run_short};
 use crate::turn::{Begun, Turn, begin};

@@ -1,32 +1,7 @@
 //! How threads that have nothing to do are woken.
-ghost use Rattle.std.specs.Prelude.{◌↔◌, IsSome, IsTrue};
 
-use std::sync::atomic::{AtomicBool, AtomicU64, Ordering};
+use crate::count::{Count, Counted, EndToRing, Flag, Looked, Seen, Woken};
 use std::sync::{Condvar, Mutex, Wait};
-
-/// That an entry has ended, which somebody may wait for: it has to be rung, and cannot be let go otherwise.
-pub struct EndToRing {
-    _rung: (),
-}
-
-impl EndToRing {
-    /// An end.
-    pub fn new() -> EndToRing {
-        EndToRing { _rung: () }
-    }
-
-    /// An end, if there was any.
-    pub fn if_any(any: bool) -> Option<EndToRing>
-        ensures { IsSome result ↔ IsTrue any }
-    {
-        if any { Some(EndToRing::new()) } else { None }
-    }
-
-    /// Spends it. This is for who rings.
-    pub fn rung(self) {
-        let EndToRing { _rung } = self;
-    }
-}
 
 /// That a bell is closed, as its owner knows who has closed it, and who was told so where it waited. Nobody else has
 /// one.
@@ -35,66 +10,69 @@ pub struct Closed {
     _told: (),
 }
 
+impl Closed {
+    /// Who waits is told so.
+    fn told() -> Closed {
+        Closed { _told: () }
+    }
+
+    /// Its owner has woken those who wait for work, and those who wait for an end.
+    fn woken(work: Woken, ends: Woken) -> Closed {
+        let _ = (work, ends);
+        Closed::told()
+    }
+}
+
 /// What a worker asks of a bell. Who is woken beside the threads that wait at one, as threads that sleep elsewhere, has
 /// a bell of its own.
 pub trait WorkerBell {
     /// How often workers were called; the count may wrap.
-    fn calls(&self) -> u64;
+    fn calls(&self) -> Seen;
 
     /// Wakes those who wait for an entry to end, since one has ended.
     fn ring_end<R: Wait>(&self, rt: &R, end: EndToRing);
 
-    /// Waits for a call to work, until the count of calls is not `seen` or the bell is closed, and says whether it is
+    /// Waits for a call to work, until workers were called since a look or the bell is closed, and says whether it is
     /// closed.
-    fn wait_work<R: Wait>(&self, rt: &R, seen: u64) -> Option<Closed>;
+    fn wait_work<R: Wait>(&self, rt: &R, looked: Looked) -> Option<Closed>;
 }
 
 /// Threads that wait for the same: how often it came, whether some may wait, and how they are woken.
 #[derive(Drop)]
 struct Bench {
-    rings: AtomicU64,
-    /// It is set before a thread sleeps, and taken back by the ring that wakes it.
-    taken: AtomicBool,
+    rings: Count,
+    taken: Flag,
     rung: Condvar,
 }
 
 impl Bench {
     fn new() -> Bench {
         Bench {
-            rings: AtomicU64::new(0),
-            taken: AtomicBool::new(false),
+            rings: Count::new(),
+            taken: Flag::new(),
             rung: Condvar::new(),
         }
     }
 
-    fn rings(&self) -> u64 {
-        self.rings.load(Ordering::SeqCst)
-    }
-
-    /// Rings, and wakes all that wait here.
-    fn ring<R: Wait>(&self, rt: &R, closed: &Mutex<bool>) {
-        self.rings.fetch_add(1, Ordering::SeqCst);
-        self.wake(rt, closed);
-    }
-
-    /// Wakes all that wait here. Where nobody does it makes no call of the system.
-    fn wake<R: Wait>(&self, rt: &R, closed: &Mutex<bool>) {
-        if self.taken.load(Ordering::SeqCst) {
+    /// Wakes all that wait here, since something was counted. Where nobody does it makes no call of the system.
+    fn wake<R: Wait>(&self, rt: &R, closed: &Mutex<bool>, counted: Counted) -> Woken {
+        if self.taken.lower(&counted) {
+            // who has raised the flag holds the lock until it sleeps
             let _closed = closed.lock(rt);
-            self.taken.store(false, Ordering::SeqCst);
             self.rung.notify_all();
         }
+        counted.woken()
     }
 
-    /// Waits until the count of rings is not `seen` or the bell is closed, and says whether it is closed.
-    fn wait<R: Wait>(&self, rt: &R, closed: &Mutex<bool>, seen: u64) -> Option<Closed> {
+    /// Waits until it has come since a look or the bell is closed, and says whether it is closed.
+    fn wait<R: Wait>(&self, rt: &R, closed: &Mutex<bool>, looked: Looked) -> Option<Closed> {
         let mut closed = closed.lock(rt);
         for _ in rt.forever() {
-            self.taken.store(true, Ordering::SeqCst);
+            let raised = self.taken.raise();
             if *closed {
-                return Some(Closed { _told: () });
+                return Some(Closed::told());
             }
-            if self.rings() != seen {
+            if self.rings.has_come(&looked, raised) {
                 return None;
             }
             closed = self.rung.wait(rt, closed);
@@ -123,50 +101,50 @@ impl Bell {
         }
     }
 
-    /// How often workers were called; the count wraps.
-    pub fn calls(&self) -> u64 {
-        self.work.rings()
+    /// How often workers were called, to work or since the bell was closed; the count wraps.
+    pub fn calls(&self) -> Seen {
+        self.work.rings.read()
     }
 
-    /// How often an entry has ended; the count wraps.
-    pub fn ends(&self) -> u64 {
-        self.ends.rings()
+    /// How often an entry has ended, or the bell was closed; the count wraps.
+    pub fn ends(&self) -> Seen {
+        self.ends.rings.read()
     }
 
     /// Calls workers to work. Where none waits it makes no call of the system.
     pub fn ring_work<R: Wait>(&self, rt: &R) {
-        self.work.ring(rt, &self.closed);
+        let counted = self.work.rings.add();
+        self.work.wake(rt, &self.closed, counted);
     }
 
     /// Rings since an entry has ended. Where nobody waits for that it makes no call of the system.
     pub fn ring_end<R: Wait>(&self, rt: &R, end: EndToRing) {
-        end.rung();
-        self.ends.ring(rt, &self.closed);
+        let counted = self.ends.rings.add_end(end);
+        self.ends.wake(rt, &self.closed, counted);
     }
 
-    /// Closes the bell: from now on nobody waits. It counts as no ring.
+    /// Closes the bell: from now on nobody waits. It counts as a ring of both kinds.
     pub fn close<R: Wait>(&self, rt: &R) -> Closed {
         *self.closed.lock(rt) = true;
-        self.work.wake(rt, &self.closed);
-        self.ends.wake(rt, &self.closed);
-        Closed { _told: () }
+        let work = self.work.wake(rt, &self.closed, self.work.rings.add());
+        let ends = self.ends.wake(rt, &self.closed, self.ends.rings.add());
+        Closed::woken(work, ends)
     }
 
-    /// Waits for a call to work, until the count of calls is not `seen` or the bell is closed, and says whether it is
+    /// Waits for a call to work, until workers were called since a look or the bell is closed, and says whether it is
     /// closed.
-    pub fn wait_work<R: Wait>(&self, rt: &R, seen: u64) -> Option<Closed> {
-        self.work.wait(rt, &self.closed, seen)
+    pub fn wait_work<R: Wait>(&self, rt: &R, looked: Looked) -> Option<Closed> {
+        self.work.wait(rt, &self.closed, looked)
     }
 
-    /// Waits for an entry to end, until the count of ends is not `seen` or the bell is closed, and says whether it is
-    /// closed.
-    pub fn wait_end<R: Wait>(&self, rt: &R, seen: u64) -> Option<Closed> {
-        self.ends.wait(rt, &self.closed, seen)
+    /// Waits for an entry to end, until one has ended since a look or the bell is closed, and says whether it is closed.
+    pub fn wait_end<R: Wait>(&self, rt: &R, looked: Looked) -> Option<Closed> {
+        self.ends.wait(rt, &self.closed, looked)
     }
 }
 
 impl WorkerBell for Bell {
-    fn calls(&self) -> u64 {
+    fn calls(&self) -> Seen {
         Bell::calls(self)
     }
 
@@ -174,7 +152,7 @@ impl WorkerBell for Bell {
         Bell::ring_end(self, rt, end);
     }
 
-    fn wait_work<R: Wait>(&self, rt: &R, seen: u64) -> Option<Closed> {
-        Bell::wait_work(self, rt, seen)
+    fn wait_work<R: Wait>(&self, rt: &R, looked: Looked) -> Option<Closed> {
+        Bell::wait_work(self, rt, looked)
     }
 }

@@ -6,7 +6,7 @@ ghost use Rattle.bl_gate.specs.Gates.{Follows, hall_seen, state_seen};
 ghost use Rattle.bl_worker.specs.Turns.{AddsTurnsAlone, AddsTurnsOf, Settles};
 ghost use Rattle.bl_worker.specs.Hands.{Holds, HasInHand, IsHandOf, IsLent, MissesNone, RunsEntry, SettlesBut};
 
-use crate::bell::EndToRing;
+use crate::count::{EndToRing, Looked, Seen};
 use crate::pause::Pause;
 use crate::turn::{Begun, Turn, begin_next};
 use bl_eval::evaluate::eval;
@@ -54,13 +54,14 @@ fn put_down(turn: &mut AtGate<'_>, hand: Hand) -> bool
 }
 
 /// A worker's turn at the gate: it ends the entry in hand, and begins one that is ready, if there is one. Where an
-/// entry has ended, that is to be rung.
+/// entry has ended, that is to be rung. The count of calls was read before, so that it may wait where none is ready.
 pub(crate) fn take_turn<R: Wait>(
     rt: &R,
     gate: &Gate,
     pass: &mut Pass,
     hand: Hand,
-) -> (Option<EndToRing>, Begun)
+    seen: Seen,
+) -> (Option<EndToRing>, Begun, Looked)
     requires gate { pass.old.gate ≡ gate.now }
     requires held { HasInHand pass.old hand }
     ensures follows { Follows pass.old pass.new }
@@ -74,10 +75,11 @@ pub(crate) fn take_turn<R: Wait>(
     let mut turn = gate.turn(rt, pass.take());
     let put_down = put_down(&mut turn, hand);
     let begun = begin_next(&mut turn);
+    let looked = seen.look(&turn);
     *pass = turn.leave();
     let over = match &begun {
         Begun::Over(Turn::Idle) | Begun::Runs(_) => false,
         Begun::Over(_) => true,
     };
-    (EndToRing::if_any(put_down || over), begun)
+    (EndToRing::if_any(put_down || over), begun, looked)
 }

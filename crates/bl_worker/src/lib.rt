@@ -5,12 +5,14 @@
 //!     batch     many entries in hand, from one turn at the gate to the next
 //!     short     what is long to run, and what is short and is run in a turn at the gate
 //!     pause     what a turn does between the start and the end
+//!     count     how often something came that threads wait for, and what they hand on
 //!     bell      how threads that have nothing to do are woken
 //!     worker    a worker, turn by turn
 #![tactic(auto)]
 
 pub mod batch;
 pub mod bell;
+pub mod count;
 pub(crate) mod hand;
 pub mod pause;
 pub(crate) mod short;

@@ -4,6 +4,7 @@ ghost use Rattle.bl_gate.specs.Gates.{Follows};
 ghost use Rattle.bl_worker.specs.Turns.{AddsTurnsAlone, AdmitsNoLine, Settles};
 
 use crate::bell::{Closed, WorkerBell};
+use crate::count::Looked;
 use crate::hand::{Hand, evaluate, take_turn};
 use crate::pause::Pause;
 use crate::turn::{Begun, Turn};
@@ -15,17 +16,22 @@ use std::sync::Wait;
 
 /// Waits a moment where there was nothing to do: at first for another thread's step, and then at the bell. Says whether
 /// the bell is closed.
-fn rest<B: WorkerBell, R: Wait>(rt: &R, bell: &B, backoff: &Backoff, seen: u64) -> Option<Closed> {
+fn rest<B: WorkerBell, R: Wait>(
+    rt: &R,
+    bell: &B,
+    backoff: &Backoff,
+    looked: Looked,
+) -> Option<Closed> {
     for _ in rt.forever() {
         if backoff.is_completed() {
             break;
         }
         backoff.snooze();
-        if bell.calls() != seen {
+        if looked.is_behind(&bell.calls()) {
             return None;
         }
     }
-    bell.wait_work(rt, seen)
+    bell.wait_work(rt, looked)
 }
 
 /// Takes turns at the gate until the bell is closed and nothing is ready, and rings after each in which an entry has
@@ -51,7 +57,7 @@ pub fn run_worker<P: Pause, B: WorkerBell, R: Wait>(
     let mut hand = Hand::Empty;
     for _ in rt.forever() {
         let seen = bell.calls();
-        let (ended, begun) = take_turn(rt, gate, pass, hand);
+        let (ended, begun, looked) = take_turn(rt, gate, pass, hand, seen);
         match ended {
             Some(end) => {
                 backoff.reset();
@@ -65,7 +71,7 @@ pub fn run_worker<P: Pause, B: WorkerBell, R: Wait>(
                 if let Some(closed) = closed {
                     return closed;
                 }
-                closed = rest(rt, bell, &backoff, seen);
+                closed = rest(rt, bell, &backoff, looked);
                 Hand::Empty
             }
             Begun::Over(_) => Hand::Empty,
