@@ -426,6 +426,12 @@ pub record IsAll (names : KnownNames) (given : Given) (conv : Conversation) (tur
   pub asked_is : asked ≡ whole_asked given.opening turns
   pub said_is : said ≡ whole_text given.opening given.replies turns
 
+-- once a conversation waits for nothing, all that was heard was answered, whoever drives it
+abbrev pub AnswersAllAtTheEnd : Type 0
+AnswersAllAtTheEnd = (names : KnownNames) (given : Given) (left : ℕ → List ℕ) (conv : Conversation) (turns : List Turn)
+    (asked : List Request) (heard said : List ℕ) → Spoke names given left conv turns asked heard said
+    → need_of conv ≡ needs.Over → IsAll names given conv turns asked heard said
+
 -- What was said begins what these turns tell, and each block that was told is whole; while lines are heard, so are all whose `wait`
 -- came. What was said is part of what is told whatever comes after these turns, unless the input is at its end. What was asked
 -- is what they ask, but for settling.

@@ -13,9 +13,9 @@ struct Alarm {
 /// The alarms of all session threads, each by the number of its thread, and how many entries have ended.
 ///
 /// A thread that waits for an entry to end reads the count of ends, looks for the end in a turn at the gate, and sleeps
-/// only if `arm` finds the same count still. Who ends an entry counts first and looks for armed alarms after; who sleeps
-/// arms first and looks at the count after. So one of the two sees the other, and no end is missed. An alarm that is
-/// rung before its thread sleeps ends that sleep at once. Whom a ring wakes, and when, is not proved.
+/// only if `arm` finds the same count still. Who ends an entry counts first and looks for armed alarms after; who
+/// sleeps arms first and looks at the count after. So one of the two sees the other, and no end is missed. An alarm
+/// that is rung before its thread sleeps ends that sleep at once. Whom a ring wakes, and when, is not proved.
 #[derive(Drop)]
 pub struct Alarms {
     ends: Count,

@@ -315,7 +315,8 @@ fn ring_if(alarms: &Alarms, ended: Option<EndToRing>) {
     }
 }
 
-/// Calls who is to know of a turn at the gate. An end that came after the members met calls for another turn. Workers are called at once where somebody waits and entries were left that are long to run.
+/// Calls who is to know of a turn at the gate. An end that came after the members met calls for another turn. Workers
+/// are called at once where somebody waits and entries were left that are long to run.
 fn tell_of<R: Wait>(rt: &R, calls: Calls<'_>, round: Round, waits: bool, marks: &mut Marks)
     ensures { marks.new.time ≡ marks.old.time }
 {

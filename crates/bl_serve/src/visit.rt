@@ -1,7 +1,8 @@
 //! The machine behind a session over a gate. Lines enter through the gate, and who waits for their answers takes turns
 //! meanwhile. Other threads call the gate too, so what the hall answers is that of a trail which goes on; what was told
 //! stays told, and is kept nowhere.
-ghost use Rattle.std.specs.Prelude.{◌≡◌, ◌≤◌, ◌<◌, ◌∷◌, All, [], None, IfOk, IfErr, IfSome, OnOk, OnErr, IsSome, length, map};
+ghost use Rattle.std.specs.Prelude.{◌≡◌, ◌≤◌, ◌<◌, ◌∷◌, All, [], None, IfOk, IfErr, IfSome, OnOk, OnErr, IsSome};
+ghost use Rattle.std.specs.Prelude.{length, map};
 ghost use Rattle.bl_gate.specs.Gates.{Follows, hall_seen, state_seen};
 ghost use Rattle.bl_order.specs.Known.{KnowsAnswer};
 ghost use Rattle.bl_hall.specs.Chronicle.{HasTrail};

@@ -137,7 +137,8 @@ impl Bell {
         self.work.wait(rt, &self.closed, looked)
     }
 
-    /// Waits for an entry to end, until one has ended since a look or the bell is closed, and says whether it is closed.
+    /// Waits for an entry to end, until one has ended since a look or the bell is closed, and says whether it is
+    /// closed.
     pub fn wait_end<R: Wait>(&self, rt: &R, looked: Looked) -> Option<Closed> {
         self.ends.wait(rt, &self.closed, looked)
     }

@@ -2,8 +2,8 @@
 //! sleep. Each of these values is given by one step alone, and taken by the one that has to come after it.
 //!
 //! Who waits reads the count (`Seen`), looks in a turn at the gate (`Looked`), raises a flag (`Raised`), and sees then
-//! whether something was counted since. Who has something new counts it (`Counted`), and sees then whose flag is raised.
-//! So one of the two sees the other. Which count it is, and whom a ring wakes, and when, is not proved.
+//! whether something was counted since. Who has something new counts it (`Counted`), and sees then whose flag is
+//! raised. So one of the two sees the other. Which count it is, and whom a ring wakes, and when, is not proved.
 ghost use Rattle.std.specs.Prelude.{◌↔◌, IsSome, IsTrue};
 
 use bl_gate::turn::Turn as AtGate;
