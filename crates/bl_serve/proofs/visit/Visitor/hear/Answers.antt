@@ -1,3 +1,4 @@
+use Rattle.std.specs.Prelude.{IfErr}
 use Rattle.std.proofs.Common.{rules, ◌<◌, length, subst, arith}
 use Rattle.bl_hall.specs.Told.{IsUnanswered}
 use Rattle.bl_gate.specs.Gates.{state_seen}
@@ -23,7 +24,9 @@ unreachable-requires g c =
     (quiet_once c.loop.pass c.answers-found.new.pass c.answers-found.ensures.follows (adds_itself _ c.loop.pass c.answers-found.new.pass c.answers-found.ensures.own) c.answers-found.ensures.trail)
     in
     let there : c.args.session < length (state_seen c.answers-found.new.pass).sessions = (kept_session c.args.pass.now c.answers-found.new.pass heard.follows c.answers-found.ensures.trail c.args.session c.requires.open).there in
-    let closed : IfErr (Err Session) (IsUnanswered (state_seen c.answers-found.new.pass) c.args.session) = subst (λ found. IfErr found (IsUnanswered (state_seen c.answers-found.new.pass) c.args.session)) c.in-Err-Session.is c.answers-found.ensures.fault in
+    let after = state_seen c.answers-found.new.pass in
+    let fault = subst (λ found. IfErr found (IsUnanswered after c.args.session)) c.in-Err-Session.is c.answers-found.ensures.fault in
+    let closed = subst (IsUnanswered after c.args.session) c.in-Err-Session.field-0-is fault in
     omega (arith, there, closed)
 
 pub loop-preserved-then-not-tell : goal.loop-preserved-then-not-tell
