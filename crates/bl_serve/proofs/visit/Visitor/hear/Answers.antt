@@ -25,8 +25,10 @@ unreachable-requires g c =
     in
     let there : c.args.session < length (state_seen c.answers-found.new.pass).sessions = (kept_session c.args.pass.now c.answers-found.new.pass heard.follows c.answers-found.ensures.trail c.args.session c.requires.open).there in
     let after = state_seen c.answers-found.new.pass in
-    let fault = subst (λ found. IfErr found (IsUnanswered after c.args.session)) c.in-Err-Session.is c.answers-found.ensures.fault in
-    let closed = subst (IsUnanswered after c.args.session) c.in-Err-Session.field-0-is fault in
+    let fault : IsUnanswered after c.args.session c.in-Err-Session.field-0 =
+    subst (λ found. IfErr found (IsUnanswered after c.args.session)) c.in-Err-Session.is c.answers-found.ensures.fault in
+    let session = rw c.in-Err-Session.is at c.in-Err-Session.field-0-is in
+    let closed = subst (IsUnanswered after c.args.session) session fault in
     omega (arith, there, closed)
 
 pub loop-preserved-then-not-tell : goal.loop-preserved-then-not-tell
