@@ -1,201 +1,112 @@
 //! What a policy decides, and what it has.
 use crate::fixtures::{
-    Base, CRYPTO, NATO, add_plain, add_present, allow, decide, decide_each, denied, empty_policy,
-    fill_base, have_cells, level,
+    ALL_MODES, ANN, BOB, BOB_AT_FIRST, CAT, CONFIDENTIAL, CRYPTO, LOG, MEMO, NATO, NOTE, NOTHING,
+    PLAIN, READ, ROOT, ROOT_AT_FIRST, SECRET_NATO, Step, Subject, UNCLASSIFIED, assert_steps,
+    assert_steps_from_nothing,
 };
-use bitflags::Flags;
-use bl_policy::access::{Access, Mode, ModeSet};
+use bl_policy::access::Mode;
 use bl_policy::denial::Clause;
-use bl_policy::id::{DocId, SubjectId};
-use bl_policy::policy::{AddFault, MOST_DOCUMENTS, MOST_SUBJECTS, Policy};
+use bl_policy::policy::AddFault;
 use std::process::Abort;
 
 #[test]
 fn decisions(rt: HostRuntime) {
-    let mut policy = empty_policy(&rt);
-    let Base {
-        ann,
-        bob,
-        cat,
-        root,
-        memo,
-        note,
-        log,
-    } = fill_base(&rt, &mut policy);
-    decide_each(
-        &rt,
-        &policy,
-        &[
-            (ann, Mode::Write, note, denied(Clause::Star, ann, note)),
-            (bob, Mode::Read, memo, denied(Clause::Star, bob, memo)),
-            (ann, Mode::Read, log, denied(Clause::Simple, ann, log)),
-            (ann, Mode::Append, log, None),
-            (
-                root,
-                Mode::Read,
-                memo,
-                denied(Clause::Discretionary, root, memo),
-            ),
-            (root, Mode::Read, note, None),
-            (cat, Mode::Read, memo, denied(Clause::Simple, cat, memo)),
-        ],
-    );
-    drop(policy);
+    const STEPS: &[Step] = &[
+        Step::Access(ANN, Mode::Write, NOTE, Some(Clause::Star)),
+        Step::Access(BOB, Mode::Read, MEMO, Some(Clause::Star)),
+        Step::Access(ANN, Mode::Read, LOG, Some(Clause::Simple)),
+        Step::Access(ANN, Mode::Append, LOG, None),
+        Step::Access(ROOT, Mode::Read, MEMO, Some(Clause::Discretionary)),
+        Step::Access(ROOT, Mode::Read, NOTE, None),
+        Step::Access(CAT, Mode::Read, MEMO, Some(Clause::Simple)),
+    ];
+    assert_steps(&rt, STEPS);
 }
 
 #[test]
 fn first_failure_is_named(rt: HostRuntime) {
-    let mut policy = empty_policy(&rt);
-    let Base {
-        ann,
-        memo,
-        note,
-        ..
-    } = fill_base(&rt, &mut policy);
-    let memo_then_note = [
-        Access {
-            mode: Mode::Write,
-            doc: memo,
-        },
-        Access {
-            mode: Mode::Write,
-            doc: note,
-        },
-    ];
-    let decided = decide(&rt, &policy, ann, &memo_then_note);
-    assert_eq!(rt; decided, denied(Clause::Star, ann, note));
-    drop(policy);
-}
-
-fn hold(rt: &impl Abort, facts: &[(&str, bool)]) {
-    for (fact, holds) in facts {
-        assert!(rt; *holds, "{fact}");
-    }
-}
-
-fn has_positions(rt: &impl Abort, policy: &Policy, base: &Base) {
-    hold(
-        rt,
-        &[
-            ("subjects", policy.subjects() == 4),
-            ("documents", policy.documents() == 3),
-            ("bob", base.bob.position() == 1),
-            ("root", base.root.position() == 3),
-            ("log", base.log.position() == 2),
-            ("the subject at 1", SubjectId::new(1) == base.bob),
-            ("the document at 2", DocId::new(2) == base.log),
-        ],
-    );
-}
-
-fn has_levels(rt: &impl Abort, policy: &Policy, base: &Base) {
-    let nato = level(rt, 2, NATO);
-    let lowest = level(rt, 0, 0);
-    assert!(rt; (base.bob.position() as usize) < policy.subjects());
-    assert!(rt; (base.root.position() as usize) < policy.subjects());
-    assert!(rt; (base.memo.position() as usize) < policy.documents());
-    hold(
-        rt,
-        &[
-            ("bob's greatest level", policy.greatest(base.bob) == nato),
-            ("bob's current level", policy.current(base.bob) == lowest),
-            ("root is trusted", policy.is_trusted(base.root)),
-            ("root is an administrator", policy.is_admin(base.root)),
-            ("bob is not trusted", !policy.is_trusted(base.bob)),
-            ("bob is no administrator", !policy.is_admin(base.bob)),
-            ("the memo's level", policy.level(base.memo) == nato),
-        ],
-    );
+    const STEPS: &[Step] = &[Step::Both(
+        ANN,
+        [(Mode::Write, MEMO), (Mode::Write, NOTE)],
+        Clause::Star,
+        NOTE,
+    )];
+    assert_steps(&rt, STEPS);
 }
 
 #[test]
 fn what_was_added_is_there(rt: HostRuntime) {
-    let mut policy = empty_policy(&rt);
-    let base = fill_base(&rt, &mut policy);
-    has_positions(&rt, &policy, &base);
-    has_levels(&rt, &policy, &base);
-    have_cells(
-        &rt,
-        &policy,
-        &[
-            (base.cat, base.memo, ModeSet::READ),
-            (base.cat, base.note, ModeSet::empty()),
-            (base.bob, base.memo, ModeSet::all()),
-        ],
-    );
-    drop(policy);
-}
-
-fn allow_modes_and_more(rt: &impl Abort, policy: &mut Policy) {
-    let lowest = level(rt, 0, 0);
-    let subject = add_plain(rt, policy, lowest, lowest);
-    let doc = add_present(rt, policy, lowest);
-    for modes in [Mode::Append.into(), ModeSet::from_bits_retain(0xF8)] {
-        allow(rt, policy, subject, doc, modes);
-    }
-    have_cells(rt, policy, &[(subject, doc, ModeSet::APPEND)]);
+    const STEPS: &[Step] = &[
+        Step::Counts(4, 3),
+        Step::Has(BOB, BOB_AT_FIRST),
+        Step::Has(ROOT, ROOT_AT_FIRST),
+        Step::Level(MEMO, SECRET_NATO),
+        Step::Cell(CAT, MEMO, READ),
+        Step::Cell(CAT, NOTE, NOTHING),
+        Step::Cell(BOB, MEMO, ALL_MODES),
+    ];
+    assert_steps(&rt, STEPS);
 }
 
 #[test]
 fn a_cell_holds_modes_alone(rt: HostRuntime) {
-    let mut policy = empty_policy(&rt);
-    allow_modes_and_more(&rt, &mut policy);
-    drop(policy);
+    const STEPS: &[Step] = &[
+        Step::Subject(0, PLAIN),
+        Step::Document(0, UNCLASSIFIED),
+        Step::Allow(0, 0, &[Mode::Append]),
+        Step::AllowNoMode(0, 0),
+        Step::Cell(0, 0, &[Mode::Append]),
+    ];
+    assert_steps_from_nothing(&rt, STEPS);
 }
 
-fn add_above_greatest(rt: &impl Abort, policy: &mut Policy) {
-    let greatest = level(rt, 1, NATO);
-    let current = level(rt, 1, CRYPTO);
-    let added = policy.add_subject(greatest, current, false, false);
-    assert_eq!(rt; added, Err(AddFault::CurrentAboveGreatest));
-    assert_eq!(rt; policy.subjects(), 0);
-}
+/// Neither level dominates the other.
+const CURRENT_BESIDE_GREATEST: Subject = Subject {
+    greatest: (1, NATO),
+    current: (1, CRYPTO),
+    is_trusted: false,
+    is_admin: false,
+};
 
 #[test]
 fn current_above_greatest(rt: HostRuntime) {
-    let mut policy = empty_policy(&rt);
-    add_above_greatest(&rt, &mut policy);
-    drop(policy);
+    const STEPS: &[Step] = &[
+        Step::NoSubject(CURRENT_BESIDE_GREATEST, AddFault::CurrentAboveGreatest),
+        Step::Counts(0, 0),
+    ];
+    assert_steps_from_nothing(&rt, STEPS);
 }
 
-fn add_subjects_to_the_limit(rt: &impl Abort, policy: &mut Policy) {
-    let lowest = level(rt, 0, 0);
-    let above = level(rt, 1, 0);
-    for _ in 0..MOST_SUBJECTS {
-        add_plain(rt, policy, lowest, lowest);
-    }
-    let added = policy.add_subject(lowest, above, false, false);
-    assert_eq!(rt; added, Err(AddFault::TooMany));
-}
-
-fn add_documents_to_the_limit(rt: &impl Abort, policy: &mut Policy) {
-    let lowest = level(rt, 0, 0);
-    for _ in 0..MOST_DOCUMENTS {
-        add_present(rt, policy, lowest);
-    }
-    assert_eq!(rt; policy.add_document(lowest), Err(AddFault::TooMany));
-}
-
-fn use_the_last_cell(rt: &impl Abort, policy: &mut Policy) {
-    let subject = SubjectId::new(255);
-    let doc = DocId::new(1023);
-    assert_eq!(rt; (policy.subjects(), policy.documents()), (256, 1024));
-    allow(rt, policy, subject, doc, ModeSet::WRITE);
-    decide_each(rt, policy, &[(subject, Mode::Write, doc, None)]);
-}
+const CURRENT_ABOVE_GREATEST: Subject = Subject {
+    greatest: UNCLASSIFIED,
+    current: CONFIDENTIAL,
+    is_trusted: false,
+    is_admin: false,
+};
 
 #[test]
 fn limits(rt: HostRuntime) {
-    let mut policy = empty_policy(&rt);
-    add_subjects_to_the_limit(&rt, &mut policy);
-    add_documents_to_the_limit(&rt, &mut policy);
-    use_the_last_cell(&rt, &mut policy);
-    drop(policy);
+    const STEPS: &[Step] = &[
+        Step::Subjects(256, PLAIN),
+        Step::NoSubject(CURRENT_ABOVE_GREATEST, AddFault::TooMany),
+        Step::Documents(1_024, UNCLASSIFIED),
+        Step::NoDocument(UNCLASSIFIED, AddFault::TooMany),
+        Step::Counts(256, 1_024),
+        Step::Allow(255, 1_023, &[Mode::Write]),
+        Step::Access(255, Mode::Write, 1_023, None),
+    ];
+    assert_steps_from_nothing(&rt, STEPS);
+}
+
+fn assert_words(rt: &impl Abort, words: &[(Clause, &str)]) {
+    for (clause, word) in words {
+        assert!(rt; clause.word() == *word, "{word}");
+    }
 }
 
 #[test]
 fn words(rt: HostRuntime) {
-    let words = [
+    const WORDS: &[(Clause, &str)] = &[
         (Clause::Absent, "absent"),
         (Clause::Simple, "simple"),
         (Clause::Star, "star"),
@@ -206,7 +117,5 @@ fn words(rt: HostRuntime) {
         (Clause::Greatest, "greatest"),
         (Clause::Present, "present"),
     ];
-    for (clause, word) in words {
-        assert_eq!(rt; clause.word(), word);
-    }
+    assert_words(&rt, WORDS);
 }

@@ -1,7 +1,8 @@
 //! Tokens, their places and lexical faults.
-use bl_level::lexer::{Front, keyword_of, lex, next_token};
+use bl_level::lexer::{Front, Lexed, keyword_of, lex, next_token};
 use bl_level::token::{Keyword, Sign, Token};
-use std::test::Fail;
+use std::alloc::Global;
+use std::process::Abort;
 
 /// The tokens of the line, each with its place.
 static TOKENS: [(Token<'static>, usize); 12] = [
@@ -19,20 +20,60 @@ static TOKENS: [(Token<'static>, usize); 12] = [
     (Token::Reserved(Keyword::End), 31),
 ];
 
-#[test]
-fn cuts_a_line_into_its_tokens(rt: HostRuntime) -> Result<(), Fail> {
-    let lexed = lex(rt.alloc(), b" when\tread a_1,b do{say\"a }b\";}end ")?;
-    assert_eq!(rt; (lexed.tokens.len(), lexed.broken), (TOKENS.len(), None));
-    for (i, (token, place)) in TOKENS.iter().enumerate() {
-        assert!(rt; lexed.tokens.get(i) == Some(token), "token {i}");
-        assert!(rt; lexed.places.get(i) == Some(place), "place {i}");
+/// Whether these are the tokens of a line, each at its place, as far as they go.
+fn are_tokens(lexed: &Lexed<'_>, tokens: &[(Token<'_>, usize)]) -> bool {
+    for (i, (token, place)) in tokens.iter().enumerate() {
+        if lexed.tokens.get(i) != Some(token) || lexed.places.get(i) != Some(place) {
+            return false;
+        }
     }
-    Ok(())
+    lexed.broken.is_none()
+}
+
+/// Whether a line is cut into these tokens, without fault.
+fn is_cut(alloc: Global, line: &[u8], tokens: &[(Token<'_>, usize)]) -> bool {
+    match lex(alloc, line) {
+        Ok(lexed) => {
+            let is_cut = lexed.tokens.len() == tokens.len() && are_tokens(&lexed, tokens);
+            drop(lexed);
+            is_cut
+        }
+        Err(_) => false,
+    }
 }
 
 #[test]
-fn places_each_lexical_fault(rt: HostRuntime) -> Result<(), Fail> {
-    let faults: [(&[u8], usize, usize); 6] = [
+fn cuts_a_line_into_its_tokens(rt: HostRuntime) {
+    assert!(rt;
+        is_cut(
+            rt.alloc(),
+            b" when\tread a_1,b do{say\"a }b\";}end ",
+            &TOKENS
+        )
+    );
+}
+
+/// Whether a line has so many tokens before a lexical fault at this place.
+fn is_broken(alloc: Global, line: &[u8], tokens: usize, place: usize) -> bool {
+    match lex(alloc, line) {
+        Ok(lexed) => {
+            let is_broken = lexed.tokens.len() == tokens && lexed.broken == Some(place);
+            drop(lexed);
+            is_broken
+        }
+        Err(_) => false,
+    }
+}
+
+fn assert_broken(rt: &impl Abort, alloc: Global, lines: &[(&[u8], usize, usize)]) {
+    for (line, tokens, place) in lines {
+        assert!(rt; is_broken(alloc, line, *tokens, *place), "at {place}");
+    }
+}
+
+#[test]
+fn places_each_lexical_fault(rt: HostRuntime) {
+    const LINES: &[(&[u8], usize, usize)] = &[
         // A byte that begins no token, a byte that no text holds, and a text that is not closed.
         (b"wait A", 1, 5),
         (b"say \"a\\b\"", 1, 6),
@@ -42,32 +83,28 @@ fn places_each_lexical_fault(rt: HostRuntime) -> Result<(), Fail> {
         (b"a2345678901234567890123456789012!", 1, 32),
         (b" a23456789012345678901234567890123", 0, 1),
     ];
-    for (line, tokens, place) in faults {
-        let lexed = lex(rt.alloc(), line)?;
-        assert_eq!(rt;
-            (lexed.tokens.len(), lexed.broken),
-            (tokens, Some(place)),
-            "at {place}"
-        );
+    assert_broken(&rt, rt.alloc(), LINES);
+}
+
+fn assert_keywords(rt: &impl Abort, words: &[(&[u8], Option<Keyword>)]) {
+    for (n, (word, keyword)) in words.iter().enumerate() {
+        assert!(rt; keyword_of(word) == *keyword, "word {n}");
     }
-    Ok(())
+}
+
+/// Whether nothing stands behind a reserved word at the front.
+fn is_last_word(line: &[u8], keyword: Keyword) -> bool {
+    matches!(next_token(line), Front::Token(Token::Reserved(word), b"") if word == keyword)
 }
 
 #[test]
 fn knows_its_words(rt: HostRuntime) {
-    let words: [(&[u8], Option<Keyword>); 3] = [
+    const WORDS: &[(&[u8], Option<Keyword>)] = &[
         (b"categories", Some(Keyword::Categories)),
         (b"category", None),
         (b"", None),
     ];
-    for (i, (word, keyword)) in words.iter().enumerate() {
-        assert!(rt; keyword_of(word) == *keyword, "word {i}");
-    }
-    assert!(rt;
-        matches!(
-            next_token(b"\t reserve"),
-            Front::Token(Token::Reserved(Keyword::Reserve), b"")
-        )
-    );
+    assert_keywords(&rt, WORDS);
+    assert!(rt; is_last_word(b"\t reserve", Keyword::Reserve));
     assert!(rt; matches!(next_token(b" \t"), Front::Nothing));
 }

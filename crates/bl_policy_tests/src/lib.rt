@@ -5,7 +5,7 @@
 //!     level_text    the text of a level, and the faults of a scheme
 //!     lexer         tokens, their places and lexical faults
 //!     table         a table of names
-//!     fixtures      the base policy, built by hand, and calls that ask first for what `bl_policy` requires
+//!     fixtures      what is done to a policy and asked of it, step by step; and the base policy
 //!     decisions     what a policy decides, and what it has
 //!     rules         rules, and what is decided after each of them
 //!     presence      documents that come and go

@@ -1,256 +1,168 @@
 //! Documents that come and go, over the base policy.
 use crate::fixtures::{
-    Base, NATO, add_present, add_reserved, apply_each, classify, create, decide, decide_each,
-    delete, denied, empty_policy, fill_base, follow, give, has_level, have_cells, have_presence,
-    level, right,
+    ANN, Asks, BOB, CAT, LOG, MEMO, NOTE, NOTHING, READ_APPEND, READ_WRITE, ROOT, SECRET_NATO,
+    Step, Subject, TOP_SECRET, UNCLASSIFIED, assert_steps, assert_steps_apart,
+    assert_steps_from_nothing,
 };
-use bitflags::Flags;
-use bl_policy::access::{Access, Mode, ModeSet};
-use bl_policy::denial::{Clause, Denial};
-use bl_policy::id::{DocId, SubjectId};
-use bl_policy::policy::{AddFault, MOST_DOCUMENTS, Policy};
-use std::process::Abort;
+use bl_policy::access::Mode;
+use bl_policy::denial::Clause;
+use bl_policy::policy::AddFault;
 
-/// The refusal of an access whose mode the matrix does not have.
-fn without_mode(subject: SubjectId, doc: DocId) -> Option<Denial> {
-    denied(Clause::Discretionary, subject, doc)
-}
+/// A document behind those of the base policy, which is reserved.
+const DRAFT: u16 = 3;
+
+/// A second one.
+const TOP: u16 = 4;
 
 #[test]
 fn create_use_delete(rt: HostRuntime) {
-    let unclassified = level(&rt, 0, 0);
-    let top_secret = level(&rt, 3, 0);
-    let mut policy = empty_policy(&rt);
-    let Base { root, .. } = fill_base(&rt, &mut policy);
-    let draft = add_reserved(&rt, &mut policy, unclassified);
-    let top = add_reserved(&rt, &mut policy, top_secret);
-    follow(
-        &rt,
-        &mut policy,
-        root,
-        Mode::Write,
-        draft,
-        &[
-            (root, create(draft), without_mode(root, draft)),
-            (root, give(root, draft, Mode::Write), None),
-            (root, delete(draft), denied(Clause::Absent, root, draft)),
-            (root, create(draft), without_mode(root, draft)),
-            (
-                root,
-                give(root, draft, Mode::Read),
-                without_mode(root, draft),
-            ),
-        ],
-    );
-    decide_each(&rt, &policy, &[(root, Mode::Read, draft, None)]);
-    apply_each(
-        &rt,
-        &mut policy,
-        &[
-            (root, create(draft), denied(Clause::Present, root, draft)),
-            (root, delete(top), denied(Clause::Absent, root, top)),
-        ],
-    );
-    drop(policy);
+    const STEPS: &[Step] = &[
+        Step::Reserved(DRAFT, UNCLASSIFIED),
+        Step::Reserved(TOP, TOP_SECRET),
+        Step::Rule(ROOT, Asks::Create(DRAFT), None),
+        Step::Access(ROOT, Mode::Write, DRAFT, Some(Clause::Discretionary)),
+        Step::Rule(ROOT, Asks::Give(ROOT, DRAFT, Mode::Write), None),
+        Step::Access(ROOT, Mode::Write, DRAFT, None),
+        Step::Rule(ROOT, Asks::Delete(DRAFT), None),
+        Step::Access(ROOT, Mode::Write, DRAFT, Some(Clause::Absent)),
+        Step::Rule(ROOT, Asks::Create(DRAFT), None),
+        Step::Access(ROOT, Mode::Write, DRAFT, Some(Clause::Discretionary)),
+        Step::Rule(ROOT, Asks::Give(ROOT, DRAFT, Mode::Read), None),
+        Step::Access(ROOT, Mode::Write, DRAFT, Some(Clause::Discretionary)),
+        Step::Access(ROOT, Mode::Read, DRAFT, None),
+        Step::Rule(ROOT, Asks::Create(DRAFT), Some(Clause::Present)),
+        Step::Rule(ROOT, Asks::Delete(TOP), Some(Clause::Absent)),
+    ];
+    assert_steps(&rt, STEPS);
 }
 
 #[test]
 fn absent_named_first(rt: HostRuntime) {
-    let top_secret = level(&rt, 3, 0);
-    let mut policy = empty_policy(&rt);
-    let Base { ann, note, .. } = fill_base(&rt, &mut policy);
-    let top = add_reserved(&rt, &mut policy, top_secret);
-    decide_each(
-        &rt,
-        &policy,
-        &[(ann, Mode::Read, top, denied(Clause::Absent, ann, top))],
-    );
-    let note_then_top = [
-        Access {
-            mode: Mode::Write,
-            doc: note,
-        },
-        Access {
-            mode: Mode::Read,
-            doc: top,
-        },
+    const STEPS: &[Step] = &[
+        Step::Reserved(DRAFT, TOP_SECRET),
+        Step::Access(ANN, Mode::Read, DRAFT, Some(Clause::Absent)),
+        Step::Both(
+            ANN,
+            [(Mode::Write, NOTE), (Mode::Read, DRAFT)],
+            Clause::Star,
+            NOTE,
+        ),
     ];
-    let decided = decide(&rt, &policy, ann, &note_then_top);
-    assert_eq!(rt; decided, denied(Clause::Star, ann, note));
-    drop(policy);
+    assert_steps(&rt, STEPS);
 }
 
 #[test]
 fn admin_asked_first(rt: HostRuntime) {
-    let top_secret = level(&rt, 3, 0);
-    let mut policy = empty_policy(&rt);
-    let Base { ann, memo, .. } = fill_base(&rt, &mut policy);
-    let top = add_reserved(&rt, &mut policy, top_secret);
-    apply_each(
-        &rt,
-        &mut policy,
-        &[
-            (ann, delete(memo), denied(Clause::Admin, ann, memo)),
-            (ann, delete(top), denied(Clause::Admin, ann, top)),
-            (ann, create(memo), denied(Clause::Admin, ann, memo)),
-            (ann, create(top), denied(Clause::Admin, ann, top)),
-        ],
-    );
-    have_presence(&rt, &policy, &[(memo, true), (top, false)]);
-    drop(policy);
+    const STEPS: &[Step] = &[
+        Step::Reserved(DRAFT, TOP_SECRET),
+        Step::Rule(ANN, Asks::Delete(MEMO), Some(Clause::Admin)),
+        Step::Rule(ANN, Asks::Delete(DRAFT), Some(Clause::Admin)),
+        Step::Rule(ANN, Asks::Create(MEMO), Some(Clause::Admin)),
+        Step::Rule(ANN, Asks::Create(DRAFT), Some(Clause::Admin)),
+        Step::Present(MEMO, true),
+        Step::Present(DRAFT, false),
+    ];
+    assert_steps(&rt, STEPS);
 }
 
 #[test]
 fn cells_live_on_through_create(rt: HostRuntime) {
-    let unclassified = level(&rt, 0, 0);
-    let mut policy = empty_policy(&rt);
-    let Base { bob, root, .. } = fill_base(&rt, &mut policy);
-    let draft = add_reserved(&rt, &mut policy, unclassified);
-    follow(
-        &rt,
-        &mut policy,
-        bob,
-        Mode::Read,
-        draft,
-        &[
-            (
-                root,
-                give(bob, draft, Mode::Read),
-                denied(Clause::Absent, bob, draft),
-            ),
-            (root, create(draft), None),
-            (root, delete(draft), denied(Clause::Absent, bob, draft)),
-            (root, create(draft), without_mode(bob, draft)),
-            (root, give(bob, draft, Mode::Read), None),
-        ],
-    );
-    drop(policy);
+    const STEPS: &[Step] = &[
+        Step::Reserved(DRAFT, UNCLASSIFIED),
+        Step::Rule(ROOT, Asks::Give(BOB, DRAFT, Mode::Read), None),
+        Step::Access(BOB, Mode::Read, DRAFT, Some(Clause::Absent)),
+        Step::Rule(ROOT, Asks::Create(DRAFT), None),
+        Step::Access(BOB, Mode::Read, DRAFT, None),
+        Step::Rule(ROOT, Asks::Delete(DRAFT), None),
+        Step::Access(BOB, Mode::Read, DRAFT, Some(Clause::Absent)),
+        Step::Rule(ROOT, Asks::Create(DRAFT), None),
+        Step::Access(BOB, Mode::Read, DRAFT, Some(Clause::Discretionary)),
+        Step::Rule(ROOT, Asks::Give(BOB, DRAFT, Mode::Read), None),
+        Step::Access(BOB, Mode::Read, DRAFT, None),
+    ];
+    assert_steps(&rt, STEPS);
 }
 
 #[test]
 fn delete_empties_the_cells_of_its_document(rt: HostRuntime) {
-    let mut policy = empty_policy(&rt);
-    let Base {
-        ann,
-        bob,
-        cat,
-        root,
-        memo,
-        note,
-        log,
-    } = fill_base(&rt, &mut policy);
-    apply_each(&rt, &mut policy, &[(root, delete(memo), None)]);
-    have_presence(&rt, &policy, &[(memo, false), (note, true), (log, true)]);
-    have_cells(
-        &rt,
-        &policy,
-        &[
-            (ann, memo, ModeSet::empty()),
-            (bob, memo, ModeSet::empty()),
-            (cat, memo, ModeSet::empty()),
-            (root, memo, ModeSet::empty()),
-            (ann, note, ModeSet::READ | ModeSet::WRITE),
-            (ann, log, ModeSet::READ | ModeSet::APPEND),
-            (root, note, ModeSet::READ | ModeSet::WRITE),
-        ],
-    );
-    drop(policy);
+    const STEPS: &[Step] = &[
+        Step::Rule(ROOT, Asks::Delete(MEMO), None),
+        Step::Present(MEMO, false),
+        Step::Present(NOTE, true),
+        Step::Present(LOG, true),
+        Step::Cell(ANN, MEMO, NOTHING),
+        Step::Cell(BOB, MEMO, NOTHING),
+        Step::Cell(CAT, MEMO, NOTHING),
+        Step::Cell(ROOT, MEMO, NOTHING),
+        Step::Cell(ANN, NOTE, READ_WRITE),
+        Step::Cell(ANN, LOG, READ_APPEND),
+        Step::Cell(ROOT, NOTE, READ_WRITE),
+    ];
+    assert_steps(&rt, STEPS);
 }
 
 #[test]
 fn level_stays(rt: HostRuntime) {
-    let unclassified = level(&rt, 0, 0);
-    let nato = level(&rt, 2, NATO);
-    let mut policy = empty_policy(&rt);
-    let Base { ann, root, .. } = fill_base(&rt, &mut policy);
-    let draft = add_reserved(&rt, &mut policy, unclassified);
-    follow(
-        &rt,
-        &mut policy,
-        ann,
-        Mode::Write,
-        draft,
-        &[
-            (
-                root,
-                give(ann, draft, Mode::Write),
-                denied(Clause::Absent, ann, draft),
-            ),
-            (root, create(draft), denied(Clause::Star, ann, draft)),
-            (root, classify(draft, nato), None),
-            (root, delete(draft), denied(Clause::Absent, ann, draft)),
-            (root, create(draft), without_mode(ann, draft)),
-            (root, delete(draft), denied(Clause::Absent, ann, draft)),
-            (
-                root,
-                classify(draft, unclassified),
-                denied(Clause::Absent, ann, draft),
-            ),
-            (root, create(draft), denied(Clause::Star, ann, draft)),
-        ],
-    );
-    has_level(&rt, &policy, draft, unclassified);
-    drop(policy);
+    const STEPS: &[Step] = &[
+        Step::Reserved(DRAFT, UNCLASSIFIED),
+        Step::Rule(ROOT, Asks::Give(ANN, DRAFT, Mode::Write), None),
+        Step::Access(ANN, Mode::Write, DRAFT, Some(Clause::Absent)),
+        Step::Rule(ROOT, Asks::Create(DRAFT), None),
+        Step::Access(ANN, Mode::Write, DRAFT, Some(Clause::Star)),
+        Step::Rule(ROOT, Asks::Classify(DRAFT, SECRET_NATO), None),
+        Step::Access(ANN, Mode::Write, DRAFT, None),
+        Step::Rule(ROOT, Asks::Delete(DRAFT), None),
+        Step::Access(ANN, Mode::Write, DRAFT, Some(Clause::Absent)),
+        Step::Rule(ROOT, Asks::Create(DRAFT), None),
+        Step::Access(ANN, Mode::Write, DRAFT, Some(Clause::Discretionary)),
+        Step::Rule(ROOT, Asks::Delete(DRAFT), None),
+        Step::Access(ANN, Mode::Write, DRAFT, Some(Clause::Absent)),
+        Step::Rule(ROOT, Asks::Classify(DRAFT, UNCLASSIFIED), None),
+        Step::Access(ANN, Mode::Write, DRAFT, Some(Clause::Absent)),
+        Step::Rule(ROOT, Asks::Create(DRAFT), None),
+        Step::Access(ANN, Mode::Write, DRAFT, Some(Clause::Star)),
+        Step::Level(DRAFT, UNCLASSIFIED),
+    ];
+    assert_steps(&rt, STEPS);
 }
 
-/// Every second document is reserved.
-fn add_to_the_limit(rt: &impl Abort, policy: &mut Policy) {
-    let unclassified = level(rt, 0, 0);
-    for i in 0..MOST_DOCUMENTS {
-        if i % 2 == 0 {
-            add_present(rt, policy, unclassified);
-        } else {
-            add_reserved(rt, policy, unclassified);
-        }
-    }
-    assert_eq!(rt; policy.add_reserved(unclassified), Err(AddFault::TooMany));
-    assert_eq!(rt; policy.add_document(unclassified), Err(AddFault::TooMany));
-}
+const TRUSTED_ADMIN: Subject = Subject {
+    greatest: UNCLASSIFIED,
+    current: UNCLASSIFIED,
+    is_trusted: true,
+    is_admin: true,
+};
 
-fn have_every_second(rt: &impl Abort, policy: &Policy) {
-    for i in 0..1022u16 {
-        have_presence(rt, policy, &[(DocId::new(i), i % 2 == 0)]);
-    }
-}
-
+/// Of as many documents as there may be every second is reserved. The last but one is deleted, and the last created.
 #[test]
 fn reserved_documents_count(rt: HostRuntime) {
-    let unclassified = level(&rt, 0, 0);
-    let mut policy = empty_policy(&rt);
-    let added = policy.add_subject(unclassified, unclassified, true, true);
-    let root = right(&rt, added);
-    let declared = DocId::new(1022);
-    let reserved = DocId::new(1023);
-    add_to_the_limit(&rt, &mut policy);
-    have_presence(&rt, &policy, &[(declared, true), (reserved, false)]);
-    apply_each(
-        &rt,
-        &mut policy,
-        &[
-            (root, give(root, reserved, Mode::Write), None),
-            (root, create(reserved), None),
-            (root, delete(declared), None),
-        ],
-    );
-    have_presence(&rt, &policy, &[(declared, false), (reserved, true)]);
-    have_every_second(&rt, &policy);
-    decide_each(&rt, &policy, &[(root, Mode::Write, reserved, None)]);
-    drop(policy);
-}
-
-fn delete_in_a_copy(rt: &impl Abort, policy: &Policy, base: &Base) {
-    let mut copy = right(rt, policy.copy());
-    apply_each(rt, &mut copy, &[(base.root, delete(base.memo), None)]);
-    have_presence(rt, &copy, &[(base.memo, false), (base.note, true)]);
-    drop(copy);
+    const STEPS: &[Step] = &[
+        Step::Subject(0, TRUSTED_ADMIN),
+        Step::EverySecond(1_024, UNCLASSIFIED),
+        Step::NoDocument(UNCLASSIFIED, AddFault::TooMany),
+        Step::Present(1_022, true),
+        Step::Present(1_023, false),
+        Step::Rule(0, Asks::Give(0, 1_023, Mode::Write), None),
+        Step::Rule(0, Asks::Create(1_023), None),
+        Step::Rule(0, Asks::Delete(1_022), None),
+        Step::Present(1_022, false),
+        Step::Present(1_023, true),
+        Step::EverySecondPresent(1_022),
+        Step::Access(0, Mode::Write, 1_023, None),
+    ];
+    assert_steps_from_nothing(&rt, STEPS);
 }
 
 #[test]
 fn a_copy_has_documents_of_its_own(rt: HostRuntime) {
-    let mut policy = empty_policy(&rt);
-    let base = fill_base(&rt, &mut policy);
-    delete_in_a_copy(&rt, &policy, &base);
-    have_presence(&rt, &policy, &[(base.memo, true)]);
-    decide_each(&rt, &policy, &[(base.ann, Mode::Read, base.memo, None)]);
-    drop(policy);
+    const OF_COPY: &[Step] = &[
+        Step::Rule(ROOT, Asks::Delete(MEMO), None),
+        Step::Present(MEMO, false),
+        Step::Present(NOTE, true),
+    ];
+    const STEPS: &[Step] = &[
+        Step::Present(MEMO, true),
+        Step::Access(ANN, Mode::Read, MEMO, None),
+    ];
+    assert_steps_apart(&rt, OF_COPY, STEPS);
 }

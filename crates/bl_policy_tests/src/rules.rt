@@ -1,224 +1,101 @@
 //! Rules over the base policy, and what it decides after each of them.
 use crate::fixtures::{
-    Base, NATO, add_present, apply_each, classify, decide_each, denied, empty_policy, fill_base,
-    follow, give, has_current, have_cells, level, rescind, right,
+    ANN, Asks, BOB, CAT, CONFIDENTIAL, MEMO, NOTE, READ_WRITE, ROOT, SECRET, SECRET_NATO, Step,
+    Subject, TOP_SECRET, UNCLASSIFIED, WRITE, assert_steps, assert_steps_apart,
 };
-use bl_policy::access::{Mode, ModeSet};
-use bl_policy::denial::{Clause, Denial};
-use bl_policy::policy::Policy;
-use bl_policy::rule::Rule;
-use std::process::Abort;
+use bl_policy::access::Mode;
+use bl_policy::denial::Clause;
+
+/// A subject that some tests add.
+const DAN: u16 = 4;
 
 #[test]
 fn rules_and_their_checks(rt: HostRuntime) {
-    let lower = level(&rt, 2, 0);
-    let above = level(&rt, 3, 0);
-    let mut policy = empty_policy(&rt);
-    let Base { ann, cat, memo, .. } = fill_base(&rt, &mut policy);
-    let no_document = Denial {
-        clause: Clause::Greatest,
-        subject: ann,
-        object: None,
-    };
-    apply_each(
-        &rt,
-        &mut policy,
-        &[
-            (
-                ann,
-                give(cat, memo, Mode::Read),
-                denied(Clause::Admin, ann, memo),
-            ),
-            (ann, Rule::Current { level: lower }, None),
-            (ann, Rule::Current { level: above }, Some(no_document)),
-        ],
-    );
-    has_current(&rt, &policy, ann, lower);
-    decide_each(
-        &rt,
-        &policy,
-        &[(ann, Mode::Write, memo, denied(Clause::Star, ann, memo))],
-    );
-    drop(policy);
+    const STEPS: &[Step] = &[
+        Step::Rule(ANN, Asks::Give(CAT, MEMO, Mode::Read), Some(Clause::Admin)),
+        Step::Rule(ANN, Asks::Current(SECRET), None),
+        Step::Rule(ANN, Asks::Current(TOP_SECRET), Some(Clause::Greatest)),
+        Step::Current(ANN, SECRET),
+        Step::Access(ANN, Mode::Write, MEMO, Some(Clause::Star)),
+    ];
+    assert_steps(&rt, STEPS);
 }
 
 #[test]
 fn decision_follows_rules(rt: HostRuntime) {
-    let confidential = level(&rt, 1, 0);
-    let top_secret = level(&rt, 3, 0);
-    let mut policy = empty_policy(&rt);
-    let Base {
-        bob,
-        root,
-        note,
-        ..
-    } = fill_base(&rt, &mut policy);
-    let raise = Rule::Current {
-        level: confidential,
-    };
-    decide_each(&rt, &policy, &[(bob, Mode::Read, note, None)]);
-    follow(
-        &rt,
-        &mut policy,
-        bob,
-        Mode::Read,
-        note,
-        &[
-            (
-                root,
-                classify(note, confidential),
-                denied(Clause::Star, bob, note),
-            ),
-            (bob, raise, None),
-            (
-                root,
-                rescind(bob, note, Mode::Read),
-                denied(Clause::Discretionary, bob, note),
-            ),
-            (root, give(bob, note, Mode::Read), None),
-            (
-                root,
-                classify(note, top_secret),
-                denied(Clause::Simple, bob, note),
-            ),
-        ],
-    );
-    drop(policy);
+    const STEPS: &[Step] = &[
+        Step::Access(BOB, Mode::Read, NOTE, None),
+        Step::Rule(ROOT, Asks::Classify(NOTE, CONFIDENTIAL), None),
+        Step::Access(BOB, Mode::Read, NOTE, Some(Clause::Star)),
+        Step::Rule(BOB, Asks::Current(CONFIDENTIAL), None),
+        Step::Access(BOB, Mode::Read, NOTE, None),
+        Step::Rule(ROOT, Asks::Rescind(BOB, NOTE, Mode::Read), None),
+        Step::Access(BOB, Mode::Read, NOTE, Some(Clause::Discretionary)),
+        Step::Rule(ROOT, Asks::Give(BOB, NOTE, Mode::Read), None),
+        Step::Access(BOB, Mode::Read, NOTE, None),
+        Step::Rule(ROOT, Asks::Classify(NOTE, TOP_SECRET), None),
+        Step::Access(BOB, Mode::Read, NOTE, Some(Clause::Simple)),
+    ];
+    assert_steps(&rt, STEPS);
 }
+
+const UNTRUSTED_ADMIN: Subject = Subject {
+    greatest: UNCLASSIFIED,
+    current: UNCLASSIFIED,
+    is_trusted: false,
+    is_admin: true,
+};
 
 #[test]
 fn classify_needs_trust(rt: HostRuntime) {
-    let lowest = level(&rt, 0, 0);
-    let confidential = level(&rt, 1, 0);
-    let mut policy = empty_policy(&rt);
-    let Base {
-        bob,
-        cat,
-        root,
-        note,
-        ..
-    } = fill_base(&rt, &mut policy);
-    let dan = right(&rt, policy.add_subject(lowest, lowest, false, true));
-    apply_each(
-        &rt,
-        &mut policy,
-        &[
-            (
-                dan,
-                classify(note, confidential),
-                denied(Clause::Trusted, dan, note),
-            ),
-            (dan, give(cat, note, Mode::Read), None),
-            (
-                cat,
-                classify(note, confidential),
-                denied(Clause::Admin, cat, note),
-            ),
-            (root, classify(note, confidential), None),
-        ],
-    );
-    decide_each(
-        &rt,
-        &policy,
-        &[(bob, Mode::Read, note, denied(Clause::Star, bob, note))],
-    );
-    drop(policy);
+    const STEPS: &[Step] = &[
+        Step::Subject(DAN, UNTRUSTED_ADMIN),
+        Step::Rule(
+            DAN,
+            Asks::Classify(NOTE, CONFIDENTIAL),
+            Some(Clause::Trusted),
+        ),
+        Step::Rule(DAN, Asks::Give(CAT, NOTE, Mode::Read), None),
+        Step::Rule(CAT, Asks::Classify(NOTE, CONFIDENTIAL), Some(Clause::Admin)),
+        Step::Rule(ROOT, Asks::Classify(NOTE, CONFIDENTIAL), None),
+        Step::Access(BOB, Mode::Read, NOTE, Some(Clause::Star)),
+    ];
+    assert_steps(&rt, STEPS);
 }
 
 #[test]
 fn write_does_not_stand_for_append(rt: HostRuntime) {
-    let nato = level(&rt, 2, NATO);
-    let mut policy = empty_policy(&rt);
-    let Base {
-        bob,
-        root,
-        memo,
-        ..
-    } = fill_base(&rt, &mut policy);
-    follow(
-        &rt,
-        &mut policy,
-        bob,
-        Mode::Append,
-        memo,
-        &[
-            (bob, Rule::Current { level: nato }, None),
-            (
-                root,
-                rescind(bob, memo, Mode::Append),
-                denied(Clause::Discretionary, bob, memo),
-            ),
-        ],
-    );
-    have_cells(&rt, &policy, &[(bob, memo, ModeSet::READ | ModeSet::WRITE)]);
-    drop(policy);
+    const STEPS: &[Step] = &[
+        Step::Rule(BOB, Asks::Current(SECRET_NATO), None),
+        Step::Access(BOB, Mode::Append, MEMO, None),
+        Step::Rule(ROOT, Asks::Rescind(BOB, MEMO, Mode::Append), None),
+        Step::Access(BOB, Mode::Append, MEMO, Some(Clause::Discretionary)),
+        Step::Cell(BOB, MEMO, READ_WRITE),
+    ];
+    assert_steps(&rt, STEPS);
 }
 
 #[test]
 fn rescind_between_reads(rt: HostRuntime) {
-    let mut policy = empty_policy(&rt);
-    let Base {
-        ann,
-        root,
-        memo,
-        ..
-    } = fill_base(&rt, &mut policy);
-    decide_each(&rt, &policy, &[(ann, Mode::Read, memo, None)]);
-    follow(
-        &rt,
-        &mut policy,
-        ann,
-        Mode::Read,
-        memo,
-        &[(
-            root,
-            rescind(ann, memo, Mode::Read),
-            denied(Clause::Discretionary, ann, memo),
-        )],
-    );
-    drop(policy);
+    const STEPS: &[Step] = &[
+        Step::Access(ANN, Mode::Read, MEMO, None),
+        Step::Rule(ROOT, Asks::Rescind(ANN, MEMO, Mode::Read), None),
+        Step::Access(ANN, Mode::Read, MEMO, Some(Clause::Discretionary)),
+    ];
+    assert_steps(&rt, STEPS);
 }
 
-/// Rescinds in a copy, twice, that ann may read the memo, and adds a document to it.
-fn change(rt: &impl Abort, copy: &mut Policy, base: &Base) {
-    let lowest = level(rt, 0, 0);
-    assert_eq!(rt; (copy.subjects(), copy.documents()), (4, 3));
-    apply_each(
-        rt,
-        copy,
-        &[
-            (base.root, rescind(base.ann, base.memo, Mode::Read), None),
-            (base.root, rescind(base.ann, base.memo, Mode::Read), None),
-        ],
-    );
-    have_cells(
-        rt,
-        copy,
-        &[
-            (base.ann, base.memo, ModeSet::WRITE),
-            (base.ann, base.note, ModeSet::READ | ModeSet::WRITE),
-        ],
-    );
-    let last = add_present(rt, copy, lowest);
-    assert_eq!(rt; last.position(), 3);
-}
-
-fn change_a_copy(rt: &impl Abort, policy: &Policy, base: &Base) {
-    let mut copy = right(rt, policy.copy());
-    change(rt, &mut copy, base);
-    drop(copy);
-}
-
+/// It rescinds in a copy, twice, that ann may read the memo, and adds a document to it.
 #[test]
 fn a_copy_is_apart(rt: HostRuntime) {
-    let mut policy = empty_policy(&rt);
-    let base = fill_base(&rt, &mut policy);
-    change_a_copy(&rt, &policy, &base);
-    assert_eq!(rt; policy.documents(), 3);
-    have_cells(
-        &rt,
-        &policy,
-        &[(base.ann, base.memo, ModeSet::READ | ModeSet::WRITE)],
-    );
-    drop(policy);
+    const OF_COPY: &[Step] = &[
+        Step::Counts(4, 3),
+        Step::Rule(ROOT, Asks::Rescind(ANN, MEMO, Mode::Read), None),
+        Step::Rule(ROOT, Asks::Rescind(ANN, MEMO, Mode::Read), None),
+        Step::Cell(ANN, MEMO, WRITE),
+        Step::Cell(ANN, NOTE, READ_WRITE),
+        Step::Document(3, UNCLASSIFIED),
+    ];
+    const STEPS: &[Step] = &[Step::Counts(4, 3), Step::Cell(ANN, MEMO, READ_WRITE)];
+    assert_steps_apart(&rt, OF_COPY, STEPS);
 }

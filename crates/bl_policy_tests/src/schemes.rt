@@ -2,26 +2,28 @@
 use bl_level::name::Name;
 use bl_level::scheme::Scheme;
 use std::alloc::Global;
-use std::test::Fail;
+use std::process::Abort;
 
 /// The name of these bytes.
-pub fn name(bytes: &[u8]) -> Result<Name, Fail> {
-    Ok(Name::new(bytes).ok_or("no name")?)
-}
-
-/// Adds a name for each word.
-fn add_names(names: &mut Vec<Name>, words: &[&[u8]]) -> Result<(), Fail> {
-    for word in words {
-        names.push(name(word)?)?;
+pub fn name(rt: &impl Abort, bytes: &[u8]) -> Name {
+    match Name::new(bytes) {
+        Some(name) => name,
+        None => panic!(rt; "no name"),
     }
-    Ok(())
 }
 
-/// The scheme of the base setup.
-pub fn base_scheme(alloc: Global) -> Result<Scheme, Fail> {
-    let mut ranks = Vec::new(alloc);
-    let mut categories = Vec::new(alloc);
-    add_names(&mut ranks, &[b"u", b"c", b"s", b"t"])?;
-    add_names(&mut categories, &[b"nato", b"crypto"])?;
-    Ok(Scheme::new(alloc, &ranks, &categories)?)
+/// A name for each word; none where one is no name, or memory is short.
+fn names_of(alloc: Global, words: &[&[u8]]) -> Option<Vec<Name>> {
+    let mut names = Vec::new(alloc);
+    for word in words {
+        names.push(Name::new(word)?).ok()?;
+    }
+    Some(names)
+}
+
+/// The scheme of the base setup; none where memory is short.
+pub fn base_scheme(alloc: Global) -> Option<Scheme> {
+    let ranks = names_of(alloc, &[b"u", b"c", b"s", b"t"])?;
+    let categories = names_of(alloc, &[b"nato", b"crypto"])?;
+    Scheme::new(alloc, &ranks, &categories).ok()
 }
