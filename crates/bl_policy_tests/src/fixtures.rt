@@ -499,7 +499,8 @@ fn empty_policy<R: AllocGlobal + Abort>(rt: &R) -> Policy {
     }
 }
 
-/// Asserts that of a policy with no subject and no document. It is let go by `drop`, which is proved once for all tests.
+/// Asserts that of a policy with no subject and no document. It is let go by `drop`, which is proved once for all
+/// tests.
 pub fn assert_steps_from_nothing<R: AllocGlobal + Abort>(rt: &R, steps: &[Step]) {
     let mut policy = empty_policy(rt);
     assert_of(rt, &mut policy, steps);

@@ -1,40 +1,79 @@
 //! Lines of as many steps in one another as 8,192 bytes can have, on the stack that a spawned thread gets.
-use super::fixtures::{names_of, read_by};
+use super::fixtures::{Fault, is_refused_by, names_of};
 use bl_check::known::check_when_known;
-use bl_script::asked::LineFault;
 use bl_script::names::Names;
 use bl_syntax::raw::RawLine;
 use bl_syntax::read::read_raw;
 use std::alloc::Global;
 use std::process::Abort;
-use std::test::Fail;
 use std::thread;
 use std::thread::Threads;
 
-/// A step of 14 bytes, which its end makes 18.
-const IF: &[u8] = b"if a is\"\"then ";
-
-/// A step of 21 bytes, which its end makes 25.
-const WHEN: &[u8] = b"spawn when read a do ";
-
-/// So many of these steps in one another.
-fn steps(alloc: Global, step: &[u8], count: usize) -> Result<Vec<u8>, Fail> {
-    let mut line = Vec::new(alloc);
-    line.extend_from_slice(b"when read a do ")?;
-    for _ in 0..count {
-        line.extend_from_slice(step)?;
-    }
-    Ok(line)
+/// A line of steps in one another.
+#[derive(Clone, Copy)]
+struct Deep {
+    /// The step.
+    step: &'static str,
+    /// How many there are.
+    steps: usize,
+    /// Whether each is ended, and the line.
+    ended: bool,
+    /// How many bytes the line has.
+    len: usize,
 }
 
-/// The same, each of them ended.
-fn ended_steps(alloc: Global, step: &[u8], count: usize) -> Result<Vec<u8>, Fail> {
-    let mut line = steps(alloc, step, count)?;
-    for _ in 0..count {
-        line.extend_from_slice(b"end;")?;
+/// A step of 14 bytes, which its end makes 18.
+const IF: &str = "if a is\"\"then ";
+
+/// A step of 21 bytes, which its end makes 25.
+const WHEN: &str = "spawn when read a do ";
+
+const IFS: Deep = Deep {
+    step: IF,
+    steps: 454,
+    ended: true,
+    len: 8_190,
+};
+
+const WHENS: Deep = Deep {
+    step: WHEN,
+    steps: 326,
+    ended: true,
+    len: 8_168,
+};
+
+const OPEN_IFS: Deep = Deep {
+    step: IF,
+    steps: 584,
+    ended: false,
+    len: 8_191,
+};
+
+const OPEN_WHENS: Deep = Deep {
+    step: WHEN,
+    steps: 389,
+    ended: false,
+    len: 8_184,
+};
+
+/// Adds a text so many times.
+fn add(line: &mut Vec<u8>, text: &str, times: usize) -> Option<()> {
+    for _ in 0..times {
+        line.extend_from_slice(text.as_bytes()).ok()?;
     }
-    line.extend_from_slice(b"end")?;
-    Ok(line)
+    Some(())
+}
+
+/// The text of a line; none where a growth is refused.
+fn line_of(alloc: Global, deep: Deep) -> Option<Vec<u8>> {
+    let mut line = Vec::new(alloc);
+    add(&mut line, "when read a do ", 1)?;
+    add(&mut line, deep.step, deep.steps)?;
+    if deep.ended {
+        add(&mut line, "end;", deep.steps)?;
+        add(&mut line, "end", 1)?;
+    }
+    Some(line)
 }
 
 /// Whether the line is read, and knows each name to its deepest step.
@@ -49,7 +88,7 @@ fn is_walked_by(alloc: Global, names: &Names, line: &[u8]) -> bool {
 
 /// The same where the one document is `a`.
 fn is_walked(alloc: Global, line: &[u8]) -> bool {
-    match names_of(alloc, b"a") {
+    match names_of(alloc, "a") {
         Some(names) => {
             let walked = is_walked_by(alloc, &names, line);
             drop(names);
@@ -59,80 +98,62 @@ fn is_walked(alloc: Global, line: &[u8]) -> bool {
     }
 }
 
-/// Why the line is refused where the one document is `a`.
-fn fault_of(alloc: Global, line: &[u8]) -> Option<LineFault> {
-    match names_of(alloc, b"a") {
-        Some(names) => read_by(alloc, names, line).err(),
-        None => None,
+/// Whether the line is refused for this fault where the one document is `a`.
+fn is_refused(alloc: Global, line: &[u8], fault: Fault) -> bool {
+    match names_of(alloc, "a") {
+        Some(names) => is_refused_by(alloc, names, line, fault),
+        None => false,
     }
 }
 
-/// Whether the line is walked on a thread, which drops what it has read.
-fn is_walked_there(rt: &impl Threads, alloc: Global, line: Vec<u8>) -> Result<bool, Fail> {
-    let Ok(reader) = thread::spawn(rt, move || is_walked(alloc, &line)) else {
-        return Err(Fail::new("no thread"));
+/// Whether a line has its length, and is walked, or refused where there is a fault.
+fn stands(alloc: Global, deep: Deep, fault: Option<Fault>) -> bool {
+    let Some(line) = line_of(alloc, deep) else {
+        return false;
     };
-    Ok(reader.join(rt))
+    line.len() == deep.len
+        && match fault {
+            Some(fault) => is_refused(alloc, &line, fault),
+            None => is_walked(alloc, &line),
+        }
 }
 
-/// Why the line is refused on a thread.
-fn fault_there(rt: &impl Threads, alloc: Global, line: Vec<u8>) -> Result<Option<LineFault>, Fail> {
-    let Ok(reader) = thread::spawn(rt, move || fault_of(alloc, &line)) else {
-        return Err(Fail::new("no thread"));
-    };
-    Ok(reader.join(rt))
-}
-
-/// Asserts that a line of so many bytes is walked.
-fn assert_walked<R: Abort + Threads>(
-    rt: &R,
-    alloc: Global,
-    line: Vec<u8>,
-    len: usize,
-) -> Result<(), Fail> {
-    assert_eq!(rt; line.len(), len);
-    assert!(rt; is_walked_there(rt, alloc, line)?);
-    Ok(())
-}
-
-/// Asserts that a line of so many bytes is refused for this fault.
-fn assert_refused<R: Abort + Threads>(
-    rt: &R,
-    alloc: Global,
-    line: Vec<u8>,
-    len: usize,
-    fault: LineFault,
-) -> Result<(), Fail> {
-    assert_eq!(rt; line.len(), len);
-    assert!(rt; fault_there(rt, alloc, line)? == Some(fault));
-    Ok(())
+/// Asserts of each line that it is walked, or refused where there is a fault, on a thread, which drops what it has
+/// read.
+fn assert_there<R: Abort + Threads>(rt: &R, alloc: Global, lines: &[(Deep, Option<Fault>)]) {
+    for (n, (deep, fault)) in lines.iter().enumerate() {
+        let (deep, fault) = (*deep, *fault);
+        match thread::spawn(rt, move || stands(alloc, deep, fault)) {
+            Ok(reader) => assert!(rt; reader.join(rt), "line {n}"),
+            Err(_) => panic!(rt; "no thread"),
+        }
+    }
 }
 
 #[test]
-fn walks_the_deepest_ifs(rt: HostRuntime) -> Result<(), Fail> {
-    let line = ended_steps(rt.alloc(), IF, 454)?;
-    assert_walked(&rt, rt.alloc(), line, 8_190)
+fn walks_the_deepest_ifs(rt: HostRuntime) {
+    const LINES: &[(Deep, Option<Fault>)] = &[(IFS, None)];
+    assert_there(&rt, rt.alloc(), LINES);
 }
 
 #[test]
-fn walks_the_deepest_whens(rt: HostRuntime) -> Result<(), Fail> {
-    let line = ended_steps(rt.alloc(), WHEN, 326)?;
-    assert_walked(&rt, rt.alloc(), line, 8_168)
+fn walks_the_deepest_whens(rt: HostRuntime) {
+    const LINES: &[(Deep, Option<Fault>)] = &[(WHENS, None)];
+    assert_there(&rt, rt.alloc(), LINES);
 }
 
 #[test]
-fn refuses_the_deepest_lines(rt: HostRuntime) -> Result<(), Fail> {
-    let line = ended_steps(rt.alloc(), IF, 454)?;
-    assert_refused(&rt, rt.alloc(), line, 8_190, LineFault::Deep)?;
-    let line = ended_steps(rt.alloc(), WHEN, 326)?;
-    assert_refused(&rt, rt.alloc(), line, 8_168, LineFault::Deep)
+fn refuses_the_deepest_lines(rt: HostRuntime) {
+    const LINES: &[(Deep, Option<Fault>)] = &[(IFS, Some(Fault::Deep)), (WHENS, Some(Fault::Deep))];
+    assert_there(&rt, rt.alloc(), LINES);
 }
 
 /// A line that ends before its steps do is at fault at its end.
 #[test]
-fn refuses_the_deepest_open_lines(rt: HostRuntime) -> Result<(), Fail> {
-    let line = steps(rt.alloc(), IF, 584)?;
-    assert_refused(&rt, rt.alloc(), line, 8_191, LineFault::Syntax(8_191))?;
-    let line = steps(rt.alloc(), WHEN, 389)?;
-    assert_refused(&rt, rt.alloc(), line, 8_184, LineFault::Syntax(8_184))
+fn refuses_the_deepest_open_lines(rt: HostRuntime) {
+    const LINES: &[(Deep, Option<Fault>)] = &[
+        (OPEN_IFS, Some(Fault::Syntax(8_191))),
+        (OPEN_WHENS, Some(Fault::Syntax(8_184))),
+    ];
+    assert_there(&rt, rt.alloc(), LINES);
 }

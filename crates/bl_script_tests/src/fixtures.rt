@@ -1,5 +1,5 @@
-//! Names, what lines ask by them, and tables of lines. Names are let go by `drop`, which is proved once for all of them, and not
-//! at the end of a scope, where the proof takes them apart each time.
+//! Names, what lines ask by them, and tables of lines. Names are let go by `drop`, which is proved once for all of
+//! them, and not at the end of a scope, where the proof takes them apart each time.
 use bl_level::level::Level;
 use bl_level::name::Name;
 use bl_level::scheme::Scheme;
@@ -13,14 +13,47 @@ use bl_script::names::Names;
 use bl_script::work::Work;
 use std::alloc::Global;
 use std::process::Abort;
-use std::test::Fail;
 
-/// The name of these bytes.
-pub fn named(bytes: &[u8]) -> Result<Name, Fail> {
-    match Name::new(bytes) {
-        Some(name) => Ok(name),
-        None => Err(Fail::new("no name")),
+/// Why a line is refused, with the place or the name that is told.
+#[derive(Clone, Copy)]
+pub enum Fault {
+    Long,
+    Syntax(u32),
+    Deep,
+    Many,
+    Unknown(&'static str),
+    Twice(&'static str),
+    Mode(&'static str),
+}
+
+/// What a line asks but for a behaviour: a rule with the places of its subject and its document, and with the rank and
+/// the categories of its level.
+#[derive(Clone, Copy)]
+pub enum Asks {
+    Hello(u16),
+    Wait,
+    Give(u16, u16, Mode),
+    Rescind(u16, u16, Mode),
+    Current(u8, u32),
+    Classify(u16, u8, u32),
+    Create(u16),
+    Delete(u16),
+}
+
+/// A name for each word; none where one is no name, or a growth is refused.
+fn names_for(alloc: Global, words: &[&[u8]]) -> Option<Vec<Name>> {
+    let mut names = Vec::new(alloc);
+    for word in words {
+        names.push(Name::new(word)?).ok()?;
     }
+    Some(names)
+}
+
+/// The ranks u, c, s and t, and the categories nato and crypto.
+fn base_scheme(alloc: Global) -> Option<Scheme> {
+    let ranks = names_for(alloc, &[b"u", b"c", b"s", b"t"])?;
+    let categories = names_for(alloc, &[b"nato", b"crypto"])?;
+    Scheme::new(alloc, &ranks, &categories).ok()
 }
 
 /// Adds these subjects and these documents. None where one was not added.
@@ -35,13 +68,8 @@ fn add_all(names: &mut Names, subjects: &[&[u8]], documents: &[&[u8]]) -> Option
 }
 
 /// Names of these subjects and these documents.
-fn names_with(
-    alloc: Global,
-    scheme: Scheme,
-    subjects: &[&[u8]],
-    documents: &[&[u8]],
-) -> Option<Names> {
-    let mut names = Names::new(alloc, scheme).ok()?;
+fn names_with(alloc: Global, subjects: &[&[u8]], documents: &[&[u8]]) -> Option<Names> {
+    let mut names = Names::new(alloc, base_scheme(alloc)?).ok()?;
     match add_all(&mut names, subjects, documents) {
         Some(()) => Some(names),
         None => {
@@ -51,35 +79,22 @@ fn names_with(
     }
 }
 
-/// The ranks u, c, s and t, and the categories nato and crypto.
-fn base_scheme(alloc: Global) -> Option<Scheme> {
-    let ranks = [
-        Name::new(b"u")?,
-        Name::new(b"c")?,
-        Name::new(b"s")?,
-        Name::new(b"t")?,
-    ];
-    let categories = [Name::new(b"nato")?, Name::new(b"crypto")?];
-    Scheme::new(alloc, &ranks, &categories).ok()
-}
-
 /// The subjects ann, bob, cat and root, and the documents memo, note and log.
 pub fn base_names(alloc: Global) -> Option<Names> {
     names_with(
         alloc,
-        base_scheme(alloc)?,
         &[b"ann", b"bob", b"cat", b"root"],
         &[b"memo", b"note", b"log"],
     )
 }
 
 /// Names with this document alone.
-pub fn names_of(alloc: Global, document: &[u8]) -> Option<Names> {
-    names_with(alloc, base_scheme(alloc)?, &[], &[document])
+pub fn names_of(alloc: Global, document: &str) -> Option<Names> {
+    names_with(alloc, &[], &[document.as_bytes()])
 }
 
 /// What a line asks by these names. It promises nothing, which keeps the proofs of its callers short.
-pub fn read_by(alloc: Global, names: Names, line: &[u8]) -> Result<Line, LineFault> {
+fn read_by(alloc: Global, names: Names, line: &[u8]) -> Result<Line, LineFault> {
     let asked = read_line(alloc, &names, line);
     drop(names);
     asked
@@ -94,35 +109,77 @@ pub fn read(alloc: Global, line: &[u8]) -> Result<Line, LineFault> {
 }
 
 /// The work that a line asks by the base names, of which memo is the first document and note the second.
-pub fn work_of(alloc: Global, line: &[u8]) -> Result<Work, Fail> {
-    match read(alloc, line)? {
-        Line::Work(work) => Ok(work),
-        _ => Err(Fail::new("no work")),
+pub fn work_of(alloc: Global, line: &[u8]) -> Option<Work> {
+    match read(alloc, line).ok()? {
+        Line::Work(work) => Some(work),
+        _ => None,
     }
 }
 
-/// Why a line is refused by the base names.
-pub fn fault_of(alloc: Global, line: &[u8]) -> Result<LineFault, Fail> {
-    match read(alloc, line).err() {
-        Some(fault) => Ok(fault),
-        None => Err(Fail::new("no fault")),
+/// Whether a fault is this one.
+fn is_fault(fault: &LineFault, wanted: Fault) -> bool {
+    match (fault, wanted) {
+        (LineFault::Long, Fault::Long)
+        | (LineFault::Deep, Fault::Deep)
+        | (LineFault::Many, Fault::Many) => true,
+        (LineFault::Syntax(place), Fault::Syntax(wanted)) => *place == wanted,
+        (LineFault::Unknown(name), Fault::Unknown(wanted))
+        | (LineFault::Twice(name), Fault::Twice(wanted))
+        | (LineFault::Mode(name), Fault::Mode(wanted)) => name.bytes() == wanted.as_bytes(),
+        _ => false,
     }
 }
 
-/// Where a line is at fault.
-pub fn place_of(alloc: Global, line: &[u8]) -> Result<u32, Fail> {
-    match fault_of(alloc, line)? {
-        LineFault::Syntax(place) => Ok(place),
-        _ => Err(Fail::new("another fault")),
+/// Whether a line is refused for this fault by these names.
+pub fn is_refused_by(alloc: Global, names: Names, line: &[u8], wanted: Fault) -> bool {
+    match read_by(alloc, names, line).err() {
+        Some(fault) => is_fault(&fault, wanted),
+        None => false,
     }
 }
 
-/// Asserts of each line that it is at fault at this place.
-pub fn assert_places(rt: &impl Abort, alloc: Global, lines: &[(&[u8], u32)]) -> Result<(), Fail> {
-    for (line, place) in lines {
-        assert_eq!(rt; place_of(alloc, line)?, *place, "{line:?}");
+/// The same by the base names.
+pub fn is_refused(alloc: Global, line: &[u8], wanted: Fault) -> bool {
+    match base_names(alloc) {
+        Some(names) => is_refused_by(alloc, names, line, wanted),
+        None => false,
     }
-    Ok(())
+}
+
+/// Asserts of each line that it is refused for this fault.
+pub fn assert_refused(rt: &impl Abort, alloc: Global, lines: &[(&str, Fault)]) {
+    for (line, fault) in lines {
+        assert!(rt; is_refused(alloc, line.as_bytes(), *fault), "{line}");
+    }
+}
+
+/// Whether this is what a line asks.
+fn is_asked(line: &Line, asks: Asks) -> bool {
+    match (line, asks) {
+        (Line::Hello(subject), Asks::Hello(place)) => subject.position() == place,
+        (Line::Wait, Asks::Wait) => true,
+        (Line::Work(Work::Rule(rule)), _) => rule_of(asks) == Some(*rule),
+        _ => false,
+    }
+}
+
+/// Whether a line asks this by the base names.
+fn is_read(alloc: Global, line: &str, asks: Asks) -> bool {
+    match read(alloc, line.as_bytes()).ok() {
+        Some(line) => {
+            let is_asked = is_asked(&line, asks);
+            drop(line);
+            is_asked
+        }
+        None => false,
+    }
+}
+
+/// Asserts of each line that it asks this.
+pub fn assert_asked(rt: &impl Abort, alloc: Global, lines: &[(&str, Asks)]) {
+    for (line, asks) in lines {
+        assert!(rt; is_read(alloc, line, *asks), "{line}");
+    }
 }
 
 /// Whether some text reads as the work by these names.
@@ -132,49 +189,32 @@ pub fn is_known_by(names: Names, work: &Work) -> bool {
     known
 }
 
-/// The level of this rank and these categories.
-fn level(rank: u8, categories: u32) -> Result<Level, Fail> {
-    match Level::new(rank, categories) {
-        Some(level) => Ok(level),
-        None => Err(Fail::new("no level")),
-    }
-}
-
-/// A rule that gives, by the places of its subject and its document, and its mode.
-pub fn give(subject: u16, doc: u16, mode: Mode) -> Rule {
-    let subject = SubjectId::new(subject);
-    let doc = DocId::new(doc);
-    Rule::Give { subject, doc, mode }
-}
-
-/// A rule that rescinds, in the same way.
-pub fn rescind(subject: u16, doc: u16, mode: Mode) -> Rule {
-    let subject = SubjectId::new(subject);
-    let doc = DocId::new(doc);
-    Rule::Rescind { subject, doc, mode }
-}
-
-/// A rule that sets the speaker's current level.
-pub fn current(rank: u8, categories: u32) -> Result<Rule, Fail> {
-    let level = level(rank, categories)?;
-    Ok(Rule::Current { level })
-}
-
-/// A rule that classifies the document of this place.
-pub fn classify(doc: u16, rank: u8, categories: u32) -> Result<Rule, Fail> {
-    let doc = DocId::new(doc);
-    let level = level(rank, categories)?;
-    Ok(Rule::Classify { doc, level })
-}
-
-/// A rule that creates the document of this place.
-pub fn create(doc: u16) -> Rule {
-    let doc = DocId::new(doc);
-    Rule::Create { doc }
-}
-
-/// A rule that deletes the document of this place.
-pub fn delete(doc: u16) -> Rule {
-    let doc = DocId::new(doc);
-    Rule::Delete { doc }
+/// The rule that is asked; none where there is no such level, or no rule.
+pub fn rule_of(asks: Asks) -> Option<Rule> {
+    Some(match asks {
+        Asks::Hello(_) | Asks::Wait => return None,
+        Asks::Give(subject, doc, mode) => Rule::Give {
+            subject: SubjectId::new(subject),
+            doc: DocId::new(doc),
+            mode,
+        },
+        Asks::Rescind(subject, doc, mode) => Rule::Rescind {
+            subject: SubjectId::new(subject),
+            doc: DocId::new(doc),
+            mode,
+        },
+        Asks::Current(rank, categories) => Rule::Current {
+            level: Level::new(rank, categories)?,
+        },
+        Asks::Classify(doc, rank, categories) => Rule::Classify {
+            doc: DocId::new(doc),
+            level: Level::new(rank, categories)?,
+        },
+        Asks::Create(doc) => Rule::Create {
+            doc: DocId::new(doc),
+        },
+        Asks::Delete(doc) => Rule::Delete {
+            doc: DocId::new(doc),
+        },
+    })
 }

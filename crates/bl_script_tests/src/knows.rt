@@ -3,88 +3,101 @@ use super::fixtures::{is_known_by, names_of, work_of};
 use bl_script::work::Work;
 use std::alloc::Global;
 use std::process::Abort;
-use std::test::Fail;
+
+/// A line by whose work it is asked.
+#[derive(Clone, Copy)]
+enum Text {
+    /// This line.
+    Line(&'static str),
+    /// `when read memo do `, so many times `show memo;`, and `end`.
+    Shows(usize),
+    /// `when read memo do say"xx";end`, with so many letters in the place of two: 27 bytes more than those.
+    Says(usize),
+}
+
+/// A line of this beginning, of so many times the same, and of this end.
+fn repeated(alloc: Global, begin: &[u8], same: &[u8], times: usize, end: &[u8]) -> Option<Vec<u8>> {
+    let mut line = Vec::new(alloc);
+    line.extend_from_slice(begin).ok()?;
+    for _ in 0..times {
+        line.extend_from_slice(same).ok()?;
+    }
+    line.extend_from_slice(end).ok()?;
+    Some(line)
+}
+
+/// The work of a long line.
+fn long_work(alloc: Global, begin: &[u8], same: &[u8], times: usize, end: &[u8]) -> Option<Work> {
+    let line = repeated(alloc, begin, same, times, end)?;
+    work_of(alloc, &line)
+}
+
+fn work(alloc: Global, text: Text) -> Option<Work> {
+    match text {
+        Text::Line(line) => work_of(alloc, line.as_bytes()),
+        Text::Shows(times) => long_work(alloc, b"when read memo do ", b"show memo;", times, b"end"),
+        Text::Says(letters) => {
+            long_work(alloc, b"when read memo do say\"", b"x", letters, b"\";end")
+        }
+    }
+}
 
 /// Whether some text reads as the work where its one document has this name; none where a growth is refused.
-fn is_known(alloc: Global, document: &[u8], work: &Work) -> Option<bool> {
-    Some(is_known_by(names_of(alloc, document)?, work))
+fn is_known(alloc: Global, document: &str, text: Text) -> Option<bool> {
+    let work = work(alloc, text)?;
+    Some(is_known_by(names_of(alloc, document)?, &work))
 }
 
-/// Asserts whether some text reads as the work where its one document has this name.
-fn assert_known(rt: &impl Abort, alloc: Global, document: &[u8], work: Work, known: bool) {
-    assert!(rt; is_known(alloc, document, &work) == Some(known));
-}
-
-/// The work of `when read memo do `, so many times `show memo;`, and `end`.
-fn shows(alloc: Global, times: usize) -> Result<Work, Fail> {
-    let mut line = Vec::new(alloc);
-    line.extend_from_slice(b"when read memo do ")?;
-    for _ in 0..times {
-        line.extend_from_slice(b"show memo;")?;
+/// Asserts of each work whether some text reads as it where its one document has this name.
+fn assert_known(rt: &impl Abort, alloc: Global, works: &[(&str, Text, bool)]) {
+    for (n, (document, text, known)) in works.iter().enumerate() {
+        assert!(rt;
+            is_known(alloc, document, *text) == Some(*known),
+            "work {n}"
+        );
     }
-    line.extend_from_slice(b"end")?;
-    work_of(alloc, &line)
 }
 
-/// The work of a line of 27 bytes and so many more, the letters that it says: `when read memo do say"xx";end`.
-fn says(alloc: Global, letters: usize) -> Result<Work, Fail> {
-    let mut line = Vec::new(alloc);
-    line.extend_from_slice(b"when read memo do say\"")?;
-    for _ in 0..letters {
-        line.push(b'x')?;
-    }
-    line.extend_from_slice(b"\";end")?;
-    work_of(alloc, &line)
+const EACH_STEP: &str =
+    "when write memo do if memo is\"a\"then else end;spawn when read memo do show memo;end;end";
+
+#[test]
+fn knows_what_it_reads(rt: HostRuntime) {
+    const WORKS: &[(&str, Text, bool)] = &[("memo", Text::Line(EACH_STEP), true)];
+    assert_known(&rt, rt.alloc(), WORKS);
 }
 
 #[test]
-fn knows_what_it_reads(rt: HostRuntime) -> Result<(), Fail> {
-    let work = work_of(
-        rt.alloc(),
-        b"when write memo do if memo is\"a\"then else end;spawn when read memo do show memo;end;end",
-    )?;
-    assert_known(&rt, rt.alloc(), b"memo", work, true);
-    Ok(())
-}
-
-#[test]
-fn knows_no_document_that_is_not_there(rt: HostRuntime) -> Result<(), Fail> {
-    let first = work_of(rt.alloc(), b"when read memo do show memo;end")?;
-    assert_known(&rt, rt.alloc(), b"memo", first, true);
-    let second = work_of(rt.alloc(), b"when read note do show note;end")?;
-    assert_known(&rt, rt.alloc(), b"memo", second, false);
-    Ok(())
+fn knows_no_document_that_is_not_there(rt: HostRuntime) {
+    const WORKS: &[(&str, Text, bool)] = &[
+        ("memo", Text::Line("when read memo do show memo;end"), true),
+        ("memo", Text::Line("when read note do show note;end"), false),
+    ];
+    assert_known(&rt, rt.alloc(), WORKS);
 }
 
 /// A line of 8,192 bytes where the document is memo has 8,193 where it is memos.
 #[test]
-fn knows_a_text_of_8192_bytes(rt: HostRuntime) -> Result<(), Fail> {
-    let work = says(rt.alloc(), 8_165)?;
-    assert_known(&rt, rt.alloc(), b"memo", work, true);
-    Ok(())
+fn knows_a_text_of_8192_bytes(rt: HostRuntime) {
+    const WORKS: &[(&str, Text, bool)] = &[("memo", Text::Says(8_165), true)];
+    assert_known(&rt, rt.alloc(), WORKS);
 }
 
 #[test]
-fn knows_no_text_of_8193_bytes(rt: HostRuntime) -> Result<(), Fail> {
-    let shorter = says(rt.alloc(), 8_164)?;
-    assert_known(&rt, rt.alloc(), b"memos", shorter, true);
-    let longer = says(rt.alloc(), 8_165)?;
-    assert_known(&rt, rt.alloc(), b"memos", longer, false);
-    Ok(())
+fn knows_no_text_of_8193_bytes(rt: HostRuntime) {
+    const WORKS: &[(&str, Text, bool)] = &[
+        ("memos", Text::Says(8_164), true),
+        ("memos", Text::Says(8_165), false),
+    ];
+    assert_known(&rt, rt.alloc(), WORKS);
 }
 
 /// What is short by one name is too long by a name of 32 bytes.
 #[test]
-fn foreign_names(rt: HostRuntime) -> Result<(), Fail> {
-    let short = shows(rt.alloc(), 700)?;
-    assert_known(&rt, rt.alloc(), b"memo", short, true);
-    let long = shows(rt.alloc(), 700)?;
-    assert_known(
-        &rt,
-        rt.alloc(),
-        b"memo_memo_memo_memo_memo_memo_32",
-        long,
-        false,
-    );
-    Ok(())
+fn foreign_names(rt: HostRuntime) {
+    const WORKS: &[(&str, Text, bool)] = &[
+        ("memo", Text::Shows(700), true),
+        ("memo_memo_memo_memo_memo_memo_32", Text::Shows(700), false),
+    ];
+    assert_known(&rt, rt.alloc(), WORKS);
 }
