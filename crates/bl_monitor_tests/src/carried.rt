@@ -11,50 +11,51 @@ const CARRY_BOB_NOTE: Denied = (Clause::Carry, BOB, Some(NOTE));
 
 #[test]
 fn child_may_not_carry_down(rt: HostRuntime) {
-    let steps = [
+    const STEPS: &[Step] = &[
         Step::Line("hello bob", "current s{nato}", Answered::Rules),
         Step::Line("hello bob", READ_THEN_WRITE, Answered::Shows(&[])),
         Step::Line("hello bob", "current u", Answered::Rules),
         Step::Child(1, 1, Answered::Is(CARRY_BOB_NOTE)),
         Step::Fault(3, Some(CARRY_BOB_NOTE)),
     ];
-    assert_steps(&rt, &steps);
+    assert_steps(&rt, STEPS);
 }
 
 /// The same entries, where the child is done.
 #[test]
 fn child_carries_nothing_in_version_one(rt: HostRuntime) {
-    let steps = [
+    const STEPS: &[Step] = &[
         Step::Line("hello bob", "current s{nato}", Answered::Rules),
         Step::Line("hello bob", READ_THEN_WRITE, Answered::Shows(&[])),
         Step::Line("hello bob", "current u", Answered::Rules),
         Step::Child(1, 1, Answered::Shows(&[])),
         Step::Fault(3, None),
     ];
-    assert_steps_over(&rt, "\"n1\"", "", Version::One, &steps);
+    assert_steps_over(&rt, "\"n1\"", "", Version::One, STEPS);
 }
 
 #[test]
 fn grandchild_may_not_carry_down(rt: HostRuntime) {
-    let line = "when read memo do spawn when read note do spawn when write note do end; end; end";
-    let steps = [
+    const LINE: &str =
+        "when read memo do spawn when read note do spawn when write note do end; end; end";
+    const STEPS: &[Step] = &[
         Step::Line("hello bob", "current s{nato}", Answered::Rules),
-        Step::Line("hello bob", line, Answered::Shows(&[])),
+        Step::Line("hello bob", LINE, Answered::Shows(&[])),
         Step::Line("hello bob", "current u", Answered::Rules),
         Step::Child(1, 1, Answered::Shows(&[])),
         Step::Child(3, 1, Answered::Is(CARRY_BOB_NOTE)),
     ];
-    assert_steps(&rt, &steps);
+    assert_steps(&rt, STEPS);
 }
 
 #[test]
 fn trusted_may_carry_down(rt: HostRuntime) {
-    let line = "when read note do spawn when write note do add note \"x\"; end; end";
-    let steps = [
+    const LINE: &str = "when read note do spawn when write note do add note \"x\"; end; end";
+    const STEPS: &[Step] = &[
         Step::Line("hello root", "current t", Answered::Rules),
-        Step::Line("hello root", line, Answered::Shows(&[])),
+        Step::Line("hello root", LINE, Answered::Shows(&[])),
         Step::Line("hello root", "current u", Answered::Rules),
         Step::Child(1, 1, Answered::Shows(&[])),
     ];
-    assert_steps(&rt, &steps);
+    assert_steps(&rt, STEPS);
 }
