@@ -56,27 +56,33 @@ pub fn base(alloc: Global) -> Result<Setup, Fail> {
     setup_with(alloc, "n1")
 }
 
-/// The base setup, with two documents that are not there yet.
-pub fn reserved(alloc: Global) -> Result<Setup, Fail> {
-    let text = joined(alloc, [BEFORE_NOTE, "n1", BEHIND_NOTE, RESERVED].as_slice())?;
-    Ok(read_setup(alloc, &text)?)
-}
-
 /// The base setup, with these lines after it; none where a growth is refused.
 pub fn setup_or_none(alloc: Global, more: &str) -> Option<Setup> {
     let text = joined(alloc, [BEFORE_NOTE, "n1", BEHIND_NOTE, more].as_slice()).ok()?;
     read_setup(alloc, &text).ok()
 }
 
-/// Serves the input over a setup. The bytes that were written, and how many were left unread.
-fn served(alloc: Global, setup: Setup, limit: u32, input: &[u8]) -> Result<(Vec<u8>, usize), Fail>
+/// Serves the input over a setup. The bytes that were written, and how many were left unread; none where the session
+/// did not end well.
+fn served(alloc: Global, setup: Setup, limit: u32, input: &[u8]) -> Option<(Vec<u8>, usize)>
     requires some { 1 ≤ limit }
     requires most { limit ≤ 100000 }
 {
     let mut reader = Watched::new(input);
     let mut writer = Watched::new(Vec::new(alloc));
-    serve_alone(alloc, setup, limit, &mut reader, &mut writer)?;
-    Ok((writer.into_inner(), reader.into_inner().len()))
+    serve_alone(alloc, setup, limit, &mut reader, &mut writer).ok()?;
+    Some((writer.into_inner(), reader.into_inner().len()))
+}
+
+/// Asserts that these bytes are this text.
+fn assert_text(rt: &impl Abort, written: Vec<u8>, text: &str) {
+    match String::from_utf8(written) {
+        Ok(said) => {
+            assert_eq!(rt; said.as_str(), text);
+            drop(said);
+        }
+        Err(_) => panic!(rt; "no text"),
+    }
 }
 
 /// Asserts what is written to this input over a setup, and gives how many of its bytes were left unread.
@@ -86,41 +92,52 @@ pub fn assert_served<R: AllocGlobal + Abort>(
     limit: u32,
     input: &[u8],
     output: &str,
-) -> Result<usize, Fail>
+) -> usize
     requires some { 1 ≤ limit }
     requires most { limit ≤ 100000 }
 {
-    let (written, left) = served(rt.alloc(), setup, limit, input)?;
-    let said = String::from_utf8(written)?;
-    assert_eq!(rt; said.as_str(), output);
-    Ok(left)
+    match served(rt.alloc(), setup, limit, input) {
+        Some((written, left)) => {
+            assert_text(rt, written, output);
+            left
+        }
+        None => panic!(rt; "no session"),
+    }
 }
 
-/// Asserts what is written to this input over the base setup, under a limit.
-pub fn assert_said_under<R: AllocGlobal + Abort>(
+/// Asserts what is written to this input over the base setup with these lines after it, under a limit.
+fn assert_said_over<R: AllocGlobal + Abort>(
     rt: &R,
+    more: &str,
     limit: u32,
     input: &[u8],
     output: &str,
-) -> Result<(), Fail>
+)
     requires some { 1 ≤ limit }
     requires most { limit ≤ 100000 }
 {
-    assert_served(rt, base(rt.alloc())?, limit, input, output)?;
-    Ok(())
+    match setup_or_none(rt.alloc(), more) {
+        Some(setup) => {
+            let _left = assert_served(rt, setup, limit, input, output);
+        }
+        None => panic!(rt; "no setup"),
+    }
+}
+
+/// Asserts what is written to this input over the base setup, under a limit.
+pub fn assert_said_under<R: AllocGlobal + Abort>(rt: &R, limit: u32, input: &[u8], output: &str)
+    requires some { 1 ≤ limit }
+    requires most { limit ≤ 100000 }
+{
+    assert_said_over(rt, "", limit, input, output);
 }
 
 /// Asserts what is written to this input over the base setup with two documents that are not there yet.
-pub fn assert_said_over_reserved<R: AllocGlobal + Abort>(
-    rt: &R,
-    input: &str,
-    output: &str,
-) -> Result<(), Fail> {
-    assert_served(rt, reserved(rt.alloc())?, 10_000, input.as_bytes(), output)?;
-    Ok(())
+pub fn assert_said_over_reserved<R: AllocGlobal + Abort>(rt: &R, input: &str, output: &str) {
+    assert_said_over(rt, RESERVED, 10_000, input.as_bytes(), output);
 }
 
 /// Asserts what is written to this input over the base setup.
-pub fn assert_said<R: AllocGlobal + Abort>(rt: &R, input: &str, output: &str) -> Result<(), Fail> {
-    assert_said_under(rt, 10_000, input.as_bytes(), output)
+pub fn assert_said<R: AllocGlobal + Abort>(rt: &R, input: &str, output: &str) {
+    assert_said_under(rt, 10_000, input.as_bytes(), output);
 }

@@ -4,7 +4,7 @@ use std::test::Fail;
 
 /// The second block has its own replies alone, and finds what the first one left.
 #[test]
-fn two_blocks(rt: HostRuntime) -> Result<(), Fail> {
+fn two_blocks(rt: HostRuntime) {
     let input = "hello ann\n\
         when write memo do add memo \"a\"; spawn when read memo do show memo; end; end\n\
         when read memo do show memo; end\n\
@@ -16,12 +16,12 @@ fn two_blocks(rt: HostRuntime) -> Result<(), Fail> {
         1 done\n1.1 done \"m1a\"\n2 done \"m1a\"\nok\n\
         3 done\n3.1 done \"m1ab\"\n4 done \"m1ab\"\nok\n\
         bye\n";
-    assert_said(&rt, input, output)
+    assert_said(&rt, input, output);
 }
 
 /// Refused lines take ordinals, and stand among the replies of their block. A block may be empty.
 #[test]
-fn refused_lines_among_blocks(rt: HostRuntime) -> Result<(), Fail> {
+fn refused_lines_among_blocks(rt: HostRuntime) {
     let input = "hello ann\n\
         wait\n\
         wait now\n\
@@ -35,11 +35,11 @@ fn refused_lines_among_blocks(rt: HostRuntime) -> Result<(), Fail> {
         ok\n\
         1 refused syntax 5\n2 done\n2.1 done \"n1\"\n3 refused hello\nok\n\
         4 refused unknown zed\n5 denied star ann note\nbye\n";
-    assert_said(&rt, input, output)
+    assert_said(&rt, input, output);
 }
 
-/// A content of 65,536 bytes, the most that one may have, is shown twice: a block of more than 131,072 bytes is written whole, and its
-/// writer has not failed.
+/// A content of 65,536 bytes, the most that one may have, is shown twice: a block of more than 131,072 bytes is written
+/// whole, and its writer has not failed.
 #[test]
 fn long_block(rt: HostRuntime) -> Result<(), Fail> {
     let alloc = rt.alloc();
@@ -62,6 +62,6 @@ fn long_block(rt: HostRuntime) -> Result<(), Fail> {
         10_000,
         input,
         output.as_str(),
-    )?;
+    );
     Ok(())
 }

@@ -8,15 +8,15 @@ const CHOOSE_AND_POUR: &str = "hello ann\n\
     show memo; if memo has \"1n\" then say \"yes\"; end; end\n";
 
 #[test]
-fn choose_and_pour(rt: HostRuntime) -> Result<(), Fail> {
+fn choose_and_pour(rt: HostRuntime) {
     let output = "ok\n1 done \"m1n1\" \"yes\"\nbye\n";
-    assert_said(&rt, CHOOSE_AND_POUR, output)
+    assert_said(&rt, CHOOSE_AND_POUR, output);
 }
 
 #[test]
 fn choose_and_pour_else(rt: HostRuntime) -> Result<(), Fail> {
     let setup = setup_with(rt.alloc(), "n2")?;
     let input = CHOOSE_AND_POUR.as_bytes();
-    assert_served(&rt, setup, 10_000, input, "ok\n1 done \"no\"\nbye\n")?;
+    assert_served(&rt, setup, 10_000, input, "ok\n1 done \"no\"\nbye\n");
     Ok(())
 }

@@ -18,8 +18,8 @@ const INPUT: &[u8] = b"hello ann\n\
 /// What is written to it.
 const OUTPUT: &[u8] = b"ok\n1 done\n1.1 done \"m1ab\"\n2 done\nok\nbye\n";
 
-/// A reader or a writer of which one call fails: the one before which `left` others are done. A call moves at most seven
-/// bytes.
+/// A reader or a writer of which one call fails: the one before which `left` others are done. A call moves at most
+/// seven bytes.
 #[derive(Drop)]
 struct FailAt<T> {
     inner: T,

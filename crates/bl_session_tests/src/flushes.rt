@@ -1,5 +1,5 @@
-//! That replies are flushed before a read that may wait, that the replies to lines which come together are one write, and a flush
-//! that fails.
+//! That replies are flushed before a read that may wait, that the replies to lines which come together are one write,
+//! and a flush that fails.
 use crate::base::base;
 use bl_session::alone::serve_alone;
 use bl_wire::fault::SessionFault;
@@ -55,7 +55,8 @@ impl Read for PieceByPiece<'_> {
     }
 }
 
-/// A writer whose bytes are seen once they are flushed. The flush before which `left` others are done fails. It counts its writes.
+/// A writer whose bytes are seen once they are flushed. The flush before which `left` others are done fails. It counts
+/// its writes.
 #[derive(Drop)]
 struct SeenOnceFlushed<'a> {
     written: Vec<u8>,

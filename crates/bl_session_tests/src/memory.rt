@@ -1,5 +1,6 @@
-//! What a session answers where a growth is refused. With ample memory each test here passes by the session's own output alone. It passes
-//! whatever single growth is refused too: `bench/growths` refuses each in turn, and tells so by a file.
+//! What a session answers where a growth is refused. With ample memory each test here passes by the session's own
+//! output alone. It passes whatever single growth is refused too: `bench/growths` refuses each in turn, and tells so by
+//! a file.
 use crate::base::{RESERVED, setup_or_none};
 use bl_session::alone::serve_alone;
 use bl_wire::fault::SessionFault;
@@ -23,8 +24,8 @@ fn was_refused(rt: &impl Files) -> bool {
     !matches!(fs::exists(rt, "refused"), Ok(false))
 }
 
-/// Serves a session over the base setup, with these lines after it, to a writer that needs no growth; nothing where a growth is refused
-/// before it begins.
+/// Serves a session over the base setup, with these lines after it, to a writer that needs no growth; nothing where a
+/// growth is refused before it begins.
 fn serve<R: AllocGlobal + Files>(rt: &R, more: &str, input: &str) -> Option<Ended> {
     let room = Vec::with_capacity(rt.alloc(), 1_000).ok()?;
     let setup = setup_or_none(rt.alloc(), more)?;
@@ -49,8 +50,8 @@ fn lost_in<'a>(written: &[u8], one_lost: &[(&'a str, &str)]) -> Option<&'a str> 
     None
 }
 
-/// What became of a session. It has its own output; or, where a growth was refused in it, it ended out of memory after a first part of
-/// that, or just one entry is lost. Nothing where it is none of these.
+/// What became of a session. It has its own output; or, where a growth was refused in it, it ended out of memory after
+/// a first part of that, or just one entry is lost. Nothing where it is none of these.
 fn came_of<'a>(ended: &Ended, whole: &str, one_lost: &[(&'a str, &str)]) -> Option<&'a str> {
     let written = ended.written.as_slice();
     match ended.result {
@@ -78,8 +79,8 @@ fn came<'a, R: AllocGlobal + Files>(
     }
 }
 
-/// Asserts that a session over the base setup, with these lines after it, writes this where nothing is lost, and one of these where
-/// one growth is refused and loses an entry; says what became of it.
+/// Asserts that a session over the base setup, with these lines after it, writes this where nothing is lost, and one of
+/// these where one growth is refused and loses an entry; says what became of it.
 fn assert_outlasts<R: AllocGlobal + Abort + Files + Print>(
     rt: &R,
     more: &str,
@@ -99,13 +100,8 @@ fn assert_outlasts<R: AllocGlobal + Abort + Files + Print>(
 fn read_one(rt: HostRuntime) {
     let input = "hello ann\nwhen read memo do show memo; end\nwait\n";
     let whole = "ok\n1 done \"m1\"\nok\nbye\n";
-    assert_outlasts(
-        &rt,
-        "",
-        input,
-        whole,
-        &[("1 lost", "ok\n1 lost\nok\nbye\n")],
-    );
+    const ONE_LOST: &[(&str, &str)] = &[("1 lost", "ok\n1 lost\nok\nbye\n")];
+    assert_outlasts(&rt, "", input, whole, ONE_LOST);
 }
 
 /// A parent that is lost has no child, and what is lost has added nothing. The child enters after the second line.
@@ -116,12 +112,12 @@ fn child_enters_after_admitted_line(rt: HostRuntime) {
         when write memo do add memo \"b\"; end\n\
         wait\n";
     let whole = "ok\n1 done\n1.1 done \"m1ab\"\n2 done\nok\nbye\n";
-    let one_lost = [
+    const ONE_LOST: &[(&str, &str)] = &[
         ("1 lost", "ok\n1 lost\n2 done\nok\nbye\n"),
         ("1.1 lost", "ok\n1 done\n1.1 lost\n2 done\nok\nbye\n"),
         ("2 lost", "ok\n1 done\n1.1 done \"m1a\"\n2 lost\nok\nbye\n"),
     ];
-    assert_outlasts(&rt, "", input, whole, &one_lost);
+    assert_outlasts(&rt, "", input, whole, ONE_LOST);
 }
 
 #[test]
@@ -131,7 +127,8 @@ fn choose_and_pour(rt: HostRuntime) {
         if note is \"n1\" then pour note to memo; else set memo \"no\"; end; \
         show memo; if memo has \"1n\" then say \"yes\"; end; end\n";
     let whole = "ok\n1 done \"m1n1\" \"yes\"\nbye\n";
-    assert_outlasts(&rt, "", input, whole, &[("1 lost", "ok\n1 lost\nbye\n")]);
+    const ONE_LOST: &[(&str, &str)] = &[("1 lost", "ok\n1 lost\nbye\n")];
+    assert_outlasts(&rt, "", input, whole, ONE_LOST);
 }
 
 /// A rule that is lost changes nothing: without the second the last line finds ann at the memo's level.
@@ -140,7 +137,7 @@ fn rules_and_their_checks(rt: HostRuntime) {
     let input = "hello ann\ngive cat memo r\ncurrent s\ncurrent t\nwhen write memo do end\n";
     let whole =
         "ok\n1 denied admin ann memo\n2 done\n3 denied greatest ann\n4 denied star ann memo\nbye\n";
-    let one_lost = [
+    const ONE_LOST: &[(&str, &str)] = &[
         (
             "1 lost",
             "ok\n1 lost\n2 done\n3 denied greatest ann\n4 denied star ann memo\nbye\n",
@@ -158,10 +155,11 @@ fn rules_and_their_checks(rt: HostRuntime) {
             "ok\n1 denied admin ann memo\n2 done\n3 denied greatest ann\n4 lost\nbye\n",
         ),
     ];
-    assert_outlasts(&rt, "", input, whole, &one_lost);
+    assert_outlasts(&rt, "", input, whole, ONE_LOST);
 }
 
-/// Without the first rule bob may not read the memo, and without the last the child runs at a level at which it may not write the note.
+/// Without the first rule bob may not read the memo, and without the last the child runs at a level at which it may not
+/// write the note.
 #[test]
 fn child_may_not_carry_down(rt: HostRuntime) {
     let input = "hello bob\n\
@@ -169,7 +167,7 @@ fn child_may_not_carry_down(rt: HostRuntime) {
         when read memo do spawn when write note do add note \"x\"; end; end\n\
         current u\n";
     let whole = "ok\n1 done\n2 done\n2.1 denied carry bob note\n3 done\nbye\n";
-    let one_lost = [
+    const ONE_LOST: &[(&str, &str)] = &[
         (
             "1 lost",
             "ok\n1 lost\n2 denied star bob memo\n3 done\nbye\n",
@@ -181,11 +179,11 @@ fn child_may_not_carry_down(rt: HostRuntime) {
             "ok\n1 done\n2 done\n2.1 denied star bob note\n3 lost\nbye\n",
         ),
     ];
-    assert_outlasts(&rt, "", input, whole, &one_lost);
+    assert_outlasts(&rt, "", input, whole, ONE_LOST);
 }
 
 /// What each entry of `create-use-delete` leaves undone where it is lost, told by the entries after it.
-const ONE_LOST_OF_DRAFT: [(&str, &str); 11] = [
+const ONE_LOST_OF_DRAFT: &[(&str, &str)] = &[
     (
         "1 lost",
         "ok\n1 lost\n2 done\n3 done\n4 done \"d\"\n5 done\n6 denied absent root draft\n7 done\n\
@@ -266,11 +264,12 @@ fn create_use_delete(rt: HostRuntime) {
     let whole = "ok\n1 done\n2 denied present root draft\n3 done\n4 done \"d\"\n5 done\n\
         6 denied absent root draft\n7 done\n8 denied discretionary root draft\n9 done\n10 done \"\"\n\
         11 denied absent root top\nbye\n";
-    assert_outlasts(&rt, RESERVED, input, whole, ONE_LOST_OF_DRAFT.as_slice());
+    assert_outlasts(&rt, RESERVED, input, whole, ONE_LOST_OF_DRAFT);
 }
 
-/// A session of two blocks and five entries: two readers, a child of the second, a line that adds to the memo, and one that shows what
-/// it left. A lost parent has no child, and what is lost has added nothing; each other reply is as where nothing is lost.
+/// A session of two blocks and five entries: two readers, a child of the second, a line that adds to the memo, and one
+/// that shows what it left. A lost parent has no child, and what is lost has added nothing; each other reply is as
+/// where nothing is lost.
 #[test]
 fn two_blocks(rt: HostRuntime) {
     let input = "hello ann\n\
@@ -281,7 +280,7 @@ fn two_blocks(rt: HostRuntime) {
         when read memo do show memo; end\n";
     let whole =
         "ok\n1 done \"m1\"\n2 done \"n1\"\n2.1 done \"m1\"\nok\n3 done\n4 done \"m1a\"\nbye\n";
-    let one_lost = [
+    const ONE_LOST: &[(&str, &str)] = &[
         (
             "1 lost",
             "ok\n1 lost\n2 done \"n1\"\n2.1 done \"m1\"\nok\n3 done\n4 done \"m1a\"\nbye\n",
@@ -303,5 +302,5 @@ fn two_blocks(rt: HostRuntime) {
             "ok\n1 done \"m1\"\n2 done \"n1\"\n2.1 done \"m1\"\nok\n3 done\n4 lost\nbye\n",
         ),
     ];
-    assert_outlasts(&rt, "", input, whole, &one_lost);
+    assert_outlasts(&rt, "", input, whole, ONE_LOST);
 }

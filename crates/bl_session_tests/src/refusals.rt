@@ -4,7 +4,7 @@ use std::alloc::Global;
 use std::test::Fail;
 
 #[test]
-fn refusals_of_a_line(rt: HostRuntime) -> Result<(), Fail> {
+fn refusals_of_a_line(rt: HostRuntime) {
     let input = "hello ann\n\
         when read memo, write memo do end\n\
         when read zed do show zed; end\n\
@@ -13,34 +13,34 @@ fn refusals_of_a_line(rt: HostRuntime) -> Result<(), Fail> {
         hello ann\n";
     let output = "ok\n1 refused twice memo\n2 refused unknown zed\n3 refused mode log\n\
         4 refused syntax 5\n5 refused hello\nbye\n";
-    assert_said(&rt, input, output)
+    assert_said(&rt, input, output);
 }
 
 #[test]
-fn syntax_offsets(rt: HostRuntime) -> Result<(), Fail> {
+fn syntax_offsets(rt: HostRuntime) {
     let input = "hello ann\n\
         when read memo show memo; end\n\
         when read memo do show memo;\n\
         when read memo do say \"a\\b\"; end\n";
     let output = "ok\n1 refused syntax 15\n2 refused syntax 28\n3 refused syntax 24\nbye\n";
-    assert_said(&rt, input, output)
+    assert_said(&rt, input, output);
 }
 
 #[test]
-fn weight_limit(rt: HostRuntime) -> Result<(), Fail> {
+fn weight_limit(rt: HostRuntime) {
     let input = b"hello ann\n\
         when read memo do spawn when read memo do end; spawn when read memo do end; end\n\
         when read memo do spawn when read memo do show memo; end; end\n\
         when read note do end\n";
     let output = "ok\n1 refused full\n2 done\n2.1 done \"m1\"\n3 refused full\nbye\n";
-    assert_said_under(&rt, 2, input, output)
+    assert_said_under(&rt, 2, input, output);
 }
 
 #[test]
-fn limit_of_one(rt: HostRuntime) -> Result<(), Fail> {
+fn limit_of_one(rt: HostRuntime) {
     let input = b"hello ann\nwhen read memo do show memo; end\nwhen read memo do show memo; end\n";
     let output = "ok\n1 done \"m1\"\n2 refused full\nbye\n";
-    assert_said_under(&rt, 1, input, output)
+    assert_said_under(&rt, 1, input, output);
 }
 
 /// Adds the line that reads the memo, filled with blanks to so many bytes.
@@ -80,5 +80,6 @@ fn long_deep_many_lines(alloc: Global) -> Result<Vec<u8>, Fail> {
 fn long_deep_many(rt: HostRuntime) -> Result<(), Fail> {
     let input = long_deep_many_lines(rt.alloc())?;
     let output = "ok\n1 done \"m1\"\n2 refused long\n3 refused deep\n4 refused many\nbye\n";
-    assert_said_under(&rt, 10_000, &input, output)
+    assert_said_under(&rt, 10_000, &input, output);
+    Ok(())
 }
