@@ -2,6 +2,7 @@
 ghost use Rattle.std.specs.Prelude.{◌≡◌, Err, IfErr, IfOk, IfSome, IsOk};
 ghost use Rattle.bl_keeper.specs.Keeping.{ShowsKept};
 
+use crate::board::{Board, Errand};
 use crate::receipt::Receipt;
 use crate::served::Served;
 use bl_disk::device::Device;
@@ -13,15 +14,9 @@ use std::sync::{Condvar, Mutex, MutexGuard, Wait};
 /// How often who waits looks whether the board has changed, before it sleeps.
 const LOOKS: u32 = 10;
 
-/// What was kept last, and whom it serves; and whether somebody has the journal keep up now.
-#[derive(Drop)]
-struct Board<D: Device> {
-    last: Option<Served<D>>,
-    busy: bool,
-}
-
 /// Those that have asked to have all kept, by their numbers. One of them at a time has the journal keep up, and the
-/// others wait: what it has kept serves all that had asked before it looked what there was to keep.
+/// others wait: what it has kept serves all that had asked before it looked what there was to keep. Who waits at a desk
+/// does not have it keep up: somebody else does for all those, and tells their threads.
 #[derive(Drop)]
 pub(crate) struct Askers<D: Device> {
     /// How many have asked.
@@ -29,6 +24,8 @@ pub(crate) struct Askers<D: Device> {
     board: Mutex<Board<D>>,
     /// Tells those that wait that the board has changed.
     changed: Condvar,
+    /// Calls who has the journal keep up for the desks.
+    called: Condvar,
 }
 
 impl<D: Device> Askers<D> {
@@ -36,11 +33,9 @@ impl<D: Device> Askers<D> {
     pub(crate) fn new() -> Askers<D> {
         Askers {
             asked: AtomicU64::new(0),
-            board: Mutex::new(Board {
-                last: None,
-                busy: false,
-            }),
+            board: Mutex::new(Board::new()),
             changed: Condvar::new(),
+            called: Condvar::new(),
         }
     }
 
@@ -62,7 +57,7 @@ impl<D: Device> Askers<D> {
         let mut board = self.come_up(rt, number);
         let receipt = board.receipt_for(number);
         if receipt.is_none() {
-            board.busy = true;
+            board.begin();
         }
         receipt
     }
@@ -75,7 +70,7 @@ impl<D: Device> Askers<D> {
             return board;
         }
         drop(board);
-        self.look_out(seen);
+        look_out(&self.changed, seen);
         let mut board = self.board.lock(rt);
         for _ in rt.forever() {
             if !board.has_to_wait(number) {
@@ -84,17 +79,6 @@ impl<D: Device> Askers<D> {
             board = self.changed.wait(rt, board);
         }
         unreachable!()
-    }
-
-    /// Waits a moment for the board to change: to sleep and to be woken takes longer than most writes.
-    fn look_out(&self, seen: u64) {
-        let backoff = Backoff::new();
-        for _ in 0..LOOKS {
-            if self.changed.notifications() != seen {
-                return;
-            }
-            backoff.snooze();
-        }
     }
 
     /// Tells what came of having the journal keep up, and gives the receipt. A fault serves nobody, and is handed back.
@@ -109,39 +93,76 @@ impl<D: Device> Askers<D> {
     {
         let mut board = self.board.lock(rt);
         let told = board.note(outcome);
+        let is_wanted = board.is_wanted();
         drop(board);
         self.changed.notify_all();
+        if is_wanted {
+            self.called.notify_one();
+        }
         told
+    }
+
+    /// What came of it for who has asked with this number, and waits at a desk; none as long as that is not decided.
+    pub(crate) fn look<R: Wait>(&self, rt: &R, number: u64) -> Option<Result<Receipt, JournalFault>>
+        ensures { IfSome result (λ outcome. IfOk outcome (ShowsKept D.now)) }
+    {
+        let mut board = self.board.lock(rt);
+        let outcome = board.outcome_for(number);
+        let calls = outcome.is_none() && board.want(number);
+        drop(board);
+        if calls {
+            self.called.notify_one();
+        }
+        outcome
+    }
+
+    /// The number below which it is decided for all.
+    pub(crate) fn decided<R: Wait>(&self, rt: &R) -> u64 {
+        self.board.lock(rt).decided()
+    }
+
+    /// Waits until there is something to be done for those that wait at desks, and answers what. None comes once nobody
+    /// will wait there any more.
+    pub(crate) fn come_to_serve<R: Wait>(&self, rt: &R) -> Option<Errand> {
+        let mut board = self.board.lock(rt);
+        for _ in rt.forever() {
+            if board.is_closed() {
+                return None;
+            }
+            let errand = board.errand();
+            if errand.is_some() {
+                return errand;
+            }
+            board = self.called.wait(rt, board);
+        }
+        unreachable!()
+    }
+
+    /// Tells what came of having the journal keep up for those that wait at desks.
+    pub(crate) fn tell_of_desks<R: Wait>(&self, rt: &R, outcome: Result<Served<D>, JournalFault>) {
+        self.board.lock(rt).note_for_desks(outcome);
+        self.changed.notify_all();
+    }
+
+    /// The number below which it is decided for all, of which the threads at the desks are told now.
+    pub(crate) fn tell_desks<R: Wait>(&self, rt: &R) -> u64 {
+        self.board.lock(rt).tell()
+    }
+
+    /// Nobody will wait at a desk any more.
+    pub(crate) fn close<R: Wait>(&self, rt: &R) {
+        self.board.lock(rt).close();
+        self.called.notify_all();
     }
 }
 
-impl<D: Device> Board<D> {
-    /// A receipt for who has asked with this number, of what was kept last; none where that does not serve it.
-    fn receipt_for(&self, number: u64) -> Option<Receipt>
-        ensures { IfSome result (ShowsKept D.now) }
-    {
-        match &self.last {
-            Some(served) => served.receipt_for(number),
-            None => None,
+/// Waits a moment for a change: to sleep and to be woken takes longer than most writes.
+fn look_out(changed: &Condvar, seen: u64) {
+    let backoff = Backoff::new();
+    for _ in 0..LOOKS {
+        if changed.notifications() != seen {
+            return;
         }
-    }
-
-    /// Whether who has asked with this number has to wait: somebody has the journal keep up, and what was kept last
-    /// does not serve that one.
-    fn has_to_wait(&self, number: u64) -> bool {
-        self.busy && self.receipt_for(number).is_none()
-    }
-
-    /// Notes what came of having the journal keep up: nobody does now.
-    fn note(&mut self, outcome: Result<Served<D>, JournalFault>) -> Result<Receipt, JournalFault>
-        ensures shows { IfOk result (ShowsKept D.now) }
-        ensures given { IsOk outcome → IsOk result }
-        ensures fault { IfErr outcome (λ fault. result ≡ Err fault) }
-    {
-        self.busy = false;
-        let served = outcome?;
-        let receipt = served.receipt();
-        self.last = Some(served);
-        Ok(receipt)
+        backoff.snooze();
     }
 }

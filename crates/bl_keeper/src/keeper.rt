@@ -1,8 +1,11 @@
 //! The journal of a gate, under a lock.
 use crate::askers::Askers;
+use crate::board::Errand;
+use crate::desk::{Desk, Desks};
 use crate::held::Held;
 use crate::keep::Keep;
 use crate::receipt::Receipt;
+use crate::served::Served;
 use crate::which::Which;
 use bl_disk::device::Device;
 use bl_gate::gate::Gate;
@@ -14,13 +17,14 @@ use std::marker::Model;
 use std::sync::{Mutex, Wait};
 
 /// The journal of a gate. Many threads have it keep up, one at a time: those that ask while another's lines are
-/// written wait, and then one of them has the lines of all written at once. It sees the trail with one part of a pass.
-/// Its value is the gate.
+/// written wait, and then one of them has the lines of all written at once. A thread that has a desk may go on while its
+/// connections wait there. The keeper sees the trail with one part of a pass. Its value is the gate.
 #[derive(Drop)]
 pub struct Keeper<'a, G: Which, D: Device> {
     gate: &'a Gate,
     held: Mutex<Held<G, D>>,
     askers: Askers<D>,
+    desks: Desks,
 }
 
 impl<'a, G: Which, D: Device> Model for Keeper<'a, G, D> {
@@ -44,8 +48,9 @@ impl<'a, G: Which, D: Device> Keeper<'a, G, D> {
     ghost use Rattle.bl_gate.specs.Gates.{hall_seen};
     ghost use Rattle.bl_keeper.specs.Keeping.{HasKept, ShowsKept};
 
-    /// A keeper with this journal, which has kept what this part of the pass has seen, or what came before that.
-    pub fn new(gate: &'a Gate, pass: Pass, journal: Journal<D>) -> Keeper<'a, G, D>
+    /// A keeper with this journal, which has kept what this part of the pass has seen, or what came before that. A
+    /// thread that has a desk need not wait for it.
+    pub fn new(gate: &'a Gate, pass: Pass, journal: Journal<D>, desks: Desks) -> Keeper<'a, G, D>
         requires gate { (gate.now ≡ G.gate) × (pass.gate ≡ G.gate) }
         requires part { pass.parts ≡ 1 }
         requires sound { journal.fault ≡ None → D.has_failed journal.log.device ≡ false }
@@ -55,6 +60,7 @@ impl<'a, G: Which, D: Device> Keeper<'a, G, D> {
             gate,
             held: Mutex::new(Held::new(pass, journal)),
             askers: Askers::new(),
+            desks,
         }
     }
 
@@ -71,16 +77,22 @@ impl<'a, G: Which, D: Device> Keeper<'a, G, D> {
             gate: _,
             held,
             askers: _,
+            desks: _,
         } = self;
         held.into_inner().into_parts()
+    }
+
+    /// Has the journal keep up for all that have asked by now.
+    fn write_for_all<R: Wait>(&self, rt: &R, alloc: Global) -> Result<Served<D>, JournalFault> {
+        let asked = self.askers.count();
+        self.held.lock(rt).keep_up(rt, alloc, self.gate, asked)
     }
 
     /// Has the journal keep up for all that have asked by now, and tells them what came of it.
     fn keep_up_for_all<R: Wait>(&self, rt: &R, alloc: Global) -> Result<Receipt, JournalFault>
         ensures { IfOk result (ShowsKept D.now) }
     {
-        let asked = self.askers.count();
-        let outcome = self.held.lock(rt).keep_up(rt, alloc, self.gate, asked);
+        let outcome = self.write_for_all(rt, alloc);
         self.askers.tell(rt, outcome)
     }
 }
@@ -96,5 +108,42 @@ impl<G: Which, D: Device> Keep for Keeper<'_, G, D> {
             Some(receipt) => Ok(receipt),
             None => self.keep_up_for_all(rt, alloc),
         }
+    }
+
+    fn desk(&self, thread: usize) -> Option<&Desk> {
+        self.desks.get(thread)
+    }
+
+    fn ask(&self) -> u64 {
+        self.askers.ask()
+    }
+
+    fn look<R: Wait>(
+        &self,
+        rt: &R,
+        alloc: Global,
+        number: u64,
+    ) -> Option<Result<Receipt, JournalFault>> {
+        let _ = alloc;
+        self.askers.look(rt, number)
+    }
+
+    fn decided<R: Wait>(&self, rt: &R) -> u64 {
+        self.askers.decided(rt)
+    }
+
+    fn serve<R: Wait>(&self, rt: &R, alloc: Global) -> Option<u64> {
+        match self.askers.come_to_serve(rt)? {
+            Errand::Keep => {
+                let outcome = self.write_for_all(rt, alloc);
+                self.askers.tell_of_desks(rt, outcome);
+            }
+            Errand::Tell => {}
+        }
+        Some(self.askers.tell_desks(rt))
+    }
+
+    fn close<R: Wait>(&self, rt: &R) {
+        self.askers.close(rt);
     }
 }

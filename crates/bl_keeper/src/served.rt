@@ -40,6 +40,13 @@ impl<D: Device> Served<D> {
         }
     }
 
+    /// All that have asked with a smaller number are served.
+    pub(crate) fn below(&self) -> u64
+        ensures { result ≡ self.now }
+    {
+        self.below
+    }
+
     /// A receipt for it.
     pub(crate) fn receipt(&self) -> Receipt
         ensures { ShowsKept D.now result }

@@ -1,7 +1,9 @@
 //! A stream that has all kept before it is written to.
-ghost use Rattle.std.specs.Prelude.{◌≡◌, None};
+ghost use Rattle.std.specs.Prelude.{◌≡◌, IfOk, IfSome, None};
 
+use crate::desk::Place;
 use crate::keep::Keep;
+use crate::receipt::Receipt;
 use crate::sealed::Sealed;
 use bl_connection::stream::{Answer, Stream};
 use bl_record::fault::JournalFault;
@@ -9,19 +11,29 @@ use std::alloc::Global;
 use std::sync::Wait;
 
 /// A stream that has all kept before each write. Where that is refused, nothing is written, and the write has failed.
+/// Where it has a place at a desk, and its thread has other connections, it waits there: till it is decided each write
+/// would block. What is written then has to be what was to be written when it asked, or a front of that.
 #[derive(Drop)]
 pub struct KeptStream<'a, S, K, T> {
     rt: &'a T,
     alloc: Global,
     keep: &'a K,
+    place: Option<Place<'a>>,
+    asked: Option<u64>,
     end: Sealed<S>,
     /// Why the last write was refused; none where it was not, or where nothing was written.
     pub refused: Option<JournalFault>,
 }
 
 impl<'a, S: Stream, K: Keep, T: Wait> KeptStream<'a, S, K, T> {
-    /// A stream over this one, which nobody else has.
-    pub fn new(rt: &'a T, alloc: Global, keep: &'a K, end: S) -> KeptStream<'a, S, K, T>
+    /// A stream over this one, which nobody else has, and its place at a desk, if it has one.
+    pub fn new(
+        rt: &'a T,
+        alloc: Global,
+        keep: &'a K,
+        place: Option<Place<'a>>,
+        end: S,
+    ) -> KeptStream<'a, S, K, T>
         ensures end { result.end.inner ≡ end }
         ensures fine { result.refused ≡ None }
     {
@@ -29,6 +41,8 @@ impl<'a, S: Stream, K: Keep, T: Wait> KeptStream<'a, S, K, T> {
             rt,
             alloc,
             keep,
+            place,
+            asked: None,
             end: Sealed::new(end),
             refused: None,
         }
@@ -42,16 +56,60 @@ impl<'a, S: Stream, K: Keep, T: Wait> KeptStream<'a, S, K, T> {
             rt: _,
             alloc: _,
             keep: _,
+            place: _,
+            asked: _,
             end,
             refused,
         } = self;
         (end.into_inner(), refused)
     }
+
+    /// What came of it for who has asked with this number; none as long as that is not decided.
+    fn look(&mut self, number: u64) -> Option<Result<Receipt, JournalFault>>
+        ensures shows { IfSome result (λ outcome. IfOk outcome K.shows) }
+        ensures end { self.new.end ≡ self.old.end }
+    {
+        let outcome = self.keep.look(self.rt, self.alloc, number);
+        self.asked = if outcome.is_some() {
+            None
+        } else {
+            Some(number)
+        };
+        outcome
+    }
+
+    /// Asks to have all kept, and waits at a desk as long as it is not decided what came of it. Where memory is refused
+    /// for that the thread waits.
+    fn ask_at(&mut self, place: Place<'a>) -> Option<Result<Receipt, JournalFault>>
+        ensures shows { IfSome result (λ outcome. IfOk outcome K.shows) }
+        ensures end { self.new.end ≡ self.old.end }
+    {
+        let number = self.keep.ask();
+        // who is to be told stands there before it is wanted, so no thread is left asleep
+        match place.desk.add(self.rt, number, place.connection) {
+            Ok(()) => self.look(number),
+            Err(_refused) => Some(self.keep.keep_up(self.rt, self.alloc)),
+        }
+    }
+
+    /// What came of having all kept; none as long as it waits for that at its desk.
+    fn kept(&mut self) -> Option<Result<Receipt, JournalFault>>
+        ensures shows { IfSome result (λ outcome. IfOk outcome K.shows) }
+        ensures end { self.new.end ≡ self.old.end }
+    {
+        if let Some(number) = self.asked {
+            return self.look(number);
+        }
+        match self.place {
+            Some(place) if !place.desk.is_alone() => self.ask_at(place),
+            Some(_) | None => Some(self.keep.keep_up(self.rt, self.alloc)),
+        }
+    }
 }
 
 impl<S: Stream, K: Keep, T: Wait> Stream for KeptStream<'_, S, K, T> {
     ghost use Rattle.std.specs.Prelude.{◌⊎◌, IsSome};
-    ghost use Rattle.bl_connection.specs.declared.stream.Answer.TheVariants.{Failed};
+    ghost use Rattle.bl_connection.specs.declared.stream.Answer.TheVariants.{Failed, WouldBlock};
 
     ghost remaining = { λ stream. S.remaining stream.end.inner };
 
@@ -59,25 +117,26 @@ impl<S: Stream, K: Keep, T: Wait> Stream for KeptStream<'_, S, K, T> {
 
     ghost reads = { λ old answer new. S.reads old.end.inner answer new.end.inner };
 
-    // the stream was written to, or it was refused and nothing was written
+    // the stream was written to, or nothing was written: it was refused, or it is not decided
     ghost writes = { λ old bytes answer new.
         ((new.refused ≡ None) × S.writes old.end.inner bytes answer new.end.inner)
-        ⊎ (IsSome new.refused × (answer ≡ Failed) × (new.end ≡ old.end)) };
+        ⊎ (IsSome new.refused × (answer ≡ Failed) × (new.end ≡ old.end))
+        ⊎ ((new.refused ≡ None) × (answer ≡ WouldBlock) × (new.end ≡ old.end)) };
 
     fn read(&mut self, room: &mut [u8]) -> Answer {
         self.end.read(room)
     }
 
     fn write(&mut self, bytes: &[u8]) -> Answer {
-        match self.keep.keep_up(self.rt, self.alloc) {
-            Ok(receipt) => {
-                self.refused = None;
-                self.end.write_for::<K>(receipt, bytes)
-            }
-            Err(fault) => {
+        let kept = self.kept();
+        self.refused = None;
+        match kept {
+            Some(Ok(receipt)) => self.end.write_for::<K>(receipt, bytes),
+            Some(Err(fault)) => {
                 self.refused = Some(fault);
                 Answer::Failed
             }
+            None => Answer::WouldBlock,
         }
     }
 }

@@ -3,12 +3,14 @@ ghost use Rattle.std.specs.Prelude.{◌≡◌, false, Ok};
 ghost use Rattle.bl_gate.specs.Gates.{Follows, hall_seen};
 ghost use Rattle.bl_keeper.specs.Keeping.{HasKept};
 
+use bl_connection::stream::Ends;
 use bl_core::session::SessionNo;
 use bl_disk::device::Device;
 use bl_disk_tests::torn::Torn;
 use bl_gate::gate::Gate;
 use bl_gate::pass::Pass;
 use bl_hall::hall::Hall;
+use bl_keeper::desk::Desks;
 use bl_policy::id::SubjectId;
 use bl_record::journal::{Journal, begin};
 use bl_setup::reader::read_setup;
@@ -98,4 +100,17 @@ pub(super) fn torn<R: AllocGlobal + Abort>(rt: &R, room: usize, syncs: usize) ->
     ensures { result.failed ≡ false }
 {
     right(rt, Torn::new(rt.alloc(), b"", room, syncs))
+}
+
+/// A stream that gives nothing, and keeps what it is written.
+pub(super) fn to_list<R: AllocGlobal>(rt: &R) -> Ends<&'static [u8], Vec<u8>> {
+    Ends {
+        reader: b"",
+        writer: Vec::new(rt.alloc()),
+    }
+}
+
+/// No desk: each thread waits itself.
+pub(super) fn no_desks<R: AllocGlobal>(rt: &R) -> Desks {
+    Desks::new(rt.alloc(), 0)
 }

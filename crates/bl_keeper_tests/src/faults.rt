@@ -3,8 +3,8 @@ ghost use Rattle.std.specs.Prelude.{◌≡◌, false};
 ghost use Rattle.bl_gate.specs.Gates.{hall_seen};
 ghost use Rattle.bl_keeper.specs.Keeping.{HasKept};
 
-use super::base::{Begun, HEAD, OPENED, begin_in, open, text_of, torn};
-use bl_connection::stream::{Answer, Ends, Stream};
+use super::base::{Begun, HEAD, OPENED, begin_in, no_desks, open, text_of, to_list, torn};
+use bl_connection::stream::{Answer, Stream};
 use bl_disk::device::{Device, DeviceError};
 use bl_gate::gate::Gate;
 use bl_gate::pass::Pass;
@@ -19,14 +19,6 @@ use std::alloc::AllocGlobal;
 use std::marker::Brand;
 use std::process::Abort;
 use std::sync::Wait;
-
-/// A stream that gives nothing, and keeps what it is written.
-fn to_list<R: AllocGlobal>(rt: &R) -> Ends<&'static [u8], Vec<u8>> {
-    Ends {
-        reader: b"",
-        writer: Vec::new(rt.alloc()),
-    }
-}
 
 /// What came of three writes, each after a session was opened: the journal, what was written, and how often that was
 /// refused.
@@ -51,8 +43,8 @@ fn write_thrice<G: Which, D: Device, R: AllocGlobal + Abort + Wait>(
     requires kept { HasKept (hall_seen pass) journal.bookmark (D.now journal.log.device) }
 {
     let part = gate.split_pass(&mut pass);
-    let keeper = Keeper::<G, D>::new(gate, part, journal);
-    let mut stream = KeptStream::new(rt, rt.alloc(), &keeper, to_list(rt));
+    let keeper = Keeper::<G, D>::new(gate, part, journal, no_desks(rt));
+    let mut stream = KeptStream::new(rt, rt.alloc(), &keeper, None, to_list(rt));
     let mut refused = 0;
     for _ in 0..3u32 {
         open(rt, gate, &mut pass);
@@ -130,7 +122,7 @@ fn keep_twice<G: Which, D: Device, R: AllocGlobal + Abort + Wait>(
     requires kept { HasKept (hall_seen pass) journal.bookmark (D.now journal.log.device) }
 {
     let part = gate.split_pass(&mut pass);
-    let keeper = Keeper::<G, D>::new(gate, part, journal);
+    let keeper = Keeper::<G, D>::new(gate, part, journal, no_desks(rt));
     open(rt, gate, &mut pass);
     for _ in 0..2u32 {
         match keeper.keep_up(rt, rt.alloc()) {
@@ -147,7 +139,7 @@ fn keep_twice<G: Which, D: Device, R: AllocGlobal + Abort + Wait>(
 #[test]
 fn all_is_written_where_nothing_is_to_be_kept(rt: HostRuntime) {
     assert!(rt; matches!(NoKeep.keep_up(&rt, rt.alloc()), Ok(Receipt::Nothing)));
-    let mut stream = KeptStream::new(&rt, rt.alloc(), &NoKeep, to_list(&rt));
+    let mut stream = KeptStream::new(&rt, rt.alloc(), &NoKeep, None, to_list(&rt));
     assert!(rt; stream.write(b"ok\n") == Answer::Moved(3));
     let (ends, refused) = stream.into_parts();
     assert!(rt; ends.writer.as_slice() == b"ok\n".as_slice());

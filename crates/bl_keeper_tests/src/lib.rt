@@ -6,6 +6,7 @@
 //!     overlap    threads that ask while others are served
 //!     threads    threads that add events and have them kept
 //!     faults     files that are full or fail
+//!     desks      connections that wait at a desk
 //!     order      nothing is written before it was kept
 #![tactic(auto)]
 
@@ -13,6 +14,8 @@
 mod base;
 #[cfg(test)]
 mod crowded;
+#[cfg(test)]
+mod desks;
 #[cfg(test)]
 mod faults;
 #[cfg(test)]

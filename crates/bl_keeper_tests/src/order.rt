@@ -1,5 +1,6 @@
 //! Nothing is written before it was kept.
 use bl_connection::stream::{Answer, Stream};
+use bl_keeper::desk::Desk;
 use bl_keeper::keep::Keep;
 use bl_keeper::receipt::Receipt;
 use bl_keeper::stream::KeptStream;
@@ -25,6 +26,40 @@ impl Keep for Counts {
         let _ = alloc;
         self.kept.fetch_add(1, Ordering::SeqCst);
         Ok(Receipt::Nothing)
+    }
+
+    fn desk(&self, thread: usize) -> Option<&Desk> {
+        let _ = thread;
+        None
+    }
+
+    fn ask(&self) -> u64 {
+        0
+    }
+
+    fn look<R: Wait>(
+        &self,
+        rt: &R,
+        alloc: Global,
+        number: u64,
+    ) -> Option<Result<Receipt, JournalFault>> {
+        let _ = number;
+        Some(self.keep_up(rt, alloc))
+    }
+
+    fn decided<R: Wait>(&self, rt: &R) -> u64 {
+        let _ = rt;
+        u64::MAX
+    }
+
+    fn serve<R: Wait>(&self, rt: &R, alloc: Global) -> Option<u64> {
+        let _ = rt;
+        let _ = alloc;
+        None
+    }
+
+    fn close<R: Wait>(&self, rt: &R) {
+        let _ = rt;
     }
 }
 
@@ -69,7 +104,7 @@ fn each_write_comes_after_a_keep_of_its_own(rt: HostRuntime) {
         writes: 0,
         in_order: true,
     };
-    let mut stream = KeptStream::new(&rt, rt.alloc(), &counts, notes);
+    let mut stream = KeptStream::new(&rt, rt.alloc(), &counts, None, notes);
     for _ in 0..3u32 {
         assert!(rt; stream.write(b"ok\n") == Answer::Moved(3));
     }

@@ -3,7 +3,7 @@ ghost use Rattle.std.specs.Prelude.{◌≡◌, false};
 ghost use Rattle.bl_gate.specs.Gates.{hall_seen};
 ghost use Rattle.bl_keeper.specs.Keeping.{HasKept};
 
-use super::base::{Begun, begin_in, open, right};
+use super::base::{Begun, begin_in, no_desks, open, right};
 use super::crowded::{Crowded, Meeting};
 use bl_disk::device::Device;
 use bl_gate::gate::Gate;
@@ -118,7 +118,7 @@ fn keep_all<
     requires kept { HasKept (hall_seen pass) journal.bookmark (D.now journal.log.device) }
 {
     let part = gate.split_pass(&mut pass);
-    let keeper = Keeper::<G, D>::new(gate, part, journal);
+    let keeper = Keeper::<G, D>::new(gate, part, journal, no_desks(rt));
     meeting.begin(4);
     drop(keep_four(rt, gate, &keeper, meeting, pass));
     let (journal, part) = keeper.finish();

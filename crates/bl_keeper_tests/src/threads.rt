@@ -3,7 +3,7 @@ ghost use Rattle.std.specs.Prelude.{◌≡◌, false};
 ghost use Rattle.bl_gate.specs.Gates.{hall_seen};
 ghost use Rattle.bl_keeper.specs.Keeping.{HasKept};
 
-use super::base::{Begun, begin_in, open, right, text_of};
+use super::base::{Begun, begin_in, no_desks, open, right, text_of};
 use bl_disk::device::Device;
 use bl_disk::memory::Memory;
 use bl_gate::gate::Gate;
@@ -80,7 +80,7 @@ fn keep_both<
 {
     let part = gate.split_pass(&mut pass);
     let other = gate.split_pass(&mut pass);
-    let keeper = Keeper::<G, D>::new(gate, part, journal);
+    let keeper = Keeper::<G, D>::new(gate, part, journal, no_desks(rt));
     let (mut one, two) = keep_side_by_side(rt, gate, &keeper, pass, other);
     let (journal, part) = keeper.finish();
     gate.meet(&mut one, two);

@@ -1,0 +1,171 @@
+//! What came of having a journal keep up, for those who have asked.
+ghost use Rattle.std.specs.Prelude.{◌≡◌, Err, IfErr, IfOk, IfSome, IsOk};
+ghost use Rattle.bl_keeper.specs.Keeping.{ShowsKept};
+
+use crate::receipt::Receipt;
+use crate::served::Served;
+use bl_disk::device::Device;
+use bl_record::fault::JournalFault;
+
+/// For what all are refused that have asked with a smaller number and were not served.
+#[derive(Clone, Copy, Debug)]
+struct Refusal {
+    below: u64,
+    fault: JournalFault,
+}
+
+/// What is to be done for those that wait at desks.
+#[derive(Clone, Copy, Debug, PartialEq, Eq)]
+pub(crate) enum Errand {
+    /// The journal is to keep up. Till it is told what came of it, nobody else has it keep up.
+    Keep,
+    /// Their threads are to be told.
+    Tell,
+}
+
+/// What was kept last, and whom it serves; who was refused; whether somebody has the journal keep up now; two numbers:
+/// all that wait at desks have asked below the first, and the threads of those below the second were told; and whether
+/// nobody will wait at a desk any more.
+#[derive(Drop)]
+pub(crate) struct Board<D: Device> {
+    last: Option<Served<D>>,
+    refusal: Option<Refusal>,
+    busy: bool,
+    wanted: u64,
+    told: u64,
+    closed: bool,
+}
+
+impl<D: Device> Board<D> {
+    /// Nobody has asked.
+    pub(crate) fn new() -> Board<D> {
+        Board {
+            last: None,
+            refusal: None,
+            busy: false,
+            wanted: 0,
+            told: 0,
+            closed: false,
+        }
+    }
+
+    /// A receipt for who has asked with this number, of what was kept last; none where that does not serve it.
+    pub(crate) fn receipt_for(&self, number: u64) -> Option<Receipt>
+        ensures { IfSome result (ShowsKept D.now) }
+    {
+        match &self.last {
+            Some(served) => served.receipt_for(number),
+            None => None,
+        }
+    }
+
+    /// Whether who has asked with this number has to wait: somebody has the journal keep up, and what was kept last
+    /// does not serve that one.
+    pub(crate) fn has_to_wait(&self, number: u64) -> bool {
+        self.busy && self.receipt_for(number).is_none()
+    }
+
+    /// Somebody has the journal keep up now.
+    pub(crate) fn begin(&mut self) {
+        self.busy = true;
+    }
+
+    /// Notes what came of having the journal keep up: nobody does now.
+    pub(crate) fn note(
+        &mut self,
+        outcome: Result<Served<D>, JournalFault>,
+    ) -> Result<Receipt, JournalFault>
+        ensures shows { IfOk result (ShowsKept D.now) }
+        ensures given { IsOk outcome → IsOk result }
+        ensures fault { IfErr outcome (λ fault. result ≡ Err fault) }
+    {
+        self.busy = false;
+        let served = outcome?;
+        let receipt = served.receipt();
+        self.last = Some(served);
+        Ok(receipt)
+    }
+
+    /// What came of it for who has asked with this number: a receipt, or why that one was refused. None comes as long
+    /// as that is not decided.
+    pub(crate) fn outcome_for(&self, number: u64) -> Option<Result<Receipt, JournalFault>>
+        ensures { IfSome result (λ outcome. IfOk outcome (ShowsKept D.now)) }
+    {
+        if let Some(receipt) = self.receipt_for(number) {
+            return Some(Ok(receipt));
+        }
+        match self.refusal {
+            Some(refusal) if number < refusal.below => Some(Err(refusal.fault)),
+            Some(_) | None => None,
+        }
+    }
+
+    /// The number below which it is decided for all.
+    pub(crate) fn decided(&self) -> u64 {
+        let served = match &self.last {
+            Some(served) => served.below(),
+            None => 0,
+        };
+        match self.refusal {
+            Some(refusal) => served.max(refusal.below),
+            None => served,
+        }
+    }
+
+    /// Notes that who has asked with this number waits at a desk, and says whether nobody has the journal keep up now.
+    pub(crate) fn want(&mut self, number: u64) -> bool {
+        self.wanted = self.wanted.max(number.saturating_add(1));
+        !self.busy
+    }
+
+    /// Refuses for a fault: all, where nothing more is kept, else the next for whom it is not decided.
+    fn refuse(&mut self, fault: JournalFault) {
+        let below = match fault {
+            JournalFault::Device(_) => u64::MAX,
+            JournalFault::Memory => self.decided().saturating_add(1),
+        };
+        self.refusal = Some(Refusal { below, fault });
+    }
+
+    /// Notes what came of having the journal keep up for those that wait at desks.
+    pub(crate) fn note_for_desks(&mut self, outcome: Result<Served<D>, JournalFault>) {
+        match self.note(outcome) {
+            Ok(receipt) => drop(receipt),
+            Err(fault) => self.refuse(fault),
+        }
+    }
+
+    /// Whether there are threads to be told, or of whom somebody waits for the journal.
+    pub(crate) fn is_wanted(&self) -> bool {
+        self.told < self.wanted
+    }
+
+    /// What is to be done for those that wait at desks; none where nobody waits, or somebody else has the journal keep
+    /// up.
+    pub(crate) fn errand(&mut self) -> Option<Errand> {
+        if self.busy || !self.is_wanted() {
+            return None;
+        }
+        if self.wanted <= self.decided() {
+            return Some(Errand::Tell);
+        }
+        self.busy = true;
+        Some(Errand::Keep)
+    }
+
+    /// The number below which it is decided for all, of which the threads at the desks are told now.
+    pub(crate) fn tell(&mut self) -> u64 {
+        self.told = self.decided();
+        self.told
+    }
+
+    /// Nobody will wait at a desk any more.
+    pub(crate) fn close(&mut self) {
+        self.closed = true;
+    }
+
+    /// Whether nobody will wait at a desk any more.
+    pub(crate) fn is_closed(&self) -> bool {
+        self.closed
+    }
+}

@@ -1,0 +1,104 @@
+//! Where the connections of a thread wait for a journal.
+use std::alloc::{AllocError, Global};
+use std::collections::VecDeque;
+use std::sync::atomic::{AtomicBool, Ordering};
+use std::sync::{Mutex, Wait};
+
+/// A connection that waits, and the number with which it has asked.
+#[derive(Clone, Copy, Debug)]
+struct Waiting {
+    asked: u64,
+    connection: u32,
+}
+
+/// The connections of one thread that wait for a journal, by the numbers with which they have asked, which rise; and
+/// whether the thread has no other connection, so that it may wait itself.
+#[derive(Drop)]
+pub struct Desk {
+    waiting: Mutex<VecDeque<Waiting>>,
+    alone: AtomicBool,
+}
+
+impl Desk {
+    /// A desk at which nobody waits.
+    fn new(alloc: Global) -> Desk {
+        Desk {
+            waiting: Mutex::new(VecDeque::new(alloc)),
+            alone: AtomicBool::new(false),
+        }
+    }
+
+    /// Whether the thread has no other connection.
+    pub(crate) fn is_alone(&self) -> bool {
+        self.alone.load(Ordering::SeqCst)
+    }
+
+    /// Says whether the thread has at most one connection.
+    pub fn set_alone(&self, alone: bool) {
+        self.alone.store(alone, Ordering::SeqCst);
+    }
+
+    /// Has a connection wait that has asked with this number. An error comes where memory was refused.
+    pub(crate) fn add<R: Wait>(
+        &self,
+        rt: &R,
+        asked: u64,
+        connection: u32,
+    ) -> Result<(), AllocError> {
+        let mut waiting = self.waiting.lock(rt);
+        waiting.reserve(1)?;
+        waiting.push_back_reserved(Waiting { asked, connection });
+        Ok(())
+    }
+
+    /// The next connection that waits no more, where all that have asked with a smaller number than this know what
+    /// came of it; none where each that waits has asked later.
+    pub fn next<R: Wait>(&self, rt: &R, decided: u64) -> Option<u32> {
+        let mut waiting = self.waiting.lock(rt);
+        if waiting.front()?.asked >= decided {
+            return None;
+        }
+        let first = waiting.pop_front()?;
+        Some(first.connection)
+    }
+
+    /// Whether a connection waits no more, where all that have asked with a smaller number than this know what came of
+    /// it.
+    pub fn has_next<R: Wait>(&self, rt: &R, decided: u64) -> bool {
+        match self.waiting.lock(rt).front() {
+            Some(first) => first.asked < decided,
+            None => false,
+        }
+    }
+}
+
+/// The desks of session threads, each by the number of its thread.
+#[derive(Drop)]
+pub struct Desks {
+    desks: Vec<Desk>,
+}
+
+impl Desks {
+    /// Desks for so many threads, or for the first of them where memory was refused.
+    pub fn new(alloc: Global, threads: u32) -> Desks {
+        let mut desks = Vec::new(alloc);
+        for _ in 0..threads {
+            if desks.push(Desk::new(alloc)).is_err() {
+                break;
+            }
+        }
+        Desks { desks }
+    }
+
+    /// The desk of a thread, if it has one.
+    pub fn get(&self, thread: usize) -> Option<&Desk> {
+        self.desks.get(thread)
+    }
+}
+
+/// The place of a connection at the desk of its thread: its number.
+#[derive(Clone, Copy)]
+pub struct Place<'a> {
+    pub desk: &'a Desk,
+    pub connection: u32,
+}
