@@ -152,6 +152,7 @@ where
     let run = ServingRun {
         limit: hosting.limit,
         options: options_of(hosting),
+        goes_on: keeping == Keeping::Synced,
     };
     let device = timed(rt, rt.alloc(), hosting.trail.name, device);
     let start = Start {

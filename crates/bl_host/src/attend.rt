@@ -14,6 +14,7 @@ use bl_entrance::looks::{Looks, now};
 use bl_entrance::socket::Socket;
 use bl_entrance::watch::{Found, Watch, found_by};
 use bl_gate::pass::Pass;
+use bl_keeper::desk::Place;
 use bl_keeper::keep::Keep;
 use bl_keeper::stream::KeptStream;
 use bl_log::note::Event;
@@ -27,6 +28,9 @@ use std::time::{Clock, Duration};
 
 /// How many connections a thread takes before it looks after those that it has.
 const MOST_TAKEN: u32 = 64;
+
+/// How many connections that waited at its desk go on before it looks after the others.
+const MOST_SERVED: u32 = 1_024;
 
 /// The stream of a connection: all is kept before it is written to.
 type Line<'a, K, T> = KeptStream<'a, Greeted<Socket>, K, T>;
@@ -168,7 +172,14 @@ impl<'a, K: Keep, T: Wait + Clock> Attendant<'a, K, T> {
             Ok(stream) => stream,
             Err(why) => return Err(Ending::new(number, why)),
         };
-        let line = KeptStream::new(context.rt, context.alloc, context.keep, stream);
+        let place = match context.keep.desk(self.thread) {
+            Some(desk) => Some(Place {
+                desk,
+                connection: number,
+            }),
+            None => None,
+        };
+        let line = KeptStream::new(context.rt, context.alloc, context.keep, place, stream);
         match self.rounds.join(line, number) {
             Ok(()) => Ok(()),
             Err(_) => Err(Ending::new(number, Why::Session(SessionFault::Memory))),
@@ -276,6 +287,26 @@ impl<'a, K: Keep, T: Wait + Clock> Attendant<'a, K, T> {
         }
     }
 
+    /// Has each connection go on that has waited at the desk for all to be kept, and waits no more. The desk is told
+    /// whether one connection is all that it has to look after.
+    fn look_at_desk<P>(&mut self, context: &ThreadContext<'a, P, K, T>)
+        ensures { IsSame self.old.rounds self.new.rounds }
+    {
+        let Some(desk) = context.keep.desk(self.thread) else {
+            return;
+        };
+        desk.set_alone(self.rounds.len() <= 1);
+        let decided = context.keep.decided(context.rt);
+        for _ in 0..MOST_SERVED {
+            match desk.next(context.rt, decided) {
+                Some(number) => self.rounds.stir(number),
+                None => return,
+            }
+        }
+        // there may be more
+        self.called = true;
+    }
+
     /// How long it may sleep: until it looks for idle connections, if it does and has one, else for ever.
     fn sleep(&self) -> Option<Duration> {
         if self.rounds.len() == 0 {
@@ -334,6 +365,7 @@ impl<'a, P: Pause, K: Keep, T: Wait + Clock> ThreadContext<'a, P, K, T> {
                 attendant.take(self, acceptor);
                 attendant.welcome(self, acceptor);
             }
+            attendant.look_at_desk(self);
             attendant.rounds.round(&round_context, &mut quota);
             attendant.note_greetings(self, acceptor);
             attendant.see_all_off(self, acceptor);

@@ -8,6 +8,7 @@ use crate::attend::SessionAcceptor;
 use crate::context::ThreadContext;
 use crate::shared::{SharedQuota, count_trail};
 use crate::threads::{join_threads, join_workers, start_sessions, start_workers};
+use crate::upkeep::Upkeep;
 use bl_entrance::acceptor::{Acceptor, SharedLog};
 use bl_entrance::ended::Ended;
 use bl_entrance::entrance::Entrance;
@@ -55,7 +56,8 @@ struct Joined {
     whole: bool,
 }
 
-/// Starts the workers and then the session threads, and waits for them: for the sessions first, then closes the bell.
+/// Starts who has all kept, where others are not to wait for that, the workers and then the session threads, and waits
+/// for them: for the sessions first, whom the others serve.
 fn run_threads<
     's,
     E,
@@ -80,10 +82,13 @@ fn run_threads<
     let mut workers = Vec::new(context.alloc);
     let mut sessions = Vec::new(context.alloc);
     let all = watches.len() == options.session_threads as usize;
-    let whole = start_workers(scope, context, &mut pass, options.workers, &mut workers)
+    let upkeep = Upkeep::start(scope, context, options.session_threads);
+    let whole = upkeep.whole
+        && start_workers(scope, context, &mut pass, options.workers, &mut workers)
         && start_sessions(scope, context, &mut pass, watches, acceptor, &mut sessions)
         && all;
     join_threads(context.rt, context.gate, &mut pass, sessions);
+    upkeep.end(context.rt, context.keep);
     let closed = context.bell.close(context.rt);
     join_workers(context.rt, context.gate, &mut pass, workers, closed);
     Joined { pass, whole }

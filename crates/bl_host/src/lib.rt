@@ -5,6 +5,7 @@
 //!     shared     the quota of the trail, which session threads share
 //!     attend     what a session thread does
 //!     threads    threads that are started and joined
+//!     upkeep     the thread that has all kept for those that wait at desks
 //!     host       all of them, round one gate
 #![tactic(auto)]
 
@@ -13,5 +14,6 @@ mod context;
 pub mod host;
 mod shared;
 mod threads;
+mod upkeep;
 
 pub use bl_entrance::{ended, entrance, options};

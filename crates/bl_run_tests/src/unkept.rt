@@ -11,6 +11,7 @@ use bl_host::ended::{Ended, Why};
 use bl_host::entrance::Entrance;
 use bl_host::host::{HostContext, host};
 use bl_host::options::Options;
+use bl_keeper::desk::Desk;
 use bl_keeper::keep::Keep;
 use bl_keeper::receipt::Receipt;
 use bl_record::fault::JournalFault;
@@ -47,6 +48,40 @@ impl Keep for Once {
         } else {
             Err(JournalFault::Device(DeviceError::Full))
         }
+    }
+
+    fn desk(&self, thread: usize) -> Option<&Desk> {
+        let _ = thread;
+        None
+    }
+
+    fn ask(&self) -> u64 {
+        0
+    }
+
+    fn look<R: Wait>(
+        &self,
+        rt: &R,
+        alloc: Global,
+        number: u64,
+    ) -> Option<Result<Receipt, JournalFault>> {
+        let _ = number;
+        Some(self.keep_up(rt, alloc))
+    }
+
+    fn decided<R: Wait>(&self, rt: &R) -> u64 {
+        let _ = rt;
+        u64::MAX
+    }
+
+    fn serve<R: Wait>(&self, rt: &R, alloc: Global) -> Option<u64> {
+        let _ = rt;
+        let _ = alloc;
+        None
+    }
+
+    fn close<R: Wait>(&self, rt: &R) {
+        let _ = rt;
     }
 }
 

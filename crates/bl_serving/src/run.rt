@@ -22,6 +22,7 @@ use bl_entrance::options::Options;
 use bl_gate::gate::Gate;
 use bl_gate::pass::Pass;
 use bl_host::host::{HostContext, Hosted, host};
+use bl_keeper::desk::Desks;
 use bl_keeper::keeper::Keeper;
 use bl_keeper::which::Which;
 use bl_record::journal::{Closed, Journal};
@@ -32,6 +33,7 @@ use bl_status::fault::ProgramFault;
 use bl_wire::put::put_out;
 use bl_wire::watched::Watched;
 use bl_worker::pause::Pause;
+use std::alloc::Global;
 use std::io::Write;
 use std::marker::Brand;
 use std::net::Net;
@@ -40,12 +42,14 @@ use std::sync::Wait;
 use std::thread::Threads;
 use std::time::Clock;
 
-/// What a run was asked for: the weight of the lines that are admitted at most, 1 to 100,000, and how many threads and
-/// sessions there are.
+/// What a run was asked for: the weight of the lines that are admitted at most, 1 to 100,000, how many threads and
+/// sessions there are, and whether session threads go on while a line is being kept, as is worth it where that waits for
+/// a disk.
 #[derive(Clone, Copy)]
 pub struct ServingRun {
     pub limit: u32,
     pub options: Options,
+    pub goes_on: bool,
     pub ghost limited: { (1 ≤ limit) × (limit ≤ 100000) },
 }
 
@@ -74,6 +78,16 @@ struct Hosting<D: Device> {
     journal: Journal<D>,
 }
 
+/// The desks of session threads, if they go on while a line is being kept.
+fn desks_of(alloc: Global, run: &ServingRun) -> Desks {
+    let threads = if run.goes_on {
+        run.options.session_threads
+    } else {
+        0
+    };
+    Desks::new(alloc, threads)
+}
+
 /// Hosts the sessions of a gate whose trail is kept in this journal.
 fn host_kept<
     G: Which + Send,
@@ -86,7 +100,7 @@ fn host_kept<
     gate: &Gate,
     pass: Pass,
     journal: Journal<D>,
-    options: Options,
+    run: &ServingRun,
 ) -> Hosting<D>
 where
     T::File: Send,
@@ -102,7 +116,8 @@ where
 {
     let mut pass = pass;
     let part = gate.split_pass(&mut pass);
-    let keeper = Keeper::<G, D>::new(gate, part, journal);
+    let desks = desks_of(run_context.alloc, run);
+    let keeper = Keeper::<G, D>::new(gate, part, journal, desks);
     let host_context = HostContext {
         rt: run_context.rt,
         alloc: run_context.alloc,
@@ -111,7 +126,7 @@ where
         keep: &keeper,
         log: run_context.log,
     };
-    let mut hosted = host(&host_context, entrance, pass, options);
+    let mut hosted = host(&host_context, entrance, pass, run.options);
     let (journal, part) = keeper.finish();
     gate.meet(&mut hosted.pass, part);
     Hosting { hosted, journal }
@@ -159,7 +174,7 @@ fn host_on<
     entrance: &Entrance,
     made: (Gate, Pass),
     journal: Journal<D>,
-    options: Options,
+    run: &ServingRun,
     errors: &mut Watched<E>,
 ) -> Recorded<D>
 where
@@ -179,7 +194,7 @@ where
         &gate,
         pass,
         journal,
-        options,
+        run,
     );
     let Hosted {
         pass,
@@ -252,5 +267,5 @@ where
         let fault = ServingFault::Recovery(RecoveryFault::Program(ProgramFault::Write));
         return end_with(errors, &fault, file_of(journal));
     }
-    host_on(run_context, entrance, made, journal, run.options, errors)
+    host_on(run_context, entrance, made, journal, run, errors)
 }
