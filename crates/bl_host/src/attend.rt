@@ -172,12 +172,9 @@ impl<'a, K: Keep, T: Wait + Clock> Attendant<'a, K, T> {
             Ok(stream) => stream,
             Err(why) => return Err(Ending::new(number, why)),
         };
-        let place = match context.keep.desk(self.thread) {
-            Some(desk) => Some(Place {
-                desk,
-                connection: number,
-            }),
-            None => None,
+        let place = Place {
+            thread: self.thread,
+            connection: number,
         };
         let line = KeptStream::new(context.rt, context.alloc, context.keep, place, stream);
         match self.rounds.join(line, number) {

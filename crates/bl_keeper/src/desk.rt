@@ -96,9 +96,9 @@ impl Desks {
     }
 }
 
-/// The place of a connection at the desk of its thread: its number.
-#[derive(Clone, Copy)]
-pub struct Place<'a> {
-    pub desk: &'a Desk,
+/// A connection of a thread, by their numbers: it waits at the desk of the thread, if that has one.
+#[derive(Clone, Copy, Debug)]
+pub struct Place {
+    pub thread: usize,
     pub connection: u32,
 }

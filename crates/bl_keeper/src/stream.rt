@@ -1,7 +1,7 @@
 //! A stream that has all kept before it is written to.
 ghost use Rattle.std.specs.Prelude.{◌≡◌, IfOk, IfSome, None};
 
-use crate::desk::Place;
+use crate::desk::{Desk, Place};
 use crate::keep::Keep;
 use crate::receipt::Receipt;
 use crate::sealed::Sealed;
@@ -11,14 +11,14 @@ use std::alloc::Global;
 use std::sync::Wait;
 
 /// A stream that has all kept before each write. Where that is refused, nothing is written, and the write has failed.
-/// Where it has a place at a desk, and its thread has other connections, it waits there: till it is decided each write
-/// would block. What is written then has to be what was to be written when it asked, or a front of that.
+/// Where its thread has a desk and other connections, it waits there: till it is decided each write would block. What
+/// is written then has to be what was to be written when it asked, or a front of that.
 #[derive(Drop)]
 pub struct KeptStream<'a, S, K, T> {
     rt: &'a T,
     alloc: Global,
     keep: &'a K,
-    place: Option<Place<'a>>,
+    place: Place,
     asked: Option<u64>,
     end: Sealed<S>,
     /// Why the last write was refused; none where it was not, or where nothing was written.
@@ -26,12 +26,12 @@ pub struct KeptStream<'a, S, K, T> {
 }
 
 impl<'a, S: Stream, K: Keep, T: Wait> KeptStream<'a, S, K, T> {
-    /// A stream over this one, which nobody else has, and its place at a desk, if it has one.
+    /// A stream over this one, which nobody else has.
     pub fn new(
         rt: &'a T,
         alloc: Global,
         keep: &'a K,
-        place: Option<Place<'a>>,
+        place: Place,
         end: S,
     ) -> KeptStream<'a, S, K, T>
         ensures end { result.end.inner ≡ end }
@@ -80,13 +80,13 @@ impl<'a, S: Stream, K: Keep, T: Wait> KeptStream<'a, S, K, T> {
 
     /// Asks to have all kept, and waits at a desk as long as it is not decided what came of it. Where memory is refused
     /// for that the thread waits.
-    fn ask_at(&mut self, place: Place<'a>) -> Option<Result<Receipt, JournalFault>>
+    fn ask_at(&mut self, desk: &Desk) -> Option<Result<Receipt, JournalFault>>
         ensures shows { IfSome result (λ outcome. IfOk outcome K.shows) }
         ensures end { self.new.end ≡ self.old.end }
     {
         let number = self.keep.ask();
         // who is to be told stands there before it is wanted, so no thread is left asleep
-        match place.desk.add(self.rt, number, place.connection) {
+        match desk.add(self.rt, number, self.place.connection) {
             Ok(()) => self.look(number),
             Err(_refused) => Some(self.keep.keep_up(self.rt, self.alloc)),
         }
@@ -100,8 +100,8 @@ impl<'a, S: Stream, K: Keep, T: Wait> KeptStream<'a, S, K, T> {
         if let Some(number) = self.asked {
             return self.look(number);
         }
-        match self.place {
-            Some(place) if !place.desk.is_alone() => self.ask_at(place),
+        match self.keep.desk(self.place.thread) {
+            Some(desk) if !desk.is_alone() => self.ask_at(desk),
             Some(_) | None => Some(self.keep.keep_up(self.rt, self.alloc)),
         }
     }

@@ -10,7 +10,7 @@ use bl_disk_tests::torn::Torn;
 use bl_gate::gate::Gate;
 use bl_gate::pass::Pass;
 use bl_hall::hall::Hall;
-use bl_keeper::desk::Desks;
+use bl_keeper::desk::{Desks, Place};
 use bl_policy::id::SubjectId;
 use bl_record::journal::{Journal, begin};
 use bl_setup::reader::read_setup;
@@ -114,3 +114,9 @@ pub(super) fn to_list<R: AllocGlobal>(rt: &R) -> Ends<&'static [u8], Vec<u8>> {
 pub(super) fn no_desks<R: AllocGlobal>(rt: &R) -> Desks {
     Desks::new(rt.alloc(), 0)
 }
+
+/// The place of the first connection of the first thread.
+pub(super) const FIRST: Place = Place {
+    thread: 0,
+    connection: 1,
+};

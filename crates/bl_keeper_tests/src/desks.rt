@@ -23,14 +23,14 @@ use std::sync::Wait;
 /// A stream to a list.
 type ToList<'a, K, R> = KeptStream<'a, Ends<&'static [u8], Vec<u8>>, K, R>;
 
-/// A stream with this number at a desk.
-fn at_desk<'a, K: Keep, R: AllocGlobal + Wait>(
+/// A stream of a thread, with this number.
+fn stream_of<'a, K: Keep, R: AllocGlobal + Wait>(
     rt: &'a R,
     keep: &'a K,
-    desk: &'a Desk,
+    thread: usize,
     connection: u32,
 ) -> ToList<'a, K, R> {
-    let place = Some(Place { desk, connection });
+    let place = Place { thread, connection };
     KeptStream::new(rt, rt.alloc(), keep, place, to_list(rt))
 }
 
@@ -52,8 +52,8 @@ fn first_desk<'a, K: Keep>(rt: &impl Abort, keep: &'a K) -> &'a Desk {
 /// waits again. Then nobody will wait any more.
 fn wait_both<K: Keep, R: AllocGlobal + Abort + Wait>(rt: &R, keep: &K) {
     let desk = first_desk(rt, keep);
-    let mut one = at_desk(rt, keep, desk, 7);
-    let mut two = at_desk(rt, keep, desk, 9);
+    let mut one = stream_of(rt, keep, 0, 7);
+    let mut two = stream_of(rt, keep, 0, 9);
     assert!(rt; one.write(b"one\n") == Answer::WouldBlock);
     assert!(rt; one.write(b"one\n") == Answer::WouldBlock);
     assert!(rt; two.write(b"two\n") == Answer::WouldBlock);
@@ -78,8 +78,8 @@ fn wait_both<K: Keep, R: AllocGlobal + Abort + Wait>(rt: &R, keep: &K) {
 /// Two connections wait, and both are refused with this fault, and all that ask later.
 fn refuse_both<K: Keep, R: AllocGlobal + Abort + Wait>(rt: &R, keep: &K, fault: JournalFault) {
     let desk = first_desk(rt, keep);
-    let mut one = at_desk(rt, keep, desk, 7);
-    let mut two = at_desk(rt, keep, desk, 9);
+    let mut one = stream_of(rt, keep, 0, 7);
+    let mut two = stream_of(rt, keep, 0, 9);
     assert!(rt; one.write(b"one\n") == Answer::WouldBlock);
     assert!(rt; two.write(b"two\n") == Answer::WouldBlock);
     let Some(decided) = keep.serve(rt, rt.alloc()) else {
@@ -104,8 +104,8 @@ fn wait_alone<K: Keep, R: AllocGlobal + Abort + Wait>(rt: &R, keep: &K) {
         panic!(rt; "no desk");
     };
     other.set_alone(true);
-    let mut one = at_desk(rt, keep, desk, 7);
-    let mut two = at_desk(rt, keep, other, 9);
+    let mut one = stream_of(rt, keep, 0, 7);
+    let mut two = stream_of(rt, keep, 1, 9);
     assert!(rt; one.write(b"one\n") == Answer::WouldBlock);
     assert!(rt; two.write(b"two\n") == Answer::Moved(4));
     let Some(decided) = keep.serve(rt, rt.alloc()) else {

@@ -3,7 +3,7 @@ ghost use Rattle.std.specs.Prelude.{◌≡◌, false};
 ghost use Rattle.bl_gate.specs.Gates.{hall_seen};
 ghost use Rattle.bl_keeper.specs.Keeping.{HasKept};
 
-use super::base::{Begun, HEAD, OPENED, begin_in, no_desks, open, text_of, to_list, torn};
+use super::base::{Begun, FIRST, HEAD, OPENED, begin_in, no_desks, open, text_of, to_list, torn};
 use bl_connection::stream::{Answer, Stream};
 use bl_disk::device::{Device, DeviceError};
 use bl_gate::gate::Gate;
@@ -44,7 +44,7 @@ fn write_thrice<G: Which, D: Device, R: AllocGlobal + Abort + Wait>(
 {
     let part = gate.split_pass(&mut pass);
     let keeper = Keeper::<G, D>::new(gate, part, journal, no_desks(rt));
-    let mut stream = KeptStream::new(rt, rt.alloc(), &keeper, None, to_list(rt));
+    let mut stream = KeptStream::new(rt, rt.alloc(), &keeper, FIRST, to_list(rt));
     let mut refused = 0;
     for _ in 0..3u32 {
         open(rt, gate, &mut pass);
@@ -139,7 +139,7 @@ fn keep_twice<G: Which, D: Device, R: AllocGlobal + Abort + Wait>(
 #[test]
 fn all_is_written_where_nothing_is_to_be_kept(rt: HostRuntime) {
     assert!(rt; matches!(NoKeep.keep_up(&rt, rt.alloc()), Ok(Receipt::Nothing)));
-    let mut stream = KeptStream::new(&rt, rt.alloc(), &NoKeep, None, to_list(&rt));
+    let mut stream = KeptStream::new(&rt, rt.alloc(), &NoKeep, FIRST, to_list(&rt));
     assert!(rt; stream.write(b"ok\n") == Answer::Moved(3));
     let (ends, refused) = stream.into_parts();
     assert!(rt; ends.writer.as_slice() == b"ok\n".as_slice());

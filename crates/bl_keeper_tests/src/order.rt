@@ -1,4 +1,5 @@
 //! Nothing is written before it was kept.
+use super::base::FIRST;
 use bl_connection::stream::{Answer, Stream};
 use bl_keeper::desk::Desk;
 use bl_keeper::keep::Keep;
@@ -104,7 +105,7 @@ fn each_write_comes_after_a_keep_of_its_own(rt: HostRuntime) {
         writes: 0,
         in_order: true,
     };
-    let mut stream = KeptStream::new(&rt, rt.alloc(), &counts, None, notes);
+    let mut stream = KeptStream::new(&rt, rt.alloc(), &counts, FIRST, notes);
     for _ in 0..3u32 {
         assert!(rt; stream.write(b"ok\n") == Answer::Moved(3));
     }

@@ -3,6 +3,7 @@ ghost use Rattle.std.specs.Prelude.{◌≡◌, false};
 
 use super::base::{BASE, Served, connect, listen};
 use super::held::{Held, Marks};
+use bl_alone::run::{Recorded, RecordedFile};
 use bl_disk::device::Device;
 use bl_disk_tests::torn::Torn;
 use bl_entrance::entrance::Entrance;
@@ -136,15 +137,20 @@ where
         &mut writer,
         &mut errors,
     );
+    let Recorded { status, file } = recorded;
+    match file {
+        RecordedFile::Whole(closed) => drop(closed.end()),
+        RecordedFile::Left(device) => drop(device),
+    }
     Served {
-        status: recorded.status,
+        status,
         told: writer.into_inner(),
         said: errors.into_inner(),
     }
 }
 
 /// A file of which so many syncs succeed.
-fn file<'a>(rt: &HostRuntime, syncs: usize, marks: &'a Marks) -> Held<'a>
+fn file<'a, R: AllocGlobal + Abort>(rt: &R, syncs: usize, marks: &'a Marks) -> Held<'a>
     ensures { result.torn.failed ≡ false }
 {
     match Torn::new(rt.alloc(), b"", 100_000, syncs) {
