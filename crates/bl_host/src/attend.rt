@@ -255,6 +255,21 @@ impl<'a, K: Keep, T: Wait + Clock> Attendant<'a, K, T> {
         }
     }
 
+    /// Has each connection go on that waits at the desk: it is not idle.
+    fn stir_desk<P>(&mut self, context: &ThreadContext<'a, P, K, T>)
+        ensures { IsSame self.old.rounds self.new.rounds }
+    {
+        let Some(desk) = context.keep.desk(self.thread) else {
+            return;
+        };
+        for before in 0..MOST_SERVED as usize {
+            match desk.get(context.rt, before) {
+                Some(number) => self.rounds.stir(number),
+                None => return,
+            }
+        }
+    }
+
     /// Says what time it is, and sees off all that were idle for too long, if a look is due.
     fn look<P, F: Write + Drop>(
         &mut self,
@@ -274,6 +289,7 @@ impl<'a, K: Keep, T: Wait + Clock> Attendant<'a, K, T> {
         if !is_due {
             return;
         }
+        self.stir_desk(context);
         for _ in 0..self.rounds.len() {
             match self.rounds.leave_idle(most) {
                 Some(gone) => {

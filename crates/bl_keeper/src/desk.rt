@@ -62,6 +62,13 @@ impl Desk {
         Some(first.connection)
     }
 
+    /// The connection that waits with so many before it, if there is one.
+    pub fn get<R: Wait>(&self, rt: &R, before: usize) -> Option<u32> {
+        let waiting = self.waiting.lock(rt);
+        let found = waiting.get(before)?;
+        Some(found.connection)
+    }
+
     /// Whether a connection waits no more, where all that have asked with a smaller number than this know what came of
     /// it.
     pub fn has_next<R: Wait>(&self, rt: &R, decided: u64) -> bool {
