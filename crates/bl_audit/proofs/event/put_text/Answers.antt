@@ -1,4 +1,4 @@
-use Rattle.std.proofs.Common.{◌≡◌, ◌<◌, ◌≤◌, ◌++◌, ◌∷◌, [], ℕ, List, length, sym, ap, subst, ◌∙◌, codes, decimal, slice_index_or, true≢false}
+use Rattle.std.proofs.Common.{rules, ◌≡◌, ◌<◌, ◌≤◌, ◌++◌, ◌∷◌, [], ℕ, List, length, sym, ap, subst, ◌∙◌, codes, decimal, slice_index_or, true≢false}
 use Rattle.std.specs.Prelude.{IsSome, Option, option_copied}
 use Rattle.std.specs.Borrow.{Bor}
 use Rattle.bl_work.specs.declared.answer.Answer.{Answer}
@@ -65,9 +65,10 @@ returns-in-Line-clause-told g c =
     let end = c.args.core.now in
     let old = end_state g.W.Write.contents c.args.writer.now in
     let new = end_state g.W.Write.contents c.put_next_line.new.writer in
+    let same : c.new-session.result ≡ i = search rules in
     ok-four c.put_next_line.result
     (λ next. (w : Work) (rest : List Work) → lines_from end c.args.at ≡ w ∷ rest
-    → Puts (codes "line " ++ (decimal i ++ (32 ∷ (decimal k ++ (32 ∷ canonical_line end.setup.names (asked.Work w)))))) old new)
+    → Puts (codes "line " ++ (decimal c.new-session.result ++ (32 ∷ (decimal k ++ (32 ∷ canonical_line end.setup.names (asked.Work w)))))) old new)
     (λ next. (w : Work) (rest : List Work) → lines_from end c.args.at ≡ w ∷ rest → HasNoLf (canonical_line end.setup.names (asked.Work w)))
     (λ next. next ≤ length end.order)
     (λ next. (w : Work) (rest : List Work) → lines_from end c.args.at ≡ w ∷ rest → lines_from end next ≡ rest)
@@ -77,7 +78,8 @@ returns-in-Line-clause-told g c =
     let lines : lines_from end c.args.at ≡ is.0 ∷ works_in later = comes.lines ∙ ap (λ (d : Event). works_in (d ∷ later)) is.1 in
     as-line x e (Admits i k is.0) later end next old new is.1
     (admitted-line x later end c.args.at old new i k next is.0 (as-event x e (Admits i k is.0) later end c.args.at is.1 comes)
-    (subst NumbersFit c.in-Line.is c.numbers_fit.ensures).0 (subst NumbersFit c.in-Line.is c.numbers_fit.ensures).1 (puts is.0 (works_in later) lines) (plain is.0 (works_in later) lines) place (more is.0 (works_in later) lines)))
+    (subst NumbersFit c.in-Line.is c.numbers_fit.ensures).0 (subst NumbersFit c.in-Line.is c.numbers_fit.ensures).1
+    (subst (λ (n : ℕ). Puts (codes "line " ++ (decimal n ++ (32 ∷ (decimal k ++ (32 ∷ canonical_line end.setup.names (asked.Work is.0)))))) old new) same (puts is.0 (works_in later) lines)) (plain is.0 (works_in later) lines) place (more is.0 (works_in later) lines)))
     c.put_next_line.ensures.text c.put_next_line.ensures.plain c.put_next_line.ensures.place c.put_next_line.ensures.next
 
 pub put_start-requires : goal.put_start-requires
