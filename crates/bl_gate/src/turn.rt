@@ -1,5 +1,6 @@
 //! A turn at the gate.
 ghost use Rattle.std.specs.Prelude.{◌≡◌, All, ◌++◌, ◌∷◌, ◌<◌, ◌↔◌, [], ℕ, IsNone, IfOk, IfErr, IfSome, OnOk, OnErr, length, map};
+ghost use Rattle.bl_work.specs.Readable.{IsReadable};
 ghost use Rattle.bl_order.specs.Known.{KnowsAnswer};
 ghost use Rattle.bl_order.specs.Machine.{Opens, Admits, Starts, Ends, Loses, MayStart};
 ghost use Rattle.bl_core.specs.Answers.{IsCause, IsLentBy, IsNotOpened, IsStarted, IsStarvedBy};
@@ -75,6 +76,27 @@ impl<'a> Turn<'a> {
         ensures back { IfErr result (λ refused. refused.work ≡ work) }
     {
         self.hall.line(session, ordinal, work)
+    }
+
+    /// Admits a line as `line` does, with a work that some text reads as by the names of the gate's setup, as one that was just read: that
+    /// is not asked again.
+    pub fn readable_line(
+        &mut self,
+        session: SessionNo,
+        ordinal: u32,
+        work: Work,
+    ) -> Result<u32, Refused>
+        requires { IsReadable (state_seen self.old).setup.names work }
+        ensures follows { Follows self.old self.new }
+        ensures trail { HasTrail (hall_seen self.new) }
+        ensures own { OwnsAllSince self.old self.new }
+        ensures in_hand { KeepsInHand self.old self.new }
+        ensures ok { IfOk result (λ n. Calls self.old (Admits session ordinal work) (λ x. n ≡ length x.order) self.new) }
+        ensures err { IfErr result (λ refused. (self.new ≡ self.old)
+            × IsCause (state_seen self.new) session ordinal work refused.cause) }
+        ensures back { IfErr result (λ refused. refused.work ≡ work) }
+    {
+        self.hall.readable_line(session, ordinal, work)
     }
 
     /// Starts an entry. `NotReady` comes where it may not start, and `Memory` where it may and a growth was refused; neither adds

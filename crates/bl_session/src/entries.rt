@@ -225,7 +225,7 @@ impl Alone {
     {
         match pages
             .hall
-            .line(SessionNo::new(pages.session), ordinal, work)
+            .readable_line(SessionNo::new(pages.session), ordinal, work)
         {
             Ok(_) => {}
             Err(refused) => match refused.cause {

@@ -13,12 +13,18 @@ use Rattle.bl_session.proofs.RunLaws.{setup_after}
 use Rattle.bl_session.proofs.TrailLaws.{last_set}
 use Rattle.bl_session.proofs.entries.Alone.ask.Goals as goal
 
+pub readable_line-requires : goal.readable_line-requires
+readable_line-requires c =
+    let s = c.args.pages.now in
+    let same : (state_now s.hall).setup ≡ c.args.self.now.setup = setup_after (start s.hall.setup s.hall.limit) s.hall.trail ∙ c.requires.opened.stands.setup_is in
+    subst (λ (k : Setup). IsReadable k.names c.args.work) (sym same) c.requires.readable
+
 pub returns-in-Ok-clause-opened : goal.returns-in-Ok-clause-opened
 returns-in-Ok-clause-opened c =
     let opened = c.requires.opened in
     let s = c.args.pages.now in
     let x = state_now s.hall in
-    let t : Pages = record { hall = c.line.new.self; next = s.next; session = s.session } in
+    let t : Pages = record { hall = c.readable_line.new.self; next = s.next; session = s.session } in
     let hall = c.in-Ok.ensures.ok.1 ∙ ap (λ j. with_event s.hall (Admits j c.args.ordinal c.args.work)) c.new.ensures in
     let at : state_now t.hall ≡ change x (Admits s.session c.args.ordinal c.args.work) = ap state_now hall ∙ state_next s.hall (Admits s.session c.args.ordinal c.args.work) in
     record {
@@ -29,7 +35,7 @@ returns-in-Ok-clause-opened c =
 pub returns-in-Ok-clause-came : goal.returns-in-Ok-clause-came
 returns-in-Ok-clause-came c begun told came =
     let s = c.args.pages.now in
-    let t : Pages = record { hall = c.line.new.self; next = s.next; session = s.session } in
+    let t : Pages = record { hall = c.readable_line.new.self; next = s.next; session = s.session } in
     let hall = c.in-Ok.ensures.ok.1 ∙ ap (λ j. with_event s.hall (Admits j c.args.ordinal c.args.work)) c.new.ensures in
     let needs = subst (λ j. Needs (state_now s.hall) (Admits j c.args.ordinal c.args.work)) c.new.ensures c.in-Ok.ensures.cause in
     came_asked c.args.self.now.setup begun s t c.args.ordinal c.args.work told came hall refl refl c.in-Ok.ensures.continues.trail needs
@@ -48,7 +54,7 @@ returns-in-Ok-clause-settled c n lt later =
     let s = c.args.pages.now in
     let x = state_now s.hall in
     let hall = c.in-Ok.ensures.ok.1 ∙ ap (λ j. with_event s.hall (Admits j c.args.ordinal c.args.work)) c.new.ensures in
-    let at : state_now c.line.new.self ≡ change x (Admits s.session c.args.ordinal c.args.work) = ap state_now hall ∙ state_next s.hall (Admits s.session c.args.ordinal c.args.work) in
+    let at : state_now c.readable_line.new.self ≡ change x (Admits s.session c.args.ordinal c.args.work) = ap state_now hall ∙ state_next s.hall (Admits s.session c.args.ordinal c.args.work) in
     let still = asked_settled x s.session s.next c.args.ordinal n c.args.work c.requires.opened.stands.ran lt later in
     record {
       number = refl;
@@ -59,7 +65,7 @@ returns-in-Ok-clause-settled c n lt later =
 pub returns-in-Full-clause-came : goal.returns-in-Full-clause-came
 returns-in-Full-clause-came c begun told came =
     let s = c.args.pages.now in
-    let t : Pages = record { hall = c.line.new.self; next = s.next; session = s.session } in
+    let t : Pages = record { hall = c.readable_line.new.self; next = s.next; session = s.session } in
     let full = subst (IsCause (state_now s.hall) c.new.result c.args.ordinal c.args.work) c.in-Full.is c.in-Err.ensures.cause.0 in
     came_full c.args.self.now.setup begun s t c.args.ordinal c.args.work told came c.in-Err.ensures.err refl refl full.3
 
