@@ -72,6 +72,10 @@ impl Pause for HoldFirst {
             self.held.store(1, Ordering::SeqCst);
         }
     }
+
+    fn is_for_each(&self) -> bool {
+        true
+    }
 }
 
 /// A client, who tells once it has read all; whether it heard what it should.

@@ -12,7 +12,7 @@ ghost use Rattle.bl_worker.specs.Turns.{AddsTurnsAlone, Settles};
 
 use crate::count::EndToRing;
 use crate::pause::Pause;
-use crate::short::{is_long, run_short};
+use crate::short::is_long;
 use crate::turn::{Begun, Turn, begin};
 use bl_eval::evaluate::eval;
 use bl_eval::lent::{Done, Lent, Unrun};
@@ -105,28 +105,6 @@ impl Batch {
             end(turn, run);
         }
         EndToRing::if_any(some)
-    }
-
-    /// Ends all that was run, as `end_all` does; and where there was any, runs what is ready then and short to run, in
-    /// the turn itself. So entries that wait for one another do not take a turn each.
-    pub fn end_on(&mut self, alloc: Global, turn: &mut AtGate<'_>) -> Option<EndToRing>
-        requires trail { HasTrail (hall_seen turn.old) }
-        requires ran { AllRan self.old }
-        requires room { HasRoom self.old }
-        requires batch { (first : PassView) × IsBatch first turn.old (loans_in self.old) }
-        ensures follows { Follows turn.old turn.new }
-        ensures trail { HasTrail (hall_seen turn.new) }
-        ensures adds { AddsTurnsAlone turn.old turn.new }
-        ensures batch { (first : PassView) → IsBatch first turn.old (loans_in self.old)
-            → IsBatch first turn.new (loans_in self.new) }
-        ensures idle { IsIdle self.new }
-        ensures room { HasRoom self.new }
-        ensures most { self.new.most ≡ self.old.most }
-        ensures some { IsSome result ↔ (0 < vec_len self.old.ran) }
-    {
-        let ended = self.end_all(turn)?;
-        run_short(alloc, turn);
-        Some(ended)
     }
 
     /// Takes in hand what runs of an entry that was begun, and says whether it has ended instead.

@@ -15,6 +15,6 @@ pub mod bell;
 pub mod count;
 pub(crate) mod hand;
 pub mod pause;
-pub(crate) mod short;
+pub mod short;
 pub mod turn;
 pub mod worker;

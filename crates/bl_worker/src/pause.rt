@@ -4,6 +4,10 @@
 pub trait Pause {
     /// Called in the turn of the entry `n`.
     fn between(&self, n: u32);
+
+    /// Whether it is to be called for each entry: then no entry is run in a turn at the gate, in which the gate is not
+    /// free.
+    fn is_for_each(&self) -> bool;
 }
 
 /// Goes on at once.
@@ -13,5 +17,9 @@ pub struct NoPause;
 impl Pause for NoPause {
     fn between(&self, n: u32) {
         let _ = n;
+    }
+
+    fn is_for_each(&self) -> bool {
+        false
     }
 }

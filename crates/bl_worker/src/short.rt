@@ -1,5 +1,5 @@
 //! What is long to run, and what is short and is run in a turn at the gate.
-ghost use Rattle.std.specs.Prelude.{◌<◌, [], IsTrue, length};
+ghost use Rattle.std.specs.Prelude.{◌≡◌, ◌<◌, [], IsNone, IsTrue, length};
 ghost use Rattle.bl_hall.specs.Chronicle.{HasTrail};
 ghost use Rattle.bl_order.specs.Machine.{MayStart, has_ended};
 ghost use Rattle.bl_gate.specs.Gates.{Follows, PassView, hall_seen, state_seen};
@@ -7,6 +7,7 @@ ghost use Rattle.bl_worker.specs.Batches.{IsBatch};
 ghost use Rattle.bl_worker.specs.Turns.{AddsTurnsAlone};
 
 use crate::batch::end;
+use crate::count::EndToRing;
 use crate::turn::{Begun, begin};
 use bl_core::machine::Core;
 use bl_core::origin::Origin;
@@ -96,21 +97,26 @@ fn run_one(alloc: Global, turn: &mut AtGate<'_>, n: u32)
 }
 
 /// Runs entries that are ready and short to run, whosever, one after another, each from its start to its end in the
-/// turn: while they run the gate is not free. It stops where none is ready, the next one is long, or many were run.
-pub(crate) fn run_short(alloc: Global, turn: &mut AtGate<'_>)
+/// turn: while they run the gate is not free. It stops where none is ready, the next one is long, or 256 were run. Where
+/// there was any, that is to be rung.
+pub fn run_short(alloc: Global, turn: &mut AtGate<'_>) -> Option<EndToRing>
     requires trail { HasTrail (hall_seen turn.old) }
     ensures follows { Follows turn.old turn.new }
     ensures trail { HasTrail (hall_seen turn.new) }
     ensures adds { AddsTurnsAlone turn.old turn.new }
     ensures batch { (first : PassView) → IsBatch first turn.old [] → IsBatch first turn.new [] }
+    ensures none { IsNone result → turn.new ≡ turn.old }
 {
+    let mut some = false;
     for _count in 0..MOST_SHORT {
         let Some(n) = turn.ready() else {
-            return;
+            break;
         };
         if is_long(turn.hall().core(), n) {
-            return;
+            break;
         }
         run_one(alloc, turn, n);
+        some = true;
     }
+    EndToRing::if_any(some)
 }

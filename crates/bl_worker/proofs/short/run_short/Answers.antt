@@ -9,6 +9,7 @@ loop-count-init c = record {
   trail = c.requires.trail;
   adds = adds_itself _ c.args.turn.now c.args.turn.now refl;
   batch = λ first b. b;
+  none = λ _. refl;
 }
 
 pub loop-count-preserved : goal.loop-count-preserved
@@ -20,4 +21,5 @@ loop-count-preserved c =
       trail = one.trail;
       adds = adds_then _ c.args.turn.now c.loop-count.turn c.run_one.new.turn i.adds one.adds one.follows;
       batch = λ first b. one.batch first (i.batch first b);
+      none = λ is. absurd cc;
     }

@@ -1,4 +1,4 @@
-use Rattle.std.proofs.Common.{[]}
+use Rattle.std.proofs.Common.{◌≡◌, [], false}
 use Rattle.bl_hall.specs.Chronicle.{HasTrail}
 use Rattle.bl_gate.specs.Gates.{Follows, PassView, hall_seen}
 use Rattle.bl_worker.specs.Batches.{IsBatch}
@@ -12,4 +12,5 @@ invariant-loop-count l = record {
   trail : HasTrail (hall_seen l.turn);
   adds : AddsTurnsAlone l.initial.turn l.turn;
   batch : (first : PassView) → IsBatch first l.initial.turn [] → IsBatch first l.turn [];
+  none : l.some ≡ false → l.turn ≡ l.initial.turn;
 }
