@@ -7,3 +7,4 @@ pub mod Crowding
 pub mod Rounding
 pub mod Fitting
 pub mod Opening
+pub mod Settling

@@ -5,7 +5,7 @@ use Rattle.bl_wire.specs.declared.fault.SessionFault.{SessionFault}
 use Rattle.bl_wire.specs.declared.fault.SessionFault.TheVariants.{TooLong, Memory, Clash}
 use Rattle.bl_engine.specs.Conversations.{waits_left}
 use Rattle.bl_connection.specs.Connections.{state_of}
-use Rattle.bl_connection.specs.declared.connection.State.TheVariants.{Hears}
+use Rattle.bl_connection.specs.declared.connection.State.TheVariants.{Hears, Tells}
 use Rattle.bl_gate.specs.Gates.{Follows, PassView, state_seen}
 use Rattle.bl_worker.specs.Hands.{HasMade}
 use Rattle.bl_worker.specs.Turns.{AddsTurnsAlone}
@@ -68,6 +68,15 @@ HasHeardOn most was now = now.fault ≡ None → now.asked ≡ None → state_of
 abbrev pub HaveHeardOn : {S : Type 0} → ℕ → (old new : List (Member S)) → ℕ → Type 0
 HaveHeardOn {S} most old new count = (i : ℕ) (d : Member S) → i < count
     → HasHeardOn most (get_or old i d) (get_or new i d)
+
+-- The member stays as it is; or its block was answered, so that it asks nothing and tells that; or memory was refused
+-- for it. It was received as before.
+abbrev pub HasSettledOn : {S : Type 0} → (was now : Member S) → Type 0
+HasSettledOn was now = (now.reception ≡ was.reception)
+    × ((now ≡ was) ⊎ (((now.asked ≡ None) × (state_of now.connection ≡ Tells)) ⊎ (now.fault ≡ Some Memory)))
+
+abbrev pub HaveSettledOn : {S : Type 0} → (old new : List (Member S)) → ℕ → Type 0
+HaveSettledOn {S} old new count = (i : ℕ) (d : Member S) → i < count → HasSettledOn (get_or old i d) (get_or new i d)
 
 -- the pass as a turn finds it: it has seen what others did, and has made no event
 pub record IsFound (before found : PassView) : Type 0 where

@@ -1,16 +1,16 @@
 //! Many connections of one thread over one gate.
-ghost use Rattle.std.specs.Prelude.{◌≡◌, ◌≢◌, ◌<◌, ◌≤◌, ◌⊎◌, ◌↔◌, ◌++◌, ◌∷◌, [], ℕ, Some, None, IsSome, IsTrue};
+ghost use Rattle.std.specs.Prelude.{◌≡◌, ◌≢◌, ◌<◌, ◌≤◌, ◌⊎◌, ◌↔◌, ◌++◌, ◌∷◌, [], ℕ, Some, None, IsNone, IsSome, IsTrue};
 ghost use Rattle.std.specs.Prelude.{MatchBool, OnOk, OnErr, length, get_or, vec_len, true};
 ghost use Rattle.std.specs.List.{remove};
 ghost use Rattle.bl_hall.specs.Chronicle.{HasTrail};
 ghost use Rattle.bl_order.specs.Machine.{MayStart};
-ghost use Rattle.bl_gate.specs.Gates.{PassView, hall_seen, state_seen};
+ghost use Rattle.bl_gate.specs.Gates.{Follows, PassView, hall_seen, state_seen};
 ghost use Rattle.bl_work.specs.Names.{KnownNames};
 ghost use Rattle.bl_serve.specs.Courses.{SpeaksForItsOwn};
 ghost use Rattle.bl_serve.specs.Together.{GoesOnTo};
 ghost use Rattle.bl_worker.specs.Batches.{AllRan, HasRoom, IsBatch, IsIdle, NoneRan, loans_in};
 ghost use Rattle.bl_worker.specs.Turns.{AddsTurnsAlone};
-ghost use Rattle.bl_crowd.specs.Crowds.{AreMetOn, HasBegunLast, HaveHeardOn, IsCrowd, IsFound};
+ghost use Rattle.bl_crowd.specs.Crowds.{AreMetOn, HasBegunLast, HaveHeardOn, HaveSettledOn, IsCrowd, IsFound};
 ghost use Rattle.bl_crowd.specs.Fitting.{AdmitsWhatFits};
 ghost use Rattle.bl_crowd.specs.Openings.{AddsTheirOwn};
 ghost use Rattle.bl_crowd.specs.Steps.{KeepsHand};
@@ -26,6 +26,7 @@ use bl_quota::asks::Asks;
 use bl_wire::fault::SessionFault;
 use bl_worker::batch::Batch;
 use bl_worker::count::{EndToRing, Looked, Seen};
+use bl_worker::short::run_short;
 use std::alloc::{AllocError, Global};
 use std::snapshot::Snapshot;
 use std::sync::Wait;
@@ -72,12 +73,58 @@ fn meet_on_all<S: Stream, Q: Asks>(
     }
 }
 
-/// What a round does at most: how many lines more of each member it does, and how many entries it begins though they
-/// are long to run.
+/// Has the block of each member answered that waits for that alone.
+fn settle_all<S: Stream>(turn: &AtGate<'_>, members: &mut Vec<Member<'_, S>>)
+    requires members { (names : KnownNames) × (first : PassView)
+        × AreMembers S.remaining S.contents names first turn.now members.old.items }
+    ensures members { (names : KnownNames) (first : PassView)
+        → AreMembers S.remaining S.contents names first turn.now members.old.items
+        → AreMembers S.remaining S.contents names first turn.now members.new.items }
+    ensures len { vec_len members.new ≡ vec_len members.old }
+    ensures done { HaveSettledOn members.old.items members.new.items (vec_len members.new) }
+{
+    for i in 0..members.len() {
+        members[i].settle_on(turn);
+    }
+}
+
+/// Runs what is ready and short to run in the turn, if that is wished, and has the block of each member answered that
+/// waits for that alone. Where something was run, that is to be rung.
+fn run_at_once<S: Stream>(
+    alloc: Global,
+    turn: &mut AtGate<'_>,
+    members: &mut Vec<Member<'_, S>>,
+    at_once: bool,
+) -> Option<EndToRing>
+    requires trail { HasTrail (hall_seen turn.old) }
+    requires members { (names : KnownNames) × (first : PassView)
+        × AreMembers S.remaining S.contents names first turn.old members.old.items }
+    ensures follows { Follows turn.old turn.new }
+    ensures trail { HasTrail (hall_seen turn.new) }
+    ensures adds { AddsTurnsAlone turn.old turn.new }
+    ensures batch { (first : PassView) → IsBatch first turn.old [] → IsBatch first turn.new [] }
+    ensures members { (names : KnownNames) (first : PassView)
+        → AreMembers S.remaining S.contents names first turn.old members.old.items
+        → AreMembers S.remaining S.contents names first turn.new members.new.items }
+    ensures len { vec_len members.new ≡ vec_len members.old }
+    ensures done { HaveSettledOn members.old.items members.new.items (vec_len members.new) }
+    ensures none { IsNone result → (turn.new ≡ turn.old) × (members.new ≡ members.old) }
+{
+    if !at_once {
+        return None;
+    }
+    let ended = run_short(alloc, turn)?;
+    settle_all(turn, members);
+    Some(ended)
+}
+
+/// What a round does at most: how many lines more of each member it does, how many entries it begins though they are
+/// long to run, and whether it runs those that are short in the turn.
 #[derive(Clone, Copy, Debug, PartialEq, Eq)]
 pub struct Portion {
     pub lines: usize,
     pub long: usize,
+    pub at_once: bool,
 }
 
 /// What a round came to. What has ended is to be rung.
@@ -86,6 +133,8 @@ pub struct Round {
     pub begun: usize,
     /// That an entry has ended that was run before, if one has.
     pub ended: Option<EndToRing>,
+    /// That an entry has ended that it has run in the turn after the members met, if one has.
+    pub ran: Option<EndToRing>,
     /// That an entry has ended that it has begun, if one has.
     pub over: Option<EndToRing>,
     /// Whether an entry is ready that it has left to others.
@@ -204,13 +253,13 @@ impl<'a, S: Stream> Crowd<'a, S> {
         self.members[i].greeted()
     }
 
-    /// One turn at the gate with what is in hand, once the count of ends was read. It ends what was run; where there
-    /// was any, what waited for that and is short to run is run in the turn. It does what each member asks, and what it
-    /// asks at the next lines of what was read, so many at most; and begins what is ready, until the batch is full, as
-    /// many were begun as it may have in hand, or nothing is ready. It begins no more where an entry is ready that is
-    /// long to run, once as many were begun as the portion says. What was begun is to be run with the gate free, by
-    /// `Batch::run`, and ends in the next round. No session is opened and no line admitted but for members; a line only
-    /// where the quota says that it fits.
+    /// One turn at the gate with what is in hand, once the count of ends was read. It ends what was run. It does what
+    /// each member asks, and what it asks at the next lines of what was read, so many at most. If the portion says so,
+    /// it runs what is ready then and short to run, in the turn, and has the blocks answered that members wait for. It
+    /// begins what is ready, until the batch is full, as many were begun as it may have in hand, or nothing is ready. It
+    /// begins no more where an entry is ready that is long to run, once as many were begun as the portion says. What was
+    /// begun is to be run with the gate free, by `Batch::run`, and ends in the next round. No session is opened and no
+    /// line admitted but for members; a line only where the quota says that it fits.
     pub fn round<R: Wait, Q: Asks>(
         &mut self,
         rt: &R,
@@ -250,9 +299,10 @@ impl<'a, S: Stream> Crowd<'a, S> {
         ensures same { (self.new.first ≡ self.old.first) × (self.new.gate ≡ self.old.gate) }
     {
         let mut turn = self.gate.turn(rt, self.pass.take());
-        let ended = batch.end_on(self.alloc, &mut turn);
+        let ended = batch.end_all(&mut turn);
         let looked = seen.look(&turn).and(&ended);
         meet_on_all(&mut turn, quota, &mut self.members, portion.lines);
+        let ran = run_at_once(self.alloc, &mut turn, &mut self.members, portion.at_once);
         let (begun, over) = batch.begin_ready(&mut turn, portion.long);
         let left = turn.ready().is_some();
         let events = turn.hall().trail().len();
@@ -260,6 +310,7 @@ impl<'a, S: Stream> Crowd<'a, S> {
         Round {
             begun,
             ended,
+            ran,
             over,
             left,
             events,

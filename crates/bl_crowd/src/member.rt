@@ -2,6 +2,7 @@
 ghost use Rattle.std.specs.Prelude.{◌≡◌, ◌≢◌, ◌<◌, ◌⊎◌, ◌↔◌, [], ℕ, length, Option, Some, None, Ok, Err, IsSome};
 ghost use Rattle.std.specs.Prelude.{IsTrue, IfOk, IfErr, OnOk, OnErr, true, false};
 ghost use Rattle.bl_work.specs.Names.{KnownNames};
+ghost use Rattle.bl_work.specs.Readable.{IsReadable};
 ghost use Rattle.bl_hall.specs.Chronicle.{HasTrail};
 ghost use Rattle.bl_gate.specs.Gates.{OwnsAllSince, PassView, hall_seen, state_seen};
 ghost use Rattle.bl_quota.specs.Quotas.{IsAllowed};
@@ -145,9 +146,11 @@ fn receive(turn: &mut AtGate<'_>, subject: SubjectId) -> Reception
     }
 }
 
-/// Admits a work, or finds no room for it. The work comes back for any other cause, and then nothing was admitted.
+/// Admits a work that some text reads as, or finds no room for it. The work comes back for any other cause, and then
+/// nothing was admitted.
 #[tactic(auto, using(crate::proofs::Rounding::hand_admitted, crate::proofs::Rounding::hand_same))]
 fn enter(turn: &mut AtGate<'_>, session: u32, ordinal: u32, work: Work) -> Result<(), Work>
+    requires { IsReadable (state_seen turn.old).setup.names work }
     ensures goes { GoesOnTo turn.old turn.new }
     ensures own { SpeaksForNoOther session turn.old turn.new }
     ensures alone { OwnsAllSince turn.old turn.new }
@@ -156,7 +159,7 @@ fn enter(turn: &mut AtGate<'_>, session: u32, ordinal: u32, work: Work) -> Resul
     ensures err { IfErr result (λ back. (turn.new ≡ turn.old) × (back ≡ work)
         × IsRefused turn.old session ordinal work) }
 {
-    let Refused { cause, work } = match turn.line(SessionNo::new(session), ordinal, work) {
+    let Refused { cause, work } = match turn.readable_line(SessionNo::new(session), ordinal, work) {
         Ok(_) => return Ok(()),
         Err(refused) => refused,
     };
@@ -186,7 +189,7 @@ impl<'a, S: Stream> Member<'a, S> {
     ghost use Rattle.bl_crowd.specs.Openings.{AddsItsOwn};
     ghost use Rattle.bl_crowd.specs.Steps.{greeted_as};
     ghost use Rattle.bl_crowd.specs.Ways.{HasFailed, IsHome, IsMember, IsToRead, IsUnderWay};
-    ghost use Rattle.bl_crowd.specs.Crowds.{HasHeardOn, IsMetOn};
+    ghost use Rattle.bl_crowd.specs.Crowds.{HasHeardOn, HasSettledOn, IsMetOn};
     ghost use Rattle.bl_crowd.specs.Departures.{Departs, IsServedAmong};
     ghost use Rattle.bl_crowd.specs.declared.member.Met.TheVariants as mets;
     ghost use Rattle.bl_crowd.specs.declared.member.Next.TheVariants as nexts;
@@ -432,6 +435,26 @@ impl<'a, S: Stream> Member<'a, S> {
         self.last = ordinal;
         self.connection.answered();
         Ok(true)
+    }
+
+    /// Has its block answered, if it waits for that and no entry of its session is left that has not ended. Where memory
+    /// was refused it has failed, and asks that still.
+    pub fn settle_on(&mut self, turn: &AtGate<'_>)
+        requires way { (names : KnownNames) × (first : PassView) × IsHome names turn.now
+            × IsMember S.remaining S.contents names first turn.now self.old }
+        ensures way { (names : KnownNames) (first : PassView) → IsHome names turn.now
+            → IsMember S.remaining S.contents names first turn.now self.old
+            → IsMember S.remaining S.contents names first turn.now self.new }
+        ensures done { HasSettledOn self.old self.new }
+    {
+        if self.fault.is_some() || !matches!(self.asked, Some(Request::Settles)) {
+            return;
+        }
+        match self.settle(turn) {
+            Ok(true) => self.asked = None,
+            Ok(false) => {}
+            Err(_) => self.fault = Some(SessionFault::Memory),
+        }
     }
 
     /// Puts off what is asked: it waits, or is to leave since that will never fit in the trail.

@@ -323,6 +323,7 @@ fn tell_of<R: Wait>(rt: &R, calls: Calls<'_>, round: Round, waits: bool, marks: 
     let Round {
         begun,
         ended,
+        ran,
         over,
         left,
         events,
@@ -330,6 +331,7 @@ fn tell_of<R: Wait>(rt: &R, calls: Calls<'_>, round: Round, waits: bool, marks: 
     } = round;
     marks.looked = Some(looked);
     ring_if(calls.alarms, ended);
+    ring_if(calls.alarms, ran);
     ring_if(calls.alarms, over);
     marks.left = left;
     marks.uncalled = left;
@@ -372,6 +374,7 @@ fn take_turn<S: Stream, P: Pause, R: Wait, Q: Asks>(
     let portion = Portion {
         lines: MOST_LINES,
         long: usize::from(waits),
+        at_once: !context.pause.is_for_each(),
     };
     let seen = context.calls.alarms.ends();
     let round = crowd.round(context.rt, quota, &mut hand.batch, portion, seen);

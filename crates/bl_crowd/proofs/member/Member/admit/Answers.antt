@@ -1,8 +1,10 @@
 use Rattle.std.proofs.Common.{ap, refl, sym, subst}
+use Rattle.bl_work.specs.Readable.{IsReadable}
+use Rattle.bl_setup.specs.Setup.{Setup}
 use Rattle.bl_gate.specs.Gates.{PassView}
 use Rattle.bl_crowd.specs.Steps.{IsClash}
 use Rattle.bl_crowd.proofs.Fitting.{fits_entered, fits_itself}
-use Rattle.bl_crowd.proofs.Meeting.{admits_open, way_clash, way_entered}
+use Rattle.bl_crowd.proofs.Meeting.{admits_open, readable, setup_is, way_clash, way_entered}
 use Rattle.bl_crowd.proofs.Opening.{own_entered, own_itself}
 use Rattle.bl_crowd.proofs.member.Member.admit.Goals as goal
 
@@ -11,6 +13,13 @@ unreachable-requires g c =
     let way = c.requires.way in
     let opens = admits_open g.S.Stream.remaining g.S.Stream.contents way.0 way.1 c.args.turn.now c.args.self.now c.args.ordinal c.args.work way.3 c.args.self.now.reception refl in
     c.in_default.not-Open opens.0 opens.1
+
+pub enter-requires : goal.enter-requires
+enter-requires g c =
+    let way = c.requires.way in
+    let p = c.args.turn.now in
+    subst (λ (s : Setup). IsReadable s.names c.args.work) (sym (setup_is p))
+    (readable g.S.Stream.remaining g.S.Stream.contents way.0 way.1 p c.args.self.now c.args.ordinal c.args.work way.3 way.2)
 
 pub returns-in-Err-clause-own : goal.returns-in-Err-clause-own
 returns-in-Err-clause-own g c =
