@@ -18,5 +18,10 @@ few-front (grant ∷ front) rest = omega (arith, few-front front rest)
 pub finish-requires : goal.finish-requires
 finish-requires c =
     let xs = drop c.loop-access.access-index c.args.accesses.now in
-    omega (arith, few-front c.loop-access.lending.0 (loans c.args.entry xs (contents_in c.args.shelves.now xs)), ap length c.loop-access.invariant.0,
-    few-loans c.args.entry c.args.shelves.now c.args.accesses.now, c.requires.few)
+    omega (
+      arith,
+      few-front c.loop-access.lending.0 (loans c.args.entry xs (contents_in c.args.shelves.now xs)),
+      ap length c.loop-access.invariant.0,
+      few-loans c.args.entry c.args.shelves.now c.args.accesses.now,
+      c.requires.few,
+    )
