@@ -35,8 +35,8 @@ fn wake_desks<K: Keep, T: Wait>(rt: &T, keep: &K, alarms: &Alarms, threads: u32,
     }
 }
 
-/// The thread that has all kept for those that wait at desks, if there is a desk, and whether all was started that is to
-/// run.
+/// The thread that has all kept for those that wait at desks, if there is a desk, and whether all was started that is
+/// to run.
 #[derive(Drop)]
 pub(crate) struct Upkeep {
     pub(crate) whole: bool,

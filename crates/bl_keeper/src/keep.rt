@@ -25,8 +25,8 @@ pub trait Keep {
     /// Asks to have all kept that has happened, for who waits at a desk, and answers the asker's number.
     fn ask(&self) -> u64;
 
-    /// What came of it for who has asked with this number: a receipt, or a fault as `keep_up` has it. None comes as long
-    /// as that is not decided; then it will be by `serve`.
+    /// What came of it for who has asked with this number: a receipt, or a fault as `keep_up` has it. None comes as
+    /// long as that is not decided; then it will be by `serve`.
     fn look<R: Wait>(
         &self,
         rt: &R,

@@ -17,8 +17,8 @@ use std::marker::Model;
 use std::sync::{Mutex, Wait};
 
 /// The journal of a gate. Many threads have it keep up, one at a time: those that ask while another's lines are
-/// written wait, and then one of them has the lines of all written at once. A thread that has a desk may go on while its
-/// connections wait there. The keeper sees the trail with one part of a pass. Its value is the gate.
+/// written wait, and then one of them has the lines of all written at once. A thread that has a desk may go on while
+/// its connections wait there. The keeper sees the trail with one part of a pass. Its value is the gate.
 #[derive(Drop)]
 pub struct Keeper<'a, G: Which, D: Device> {
     gate: &'a Gate,

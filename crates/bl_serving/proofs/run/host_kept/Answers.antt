@@ -7,6 +7,7 @@ use Rattle.bl_disk.proofs.device.DeviceError.TheSendSync as errors
 use Rattle.bl_disk.proofs.log.Log.TheSendSync as logs
 use Rattle.bl_gate.proofs.Crossing.{pass_send, gate_sync}
 use Rattle.bl_gate.specs.Gates.{hall_seen}
+use Rattle.bl_record.proofs.fault.JournalFault.TheSendSync as faults
 use Rattle.bl_record.proofs.journal.Journal.TheSendSync as journals
 use Rattle.bl_serving.proofs.Hosting.{grown_on, grown_self, kept_of, kept_on, starts_on}
 use Rattle.bl_serving.proofs.run.host_kept.Goals as goal
@@ -22,7 +23,7 @@ pub host-hosted-requires-sync-K : goal.host-hosted-requires-sync-K
 host-hosted-requires-sync-K g c κs within =
     let gates = c.type_bounds.send-G in
     let devices = c.type_bounds.send-D in
-    search (pass_send, gate_sync, journals.the_send, logs.the_send, bookmarks.the_send, errors.the_send, options.the_send, crosses, sendable) depth 60 fits 20000
+    search (pass_send, gate_sync, journals.the_send, logs.the_send, bookmarks.the_send, errors.the_send, faults.the_send, options.the_send, crosses, sendable) depth 60 fits 20000
 
 -- the sessions have gone on from what the pass had seen
 pub returns-clause-grown : goal.returns-clause-grown
