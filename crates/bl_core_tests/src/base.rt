@@ -2,12 +2,13 @@
 //! tests, and not at the end of a scope, where the proof takes it apart each time.
 ghost use Rattle.std.specs.Prelude.{◌≡◌, Ok};
 
+use bitflags::Flags;
 use bl_core::machine::{Core, Started};
 use bl_core::refusal::StartFault;
 use bl_core::session::SessionNo;
 use bl_eval::evaluate::eval;
 use bl_eval::lent::{Done, Lent};
-use bl_policy::access::ModeSet;
+use bl_policy::access::{Mode, ModeSet};
 use bl_policy::denial::{Clause, Denial};
 use bl_policy::id::{DocId, SubjectId};
 use bl_read::line::read_line;
@@ -15,6 +16,7 @@ use bl_setup::reader::read_setup;
 use bl_setup::setup::Setup;
 use bl_work::answer::Answer;
 use bl_work::asked::Line;
+use bl_work::document::Document;
 use bl_work::work::Work;
 use std::alloc::{AllocError, AllocGlobal, Global};
 use std::process::Abort;
@@ -56,14 +58,14 @@ const MODES_OF_BOB: &[u8] = b" r w a\nallow bob note r w\nallow cat ";
 const MODES_OF_CAT_AND_ROOT: &[u8] = b" r\nallow root note r w\n";
 
 /// `when read memo do show memo; end`
-pub(super) const SHOW_MEMO: &[u8] = b"when read memo do show memo; end";
+pub(super) const SHOW_MEMO: &str = "when read memo do show memo; end";
 
 /// A line that spawns a reader of what it added to.
-pub(super) const ADD_AND_SPAWN: &[u8] =
-    b"when write memo do add memo \"a\"; spawn when read memo do show memo; end; end";
+pub(super) const ADD_AND_SPAWN: &str =
+    "when write memo do add memo \"a\"; spawn when read memo do show memo; end; end";
 
 /// A line, behind the number of its subject.
-pub(super) type Said<'a> = (u16, &'a [u8]);
+pub(super) type Said<'a> = (u16, &'a str);
 
 /// What came where no fault may come.
 pub(super) fn right<T, E>(rt: &impl Abort, outcome: Result<T, E>) -> T
@@ -159,9 +161,9 @@ pub(super) fn admit<R: AllocGlobal + Abort>(
     core: &mut Core,
     session: u16,
     ordinal: u32,
-    text: &[u8],
+    text: &str,
 ) -> u32 {
-    let work = work_of(rt, core.setup(), text);
+    let work = work_of(rt, core.setup(), text.as_bytes());
     right(
         rt,
         core.line(SessionNo::new(u32::from(session)), ordinal, work),
@@ -219,26 +221,6 @@ pub(super) fn run<R: AllocGlobal + Abort>(rt: &R, core: &mut Core, n: u32) {
     }
 }
 
-/// Admits lines, and runs each of them by rising place.
-pub(super) fn run_all<R: AllocGlobal + Abort>(rt: &R, core: &mut Core, lines: &[Said<'_>]) {
-    for n in 0..admit_all(rt, core, lines) {
-        run(rt, core, n);
-    }
-}
-
-/// Admits lines, and runs so many entries by rising place: the lines, and then those that they spawned.
-pub(super) fn run_entries<R: AllocGlobal + Abort>(
-    rt: &R,
-    core: &mut Core,
-    lines: &[Said<'_>],
-    entries: u32,
-) {
-    admit_all(rt, core, lines);
-    for n in 0..entries {
-        run(rt, core, n);
-    }
-}
-
 /// Whether an entry may not start, as its start says.
 pub(super) fn is_not_ready(rt: &impl Abort, core: &mut Core, n: u32) -> bool {
     match core.start(n) {
@@ -248,23 +230,27 @@ pub(super) fn is_not_ready(rt: &impl Abort, core: &mut Core, n: u32) -> bool {
     }
 }
 
-/// Whether an answer is that of an entry that is done, and showed these texts.
-pub(super) fn has_shown(answer: &Answer, texts: &[&[u8]]) -> bool {
-    match answer {
-        Answer::Done(outputs) => {
-            outputs.texts().len() == texts.len()
-                && outputs
-                    .texts()
-                    .iter()
-                    .zip(texts)
-                    .all(|(shown, text)| shown.bytes() == *text)
+/// Whether just these texts were shown.
+fn are_shown(shown: &[Document], texts: &[&str]) -> bool {
+    for (n, text) in texts.iter().enumerate() {
+        match shown.get(n) {
+            Some(shown) if shown.bytes() == text.as_bytes() => {}
+            _ => return false,
         }
+    }
+    shown.len() == texts.len()
+}
+
+/// Whether an answer is that of an entry that is done, and showed these texts.
+pub(super) fn has_shown(answer: &Answer, texts: &[&str]) -> bool {
+    match answer {
+        Answer::Done(outputs) => are_shown(outputs.texts(), texts),
         _ => false,
     }
 }
 
 /// Whether an entry is done, and showed these texts.
-pub(super) fn is_done(core: &Core, n: u32, texts: &[&[u8]]) -> bool {
+pub(super) fn is_done(core: &Core, n: u32, texts: &[&str]) -> bool {
     match core.answer(n) {
         Some(answer) => has_shown(answer, texts),
         None => false,
@@ -295,21 +281,36 @@ pub(super) fn is_denied(core: &Core, n: u32, clause: Clause, subject: u16, doc: 
 }
 
 /// Whether a document is not lent exclusively, and has this content.
-pub(super) fn has(core: &Core, doc: u16, content: &[u8]) -> bool {
+pub(super) fn has(core: &Core, doc: u16, content: &str) -> bool {
     if doc as usize >= core.setup().contents().len() {
         return false;
     }
     match core.content(DocId::new(doc)) {
-        Some(kept) => kept.bytes() == content,
+        Some(kept) => kept.bytes() == content.as_bytes(),
         None => false,
     }
 }
 
-/// Whether the policy has just these modes in a cell.
-pub(super) fn has_modes(core: &Core, subject: u16, doc: u16, modes: ModeSet) -> bool {
+/// The set of these modes.
+fn set_of(modes: &[Mode]) -> ModeSet {
+    let mut set = ModeSet::empty();
+    for mode in modes {
+        set = set.union((*mode).into());
+    }
+    set
+}
+
+/// Whether the policy has just these modes of a subject and a document.
+pub(super) fn has_modes(core: &Core, subject: u16, doc: u16, modes: &[Mode]) -> bool {
     let policy = core.policy();
     if subject as usize >= policy.subjects() || doc as usize >= policy.documents() {
         return false;
     }
-    policy.cell(SubjectId::new(subject), DocId::new(doc)) == modes
+    policy.cell(SubjectId::new(subject), DocId::new(doc)) == set_of(modes)
+}
+
+/// Whether a document is present now.
+pub(super) fn is_there(core: &Core, doc: u16) -> bool {
+    let policy = core.policy();
+    (doc as usize) < policy.documents() && policy.is_present(DocId::new(doc))
 }

@@ -1,8 +1,6 @@
 //! What a behaviour carries: nothing goes below the levels at which its parents ran.
-use super::base::{
-    BOB, NOTE, ROOT, Said, base_core, has, is_denied, is_done, is_made, run_entries,
-};
-use bl_core::machine::Core;
+use super::base::{BOB, NOTE, ROOT};
+use super::entries::{Answered, Entry, Fact, assert_entries};
 use bl_policy::denial::Clause;
 
 /// The ranks of the base setup, and its categories as sets.
@@ -16,95 +14,73 @@ const NATO: u32 = 1;
 
 const NATO_AND_CRYPTO: u32 = 3;
 
-/// Whether an entry is there, and carries the level of this rank with these categories.
-fn carries(core: &Core, n: u32, rank: u8, categories: u32) -> bool {
-    match core.carried(n) {
-        Some(level) => level.rank() == rank && level.categories() == categories,
-        None => false,
-    }
-}
-
 #[test]
 fn child_may_not_carry_down(rt: HostRuntime) {
-    let mut core = base_core(&rt);
-    let lines: [Said<'_>; 3] = [
-        (BOB, b"current s{nato}"),
-        (
+    const ENTRIES: &[Entry] = &[
+        Entry::Line(BOB, "current s{nato}", Answered::Rules),
+        Entry::Line(
             BOB,
-            b"when read memo do spawn when write note do add note \"x\"; end; end",
+            "when read memo do spawn when write note do add note \"x\"; end; end",
+            Answered::Shows(&[]),
         ),
-        (BOB, b"current u"),
+        Entry::Line(BOB, "current u", Answered::Rules),
+        Entry::Child(BOB, Answered::Denied(Clause::Carry, NOTE)),
     ];
-    run_entries(&rt, &mut core, &lines, 4);
-    let answered = is_made(&core, 0)
-        && is_done(&core, 1, &[])
-        && is_made(&core, 2)
-        && is_denied(&core, 3, Clause::Carry, BOB, NOTE);
-    assert!(rt; answered);
-    assert!(rt; has(&core, NOTE, b"n1"));
-    drop(core);
+    const FACTS: &[Fact] = &[Fact::Content(NOTE, "n1")];
+    assert_entries(&rt, ENTRIES, FACTS);
 }
 
 #[test]
 fn grandchild_may_not_carry_down(rt: HostRuntime) {
-    let mut core = base_core(&rt);
-    let lines: [Said<'_>; 3] = [
-        (BOB, b"current s{nato}"),
-        (
+    const ENTRIES: &[Entry] = &[
+        Entry::Line(BOB, "current s{nato}", Answered::Rules),
+        Entry::Line(
             BOB,
-            b"when read memo do spawn when read note do spawn when write note do end; end; end",
+            "when read memo do spawn when read note do spawn when write note do end; end; end",
+            Answered::Shows(&[]),
         ),
-        (BOB, b"current u"),
+        Entry::Line(BOB, "current u", Answered::Rules),
+        Entry::Child(BOB, Answered::Shows(&[])),
+        Entry::Child(BOB, Answered::Denied(Clause::Carry, NOTE)),
     ];
-    run_entries(&rt, &mut core, &lines, 5);
-    let answered = is_made(&core, 0)
-        && is_done(&core, 1, &[])
-        && is_made(&core, 2)
-        && is_done(&core, 3, &[])
-        && is_denied(&core, 4, Clause::Carry, BOB, NOTE);
-    assert!(rt; answered);
-    drop(core);
+    assert_entries(&rt, ENTRIES, &[]);
 }
 
 #[test]
 fn trusted_may_carry_down(rt: HostRuntime) {
-    let mut core = base_core(&rt);
-    let lines: [Said<'_>; 3] = [
-        (ROOT, b"current t"),
-        (
+    const ENTRIES: &[Entry] = &[
+        Entry::Line(ROOT, "current t", Answered::Rules),
+        Entry::Line(
             ROOT,
-            b"when read note do spawn when write note do add note \"x\"; end; end",
+            "when read note do spawn when write note do add note \"x\"; end; end",
+            Answered::Shows(&[]),
         ),
-        (ROOT, b"current u"),
+        Entry::Line(ROOT, "current u", Answered::Rules),
+        Entry::Child(ROOT, Answered::Shows(&[])),
     ];
-    run_entries(&rt, &mut core, &lines, 4);
-    let answered = is_made(&core, 0)
-        && is_done(&core, 1, &[])
-        && is_made(&core, 2)
-        && is_done(&core, 3, &[]);
-    assert!(rt; answered);
-    assert!(rt; carries(&core, 3, T, 0));
-    assert!(rt; has(&core, NOTE, b"n1x"));
-    drop(core);
+    const FACTS: &[Fact] = &[Fact::Carries(3, T, 0), Fact::Content(NOTE, "n1x")];
+    assert_entries(&rt, ENTRIES, FACTS);
 }
 
-/// The child runs at another level than its parent did, and neither dominates the other: the grandchild carries the least level that
-/// dominates both.
+/// The child runs at another level than its parent did, and neither dominates the other: the grandchild carries the
+/// least level that dominates both.
 #[test]
 fn grandchild_carries_both_levels(rt: HostRuntime) {
-    let mut core = base_core(&rt);
-    let lines: [Said<'_>; 3] = [
-        (ROOT, b"current s{nato}"),
-        (
+    const ENTRIES: &[Entry] = &[
+        Entry::Line(ROOT, "current s{nato}", Answered::Rules),
+        Entry::Line(
             ROOT,
-            b"when read note do spawn when read note do spawn when read note do end; end; end",
+            "when read note do spawn when read note do spawn when read note do end; end; end",
+            Answered::Shows(&[]),
         ),
-        (ROOT, b"current c{crypto}"),
+        Entry::Line(ROOT, "current c{crypto}", Answered::Rules),
+        Entry::Child(ROOT, Answered::Shows(&[])),
     ];
-    run_entries(&rt, &mut core, &lines, 4);
-    assert!(rt; carries(&core, 1, U, 0));
-    assert!(rt; carries(&core, 3, S, NATO));
-    assert!(rt; carries(&core, 4, S, NATO_AND_CRYPTO));
-    assert!(rt; core.carried(5).is_none());
-    drop(core);
+    const FACTS: &[Fact] = &[
+        Fact::Carries(1, U, 0),
+        Fact::Carries(3, S, NATO),
+        Fact::Carries(4, S, NATO_AND_CRYPTO),
+        Fact::NoEntry(5),
+    ];
+    assert_entries(&rt, ENTRIES, FACTS);
 }

@@ -1,10 +1,10 @@
 //! What is allowed, denied and changed, entry after entry, as the worked examples have it.
-use super::base::{
-    ANN, BOB, DAN, LOG, MEMO, NOTE, ROOT, SHOW_MEMO, Said, base_core, core_over, has, has_modes,
-    is_denied, is_done, is_made, right, run_all, setup_with,
+use super::base::{ANN, BOB, DAN, LOG, MEMO, NOTE, ROOT, SHOW_MEMO, core_over, right, setup_with};
+use super::entries::{
+    Answered, Entry, Fact, assert_entries, assert_entries_of, assert_entries_with,
 };
 use bl_core::machine::Core;
-use bl_policy::access::ModeSet;
+use bl_policy::access::Mode;
 use bl_policy::denial::Clause;
 use bl_policy::id::DocId;
 use bl_setup::setup::Setup;
@@ -13,69 +13,68 @@ use std::process::Abort;
 
 #[test]
 fn append_upward(rt: HostRuntime) {
-    let mut core = base_core(&rt);
-    let lines: [Said<'_>; 1] = [(ANN, b"when append log do add log \"x\"; end")];
-    run_all(&rt, &mut core, &lines);
-    assert!(rt; is_done(&core, 0, &[]));
-    assert!(rt; has(&core, LOG, b"x"));
-    drop(core);
+    const ENTRIES: &[Entry] = &[Entry::Line(
+        ANN,
+        "when append log do add log \"x\"; end",
+        Answered::Shows(&[]),
+    )];
+    const FACTS: &[Fact] = &[Fact::Content(LOG, "x")];
+    assert_entries(&rt, ENTRIES, FACTS);
 }
 
-const APPEND_B: &[u8] = b"when append memo do add memo \"b\"; end";
+const APPEND_B: &str = "when append memo do add memo \"b\"; end";
 
 #[test]
 fn write_does_not_stand_for_append(rt: HostRuntime) {
-    let mut core = base_core(&rt);
-    let lines: [Said<'_>; 4] = [
-        (BOB, b"current s{nato}"),
-        (BOB, APPEND_B),
-        (ROOT, b"rescind bob memo a"),
-        (BOB, APPEND_B),
+    const ENTRIES: &[Entry] = &[
+        Entry::Line(BOB, "current s{nato}", Answered::Rules),
+        Entry::Line(BOB, APPEND_B, Answered::Shows(&[])),
+        Entry::Line(ROOT, "rescind bob memo a", Answered::Rules),
+        Entry::Line(BOB, APPEND_B, Answered::Denied(Clause::Discretionary, MEMO)),
     ];
-    run_all(&rt, &mut core, &lines);
-    let answered = is_made(&core, 0)
-        && is_done(&core, 1, &[])
-        && is_made(&core, 2)
-        && is_denied(&core, 3, Clause::Discretionary, BOB, MEMO);
-    assert!(rt; answered);
-    assert!(rt; has(&core, MEMO, b"m1b"));
-    assert!(rt; has_modes(&core, BOB, MEMO, ModeSet::READ | ModeSet::WRITE));
-    drop(core);
+    const FACTS: &[Fact] = &[
+        Fact::Content(MEMO, "m1b"),
+        Fact::Modes(BOB, MEMO, &[Mode::Read, Mode::Write]),
+    ];
+    assert_entries(&rt, ENTRIES, FACTS);
 }
 
 #[test]
 fn rescind_between_reads(rt: HostRuntime) {
-    let mut core = base_core(&rt);
-    let lines: [Said<'_>; 3] = [
-        (ANN, SHOW_MEMO),
-        (ROOT, b"rescind ann memo r"),
-        (ANN, SHOW_MEMO),
+    const ENTRIES: &[Entry] = &[
+        Entry::Line(ANN, SHOW_MEMO, Answered::Shows(&["m1"])),
+        Entry::Line(ROOT, "rescind ann memo r", Answered::Rules),
+        Entry::Line(
+            ANN,
+            SHOW_MEMO,
+            Answered::Denied(Clause::Discretionary, MEMO),
+        ),
     ];
-    run_all(&rt, &mut core, &lines);
-    let answered = is_done(&core, 0, &[b"m1"])
-        && is_made(&core, 1)
-        && is_denied(&core, 2, Clause::Discretionary, ANN, MEMO);
-    assert!(rt; answered);
-    drop(core);
+    assert_entries(&rt, ENTRIES, &[]);
 }
 
 #[test]
 fn classify_needs_trust(rt: HostRuntime) {
-    let more = b"subject dan greatest u current u admin\n";
-    let mut core = core_over(&rt, setup_with(&rt, b"memo", b"m1", more));
-    let lines: [Said<'_>; 4] = [
-        (DAN, b"classify note c"),
-        (DAN, b"give cat note r"),
-        (ROOT, b"classify note c"),
-        (BOB, b"when read note do end"),
+    const ENTRIES: &[Entry] = &[
+        Entry::Line(
+            DAN,
+            "classify note c",
+            Answered::Denied(Clause::Trusted, NOTE),
+        ),
+        Entry::Line(DAN, "give cat note r", Answered::Rules),
+        Entry::Line(ROOT, "classify note c", Answered::Rules),
+        Entry::Line(
+            BOB,
+            "when read note do end",
+            Answered::Denied(Clause::Star, NOTE),
+        ),
     ];
-    run_all(&rt, &mut core, &lines);
-    let answered = is_denied(&core, 0, Clause::Trusted, DAN, NOTE)
-        && is_made(&core, 1)
-        && is_made(&core, 2)
-        && is_denied(&core, 3, Clause::Star, BOB, NOTE);
-    assert!(rt; answered);
-    drop(core);
+    assert_entries_with(
+        &rt,
+        "subject dan greatest u current u admin\n",
+        ENTRIES,
+        &[],
+    );
 }
 
 /// 65,535 times `a`.
@@ -104,12 +103,16 @@ fn is_cut(core: &Core) -> bool {
     }
 }
 
+/// The line adds two bytes where there is room for one.
 #[test]
 fn addition_cut_at_the_limit(rt: HostRuntime) {
+    const ENTRIES: &[Entry] = &[Entry::Line(
+        ANN,
+        "when write memo do add memo \"xy\"; end",
+        Answered::Shows(&[]),
+    )];
     let mut core = core_over(&rt, full_setup(&rt));
-    let lines: [Said<'_>; 1] = [(ANN, b"when write memo do add memo \"xy\"; end")];
-    run_all(&rt, &mut core, &lines);
-    assert!(rt; is_done(&core, 0, &[]));
+    assert_entries_of(&rt, &mut core, ENTRIES, &[]);
     assert!(rt; is_cut(&core));
     drop(core);
 }

@@ -1,16 +1,15 @@
 //! A hall over the base setup, and what the tests ask of it.
-use super::base::{ANN, BOB, base, done_of, has_shown, right, work_of};
+use super::base::{ANN, BOB, base, done_of, right, work_of};
 use bl_core::machine::Started;
 use bl_core::session::SessionNo;
 use bl_eval::lent::Done;
 use bl_hall::hall::Hall;
-use bl_hall::reply::Reply;
 use bl_policy::id::SubjectId;
 use std::alloc::AllocGlobal;
 use std::process::Abort;
 
 /// A line that adds to memo.
-pub(super) const ADD: &[u8] = b"when write memo do add memo \"b\"; end";
+pub(super) const ADD: &str = "when write memo do add memo \"b\"; end";
 
 /// A hall over the base setup for lines up to a weight of 100, in which `ann` has session 0 and `bob` session 1.
 pub(super) fn base_hall<R: AllocGlobal + Abort>(rt: &R) -> Hall {
@@ -26,9 +25,9 @@ pub(super) fn admit<R: AllocGlobal + Abort>(
     hall: &mut Hall,
     session: u32,
     ordinal: u32,
-    text: &[u8],
+    text: &str,
 ) -> u32 {
-    let work = work_of(rt, hall.core().setup(), text);
+    let work = work_of(rt, hall.core().setup(), text.as_bytes());
     right(rt, hall.line(SessionNo::new(session), ordinal, work))
 }
 
@@ -55,9 +54,4 @@ pub(super) fn run_all<R: AllocGlobal + Abort>(rt: &R, hall: &mut Hall, most: u32
             run(rt, hall, n);
         }
     }
-}
-
-/// Whether a reply has this label and these texts.
-pub(super) fn shows(reply: &Reply, label: &[u32], texts: &[&[u8]]) -> bool {
-    reply.label.as_slice() == label && has_shown(&reply.answer, texts)
 }

@@ -2,6 +2,7 @@
 //! orders.
 //!
 //!     base         a core over the base setup, and what the tests ask of it
+//!     entries      entries, each with its answer, and what holds once they have ended
 //!     examples     what is allowed, denied and changed, entry after entry
 //!     carried      what a behaviour carries from its parents
 //!     presence     documents that come and go
@@ -22,6 +23,8 @@ mod answers;
 mod base;
 #[cfg(test)]
 mod carried;
+#[cfg(test)]
+mod entries;
 #[cfg(test)]
 mod examples;
 #[cfg(test)]

@@ -21,18 +21,18 @@ fn start_and_lose(rt: &impl Abort, core: &mut Core, n: u32)
 /// A writer of memo runs and is lost: memo is as it was, and the reader behind may start.
 #[test]
 fn lost_while_it_runs(rt: HostRuntime) {
-    let mut core = base_core(&rt);
-    let lines: [Said<'_>; 2] = [
-        (ANN, b"when write memo do add memo \"a\"; end"),
+    const LINES: &[Said<'_>] = &[
+        (ANN, "when write memo do add memo \"a\"; end"),
         (ANN, SHOW_MEMO),
     ];
-    admit_all(&rt, &mut core, &lines);
+    let mut core = base_core(&rt);
+    admit_all(&rt, &mut core, LINES);
     if let Some(n) = core.ready() {
         start_and_lose(&rt, &mut core, n);
     }
     assert!(rt; is_lost(&core, 0));
-    assert!(rt; has(&core, MEMO, b"m1"));
+    assert!(rt; has(&core, MEMO, "m1"));
     run(&rt, &mut core, 1);
-    assert!(rt; is_done(&core, 1, &[b"m1"]));
+    assert!(rt; is_done(&core, 1, &["m1"]));
     drop(core);
 }

@@ -12,8 +12,8 @@ use std::alloc::{AllocGlobal, Global};
 use std::process::Abort;
 
 /// Whether a line of `ann` is admitted: not where a growth of its reading is refused.
-fn admits(core: &mut Core, alloc: Global, ordinal: u32, text: &[u8]) -> bool {
-    match read_line(alloc, core.setup().names(), text) {
+fn admits(core: &mut Core, alloc: Global, ordinal: u32, text: &str) -> bool {
+    match read_line(alloc, core.setup().names(), text.as_bytes()) {
         Ok(Line::Work(work)) => core.line(SessionNo::new(0), ordinal, work).is_ok(),
         _ => false,
     }
@@ -28,7 +28,7 @@ fn idle(alloc: Global) -> Option<Core> {
 fn admitted(alloc: Global) -> Option<Core> {
     let mut core = idle(alloc)?;
     let _session = core.open(SubjectId::new(ANN));
-    let add = b"when write memo do add memo \"a\"; end";
+    let add = "when write memo do add memo \"a\"; end";
     if admits(&mut core, alloc, 1, add) && admits(&mut core, alloc, 2, SHOW_MEMO) {
         Some(core)
     } else {
@@ -64,7 +64,7 @@ fn finish_or_lose<R: AllocGlobal + Abort>(rt: &R, core: &mut Core, other: &mut C
 
 /// Whether nothing has begun.
 fn is_as_admitted(core: &Core) -> bool {
-    core.is_ready(0) && !core.is_ready(1) && core.answer(0).is_none() && has(core, MEMO, b"m1")
+    core.is_ready(0) && !core.is_ready(1) && core.answer(0).is_none() && has(core, MEMO, "m1")
 }
 
 /// Ends an entry as lost whose start was refused a growth, which changed nothing.
@@ -102,8 +102,8 @@ fn show<R: AllocGlobal + Abort>(rt: &R, core: &mut Core, other: &mut Core) {
 }
 
 /// What the memo has once the entry that adds has ended: what it had, where that one was lost.
-fn memo_after<'a>(core: &Core) -> &'a [u8] {
-    if is_lost(core, 0) { b"m1" } else { b"m1a" }
+fn memo_after<'a>(core: &Core) -> &'a str {
+    if is_lost(core, 0) { "m1" } else { "m1a" }
 }
 
 /// It passes with ample memory, and with any one of its growths refused, one in each run

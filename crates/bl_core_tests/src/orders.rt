@@ -16,50 +16,52 @@ use std::alloc::AllocGlobal;
 use std::process::Abort;
 
 /// A line, behind the number of its subject, and how many children it has.
-type Parent<'a> = (u16, &'a [u8], u32);
+type Parent<'a> = (u16, &'a str, u32);
 
-/// Two rules, readers and writers of memo and note, and three children: twelve entries. Who reads the memo or the note may be denied, by
-/// what the rules before it say; who has children is not.
-const LINES: [Parent<'static>; 9] = [
+/// Two rules, readers and writers of memo and note, and three children: twelve entries. Who reads the memo or the note
+/// may be denied, by what the rules before it say; who has children is not.
+static LINES: [Parent<'static>; 9] = [
     (
         ANN,
-        b"when write memo do add memo \"a\"; spawn when read memo do show memo; end; end",
+        "when write memo do add memo \"a\"; spawn when read memo do show memo; end; end",
         1,
     ),
     (
         ROOT,
-        b"when write note do add note \"b\"; spawn when read note do show note; end; spawn when write note do add note \"c\"; end; end",
+        "when write note do add note \"b\"; spawn when read note do show note; end; \
+spawn when write note do add note \"c\"; end; end",
         2,
     ),
     (
         ANN,
-        b"when read memo, read note do show memo; show note; end",
+        "when read memo, read note do show memo; show note; end",
         0,
     ),
-    (ROOT, b"classify note c", 0),
-    (BOB, b"when read note do show note; end", 0),
+    (ROOT, "classify note c", 0),
+    (BOB, "when read note do show note; end", 0),
     (
         ANN,
-        b"when write memo do if memo has \"a\" then pour memo to memo; else set memo \"z\"; end; show memo; end",
+        "when write memo do if memo has \"a\" then pour memo to memo; else set memo \"z\"; end; show memo; end",
         0,
     ),
     (
         ANN,
-        b"when read note, write memo do pour note to memo; end",
+        "when read note, write memo do pour note to memo; end",
         0,
     ),
-    (ROOT, b"rescind ann memo r", 0),
-    (ANN, b"when read memo do show memo; end", 0),
+    (ROOT, "rescind ann memo r", 0),
+    (ANN, "when read memo do show memo; end", 0),
 ];
 
 /// How many entries come of the lines.
 const ENTRIES: u32 = 12;
 
-/// The lines in the order in which they are admitted, how many are admitted before each turn, and how many entries run together in a turn.
+/// The lines in the order in which they are admitted, how many are admitted before each turn, and how many entries run
+/// together in a turn.
 type Order = ([usize; 9], usize, usize);
 
 /// Each of these is gone through twice: with the oldest and with the newest of the entries that may start.
-const ORDERS: [Order; 10] = [
+static ORDERS: [Order; 10] = [
     ([0, 1, 2, 3, 4, 5, 6, 7, 8], 9, 1),
     ([8, 7, 6, 5, 4, 3, 2, 1, 0], 9, 12),
     ([6, 0, 3, 1, 2, 8, 5, 4, 7], 3, 2),
@@ -72,7 +74,8 @@ const ORDERS: [Order; 10] = [
     ([4, 3, 2, 1, 7, 6, 5, 0, 8], 3, 12),
 ];
 
-/// Where an entry comes from: a line of the list by its number, or the parent of a child and its number among the children.
+/// Where an entry comes from: a line of the list by its number, or the parent of a child and its number among the
+/// children.
 #[derive(Clone, Copy)]
 enum Source {
     Line(usize),
@@ -106,7 +109,8 @@ fn next_ready(core: &Core, newest: bool) -> Option<u32> {
     }
 }
 
-/// Starts so many entries one after another, as far as there are some that may start, and gives what is done of those that run.
+/// Starts so many entries one after another, as far as there are some that may start, and gives what is done of those
+/// that run.
 fn start_some<R: AllocGlobal + Abort>(
     rt: &R,
     core: &mut Core,
@@ -183,7 +187,7 @@ fn entry_of<R: AllocGlobal + Abort>(rt: &R, setup: &Setup, line: usize) -> Entry
         None => panic!(rt; "no such line"),
         Some((subject, text, _)) => {
             assert!(rt; (*subject as usize) < setup.policy().subjects());
-            match right(rt, read_line(rt.alloc(), setup.names(), text)) {
+            match right(rt, read_line(rt.alloc(), setup.names(), text.as_bytes())) {
                 Line::Hello(_) | Line::Wait => panic!(rt; "no work"),
                 Line::Work(work) => Entry::Line {
                     subject: SubjectId::new(*subject),

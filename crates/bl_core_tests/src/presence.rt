@@ -1,217 +1,162 @@
 //! Documents that come and go.
-use super::base::{
-    ADD_AND_SPAWN, ANN, BOB, MEMO, ROOT, SHOW_MEMO, Said, base_core, core_over, has, has_modes,
-    is_denied, is_done, is_made, run_all, run_entries, setup_with,
-};
-use bitflags::Flags;
-use bl_core::machine::Core;
-use bl_policy::access::ModeSet;
+use super::base::{ADD_AND_SPAWN, ANN, BOB, MEMO, ROOT, SHOW_MEMO};
+use super::entries::{Answered, Entry, Fact, assert_entries, assert_entries_with};
 use bl_policy::denial::Clause;
-use bl_policy::id::DocId;
-use std::alloc::AllocGlobal;
-use std::process::Abort;
 
 /// The documents that the setup reserves behind those of the base setup, in order.
 const DRAFT: u16 = 3;
 
 const TOP: u16 = 4;
 
-/// A core over the base setup with two reserved documents, the first of which bob may read and write.
-fn reserved_core<R: AllocGlobal + Abort>(rt: &R) -> Core {
-    let more = b"reserve draft u\nreserve top t\nallow bob draft r w\n";
-    core_over(rt, setup_with(rt, b"memo", b"m1", more))
-}
+/// Two reserved documents, the first of which bob may read and write.
+const RESERVED: &str = "reserve draft u\nreserve top t\nallow bob draft r w\n";
 
-/// Whether a document is present now.
-fn is_there(core: &Core, doc: u16) -> bool {
-    let policy = core.policy();
-    (doc as usize) < policy.documents() && policy.is_present(DocId::new(doc))
-}
+const SHOW_DRAFT: &str = "when read draft do show draft; end";
+
+const ADD_A: &str = "when write memo do add memo \"a\"; end";
 
 #[test]
 fn create_use_delete(rt: HostRuntime) {
-    let mut core = reserved_core(&rt);
-    let lines: [Said<'_>; 11] = [
-        (ROOT, b"create draft"),
-        (ROOT, b"create draft"),
-        (ROOT, b"give root draft w"),
-        (
+    const ENTRIES: &[Entry] = &[
+        Entry::Line(ROOT, "create draft", Answered::Rules),
+        Entry::Line(
             ROOT,
-            b"when write draft do set draft \"d\"; show draft; end",
+            "create draft",
+            Answered::Denied(Clause::Present, DRAFT),
         ),
-        (ROOT, b"delete draft"),
-        (ROOT, b"when read draft do show draft; end"),
-        (ROOT, b"create draft"),
-        (ROOT, b"when write draft do end"),
-        (ROOT, b"give root draft r"),
-        (ROOT, b"when read draft do show draft; end"),
-        (ROOT, b"delete top"),
+        Entry::Line(ROOT, "give root draft w", Answered::Rules),
+        Entry::Line(
+            ROOT,
+            "when write draft do set draft \"d\"; show draft; end",
+            Answered::Shows(&["d"]),
+        ),
+        Entry::Line(ROOT, "delete draft", Answered::Rules),
+        Entry::Line(ROOT, SHOW_DRAFT, Answered::Denied(Clause::Absent, DRAFT)),
+        Entry::Line(ROOT, "create draft", Answered::Rules),
+        Entry::Line(
+            ROOT,
+            "when write draft do end",
+            Answered::Denied(Clause::Discretionary, DRAFT),
+        ),
+        Entry::Line(ROOT, "give root draft r", Answered::Rules),
+        Entry::Line(ROOT, SHOW_DRAFT, Answered::Shows(&[""])),
+        Entry::Line(ROOT, "delete top", Answered::Denied(Clause::Absent, TOP)),
     ];
-    run_all(&rt, &mut core, &lines);
-    let used = is_made(&core, 0)
-        && is_denied(&core, 1, Clause::Present, ROOT, DRAFT)
-        && is_made(&core, 2)
-        && is_done(&core, 3, &[b"d"])
-        && is_made(&core, 4);
-    assert!(rt; used);
-    let used_again = is_denied(&core, 5, Clause::Absent, ROOT, DRAFT)
-        && is_made(&core, 6)
-        && is_denied(&core, 7, Clause::Discretionary, ROOT, DRAFT)
-        && is_made(&core, 8)
-        && is_done(&core, 9, &[b""]);
-    assert!(rt; used_again);
-    assert!(rt; is_denied(&core, 10, Clause::Absent, ROOT, TOP));
-    assert!(rt; is_there(&core, DRAFT));
-    assert!(rt; !is_there(&core, TOP));
-    drop(core);
+    const FACTS: &[Fact] = &[Fact::Present(DRAFT, true), Fact::Present(TOP, false)];
+    assert_entries_with(&rt, RESERVED, ENTRIES, FACTS);
 }
 
 #[test]
 fn absent_named_first(rt: HostRuntime) {
-    let mut core = reserved_core(&rt);
-    let lines: [Said<'_>; 2] = [(ANN, b"when read top do end"), (ANN, b"delete memo")];
-    run_all(&rt, &mut core, &lines);
-    assert!(rt; is_denied(&core, 0, Clause::Absent, ANN, TOP));
-    assert!(rt; is_denied(&core, 1, Clause::Admin, ANN, MEMO));
-    assert!(rt; has(&core, MEMO, b"m1"));
-    drop(core);
+    const ENTRIES: &[Entry] = &[
+        Entry::Line(
+            ANN,
+            "when read top do end",
+            Answered::Denied(Clause::Absent, TOP),
+        ),
+        Entry::Line(ANN, "delete memo", Answered::Denied(Clause::Admin, MEMO)),
+    ];
+    const FACTS: &[Fact] = &[Fact::Content(MEMO, "m1")];
+    assert_entries_with(&rt, RESERVED, ENTRIES, FACTS);
 }
-
-const ADD_A: &[u8] = b"when write memo do add memo \"a\"; end";
 
 #[test]
 fn delete_empties_content(rt: HostRuntime) {
-    let mut core = base_core(&rt);
-    let lines: [Said<'_>; 5] = [
-        (ANN, ADD_A),
-        (ROOT, b"delete memo"),
-        (ROOT, b"create memo"),
-        (ROOT, b"give ann memo r"),
-        (ANN, SHOW_MEMO),
+    const ENTRIES: &[Entry] = &[
+        Entry::Line(ANN, ADD_A, Answered::Shows(&[])),
+        Entry::Line(ROOT, "delete memo", Answered::Rules),
+        Entry::Line(ROOT, "create memo", Answered::Rules),
+        Entry::Line(ROOT, "give ann memo r", Answered::Rules),
+        Entry::Line(ANN, SHOW_MEMO, Answered::Shows(&[""])),
     ];
-    run_all(&rt, &mut core, &lines);
-    let answered = is_done(&core, 0, &[])
-        && is_made(&core, 1)
-        && is_made(&core, 2)
-        && is_made(&core, 3)
-        && is_done(&core, 4, &[b""]);
-    assert!(rt; answered);
-    assert!(rt; has(&core, MEMO, b""));
-    drop(core);
+    const FACTS: &[Fact] = &[Fact::Content(MEMO, "")];
+    assert_entries(&rt, ENTRIES, FACTS);
 }
 
 /// Nobody may do anything with the new document before it is given, who could with the old one.
 #[test]
 fn delete_empties_cells(rt: HostRuntime) {
-    let mut core = base_core(&rt);
-    let lines: [Said<'_>; 3] = [
-        (ROOT, b"delete memo"),
-        (ROOT, b"create memo"),
-        (ANN, SHOW_MEMO),
+    const ENTRIES: &[Entry] = &[
+        Entry::Line(ROOT, "delete memo", Answered::Rules),
+        Entry::Line(ROOT, "create memo", Answered::Rules),
+        Entry::Line(
+            ANN,
+            SHOW_MEMO,
+            Answered::Denied(Clause::Discretionary, MEMO),
+        ),
     ];
-    run_all(&rt, &mut core, &lines);
-    let answered = is_made(&core, 0)
-        && is_made(&core, 1)
-        && is_denied(&core, 2, Clause::Discretionary, ANN, MEMO);
-    assert!(rt; answered);
-    assert!(rt; has_modes(&core, ANN, MEMO, ModeSet::empty()));
-    assert!(rt; has_modes(&core, BOB, MEMO, ModeSet::empty()));
-    drop(core);
+    const FACTS: &[Fact] = &[Fact::Modes(ANN, MEMO, &[]), Fact::Modes(BOB, MEMO, &[])];
+    assert_entries(&rt, ENTRIES, FACTS);
 }
 
 /// What is added to the new document stands at its begin.
 #[test]
 fn new_document_is_written(rt: HostRuntime) {
-    let mut core = base_core(&rt);
-    let lines: [Said<'_>; 4] = [
-        (ROOT, b"delete memo"),
-        (ROOT, b"create memo"),
-        (ROOT, b"give ann memo w"),
-        (ANN, ADD_A),
+    const ENTRIES: &[Entry] = &[
+        Entry::Line(ROOT, "delete memo", Answered::Rules),
+        Entry::Line(ROOT, "create memo", Answered::Rules),
+        Entry::Line(ROOT, "give ann memo w", Answered::Rules),
+        Entry::Line(ANN, ADD_A, Answered::Shows(&[])),
     ];
-    run_all(&rt, &mut core, &lines);
-    assert!(rt; is_done(&core, 3, &[]));
-    assert!(rt; has(&core, MEMO, b"a"));
-    drop(core);
+    const FACTS: &[Fact] = &[Fact::Content(MEMO, "a")];
+    assert_entries(&rt, ENTRIES, FACTS);
 }
+
+const ADD_TO_DRAFT: &str = "when write draft do add draft \"b\"; show draft; end";
 
 /// Rights and levels are given to a document that is not there, and are its own once it is.
 #[test]
 fn rights_wait_for_their_document(rt: HostRuntime) {
-    let mut core = reserved_core(&rt);
-    let write = b"when write draft do add draft \"b\"; show draft; end";
-    let lines: [Said<'_>; 7] = [
-        (BOB, write),
-        (ROOT, b"give ann top a"),
-        (ROOT, b"classify top s{nato}"),
-        (ROOT, b"create draft"),
-        (ROOT, b"create top"),
-        (BOB, write),
-        (ANN, b"when append top do add top \"a\"; end"),
+    const ENTRIES: &[Entry] = &[
+        Entry::Line(BOB, ADD_TO_DRAFT, Answered::Denied(Clause::Absent, DRAFT)),
+        Entry::Line(ROOT, "give ann top a", Answered::Rules),
+        Entry::Line(ROOT, "classify top s{nato}", Answered::Rules),
+        Entry::Line(ROOT, "create draft", Answered::Rules),
+        Entry::Line(ROOT, "create top", Answered::Rules),
+        Entry::Line(BOB, ADD_TO_DRAFT, Answered::Shows(&["b"])),
+        Entry::Line(
+            ANN,
+            "when append top do add top \"a\"; end",
+            Answered::Shows(&[]),
+        ),
     ];
-    run_all(&rt, &mut core, &lines);
-    let made = is_denied(&core, 0, Clause::Absent, BOB, DRAFT)
-        && is_made(&core, 1)
-        && is_made(&core, 2)
-        && is_made(&core, 3)
-        && is_made(&core, 4);
-    assert!(rt; made);
-    assert!(rt; is_done(&core, 5, &[b"b"]));
-    assert!(rt; is_done(&core, 6, &[]));
-    assert!(rt; has(&core, TOP, b"a"));
-    drop(core);
+    const FACTS: &[Fact] = &[Fact::Content(TOP, "a")];
+    assert_entries_with(&rt, RESERVED, ENTRIES, FACTS);
 }
 
 /// Who is no administrator is told so, whether or not the document is there.
 #[test]
 fn administrators_alone_create_and_delete(rt: HostRuntime) {
-    let mut core = reserved_core(&rt);
-    let lines: [Said<'_>; 4] = [
-        (BOB, b"delete top"),
-        (BOB, b"create top"),
-        (BOB, b"create memo"),
-        (BOB, b"delete memo"),
+    const ENTRIES: &[Entry] = &[
+        Entry::Line(BOB, "delete top", Answered::Denied(Clause::Admin, TOP)),
+        Entry::Line(BOB, "create top", Answered::Denied(Clause::Admin, TOP)),
+        Entry::Line(BOB, "create memo", Answered::Denied(Clause::Admin, MEMO)),
+        Entry::Line(BOB, "delete memo", Answered::Denied(Clause::Admin, MEMO)),
     ];
-    run_all(&rt, &mut core, &lines);
-    let answered = is_denied(&core, 0, Clause::Admin, BOB, TOP)
-        && is_denied(&core, 1, Clause::Admin, BOB, TOP)
-        && is_denied(&core, 2, Clause::Admin, BOB, MEMO)
-        && is_denied(&core, 3, Clause::Admin, BOB, MEMO);
-    assert!(rt; answered);
-    assert!(rt; !is_there(&core, TOP));
-    assert!(rt; is_there(&core, MEMO));
-    drop(core);
+    const FACTS: &[Fact] = &[Fact::Present(TOP, false), Fact::Present(MEMO, true)];
+    assert_entries_with(&rt, RESERVED, ENTRIES, FACTS);
 }
 
 /// A child enters behind a delete that was admitted while its parent had not ended.
 #[test]
 fn child_finds_its_document_absent(rt: HostRuntime) {
-    let mut core = base_core(&rt);
-    let lines: [Said<'_>; 2] = [(ANN, ADD_AND_SPAWN), (ROOT, b"delete memo")];
-    run_entries(&rt, &mut core, &lines, 3);
-    let answered = is_done(&core, 0, &[])
-        && is_made(&core, 1)
-        && is_denied(&core, 2, Clause::Absent, ANN, MEMO);
-    assert!(rt; answered);
-    drop(core);
+    const ENTRIES: &[Entry] = &[
+        Entry::Line(ANN, ADD_AND_SPAWN, Answered::Shows(&[])),
+        Entry::Line(ROOT, "delete memo", Answered::Rules),
+        Entry::Child(ANN, Answered::Denied(Clause::Absent, MEMO)),
+    ];
+    assert_entries(&rt, ENTRIES, &[]);
 }
 
 /// The same, where the document is created again before the child, and given to who spawned it.
 #[test]
 fn child_finds_a_new_document(rt: HostRuntime) {
-    let mut core = base_core(&rt);
-    let lines: [Said<'_>; 4] = [
-        (ANN, ADD_AND_SPAWN),
-        (ROOT, b"delete memo"),
-        (ROOT, b"create memo"),
-        (ROOT, b"give ann memo r"),
+    const ENTRIES: &[Entry] = &[
+        Entry::Line(ANN, ADD_AND_SPAWN, Answered::Shows(&[])),
+        Entry::Line(ROOT, "delete memo", Answered::Rules),
+        Entry::Line(ROOT, "create memo", Answered::Rules),
+        Entry::Line(ROOT, "give ann memo r", Answered::Rules),
+        Entry::Child(ANN, Answered::Shows(&[""])),
     ];
-    run_entries(&rt, &mut core, &lines, 5);
-    let answered = is_done(&core, 0, &[])
-        && is_made(&core, 1)
-        && is_made(&core, 2)
-        && is_made(&core, 3)
-        && is_done(&core, 4, &[b""]);
-    assert!(rt; answered);
-    drop(core);
+    assert_entries(&rt, ENTRIES, &[]);
 }

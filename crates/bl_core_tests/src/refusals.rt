@@ -52,7 +52,7 @@ fn foreign_finish(rt: HostRuntime) {
     let mut core = base_core(&rt);
     let mut other = base_core(&rt);
     finish_in_turn(&rt, &mut core, &mut other);
-    assert!(rt; is_done(&core, 0, &[b"m1"]));
+    assert!(rt; is_done(&core, 0, &["m1"]));
     assert!(rt; is_not_ready(&rt, &mut core, 0));
     drop(core);
     drop(other);

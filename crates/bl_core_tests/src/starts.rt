@@ -6,14 +6,16 @@ use super::base::{
 use bl_core::machine::Core;
 use bl_policy::access::Mode;
 use bl_policy::id::SubjectId;
+use std::alloc::AllocGlobal;
+use std::process::Abort;
 
 /// Memo is read, written and read again; note is read; then comes a rule.
-const READERS_AND_A_WRITER: [Said<'static>; 5] = [
+const READERS_AND_A_WRITER: &[Said<'_>] = &[
     (ANN, SHOW_MEMO),
-    (ANN, b"when write memo do end"),
+    (ANN, "when write memo do end"),
     (ANN, SHOW_MEMO),
-    (ANN, b"when read note do show note; end"),
-    (ROOT, b"current u"),
+    (ANN, "when read note do show note; end"),
+    (ROOT, "current u"),
 ];
 
 /// Whether just the entries of these numbers may start, of which one is named.
@@ -29,34 +31,49 @@ fn may_start(core: &Core, ready: &[u32]) -> bool {
     }
 }
 
+/// Runs these entries in turn.
+fn run_each<R: AllocGlobal + Abort>(rt: &R, core: &mut Core, entries: &[u32]) {
+    for n in entries {
+        run(rt, core, *n);
+    }
+}
+
+/// Runs entries, and asserts which may start then, turn after turn.
+fn assert_turns<R: AllocGlobal + Abort>(rt: &R, core: &mut Core, turns: &[(&[u32], &[u32])]) {
+    for (n, (entries, ready)) in turns.iter().enumerate() {
+        run_each(rt, core, entries);
+        assert!(rt; may_start(core, ready), "turn {n}");
+    }
+}
+
 #[test]
 fn who_may_start(rt: HostRuntime) {
+    // Entries that run, and those that may start then.
+    const TURNS: &[(&[u32], &[u32])] = &[
+        (&[], &[0, 3]),
+        (&[0], &[1, 3]),
+        (&[1, 3], &[2]),
+        (&[2], &[4]),
+    ];
     let mut core = base_core(&rt);
-    admit_all(&rt, &mut core, &READERS_AND_A_WRITER);
-    assert!(rt; may_start(&core, &[0, 3]));
-    run(&rt, &mut core, 0);
-    assert!(rt; may_start(&core, &[1, 3]));
-    run(&rt, &mut core, 1);
-    run(&rt, &mut core, 3);
-    assert!(rt; may_start(&core, &[2]));
-    run(&rt, &mut core, 2);
-    assert!(rt; may_start(&core, &[4]));
+    admit_all(&rt, &mut core, READERS_AND_A_WRITER);
+    assert_turns(&rt, &mut core, TURNS);
     drop(core);
 }
 
 /// Two readers of memo hold it together, and the second ends before the first.
 #[test]
 fn two_readers_hold_together(rt: HostRuntime) {
+    const LINES: &[Said<'_>] = &[(ANN, SHOW_MEMO), (ANN, SHOW_MEMO)];
     let mut core = base_core(&rt);
-    let lines: [Said<'_>; 2] = [(ANN, SHOW_MEMO), (ANN, SHOW_MEMO)];
-    admit_all(&rt, &mut core, &lines);
+    admit_all(&rt, &mut core, LINES);
     let first = lent_to(&rt, &mut core, 0);
     let second = lent_to(&rt, &mut core, 1);
-    assert!(rt; has(&core, MEMO, b"m1"));
+    assert!(rt; has(&core, MEMO, "m1"));
     finish(&rt, &mut core, done_of(&rt, second));
-    assert!(rt; is_done(&core, 1, &[b"m1"]));
+    assert!(rt; is_done(&core, 1, &["m1"]));
     finish(&rt, &mut core, done_of(&rt, first));
-    assert!(rt; is_done(&core, 0, &[b"m1"]));
+    assert!(rt; is_done(&core, 0, &["m1"]));
     drop(core);
 }
 

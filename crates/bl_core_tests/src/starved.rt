@@ -16,8 +16,8 @@ use std::alloc::{AllocGlobal, Global};
 use std::process::Abort;
 
 /// Whether a line of `ann` is admitted: not where a growth of its reading is refused.
-fn admits(hall: &mut Hall, alloc: Global, text: &[u8]) -> bool {
-    match read_line(alloc, hall.core().names(), text) {
+fn admits(hall: &mut Hall, alloc: Global, text: &str) -> bool {
+    match read_line(alloc, hall.core().names(), text.as_bytes()) {
         Ok(Line::Work(work)) => hall.line(SessionNo::new(0), 1, work).is_ok(),
         _ => false,
     }

@@ -47,7 +47,7 @@ fn is_not_ready(rt: &impl Abort, hall: &mut Hall, n: u32) -> bool {
 fn refusals_leave_the_trail(rt: HostRuntime) {
     let mut hall = base_hall(&rt);
     assert!(rt; hall.open(SubjectId::new(9)).is_err());
-    let work = work_of(&rt, hall.core().setup(), SHOW_MEMO);
+    let work = work_of(&rt, hall.core().setup(), SHOW_MEMO.as_bytes());
     assert!(rt; hall.line(SessionNo::new(2), 1, work).is_err());
     assert!(rt; is_not_ready(&rt, &mut hall, 0));
     assert!(rt; hall.trail().len() == 2 && hall.ready().is_none());
