@@ -433,6 +433,22 @@ fn is_present(policy: &Policy, doc: u16, present: bool) -> bool {
     }
 }
 
+/// Whether a policy has what a step says that it has.
+fn is_found(policy: &Policy, step: &Step) -> bool {
+    match *step {
+        Step::Cell(subject, doc, modes) => cell(policy, subject, doc) == Some(set_of(modes)),
+        Step::Has(position, subject) => has(policy, position, &subject),
+        Step::Current(subject, label) => is_current(policy, subject, label),
+        Step::Level(doc, label) => is_level(policy, doc, label),
+        Step::Present(doc, present) => is_present(policy, doc, present),
+        Step::EverySecondPresent(count) => is_every_second_there(policy, count),
+        Step::Counts(subjects, documents) => {
+            (policy.subjects(), policy.documents()) == (subjects, documents)
+        }
+        _ => false,
+    }
+}
+
 /// Whether a step goes as it has to.
 fn stands(policy: &mut Policy, step: &Step) -> bool {
     match *step {
@@ -472,15 +488,7 @@ fn stands(policy: &mut Policy, step: &Step) -> bool {
                 named_by(asks),
             )
         }
-        Step::Cell(subject, doc, modes) => cell(policy, subject, doc) == Some(set_of(modes)),
-        Step::Has(position, subject) => has(policy, position, &subject),
-        Step::Current(subject, label) => is_current(policy, subject, label),
-        Step::Level(doc, label) => is_level(policy, doc, label),
-        Step::Present(doc, present) => is_present(policy, doc, present),
-        Step::EverySecondPresent(count) => is_every_second_there(policy, count),
-        Step::Counts(subjects, documents) => {
-            (policy.subjects(), policy.documents()) == (subjects, documents)
-        }
+        _ => is_found(policy, step),
     }
 }
 
