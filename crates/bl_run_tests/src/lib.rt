@@ -1,4 +1,4 @@
-//! The tests of `bl_run`, `bl_keep`, `bl_host` and `bl_serving`: sessions over TCP, and trail files.
+//! The tests of `bl_run`, `bl_keep` and `bl_host`: sessions over TCP, and trail files.
 //!
 //!     base        a run of `serve` with clients beside it
 //!     overlaps    two sessions that run side by side
@@ -6,20 +6,14 @@
 //!     trails      trail files
 //!     failing     a file system whose files fail
 //!     unkept      a server that can keep no more
-//!     held        a file whose next sync is held until a session has gone on
-//!     desks       sessions of one thread, of which one waits for the journal
 #![tactic(auto)]
 
 #[cfg(test)]
 mod base;
 #[cfg(test)]
-mod desks;
-#[cfg(test)]
 mod ends;
 #[cfg(test)]
 mod failing;
-#[cfg(test)]
-mod held;
 #[cfg(test)]
 mod overlaps;
 #[cfg(test)]
