@@ -8,13 +8,18 @@
 //!                                                      the seconds a number that is the same where all clients heard the same
 //!
 //! Clients wait for each other once they are connected, and then the seconds until the last has ended its rounds are told.
+//! Of those that serve, each has a thread of its own where they are 16 at most; else 16 threads have as many each, and wait for all of them at once.
 use std::env::args;
 use std::hash::{DefaultHasher, Hasher};
 use std::io::{BufRead, BufReader, Read, Result, Write};
 use std::net::{TcpListener, TcpStream};
+use std::os::fd::AsRawFd;
 use std::sync::{Arc, Barrier};
 use std::thread;
 use std::time::Instant;
+
+/// How many threads the clients have at most.
+const THREADS: usize = 16;
 
 const LINE: &str = "when read note do show note; end\n";
 
@@ -90,6 +95,141 @@ fn visit(port: usize, rounds: usize, lines: usize, serves: bool, all: &Barrier) 
     Ok(took)
 }
 
+/// The system's calls by which a thread waits for many sockets.
+mod ready {
+    use std::io::{Error, Result};
+
+    #[repr(C, packed)]
+    #[derive(Clone, Copy)]
+    struct Event {
+        events: u32,
+        data: u64,
+    }
+
+    extern "C" {
+        fn epoll_create1(flags: i32) -> i32;
+        fn epoll_ctl(epoll: i32, operation: i32, socket: i32, event: *mut Event) -> i32;
+        fn epoll_wait(epoll: i32, events: *mut Event, most: i32, timeout: i32) -> i32;
+    }
+
+    const ADD: i32 = 1;
+    const READABLE: u32 = 1;
+    const MOST: usize = 64;
+
+    /// Sockets that are waited for.
+    pub struct Poll(i32);
+
+    impl Poll {
+        pub fn new() -> Result<Poll> {
+            // no memory is lent
+            match unsafe { epoll_create1(0) } {
+                -1 => Err(Error::last_os_error()),
+                epoll => Ok(Poll(epoll)),
+            }
+        }
+
+        /// Has a socket waited for, which is told by its number.
+        pub fn add(&self, socket: i32, number: usize) -> Result<()> {
+            let mut event = Event { events: READABLE, data: number as u64 };
+            // the call reads the event alone
+            match unsafe { epoll_ctl(self.0, ADD, socket, &mut event) } {
+                -1 => Err(Error::last_os_error()),
+                _ => Ok(()),
+            }
+        }
+
+        /// Waits until something can be read, and tells the numbers of those sockets.
+        pub fn wait(&self, found: &mut Vec<usize>) -> Result<()> {
+            let mut events = [Event { events: 0, data: 0 }; MOST];
+            // the call writes as many events at most
+            match unsafe { epoll_wait(self.0, events.as_mut_ptr(), MOST as i32, -1) } {
+                -1 => Err(Error::last_os_error()),
+                count => {
+                    found.clear();
+                    found.extend(events[..count as usize].iter().map(|event| event.data as usize));
+                    Ok(())
+                }
+            }
+        }
+    }
+}
+
+/// A client that shares its thread: its stream, what it has heard of its round, the rounds that it has still to send, and when it sent the last.
+struct Client {
+    stream: TcpStream,
+    heard: Vec<u8>,
+    left: usize,
+    begun: Instant,
+}
+
+impl Client {
+    /// Connected, and greeted.
+    fn new(port: usize, rounds: usize) -> Result<Client> {
+        let mut stream = TcpStream::connect(("127.0.0.1", port as u16))?;
+        stream.set_nodelay(true)?;
+        stream.write_all(b"hello ann\n")?;
+        hear(&mut BufReader::new(stream.try_clone()?), &mut String::new())?;
+        Ok(Client { stream, heard: Vec::new(), left: rounds, begun: Instant::now() })
+    }
+
+    /// Sends a round.
+    fn send(&mut self, block: &[u8]) -> Result<()> {
+        self.begun = Instant::now();
+        self.left -= 1;
+        self.stream.write_all(block)
+    }
+
+    /// Hears what has come, and says whether that is the end of its round: `ok`, after replies as they have to be.
+    fn is_answered(&mut self, room: &mut [u8]) -> Result<bool> {
+        let count = self.stream.read(room)?;
+        assert!(count > 0, "the server ended the session");
+        self.heard.extend_from_slice(&room[..count]);
+        if self.heard != b"ok\n" && !self.heard.ends_with(b"\nok\n") {
+            return Ok(false);
+        }
+        for line in self.heard.split(|byte| *byte == b'\n').filter(|line| !line.is_empty() && *line != b"ok") {
+            assert!(line.ends_with(b"done \"n1\""), "an unexpected reply: {}", String::from_utf8_lossy(line));
+        }
+        self.heard.clear();
+        Ok(true)
+    }
+}
+
+/// The seconds that each round of so many clients took.
+fn visit_as(port: usize, count: usize, rounds: usize, lines: usize, all: &Barrier) -> Result<Vec<f64>> {
+    let poll = ready::Poll::new()?;
+    let mut clients = (0..count).map(|_| Client::new(port, rounds)).collect::<Result<Vec<_>>>()?;
+    for (number, client) in clients.iter().enumerate() {
+        poll.add(client.stream.as_raw_fd(), number)?;
+    }
+    let block = LINE.repeat(lines) + "wait\n";
+    let (mut took, mut room, mut found) = (Vec::with_capacity(count * rounds), vec![0; 65_536], Vec::new());
+    all.wait();
+    for client in &mut clients {
+        client.send(block.as_bytes())?;
+    }
+    while took.len() < count * rounds {
+        poll.wait(&mut found)?;
+        for number in &found {
+            let client = &mut clients[*number];
+            if !client.is_answered(&mut room)? {
+                continue;
+            }
+            took.push(client.begun.elapsed().as_secs_f64());
+            if client.left > 0 {
+                client.send(block.as_bytes())?;
+            }
+        }
+    }
+    all.wait();
+    Ok(took)
+}
+
+/// How many of the clients this thread has, of so many threads.
+fn share(clients: usize, threads: usize, at: usize) -> usize {
+    clients / threads + usize::from(at < clients % threads)
+}
+
 /// Sends the rounds of one client, and hashes all that it is told.
 fn load(port: usize, rounds: usize, lines: usize, line: &str, all: &Barrier) -> Result<u64> {
     let mut stream = TcpStream::connect(("127.0.0.1", port as u16))?;
@@ -142,12 +282,16 @@ fn main() -> Result<()> {
         return load_all();
     }
     let (port, clients, rounds, lines) = (number(2), number(3), number(4), number(5));
-    let all = Arc::new(Barrier::new(clients + 1));
     let serves = mode == "serve";
-    let threads: Vec<_> = (0..clients)
-        .map(|_| {
+    let count = if serves { clients.min(THREADS) } else { clients };
+    let all = Arc::new(Barrier::new(count + 1));
+    let threads: Vec<_> = (0..count)
+        .map(|at| {
             let all = all.clone();
-            thread::spawn(move || visit(port, rounds, lines, serves, &all))
+            thread::spawn(move || match share(clients, count, at) {
+                1 => visit(port, rounds, lines, serves, &all),
+                several => visit_as(port, several, rounds, lines, &all),
+            })
         })
         .collect();
     all.wait();
