@@ -70,6 +70,9 @@ impl<D: Device> Closed<D> {
     }
 }
 
+/// How many bytes of lines have room at first: those of some lines of sessions, with what comes of them.
+const FIRST_ROOM: usize = 1_024;
+
 /// The head of a trail of version 2.
 fn head_text(alloc: Global, limit: u32) -> Result<Vec<u8>, AllocError>
     ensures { IfOk result (λ text. text.items ≡ joined (head_lines Two limit)) }
@@ -90,7 +93,7 @@ fn lines_after(alloc: Global, hall: &Hall, reached: Bookmark) -> Result<Lines, A
     // asked for the proof alone: the events of a hall are a trail
     let _core = hall.core();
     let mut bookmark = reached;
-    let mut text = Watched::new(Vec::new(alloc));
+    let mut text = Watched::new(Vec::with_capacity(alloc, FIRST_ROOM)?);
     match write_lines(alloc, hall, &mut bookmark, &mut text) {
         Ok(()) => Ok(Lines {
             text: text.into_inner(),
