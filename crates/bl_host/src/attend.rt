@@ -370,7 +370,7 @@ impl<'a, P: Pause, K: Keep, T: Wait + Clock> ThreadContext<'a, P, K, T> {
             looks: acceptor.looks(),
             called: true,
         };
-        let (round_context, mut quota) = (self.round_context(), self.asked_quota());
+        let (round_context, mut quota) = (self.round_context(thread), self.asked_quota());
         acceptor.come(self.rt, thread);
         for _ in self.rt.forever() {
             attendant.look(self, acceptor);

@@ -39,11 +39,12 @@ impl<'a, P: Pause, K: Keep, T: Wait> ThreadContext<'a, P, K, T> {
     }
 
     /// What a session thread does its rounds with.
-    pub(crate) fn round_context(&self) -> RoundContext<'a, P, T> {
+    pub(crate) fn round_context(&self, thread: usize) -> RoundContext<'a, P, T> {
         RoundContext {
             rt: self.rt,
             pause: self.pause,
             calls: self.calls(),
+            seen: self.keep.seen(thread),
         }
     }
 

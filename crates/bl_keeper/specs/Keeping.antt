@@ -1,5 +1,5 @@
 -- What a keeper's journal has, and what a receipt shows.
-use Rattle.std.specs.Prelude.{◌≡◌, Bool, false, None}
+use Rattle.std.specs.Prelude.{◌≡◌, ◌≤◌, Bool, ℕ, false, length, None}
 use Rattle.bl_audit.specs.Bookmarks.{HasGrown}
 use Rattle.bl_audit.specs.declared.bookmark.Bookmark.{Bookmark}
 use Rattle.bl_disk.specs.File.{File}
@@ -36,3 +36,8 @@ pub record WasKept {D : Type 0} (now : D → File) (hall : Chronicle) : Type 0 w
 abbrev pub ShowsKept : {D : Type 0} → (D → File) → Receipt → Type 0
 ShowsKept now (Kept seen) = WasKept now seen.value.value
 ShowsKept now Nothing = ⊥
+
+-- the receipt names a hall that a device has kept, with so many events at least
+abbrev pub ShowsEvents : {D : Type 0} → (D → File) → ℕ → Receipt → Type 0
+ShowsEvents now events (Kept seen) = WasKept now seen.value.value × (events ≤ length seen.value.value.trail)
+ShowsEvents now events Nothing = ⊥

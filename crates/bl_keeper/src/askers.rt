@@ -1,8 +1,8 @@
 //! Who has asked to have all kept, and who is served.
 ghost use Rattle.std.specs.Prelude.{◌≡◌, Err, IfErr, IfOk, IfSome, IsOk};
-ghost use Rattle.bl_keeper.specs.Keeping.{ShowsKept};
+ghost use Rattle.bl_keeper.specs.Keeping.{ShowsEvents, ShowsKept};
 
-use crate::board::{Board, Errand};
+use crate::board::{Asker, Board, Errand};
 use crate::receipt::Receipt;
 use crate::served::Served;
 use bl_disk::device::Device;
@@ -49,31 +49,42 @@ impl<D: Device> Askers<D> {
         self.asked.load(Ordering::SeqCst)
     }
 
-    /// A receipt that serves who has asked with this number, once there is one. None comes where that one is to have
-    /// the journal keep up, and to tell what comes of it: till then nobody else does.
-    pub(crate) fn wait_for<R: Wait>(&self, rt: &R, number: u64) -> Option<Receipt>
+    /// A receipt for the first so many events of the trail, if those were kept last; none where they may not have been.
+    pub(crate) fn receipt_of<R: Wait>(&self, rt: &R, events: u64) -> Option<Receipt>
+        ensures { IfSome result (ShowsEvents D.now events) }
+    {
+        self.board.lock(rt).receipt_of(events)
+    }
+
+    /// Asks for who tells of so many events at most, and answers a receipt that serves it, once there is one. None comes
+    /// where that one is to have the journal keep up, and to tell what comes of it: till then nobody else does.
+    pub(crate) fn wait_for<R: Wait>(&self, rt: &R, events: u64) -> Option<Receipt>
         ensures { IfSome result (ShowsKept D.now) }
     {
-        let mut board = self.come_up(rt, number);
-        let receipt = board.receipt_for(number);
+        let asker = Asker {
+            number: self.ask(),
+            events,
+        };
+        let mut board = self.come_up(rt, asker);
+        let receipt = board.receipt(asker);
         if receipt.is_none() {
             board.begin();
         }
         receipt
     }
 
-    /// The board, once who has asked with this number has to wait no more.
-    fn come_up<R: Wait>(&self, rt: &R, number: u64) -> MutexGuard<'_, Board<D>> {
+    /// The board, once who asks has to wait no more.
+    fn come_up<R: Wait>(&self, rt: &R, asker: Asker) -> MutexGuard<'_, Board<D>> {
         let seen = self.changed.notifications();
         let board = self.board.lock(rt);
-        if !board.has_to_wait(number) {
+        if !board.has_to_wait(asker) {
             return board;
         }
         drop(board);
         look_out(&self.changed, seen);
         let mut board = self.board.lock(rt);
         for _ in rt.forever() {
-            if !board.has_to_wait(number) {
+            if !board.has_to_wait(asker) {
                 return board;
             }
             board = self.changed.wait(rt, board);

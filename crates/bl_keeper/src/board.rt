@@ -1,11 +1,18 @@
 //! What came of having a journal keep up, for those who have asked.
 ghost use Rattle.std.specs.Prelude.{◌≡◌, Err, IfErr, IfOk, IfSome, IsOk};
-ghost use Rattle.bl_keeper.specs.Keeping.{ShowsKept};
+ghost use Rattle.bl_keeper.specs.Keeping.{ShowsEvents, ShowsKept};
 
 use crate::receipt::Receipt;
 use crate::served::Served;
 use bl_disk::device::Device;
 use bl_record::fault::JournalFault;
+
+/// Who asks: its number, and of how many events of the trail it tells at most.
+#[derive(Clone, Copy, Debug)]
+pub(crate) struct Asker {
+    pub(crate) number: u64,
+    pub(crate) events: u64,
+}
 
 /// For what all are refused that have asked with a smaller number and were not served.
 #[derive(Clone, Copy, Debug)]
@@ -59,10 +66,29 @@ impl<D: Device> Board<D> {
         }
     }
 
-    /// Whether who has asked with this number has to wait: somebody has the journal keep up, and what was kept last
-    /// does not serve that one.
-    pub(crate) fn has_to_wait(&self, number: u64) -> bool {
-        self.busy && self.receipt_for(number).is_none()
+    /// A receipt for the first so many events of the trail, of what was kept last; none where that has fewer.
+    pub(crate) fn receipt_of(&self, events: u64) -> Option<Receipt>
+        ensures { IfSome result (ShowsEvents D.now events) }
+    {
+        match &self.last {
+            Some(served) => served.receipt_of(events),
+            None => None,
+        }
+    }
+
+    /// A receipt for who asks, of what was kept last; none where that does not serve it.
+    pub(crate) fn receipt(&self, asker: Asker) -> Option<Receipt>
+        ensures { IfSome result (ShowsKept D.now) }
+    {
+        match self.receipt_of(asker.events) {
+            Some(receipt) => Some(receipt),
+            None => self.receipt_for(asker.number),
+        }
+    }
+
+    /// Whether who asks has to wait: somebody has the journal keep up, and what was kept last does not serve that one.
+    pub(crate) fn has_to_wait(&self, asker: Asker) -> bool {
+        self.busy && self.receipt(asker).is_none()
     }
 
     /// Somebody has the journal keep up now.

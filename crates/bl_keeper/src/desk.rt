@@ -1,7 +1,7 @@
 //! Where the connections of a thread wait for a journal.
 use std::alloc::{AllocError, Global};
 use std::collections::VecDeque;
-use std::sync::atomic::{AtomicBool, Ordering};
+use std::sync::atomic::{AtomicBool, AtomicU64, Ordering};
 use std::sync::{Mutex, Wait};
 
 /// A connection that waits, and the number with which it has asked.
@@ -11,12 +11,14 @@ struct Waiting {
     connection: u32,
 }
 
-/// The connections of one thread that wait for a journal, by the numbers with which they have asked, which rise; and
-/// whether the thread has no other connection, so that it may wait itself.
+/// The connections of one thread that wait for a journal, by the numbers with which they have asked, which rise;
+/// whether the thread has no other connection, so that it may wait itself; and how many events the trail had at its
+/// last turn at the gate: the most that there may be, as long as it has noted none.
 #[derive(Drop)]
 pub struct Desk {
     waiting: Mutex<VecDeque<Waiting>>,
     alone: AtomicBool,
+    seen: AtomicU64,
 }
 
 impl Desk {
@@ -25,6 +27,7 @@ impl Desk {
         Desk {
             waiting: Mutex::new(VecDeque::new(alloc)),
             alone: AtomicBool::new(false),
+            seen: AtomicU64::new(u64::MAX),
         }
     }
 
@@ -79,27 +82,40 @@ impl Desk {
     }
 }
 
-/// The desks of session threads, each by the number of its thread.
+/// The desks of session threads, each by the number of its thread, and whether connections wait there: else their
+/// threads do.
 #[derive(Drop)]
 pub struct Desks {
     desks: Vec<Desk>,
+    go_on: bool,
 }
 
 impl Desks {
-    /// Desks for so many threads, or for the first of them where memory was refused.
-    pub fn new(alloc: Global, threads: u32) -> Desks {
+    /// Desks for so many threads, or for the first of them where memory was refused. The threads go on while their
+    /// connections wait there, or wait themselves.
+    pub fn new(alloc: Global, threads: u32, go_on: bool) -> Desks {
         let mut desks = Vec::new(alloc);
         for _ in 0..threads {
             if desks.push(Desk::new(alloc)).is_err() {
                 break;
             }
         }
-        Desks { desks }
+        Desks { desks, go_on }
     }
 
-    /// The desk of a thread, if it has one.
+    /// The desk of a thread, if its connections wait at one.
     pub fn get(&self, thread: usize) -> Option<&Desk> {
-        self.desks.get(thread)
+        if self.go_on {
+            self.desks.get(thread)
+        } else {
+            None
+        }
+    }
+
+    /// Where a thread notes how many events the trail had at its last turn at the gate, if it has a desk.
+    pub fn seen(&self, thread: usize) -> Option<&AtomicU64> {
+        let desk = self.desks.get(thread)?;
+        Some(&desk.seen)
     }
 }
 

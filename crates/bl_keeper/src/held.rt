@@ -55,7 +55,8 @@ impl<G: Which, D: Device> Held<G, D> {
         }
     }
 
-    /// Has the journal keep up, as `catch_up` does. What is kept serves those that had asked before, so many.
+    /// Has the journal keep up, as `catch_up` does. What is kept serves those that had asked before, so many, and who
+    /// tells of no event after it.
     pub(crate) fn keep_up<R: Wait>(
         &mut self,
         rt: &R,
@@ -68,7 +69,8 @@ impl<G: Which, D: Device> Held<G, D> {
         ensures serves { IfOk result (λ served. served ≡ asked) }
     {
         let seen = catch_up(rt, alloc, gate, &mut self.pass, &mut self.journal)?;
-        Ok(Served::new(asked, seen))
+        let events = self.journal.bookmark.written as u64;
+        Ok(Served::new(asked, events, seen))
     }
 
     /// The journal and the part.

@@ -4,19 +4,33 @@ use crate::receipt::Receipt;
 use bl_record::fault::JournalFault;
 use std::alloc::Global;
 use std::sync::Wait;
+use std::sync::atomic::AtomicU64;
 
 /// Has the events of a run kept before anybody is told of them.
 pub trait Keep {
-    ghost use Rattle.std.specs.Prelude.{IfOk, IfSome};
+    ghost use Rattle.std.specs.Prelude.{ℕ, IfOk, IfSome};
     ghost use Rattle.bl_keeper.specs.declared.receipt.Receipt.{Receipt};
 
     /// What a receipt shows that was given here.
     ghost shows: { Receipt → Type 0 };
 
-    /// Has all kept that has happened, waits for that, and gives a receipt for it. `Memory` comes where a growth was
-    /// refused, and the next call goes on; `Device` where nothing more is kept.
-    fn keep_up<R: Wait>(&self, rt: &R, alloc: Global) -> Result<Receipt, JournalFault>
+    /// What one shows that was given for so many events.
+    ghost shows_events: { ℕ → Receipt → Type 0 };
+
+    /// Has all kept that has happened, waits for that, and gives a receipt for it; what was kept before serves who tells
+    /// of so many events at most as that has. `Memory` comes where a growth was refused, and the next call goes on;
+    /// `Device` where nothing more is kept.
+    fn keep_up<R: Wait>(&self, rt: &R, alloc: Global, events: u64) -> Result<Receipt, JournalFault>
         ensures { IfOk result shows };
+
+    /// A receipt for the first so many events of the trail, if those were kept; none where they may not have been.
+    fn receipt_of<R: Wait>(&self, rt: &R, events: u64) -> Option<Receipt>
+        ensures shows { IfSome result shows }
+        ensures events { IfSome result (shows_events events) };
+
+    /// Where a thread notes how many events the trail had at its last turn at the gate: its connections tell of no
+    /// others. None where nobody asks for that.
+    fn seen(&self, thread: usize) -> Option<&AtomicU64>;
 
     /// Where connections of a thread wait for that, so that the thread need not; none where to have all kept takes no
     /// time for which that is worth it.
@@ -56,10 +70,29 @@ impl Keep for NoKeep {
 
     ghost shows = { λ receipt. receipt ≡ Nothing };
 
-    fn keep_up<R: Wait>(&self, rt: &R, alloc: Global) -> Result<Receipt, JournalFault> {
+    ghost shows_events = { λ _ receipt. receipt ≡ Nothing };
+
+    fn keep_up<R: Wait>(
+        &self,
+        rt: &R,
+        alloc: Global,
+        events: u64,
+    ) -> Result<Receipt, JournalFault> {
         let _ = rt;
         let _ = alloc;
+        let _ = events;
         Ok(Receipt::Nothing)
+    }
+
+    fn receipt_of<R: Wait>(&self, rt: &R, events: u64) -> Option<Receipt> {
+        let _ = rt;
+        let _ = events;
+        Some(Receipt::Nothing)
+    }
+
+    fn seen(&self, thread: usize) -> Option<&AtomicU64> {
+        let _ = thread;
+        None
     }
 
     fn desk(&self, thread: usize) -> Option<&Desk> {
@@ -77,8 +110,7 @@ impl Keep for NoKeep {
         alloc: Global,
         number: u64,
     ) -> Option<Result<Receipt, JournalFault>> {
-        let _ = number;
-        Some(self.keep_up(rt, alloc))
+        Some(self.keep_up(rt, alloc, number))
     }
 
     fn decided<R: Wait>(&self, rt: &R) -> u64 {

@@ -14,6 +14,7 @@ use bl_record::fault::JournalFault;
 use bl_record::journal::Journal;
 use std::alloc::Global;
 use std::marker::Model;
+use std::sync::atomic::AtomicU64;
 use std::sync::{Mutex, Wait};
 
 /// The journal of a gate. Many threads have it keep up, one at a time: those that ask while another's lines are
@@ -98,16 +99,30 @@ impl<'a, G: Which, D: Device> Keeper<'a, G, D> {
 }
 
 impl<G: Which, D: Device> Keep for Keeper<'_, G, D> {
-    ghost use Rattle.bl_keeper.specs.Keeping.{ShowsKept};
+    ghost use Rattle.bl_keeper.specs.Keeping.{ShowsEvents, ShowsKept};
 
     ghost shows = { ShowsKept D.now };
 
-    fn keep_up<R: Wait>(&self, rt: &R, alloc: Global) -> Result<Receipt, JournalFault> {
-        let number = self.askers.ask();
-        match self.askers.wait_for(rt, number) {
+    ghost shows_events = { ShowsEvents D.now };
+
+    fn keep_up<R: Wait>(
+        &self,
+        rt: &R,
+        alloc: Global,
+        events: u64,
+    ) -> Result<Receipt, JournalFault> {
+        match self.askers.wait_for(rt, events) {
             Some(receipt) => Ok(receipt),
             None => self.keep_up_for_all(rt, alloc),
         }
+    }
+
+    fn receipt_of<R: Wait>(&self, rt: &R, events: u64) -> Option<Receipt> {
+        self.askers.receipt_of(rt, events)
+    }
+
+    fn seen(&self, thread: usize) -> Option<&AtomicU64> {
+        self.desks.seen(thread)
     }
 
     fn desk(&self, thread: usize) -> Option<&Desk> {

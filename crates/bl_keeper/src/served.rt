@@ -5,36 +5,42 @@ use bl_hall::hall::Hall;
 use std::marker::{Model, PhantomData};
 use std::snapshot::Snapshot;
 
-/// A hall that a device has kept, and whom that serves: all that have asked with a smaller number than its value.
+/// A hall that a device has kept, and whom that serves: all that have asked with a smaller number than its value, and
+/// all that tell of no more than its first so many events.
 #[derive(Drop)]
 pub(crate) struct Served<D: Device> {
     below: u64,
+    events: u64,
     seen: Snapshot<Hall>,
     of: PhantomData<D>,
 }
 
 impl<D: Device> Model for Served<D> {
-    ghost use Rattle.std.specs.Prelude.{ℕ};
+    ghost use Rattle.std.specs.Prelude.{◌≤◌, ℕ, length};
     ghost use Rattle.bl_keeper.specs.Keeping.{WasKept};
 
     ghost Value = { ℕ };
 
     ghost view = { λ served. served.below };
 
-    ghost invariant = { λ served. WasKept D.now served.seen.value };
+    ghost invariant = { λ served. WasKept D.now served.seen.value
+        × (served.events ≤ length served.seen.value.trail) };
 }
 
 impl<D: Device> Served<D> {
-    ghost use Rattle.std.specs.Prelude.{◌≡◌, ◌<◌, ◌↔◌, IfSome, IsSome};
-    ghost use Rattle.bl_keeper.specs.Keeping.{ShowsKept, WasKept};
+    ghost use Rattle.std.specs.Prelude.{◌≡◌, ◌<◌, ◌≤◌, ◌↔◌, IfSome, IsSome, length};
+    ghost use Rattle.bl_keeper.specs.Keeping.{ShowsEvents, ShowsKept, WasKept};
 
-    /// A hall that was kept, which serves all that have asked with a smaller number than this.
-    pub(crate) fn new(below: u64, seen: Snapshot<Hall>) -> Served<D>
-        requires { WasKept D.now seen.value }
+    /// A hall that was kept, with so many events: it serves all that have asked with a smaller number than this, and
+    /// all that tell of no more of its events.
+    pub(crate) fn new(below: u64, events: u64, seen: Snapshot<Hall>) -> Served<D>
+        requires kept { WasKept D.now seen.value }
+        requires events { events ≤ length seen.value.trail }
         ensures { result ≡ below }
     {
         Served {
             below,
+            events,
             seen,
             of: PhantomData,
         }
@@ -61,6 +67,17 @@ impl<D: Device> Served<D> {
     {
         if number < self.below {
             Some(self.receipt())
+        } else {
+            None
+        }
+    }
+
+    /// A receipt for the first so many events of the trail; none where it has fewer.
+    pub(crate) fn receipt_of(&self, events: u64) -> Option<Receipt>
+        ensures { IfSome result (ShowsEvents D.now events) }
+    {
+        if events <= self.events {
+            Some(Receipt::Kept(Snapshot::of(&self.seen)))
         } else {
             None
         }

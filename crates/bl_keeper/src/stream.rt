@@ -9,10 +9,12 @@ use bl_connection::stream::{Answer, Stream};
 use bl_record::fault::JournalFault;
 use std::alloc::Global;
 use std::sync::Wait;
+use std::sync::atomic::Ordering;
 
-/// A stream that has all kept before each write. Where that is refused, nothing is written, and the write has failed.
-/// Where its thread has a desk and other connections, it waits there: till it is decided each write would block. What
-/// is written then has to be what was to be written when it asked, or a front of that.
+/// A stream that has all kept before each write of which it may tell: the events that the trail had at the last turn of
+/// its thread at the gate. Where that is refused, nothing is written, and the write has failed. Where its thread has a
+/// desk and other connections, it waits there: till it is decided each write would block. What is written then has to
+/// be what was to be written when it asked, or a front of that.
 #[derive(Drop)]
 pub struct KeptStream<'a, S, K, T> {
     rt: &'a T,
@@ -78,17 +80,28 @@ impl<'a, S: Stream, K: Keep, T: Wait> KeptStream<'a, S, K, T> {
         outcome
     }
 
-    /// Asks to have all kept, and waits at a desk as long as it is not decided what came of it. Where memory is refused
-    /// for that the thread waits.
-    fn ask_at(&mut self, desk: &Desk) -> Option<Result<Receipt, JournalFault>>
+    /// Of how many events it may tell at most: of those that the trail had at the last turn of its thread.
+    fn events(&self) -> u64 {
+        match self.keep.seen(self.place.thread) {
+            Some(seen) => seen.load(Ordering::SeqCst),
+            None => u64::MAX,
+        }
+    }
+
+    /// Asks to have so many events kept, and waits at a desk as long as it is not decided what came of it. Where memory
+    /// is refused for that the thread waits.
+    fn ask_at(&mut self, desk: &Desk, events: u64) -> Option<Result<Receipt, JournalFault>>
         ensures shows { IfSome result (λ outcome. IfOk outcome K.shows) }
         ensures end { self.new.end ≡ self.old.end }
     {
+        if let Some(receipt) = self.keep.receipt_of(self.rt, events) {
+            return Some(Ok(receipt));
+        }
         let number = self.keep.ask();
         // who is to be told stands there before it is wanted, so no thread is left asleep
         match desk.add(self.rt, number, self.place.connection) {
             Ok(()) => self.look(number),
-            Err(_refused) => Some(self.keep.keep_up(self.rt, self.alloc)),
+            Err(_refused) => Some(self.keep.keep_up(self.rt, self.alloc, events)),
         }
     }
 
@@ -100,9 +113,10 @@ impl<'a, S: Stream, K: Keep, T: Wait> KeptStream<'a, S, K, T> {
         if let Some(number) = self.asked {
             return self.look(number);
         }
+        let events = self.events();
         match self.keep.desk(self.place.thread) {
-            Some(desk) if !desk.is_alone() => self.ask_at(desk),
-            Some(_) | None => Some(self.keep.keep_up(self.rt, self.alloc)),
+            Some(desk) if !desk.is_alone() => self.ask_at(desk, events),
+            Some(_) | None => Some(self.keep.keep_up(self.rt, self.alloc, events)),
         }
     }
 }

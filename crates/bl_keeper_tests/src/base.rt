@@ -112,7 +112,7 @@ pub(super) fn to_list<R: AllocGlobal>(rt: &R) -> Ends<&'static [u8], Vec<u8>> {
 
 /// No desk: each thread waits itself.
 pub(super) fn no_desks<R: AllocGlobal>(rt: &R) -> Desks {
-    Desks::new(rt.alloc(), 0)
+    Desks::new(rt.alloc(), 0, false)
 }
 
 /// The place of the first connection of the first thread.

@@ -19,6 +19,7 @@ use std::alloc::AllocGlobal;
 use std::marker::Brand;
 use std::process::Abort;
 use std::sync::Wait;
+use std::sync::atomic::Ordering;
 
 /// A stream to a list.
 type ToList<'a, K, R> = KeptStream<'a, Ends<&'static [u8], Vec<u8>>, K, R>;
@@ -48,8 +49,16 @@ fn first_desk<'a, K: Keep>(rt: &impl Abort, keep: &'a K) -> &'a Desk {
     }
 }
 
-/// Two connections write once each, and wait; then they are served at once, each writes, and the first once more, and
-/// waits again. Then nobody will wait any more.
+/// Notes that the trail had so many events at the last turn of the first thread.
+fn note_events<K: Keep>(rt: &impl Abort, keep: &K, events: u64) {
+    match keep.seen(0) {
+        Some(seen) => seen.store(events, Ordering::SeqCst),
+        None => panic!(rt; "nothing is noted"),
+    }
+}
+
+/// Two connections write once each, and wait; then they are served at once, and each writes. What tells of no later
+/// event is written at once, and what does waits again. Then nobody will wait any more.
 fn wait_both<K: Keep, R: AllocGlobal + Abort + Wait>(rt: &R, keep: &K) {
     let desk = first_desk(rt, keep);
     let mut one = stream_of(rt, keep, 0, 7);
@@ -68,11 +77,14 @@ fn wait_both<K: Keep, R: AllocGlobal + Abort + Wait>(rt: &R, keep: &K) {
     assert!(rt; desk.next(rt, decided).is_none());
     assert!(rt; one.write(b"one\n") == Answer::Moved(4));
     assert!(rt; two.write(b"two\n") == Answer::Moved(4));
+    note_events(rt, keep, 1);
+    assert!(rt; two.write(b"no more\n") == Answer::Moved(8));
+    note_events(rt, keep, 2);
     assert!(rt; one.write(b"more\n") == Answer::WouldBlock);
     keep.close(rt);
     assert!(rt; keep.serve(rt, rt.alloc()).is_none());
     assert!(rt; told(one).as_slice() == b"one\n".as_slice());
-    assert!(rt; told(two).as_slice() == b"two\n".as_slice());
+    assert!(rt; told(two).as_slice() == b"two\nno more\n".as_slice());
 }
 
 /// Two connections wait, and both are refused with this fault, and all that ask later.
@@ -137,7 +149,7 @@ fn try_with<G: Which, D: Device, R: AllocGlobal + Abort + Wait>(
     requires kept { HasKept (hall_seen pass) journal.bookmark (D.now journal.log.device) }
 {
     let part = gate.split_pass(&mut pass);
-    let keeper = Keeper::<G, D>::new(gate, part, journal, Desks::new(rt.alloc(), 2));
+    let keeper = Keeper::<G, D>::new(gate, part, journal, Desks::new(rt.alloc(), 2, true));
     open(rt, gate, &mut pass);
     match trial {
         Trial::Waits => wait_both(rt, &keeper),

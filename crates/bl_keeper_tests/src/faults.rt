@@ -125,7 +125,7 @@ fn keep_twice<G: Which, D: Device, R: AllocGlobal + Abort + Wait>(
     let keeper = Keeper::<G, D>::new(gate, part, journal, no_desks(rt));
     open(rt, gate, &mut pass);
     for _ in 0..2u32 {
-        match keeper.keep_up(rt, rt.alloc()) {
+        match keeper.keep_up(rt, rt.alloc(), u64::MAX) {
             Ok(receipt) => drop(receipt),
             Err(_fault) => panic!(rt; "not kept"),
         }
@@ -138,7 +138,7 @@ fn keep_twice<G: Which, D: Device, R: AllocGlobal + Abort + Wait>(
 /// Where nothing is kept before the end, all is written.
 #[test]
 fn all_is_written_where_nothing_is_to_be_kept(rt: HostRuntime) {
-    assert!(rt; matches!(NoKeep.keep_up(&rt, rt.alloc()), Ok(Receipt::Nothing)));
+    assert!(rt; matches!(NoKeep.keep_up(&rt, rt.alloc(), 0), Ok(Receipt::Nothing)));
     let mut stream = KeptStream::new(&rt, rt.alloc(), &NoKeep, FIRST, to_list(&rt));
     assert!(rt; stream.write(b"ok\n") == Answer::Moved(3));
     let (ends, refused) = stream.into_parts();

@@ -22,11 +22,30 @@ impl Keep for Counts {
 
     ghost shows = { λ receipt. receipt ≡ Nothing };
 
-    fn keep_up<R: Wait>(&self, rt: &R, alloc: Global) -> Result<Receipt, JournalFault> {
+    ghost shows_events = { λ _ receipt. receipt ≡ Nothing };
+
+    fn keep_up<R: Wait>(
+        &self,
+        rt: &R,
+        alloc: Global,
+        events: u64,
+    ) -> Result<Receipt, JournalFault> {
+        let _ = events;
         let _ = rt;
         let _ = alloc;
         self.kept.fetch_add(1, Ordering::SeqCst);
         Ok(Receipt::Nothing)
+    }
+
+    fn receipt_of<R: Wait>(&self, rt: &R, events: u64) -> Option<Receipt> {
+        let _ = rt;
+        let _ = events;
+        None
+    }
+
+    fn seen(&self, thread: usize) -> Option<&AtomicU64> {
+        let _ = thread;
+        None
     }
 
     fn desk(&self, thread: usize) -> Option<&Desk> {
@@ -44,8 +63,7 @@ impl Keep for Counts {
         alloc: Global,
         number: u64,
     ) -> Option<Result<Receipt, JournalFault>> {
-        let _ = number;
-        Some(self.keep_up(rt, alloc))
+        Some(self.keep_up(rt, alloc, number))
     }
 
     fn decided<R: Wait>(&self, rt: &R) -> u64 {

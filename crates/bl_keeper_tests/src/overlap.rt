@@ -36,7 +36,7 @@ fn open_and_keep<K: Keep, R: AllocGlobal + Abort + Wait>(
     for _ in 0..TIMES {
         let session = open(rt, gate, &mut pass);
         meeting.ask();
-        drop(right(rt, keep.keep_up(rt, rt.alloc())));
+        drop(right(rt, keep.keep_up(rt, rt.alloc(), u64::MAX)));
         meeting.answer();
         assert!(rt; meeting.has_kept(session));
     }

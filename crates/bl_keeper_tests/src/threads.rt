@@ -35,7 +35,7 @@ fn open_and_keep<K: Keep, R: AllocGlobal + Abort + Wait>(
 {
     for _ in 0..times {
         open(rt, gate, &mut pass);
-        drop(right(rt, keep.keep_up(rt, rt.alloc())));
+        drop(right(rt, keep.keep_up(rt, rt.alloc(), u64::MAX)));
     }
     pass
 }

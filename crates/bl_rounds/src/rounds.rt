@@ -30,6 +30,7 @@ use bl_worker::pause::Pause;
 use std::alloc::{AllocError, Global};
 use std::marker::Model;
 use std::sync::Wait;
+use std::sync::atomic::{AtomicU64, Ordering};
 
 /// How many steps a connection takes at most before the others have their turn.
 const MOST_STEPS: u32 = 64;
@@ -70,12 +71,15 @@ pub struct Calls<'a> {
     pub bell: &'a Bell,
 }
 
-/// What a round works with: the runtime, what its turns do between a start and an end, and what calls those who sleep.
+/// What a round works with: the runtime, what its turns do between a start and an end, what calls those who sleep, and
+/// where it notes how many events the trail had at its last turn at the gate, if somebody asks for that: its streams
+/// are written of no others.
 #[derive(Drop)]
 pub struct RoundContext<'a, P, R> {
     pub rt: &'a R,
     pub pause: &'a P,
     pub calls: Calls<'a>,
+    pub seen: Option<&'a AtomicU64>,
 }
 
 impl WorkerBell for Calls<'_> {
@@ -341,6 +345,13 @@ fn tell_of<R: Wait>(rt: &R, calls: Calls<'_>, round: Round, waits: bool, marks: 
     }
 }
 
+/// Notes how many events the trail had at a turn, if somebody asks for that.
+fn note_seen(seen: Option<&AtomicU64>, events: usize) {
+    if let Some(seen) = seen {
+        seen.store(events as u64, Ordering::SeqCst);
+    }
+}
+
 /// Calls workers, if entries are ready that nobody was called for.
 fn call_workers<R: Wait>(rt: &R, bell: &Bell, marks: &mut Marks)
     ensures { marks.new.time ≡ marks.old.time }
@@ -379,6 +390,7 @@ fn take_turn<S: Stream, P: Pause, R: Wait, Q: Asks>(
     let seen = context.calls.alarms.ends();
     let round = crowd.round(context.rt, quota, &mut hand.batch, portion, seen);
     tell_of(context.rt, context.calls, round, waits, &mut hand.marks);
+    note_seen(context.seen, hand.marks.events);
     go_on_each(crowd, seats, hand.marks.time);
     hand.batch.run(hand.alloc, context.pause);
 }

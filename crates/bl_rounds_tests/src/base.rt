@@ -140,6 +140,7 @@ fn go_round<'a, R: Wait, Q: Asks>(
         rt,
         pause: &NoPause,
         calls,
+        seen: None,
     };
     thread.round(&context, quota);
 }

@@ -78,16 +78,6 @@ struct Hosting<D: Device> {
     journal: Journal<D>,
 }
 
-/// The desks of session threads, if they go on while a line is being kept.
-fn desks_of(alloc: Global, run: &ServingRun) -> Desks {
-    let threads = if run.goes_on {
-        run.options.session_threads
-    } else {
-        0
-    };
-    Desks::new(alloc, threads)
-}
-
 /// Hosts the sessions of a gate whose trail is kept in this journal.
 fn host_kept<
     G: Which + Send,
@@ -116,7 +106,7 @@ where
 {
     let mut pass = pass;
     let part = gate.split_pass(&mut pass);
-    let desks = desks_of(run_context.alloc, run);
+    let desks = Desks::new(run_context.alloc, run.options.session_threads, run.goes_on);
     let keeper = Keeper::<G, D>::new(gate, part, journal, desks);
     let host_context = HostContext {
         rt: run_context.rt,
