@@ -1,13 +1,15 @@
 //! The doors of a folder: opened, taken away, and why they are not opened.
-use super::base::{clear, make_folders, open};
+use super::base::{clear, hold, is_there, make_file, make_folders, open, opened};
 use bl_doors::door::Door;
 use bl_doors::doors::Doors;
 use bl_doors::fault::DoorFault;
 use std::fs;
 use std::fs::Permissions;
+use std::net::Net;
 use std::os::unix::fs::{MetadataExt, PermissionsExt};
 use std::os::unix::net::{UnixListener, UnixStream};
-use std::test::Fail;
+use std::process::Abort;
+use std::rt::Files;
 
 /// Why the doors of a folder are not opened; none where they are, and then they are taken away again.
 fn fault_of(rt: &HostRuntime, folder: &str) -> Option<DoorFault> {
@@ -20,9 +22,22 @@ fn fault_of(rt: &HostRuntime, folder: &str) -> Option<DoorFault> {
     }
 }
 
-/// Whether something stands under this name.
-fn is_there(rt: &HostRuntime, path: &str) -> bool {
-    fs::symlink_metadata(rt, path).is_ok()
+/// Whether this is why the doors of a folder are not opened.
+fn is_refused(rt: &HostRuntime, folder: &str, wanted: DoorFault) -> bool {
+    fault_of(rt, folder) == Some(wanted)
+}
+
+/// Whether the doors of a folder are not opened since one of its folders is no subject's, and has this name.
+fn is_strange(rt: &HostRuntime, folder: &str, name: &str) -> bool {
+    match fault_of(rt, folder) {
+        Some(DoorFault::NoSuchDoor(found)) => found.as_str() == name,
+        _ => false,
+    }
+}
+
+/// The rights to a file, as in its mode.
+fn rights(rt: &HostRuntime, path: &str) -> u32 {
+    fs::metadata(rt, path).map_or(0, |found| found.mode()) % 512
 }
 
 /// Whether somebody waits at a door, who is let in.
@@ -53,75 +68,88 @@ fn are_apart(rt: &HostRuntime, doors: &Doors) -> bool {
 /// Each subject with a folder has a door, in the order of their names; everybody may write to its socket, and who does
 /// is let in at that door alone. Other files there are nothing to it, and at the end no socket is left.
 #[test]
-fn doors_are_opened_and_taken_away(rt: HostRuntime) -> Result<(), Fail> {
-    make_folders(&rt, "two.doors", &["bob", "ann"])?;
-    fs::write(&rt, "two.doors/notes", "nothing to it")?;
-    let Ok(doors) = open(&rt, "two.doors") else {
-        return Err(Fail::new("not opened"));
-    };
+fn doors_are_opened_and_taken_away(rt: HostRuntime) {
+    make_folders(&rt, "two.doors", &["bob", "ann"]);
+    make_file(&rt, "two.doors/notes", "nothing to it");
+    let doors = opened(&rt, "two.doors");
     let both = are_of_both(&doors);
     let apart = are_apart(&rt, &doors);
-    let mode = fs::metadata(&rt, "two.doors/bob/door").map_or(0, |found| found.mode());
+    let rights = rights(&rt, "two.doors/bob/door");
     doors.close(&rt);
-    assert!(rt; both);
-    assert!(rt; apart);
-    assert!(rt; mode % 512 == 0o666);
-    assert!(rt; !is_there(&rt, "two.doors/ann/door"));
-    assert!(rt; !is_there(&rt, "two.doors/bob/door"));
+    hold(
+        &rt,
+        &[
+            ("both doors", both),
+            ("apart", apart),
+            ("everybody may write", rights == 0o666),
+            ("ann's is taken away", !is_there(&rt, "two.doors/ann/door")),
+            ("bob's is taken away", !is_there(&rt, "two.doors/bob/door")),
+        ],
+    );
     clear(&rt, "two.doors");
-    Ok(())
 }
 
 /// A folder that is no subject's, no folder of a subject, and no folder at all: no door stays.
 #[test]
-fn folders_without_doors(rt: HostRuntime) -> Result<(), Fail> {
-    make_folders(&rt, "other.doors", &["ann", "carl"])?;
-    let carl = DoorFault::NoSuchDoor(String::from_str(rt.alloc(), "carl")?);
-    assert!(rt; fault_of(&rt, "other.doors") == Some(carl));
+fn folders_without_doors(rt: HostRuntime) {
+    make_folders(&rt, "other.doors", &["ann", "carl"]);
+    assert!(rt; is_strange(&rt, "other.doors", "carl"));
     assert!(rt; !is_there(&rt, "other.doors/ann/door"));
     clear(&rt, "other.doors");
-    make_folders(&rt, "no.doors", &[])?;
-    assert!(rt; fault_of(&rt, "no.doors") == Some(DoorFault::NoDoor));
+    make_folders(&rt, "no.doors", &[]);
+    assert!(rt; is_refused(&rt, "no.doors", DoorFault::NoDoor));
     clear(&rt, "no.doors");
-    assert!(rt; fault_of(&rt, "no.doors") == Some(DoorFault::CannotListen));
-    Ok(())
+    assert!(rt; is_refused(&rt, "no.doors", DoorFault::CannotListen));
+}
+
+/// Leaves a socket at which nobody listens.
+fn leave_socket<R: Abort + Files + Net>(rt: &R, path: &str) {
+    match UnixListener::bind(rt, path) {
+        Ok(listener) => drop(listener),
+        Err(_) => panic!(rt; "no socket"),
+    }
 }
 
 /// A socket at which nobody listens is replaced.
 #[test]
-fn a_socket_that_was_left_is_replaced(rt: HostRuntime) -> Result<(), Fail> {
-    make_folders(&rt, "left.doors", &["ann", "bob"])?;
-    drop(UnixListener::bind(&rt, "left.doors/bob/door")?);
+fn a_socket_that_was_left_is_replaced(rt: HostRuntime) {
+    make_folders(&rt, "left.doors", &["ann", "bob"]);
+    leave_socket(&rt, "left.doors/bob/door");
     assert!(rt; is_there(&rt, "left.doors/bob/door"));
-    assert!(rt; fault_of(&rt, "left.doors").is_none());
+    opened(&rt, "left.doors").close(&rt);
     clear(&rt, "left.doors");
-    Ok(())
+}
+
+/// Whether no door is opened while somebody listens at this one, who can be reached then.
+fn is_kept(rt: &HostRuntime, folder: &str, door: &str) -> bool {
+    match UnixListener::bind(rt, door) {
+        Ok(listener) => {
+            let refused = is_refused(rt, folder, DoorFault::CannotListen);
+            let reached = UnixStream::connect(rt, door).is_ok();
+            drop(listener);
+            refused && reached
+        }
+        Err(_) => false,
+    }
 }
 
 /// A socket at which somebody listens stays, and no door is opened.
 #[test]
-fn a_socket_in_use_stays(rt: HostRuntime) -> Result<(), Fail> {
-    make_folders(&rt, "used.doors", &["ann", "bob"])?;
-    let listener = UnixListener::bind(&rt, "used.doors/bob/door")?;
-    let fault = fault_of(&rt, "used.doors");
-    let reached = UnixStream::connect(&rt, "used.doors/bob/door").is_ok();
-    drop(listener);
-    assert!(rt; fault == Some(DoorFault::CannotListen));
-    assert!(rt; reached);
+fn a_socket_in_use_stays(rt: HostRuntime) {
+    make_folders(&rt, "used.doors", &["ann", "bob"]);
+    assert!(rt; is_kept(&rt, "used.doors", "used.doors/bob/door"));
     assert!(rt; !is_there(&rt, "used.doors/ann/door"));
     clear(&rt, "used.doors");
-    Ok(())
 }
 
 /// A file that is no socket stays, and no door is opened.
 #[test]
-fn a_file_that_is_no_socket_stays(rt: HostRuntime) -> Result<(), Fail> {
-    make_folders(&rt, "file.doors", &["ann"])?;
-    fs::write(&rt, "file.doors/ann/door", "no socket")?;
-    assert!(rt; fault_of(&rt, "file.doors") == Some(DoorFault::CannotListen));
-    assert!(rt; fs::metadata(&rt, "file.doors/ann/door")?.len() == 9);
+fn a_file_that_is_no_socket_stays(rt: HostRuntime) {
+    make_folders(&rt, "file.doors", &["ann"]);
+    make_file(&rt, "file.doors/ann/door", "no socket");
+    assert!(rt; is_refused(&rt, "file.doors", DoorFault::CannotListen));
+    assert!(rt; fs::metadata(&rt, "file.doors/ann/door").map_or(0, |found| found.len()) == 9);
     clear(&rt, "file.doors");
-    Ok(())
 }
 
 /// Which of two doors are wide.
@@ -132,18 +160,20 @@ fn wide(doors: &Doors) -> Option<(bool, bool)> {
     }
 }
 
+/// Gives a folder these rights.
+fn set_rights<R: Abort + Files>(rt: &R, folder: &str, mode: u32) {
+    assert!(rt; fs::set_permissions(rt, folder, Permissions::from_mode(mode)).is_ok());
+}
+
 /// A folder that everybody may enter is wide, and one that its owner and group may enter is not.
 #[test]
-fn folders_that_everybody_may_enter(rt: HostRuntime) -> Result<(), Fail> {
-    make_folders(&rt, "wide.doors", &["ann", "bob"])?;
-    fs::set_permissions(&rt, "wide.doors/ann", Permissions::from_mode(0o711))?;
-    fs::set_permissions(&rt, "wide.doors/bob", Permissions::from_mode(0o770))?;
-    let Ok(doors) = open(&rt, "wide.doors") else {
-        return Err(Fail::new("not opened"));
-    };
+fn folders_that_everybody_may_enter(rt: HostRuntime) {
+    make_folders(&rt, "wide.doors", &["ann", "bob"]);
+    set_rights(&rt, "wide.doors/ann", 0o711);
+    set_rights(&rt, "wide.doors/bob", 0o770);
+    let doors = opened(&rt, "wide.doors");
     let found = wide(&doors);
     doors.close(&rt);
     assert!(rt; found == Some((true, false)));
     clear(&rt, "wide.doors");
-    Ok(())
 }

@@ -1,47 +1,38 @@
 //! Streams that give a greeting first.
-use super::base::come_by_ann;
-use bl_connection::stream::{Answer, Ends, Stream};
+use super::base::{Step, assert_steps, come_by_ann, hears};
+use bl_connection::stream::Ends;
 use bl_doors::greeted::Greeted;
-use std::io::Read;
-use std::test::Fail;
 
 /// A greeting comes before all that who came by a door gives, in parts as large as the room for it, and writes go to
 /// it.
 #[test]
-fn a_greeting_comes_first(rt: HostRuntime) -> Result<(), Fail> {
-    let (mut client, mut stream) = come_by_ann(&rt, "first.doors", b"hello bob\nwait\n")?;
-    let mut room = [0u8; 7];
-    assert!(rt; stream.read(&mut room) == Answer::Moved(7));
-    assert!(rt; room.as_slice() == b"hello a".as_slice());
-    assert!(rt; stream.read(&mut room) == Answer::Moved(3));
-    assert!(rt; room.as_slice() == b"nn\nlo a".as_slice());
-    assert!(rt; stream.read(&mut room) == Answer::Moved(7));
-    assert!(rt; room.as_slice() == b"hello b".as_slice());
-    assert!(rt; stream.write(b"ok\n") == Answer::Moved(3));
-    assert!(rt; stream.read(&mut room) == Answer::Moved(7));
-    assert!(rt; room.as_slice() == b"ob\nwait".as_slice());
-    assert!(rt; stream.read(&mut room) == Answer::Moved(1));
-    assert!(rt; room.as_slice() == b"\nb\nwait".as_slice());
-    assert!(rt; stream.read(&mut room) == Answer::Moved(0));
+fn a_greeting_comes_first(rt: HostRuntime) {
+    const STEPS: &[Step] = &[
+        Step::Reads(7, b"hello a"),
+        Step::Reads(3, b"nn\nlo a"),
+        Step::Reads(7, b"hello b"),
+        Step::Writes(b"ok\n"),
+        Step::Reads(7, b"ob\nwait"),
+        Step::Reads(1, b"\nb\nwait"),
+        Step::Reads(0, b""),
+    ];
+    let said = b"hello bob\nwait\n";
+    let (mut client, mut stream) = come_by_ann(&rt, "first.doors", "first.doors/ann/door", said);
+    assert_steps(&rt, &mut stream, &mut [0u8; 7], STEPS);
     drop(stream);
-    let mut heard = Vec::new(rt.alloc());
-    client.read_to_end(&mut heard)?;
-    assert!(rt; heard.as_slice() == b"ok\n".as_slice());
-    Ok(())
+    assert!(rt; hears(rt.alloc(), &mut client, b"ok\n"));
+    drop(client);
 }
 
 /// A stream with no greeting gives what the stream in it gives.
 #[test]
-fn a_plain_stream_greets_nobody(rt: HostRuntime) -> Result<(), Fail> {
-    let alloc = rt.alloc();
+fn a_plain_stream_greets_nobody(rt: HostRuntime) {
+    const STEPS: &[Step] = &[Step::Reads(5, b"wait\n\0\0"), Step::Reads(0, b"")];
     let ends = Ends {
         reader: b"wait\n".as_slice(),
-        writer: Vec::new(alloc),
+        writer: Vec::new(rt.alloc()),
     };
-    let mut stream = Greeted::plain(alloc, ends);
-    let mut room = [0u8; 7];
-    assert!(rt; stream.read(&mut room) == Answer::Moved(5));
-    assert!(rt; room.as_slice() == b"wait\n\0\0".as_slice());
-    assert!(rt; stream.read(&mut room) == Answer::Moved(0));
-    Ok(())
+    let mut stream = Greeted::plain(rt.alloc(), ends);
+    assert_steps(&rt, &mut stream, &mut [0u8; 7], STEPS);
+    drop(stream);
 }

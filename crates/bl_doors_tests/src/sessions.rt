@@ -1,5 +1,5 @@
 //! A session by a door.
-use super::base::{base, come_by_ann};
+use super::base::{base, come_by_ann, hears};
 use bl_connection::connection::{Connection, State};
 use bl_connection_tests::shows::Shows;
 use bl_doors::greeted::Greeted;
@@ -7,8 +7,8 @@ use bl_engine::conversation::Opening;
 use bl_entrance::socket::Socket;
 use bl_wire::fault::SessionFault;
 use bl_work::names::Names;
-use std::io::Read;
-use std::test::Fail;
+use std::alloc::AllocGlobal;
+use std::process::Abort;
 
 /// More steps than the session takes.
 const MOST_STEPS: u32 = 1_000;
@@ -46,19 +46,30 @@ fn drive(names: &Names, conn: &mut ByDoor) -> Result<(), SessionFault> {
     Err(SessionFault::Clash)
 }
 
+/// Takes a session to its end, which gives the stream back.
+fn sit<R: AllocGlobal + Abort>(rt: &R, names: &Names, stream: Greeted<Socket>) {
+    match Connection::new(rt.alloc(), stream) {
+        Ok(conn) => {
+            let mut conn = conn;
+            assert!(rt; drive(names, &mut conn).is_ok());
+            drop(conn.leave());
+        }
+        Err(_) => panic!(rt; "no connection"),
+    }
+}
+
 /// Who comes by the door of ann has a session of ann's before anything is said, and a `hello` of bob's is refused.
 #[test]
-fn a_second_hello_is_refused(rt: HostRuntime) -> Result<(), Fail> {
-    let alloc = rt.alloc();
-    let Some(setup) = base(alloc) else {
-        return Err(Fail::new("no setup"));
-    };
-    let (mut client, stream) = come_by_ann(&rt, "second.doors", b"hello bob\nwait\n")?;
-    let mut conn = Connection::new(alloc, stream)?;
-    assert!(rt; drive(setup.names(), &mut conn).is_ok());
-    drop(conn.leave());
-    let mut heard = Vec::new(alloc);
-    client.read_to_end(&mut heard)?;
-    assert!(rt; heard.as_slice() == b"ok\n1 refused hello\nok\nbye\n".as_slice());
-    Ok(())
+fn a_second_hello_is_refused(rt: HostRuntime) {
+    let said = b"hello bob\nwait\n";
+    let (mut client, stream) = come_by_ann(&rt, "second.doors", "second.doors/ann/door", said);
+    match base(rt.alloc()) {
+        Some(setup) => {
+            sit(&rt, setup.names(), stream);
+            drop(setup);
+        }
+        None => panic!(rt; "no setup"),
+    }
+    assert!(rt; hears(rt.alloc(), &mut client, b"ok\n1 refused hello\nok\nbye\n"));
+    drop(client);
 }

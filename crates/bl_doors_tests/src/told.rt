@@ -1,23 +1,46 @@
 //! What is said of doors.
+use super::base::hold;
 use bl_doors::fault::DoorFault;
 use bl_doors::told::{tell_fault, tell_wide};
 use bl_wire::watched::Watched;
-use std::test::Fail;
+use std::alloc::Global;
+use std::io::Write;
+
+/// Whether a fault has this status, once it is told.
+fn has_status<W: Write>(errors: &mut Watched<W>, fault: DoorFault, status: u8) -> bool {
+    tell_fault(errors, &fault) == status
+}
+
+/// The fault that a folder of this name is no subject's.
+fn no_such_door(alloc: Global, name: &str) -> DoorFault {
+    match String::from_str(alloc, name) {
+        Ok(name) => DoorFault::NoSuchDoor(name),
+        Err(_) => DoorFault::Memory,
+    }
+}
 
 /// The words of each fault, and its status.
 #[test]
-fn faults_are_told(rt: HostRuntime) -> Result<(), Fail> {
-    let alloc = rt.alloc();
-    let mut errors = Watched::new(Vec::new(alloc));
-    assert_eq!(rt; tell_fault(&mut errors, &DoorFault::NoDoor), 3);
-    let name = String::from_str(alloc, "carl")?;
-    assert_eq!(rt; tell_fault(&mut errors, &DoorFault::NoSuchDoor(name)), 3);
-    assert_eq!(rt; tell_fault(&mut errors, &DoorFault::CannotListen), 3);
-    assert_eq!(rt; tell_fault(&mut errors, &DoorFault::Memory), 4);
+fn faults_are_told(rt: HostRuntime) {
+    let mut errors = Watched::new(Vec::new(rt.alloc()));
+    let carl = no_such_door(rt.alloc(), "carl");
+    hold(
+        &rt,
+        &[
+            ("no door", has_status(&mut errors, DoorFault::NoDoor, 3)),
+            ("no such door", has_status(&mut errors, carl, 3)),
+            (
+                "cannot listen",
+                has_status(&mut errors, DoorFault::CannotListen, 3),
+            ),
+            ("no memory", has_status(&mut errors, DoorFault::Memory, 4)),
+        ],
+    );
     tell_wide(&mut errors, "ann");
+    let told = errors.into_inner();
     assert!(rt;
-        errors.into_inner().as_slice()
+        told.as_slice()
             == b"no door\nno such door carl\ncannot listen\nno memory\ndoor ann: open to all\n".as_slice()
     );
-    Ok(())
+    drop(told);
 }
