@@ -1,4 +1,4 @@
-//! A run of `serve` with clients beside it.
+//! A run of `serve` with clients beside it, and marks for which a thread waits.
 use bl_host::entrance::Entrance;
 use bl_host::options::Options;
 use bl_keep::part::TrailFile;
@@ -10,9 +10,10 @@ use std::io::{Read, Write};
 use std::net::{Ipv4Addr, Net, Shutdown, SocketAddr, TcpListener, TcpStream};
 use std::rt::Files;
 use std::sync::Wait;
+use std::sync::atomic::{AtomicU64, Ordering};
 use std::thread::Threads;
-use std::time::Clock;
-use std::{fs, io};
+use std::time::{Clock, Duration};
+use std::{fs, io, thread};
 
 /// The setup of the worked examples.
 pub(crate) const BASE: &[u8] = b"ranks u c s t\ncategories nato crypto\n\
@@ -25,6 +26,16 @@ pub(crate) const BASE: &[u8] = b"ranks u c s t\ncategories nato crypto\n\
     document log t{nato,crypto} \"\"\n\
     allow ann memo r w\nallow ann note r w\nallow ann log r a\n\
     allow bob memo r w a\nallow bob note r w\nallow cat memo r\nallow root note r w\n";
+
+/// The most turns for which something is held.
+const MOST_TURNS: u32 = 1_000_000;
+
+/// After each so many turns a thread that is held sleeps too. On a machine that is loaded all turns may pass, if they only yield, before
+/// another thread has had one.
+const TURNS_TO_A_NAP: u32 = 1_000;
+
+/// For how long it sleeps.
+const NAP_MILLIS: u64 = 20;
 
 /// A listener at some free port of this machine, and where it is.
 pub(crate) fn listen<R: Net<Listener = TcpListener, Stream = TcpStream>>(
@@ -64,6 +75,13 @@ pub(crate) struct Served {
     pub(crate) status: u8,
     pub(crate) told: Vec<u8>,
     pub(crate) said: Vec<u8>,
+}
+
+impl Served {
+    /// Whether the run ended with this status, and with these words on faults.
+    pub(crate) fn ended(&self, status: u8, said: &str) -> bool {
+        self.status == status && self.said.as_slice() == said.as_bytes()
+    }
 }
 
 /// A run of `serve` over the base setup.
@@ -123,4 +141,18 @@ pub(crate) fn two_of_each(sessions: u32, trail: &str) -> ServeRun<'_> {
             claims: false,
         },
     }
+}
+
+/// Waits for a mark that another thread makes, for at most 1,000,000 turns that each yield, and says whether it came.
+pub(crate) fn comes<R: Clock>(rt: &R, mark: &AtomicU64) -> bool {
+    for turn in 0..MOST_TURNS {
+        if mark.load(Ordering::SeqCst) > 0 {
+            return true;
+        }
+        thread::yield_now();
+        if turn % TURNS_TO_A_NAP == TURNS_TO_A_NAP - 1 {
+            thread::sleep(rt, Duration::from_millis(NAP_MILLIS));
+        }
+    }
+    false
 }

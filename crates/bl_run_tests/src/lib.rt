@@ -6,14 +6,20 @@
 //!     trails      trail files
 //!     failing     a file system whose files fail
 //!     unkept      a server that can keep no more
+//!     held        a file whose next sync is held until a session has gone on
+//!     desks       sessions of one thread, of which one waits for the journal
 #![tactic(auto)]
 
 #[cfg(test)]
 mod base;
 #[cfg(test)]
+mod desks;
+#[cfg(test)]
 mod ends;
 #[cfg(test)]
 mod failing;
+#[cfg(test)]
+mod held;
 #[cfg(test)]
 mod overlaps;
 #[cfg(test)]

@@ -1,46 +1,20 @@
 //! Two sessions that run side by side.
-use super::base::{BASE, clear, converse, listen, serve, two_of_each};
+use super::base::{BASE, clear, comes, converse, listen, serve, two_of_each};
 use bl_run::replay::replay_on;
 use bl_wire::watched::Watched;
 use bl_worker::pause::Pause;
-use std::alloc::Global;
+use std::alloc::{AllocGlobal, Global};
 use std::net::{Net, SocketAddr, TcpListener, TcpStream};
-use std::rt::Clock;
-use std::sync::Wait;
+use std::rt::Files;
 use std::sync::atomic::{AtomicU64, Ordering};
 use std::thread::Threads;
-use std::time::Duration;
 use std::{fs, thread};
-
-/// The most turns for which something is held.
-const MOST_TURNS: u32 = 1_000_000;
-
-/// After each so many turns a thread that is held sleeps too. On a machine that is loaded all turns may pass, if they only yield, before
-/// another thread has had one.
-const TURNS_TO_A_NAP: u32 = 1_000;
-
-/// For how long it sleeps.
-const NAP_MILLIS: u64 = 20;
 
 /// The lines of each client; the last has no line end.
 const LINES: &[u8] = b"hello ann\nwhen read note do show note; end";
 
 /// What each client hears.
 const REPLIES: &[u8] = b"ok\n1 done \"n1\"\nbye\n";
-
-/// Waits for a mark that another thread makes, for at most 1,000,000 turns that each yield, and says whether it came.
-fn comes<R: Clock>(rt: &R, mark: &AtomicU64) -> bool {
-    for turn in 0..MOST_TURNS {
-        if mark.load(Ordering::SeqCst) > 0 {
-            return true;
-        }
-        thread::yield_now();
-        if turn % TURNS_TO_A_NAP == TURNS_TO_A_NAP - 1 {
-            thread::sleep(rt, Duration::from_millis(NAP_MILLIS));
-        }
-    }
-    false
-}
 
 /// Holds the first behaviour that runs until a client has read `bye`, and notes whether that came.
 #[derive(Drop)]
@@ -118,6 +92,25 @@ fn visit_both<R: Threads + Net<Listener = TcpListener, Stream = TcpStream> + Syn
     one && two
 }
 
+/// Whether the trail of this name is accepted, with these words.
+fn is_accepted<R: Files + AllocGlobal>(rt: &R, name: &str, words: &[u8]) -> bool {
+    let Ok(trail) = fs::read(rt, name) else {
+        return false;
+    };
+    let mut verdict = Watched::new(Vec::new(rt.alloc()));
+    let mut errors = Watched::new(Vec::new(rt.alloc()));
+    let status = replay_on(
+        rt.alloc(),
+        BASE,
+        trail.as_slice(),
+        &mut verdict,
+        &mut errors,
+    );
+    drop(trail);
+    drop(errors);
+    status == 0 && verdict.into_inner().as_slice() == words
+}
+
 /// Two workers, two session threads and two sessions: the first behaviour that runs is held until the other session's client has read `bye`.
 #[test]
 fn tcp_overlap(rt: HostRuntime) {
@@ -136,14 +129,9 @@ fn tcp_overlap(rt: HostRuntime) {
     );
     assert!(rt; both);
     assert!(rt; hold.held.load(Ordering::SeqCst) == 1);
-    assert_eq!(rt; served.status, 0);
     assert!(rt; served.told.as_slice() == b"listening\n".as_slice());
-    assert!(rt; served.said.is_empty());
-    let trail = fs::read(&rt, "overlap.trail").expect(&rt, "the trail is kept");
+    assert!(rt; served.ended(0, ""));
+    drop(served);
+    assert!(rt; is_accepted(&rt, "overlap.trail", b"accepted 8\n"));
     clear(&rt, "overlap.trail");
-    let mut verdict = Watched::new(Vec::new(alloc));
-    let mut errors = Watched::new(Vec::new(alloc));
-    let status = replay_on(alloc, BASE, trail.as_slice(), &mut verdict, &mut errors);
-    assert_eq!(rt; status, 0);
-    assert!(rt; verdict.into_inner().as_slice() == b"accepted 8\n".as_slice());
 }

@@ -6,10 +6,10 @@ use bl_run::alone::alone_kept_on;
 use bl_run::alone_run::AloneRun;
 use bl_wire::watched::Watched;
 use std::alloc::Global;
+use std::fs;
 use std::os::unix::fs::{MetadataExt, symlink};
+use std::process::Abort;
 use std::rt::Files;
-use std::test::Fail;
-use std::{fs, io};
 
 /// What each session reads.
 const LINES: &[u8] = b"hello ann\nwhen read memo do show memo; end\n";
@@ -91,82 +91,125 @@ fn is_missing<R: Files>(rt: &R, name: &str) -> bool {
     fs::symlink_metadata(rt, name).is_err()
 }
 
-/// Whether a session with this trail file was served and its trail was not kept, with these words and the trail left in this file.
-fn is_left<R: Files + AllocGlobal>(rt: &R, trail: TrailFile<'_>, said: &[u8], part: &str) -> bool {
+/// Makes a file with this text.
+fn put<R: Files + Abort>(rt: &R, name: &str, text: &str) {
+    assert!(rt; fs::write(rt, name, text).is_ok(), "{name}");
+}
+
+/// Makes a link to what stands under the first name.
+fn link<R: Files + Abort>(rt: &R, to: &str, name: &str) {
+    assert!(rt; symlink(rt, to, name).is_ok(), "{name}");
+}
+
+/// Makes a folder.
+fn make_folder<R: Files + Abort>(rt: &R, name: &str) {
+    let _ = fs::remove_dir(rt, name);
+    assert!(rt; fs::create_dir(rt, name).is_ok(), "{name}");
+}
+
+/// Removes a folder in which nothing is.
+fn remove_folder<R: Files + Abort>(rt: &R, name: &str) {
+    assert!(rt; fs::remove_dir(rt, name).is_ok(), "{name}");
+}
+
+/// Whether a session with this trail file was served, with nothing said, and its trail stands under the file's name.
+fn is_kept<R: Files + AllocGlobal>(rt: &R, trail: TrailFile<'_>) -> bool {
+    let name = trail.name;
     let sat = sit(rt, rt.alloc(), trail);
-    sat.status == 3
+    let is_kept = sat.status == 0 && sat.said.is_empty() && has(rt, name, TRAIL);
+    drop(sat);
+    is_kept
+}
+
+/// Whether a session with this trail file was served and its trail was not kept, with these words and the trail left in
+/// this file.
+fn is_left<R: Files + AllocGlobal>(rt: &R, trail: TrailFile<'_>, said: &str, part: &str) -> bool {
+    let sat = sit(rt, rt.alloc(), trail);
+    let is_left = sat.status == 3
         && sat.written.as_slice() == b"ok\n1 done \"m1\"\nbye\n".as_slice()
-        && sat.said.as_slice() == said
-        && has(rt, part, TRAIL)
+        && sat.said.as_slice() == said.as_bytes()
+        && has(rt, part, TRAIL);
+    drop(sat);
+    is_left
+}
+
+/// Whether a session with this trail file was not served, since the trail cannot be kept.
+fn is_refused<R: Files + AllocGlobal>(rt: &R, trail: TrailFile<'_>) -> bool {
+    let sat = sit(rt, rt.alloc(), trail);
+    let is_refused = sat.status == 3
+        && sat.written.is_empty()
+        && sat.said.as_slice() == b"cannot write trail\n".as_slice();
+    drop(sat);
+    is_refused
 }
 
 #[test]
-fn a_trail_takes_its_name(rt: HostRuntime) -> Result<(), Fail> {
+fn a_trail_takes_its_name(rt: HostRuntime) {
     clear(&rt, &["takes.trail", "takes.trail.part"]);
-    let sat = sit(&rt, rt.alloc(), plain("takes.trail"));
-    assert_eq!(rt; sat.status, 0);
-    assert!(rt; sat.said.is_empty());
-    assert!(rt; has(&rt, "takes.trail", TRAIL));
+    assert!(rt; is_kept(&rt, plain("takes.trail")));
     assert!(rt; is_missing(&rt, "takes.trail.part"));
     clear(&rt, &["takes.trail"]);
-    Ok(())
 }
 
 /// Nobody but the owner may read or write it.
 #[test]
-fn a_trail_is_its_owners(rt: HostRuntime) -> Result<(), Fail> {
+fn a_trail_is_its_owners(rt: HostRuntime) {
     clear(&rt, &["owned.trail", "owned.trail.part"]);
-    let sat = sit(&rt, rt.alloc(), plain("owned.trail"));
-    assert_eq!(rt; sat.status, 0);
-    assert_eq!(rt; fs::metadata(&rt, "owned.trail")?.mode() & 0o777, 0o600);
+    assert!(rt; is_kept(&rt, plain("owned.trail")));
+    let mode = fs::metadata(&rt, "owned.trail").map_or(0, |found| found.mode());
+    assert!(rt; mode & 0o777 == 0o600);
     clear(&rt, &["owned.trail"]);
-    Ok(())
+}
+
+/// Asserts that what stands under a name stays as it is: a session's trail is left beside it.
+fn stays<R: Files + AllocGlobal + Abort>(rt: &R, text: &str) {
+    let names = ["stands.trail", "stands.trail.part"];
+    let said = "cannot write trail\nthe whole trail is in stands.trail.part\n";
+    put(rt, "stands.trail", text);
+    assert!(rt;
+        is_left(rt, plain("stands.trail"), said, "stands.trail.part"),
+        "at {text}"
+    );
+    assert!(rt; has(rt, "stands.trail", text.as_bytes()), "at {text}");
+    clear(rt, &names);
 }
 
 /// What stands under the name stays as it is: a file, a trail of yesterday, a folder, a link to nothing.
 #[test]
-fn what_stands_stays(rt: HostRuntime) -> Result<(), Fail> {
+fn what_stands_stays(rt: HostRuntime) {
     let names = ["stands.trail", "stands.trail.part"];
-    let said = b"cannot write trail\nthe whole trail is in stands.trail.part\n";
-    let [name, part] = names;
+    let said = "cannot write trail\nthe whole trail is in stands.trail.part\n";
     clear(&rt, &names);
-    for bytes in ["ranks u\n", "trail 1\nlimit 1\nstop\n"] {
-        fs::write(&rt, name, bytes)?;
-        assert!(rt; is_left(&rt, plain(name), said, part), "at {bytes}");
-        assert!(rt; has(&rt, name, bytes.as_bytes()));
-        clear(&rt, &names);
-    }
-    symlink(&rt, "nowhere.trail", name)?;
-    assert!(rt; is_left(&rt, plain(name), said, part));
+    stays(&rt, "ranks u\n");
+    stays(&rt, "trail 1\nlimit 1\nstop\n");
+    link(&rt, "nowhere.trail", "stands.trail");
+    assert!(rt; is_left(&rt, plain("stands.trail"), said, "stands.trail.part"));
     assert!(rt; is_missing(&rt, "nowhere.trail"));
     clear(&rt, &names);
-    Ok(())
 }
 
 #[test]
-fn a_folder_stays(rt: HostRuntime) -> Result<(), Fail> {
-    let part = "folder.trail.part";
-    clear(&rt, &[part]);
-    let _ = fs::remove_dir(&rt, "folder.trail");
-    fs::create_dir(&rt, "folder.trail")?;
-    let said = b"cannot write trail\nthe whole trail is in folder.trail.part\n";
-    assert!(rt; is_left(&rt, plain("folder.trail"), said, part));
+fn a_folder_stays(rt: HostRuntime) {
+    let said = "cannot write trail\nthe whole trail is in folder.trail.part\n";
+    let said_again = "cannot write trail\nthe whole trail is in folder.trail.part.2\n";
+    clear(&rt, &["folder.trail.part"]);
+    make_folder(&rt, "folder.trail");
+    assert!(rt; is_left(&rt, plain("folder.trail"), said, "folder.trail.part"));
     assert!(rt;
         is_left(
             &rt,
             replacing("folder.trail"),
-            b"cannot write trail\nthe whole trail is in folder.trail.part.2\n",
+            said_again,
             "folder.trail.part.2"
         )
     );
-    fs::remove_dir(&rt, "folder.trail")?;
-    clear(&rt, &[part, "folder.trail.part.2"]);
-    Ok(())
+    remove_folder(&rt, "folder.trail");
+    clear(&rt, &["folder.trail.part", "folder.trail.part.2"]);
 }
 
 /// A name that is taken for the file is passed over, and no link there is followed.
 #[test]
-fn a_taken_part_is_passed_over(rt: HostRuntime) -> Result<(), Fail> {
+fn a_taken_part_is_passed_over(rt: HostRuntime) {
     let names = [
         "busy.trail",
         "busy.trail.part",
@@ -175,112 +218,133 @@ fn a_taken_part_is_passed_over(rt: HostRuntime) -> Result<(), Fail> {
         "bait",
     ];
     clear(&rt, &names);
-    fs::write(&rt, "bait", "bait")?;
-    symlink(&rt, "bait", "busy.trail.part")?;
-    fs::write(&rt, "busy.trail.part.2", "other")?;
-    let sat = sit(&rt, rt.alloc(), plain("busy.trail"));
-    assert_eq!(rt; sat.status, 0);
-    assert!(rt; has(&rt, "busy.trail", TRAIL));
+    put(&rt, "bait", "bait");
+    link(&rt, "bait", "busy.trail.part");
+    put(&rt, "busy.trail.part.2", "other");
+    assert!(rt; is_kept(&rt, plain("busy.trail")));
     assert!(rt; has(&rt, "bait", b"bait"));
     assert!(rt; has(&rt, "busy.trail.part.2", b"other"));
     assert!(rt; is_missing(&rt, "busy.trail.part.3"));
     clear(&rt, &names);
-    Ok(())
 }
 
 /// Where it may, a trail replaces a trail, and nothing else.
 #[test]
-fn a_trail_alone_is_replaced(rt: HostRuntime) -> Result<(), Fail> {
+fn a_trail_alone_is_replaced(rt: HostRuntime) {
     let names = ["old.trail", "old.trail.part"];
+    let said = "cannot write trail\nthe whole trail is in old.trail.part\n";
     clear(&rt, &names);
-    fs::write(&rt, "old.trail", "trail 1\nlimit 1\nstop\n")?;
-    let sat = sit(&rt, rt.alloc(), replacing("old.trail"));
-    assert_eq!(rt; sat.status, 0);
-    assert!(rt; has(&rt, "old.trail", TRAIL));
+    put(&rt, "old.trail", "trail 1\nlimit 1\nstop\n");
+    assert!(rt; is_kept(&rt, replacing("old.trail")));
     assert!(rt; is_missing(&rt, "old.trail.part"));
-    fs::write(&rt, "old.trail", "ranks u\n")?;
-    let said = b"cannot write trail\nthe whole trail is in old.trail.part\n";
+    put(&rt, "old.trail", "ranks u\n");
     assert!(rt; is_left(&rt, replacing("old.trail"), said, "old.trail.part"));
     assert!(rt; has(&rt, "old.trail", b"ranks u\n"));
     clear(&rt, &names);
-    Ok(())
 }
 
 /// A trail that is claimed is told before anybody is served where it cannot be kept, and nothing is left of it.
 #[test]
-fn a_claim_is_told_first(rt: HostRuntime) -> Result<(), Fail> {
+fn a_claim_is_told_first(rt: HostRuntime) {
     let names = ["claimed.trail", "claimed.trail.part"];
     clear(&rt, &names);
-    fs::write(&rt, "claimed.trail", "trail 1\nlimit 1\nstop\n")?;
+    put(&rt, "claimed.trail", "trail 1\nlimit 1\nstop\n");
     for name in ["claimed.trail", "nowhere/claimed.trail", ""] {
-        let sat = sit(&rt, rt.alloc(), claiming(name));
-        assert_eq!(rt; sat.status, 3, "at {name}");
-        assert!(rt; sat.written.is_empty(), "at {name}");
-        assert!(rt; sat.said.as_slice() == b"cannot write trail\n".as_slice());
+        assert!(rt; is_refused(&rt, claiming(name)), "at {name}");
     }
     assert!(rt; is_missing(&rt, "claimed.trail.part"));
     clear(&rt, &names);
-    let sat = sit(&rt, rt.alloc(), claiming("claimed.trail"));
-    assert_eq!(rt; sat.status, 0);
-    assert!(rt; has(&rt, "claimed.trail", TRAIL));
+    assert!(rt; is_kept(&rt, claiming("claimed.trail")));
     clear(&rt, &names);
-    Ok(())
+}
+
+/// A name of so many bytes.
+fn long_name<R: AllocGlobal + Abort>(rt: &R, length: usize) -> String {
+    let mut name = String::new(rt.alloc());
+    for _ in 0..length {
+        assert!(rt; name.push('n').is_ok());
+    }
+    name
+}
+
+/// Asserts that a trail takes a name of so many bytes.
+fn takes_name<R: Files + AllocGlobal + Abort>(rt: &R, length: usize) {
+    let name = long_name(rt, length);
+    clear(rt, &[name.as_str()]);
+    assert!(rt; is_kept(rt, plain(name.as_str())), "at {length}");
+    clear(rt, &[name.as_str()]);
+    drop(name);
 }
 
 /// A name of 255 bytes, the most that a component may have, leaves no room for `.part`.
 #[test]
-fn a_long_name_is_cut_for_its_part(rt: HostRuntime) -> Result<(), Fail> {
-    let alloc = rt.alloc();
+fn a_long_name_is_cut_for_its_part(rt: HostRuntime) {
     for length in [250usize, 251, 255] {
-        let bytes = vec![in alloc; b'n'; length]?;
-        let Ok(name) = String::from_utf8(bytes) else {
-            return Err(Fail::new("no text"));
-        };
-        clear(&rt, &[name.as_str()]);
-        let sat = sit(&rt, alloc, plain(name.as_str()));
-        assert_eq!(rt; sat.status, 0, "at {length}");
-        assert!(rt; has(&rt, name.as_str(), TRAIL));
-        clear(&rt, &[name.as_str()]);
+        takes_name(&rt, length);
     }
-    Ok(())
+}
+
+/// The text of these parts, one behind the other.
+fn joined<R: AllocGlobal + Abort>(rt: &R, parts: &[&str]) -> String {
+    let mut text = String::new(rt.alloc());
+    for part in parts {
+        assert!(rt; text.push_str(part).is_ok());
+    }
+    text
+}
+
+/// Asserts that where a name in a folder is taken the trail is left in the part, which is told with these words.
+fn is_cut_in_its_folder<R: Files + AllocGlobal + Abort>(
+    rt: &R,
+    name: &str,
+    part: &str,
+    said: &str,
+) {
+    let _ = fs::create_dir(rt, "long.folder");
+    clear(rt, &[name, part]);
+    put(rt, name, "other");
+    assert!(rt; is_left(rt, plain(name), said, part));
+    clear(rt, &[name, part]);
+    remove_folder(rt, "long.folder");
 }
 
 /// Of a long name in a folder the last component alone is cut, and no character is cut in two.
 #[test]
-fn a_long_name_is_cut_in_its_folder(rt: HostRuntime) -> Result<(), Fail> {
-    let alloc = rt.alloc();
-    let Ok(front) = String::from_utf8(vec![in alloc; b'n'; 249]?) else {
-        return Err(Fail::new("no text"));
-    };
-    let name = format!(in alloc; "long.folder/{front}ééé")?;
-    let part = format!(in alloc; "long.folder/{front}.part")?;
-    let said = format!(in alloc; "cannot write trail\nthe whole trail is in {part}\n")?;
-    let _ = fs::create_dir(&rt, "long.folder");
-    clear(&rt, &[name.as_str(), part.as_str()]);
-    fs::write(&rt, name.as_str(), "other")?;
-    assert!(rt; is_left(&rt, plain(name.as_str()), said.as_bytes(), part.as_str()));
-    clear(&rt, &[name.as_str(), part.as_str()]);
-    fs::remove_dir(&rt, "long.folder")?;
-    Ok(())
+fn a_long_name_is_cut_in_its_folder(rt: HostRuntime) {
+    let front = long_name(&rt, 249);
+    let name = joined(&rt, &["long.folder/", front.as_str(), "ééé"]);
+    let part = joined(&rt, &["long.folder/", front.as_str(), ".part"]);
+    let said = joined(
+        &rt,
+        &[
+            "cannot write trail\nthe whole trail is in ",
+            part.as_str(),
+            "\n",
+        ],
+    );
+    is_cut_in_its_folder(&rt, name.as_str(), part.as_str(), said.as_str());
+    drop(front);
+    drop(name);
+    drop(part);
+    drop(said);
+}
+
+/// Whether a session whose trail's file has room for so many bytes was served, with these words.
+fn is_cut_short(rt: &HostRuntime, room: usize, trail: TrailFile<'_>, said: &str) -> bool {
+    let sat = sit(&FailingFiles { rt, room }, rt.alloc(), trail);
+    let is_cut = sat.status == 3 && sat.said.as_slice() == said.as_bytes();
+    drop(sat);
+    is_cut
 }
 
 /// A file that fails in the middle of a trail: what was written stays, and is told; the name stays free.
 #[test]
-fn a_trail_is_cut_short(rt: HostRuntime) -> Result<(), Fail> {
+fn a_trail_is_cut_short(rt: HostRuntime) {
     let names = ["cut.trail", "cut.trail.part"];
+    let said = "cannot write trail\nthe trail is cut short in cut.trail.part\n";
     clear(&rt, &names);
-    let sat = sit(
-        &FailingFiles { rt: &rt, room: 20 },
-        rt.alloc(),
-        plain("cut.trail"),
-    );
-    assert_eq!(rt; sat.status, 3);
-    assert!(rt;
-        sat.said.as_slice()
-            == b"cannot write trail\nthe trail is cut short in cut.trail.part\n".as_slice()
-    );
+    assert!(rt; is_cut_short(&rt, 20, plain("cut.trail"), said));
     assert!(rt; has(&rt, "cut.trail.part", b"trail 2\nlimit 10000\n"));
     assert!(rt; is_missing(&rt, "cut.trail"));
     clear(&rt, &names);
-    Ok(())
 }
