@@ -109,10 +109,12 @@ pub(crate) fn is_there(rt: &HostRuntime, path: &str) -> bool {
 
 /// Opens the doors of a folder over the base setup.
 pub(crate) fn open<R: AllocGlobal + Files + Net>(rt: &R, folder: &str) -> Result<Doors, DoorFault> {
-    match base(rt.alloc()) {
-        Some(setup) => Doors::open(rt, rt.alloc(), setup.names(), folder),
-        None => Err(DoorFault::Memory),
-    }
+    let Some(setup) = base(rt.alloc()) else {
+        return Err(DoorFault::Memory);
+    };
+    let opened = Doors::open(rt, rt.alloc(), setup.names(), folder);
+    drop(setup);
+    opened
 }
 
 /// The doors of a folder over the base setup, which are opened.

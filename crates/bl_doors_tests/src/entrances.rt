@@ -109,7 +109,17 @@ fn assert_read<R: Read>(rt: &impl Abort, client: &mut R, wanted: &[u8]) {
     assert!(rt; room.starts_with(wanted));
 }
 
-/// Has bob come by his door, at which he alone waits.
+/// The stream of bob, who alone waits at the doors, watched under the number 7.
+fn bob<R: AllocGlobal + Abort>(rt: &R, entrance: &Entrance, watch: &mut Watch) -> Greeted<Socket> {
+    assert!(rt; is_called(watch));
+    let arrival = let_in(rt, entrance, 0, Source::Door("bob"));
+    assert!(rt; entrance.accept(0).is_err());
+    let stream = seated(rt, arrival, watch, 7);
+    assert!(rt; is_ready(watch, 7));
+    stream
+}
+
+/// Has bob come by his door.
 fn greet_bob<R: AllocGlobal + Abort + Net>(rt: &R, entrance: &Entrance, watch: &mut Watch) {
     const STEPS: &[Step] = &[
         Step::Reads(10, b"hello bob\n"),
@@ -119,14 +129,10 @@ fn greet_bob<R: AllocGlobal + Abort + Net>(rt: &R, entrance: &Entrance, watch: &
     ];
     let mut client = connected(rt, "in.doors/bob/door");
     say(rt, &mut client, b"wait\n");
-    assert!(rt; is_called(watch));
-    let arrival = let_in(rt, entrance, 0, Source::Door("bob"));
-    assert!(rt; entrance.accept(0).is_err());
-    let mut stream = seated(rt, arrival, watch, 7);
-    assert!(rt; is_ready(watch, 7));
+    let mut stream = bob(rt, entrance, watch);
     assert_steps(rt, &mut stream, &mut [0u8; 32], STEPS);
-    assert_read(rt, &mut client, b"ok\n");
     drop(stream);
+    assert_read(rt, &mut client, b"ok\n");
     drop(client);
 }
 
@@ -168,21 +174,25 @@ fn listen(rt: &HostRuntime) -> io::Result<(TcpListener, SocketAddr)> {
     Ok((listener, at))
 }
 
-/// Has a client come in at a port, at which it alone waits.
-fn greet_nobody<R: AllocGlobal + Abort + Net>(rt: &R, entrance: &Entrance, at: SocketAddr) {
+/// Asserts that of who came in at a port this is heard.
+fn assert_heard<R: AllocGlobal + Abort + Net>(rt: &R, arrival: Arrival<'_>) {
     const STEPS: &[Step] = &[Step::Reads(5, b"wait\n")];
     let watch = new_watch(rt);
+    let mut stream = seated(rt, arrival, &watch, 1);
+    assert_steps(rt, &mut stream, &mut [0u8; 32], STEPS);
+    drop(stream);
+    drop(watch);
+}
+
+/// Has a client come in at a port, at which it alone waits.
+fn greet_nobody<R: AllocGlobal + Abort + Net>(rt: &R, entrance: &Entrance, at: SocketAddr) {
     assert!(rt; entrance.accept(0).is_err());
     let Ok(mut client) = TcpStream::connect(rt, at) else {
         panic!(rt; "no connection")
     };
     say(rt, &mut client, b"wait\n");
-    let arrival = let_in(rt, entrance, 0, Source::Port("127.0.0.1:"));
-    let mut stream = seated(rt, arrival, &watch, 1);
-    assert_steps(rt, &mut stream, &mut [0u8; 32], STEPS);
-    drop(stream);
+    assert_heard(rt, let_in(rt, entrance, 0, Source::Port("127.0.0.1:")));
     drop(client);
-    drop(watch);
 }
 
 /// Of who comes in at a port nothing is heard but what it says.
