@@ -77,10 +77,11 @@ fn wait_both<K: Keep, R: AllocGlobal + Abort + Wait>(rt: &R, keep: &K) {
     assert!(rt; desk.next(rt, decided).is_none());
     assert!(rt; one.write(b"one\n") == Answer::Moved(4));
     assert!(rt; two.write(b"two\n") == Answer::Moved(4));
+    assert!(rt; one.write(b"more\n") == Answer::WouldBlock);
     note_events(rt, keep, 1);
     assert!(rt; two.write(b"no more\n") == Answer::Moved(8));
     note_events(rt, keep, 2);
-    assert!(rt; one.write(b"more\n") == Answer::WouldBlock);
+    assert!(rt; two.write(b"later\n") == Answer::WouldBlock);
     keep.close(rt);
     assert!(rt; keep.serve(rt, rt.alloc()).is_none());
     assert!(rt; told(one).as_slice() == b"one\n".as_slice());
