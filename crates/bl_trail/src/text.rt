@@ -9,7 +9,7 @@ ghost use Rattle.bl_trail.specs.TrueText.{head_lines, joined, version_line};
 use bl_policy::denial::Denial;
 use bl_policy::id::SubjectId;
 use bl_setup::version::Version;
-use bl_wire::put::{put, put_number};
+use bl_wire::put::{put, put_number, put_number_between};
 use bl_wire::watched::Watched;
 use bl_wire::words::put_answer;
 use bl_work::answer::Answer;
@@ -45,7 +45,8 @@ impl Words {
 
 /// Writes the text of a limit, unless the writer has failed.
 fn put_limit<W: Write>(writer: &mut Watched<W>, limit: u32)
-    ensures { Puts (codes "limit " ++ decimal limit) (end_state W.contents writer.old) (end_state W.contents writer.new) }
+    ensures { Puts (codes "limit " ++ decimal limit)
+        (end_state W.contents writer.old) (end_state W.contents writer.new) }
 {
     put(writer, b"limit ");
     put_number(writer, limit);
@@ -79,63 +80,46 @@ pub fn put_head<W: Write>(writer: &mut Watched<W>, version: Version, limit: u32)
 /// Writes the text of an opening, unless the writer has failed.
 pub fn put_open<W: Write>(writer: &mut Watched<W>, names: &Names, subject: SubjectId)
     requires { subject < length names.now.subjects }
-    ensures { Puts (codes "open " ++ slice_index_or names.now.subjects subject []) (end_state W.contents writer.old) (end_state W.contents writer.new) }
+    ensures { Puts (codes "open " ++ slice_index_or names.now.subjects subject [])
+        (end_state W.contents writer.old) (end_state W.contents writer.new) }
 {
     put(writer, b"open ");
     put(writer, names.subject_name(subject).bytes());
 }
 
-/// Writes a number and a space, unless the writer has failed.
-fn put_numbered<W: Write>(writer: &mut Watched<W>, number: u32)
-    ensures { Puts (decimal number ++ codes " ") (end_state W.contents writer.old) (end_state W.contents writer.new) }
-{
-    put_number(writer, number);
-    put(writer, b" ");
-}
-
 /// Writes the text of a session's line whose work has this text, unless the writer has failed.
 pub fn put_line<W: Write>(writer: &mut Watched<W>, session: u32, ordinal: u32, work: &[u8])
-    ensures { Puts (codes "line " ++ (decimal session ++ (32 ∷ (decimal ordinal ++ (32 ∷ work.now))))) (end_state W.contents writer.old) (end_state W.contents writer.new) }
+    ensures { Puts (codes "line " ++ (decimal session ++ (32 ∷ (decimal ordinal ++ (32 ∷ work.now)))))
+        (end_state W.contents writer.old) (end_state W.contents writer.new) }
 {
-    put(writer, b"line ");
-    put_numbered(writer, session);
-    put_numbered(writer, ordinal);
+    put_number_between(writer, b"line ", session, b" ");
+    put_number_between(writer, b"", ordinal, b" ");
     put(writer, work);
-}
-
-/// Writes the words of a start, unless the writer has failed.
-fn put_words<W: Write>(writer: &mut Watched<W>, names: &Names, words: &Words)
-    requires { NamesWords names.now words.now }
-    ensures { Puts (words_text names.now words.now) (end_state W.contents writer.old) (end_state W.contents writer.new) }
-{
-    match words {
-        Words::Run => {
-            put(writer, b" run");
-        }
-        Words::Rule => {
-            put(writer, b" rule");
-        }
-        Words::Denied(denial) => put_answer(writer, names, &Answer::Denied(*denial)),
-    }
 }
 
 /// Writes the text of a start, unless the writer has failed.
 pub fn put_start<W: Write>(writer: &mut Watched<W>, names: &Names, n: u32, words: &Words)
     requires { NamesWords names.now words.now }
-    ensures { Puts (codes "start " ++ (decimal n ++ words_text names.now words.now)) (end_state W.contents writer.old) (end_state W.contents writer.new) }
+    ensures { Puts (codes "start " ++ (decimal n ++ words_text names.now words.now))
+        (end_state W.contents writer.old) (end_state W.contents writer.new) }
 {
-    put(writer, b"start ");
-    put_number(writer, n);
-    put_words(writer, names, words);
+    match words {
+        Words::Run => put_number_between(writer, b"start ", n, b" run"),
+        Words::Rule => put_number_between(writer, b"start ", n, b" rule"),
+        Words::Denied(denial) => {
+            put_number_between(writer, b"start ", n, b"");
+            put_answer(writer, names, &Answer::Denied(*denial))
+        }
+    }
 }
 
 /// Writes the text of an end, unless the writer has failed.
 pub fn put_end<W: Write>(writer: &mut Watched<W>, names: &Names, n: u32, answer: &Answer)
     requires { NamesAnswer names.now answer.now }
-    ensures { Puts (codes "end " ++ (decimal n ++ answer_text names.now answer.now)) (end_state W.contents writer.old) (end_state W.contents writer.new) }
+    ensures { Puts (codes "end " ++ (decimal n ++ answer_text names.now answer.now))
+        (end_state W.contents writer.old) (end_state W.contents writer.new) }
 {
-    put(writer, b"end ");
-    put_number(writer, n);
+    put_number_between(writer, b"end ", n, b"");
     put_answer(writer, names, answer);
 }
 

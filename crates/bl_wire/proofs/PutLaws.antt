@@ -1,6 +1,6 @@
 -- Texts that are put one after the other.
-use Rattle.std.proofs.Common.{◌≡◌, ℕ, zero, suc, ◌+◌, ◌≤◌, Bool, true, false, List, [], ◌∷◌, ◌++◌, length, refl, sym, ap, subst, ◌∙◌, append-nil, append_assoc, add-one, ◌<◌, get_or, codes, arith, take, length-append, take_all}
-use Rattle.std.proofs.Math.Seq.{take-append-add, take-suc}
+use Rattle.std.proofs.Common.{◌≡◌, ℕ, zero, suc, ◌+◌, ◌≤◌, Bool, true, false, List, [], ◌∷◌, ◌++◌, length, refl, sym, ap, subst, ◌∙◌, append-nil, append_assoc, add-one, ◌<◌, get_or, arith, take, length-append, take_all, drop, length-drop}
+use Rattle.std.proofs.Math.Seq.{take-add, take-append-add, take-suc}
 use Rattle.std.specs.Io.KnownBytes.{Appends, Keeps}
 use Rattle.std.proofs.KnownBytes.{Appends-nil, Appends-trans, Appends-kept}
 use Rattle.std.specs.List.{flat_map}
@@ -63,17 +63,16 @@ pub puts-four : (t a b c d : List ℕ) (x y z u v : EndState) → t ≡ a ++ (b 
 puts-four t a b c d x y z u v is p q r s = puts-two t a (b ++ (c ++ d)) x y v is p (puts-three (b ++ (c ++ d)) b c d y z u v refl q r s)
 
 -- the texts of a list, and one more between quotation marks
-pub puts-output : (front : List ℕ) (xs : List (List ℕ)) (i : ℕ) (text d : List ℕ) (x y z u v : EndState) → i < length xs → text ≡ get_or xs i d
-    → Puts (front ++ flat_map output_text (take i xs)) x y → Puts (codes " \"") y z → Puts text z u → Puts (codes "\"") u v
-    → Puts (front ++ flat_map output_text (take (i + 1) xs)) x v
-puts-output front xs i text d x y z u v lt is p q r s =
+pub puts-output : (front : List ℕ) (xs : List (List ℕ)) (i : ℕ) (text d : List ℕ) (x y z : EndState) → i < length xs → text ≡ get_or xs i d
+    → Puts (front ++ flat_map output_text (take i xs)) x y → Puts (output_text text) y z
+    → Puts (front ++ flat_map output_text (take (i + 1) xs)) x z
+puts-output front xs i text d x y z lt is p q =
     let one : flat_map output_text (take (i + 1) xs) ≡ flat_map output_text (take i xs) ++ output_text text =
     ap (λ k. flat_map output_text (take k xs)) (add-one i) ∙ ap (flat_map output_text) (take-suc xs i d lt ∙ ap (λ t. take i xs ++ t ∷ []) (sym is))
     ∙ flat_map-append output_text (take i xs) (text ∷ []) ∙ ap (λ l. flat_map output_text (take i xs) ++ l) (append-nil (output_text text)) in
     let whole : front ++ flat_map output_text (take (i + 1) xs) ≡ (front ++ flat_map output_text (take i xs)) ++ output_text text =
     ap (λ l. front ++ l) one ∙ sym (append_assoc front (flat_map output_text (take i xs)) (output_text text)) in
-    puts-two _ (front ++ flat_map output_text (take i xs)) (output_text text) x y v whole p
-    (puts-three (output_text text) (codes " \"") text (codes "\"") y z u v refl q r s)
+    puts-two _ (front ++ flat_map output_text (take i xs)) (output_text text) x y z whole p q
 
 -- four texts, joined from the left
 pub puts-line : (a b c d : List ℕ) (x y z u v : EndState) → Puts a x y → Puts b y z → Puts c z u → Puts d u v → Puts (((a ++ b) ++ c) ++ d) x v
@@ -86,6 +85,19 @@ puts-kept a x y z p fine kept = record {
   bytes = Appends-kept x.bytes y.bytes z.bytes (take p.much a) p.bytes kept;
   all = λ well. p.all fine;
   none = λ was. absurd (clash y.failed (p.none was).1 fine);
+}
+  where
+    clash : (b : Bool) → b ≡ true → b ≡ false → ⊥
+    clash b yes' no' = cc
+
+-- a first part of a text was written to a writer that had not failed, and then the rest was put
+pub puts-rest : (n : ℕ) (bytes rest : List ℕ) (x y z : EndState) → rest ≡ drop n bytes → x.failed ≡ false → Appends x.bytes y.bytes (take n bytes) → Puts rest y z → Puts bytes x z
+puts-rest n bytes rest x y z is fine begun q = record {
+  much = n + q.much;
+  bytes = subst (Appends x.bytes z.bytes) (ap (λ l. take n bytes ++ take q.much l) is ∙ sym (take-add n q.much bytes))
+      (Appends-trans x.bytes y.bytes z.bytes (take n bytes) (take q.much rest) begun q.bytes);
+  all = λ well. omega (arith, ap length is, length-drop n bytes, q.all well);
+  none = λ failed. absurd (clash x.failed failed fine);
 }
   where
     clash : (b : Bool) → b ≡ true → b ≡ false → ⊥

@@ -5,7 +5,7 @@ ghost use Rattle.bl_wire.specs.Replies.{label_text, answer_text, object_text};
 ghost use Rattle.bl_wire.specs.Named.{NamesDenial, NamesAnswer};
 ghost use Rattle.bl_wire.specs.Watch.{end_state, Puts};
 
-use crate::put::{put, put_number};
+use crate::put::{put, put_between, put_number};
 use crate::watched::Watched;
 use bl_policy::denial::Denial;
 use bl_policy::id::DocId;
@@ -15,7 +15,8 @@ use std::io::Write;
 
 /// Writes an entry's label, unless the writer has failed: its line's ordinal, and the child numbers down to it.
 pub fn put_label<W: Write>(writer: &mut Watched<W>, ordinal: u32, path: &[u32])
-    ensures { Puts (label_text (ordinal ∷ path.now)) (end_state W.contents writer.old) (end_state W.contents writer.new) }
+    ensures { Puts (label_text (ordinal ∷ path.now))
+        (end_state W.contents writer.old) (end_state W.contents writer.new) }
 {
     put_number(writer, ordinal);
     for number in path {
@@ -26,14 +27,13 @@ pub fn put_label<W: Write>(writer: &mut Watched<W>, ordinal: u32, path: &[u32])
 
 /// Writes ` done`, and a space and each output in quotation marks.
 fn put_done<W: Write>(writer: &mut Watched<W>, names: &Names, outputs: &Outputs)
-    ensures { Puts (answer_text names.now (Done outputs.now)) (end_state W.contents writer.old) (end_state W.contents writer.new) }
+    ensures { Puts (answer_text names.now (Done outputs.now))
+        (end_state W.contents writer.old) (end_state W.contents writer.new) }
 {
     let _ = names;
     put(writer, b" done");
     for text in outputs.texts() {
-        put(writer, b" \"");
-        put(writer, text.bytes());
-        put(writer, b"\"");
+        put_between(writer, b" \"", text.bytes(), b"\"");
     }
 }
 
@@ -54,7 +54,8 @@ fn put_object<W: Write>(writer: &mut Watched<W>, names: &Names, object: Option<D
 /// Writes ` denied CLAUSE SUBJECT`, and a space and the object where there is one.
 fn put_denied<W: Write>(writer: &mut Watched<W>, names: &Names, denial: &Denial)
     requires { NamesDenial names.now denial.now }
-    ensures { Puts (answer_text names.now (Denied denial.now)) (end_state W.contents writer.old) (end_state W.contents writer.new) }
+    ensures { Puts (answer_text names.now (Denied denial.now))
+        (end_state W.contents writer.old) (end_state W.contents writer.new) }
 {
     put(writer, b" denied ");
     put(writer, denial.clause.word().as_bytes());
@@ -66,7 +67,8 @@ fn put_denied<W: Write>(writer: &mut Watched<W>, names: &Names, denial: &Denial)
 /// Writes an answer as a reply has it behind the label, unless the writer has failed.
 pub fn put_answer<W: Write>(writer: &mut Watched<W>, names: &Names, answer: &Answer)
     requires { NamesAnswer names.now answer.now }
-    ensures { Puts (answer_text names.now answer.now) (end_state W.contents writer.old) (end_state W.contents writer.new) }
+    ensures { Puts (answer_text names.now answer.now)
+        (end_state W.contents writer.old) (end_state W.contents writer.new) }
 {
     match answer {
         Answer::Done(outputs) => put_done(writer, names, outputs),

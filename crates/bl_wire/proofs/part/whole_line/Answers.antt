@@ -1,4 +1,4 @@
-use Rattle.std.proofs.Common.{rules, ◌≡◌, ◌≤◌, ◌==◌, arith, length, min, position, take}
+use Rattle.std.proofs.Common.{rules, ◌≡◌, ◌==◌, arith, length, min, position, take}
 use Rattle.bl_wire.proofs.Parts.{whole_at, none_whole}
 use Rattle.bl_wire.proofs.part.whole_line.Goals as goal
 

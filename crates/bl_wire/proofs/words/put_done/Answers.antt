@@ -9,5 +9,5 @@ loop-text-preserved g c =
     let within : i < length c.args.outputs.now = omega (arith, ap length same) in
     let text : c.bytes.result.now ≡ get_or c.args.outputs.now i c.text-item.result =
     c.bytes.ensures.value ∙ c.text-item.is ∙ ap (λ l. get_or l i c.text-item.result) same in
-    puts-output (codes " done") c.args.outputs.now i c.bytes.result.now _ _ _ _ _ _ within text
-    c.loop-text.invariant c.put-in-loop-text.ensures.puts c.put-in-loop-text-2.ensures.puts c.put-in-loop-text-3.ensures.puts
+    puts-output (codes " done") c.args.outputs.now i c.bytes.result.now _ _ _ _ within text
+    c.loop-text.invariant c.put_between.ensures
