@@ -3,6 +3,7 @@ ghost use Rattle.std.specs.Prelude.{◌≡◌, ◌≤◌, length};
 ghost use Rattle.bl_disk.specs.Moments.{Passes};
 
 use bl_disk::device::{Device, DeviceError};
+use memchr::memchr_iter;
 use std::alloc::{AllocError, Global};
 
 /// Notes how many events a journal has kept.
@@ -36,7 +37,11 @@ pub struct Timed<D: Device, N: Note> {
 fn lines_in(text: &[u8]) -> usize
     ensures { result ≤ length text.now }
 {
-    text.iter().filter(|byte| **byte == b'\n').count()
+    let mut lines = 0;
+    for _at in memchr_iter(b'\n', text) {
+        lines += 1;
+    }
+    lines
 }
 
 /// Where the lines of a text end.
