@@ -1,5 +1,5 @@
 //! How session threads that sleep are woken.
-use bl_worker::count::{Count, Counted, EndToRing, Flag, Looked, Seen, Woken};
+use bl_worker::count::{Count, EndToRing, Flag, Looked, Quiet, Seen, Sleeper};
 use mio::Waker;
 use std::alloc::{AllocError, Global};
 
@@ -8,6 +8,16 @@ use std::alloc::{AllocError, Global};
 struct Alarm {
     armed: Flag,
     waker: Waker,
+}
+
+impl Sleeper for Alarm {
+    fn flag(&self) -> &Flag {
+        &self.armed
+    }
+
+    fn wake(&self) {
+        let _ = self.waker.wake();
+    }
 }
 
 /// The alarms of all session threads, each by the number of its thread, and how many entries have ended.
@@ -46,41 +56,27 @@ impl Alarms {
     /// Says that an entry has ended, and wakes each thread that is to know. Where none is it makes no call of the
     /// system.
     pub fn ring_end(&self, end: EndToRing) {
-        self.wake_armed(self.ends.add_end(end));
+        let counted = self.ends.add_end(end);
+        counted.wake(&self.alarms);
     }
 
-    /// Wakes each thread that is to know, since an end was counted.
-    fn wake_armed(&self, counted: Counted) -> Woken {
-        for alarm in &self.alarms {
-            if alarm.armed.lower(&counted) {
-                let _ = alarm.waker.wake();
-            }
-        }
-        counted.woken()
-    }
-
-    /// Has the next end wake a thread, and says whether none has come since it has looked: then it may sleep.
-    pub fn arm(&self, thread: usize, looked: &Looked) -> bool {
-        match self.alarms.get(thread) {
-            Some(alarm) => {
-                let raised = alarm.armed.raise();
-                !self.ends.has_come(looked, raised)
-            }
-            None => false,
-        }
+    /// Has the next end wake a thread, which may sleep if none has come since it has looked.
+    pub fn arm(&self, thread: usize, looked: &Looked) -> Option<Quiet> {
+        let alarm = self.alarms.get(thread)?;
+        self.ends.rest(looked, &alarm.armed)
     }
 
     /// Wakes a thread, whatever it waits for.
     pub fn wake(&self, thread: usize) {
         if let Some(alarm) = self.alarms.get(thread) {
-            let _ = alarm.waker.wake();
+            alarm.wake();
         }
     }
 
     /// Wakes all threads.
     pub fn wake_all(&self) {
         for alarm in &self.alarms {
-            let _ = alarm.waker.wake();
+            alarm.wake();
         }
     }
 }

@@ -1,7 +1,8 @@
 //! How threads that have nothing to do are woken.
 
-use crate::count::{Count, Counted, EndToRing, Flag, Looked, Seen, Woken};
-use std::sync::{Condvar, Mutex, Wait};
+use crate::count::{Count, Counted, EndToRing, Flag, Looked, Seen, Sleeper, Woken};
+use crate::wake_up::WakeUp;
+use std::sync::{Mutex, Wait};
 
 /// That a bell is closed, as its owner knows who has closed it, and who was told so where it waited. Nobody else has
 /// one.
@@ -42,7 +43,7 @@ pub trait WorkerBell {
 struct Bench {
     rings: Count,
     taken: Flag,
-    rung: Condvar,
+    wake_up: WakeUp,
 }
 
 impl Bench {
@@ -50,34 +51,50 @@ impl Bench {
         Bench {
             rings: Count::new(),
             taken: Flag::new(),
-            rung: Condvar::new(),
+            wake_up: WakeUp::new(),
         }
     }
 
     /// Wakes all that wait here, since something was counted. Where nobody does it makes no call of the system.
     fn wake<R: Wait>(&self, rt: &R, closed: &Mutex<bool>, counted: Counted) -> Woken {
-        if self.taken.lower(&counted) {
-            // who has raised the flag holds the lock until it sleeps
-            let _closed = closed.lock(rt);
-            self.rung.notify_all();
-        }
-        counted.woken()
+        counted.wake(&[Waiting {
+            rt,
+            closed,
+            bench: self,
+        }])
     }
 
     /// Waits until it has come since a look or the bell is closed, and says whether it is closed.
     fn wait<R: Wait>(&self, rt: &R, closed: &Mutex<bool>, looked: Looked) -> Option<Closed> {
         let mut closed = closed.lock(rt);
         for _ in rt.forever() {
-            let raised = self.taken.raise();
             if *closed {
                 return Some(Closed::told());
             }
-            if self.rings.has_come(&looked, raised) {
-                return None;
-            }
-            closed = self.rung.wait(rt, closed);
+            let quiet = self.rings.rest(&looked, &self.taken)?;
+            closed = self.wake_up.wait(rt, closed, quiet);
         }
         unreachable!()
+    }
+}
+
+/// Those who wait at a bench of a bell, as who rings it finds them.
+#[derive(Drop)]
+struct Waiting<'a, R> {
+    rt: &'a R,
+    closed: &'a Mutex<bool>,
+    bench: &'a Bench,
+}
+
+impl<R: Wait> Sleeper for Waiting<'_, R> {
+    fn flag(&self) -> &Flag {
+        &self.bench.taken
+    }
+
+    fn wake(&self) {
+        // who has raised the flag holds the lock until it sleeps
+        let _closed = self.closed.lock(self.rt);
+        self.bench.wake_up.send();
     }
 }
 

@@ -1,9 +1,10 @@
 //! How often something came that threads wait for, and what they hand on from step to step, so that nobody is left to
 //! sleep. Each of these values is given by one step alone, and taken by the one that has to come after it.
 //!
-//! Who waits reads the count (`Seen`), looks in a turn at the gate (`Looked`), raises a flag (`Raised`), and sees then
-//! whether something was counted since. Who has something new counts it (`Counted`), and sees then whose flag is
-//! raised. So one of the two sees the other. Which count it is, and whom a ring wakes, and when, is not proved.
+//! Who waits reads the count (`Seen`), looks in a turn at the gate (`Looked`), raises a flag, and sees then whether
+//! something was counted since; if nothing was, it may sleep (`Quiet`). Who has something new counts it (`Counted`),
+//! and sees then whose flag is raised, whom it wakes (`Woken`). So one of the two sees the other. Which count it is,
+//! whom it wakes, and when who is woken goes on, is not proved.
 ghost use Rattle.std.specs.Prelude.{◌↔◌, IsSome, IsTrue};
 
 use bl_gate::turn::Turn as AtGate;
@@ -28,15 +29,29 @@ impl EndToRing {
     }
 }
 
+/// Those who wait for the same with one flag, and how they are woken.
+pub trait Sleeper {
+    /// Their flag.
+    fn flag(&self) -> &Flag;
+
+    /// Wakes them.
+    fn wake(&self);
+}
+
 /// That something was counted: then those who wait for it have to be woken, and it cannot be let go otherwise.
 pub struct Counted {
     before: u64,
 }
 
 impl Counted {
-    /// Spends it. This is for who has woken them.
-    pub fn woken(self) -> Woken {
+    /// Wakes those of these whose flag is raised, and lowers it. Where none is it makes no call of the system.
+    pub fn wake<S: Sleeper>(self, sleepers: &[S]) -> Woken {
         let Counted { before } = self;
+        for sleeper in sleepers {
+            if sleeper.flag().lower() {
+                sleeper.wake();
+            }
+        }
         Woken { _before: before }
     }
 }
@@ -88,10 +103,11 @@ impl Looked {
     }
 }
 
-/// That a flag was raised, which who counts something from now on finds so.
+/// That nothing had come since a thread has looked, as its flag was raised already: it may sleep, for who counts what
+/// comes now finds the flag.
 #[derive(Drop)]
-pub struct Raised {
-    _before: bool,
+pub struct Quiet {
+    _raised: (),
 }
 
 /// That somebody is to be woken, who may sleep.
@@ -109,15 +125,12 @@ impl Flag {
     }
 
     /// Raises it.
-    pub fn raise(&self) -> Raised {
-        Raised {
-            _before: self.raised.swap(true, Ordering::SeqCst),
-        }
+    fn raise(&self) {
+        self.raised.store(true, Ordering::SeqCst);
     }
 
-    /// Lowers it, and says whether it was raised. Who has counted asks this.
-    pub fn lower(&self, counted: &Counted) -> bool {
-        let _ = counted;
+    /// Lowers it, and says whether it was raised.
+    fn lower(&self) -> bool {
         self.raised.load(Ordering::SeqCst) && self.raised.swap(false, Ordering::SeqCst)
     }
 }
@@ -156,9 +169,13 @@ impl Count {
         self.add()
     }
 
-    /// Whether it has come since a thread has looked. Who may sleep by this has raised a flag before.
-    pub fn has_come(&self, looked: &Looked, raised: Raised) -> bool {
-        let _ = raised;
-        looked.is_behind(&self.read())
+    /// Raises a flag, and says then whether nothing has come since a thread has looked.
+    pub fn rest(&self, looked: &Looked, flag: &Flag) -> Option<Quiet> {
+        flag.raise();
+        if looked.is_behind(&self.read()) {
+            None
+        } else {
+            Some(Quiet { _raised: () })
+        }
     }
 }

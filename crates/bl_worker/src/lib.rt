@@ -6,6 +6,7 @@
 //!     short     what is long to run, and what is short and is run in a turn at the gate
 //!     pause     what a turn does between the start and the end
 //!     count     how often something came that threads wait for, and what they hand on
+//!     wake_up   what wakes threads that wait at a bell
 //!     bell      how threads that have nothing to do are woken
 //!     worker    a worker, turn by turn
 #![tactic(auto)]
@@ -17,4 +18,5 @@ pub(crate) mod hand;
 pub mod pause;
 pub mod short;
 pub mod turn;
+pub(crate) mod wake_up;
 pub mod worker;
