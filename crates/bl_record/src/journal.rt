@@ -70,8 +70,8 @@ impl<D: Device> Closed<D> {
     }
 }
 
-/// How many bytes of lines have room at first: those of some lines of sessions, with what comes of them.
-const FIRST_ROOM: usize = 1_024;
+/// How many bytes of text have room for each event at first: the three events of a short line take a little less.
+const EVENT_ROOM: usize = 32;
 
 /// The head of a trail of version 2.
 fn head_text(alloc: Global, limit: u32) -> Result<Vec<u8>, AllocError>
@@ -93,7 +93,9 @@ fn lines_after(alloc: Global, hall: &Hall, reached: Bookmark) -> Result<Lines, A
     // asked for the proof alone: the events of a hall are a trail
     let _core = hall.core();
     let mut bookmark = reached;
-    let mut text = Watched::new(Vec::with_capacity(alloc, FIRST_ROOM)?);
+    let new = hall.trail().len().saturating_sub(reached.written);
+    let room = new.saturating_mul(EVENT_ROOM);
+    let mut text = Watched::new(Vec::with_capacity(alloc, room)?);
     match write_lines(alloc, hall, &mut bookmark, &mut text) {
         Ok(()) => Ok(Lines {
             text: text.into_inner(),
@@ -103,9 +105,9 @@ fn lines_after(alloc: Global, hall: &Hall, reached: Bookmark) -> Result<Lines, A
     }
 }
 
-/// Begins a journal under a limit, which is 1 to 100,000: its file has the head of a trail, on the disk. What was there is cut off, as
-/// a head that a crash has torn. `Memory` comes where a growth is refused, and then the file is as it was; the device is given back
-/// with each fault.
+/// Begins a journal under a limit, which is 1 to 100,000: its file has the head of a trail, on the disk. What was there
+/// is cut off, as a head that a crash has torn. `Memory` comes where a growth is refused, and then the file is as it
+/// was; the device is given back with each fault.
 pub fn begin<D: Device>(
     alloc: Global,
     limit: u32,
@@ -196,17 +198,19 @@ impl<D: Device> Journal<D> {
         }
     }
 
-    /// Keeps up with a hall: writes the lines of all that has happened since, and has them on the disk before it answers. Whenever the
-    /// machine ends, in the call or after it, all that was kept before is recovered.
+    /// Keeps up with a hall: writes the lines of all that has happened since, and has them on the disk before it
+    /// answers. Whenever the machine ends, in the call or after it, all that was kept before is recovered.
     ///
-    /// `Memory` comes where a growth is refused: nothing has changed then, and the next call goes on. `Device` comes where the device
-    /// failed: the journal stays failed, and each later call tells that fault at once.
+    /// `Memory` comes where a growth is refused: nothing has changed then, and the next call goes on. `Device` comes
+    /// where the device failed: the journal stays failed, and each later call tells that fault at once.
     pub fn keep_up(&mut self, alloc: Global, hall: &Hall) -> Result<(), JournalFault>
         requires sound { self.old.fault ≡ None → D.has_failed self.old.log.device ≡ false }
-        requires goes_on { self.old.fault ≡ None → (before : Chronicle) × IsKept before self.old.bookmark (D.now self.old.log.device) × HasGrown before hall.now }
+        requires goes_on { self.old.fault ≡ None → (before : Chronicle) × IsKept before self.old.bookmark
+            (D.now self.old.log.device) × HasGrown before hall.now }
         ensures kept { OnOk result (IsKept hall.now self.new.bookmark (D.now self.new.log.device)) }
-        ensures any_moment { (before : Chronicle) → IsKept before self.old.bookmark (D.now self.old.log.device) → HasGrown before hall.now
-            → Passes D.now D.past self.old.log.device self.new.log.device (LosesNothing before.setup (journal_of before)) }
+        ensures any_moment { (before : Chronicle) → IsKept before self.old.bookmark (D.now self.old.log.device)
+            → HasGrown before hall.now → Passes D.now D.past self.old.log.device self.new.log.device
+            (LosesNothing before.setup (journal_of before)) }
         ensures fine { OnOk result (self.new.fault ≡ None) }
         ensures sound { self.new.fault ≡ None → D.has_failed self.new.log.device ≡ false }
         ensures fault { IfErr result (HasFailedBy self.new.fault) }
@@ -224,8 +228,9 @@ impl<D: Device> Journal<D> {
         }
     }
 
-    /// Closes the journal: adds `stop`, and has it on the disk. What is there then is the true text of a trail, so who replays it accepts
-    /// it. Whenever the machine ends, all that was kept is recovered. A fault is the device's, in this call or before.
+    /// Closes the journal: adds `stop`, and has it on the disk. What is there then is the true text of a trail, so who
+    /// replays it accepts it. Whenever the machine ends, all that was kept is recovered. A fault is the device's, in
+    /// this call or before.
     pub fn close(self) -> Result<Closed<D>, (DeviceError, D)>
         requires sound { self.fault ≡ None → D.has_failed self.log.device ≡ false }
         ensures closed { IfOk result (λ closed. (hall : Chronicle)
@@ -236,7 +241,8 @@ impl<D: Device> Journal<D> {
             → IsTrueText hall.setup (seen (D.now closed)) (length hall.trail)) }
         ensures any_moment { IfOk result (λ closed. Passes D.now D.past self.log.device closed
             (Keeps (D.now self.log.device).kept)) }
-        ensures any_moment_failed { IfErr result (λ failed. Passes D.now D.past self.log.device failed.1 (Keeps (D.now self.log.device).kept)) }
+        ensures any_moment_failed { IfErr result
+            (λ failed. Passes D.now D.past self.log.device failed.1 (Keeps (D.now self.log.device).kept)) }
         ensures failed { IfSome self.fault (λ error. result ≡ Err (error, self.log.device)) }
     {
         closed_journals_are_true();
