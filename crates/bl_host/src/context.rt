@@ -44,7 +44,7 @@ impl<'a, P: Pause, K: Keep, T: Wait> ThreadContext<'a, P, K, T> {
             rt: self.rt,
             pause: self.pause,
             calls: self.calls(),
-            seen: self.keep.seen(thread),
+            events: self.keep.events(thread),
         }
     }
 

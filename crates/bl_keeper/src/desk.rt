@@ -18,7 +18,7 @@ struct Waiting {
 pub struct Desk {
     waiting: Mutex<VecDeque<Waiting>>,
     alone: AtomicBool,
-    seen: AtomicU64,
+    events: AtomicU64,
 }
 
 impl Desk {
@@ -27,7 +27,7 @@ impl Desk {
         Desk {
             waiting: Mutex::new(VecDeque::new(alloc)),
             alone: AtomicBool::new(false),
-            seen: AtomicU64::new(u64::MAX),
+            events: AtomicU64::new(u64::MAX),
         }
     }
 
@@ -113,9 +113,9 @@ impl Desks {
     }
 
     /// Where a thread notes how many events the trail had at its last turn at the gate, if it has a desk.
-    pub fn seen(&self, thread: usize) -> Option<&AtomicU64> {
+    pub fn events(&self, thread: usize) -> Option<&AtomicU64> {
         let desk = self.desks.get(thread)?;
-        Some(&desk.seen)
+        Some(&desk.events)
     }
 }
 

@@ -121,8 +121,8 @@ impl<G: Which, D: Device> Keep for Keeper<'_, G, D> {
         self.askers.receipt_of(rt, events)
     }
 
-    fn seen(&self, thread: usize) -> Option<&AtomicU64> {
-        self.desks.seen(thread)
+    fn events(&self, thread: usize) -> Option<&AtomicU64> {
+        self.desks.events(thread)
     }
 
     fn desk(&self, thread: usize) -> Option<&Desk> {

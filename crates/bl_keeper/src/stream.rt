@@ -11,10 +11,10 @@ use std::alloc::Global;
 use std::sync::Wait;
 use std::sync::atomic::Ordering;
 
-/// A stream that has all kept before each write of which it may tell: the events that the trail had at the last turn of
-/// its thread at the gate. Where that is refused, nothing is written, and the write has failed. Where its thread has a
-/// desk and other connections, it waits there: till it is decided each write would block. What is written then has to
-/// be what was to be written when it asked, or a front of that.
+/// A stream that has kept, before each write, all of which that may tell: the events that the trail had at the last
+/// turn of its thread at the gate. Where that is refused, nothing is written, and the write has failed. Where its
+/// thread has a desk and other connections, it waits there: till it is decided each write would block. What is written
+/// then has to be what was to be written when it asked, or a front of that.
 #[derive(Drop)]
 pub struct KeptStream<'a, S, K, T> {
     rt: &'a T,
@@ -82,8 +82,8 @@ impl<'a, S: Stream, K: Keep, T: Wait> KeptStream<'a, S, K, T> {
 
     /// Of how many events it may tell at most: of those that the trail had at the last turn of its thread.
     fn events(&self) -> u64 {
-        match self.keep.seen(self.place.thread) {
-            Some(seen) => seen.load(Ordering::SeqCst),
+        match self.keep.events(self.place.thread) {
+            Some(noted) => noted.load(Ordering::SeqCst),
             None => u64::MAX,
         }
     }

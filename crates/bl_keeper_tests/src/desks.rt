@@ -51,7 +51,7 @@ fn first_desk<'a, K: Keep>(rt: &impl Abort, keep: &'a K) -> &'a Desk {
 
 /// Notes that the trail had so many events at the last turn of the first thread.
 fn note_events<K: Keep>(rt: &impl Abort, keep: &K, events: u64) {
-    match keep.seen(0) {
+    match keep.events(0) {
         Some(seen) => seen.store(events, Ordering::SeqCst),
         None => panic!(rt; "nothing is noted"),
     }

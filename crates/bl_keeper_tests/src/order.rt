@@ -43,7 +43,7 @@ impl Keep for Counts {
         None
     }
 
-    fn seen(&self, thread: usize) -> Option<&AtomicU64> {
+    fn events(&self, thread: usize) -> Option<&AtomicU64> {
         let _ = thread;
         None
     }

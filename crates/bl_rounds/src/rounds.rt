@@ -79,7 +79,7 @@ pub struct RoundContext<'a, P, R> {
     pub rt: &'a R,
     pub pause: &'a P,
     pub calls: Calls<'a>,
-    pub seen: Option<&'a AtomicU64>,
+    pub events: Option<&'a AtomicU64>,
 }
 
 impl WorkerBell for Calls<'_> {
@@ -123,7 +123,7 @@ impl Marks {
     /// since it has looked.
     fn arm(&self, alarms: &Alarms, thread: usize) -> bool {
         match &self.looked {
-            Some(looked) => !self.left && alarms.arm(thread, looked),
+            Some(looked) => !self.left && alarms.arm(thread, looked).is_some(),
             None => false,
         }
     }
@@ -346,9 +346,9 @@ fn tell_of<R: Wait>(rt: &R, calls: Calls<'_>, round: Round, waits: bool, marks: 
 }
 
 /// Notes how many events the trail had at a turn, if somebody asks for that.
-fn note_seen(seen: Option<&AtomicU64>, events: usize) {
-    if let Some(seen) = seen {
-        seen.store(events as u64, Ordering::SeqCst);
+fn note_events(noted: Option<&AtomicU64>, events: usize) {
+    if let Some(noted) = noted {
+        noted.store(events as u64, Ordering::SeqCst);
     }
 }
 
@@ -390,7 +390,7 @@ fn take_turn<S: Stream, P: Pause, R: Wait, Q: Asks>(
     let seen = context.calls.alarms.ends();
     let round = crowd.round(context.rt, quota, &mut hand.batch, portion, seen);
     tell_of(context.rt, context.calls, round, waits, &mut hand.marks);
-    note_seen(context.seen, hand.marks.events);
+    note_events(context.events, hand.marks.events);
     go_on_each(crowd, seats, hand.marks.time);
     hand.batch.run(hand.alloc, context.pause);
 }

@@ -140,7 +140,7 @@ fn go_round<'a, R: Wait, Q: Asks>(
         rt,
         pause: &NoPause,
         calls,
-        seen: None,
+        events: None,
     };
     thread.round(&context, quota);
 }

@@ -111,7 +111,7 @@ fn what_is_left_is_told_to_workers(rt: HostRuntime) {
         rt: &rt,
         pause: &NoPause,
         calls,
-        seen: None,
+        events: None,
     };
     let mut thread = Rounds::new(alloc, &gate, pass);
     let stream = ends_of(alloc, says.as_slice(), pausing_at(4), Manner::PLAIN);

@@ -48,10 +48,10 @@ fn an_end_wakes_who_waits_for_one(rt: HostRuntime) {
     drop(turn.leave());
     drop(gate);
     assert!(rt; none.is_behind(&alarms.ends()));
-    assert!(rt; !alarms.arm(0, &none));
-    assert!(rt; alarms.arm(0, &own));
-    assert!(rt; alarms.arm(0, &one));
-    assert!(rt; !alarms.arm(1, &one));
+    assert!(rt; alarms.arm(0, &none).is_none());
+    assert!(rt; alarms.arm(0, &own).is_some());
+    assert!(rt; alarms.arm(0, &one).is_some());
+    assert!(rt; alarms.arm(1, &one).is_none());
     alarms.ring_end(EndToRing::new());
     assert!(rt; watch.wait(None));
     assert!(rt; watch.events().count() == 1);

@@ -64,7 +64,7 @@ impl Keep for Once {
         None
     }
 
-    fn seen(&self, thread: usize) -> Option<&AtomicU64> {
+    fn events(&self, thread: usize) -> Option<&AtomicU64> {
         let _ = thread;
         None
     }
