@@ -4,13 +4,17 @@ use bl_core::session::SessionNo;
 use bl_disk::device::{Device, DeviceError};
 use bl_disk::memory::Memory;
 use std::alloc::Global;
+use std::rt::Clock;
 use std::sync::atomic::{AtomicU64, Ordering};
 use std::thread;
+use std::time::Duration;
 
-/// How often a sync looks at most whether all threads have asked, and how often it lets them go on after that.
+/// How often a sync looks at most whether all threads have asked.
 const LOOKS: u32 = 1_000_000;
 
-const STEPS: u32 = 200;
+/// How long a sync takes after that. Those whom the one before served count as asking until they are awake, and there
+/// are steps between a thread's count and its question.
+const NAP_MILLIS: u64 = 4;
 
 /// What the threads of a test and its file tell each other.
 #[derive(Drop)]
@@ -73,17 +77,15 @@ impl Meeting {
         self.asking.load(Ordering::SeqCst) >= self.going.load(Ordering::SeqCst)
     }
 
-    /// Lets the others go on until all have asked, and some steps more, as between a call and its first step.
-    fn wait_for_all(&self) {
+    /// Lets the others go on until all have asked, and a while longer.
+    fn wait_for_all<R: Clock>(&self, rt: &R) {
         for _ in 0..LOOKS {
             if self.is_full() {
                 break;
             }
             thread::yield_now();
         }
-        for _ in 0..STEPS {
-            thread::yield_now();
-        }
+        thread::sleep(rt, Duration::from_millis(NAP_MILLIS));
     }
 
     /// Notes a sync, after which so many bytes are kept.
@@ -95,22 +97,24 @@ impl Meeting {
 
 /// A file in memory whose syncs take until all threads have asked.
 #[derive(Drop)]
-pub(super) struct Crowded<'a> {
+pub(super) struct Crowded<'a, R> {
+    rt: &'a R,
     memory: Memory,
     meeting: &'a Meeting,
 }
 
-impl<'a> Crowded<'a> {
+impl<'a, R> Crowded<'a, R> {
     /// A file with nothing in it.
-    pub(super) fn new(alloc: Global, meeting: &'a Meeting) -> Crowded<'a> {
+    pub(super) fn new(rt: &'a R, alloc: Global, meeting: &'a Meeting) -> Crowded<'a, R> {
         Crowded {
+            rt,
             memory: Memory::new(alloc, Vec::new(alloc)),
             meeting,
         }
     }
 }
 
-impl Device for Crowded<'_> {
+impl<R: Clock> Device for Crowded<'_, R> {
     ghost use Rattle.std.specs.Prelude.{false};
     ghost use Rattle.bl_disk.specs.InMemory.{memory_now, memory_past};
 
@@ -133,7 +137,7 @@ impl Device for Crowded<'_> {
     }
 
     fn sync(&mut self) -> Result<(), DeviceError> {
-        self.meeting.wait_for_all();
+        self.meeting.wait_for_all(self.rt);
         self.memory.sync()?;
         self.meeting.note(self.memory.now().kept.len());
         Ok(())

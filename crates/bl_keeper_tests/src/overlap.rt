@@ -136,7 +136,7 @@ fn one_sync_serves_all_that_asked_before_it(rt: HostRuntime) {
         gate,
         pass,
         journal,
-    } = begin_in(&rt, Crowded::new(rt.alloc(), &meeting));
+    } = begin_in(&rt, Crowded::new(&rt, rt.alloc(), &meeting));
     keep_all::<Brand, _, _>(&rt, &gate, pass, journal, &meeting);
     assert!(rt; meeting.syncs() <= 66);
 }
