@@ -1,5 +1,5 @@
 -- Known bytes of a stream, and those that a connection keeps.
-use Rattle.std.proofs.Common.{◌≡◌, ℕ, List, [], ◌++◌, length, sym, ap, ◌∙◌, append_assoc, Option, Some, None, OnSome, take, drop, take-append-drop}
+use Rattle.std.proofs.Common.{◌≡◌, ℕ, List, [], ◌++◌, length, sym, ap, ◌∙◌, append_assoc, Option, Some, None, OnSome, take}
 use lib.Seq.{take-append_seam}
 use Rattle.std.specs.Io.KnownBytes.{Consumes, IsAtEnd, Keeps, prepend_known}
 use Rattle.bl_engine.specs.BlockText.{Begins}
@@ -52,10 +52,6 @@ begins_front written rest said text is begins = (rest ++ begins.0, begins.1 ∙ 
 -- and what begins a text begins it with more
 pub begins_on : (before written more : List ℕ) → Begins before written → Begins before (written ++ more)
 begins_on before written more begins = (begins.0 ++ more, ap (λ l. l ++ more) begins.1 ∙ append_assoc before begins.0 more)
-
--- of what was to be written a front was taken
-pub said_on : (said written u more : List ℕ) (n : ℕ) → said ≡ written ++ u → said ≡ (written ++ take n u) ++ drop n u
-said_on said written u more n is = is ∙ ap (λ l. written ++ l) (sym (take-append-drop n u)) ∙ sym (append_assoc written (take n u) (drop n u))
 
 -- the front of a list, by its length
 pub front_of : (n : ℕ) (xs ys : List ℕ) → n ≡ length xs → take n (xs ++ ys) ≡ xs

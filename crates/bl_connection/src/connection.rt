@@ -1,9 +1,11 @@
-//! A session over a stream that may say that it would block. Each call reads, hears, tells or writes once, and waits for nothing: what
-//! is to come next is asked by `state`. What is asked of the machine is met by whoever owns the connection.
+//! A session over a stream that may say that it would block. Each call reads, hears, tells or writes once, and waits
+//! for nothing: what is to come next is asked by `state`. What is asked of the machine is met by whoever owns the
+//! connection.
 //!
-//! At most 16 KB are read at a time, or 1 KB where the read before did not fill its room, and no more before all of that was heard.
-//! Nothing is heard before all that was told is written, and no more is told once 64 KB wait. So a client that takes nothing costs a
-//! block, 16 KB and less than 64 KB and one part of a reply, and after a fault of reading all that was told is written.
+//! At most 16 KB are read at a time, or 512 bytes where the read before did not fill its room, and no more before all
+//! of that was heard. Nothing is heard before all that was told is written, and no more is told once 64 KB wait. So a
+//! client that takes nothing costs a block, 16 KB and less than 64 KB and one part of a reply, and after a fault of
+//! reading all that was told is written.
 ghost use Rattle.std.specs.Prelude.{◌≡◌, ◌<◌, ◌≤◌, length};
 
 use crate::stream::{Answer, Stream};
@@ -20,7 +22,10 @@ use std::snapshot::Snapshot;
 const MOST_READ: usize = 16_384;
 
 /// How many it takes at most where the one before did not fill its room.
-const FEW_READ: usize = 1_024;
+const FEW_READ: usize = 512;
+
+/// How many bytes have room at first of what is told: a short line's reply, and `ok`.
+const FEW_TOLD: usize = 64;
 
 /// Where a connection is: what is to be done next.
 #[derive(Clone, Copy, Debug, PartialEq, Eq)]
@@ -50,9 +55,9 @@ pub enum Progress {
     Blocked,
 }
 
-/// A session over a stream: the stream, and what it was at first; the conversation; the bytes that were read last, how many of them were
-/// heard, whether they filled their room, and whether the stream's input is at its end; the bytes that were told last, and how many of
-/// them were written.
+/// A session over a stream: the stream, and what it was at first; the conversation; the bytes that were read last, how
+/// many of them were heard, whether they filled their room, and whether the stream's input is at its end; the bytes
+/// that were told last, and how many of them were written.
 #[derive(Drop)]
 pub struct Connection<S> {
     stream: S,
@@ -83,12 +88,15 @@ impl<S: Stream> Connection<S> {
     ghost use Rattle.bl_engine.specs.Conversations.{GoesOnAlone, SameBlock, last_ordinal, need_of, waits_left};
     ghost use Rattle.bl_engine.specs.Parts.{MayTake};
     ghost use Rattle.bl_engine.specs.declared.conversation.Need.TheVariants as needs;
-    ghost use Rattle.bl_connection.specs.Connections.{BeginsText, Finishes, HearsMore, IsAnswered, IsHeard, IsNew, OpensAs, SameBytes, StaysConnected, StopsAs, TellsMore, state_of, unheard, unwritten};
+    ghost use Rattle.bl_connection.specs.Connections.{BeginsText, Finishes, HearsMore, IsAnswered, IsHeard, IsNew};
+    ghost use Rattle.bl_connection.specs.Connections.{OpensAs, SameBytes, StaysConnected, StopsAs, TellsMore, state_of};
+    ghost use Rattle.bl_connection.specs.Connections.{unheard, unwritten};
     ghost use Rattle.bl_connection.specs.declared.connection.Progress.TheVariants.{Moved, Blocked};
     ghost use Rattle.bl_connection.specs.declared.connection.State.TheVariants as states;
     ghost use Rattle.bl_connection.specs.declared.stream.Answer.TheVariants as answers;
 
-    /// A connection over a stream of which nothing was read and to which nothing was written. An error comes where memory was refused.
+    /// A connection over a stream of which nothing was read and to which nothing was written. An error comes where
+    /// memory was refused.
     pub fn new(alloc: Global, stream: S) -> Result<Connection<S>, AllocError>
     where
         S: Drop,
@@ -147,16 +155,21 @@ impl<S: Stream> Connection<S> {
         self.conv.ordinal()
     }
 
-    /// Reads the stream once. `Read` comes where the stream failed, and `Memory` where memory was refused; then nothing was read.
+    /// Reads the stream once. `Read` comes where the stream failed, and `Memory` where memory was refused; then nothing
+    /// was read.
     pub fn read(&mut self) -> Result<Progress, SessionFault>
         requires { state_of self.old ≡ states.Reads }
         ensures stays { StaysConnected S.remaining S.contents self.old self.new }
         ensures block { self.new.conv ≡ self.old.conv }
-        ensures moved { IfOk result (λ progress. progress ≡ Moved → S.reads self.old.stream (answers.Moved (length (unheard self.new))) self.new.stream) }
-        ensures blocked { IfOk result (λ progress. progress ≡ Blocked → S.reads self.old.stream answers.WouldBlock self.new.stream) }
+        ensures moved { IfOk result (λ progress. progress ≡ Moved
+            → S.reads self.old.stream (answers.Moved (length (unheard self.new))) self.new.stream) }
+        ensures blocked { IfOk result (λ progress. progress ≡ Blocked
+            → S.reads self.old.stream answers.WouldBlock self.new.stream) }
         ensures hears { IfOk result (λ progress. progress ≡ Moved → state_of self.new ≡ states.Hears) }
-        ensures fault { IfErr result (λ fault. (fault ≡ Memory) ⊎ ((fault ≡ Read) × S.reads self.old.stream answers.Failed self.new.stream)) }
-        ensures err { IfErr result (λ fault. (left : ℕ → List ℕ) → StopsAs S.remaining S.contents fault left self.old self.new) }
+        ensures fault { IfErr result (λ fault. (fault ≡ Memory) ⊎ ((fault ≡ Read)
+            × S.reads self.old.stream answers.Failed self.new.stream)) }
+        ensures err { IfErr result (λ fault. (left : ℕ → List ℕ)
+            → StopsAs S.remaining S.contents fault left self.old self.new) }
     {
         let most = room_after(self.filled);
         let mut room = vec![in self.alloc; 0u8; most]?;
@@ -173,15 +186,18 @@ impl<S: Stream> Connection<S> {
         Ok(Progress::Moved)
     }
 
-    /// Hears one line more of what was read, or a part of one, or the end of the input, and says what is asked then. `TooLong` comes
-    /// where more was read than a session may hear, and `Memory` where memory was refused; then the connection is to be dropped.
+    /// Hears one line more of what was read, or a part of one, or the end of the input, and says what is asked then.
+    /// `TooLong` comes where more was read than a session may hear, and `Memory` where memory was refused; then the
+    /// connection is to be dropped.
     pub fn hear(&mut self, names: &Names) -> Result<Option<Request>, SessionFault>
         requires { state_of self.old ≡ states.Hears }
         ensures heard { IfOk result (HearsMore S.remaining S.contents names.now self.old self.new) }
         ensures nearer { OnOk result (waits_left self.new.conv < waits_left self.old.conv) }
-        ensures written { OnOk result ((self.new.stream ≡ self.old.stream) × (unwritten self.new ≡ unwritten self.old)) }
+        ensures written { OnOk result ((self.new.stream ≡ self.old.stream)
+            × (unwritten self.new ≡ unwritten self.old)) }
         ensures fault { IfErr result (λ fault. (fault ≡ Memory) ⊎ (fault ≡ TooLong)) }
-        ensures err { IfErr result (λ fault. (left : ℕ → List ℕ) → StopsAs S.remaining S.contents fault left self.old self.new) }
+        ensures err { IfErr result (λ fault. (left : ℕ → List ℕ)
+            → StopsAs S.remaining S.contents fault left self.old self.new) }
     {
         if self.is_heard() {
             return Ok(self.conv.end(self.alloc, names)?);
@@ -198,7 +214,8 @@ impl<S: Stream> Connection<S> {
     fn is_heard(&self) -> bool
         requires { state_of self.now ≡ states.Hears }
         ensures all { result ≡ true → IsHeard self.now }
-        ensures some { result ≡ false → (need_of self.now.conv ≡ needs.Input) × (self.now.heard < length self.now.input.items) }
+        ensures some { result ≡ false → (need_of self.now.conv ≡ needs.Input)
+            × (self.now.heard < length self.now.input.items) }
     {
         match self.conv.need() {
             Need::Input => self.heard == self.input.len(),
@@ -236,21 +253,26 @@ impl<S: Stream> Connection<S> {
         self.conv.answered();
     }
 
-    /// Tells the next parts of what it has to say, until 64 KB or more wait to be written, or it has told all. `Memory` comes where memory
-    /// was refused; then the connection is to be dropped.
+    /// Tells the next parts of what it has to say, until 64 KB or more wait to be written, or it has told all. `Memory`
+    /// comes where memory was refused; then the connection is to be dropped.
     pub fn tell<B: Replies>(&mut self, block: &mut B) -> Result<(), SessionFault>
         requires state { state_of self.old ≡ states.Tells }
         requires stands { MayTake (B.stands block.old) (self.old.conv.after + self.old.conv.line + 1) }
-        ensures told { OnOk result (TellsMore S.remaining S.contents (B.left block.old) (B.left block.new) self.old self.new) }
-        ensures stands { need_of self.new.conv ≡ needs.Room → MayTake (B.stands block.new) (self.new.conv.after + self.new.conv.line + 1) }
+        ensures told { OnOk result (TellsMore S.remaining S.contents (B.left block.old) (B.left block.new) self.old
+            self.new) }
+        ensures stands { need_of self.new.conv ≡ needs.Room
+            → MayTake (B.stands block.new) (self.new.conv.after + self.new.conv.line + 1) }
         ensures last { OnOk result (last_ordinal self.new.conv ≡ last_ordinal self.old.conv) }
-        ensures done { OnOk result ((need_of self.new.conv ≡ needs.Room → ⊥) → (self.new.conv.pending.items ≡ []) × GoesOnAlone 0 self.new.conv.stage) }
+        ensures done { OnOk result ((need_of self.new.conv ≡ needs.Room → ⊥) → (self.new.conv.pending.items ≡ [])
+            × GoesOnAlone 0 self.new.conv.stage) }
         ensures most { OnOk result (need_of self.new.conv ≡ needs.Room → 65536 ≤ length (unwritten self.new)) }
         ensures fault { IfErr result (λ fault. fault ≡ Memory) }
-        ensures err { IfErr result (λ fault. StopsAs S.remaining S.contents Write (B.left block.old) self.old self.new) }
+        ensures err { IfErr result (λ fault. StopsAs S.remaining S.contents Write (B.left block.old) self.old
+            self.new) }
     {
         self.output.clear();
         self.written = 0;
+        self.output.reserve(FEW_TOLD)?;
         tell_parts(self.alloc, block, &mut self.conv, &mut self.output)?;
         Ok(())
     }
@@ -260,10 +282,16 @@ impl<S: Stream> Connection<S> {
         requires { state_of self.old ≡ states.Writes }
         ensures stays { StaysConnected S.remaining S.contents self.old self.new }
         ensures block { self.new.conv ≡ self.old.conv }
-        ensures moved { IfOk result (λ progress. progress ≡ Moved → (n : ℕ) × S.writes self.old.stream (unwritten self.old) (answers.Moved n) self.new.stream × (0 < n) × (unwritten self.new ≡ drop n (unwritten self.old))) }
-        ensures blocked { IfOk result (λ progress. progress ≡ Blocked → S.writes self.old.stream (unwritten self.old) answers.WouldBlock self.new.stream) }
-        ensures fault { IfErr result (λ fault. (fault ≡ Write) × (S.writes self.old.stream (unwritten self.old) answers.Failed self.new.stream ⊎ S.writes self.old.stream (unwritten self.old) (answers.Moved 0) self.new.stream)) }
-        ensures err { IfErr result (λ fault. (left : ℕ → List ℕ) → StopsAs S.remaining S.contents fault left self.old self.new) }
+        ensures moved { IfOk result (λ progress. progress ≡ Moved → (n : ℕ)
+            × S.writes self.old.stream (unwritten self.old) (answers.Moved n) self.new.stream × (0 < n)
+            × (unwritten self.new ≡ drop n (unwritten self.old))) }
+        ensures blocked { IfOk result (λ progress. progress ≡ Blocked
+            → S.writes self.old.stream (unwritten self.old) answers.WouldBlock self.new.stream) }
+        ensures fault { IfErr result (λ fault. (fault ≡ Write)
+            × (S.writes self.old.stream (unwritten self.old) answers.Failed self.new.stream
+            ⊎ S.writes self.old.stream (unwritten self.old) (answers.Moved 0) self.new.stream)) }
+        ensures err { IfErr result (λ fault. (left : ℕ → List ℕ)
+            → StopsAs S.remaining S.contents fault left self.old self.new) }
     {
         let count = match self.stream.write(&self.output[self.written..]) {
             Answer::Moved(count) => count,
