@@ -3,6 +3,7 @@
 //!     options     how many threads and connections there are
 //!     ended       how a session ended that was not served to its end
 //!     socket      a connection that does not wait
+//!     wait_counts what the sockets of a thread know of its waits
 //!     watch       where a thread waits until a socket is ready or its alarm is rung
 //!     entrance    where clients come in: a port, or doors
 //!     callers     where the connections of a thread came from
@@ -17,4 +18,5 @@ pub mod entrance;
 pub mod looks;
 pub mod options;
 pub mod socket;
+mod wait_counts;
 pub mod watch;

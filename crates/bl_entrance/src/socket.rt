@@ -1,10 +1,11 @@
 //! A connection that does not wait.
 ghost use Rattle.std.specs.Prelude.{◌<◌};
 
+use crate::wait_counts::WaitCounts;
 use crate::watch::Watch;
 use bl_connection::stream::{Answer, Stream, answer_of};
 use mio::net::{TcpStream, UnixStream};
-use std::io::{Read, Write};
+use std::io::{ErrorKind, Read, Write};
 use std::net::Shutdown;
 use std::{io, net};
 
@@ -15,11 +16,71 @@ enum Link {
     Door(UnixStream),
 }
 
+impl Link {
+    ghost use Rattle.std.specs.Prelude.{None};
+    ghost use Rattle.bl_connection.specs.Answers.{Gives};
+
+    /// Reads what is there, as much as there is room for.
+    fn read(&mut self, room: &mut [u8]) -> Answer
+        ensures { Gives None None result room.new }
+    {
+        match self {
+            Link::Port(stream) => answer_of(stream.read(room)),
+            Link::Door(stream) => answer_of(stream.read(room)),
+        }
+    }
+}
+
+/// What a connection over TCP that is watched knows of its input, by the waits of its thread.
+///
+/// A read that leaves room has taken all that was there, and the system tells at the next wait that more has come: until
+/// then a read would block, and is not tried. But it leaves room before an end or urgent data too, which may have been
+/// told by a wait before that read. So a read is tried where something exceptional was told, of whatever socket, since
+/// this one was last seen to have no more.
+#[derive(Drop)]
+struct Input {
+    counts: WaitCounts,
+    /// The wait after which a read took all that was there, and it was not the end.
+    emptied: Option<u64>,
+    /// The wait after which it was last seen to have no more: a read would have blocked, or it began to be watched.
+    blocked: u64,
+}
+
+impl Input {
+    /// Of a socket that begins to be watched.
+    fn new(counts: WaitCounts) -> Input {
+        let blocked = counts.count();
+        Input {
+            counts,
+            emptied: None,
+            blocked,
+        }
+    }
+
+    /// Whether it is known that a read would block.
+    fn is_empty(&self) -> bool {
+        self.emptied == Some(self.counts.count()) && self.counts.last_exception() <= self.blocked
+    }
+
+    /// Notes how a read into so much room was answered.
+    fn note(&mut self, answer: Answer, room: usize) {
+        match answer {
+            Answer::Moved(count) if 0 < count && count < room => {
+                self.emptied = Some(self.counts.count());
+            }
+            Answer::WouldBlock => self.blocked = self.counts.count(),
+            Answer::Moved(_) | Answer::Failed => {}
+        }
+    }
+}
+
 /// A connection whose reads and writes answer that they would block where they would wait. Which bytes it gives and
-/// takes no clause of the system's says.
+/// takes no clause of the system's says. One that came in by a door tries each read: there a read may leave room where
+/// more has come, as before descriptors that a peer sends along.
 #[derive(Drop)]
 pub struct Socket {
     link: Link,
+    input: Option<Input>,
 }
 
 impl Socket {
@@ -30,6 +91,7 @@ impl Socket {
         let _ = stream.set_nodelay(true);
         Ok(Socket {
             link: Link::Port(TcpStream::from_std(stream)),
+            input: None,
         })
     }
 
@@ -41,12 +103,18 @@ impl Socket {
         };
     }
 
-    /// Has it watched, with its number. An error comes where the system refuses that.
+    /// Has it watched, with its number. An error comes where the system refuses that, or memory was refused.
     pub fn watch(&mut self, watch: &Watch, number: u32) -> io::Result<()>
         requires { 0 < number }
     {
         match &mut self.link {
-            Link::Port(stream) => watch.add(stream, number),
+            Link::Port(stream) => {
+                let Ok(counts) = watch.counts() else {
+                    return Err(io::Error::from(ErrorKind::OutOfMemory));
+                };
+                self.input = Some(Input::new(counts));
+                watch.add(stream, number)
+            }
             Link::Door(stream) => watch.add(stream, number),
         }
     }
@@ -62,6 +130,7 @@ impl From<UnixStream> for Socket {
     fn from(stream: UnixStream) -> Socket {
         Socket {
             link: Link::Door(stream),
+            input: None,
         }
     }
 }
@@ -78,9 +147,16 @@ impl Stream for Socket {
     ghost writes = { λ _ _ _ _. ⊤ };
 
     fn read(&mut self, room: &mut [u8]) -> Answer {
-        match &mut self.link {
-            Link::Port(stream) => answer_of(stream.read(room)),
-            Link::Door(stream) => answer_of(stream.read(room)),
+        match &mut self.input {
+            Some(input) => {
+                if input.is_empty() {
+                    return Answer::WouldBlock;
+                }
+                let answer = self.link.read(room);
+                input.note(answer, room.len());
+                answer
+            }
+            None => self.link.read(room),
         }
     }
 

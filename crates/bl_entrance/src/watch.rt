@@ -1,10 +1,11 @@
 //! Where a session thread waits.
 ghost use Rattle.std.specs.Prelude.{◌<◌};
 
+use crate::wait_counts::WaitCounts;
 use mio::event::{Event, Iter, Source};
 use mio::unix::SourceFd;
 use mio::{Events, Interest, Poll, Token, Waker};
-use std::alloc::Global;
+use std::alloc::{AllocError, Global};
 use std::io;
 use std::io::ErrorKind;
 use std::net::Net;
@@ -34,6 +35,7 @@ pub enum Found {
 pub struct Watch {
     poll: Poll,
     events: Events,
+    counts: WaitCounts,
 }
 
 impl Watch {
@@ -42,8 +44,15 @@ impl Watch {
         let Ok(events) = Events::with_capacity(alloc, MOST_EVENTS) else {
             return Err(io::Error::from(ErrorKind::OutOfMemory));
         };
+        let Ok(counts) = WaitCounts::new(alloc) else {
+            return Err(io::Error::from(ErrorKind::OutOfMemory));
+        };
         let poll = Poll::new(rt)?;
-        Ok(Watch { poll, events })
+        Ok(Watch {
+            poll,
+            events,
+            counts,
+        })
     }
 
     /// Watches a listener, which is not to wait. An error comes where the system refuses that.
@@ -67,20 +76,33 @@ impl Watch {
         ensures { S.keeps stream.old stream.new }
     {
         let token = Token(number as usize);
-        let both = Interest::READABLE | Interest::WRITABLE;
-        self.poll.registry().register(stream, token, both)
+        let all = Interest::READABLE | Interest::WRITABLE | Interest::PRIORITY;
+        self.poll.registry().register(stream, token, all)
     }
 
     /// Waits until something is ready, for so long at most where that is said, and says whether the system could be
     /// asked.
     pub fn wait(&mut self, most: Option<Duration>) -> bool {
-        self.poll.poll(&mut self.events, most).is_ok()
+        let asked = self.poll.poll(&mut self.events, most).is_ok();
+        let exceptional = self.events.iter().any(is_exceptional);
+        self.counts.add(exceptional || !asked);
+        asked
+    }
+
+    /// The counts of its waits, for a socket. An error comes where there are too many sockets.
+    pub(crate) fn counts(&self) -> Result<WaitCounts, AllocError> {
+        self.counts.share()
     }
 
     /// What the last wait gave.
     pub fn events(&self) -> Iter<'_> {
         self.events.iter()
     }
+}
+
+/// Whether an event tells that a peer has ended its output, that a socket has failed, or that urgent data has come.
+fn is_exceptional(event: &Event) -> bool {
+    event.is_read_closed() || event.is_error() || event.is_priority()
 }
 
 /// What an event is of.

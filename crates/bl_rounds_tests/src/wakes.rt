@@ -6,11 +6,19 @@ use bl_entrance::socket::Socket;
 use bl_entrance::watch::{Found, Watch, found_by};
 use bl_rounds::alarm::Alarms;
 use bl_worker::count::EndToRing;
+use mio::event::Event;
+use std::alloc::AllocGlobal;
 use std::io;
 use std::io::Write;
 use std::net::{Ipv4Addr, Net, Shutdown, TcpListener, TcpStream};
 use std::process::Abort;
 use std::time::Duration;
+
+/// How often a test waits at most.
+const MOST_WAITS: u32 = 100;
+
+/// How long it waits each time.
+const WAIT_MILLIS: u64 = 100;
 
 /// What came where no fault may come.
 fn right<T>(rt: &impl Abort, outcome: io::Result<T>) -> T {
@@ -60,30 +68,91 @@ fn an_end_wakes_who_waits_for_one(rt: HostRuntime) {
     assert!(rt; watch.events().next().is_none());
 }
 
+/// A thread's watch, a peer that is connected, and the socket by which it came, which is not watched yet.
+#[derive(Drop)]
+struct Met {
+    watch: Watch,
+    peer: TcpStream,
+    socket: Socket,
+}
+
+fn meet<R: AllocGlobal + Net<Listener = TcpListener, Stream = TcpStream> + Abort>(rt: &R) -> Met {
+    let listener = listen(rt);
+    let at = right(rt, listener.local_addr());
+    let mut watch = right(rt, Watch::new(rt, rt.alloc()));
+    right(rt, watch.watch_listener(&listener));
+    let peer = right(rt, TcpStream::connect(rt, at));
+    let _ = watch.wait(None);
+    let (stream, _) = right(rt, listener.accept());
+    let socket = right(rt, Socket::new(stream));
+    Met {
+        watch,
+        peer,
+        socket,
+    }
+}
+
+/// Waits until a socket is found ready whose event is as it has to be, and says whether that came.
+fn finds<F: Fn(&Event) -> bool>(watch: &mut Watch, is_wanted: F) -> bool {
+    for _ in 0..MOST_WAITS {
+        if watch.wait(Some(Duration::from_millis(WAIT_MILLIS))) && watch.events().any(&is_wanted) {
+            return true;
+        }
+    }
+    false
+}
+
+/// Reads, and waits as long as that would block.
+fn read_on(watch: &mut Watch, socket: &mut Socket, room: &mut [u8]) -> Answer {
+    for _ in 0..MOST_WAITS {
+        let answer = socket.read(room);
+        if answer != Answer::WouldBlock || !watch.wait(Some(Duration::from_millis(WAIT_MILLIS))) {
+            return answer;
+        }
+    }
+    Answer::WouldBlock
+}
+
 /// A socket would block until its peer sends, is then found under its number, and gives the end once the peer has
 /// ended.
 #[test]
 fn a_socket_is_found_ready(rt: HostRuntime) {
-    let listener = listen(&rt);
-    let at = right(&rt, listener.local_addr());
-    let mut watch = right(&rt, Watch::new(&rt, rt.alloc()));
-    right(&rt, watch.watch_listener(&listener));
-    let mut peer = right(&rt, TcpStream::connect(&rt, at));
-    assert!(rt; watch.wait(None));
-    let (stream, _) = right(&rt, listener.accept());
-    let mut socket = right(&rt, Socket::new(stream));
+    let mut met = meet(&rt);
     let mut room = [0u8; 8];
-    assert!(rt; socket.read(&mut room) == Answer::WouldBlock);
-    assert!(rt; socket.watch(&watch, 7).is_ok());
-    assert!(rt; peer.write_all(b"hello").is_ok());
-    assert!(rt; peer.shutdown(Shutdown::Write).is_ok());
-    assert!(rt; watch.wait(None));
-    assert!(rt;
-        watch
-            .events()
-            .any(|event| found_by(event) == Found::Ready(7))
-    );
-    assert!(rt; socket.read(&mut room) == Answer::Moved(5));
+    assert!(rt; met.socket.read(&mut room) == Answer::WouldBlock);
+    assert!(rt; met.socket.watch(&met.watch, 7).is_ok());
+    assert!(rt; met.peer.write_all(b"hello").is_ok());
+    assert!(rt; finds(&mut met.watch, |event| found_by(event) == Found::Ready(7)));
+    assert!(rt; read_on(&mut met.watch, &mut met.socket, &mut room) == Answer::Moved(5));
     assert!(rt; &room[..5] == b"hello".as_slice());
-    assert!(rt; socket.read(&mut room) == Answer::Moved(0));
+    assert!(rt; met.peer.shutdown(Shutdown::Write).is_ok());
+    assert!(rt; read_on(&mut met.watch, &mut met.socket, &mut room) == Answer::Moved(0));
+}
+
+/// What comes after a read that has left room is read after the next wait.
+#[test]
+fn a_socket_that_was_emptied_is_not_asked_again(rt: HostRuntime) {
+    let mut met = meet(&rt);
+    let mut room = [0u8; 8];
+    assert!(rt; met.socket.watch(&met.watch, 7).is_ok());
+    assert!(rt; met.peer.write_all(b"hello").is_ok());
+    assert!(rt; read_on(&mut met.watch, &mut met.socket, &mut room) == Answer::Moved(5));
+    assert!(rt; met.peer.write_all(b"again").is_ok());
+    assert!(rt; met.socket.read(&mut room) == Answer::WouldBlock);
+    assert!(rt; read_on(&mut met.watch, &mut met.socket, &mut room) == Answer::Moved(5));
+    assert!(rt; &room[..5] == b"again".as_slice());
+}
+
+/// An end that was told before the last bytes are read is found behind them.
+#[test]
+fn an_end_that_was_told_early_is_found(rt: HostRuntime) {
+    let mut met = meet(&rt);
+    let mut room = [0u8; 8];
+    assert!(rt; met.socket.watch(&met.watch, 7).is_ok());
+    assert!(rt; met.peer.write_all(b"hello").is_ok());
+    assert!(rt; met.peer.shutdown(Shutdown::Write).is_ok());
+    assert!(rt; finds(&mut met.watch, |event| event.is_read_closed()));
+    assert!(rt; met.watch.wait(Some(Duration::ZERO)));
+    assert!(rt; met.socket.read(&mut room) == Answer::Moved(5));
+    assert!(rt; met.socket.read(&mut room) == Answer::Moved(0));
 }
