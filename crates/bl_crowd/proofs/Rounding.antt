@@ -6,7 +6,7 @@ use Rattle.std.proofs.lemmas.Grind.{get_or-set_at}
 use Rattle.std.proofs.lemmas.List.{get_or-set_other}
 use Rattle.bl_work.specs.Names.{KnownNames}
 use Rattle.bl_work.specs.declared.work.Work.{Work}
-use Rattle.bl_order.specs.Machine.{State, Opens, Admits, Starts, MayStart}
+use Rattle.bl_order.specs.Machine.{State, Opens, Admits, Starts}
 use Rattle.bl_hall.specs.Chronicle.{HasTrail}
 use Rattle.bl_gate.specs.Gates.{Calls, Follows, KeepsInHand, PassView, hall_seen, state_seen}
 use Rattle.bl_gate.proofs.Following.{follows_itself, follows_then}
@@ -266,16 +266,3 @@ pub crowd_turns : {S : Type 0} (remaining contents : S → Option (List ℕ)) (n
     → Follows p q → HasTrail (hall_seen q) → AddsTurnsAlone p q → AreMembers remaining contents names first q members
 crowd_turns remaining contents names first p q members here follows legal adds =
     crowd_goes remaining contents names first p q members here (record { follows = follows; trail = legal }) (adds_no_line (λ n. Unit {0}) p q adds)
-
--- what is ready is left where as many were begun as may be, or are in hand
-pub left_full : (pass : PassView) (n most begun held : ℕ) → MayStart (state_seen pass) n → (begun < most → held < most → (k : ℕ) → ¬ MayStart (state_seen pass) k)
-    → (most ≤ begun) ⊎ (most ≤ held)
-left_full pass n most begun held may none = go (side begun most) (side held most)
-  where
-    side : (a b : ℕ) → (a < b) ⊎ (b ≤ a)
-    side a b = grind arith
-
-    go : (begun < most) ⊎ (most ≤ begun) → (held < most) ⊎ (most ≤ held) → (most ≤ begun) ⊎ (most ≤ held)
-    go (inr full) other = inl full
-    go (inl some) (inr full) = inr full
-    go (inl some) (inl room) = absurd (none some room n may)

@@ -9,16 +9,12 @@ use Rattle.bl_order.specs.Machine.{Event}
 use Rattle.bl_gate.specs.Gates.{PassView}
 use Rattle.bl_wire.specs.declared.fault.SessionFault.TheVariants.{Memory}
 use Rattle.bl_connection.specs.Connections.{state_of}
-use Rattle.bl_connection.specs.declared.connection.State.TheVariants.{Hears, Tells}
+use Rattle.bl_connection.specs.declared.connection.State.TheVariants.{Tells}
 use Rattle.bl_worker.proofs.Adding.{adds_as}
 use Rattle.bl_crowd.specs.Crowds.{HasHeardOn, HasSettledOn, HaveHeardOn, HaveSettledOn, IsMetOn}
 use Rattle.bl_crowd.specs.Openings.{AddsTheirOwn, IsItsOwn, IsOfOne}
 use Rattle.bl_crowd.specs.declared.member.Member.{Member}
 use Rattle.bl_crowd.specs.declared.member.Reception.{Reception}
-
--- it stays as it is
-pub settled_itself : {S : Type 0} (member : Member S) → HasSettledOn member member
-settled_itself member = (refl, inl refl)
 
 -- what has met has met still
 pub settled_met_on : {S : Type 0} (remaining contents : S → Option (List ℕ)) (names : KnownNames) (known : Type 0) (bound : Option ℕ) (first before p : PassView) (was mid now : Member S)

@@ -60,9 +60,6 @@ listens_needs false stage is = subst (λ s. AwaitsNothing (need_at false s)) (sy
 pub hears_no_room : {S : Type 0} (conn : Connection S) → state_of conn ≡ states.Hears → need_of conn.conv ≡ needs.Room → ⊥
 hears_no_room conn is room = elim (hears_at conn is).1 [ inl input ↦ (let e = input.0 in cc) | inr end ↦ cc ]
 
-pub opening_no_room : (need : Need) → need ≡ needs.Opening → need ≡ needs.Room → ⊥
-opening_no_room need is room = cc
-
 -- a session that was turned away hears nothing more
 full_at : (ended : Bool) (stage : Stage) (given : Given) (left : ℕ → List ℕ) (talk : Talk) (turns : List Turn) (asked : List Request) (said : List ℕ) (subject : ℕ)
     → ((need_at ended stage ≡ needs.Input) ⊎ (need_at ended stage ≡ needs.End)) → given.opening ≡ openings.Full → asked ≡ Opens subject ∷ [] → IsAt stage given left talk turns asked said → ⊥

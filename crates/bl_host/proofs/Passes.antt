@@ -1,19 +1,12 @@
 -- What is left of a pass remains the same pass, through part after part.
-use Rattle.std.proofs.Common.{◌≡◌, refl, ◌∙◌}
+use Rattle.std.proofs.Common.{◌∙◌}
 use Rattle.bl_gate.specs.Gates.{PassView, Follows}
 use Rattle.bl_gate.proofs.Following.{follows_then}
-use Rattle.bl_gate.proofs.Trails.{begins_itself, begins_more}
+use Rattle.bl_gate.proofs.Trails.{begins_more}
 use Rattle.bl_host.specs.Threads.{Remains}
-
-pub remains_itself : (p : PassView) → Remains p p
-remains_itself p = record { gate = refl; seen = begins_itself p.seen }
 
 pub remains_then : (p q r : PassView) → Remains p q → Remains q r → Remains p r
 remains_then p q r f g = record { gate = g.gate ∙ f.gate; seen = begins_more r.seen q.seen p.seen g.seen f.seen }
-
--- where its parts are back, it follows
-pub remains_follows : (p q : PassView) → Remains p q → q.parts ≡ p.parts → Follows p q
-remains_follows p q r e = record { gate = r.gate; parts = e; seen = r.seen }
 
 -- after a turn and then more
 pub follows_on : (p q r : PassView) → Follows p q → Follows q r → Follows p r

@@ -1,5 +1,5 @@
 -- Seats of which one changes, comes or is taken out.
-use Rattle.std.proofs.Common.{◌≡◌, ◌≢◌, ◌<◌, ◌≤◌, ◌+◌, ◌⊎◌, inl, inr, ℕ, List, [], ◌∷◌, ◌++◌, false, Option, None, length, get_or, take, drop, map, suc, refl, subst, sym, ◌∙◌, ap, arith, length-append}
+use Rattle.std.proofs.Common.{◌≡◌, ◌≢◌, ◌<◌, ◌+◌, ◌⊎◌, inl, inr, ℕ, List, [], ◌∷◌, ◌++◌, false, Option, None, length, get_or, take, drop, map, suc, subst, sym, ◌∙◌, ap, arith, length-append}
 use Rattle.std.proofs.lemmas.Bool.{cases_eq, cases_lt}
 use Rattle.std.proofs.lemmas.List.{get_or_default, get_or-map, map-append, take-map, drop-map}
 use Rattle.std.proofs.lemmas.List.Edits.{get_or-remove_above, get_or-remove_below, length-remove}
@@ -123,14 +123,5 @@ pub same_stage : (seats after : List Seat) (i : ℕ) → ((d : Seat) → (get_or
     → (j : ℕ) (d : Seat) → ((get_or after j d).stage ≡ (get_or seats j d).stage) ⊎ ((get_or after j d).stage ≡ Goes)
 same_stage seats after i here others j d = elim (cases_eq j i) [
   | inl is ↦ inl (subst (λ (k : ℕ). (get_or after k d).stage ≡ (get_or seats k d).stage) (sym is) (here d))
-  | inr other ↦ inl (ap (λ (s : Seat). s.stage) (others j d other))
-]
-
--- its stage stays, or it may go on
-pub some_stage : (seats after : List Seat) (i : ℕ) → ((d : Seat) → ((get_or after i d).stage ≡ (get_or seats i d).stage) ⊎ ((get_or after i d).stage ≡ Goes))
-    → ((j : ℕ) (d : Seat) → j ≢ i → get_or after j d ≡ get_or seats j d)
-    → (j : ℕ) (d : Seat) → ((get_or after j d).stage ≡ (get_or seats j d).stage) ⊎ ((get_or after j d).stage ≡ Goes)
-some_stage seats after i here others j d = elim (cases_eq j i) [
-  | inl is ↦ subst (λ (k : ℕ). ((get_or after k d).stage ≡ (get_or seats k d).stage) ⊎ ((get_or after k d).stage ≡ Goes)) (sym is) (here d)
   | inr other ↦ inl (ap (λ (s : Seat). s.stage) (others j d other))
 ]
