@@ -6,7 +6,6 @@ use bl_entrance::socket::Socket;
 use bl_entrance::watch::{Found, Watch, found_by};
 use bl_rounds::alarm::Alarms;
 use bl_worker::count::EndToRing;
-use mio::event::Event;
 use std::alloc::AllocGlobal;
 use std::io;
 use std::io::Write;
@@ -92,10 +91,22 @@ fn meet<R: AllocGlobal + Net<Listener = TcpListener, Stream = TcpStream> + Abort
     }
 }
 
-/// Waits until a socket is found ready whose event is as it has to be, and says whether that came.
-fn finds<F: Fn(&Event) -> bool>(watch: &mut Watch, is_wanted: F) -> bool {
+/// Whether the last wait has found the socket of this number ready, and has told that its input has ended, where that
+/// is asked.
+fn has_found(watch: &Watch, number: u32, ended: bool) -> bool {
+    for event in watch.events() {
+        if found_by(event) == Found::Ready(number) && (event.is_read_closed() || !ended) {
+            return true;
+        }
+    }
+    false
+}
+
+/// Waits until that is found, and says whether it came.
+fn finds(watch: &mut Watch, number: u32, ended: bool) -> bool {
     for _ in 0..MOST_WAITS {
-        if watch.wait(Some(Duration::from_millis(WAIT_MILLIS))) && watch.events().any(&is_wanted) {
+        let asked = watch.wait(Some(Duration::from_millis(WAIT_MILLIS)));
+        if asked && has_found(watch, number, ended) {
             return true;
         }
     }
@@ -122,7 +133,7 @@ fn a_socket_is_found_ready(rt: HostRuntime) {
     assert!(rt; met.socket.read(&mut room) == Answer::WouldBlock);
     assert!(rt; met.socket.watch(&met.watch, 7).is_ok());
     assert!(rt; met.peer.write_all(b"hello").is_ok());
-    assert!(rt; finds(&mut met.watch, |event| found_by(event) == Found::Ready(7)));
+    assert!(rt; finds(&mut met.watch, 7, false));
     assert!(rt; read_on(&mut met.watch, &mut met.socket, &mut room) == Answer::Moved(5));
     assert!(rt; &room[..5] == b"hello".as_slice());
     assert!(rt; met.peer.shutdown(Shutdown::Write).is_ok());
@@ -151,7 +162,7 @@ fn an_end_that_was_told_early_is_found(rt: HostRuntime) {
     assert!(rt; met.socket.watch(&met.watch, 7).is_ok());
     assert!(rt; met.peer.write_all(b"hello").is_ok());
     assert!(rt; met.peer.shutdown(Shutdown::Write).is_ok());
-    assert!(rt; finds(&mut met.watch, |event| event.is_read_closed()));
+    assert!(rt; finds(&mut met.watch, 7, true));
     assert!(rt; met.watch.wait(Some(Duration::ZERO)));
     assert!(rt; met.socket.read(&mut room) == Answer::Moved(5));
     assert!(rt; met.socket.read(&mut room) == Answer::Moved(0));
