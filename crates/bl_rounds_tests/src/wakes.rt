@@ -81,7 +81,7 @@ fn meet<R: AllocGlobal + Net<Listener = TcpListener, Stream = TcpStream> + Abort
     let mut watch = right(rt, Watch::new(rt, rt.alloc()));
     right(rt, watch.watch_listener(&listener));
     let peer = right(rt, TcpStream::connect(rt, at));
-    let _ = watch.wait(None);
+    assert!(rt; watch.wait(None));
     let (stream, _) = right(rt, listener.accept());
     let socket = right(rt, Socket::new(stream));
     Met {
