@@ -5,4 +5,5 @@ pub mod FrontView
 pub mod Cutting
 pub mod Canonical
 pub mod Table
+pub mod Places
 pub mod TableFault

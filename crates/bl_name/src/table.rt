@@ -1,25 +1,28 @@
 //! Names in the order in which they were added, none twice.
 ghost use Rattle.std.specs.Prelude.{◌≡◌, ◌==◌, ℕ, ◌↔◌, ◌<◌, ◌++◌, ◌∷◌, [], List, OnOk, OnErr, IfOk, IfErr, IfSome, IsSome, IsErrOf, Contains, slice_get, length, Some};
+ghost use Rattle.bl_name.specs.Places.{AreFound};
 ghost use Rattle.bl_name.specs.Table.{IsTable, place_of};
 ghost use Rattle.bl_name.specs.TableFault.{IsTableFault};
 
-use crate::name::{Name, Spelled};
-use indexmap::IndexSet;
+use crate::name::{Name, Spelling};
 use std::alloc::{AllocError, Global};
+use std::collections::HashMap;
 use std::marker::Model;
 
 /// A table of names, which contracts see as their list. No name stands twice in it.
 #[derive(Drop)]
 pub struct NameTable {
-    names: IndexSet<Name>,
+    names: Vec<Name>,
+    // where each of them stands
+    places: HashMap<Spelling, usize>,
 }
 
 impl Model for NameTable {
     ghost Value = { List (List ℕ) };
 
-    ghost view = { λ t. t.names.keys };
+    ghost view = { λ t. t.names.items };
 
-    ghost invariant = { λ t. IsTable t.names.keys };
+    ghost invariant = { λ t. AreFound t.names.items t.places };
 }
 
 /// Why a name was not added.
@@ -38,7 +41,8 @@ impl NameTable {
         ensures table { IfOk result IsTable }
     {
         Ok(NameTable {
-            names: IndexSet::with_capacity(alloc, room)?,
+            names: Vec::with_capacity(alloc, room)?,
+            places: HashMap::with_capacity(alloc, room)?,
         })
     }
 
@@ -78,7 +82,7 @@ impl NameTable {
         ensures found { IsSome result ↔ (place < length self.now) }
         ensures value { IfSome result (λ name. slice_get self.now place ≡ Some name.now) }
     {
-        self.names.get_index(place)
+        self.names.get(place)
     }
 
     /// The place of a name, where it is there.
@@ -88,7 +92,7 @@ impl NameTable {
         ensures place { IfSome result (λ i. slice_get self.now i ≡ Some name.now) }
         ensures within { IfSome result (λ i. i < length self.now) }
     {
-        self.names.get_index_of(name)
+        self.position_of(name.bytes())
     }
 
     /// The place of the name of these bytes, where it is there. Bytes that are no name are not there.
@@ -98,7 +102,7 @@ impl NameTable {
         ensures place { IfSome result (λ i. slice_get self.now i ≡ Some bytes.now) }
         ensures within { IfSome result (λ i. i < length self.now) }
     {
-        self.names.get_index_of(Spelled { bytes })
+        self.places.get(&Spelling::new(bytes)?).copied()
     }
 
     /// Adds a name behind the others. A fault leaves the table as it was.
@@ -109,15 +113,15 @@ impl NameTable {
         ensures err { OnErr result (self.new ≡ self.old) }
         ensures table { IsTable self.new }
     {
-        // read for the proof alone: the bytes of a name are a name, as the table wants of its keys
-        let _ = name.bytes();
-        if self.names.contains(&name) {
+        if self.position(&name).is_some() {
             return Err(TableFault::Repeated(name));
         }
-        match self.names.insert(name) {
-            Ok(_) => Ok(()),
-            Err(_) => Err(TableFault::Memory),
+        let place = self.names.len();
+        if self.names.reserve(1).is_err() || self.places.insert(name.spelling(), place).is_err() {
+            return Err(TableFault::Memory);
         }
+        self.names.push_reserved(name);
+        Ok(())
     }
 }
 
