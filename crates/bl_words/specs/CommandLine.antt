@@ -1,191 +1,127 @@
 -- The command line that the program takes.
-use Rattle.std.specs.Prelude.{Some, codes, true, pos, [], ◌∷◌}
+use Rattle.std.specs.Prelude.{◌≡◌, List, Some, ℕ, codes, true, false, pos, [], ◌∷◌}
 use Rattle.clap.specs.Walk.{Rule}
-use Rattle.clap.specs.Simple.{App, new_app, new_rule, on_top, with_rule, with_subcommand}
+use Rattle.clap.specs.Simple.{App, app_of, new_app, new_rule, new_shape, on_top, with_subcommand}
+use Rattle.clap.specs.declared.builder.command.Command.{Command}
+use Rattle.clap.specs.declared.builder.command.Command.TheViews.{out-Command as fields_of}
 use Rattle.clap.specs.declared.builder.action.ArgAction.TheVariants.{Set, SetTrue}
 use Rattle.clap.specs.declared.builder.value_parser.ValueParser.TheVariants.{Signed}
 
+-- an option of this name may be left out, and takes any text
+abbrev pub text_rule : List ℕ → Rule
+text_rule name = record (new_rule name) { long = Some name; action = Some Set; value_names = 1 }
+
+-- an option of this name may be left out, and takes a number from the first to the last
+abbrev pub number_rule : List ℕ → ℕ → ℕ → Rule
+number_rule name least most = record (text_rule name) { parser = Some (Signed (pos least) (pos most)) }
+
+-- an option of this name may be given, and takes nothing
+abbrev pub flag_rule : List ℕ → Rule
+flag_rule name = record (new_rule name) { long = Some name; action = Some SetTrue }
+
 -- `--setup` has to be given, and takes any text
 abbrev pub setup_rule : Rule
-setup_rule = record (new_rule (codes "setup")) {
-  long = Some (codes "setup");
-  required = true;
-  action = Some Set;
-  value_names = 1;
-}
+setup_rule = record (text_rule (codes "setup")) { required = true }
 
 -- `--limit` takes a number from 1 to 100,000, and without it the number is 10,000
 abbrev pub limit_rule : Rule
-limit_rule = record (new_rule (codes "limit")) {
-  long = Some (codes "limit");
-  action = Some Set;
-  value_names = 1;
-  parser = Some (Signed (pos 1) (pos 100000));
-  defaults = codes "10000" ∷ [];
-}
-
--- the command `alone` has both
-abbrev pub session_app : App
-session_app = with_rule (with_rule (new_app (codes "alone")) setup_rule) limit_rule
+limit_rule = record (number_rule (codes "limit") 1 100000) { defaults = codes "10000" ∷ [] }
 
 -- `--trail` has to be given, and takes any text
 abbrev pub trail_rule : Rule
-trail_rule = record (new_rule (codes "trail")) {
-  long = Some (codes "trail");
-  required = true;
-  action = Some Set;
-  value_names = 1;
-}
+trail_rule = record (text_rule (codes "trail")) { required = true }
 
 -- `--trail` of `alone` may be left out, and takes any text
 abbrev pub kept_trail_rule : Rule
-kept_trail_rule = record (new_rule (codes "trail")) { long = Some (codes "trail"); action = Some Set; value_names = 1 }
+kept_trail_rule = text_rule (codes "trail")
 
 -- own choice: `--trail-limit` takes a number from 65,536 to 1,073,741,824, and without it the number is the last
 abbrev pub trail_limit_rule : Rule
-trail_limit_rule = record (new_rule (codes "trail-limit")) {
-  long = Some (codes "trail-limit");
-  action = Some Set;
-  value_names = 1;
-  parser = Some (Signed (pos 65536) (pos 1073741824));
-  defaults = codes "1073741824" ∷ [];
-}
+trail_limit_rule = record (number_rule (codes "trail-limit") 65536 1073741824) { defaults = codes "1073741824" ∷ [] }
 
 -- `--replace` may be given, and takes nothing
 abbrev pub replace_rule : Rule
-replace_rule = record (new_rule (codes "replace")) { long = Some (codes "replace"); action = Some SetTrue }
+replace_rule = flag_rule (codes "replace")
 
 -- `--claim-trail` may be given, and takes nothing
 abbrev pub claim_rule : Rule
-claim_rule = record (new_rule (codes "claim-trail")) { long = Some (codes "claim-trail"); action = Some SetTrue }
+claim_rule = flag_rule (codes "claim-trail")
 
 -- own choice: `--keep` takes any text, and without it that is `end`
 abbrev pub keep_rule : Rule
-keep_rule = record (new_rule (codes "keep")) {
-  long = Some (codes "keep");
-  action = Some Set;
-  value_names = 1;
-  defaults = codes "end" ∷ [];
-}
+keep_rule = record (text_rule (codes "keep")) { defaults = codes "end" ∷ [] }
 
 -- own choice: `--resume` may be given, and takes nothing
 abbrev pub resume_rule : Rule
-resume_rule = record (new_rule (codes "resume")) { long = Some (codes "resume"); action = Some SetTrue }
-
--- and it may have a trail, with what is said of it
-abbrev pub named_app : App
-named_app = with_rule (with_rule session_app kept_trail_rule) replace_rule
-
--- and how that is kept
-abbrev pub kept_app : App
-kept_app = with_rule (with_rule named_app claim_rule) keep_rule
-
-abbrev pub alone_app : App
-alone_app = with_rule kept_app resume_rule
+resume_rule = flag_rule (codes "resume")
 
 -- `--port` takes a number from 1 to 65,535
 abbrev pub port_rule : Rule
-port_rule = record (new_rule (codes "port")) {
-  long = Some (codes "port");
-  action = Some Set;
-  value_names = 1;
-  parser = Some (Signed (pos 1) (pos 65535));
-}
+port_rule = number_rule (codes "port") 1 65535
 
 -- own choice: `--doors` may stand in its place, and takes any text
 abbrev pub doors_rule : Rule
-doors_rule = record (new_rule (codes "doors")) { long = Some (codes "doors"); action = Some Set; value_names = 1 }
+doors_rule = text_rule (codes "doors")
 
 -- `--workers` takes a number from 1 to 16, and without it the number is 2
 abbrev pub workers_rule : Rule
-workers_rule = record (new_rule (codes "workers")) {
-  long = Some (codes "workers");
-  action = Some Set;
-  value_names = 1;
-  parser = Some (Signed (pos 1) (pos 16));
-  defaults = codes "2" ∷ [];
-}
+workers_rule = record (number_rule (codes "workers") 1 16) { defaults = codes "2" ∷ [] }
 
 -- `--session-threads` takes a number from 1 to 16, and without it the number is 2
 abbrev pub threads_rule : Rule
-threads_rule = record (new_rule (codes "session-threads")) {
-  long = Some (codes "session-threads");
-  action = Some Set;
-  value_names = 1;
-  parser = Some (Signed (pos 1) (pos 16));
-  defaults = codes "2" ∷ [];
-}
+threads_rule = record (number_rule (codes "session-threads") 1 16) { defaults = codes "2" ∷ [] }
 
 -- `--sessions` takes a number from 1 to 1,000, and without it the number is 1
 abbrev pub sessions_rule : Rule
-sessions_rule = record (new_rule (codes "sessions")) {
-  long = Some (codes "sessions");
-  action = Some Set;
-  value_names = 1;
-  parser = Some (Signed (pos 1) (pos 1000));
-  defaults = codes "1" ∷ [];
-}
+sessions_rule = record (number_rule (codes "sessions") 1 1000) { defaults = codes "1" ∷ [] }
 
 -- own choice: `--clients` takes a number from 1 to 1,000, and without it the number is 1,000
 abbrev pub clients_rule : Rule
-clients_rule = record (new_rule (codes "clients")) {
-  long = Some (codes "clients");
-  action = Some Set;
-  value_names = 1;
-  parser = Some (Signed (pos 1) (pos 1000));
-  defaults = codes "1000" ∷ [];
-}
+clients_rule = record (number_rule (codes "clients") 1 1000) { defaults = codes "1000" ∷ [] }
 
 -- own choice: `--idle` takes a number from 1 to 86,400, the seconds of a day, and may be left out
 abbrev pub idle_rule : Rule
-idle_rule = record (new_rule (codes "idle")) {
-  long = Some (codes "idle");
-  action = Some Set;
-  value_names = 1;
-  parser = Some (Signed (pos 1) (pos 86400));
-}
+idle_rule = number_rule (codes "idle") 1 86400
 
 -- own choice: `--log` may be left out, and takes any text
 abbrev pub log_rule : Rule
-log_rule = record (new_rule (codes "log")) { long = Some (codes "log"); action = Some Set; value_names = 1 }
+log_rule = text_rule (codes "log")
 
--- the command `serve` has a setup, and a port or doors
-abbrev pub places_app : App
-places_app = with_rule (with_rule (with_rule (new_app (codes "serve")) setup_rule) port_rule) doors_rule
+-- a command of this name with these options
+abbrev pub app_with : List ℕ → List Rule → App
+app_with name rules = record { top = record (new_shape name) { rules = rules }; subs = [] }
 
--- and a trail, and it may have the numbers of workers and of session threads
-abbrev pub crews_app : App
-crews_app = with_rule (with_rule (with_rule places_app trail_rule) workers_rule) threads_rule
+-- the command `alone` has a setup and a limit, and it may have a trail, with what is said of it and how it is kept
+abbrev pub alone_app : App
+alone_app = app_with (codes "alone")
+    (setup_rule ∷ limit_rule ∷ kept_trail_rule ∷ replace_rule ∷ claim_rule ∷ keep_rule ∷ resume_rule ∷ [])
 
--- and the number of sessions, and a limit
-abbrev pub counts_app : App
-counts_app = with_rule (with_rule crews_app sessions_rule) limit_rule
-
--- and the number of clients at once, how long one may be idle, and a log of them
-abbrev pub clients_app : App
-clients_app = with_rule (with_rule (with_rule counts_app clients_rule) idle_rule) log_rule
-
--- and what is said of its trail
-abbrev pub files_app : App
-files_app = with_rule (with_rule (with_rule clients_app trail_limit_rule) replace_rule) claim_rule
-
+-- the command `serve` has a setup, a port or doors, and a trail; and it may have the numbers of workers, of session
+-- threads and of sessions, a limit, the number of clients at once, how long one may be idle, a log of them, and what is
+-- said of its trail
 abbrev pub serve_app : App
-serve_app = with_rule (with_rule files_app keep_rule) resume_rule
+serve_app = app_with (codes "serve")
+    (setup_rule ∷ port_rule ∷ doors_rule ∷ trail_rule ∷ workers_rule ∷ threads_rule ∷ sessions_rule ∷ limit_rule
+    ∷ clients_rule ∷ idle_rule ∷ log_rule ∷ trail_limit_rule ∷ replace_rule ∷ claim_rule ∷ keep_rule ∷ resume_rule ∷ [])
 
 -- the command `replay` has a setup and a trail
 abbrev pub replay_app : App
-replay_app = with_rule (with_rule (new_app (codes "replay")) setup_rule) trail_rule
+replay_app = app_with (codes "replay") (setup_rule ∷ trail_rule ∷ [])
 
 -- the command `recover` has both too
 abbrev pub recover_app : App
-recover_app = with_rule (with_rule (new_app (codes "recover")) setup_rule) trail_rule
+recover_app = app_with (codes "recover") (setup_rule ∷ trail_rule ∷ [])
+
+-- a parser of this command, and with no option that holds for the commands below it
+pub record IsLocal (app : App) (parser : Command) : Type 0 where
+  pub app_is : app_of parser ≡ app
+  pub own : (fields_of parser).has_globals ≡ false
 
 -- own choice: a command has to be given, and the program has a version
 abbrev pub root_app : App
-root_app = with_subcommand
-    (on_top (λ s. record s { has_version = true; subcommand_required = true })
-    (new_app (codes "bl_server"))) alone_app.top
+root_app = on_top (λ s. record s { has_version = true; subcommand_required = true }) (new_app (codes "bl_server"))
 
 -- own choice: the commands are `alone`, `serve`, `replay` and `recover`
 abbrev pub server_app : App
-server_app = with_subcommand (with_subcommand (with_subcommand root_app serve_app.top) replay_app.top) recover_app.top
+server_app = with_subcommand (with_subcommand
+    (with_subcommand (with_subcommand root_app alone_app.top) serve_app.top) replay_app.top) recover_app.top

@@ -2,14 +2,12 @@
 ghost use Rattle.std.specs.Prelude.{◌≡◌, ◌≤◌, ◌⊎◌, ◌↔◌, ℕ, IsTrue, [], ◌∷◌, false, codes, map, option_copied};
 ghost use Rattle.std.specs.Prelude.{string_bytes, IfErr, IfNone, IfOk, IfSome, OnOk, Option};
 ghost use Rattle.clap.specs.Kinds.{HasKind};
-ghost use Rattle.clap.specs.Words.{kind_of, rule_of, app_of};
-ghost use Rattle.clap.specs.declared.builder.command.Command.TheViews.{out-Command as fields_of};
+ghost use Rattle.clap.specs.Words.{App, app_of, kind_of, rule_of, with_subcommand};
 ghost use Rattle.bl_words.specs.CommandLine.{setup_rule, limit_rule, trail_limit_rule, trail_rule, kept_trail_rule};
 ghost use Rattle.bl_words.specs.CommandLine.{replace_rule, claim_rule, keep_rule, resume_rule, port_rule, doors_rule};
 ghost use Rattle.bl_words.specs.CommandLine.{workers_rule, threads_rule, sessions_rule, clients_rule, idle_rule};
-ghost use Rattle.bl_words.specs.CommandLine.{log_rule, session_app, named_app, kept_app, alone_app, places_app};
-ghost use Rattle.bl_words.specs.CommandLine.{crews_app, counts_app, clients_app, files_app, serve_app, replay_app};
-ghost use Rattle.bl_words.specs.CommandLine.{recover_app, root_app, server_app};
+ghost use Rattle.bl_words.specs.CommandLine.{log_rule, text_rule, number_rule, flag_rule, alone_app, serve_app};
+ghost use Rattle.bl_words.specs.CommandLine.{replay_app, recover_app, server_app, IsLocal};
 ghost use Rattle.bl_status.specs.Status.{IsStatus};
 ghost use Rattle.bl_words.specs.Status.{status_for};
 ghost use Rattle.bl_words.specs.Words.{HasCount, HasEntrance, HasHosting, HasKeeping, HasNoCommand, HasNumber};
@@ -147,353 +145,331 @@ const MORE: &str = "Exit status:\n  \
     `alone` reads its session from standard input and writes its replies to standard output.\n\
     The repository's docs/FORMATS.md describes the lines of a session, the setup file and the trail.";
 
-fn setup_option<'a>(alloc: Global) -> Arg<'a>
-    ensures rule { rule_of result ≡ setup_rule }
-    ensures own { result.global ≡ false }
+/// An option that takes a text.
+fn text_option<'a>(alloc: Global, name: &'a str, value: &'a str, help: &'a str) -> Arg<'a>
+    ensures { rule_of result ≡ text_rule name.entry.now }
 {
-    Arg::new(alloc, "setup")
-        .long("setup")
-        .required(true)
+    Arg::new(alloc, name)
+        .long(name)
         .action(ArgAction::Set)
-        .value_name("FILE")
-        .help("The setup file")
+        .value_name(value)
+        .help(help)
+}
+
+/// An option that takes a number from `least` to `most`.
+fn number_option<'a>(
+    alloc: Global,
+    name: &'a str,
+    value: &'a str,
+    least: u32,
+    most: u32,
+    help: &'a str,
+) -> Arg<'a>
+    ensures { rule_of result ≡ number_rule name.entry.now least most }
+{
+    let range = i64::from(least)..=i64::from(most);
+    text_option(alloc, name, value, help).value_parser(value_parser!(u32).range(range))
+}
+
+/// An option that takes nothing.
+fn flag_option<'a>(alloc: Global, name: &'a str, help: &'a str) -> Arg<'a>
+    ensures { rule_of result ≡ flag_rule name.entry.now }
+{
+    Arg::new(alloc, name)
+        .long(name)
+        .action(ArgAction::SetTrue)
+        .help(help)
+}
+
+fn setup_option<'a>(alloc: Global) -> Arg<'a>
+    ensures { rule_of result ≡ setup_rule }
+{
+    text_option(alloc, "setup", "FILE", "The setup file").required(true)
 }
 
 fn limit_option<'a>(alloc: Global) -> Arg<'a>
-    ensures rule { rule_of result ≡ limit_rule }
-    ensures own { result.global ≡ false }
+    ensures { rule_of result ≡ limit_rule }
 {
-    Arg::new(alloc, "limit")
-        .long("limit")
-        .action(ArgAction::Set)
-        .value_parser(value_parser!(u32).range(1..=100_000))
-        .default_value("10000")
-        .value_name("N")
-        .help("The weight of the lines that are admitted, 1 to 100000")
+    number_option(
+        alloc,
+        "limit",
+        "N",
+        1,
+        MOST_LIMIT,
+        "The weight of the lines that are admitted, 1 to 100000",
+    )
+    .default_value("10000")
 }
 
 fn trail_option<'a>(alloc: Global) -> Arg<'a>
-    ensures rule { rule_of result ≡ trail_rule }
-    ensures own { result.global ≡ false }
+    ensures { rule_of result ≡ trail_rule }
 {
-    Arg::new(alloc, "trail")
-        .long("trail")
-        .required(true)
-        .action(ArgAction::Set)
-        .value_name("FILE")
-        .help("The trail file")
+    text_option(alloc, "trail", "FILE", "The trail file").required(true)
 }
 
 fn trail_limit_option<'a>(alloc: Global) -> Arg<'a>
-    ensures rule { rule_of result ≡ trail_limit_rule }
-    ensures own { result.global ≡ false }
+    ensures { rule_of result ≡ trail_limit_rule }
 {
-    Arg::new(alloc, "trail-limit")
-        .long("trail-limit")
-        .action(ArgAction::Set)
-        .value_parser(value_parser!(u32).range(65_536..=1_073_741_824))
-        .default_value("1073741824")
-        .value_name("BYTES")
-        .help("The most bytes of the trail, 65536 to 1073741824")
+    number_option(
+        alloc,
+        "trail-limit",
+        "BYTES",
+        LEAST_TRAIL,
+        MOST_TRAIL,
+        "The most bytes of the trail, 65536 to 1073741824",
+    )
+    .default_value("1073741824")
 }
 
 /// `--trail` of a command that keeps a trail where it is asked to.
 fn kept_trail_option<'a>(alloc: Global) -> Arg<'a>
-    ensures rule { rule_of result ≡ kept_trail_rule }
-    ensures own { result.global ≡ false }
+    ensures { rule_of result ≡ kept_trail_rule }
 {
-    Arg::new(alloc, "trail")
-        .long("trail")
-        .action(ArgAction::Set)
-        .value_name("FILE")
-        .help("The trail file; without it no trail is kept")
+    text_option(
+        alloc,
+        "trail",
+        "FILE",
+        "The trail file; without it no trail is kept",
+    )
 }
 
 fn replace_option<'a>(alloc: Global) -> Arg<'a>
-    ensures rule { rule_of result ≡ replace_rule }
-    ensures own { result.global ≡ false }
+    ensures { rule_of result ≡ replace_rule }
 {
-    Arg::new(alloc, "replace")
-        .long("replace")
-        .action(ArgAction::SetTrue)
-        .help("Lets an old trail of that name be replaced")
+    flag_option(
+        alloc,
+        "replace",
+        "Lets an old trail of that name be replaced",
+    )
 }
 
 fn claim_option<'a>(alloc: Global) -> Arg<'a>
-    ensures rule { rule_of result ≡ claim_rule }
-    ensures own { result.global ≡ false }
+    ensures { rule_of result ≡ claim_rule }
 {
-    Arg::new(alloc, "claim-trail")
-        .long("claim-trail")
-        .action(ArgAction::SetTrue)
-        .help("Makes the trail file first, and ends at once where that fails")
+    flag_option(
+        alloc,
+        "claim-trail",
+        "Makes the trail file first, and ends at once where that fails",
+    )
 }
 
 fn keep_option<'a>(alloc: Global) -> Arg<'a>
-    ensures rule { rule_of result ≡ keep_rule }
-    ensures own { result.global ≡ false }
+    ensures { rule_of result ≡ keep_rule }
 {
-    Arg::new(alloc, "keep")
-        .long("keep")
-        .action(ArgAction::Set)
-        .default_value("end")
-        .value_name("HOW")
-        .help("When the trail is written: end, written or synced")
+    text_option(
+        alloc,
+        "keep",
+        "HOW",
+        "When the trail is written: end, written or synced",
+    )
+    .default_value("end")
 }
 
 fn resume_option<'a>(alloc: Global) -> Arg<'a>
-    ensures rule { rule_of result ≡ resume_rule }
-    ensures own { result.global ≡ false }
+    ensures { rule_of result ≡ resume_rule }
 {
-    Arg::new(alloc, "resume")
-        .long("resume")
-        .action(ArgAction::SetTrue)
-        .help("Goes on from a run that was cut off, with its limit")
+    flag_option(
+        alloc,
+        "resume",
+        "Goes on from a run that was cut off, with its limit",
+    )
 }
 
 fn port_option<'a>(alloc: Global) -> Arg<'a>
-    ensures rule { rule_of result ≡ port_rule }
-    ensures own { result.global ≡ false }
+    ensures { rule_of result ≡ port_rule }
 {
-    Arg::new(alloc, "port")
-        .long("port")
-        .action(ArgAction::Set)
-        .value_parser(value_parser!(u32).range(1..=65_535))
-        .value_name("N")
-        .help("The port that is listened on, 1 to 65535")
+    number_option(
+        alloc,
+        "port",
+        "N",
+        1,
+        MOST_PORT,
+        "The port that is listened on, 1 to 65535",
+    )
 }
 
 fn doors_option<'a>(alloc: Global) -> Arg<'a>
-    ensures rule { rule_of result ≡ doors_rule }
-    ensures own { result.global ≡ false }
+    ensures { rule_of result ≡ doors_rule }
 {
-    Arg::new(alloc, "doors")
-        .long("doors")
-        .action(ArgAction::Set)
-        .value_name("FOLDER")
-        .help("In place of a port: the folder with a folder for each subject's door")
+    text_option(
+        alloc,
+        "doors",
+        "FOLDER",
+        "In place of a port: the folder with a folder for each subject's door",
+    )
 }
 
 fn workers_option<'a>(alloc: Global) -> Arg<'a>
-    ensures rule { rule_of result ≡ workers_rule }
-    ensures own { result.global ≡ false }
+    ensures { rule_of result ≡ workers_rule }
 {
-    Arg::new(alloc, "workers")
-        .long("workers")
-        .action(ArgAction::Set)
-        .value_parser(value_parser!(u32).range(1..=16))
-        .default_value("2")
-        .value_name("N")
-        .help("How many workers there are, 1 to 16")
+    number_option(
+        alloc,
+        "workers",
+        "N",
+        1,
+        MOST_THREADS,
+        "How many workers there are, 1 to 16",
+    )
+    .default_value("2")
 }
 
 fn threads_option<'a>(alloc: Global) -> Arg<'a>
-    ensures rule { rule_of result ≡ threads_rule }
-    ensures own { result.global ≡ false }
+    ensures { rule_of result ≡ threads_rule }
 {
-    Arg::new(alloc, "session-threads")
-        .long("session-threads")
-        .action(ArgAction::Set)
-        .value_parser(value_parser!(u32).range(1..=16))
-        .default_value("2")
-        .value_name("N")
-        .help("How many threads serve sessions, 1 to 16")
+    number_option(
+        alloc,
+        "session-threads",
+        "N",
+        1,
+        MOST_THREADS,
+        "How many threads serve sessions, 1 to 16",
+    )
+    .default_value("2")
 }
 
 fn sessions_option<'a>(alloc: Global) -> Arg<'a>
-    ensures rule { rule_of result ≡ sessions_rule }
-    ensures own { result.global ≡ false }
+    ensures { rule_of result ≡ sessions_rule }
 {
-    Arg::new(alloc, "sessions")
-        .long("sessions")
-        .action(ArgAction::Set)
-        .value_parser(value_parser!(u32).range(1..=1000))
-        .default_value("1")
-        .value_name("N")
-        .help("How many sessions are taken, 1 to 1000")
+    number_option(
+        alloc,
+        "sessions",
+        "N",
+        1,
+        MOST_SESSIONS,
+        "How many sessions are taken, 1 to 1000",
+    )
+    .default_value("1")
 }
 
 fn clients_option<'a>(alloc: Global) -> Arg<'a>
-    ensures rule { rule_of result ≡ clients_rule }
-    ensures own { result.global ≡ false }
+    ensures { rule_of result ≡ clients_rule }
 {
-    Arg::new(alloc, "clients")
-        .long("clients")
-        .action(ArgAction::Set)
-        .value_parser(value_parser!(u32).range(1..=1000))
-        .default_value("1000")
-        .value_name("N")
-        .help("How many clients are connected at once, 1 to 1000")
+    number_option(
+        alloc,
+        "clients",
+        "N",
+        1,
+        MOST_CLIENTS,
+        "How many clients are connected at once, 1 to 1000",
+    )
+    .default_value("1000")
 }
 
 fn idle_option<'a>(alloc: Global) -> Arg<'a>
-    ensures rule { rule_of result ≡ idle_rule }
-    ensures own { result.global ≡ false }
+    ensures { rule_of result ≡ idle_rule }
 {
-    Arg::new(alloc, "idle")
-        .long("idle")
-        .action(ArgAction::Set)
-        .value_parser(value_parser!(u32).range(1..=86_400))
-        .value_name("SECONDS")
-        .help("Ends a session that sends and takes nothing for so long, 1 to 86400")
+    number_option(
+        alloc,
+        "idle",
+        "SECONDS",
+        1,
+        MOST_IDLE,
+        "Ends a session that sends and takes nothing for so long, 1 to 86400",
+    )
 }
 
 fn log_option<'a>(alloc: Global) -> Arg<'a>
-    ensures rule { rule_of result ≡ log_rule }
-    ensures own { result.global ≡ false }
+    ensures { rule_of result ≡ log_rule }
 {
-    Arg::new(alloc, "log")
-        .long("log")
-        .action(ArgAction::Set)
-        .value_name("FILE")
-        .help("The file to which a line is added as a client comes, is greeted and ends")
+    text_option(
+        alloc,
+        "log",
+        "FILE",
+        "The file to which a line is added as a client comes, is greeted and ends",
+    )
 }
 
-/// The command `alone`, with what it has to be given and its limit.
-fn session_parser<'a>(alloc: Global) -> Result<Parser<'a>, AllocError>
-    ensures app { IfOk result (λ parser. app_of parser ≡ session_app) }
-    ensures own { IfOk result (λ parser. (fields_of parser).has_globals ≡ false) }
+/// The command `alone`.
+fn alone_parser<'a>(alloc: Global) -> Result<Parser<'a>, AllocError>
+    ensures { IfOk result (IsLocal alone_app) }
 {
+    let options = vec![in alloc;
+        setup_option(alloc),
+        limit_option(alloc),
+        kept_trail_option(alloc),
+        replace_option(alloc),
+        claim_option(alloc),
+        keep_option(alloc),
+        resume_option(alloc),
+    ]?;
     Parser::new(alloc, "alone")
         .about("One session on standard input and output")
         .after_help(MORE)
-        .arg(setup_option(alloc))?
-        .arg(limit_option(alloc))
+        .args(options)
 }
 
-/// The same, and it may have a trail.
-fn named_parser<'a>(alloc: Global) -> Result<Parser<'a>, AllocError>
-    ensures app { IfOk result (λ parser. app_of parser ≡ named_app) }
-    ensures own { IfOk result (λ parser. (fields_of parser).has_globals ≡ false) }
+/// The command `serve`.
+fn serve_parser<'a>(alloc: Global) -> Result<Parser<'a>, AllocError>
+    ensures { IfOk result (IsLocal serve_app) }
 {
-    session_parser(alloc)?
-        .arg(kept_trail_option(alloc))?
-        .arg(replace_option(alloc))
-}
-
-/// The same, with how that is kept.
-fn kept_parser<'a>(alloc: Global) -> Result<Parser<'a>, AllocError>
-    ensures app { IfOk result (λ parser. app_of parser ≡ kept_app) }
-    ensures own { IfOk result (λ parser. (fields_of parser).has_globals ≡ false) }
-{
-    named_parser(alloc)?
-        .arg(claim_option(alloc))?
-        .arg(keep_option(alloc))
-}
-
-fn alone_parser<'a>(alloc: Global) -> Result<Parser<'a>, AllocError>
-    ensures app { IfOk result (λ parser. app_of parser ≡ alone_app) }
-    ensures own { IfOk result (λ parser. (fields_of parser).has_globals ≡ false) }
-{
-    kept_parser(alloc)?.arg(resume_option(alloc))
-}
-
-/// The command `serve`, with its setup, and where clients come in.
-fn places_parser<'a>(alloc: Global) -> Result<Parser<'a>, AllocError>
-    ensures app { IfOk result (λ parser. app_of parser ≡ places_app) }
-    ensures own { IfOk result (λ parser. (fields_of parser).has_globals ≡ false) }
-{
+    let options = vec![in alloc;
+        setup_option(alloc),
+        port_option(alloc),
+        doors_option(alloc),
+        trail_option(alloc),
+        workers_option(alloc),
+        threads_option(alloc),
+        sessions_option(alloc),
+        limit_option(alloc),
+        clients_option(alloc),
+        idle_option(alloc),
+        log_option(alloc),
+        trail_limit_option(alloc),
+        replace_option(alloc),
+        claim_option(alloc),
+        keep_option(alloc),
+        resume_option(alloc),
+    ]?;
     Parser::new(alloc, "serve")
         .about("Sessions of many clients, over TCP on 127.0.0.1 or by doors")
         .after_help(MORE)
-        .arg(setup_option(alloc))?
-        .arg(port_option(alloc))?
-        .arg(doors_option(alloc))
-}
-
-/// The same, with its trail and the numbers of its threads.
-fn crews_parser<'a>(alloc: Global) -> Result<Parser<'a>, AllocError>
-    ensures app { IfOk result (λ parser. app_of parser ≡ crews_app) }
-    ensures own { IfOk result (λ parser. (fields_of parser).has_globals ≡ false) }
-{
-    places_parser(alloc)?
-        .arg(trail_option(alloc))?
-        .arg(workers_option(alloc))?
-        .arg(threads_option(alloc))
-}
-
-/// The same, with the numbers of its sessions and of their weight.
-fn counts_parser<'a>(alloc: Global) -> Result<Parser<'a>, AllocError>
-    ensures app { IfOk result (λ parser. app_of parser ≡ counts_app) }
-    ensures own { IfOk result (λ parser. (fields_of parser).has_globals ≡ false) }
-{
-    crews_parser(alloc)?
-        .arg(sessions_option(alloc))?
-        .arg(limit_option(alloc))
-}
-
-/// The same, with the number of clients at once, how long one may be idle, and a log of them.
-fn clients_parser<'a>(alloc: Global) -> Result<Parser<'a>, AllocError>
-    ensures app { IfOk result (λ parser. app_of parser ≡ clients_app) }
-    ensures own { IfOk result (λ parser. (fields_of parser).has_globals ≡ false) }
-{
-    counts_parser(alloc)?
-        .arg(clients_option(alloc))?
-        .arg(idle_option(alloc))?
-        .arg(log_option(alloc))
-}
-
-/// The same, with what is said of the trail's file.
-fn files_parser<'a>(alloc: Global) -> Result<Parser<'a>, AllocError>
-    ensures app { IfOk result (λ parser. app_of parser ≡ files_app) }
-    ensures own { IfOk result (λ parser. (fields_of parser).has_globals ≡ false) }
-{
-    clients_parser(alloc)?
-        .arg(trail_limit_option(alloc))?
-        .arg(replace_option(alloc))?
-        .arg(claim_option(alloc))
-}
-
-fn serve_parser<'a>(alloc: Global) -> Result<Parser<'a>, AllocError>
-    ensures app { IfOk result (λ parser. app_of parser ≡ serve_app) }
-    ensures own { IfOk result (λ parser. (fields_of parser).has_globals ≡ false) }
-{
-    files_parser(alloc)?
-        .arg(keep_option(alloc))?
-        .arg(resume_option(alloc))
+        .args(options)
 }
 
 fn replay_parser<'a>(alloc: Global) -> Result<Parser<'a>, AllocError>
-    ensures app { IfOk result (λ parser. app_of parser ≡ replay_app) }
-    ensures own { IfOk result (λ parser. (fields_of parser).has_globals ≡ false) }
+    ensures { IfOk result (IsLocal replay_app) }
 {
+    let options = vec![in alloc; setup_option(alloc), trail_option(alloc)]?;
     Parser::new(alloc, "replay")
         .about("The verdict on a trail")
         .after_help(MORE)
-        .arg(setup_option(alloc))?
-        .arg(trail_option(alloc))
+        .args(options)
 }
 
 fn recover_parser<'a>(alloc: Global) -> Result<Parser<'a>, AllocError>
-    ensures app { IfOk result (λ parser. app_of parser ≡ recover_app) }
-    ensures own { IfOk result (λ parser. (fields_of parser).has_globals ≡ false) }
+    ensures { IfOk result (IsLocal recover_app) }
 {
+    let options = vec![in alloc; setup_option(alloc), trail_option(alloc)]?;
     Parser::new(alloc, "recover")
         .about("Closes the trail of a run that was cut off")
         .after_help(MORE)
-        .arg(setup_option(alloc))?
-        .arg(trail_option(alloc))
+        .args(options)
 }
 
-/// The program, with its first command.
-fn root_parser<'a>(alloc: Global) -> Result<Parser<'a>, AllocError>
-    ensures { IfOk result (λ parser. app_of parser ≡ root_app) }
+/// The program with one more command, which memory may have been too short for.
+fn with_command<'a>(
+    parser: Parser<'a>,
+    command: Result<Parser<'a>, AllocError>,
+) -> Result<Parser<'a>, AllocError>
+    ensures { (app : App) → IfOk command.entry (IsLocal app) →
+        IfOk result (λ made. app_of made ≡ with_subcommand (app_of parser.entry) app.top) }
 {
-    Parser::new(alloc, "bl_server")
-        .version("0.1.0")
-        .about("A document server that enforces Bell and La Padula")
-        .after_help(MORE)
-        .subcommand_required(true)
-        .subcommand(alone_parser(alloc)?)
+    parser.subcommand(command?)
 }
 
+/// The program.
 fn parser<'a>(alloc: Global) -> Result<Parser<'a>, AllocError>
     ensures { IfOk result (λ parser. app_of parser ≡ server_app) }
 {
-    root_parser(alloc)?
-        .subcommand(serve_parser(alloc)?)?
-        .subcommand(replay_parser(alloc)?)?
-        .subcommand(recover_parser(alloc)?)
+    let parser = Parser::new(alloc, "bl_server")
+        .version("0.1.0")
+        .about("A document server that enforces Bell and La Padula")
+        .after_help(MORE)
+        .subcommand_required(true);
+    let parser = with_command(parser, alone_parser(alloc))?;
+    let parser = with_command(parser, serve_parser(alloc))?;
+    let parser = with_command(parser, replay_parser(alloc))?;
+    with_command(parser, recover_parser(alloc))
 }
 
 /// The number of an option, where it is 1 to `most`.
@@ -732,6 +708,13 @@ fn why_none(found: &ArgMatches<'_>) -> &'static str {
     }
 }
 
+/// The error for words that were parsed and name no command.
+fn refusal(alloc: Global, why: &'static str) -> Result<Error, AllocError>
+    ensures { IfOk result (λ error. kind_of error ≡ ErrorKind.InvalidValue) }
+{
+    parser(alloc)?.error(ErrorKind::InvalidValue, why)
+}
+
 impl<'a> Command<'a> {
     /// The name of the command's setup file.
     pub fn setup(&self) -> &'a str
@@ -768,9 +751,12 @@ pub fn read_words<'a>(alloc: Global, words: &'a [String]) -> Result<Command<'a>,
         ⊎ ((kind_of error ≡ ErrorKind.InvalidValue) × NameNone (map (λ word. string_bytes word) words.entry.now))) }
 {
     let matches = parser(alloc)?.try_get_matches_from(words)?;
-    match command_of(&matches) {
+    let command = command_of(&matches);
+    let why = why_none(&matches);
+    drop(matches);
+    match command {
         Some(command) => Ok(command),
-        None => Err(parser(alloc)?.error(ErrorKind::InvalidValue, why_none(&matches))?),
+        None => Err(refusal(alloc, why)?),
     }
 }
 

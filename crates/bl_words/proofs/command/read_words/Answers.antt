@@ -19,8 +19,8 @@ returns-in_err-matches-clause-faults c =
     rw p.1 (inl (has_fault _ _ c.in_ok-parser.ensures _ _ p.2 c.in_err-matches.ensures.kinds))
 
 -- matches that are of no command are of words that name none
-pub returns-clause-faults : goal.returns-clause-faults
-returns-clause-faults c =
+pub returns-in_ok-refusal-in-None-clause-faults : goal.returns-in_ok-refusal-in-None-clause-faults
+returns-in_ok-refusal-in-None-clause-faults c =
     let matches = c.in_ok-matches in
     let same = matches_are_entered _ _ matches.matches c.in_ok-parser.ensures matches.ensures.matches in
-    inr (c.in_ok-error-in-None.ensures.kind, λ command named range. c.in-None.ensures.none command (named.0, same ∙ named.1, named.2) range)
+    inr (c.in_ok-refusal-in-None.ensures, λ command named range. c.in-None.ensures.none command (named.0, same ∙ named.1, named.2) range)

@@ -1,6 +1,6 @@
 use Rattle.std.proofs.Common.{ℕ, arith, codes}
 use Rattle.bl_words.specs.Words.{HasNumber, IsTrailLimit}
-use Rattle.bl_words.proofs.CommandLine.{at_none, one_number}
+use Rattle.bl_words.proofs.CommandLine.{at_none}
 use Rattle.bl_words.proofs.command.trail_limit_of.Goals as goal
 
 pub returns-in_err-bytes-clause-none : goal.returns-in_err-bytes-clause-none

@@ -1,0 +1,16 @@
+use Rattle.std.proofs.Common.{◌≡◌, ◌∙◌, ap, true}
+use Rattle.clap.specs.Words.{App, app_of, with_subcommand}
+use Rattle.clap.specs.Simple.{on_top}
+use Rattle.bl_words.specs.CommandLine.{alone_app, recover_app, replay_app, root_app, serve_app}
+use Rattle.bl_words.proofs.Options.{added_last}
+use Rattle.bl_words.proofs.command.parser.Goals as goal
+
+pub returns : goal.returns
+returns c =
+    let root : app_of c.subcommand_required-parser.result ≡ root_app =
+    rw (c.subcommand_required-parser.ensures, c.after_help.ensures, c.about.ensures, c.version.ensures)
+    (ap (on_top (λ s. record s { has_version = true; subcommand_required = true })) c.new.ensures.app) in
+    let alone = c.in_ok-parser.ensures alone_app c.alone_parser.ensures ∙ ap (λ (app : App). with_subcommand app alone_app.top) root in
+    let serve = c.in_ok-parser-2.ensures serve_app c.serve_parser.ensures ∙ ap (λ (app : App). with_subcommand app serve_app.top) alone in
+    let replay = c.in_ok-parser-3.ensures replay_app c.replay_parser.ensures ∙ ap (λ (app : App). with_subcommand app replay_app.top) serve in
+    added_last _ _ _ recover_app replay (c.with_command-4.ensures recover_app c.recover_parser.ensures)
