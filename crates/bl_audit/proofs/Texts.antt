@@ -92,9 +92,9 @@ ended-so x later end at n comes =
 
 module _ (x : State) (later : List Event) (end : State) (at : ℕ) (old new : EndState) where
   pub open-line : (s : ℕ) → Comes x (Opens s) later end at → Agree end.setup → AreNames end.setup.names
-      → Puts (codes "open " ++ slice_index_or end.setup.names.subjects s []) old new → HasLine x (Opens s) later end at old new
+      → Puts ((codes "open " ++ slice_index_or end.setup.names.subjects s []) ++ 10 ∷ []) old new → HasLine x (Opens s) later end at old new
   open-line s comes agree are puts = record {
-    text = subst (λ (u : Setup). Puts (codes "open " ++ slice_index_or u.names.subjects s []) old new) (same-setup x (Opens s) later end at comes) puts;
+    text = subst (λ (u : Setup). Puts ((codes "open " ++ slice_index_or u.names.subjects s []) ++ 10 ∷ []) old new) (same-setup x (Opens s) later end at comes) puts;
     plain = subst (λ (u : Setup). HasNoLf (codes "open " ++ slice_index_or u.names.subjects s [])) (same-setup x (Opens s) later end at comes)
         (plain-open (slice_index_or end.setup.names.subjects s []) (plain-subject end.setup.names are s
         (omega (arith, agree.subjects, comes.steps.0.0, ap (λ (u : Setup). length u.policy.subjects) (same-setup x (Opens s) later end at comes)))));
@@ -103,19 +103,19 @@ module _ (x : State) (later : List Event) (end : State) (at : ℕ) (old new : En
   }
 
   pub admitted-line : (i k next : ℕ) (w : Work) → Comes x (Admits i k w) later end at → i < 2 ^ 32 → k < 2 ^ 32
-      → Puts (codes "line " ++ (decimal i ++ (32 ∷ (decimal k ++ (32 ∷ canonical_line end.setup.names (line.Work w)))))) old new
+      → Puts ((codes "line " ++ (decimal i ++ (32 ∷ (decimal k ++ (32 ∷ canonical_line end.setup.names (line.Work w)))))) ++ 10 ∷ []) old new
       → HasNoLf (canonical_line end.setup.names (line.Work w)) → next ≤ length end.order → lines_from end next ≡ works_in later → HasLine x (Admits i k w) later end next old new
   admitted-line i k next w comes li lk puts plain place more = record {
-    text = subst (λ (u : Setup). Puts (codes "line " ++ (decimal i ++ (32 ∷ (decimal k ++ (32 ∷ canonical_line u.names (line.Work w)))))) old new) (same-setup x (Admits i k w) later end at comes) puts;
+    text = subst (λ (u : Setup). Puts ((codes "line " ++ (decimal i ++ (32 ∷ (decimal k ++ (32 ∷ canonical_line u.names (line.Work w)))))) ++ 10 ∷ []) old new) (same-setup x (Admits i k w) later end at comes) puts;
     plain = plain-line i k _ li lk (subst (λ (u : Setup). HasNoLf (canonical_line u.names (line.Work w))) (same-setup x (Admits i k w) later end at comes) plain);
     place = place;
     rest = more;
   }
 
   pub start-line : (n : ℕ) → Comes x (Starts n) later end at → n < 2 ^ 32 → AreNames end.setup.names → NamesWords end.setup.names (words_later (told_of end n))
-      → Puts (codes "start " ++ (decimal n ++ words_text end.setup.names (words_later (told_of end n)))) old new → HasLine x (Starts n) later end at old new
+      → Puts ((codes "start " ++ (decimal n ++ words_text end.setup.names (words_later (told_of end n)))) ++ 10 ∷ []) old new → HasLine x (Starts n) later end at old new
   start-line n comes lt are named puts = record {
-    text = subst (λ t. Puts (codes "start " ++ (decimal n ++ t)) old new) (sym words) puts;
+    text = subst (λ t. Puts ((codes "start " ++ (decimal n ++ t)) ++ 10 ∷ []) old new) (sym words) puts;
     plain = plain-start n _ lt (subst HasNoLf (sym words) (plain-words end.setup.names are (words_later (told_of end n)) named));
     place = comes.place;
     rest = comes.lines;
@@ -127,9 +127,9 @@ module _ (x : State) (later : List Event) (end : State) (at : ℕ) (old new : En
           ∙ ap (λ (u : Setup). words_text u.names (words_later (told_of end n))) (sym (same-setup x (Starts n) later end at comes))
 
   pub end-line : (n : ℕ) → Comes x (Ends n) later end at → (a : Answer) → a ≡ (past_at end n).answer → n < 2 ^ 32
-      → Puts (codes "end " ++ (decimal n ++ answer_text end.setup.names a)) old new → HasNoLf (answer_text end.setup.names a) → HasLine x (Ends n) later end at old new
+      → Puts ((codes "end " ++ (decimal n ++ answer_text end.setup.names a)) ++ 10 ∷ []) old new → HasNoLf (answer_text end.setup.names a) → HasLine x (Ends n) later end at old new
   end-line n comes a is lt puts plain = record {
-    text = subst (λ t. Puts (codes "end " ++ (decimal n ++ t)) old new) (sym told) puts;
+    text = subst (λ t. Puts ((codes "end " ++ (decimal n ++ t)) ++ 10 ∷ []) old new) (sym told) puts;
     plain = plain-end n _ lt (subst HasNoLf (sym told) plain);
     place = comes.place;
     rest = comes.lines;
@@ -138,5 +138,5 @@ module _ (x : State) (later : List Event) (end : State) (at : ℕ) (old new : En
       told : answer_text x.setup.names (past_at x n).answer ≡ answer_text end.setup.names a
       told = ap (answer_text x.setup.names) (sym (is ∙ (ended-so x later end at n comes).1)) ∙ ap (λ (u : Setup). answer_text u.names a) (sym (same-setup x (Ends n) later end at comes))
 
-  pub loss-line : (n : ℕ) → Comes x (Loses n) later end at → n < 2 ^ 32 → Puts (codes "lost " ++ decimal n) old new → HasLine x (Loses n) later end at old new
+  pub loss-line : (n : ℕ) → Comes x (Loses n) later end at → n < 2 ^ 32 → Puts ((codes "lost " ++ decimal n) ++ 10 ∷ []) old new → HasLine x (Loses n) later end at old new
   loss-line n comes lt puts = record { text = puts; plain = plain-loss n lt; place = comes.place; rest = comes.lines }

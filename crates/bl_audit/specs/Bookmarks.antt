@@ -10,7 +10,8 @@ use Rattle.bl_audit.specs.declared.bookmark.Bookmark.{Bookmark}
 abbrev pub texts_after : Chronicle → ℕ → List (List ℕ)
 texts_after hall n = event_texts (state_after (start hall.setup hall.limit) (take n hall.trail)) (drop n hall.trail)
 
--- So many events have happened, and the lines of sessions among those after them stand from the bookmark's place of the order on.
+-- So many events have happened, and the lines of sessions among those after them stand from the bookmark's place of the
+-- order on.
 pub record IsBookmark (hall : Chronicle) (bookmark : Bookmark) : Type 0 where
   pub written : bookmark.written ≤ length hall.trail
   pub place : bookmark.place ≤ length (state_now hall).order

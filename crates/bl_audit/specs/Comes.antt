@@ -1,5 +1,5 @@
 -- An event of a trail, where its line is written after the trail has ended.
-use Rattle.std.specs.Prelude.{◌≡◌, ◌<◌, ◌≤◌, ◌^◌, ℕ, List, [], ◌∷◌, drop, length, Option, Some, None}
+use Rattle.std.specs.Prelude.{◌≡◌, ◌<◌, ◌≤◌, ◌^◌, ℕ, List, [], ◌∷◌, ◌++◌, drop, length, Option, Some, None}
 use Rattle.bl_work.specs.declared.answer.Answer.{Answer}
 use Rattle.bl_work.specs.declared.answer.Answer.TheVariants as answer
 use Rattle.bl_work.specs.declared.work.Work.{Work}
@@ -27,7 +27,8 @@ works_in (Loses n ∷ events) = works_in events
 abbrev pub lines_from : State → ℕ → List Work
 lines_from x n = works_of (drop n x.order)
 
--- A trail leads to the state that the event finds, it and the later ones lead to the end, and their lines stand from a place of the order on.
+-- A trail leads to the state that the event finds, it and the later ones lead to the end, and their lines stand from a
+-- place of the order on.
 pub record Comes (x : State) (event : Event) (later : List Event) (end : State) (at : ℕ) : Type 0 where
   pub reached : IsReached x
   pub steps : IsTrail x (event ∷ later)
@@ -35,9 +36,10 @@ pub record Comes (x : State) (event : Event) (later : List Event) (end : State) 
   pub place : at ≤ length end.order
   pub lines : lines_from end at ≡ works_in (event ∷ later)
 
--- The text of the event was put, which has no LF, and the later lines stand from this place on.
-pub record HasLine (x : State) (event : Event) (later : List Event) (end : State) (next : ℕ) (old new : EndState) : Type 0 where
-  pub text : Puts (event_text x event) old new
+-- The line of the event was put, which has no LF but at its end, and the later lines stand from this place on.
+pub record HasLine (x : State) (event : Event) (later : List Event) (end : State) (next : ℕ)
+    (old new : EndState) : Type 0 where
+  pub text : Puts (event_text x event ++ 10 ∷ []) old new
   pub plain : HasNoLf (event_text x event)
   pub place : next ≤ length end.order
   pub rest : lines_from end next ≡ works_in later

@@ -19,7 +19,8 @@ abbrev pub AppendsPart : Option (List ℕ) → Option (List ℕ) → List ℕ �
 AppendsPart old new text = (part : List ℕ) × (rest : List ℕ) × Appends old new part × (text ≡ part ++ rest)
 
 -- The line of the event was written, which has no LF but at its end, and the later lines stand from this place on.
-pub record WroteLine (x : State) (event : Event) (later : List Event) (end : State) (next : ℕ) (old new : Option (List ℕ)) : Type 0 where
+pub record WroteLine (x : State) (event : Event) (later : List Event) (end : State) (next : ℕ)
+    (old new : Option (List ℕ)) : Type 0 where
   pub text : Appends old new (event_text x event ++ 10 ∷ [])
   pub plain : HasNoLf (event_text x event)
   pub place : next ≤ length end.order

@@ -1,5 +1,7 @@
-//! The line of an event, written after the trail has ended: what the core knows then tells what was said at each start and end.
-ghost use Rattle.std.specs.Prelude.{◌≡◌, ◌+◌, ◌<◌, ◌≤◌, ◌^◌, ◌++◌, ◌∷◌, [], IfErr, IfOk, IfSome, List, MatchOption, OnErr, OnOk, codes, decimal, false, length, option_copied};
+//! The line of an event, written after the trail has ended: what the core knows then tells what was said at each start
+//! and end.
+ghost use Rattle.std.specs.Prelude.{◌≡◌, ◌+◌, ◌<◌, ◌≤◌, ◌^◌, ◌++◌, ◌∷◌, [], IfErr, IfOk, IfSome, List, MatchOption};
+ghost use Rattle.std.specs.Prelude.{OnErr, OnOk, codes, decimal, false, length, option_copied};
 ghost use Rattle.bl_work.specs.declared.asked.Line.TheVariants as asked;
 ghost use Rattle.bl_work.specs.declared.work.Work.{Work as AnyWork};
 ghost use Rattle.bl_work.specs.Readable.{IsReadable};
@@ -17,7 +19,6 @@ use bl_core::machine::Core;
 use bl_core::session::SessionNo;
 use bl_hall::event::Event;
 use bl_trail::text::{Words, put_end, put_line, put_loss, put_open, put_start};
-use bl_wire::put::put;
 use bl_wire::watched::Watched;
 use bl_work::answer::Answer;
 use bl_work::work::Work;
@@ -36,7 +37,8 @@ pub enum TrailFault {
 
 /// The first line at or after a place of the order, with its place.
 fn line_from(core: &Core, at: u32) -> Option<(u32, &Work)>
-    ensures lines { MatchOption result (lines_from core.now at ≡ []) (λ found. lines_from core.now at ≡ found.1.now ∷ lines_from core.now (found.0 + 1)) }
+    ensures lines { MatchOption result (lines_from core.now at ≡ [])
+        (λ found. lines_from core.now at ≡ found.1.now ∷ lines_from core.now (found.0 + 1)) }
     ensures few { IfSome result (λ found. found.0 + 1 < 2 ^ 32) }
     ensures there { IfSome result (λ found. found.0 < length core.now.order) }
     ensures readable { IfSome result (λ found. IsReadable core.now.setup.names found.1.now) }
@@ -60,8 +62,8 @@ fn start_words(answer: Option<&Answer>) -> Words
     }
 }
 
-/// Writes the text of the next line of a session, which is the first one at or after a place, and answers the place after it. An
-/// error comes only where a growth is refused, before anything is written.
+/// Writes the line of the next work of a session, which is the first one at or after a place, and answers the place
+/// after it. An error comes only where a growth is refused, before anything is written.
 fn put_next_line<W: Write>(
     text: &mut Text,
     writer: &mut Watched<W>,
@@ -72,11 +74,14 @@ fn put_next_line<W: Write>(
 ) -> Result<u32, AllocError>
     requires { (work : AnyWork) × (rest : List AnyWork) × (lines_from core.now at ≡ work ∷ rest) }
     ensures text { IfOk result (λ next. (work : AnyWork) (rest : List AnyWork) → lines_from core.now at ≡ work ∷ rest
-        → Puts (codes "line " ++ (decimal session ++ (32 ∷ (decimal ordinal ++ (32 ∷ canonical_line core.now.setup.names (asked.Work work)))))) (end_state W.contents writer.old) (end_state W.contents writer.new)) }
+        → Puts ((codes "line " ++ (decimal session
+        ++ (32 ∷ (decimal ordinal ++ (32 ∷ canonical_line core.now.setup.names (asked.Work work)))))) ++ 10 ∷ [])
+        (end_state W.contents writer.old) (end_state W.contents writer.new)) }
     ensures plain { IfOk result (λ next. (work : AnyWork) (rest : List AnyWork) → lines_from core.now at ≡ work ∷ rest
         → HasNoLf (canonical_line core.now.setup.names (asked.Work work))) }
     ensures place { IfOk result (λ next. next ≤ length core.now.order) }
-    ensures next { IfOk result (λ next. (work : AnyWork) (rest : List AnyWork) → lines_from core.now at ≡ work ∷ rest → lines_from core.now next ≡ rest) }
+    ensures next { IfOk result (λ next. (work : AnyWork) (rest : List AnyWork) → lines_from core.now at ≡ work ∷ rest
+        → lines_from core.now next ≡ rest) }
     ensures err { OnErr result (writer.new ≡ writer.old) }
 {
     let Some((n, work)) = line_from(core, at) else {
@@ -110,7 +115,7 @@ fn numbers_fit(event: &Event)
     }
 }
 
-/// Writes the text of an event without its LF, and answers the place after the last line that was written. An error comes only
+/// Writes the line of an event, and answers the place after the last line that was written. An error comes only
 /// where a growth is refused, before anything is written.
 fn put_text<W: Write>(
     text: &mut Text,
@@ -119,8 +124,10 @@ fn put_text<W: Write>(
     at: u32,
     event: &Event,
 ) -> Result<u32, AllocError>
-    requires { (x : State) × (e : AnyEvent) × (later : List AnyEvent) × Comes x e later core.now at × (kept_of e ≡ event.now) }
-    ensures told { IfOk result (λ next. (x : State) (e : AnyEvent) (later : List AnyEvent) → Comes x e later core.now at → kept_of e ≡ event.now
+    requires { (x : State) × (e : AnyEvent) × (later : List AnyEvent) × Comes x e later core.now at
+        × (kept_of e ≡ event.now) }
+    ensures told { IfOk result (λ next. (x : State) (e : AnyEvent) (later : List AnyEvent) → Comes x e later core.now at
+        → kept_of e ≡ event.now
         → HasLine x e later core.now next (end_state W.contents writer.old) (end_state W.contents writer.new)) }
     ensures err { OnErr result (writer.new ≡ writer.old) }
 {
@@ -156,8 +163,8 @@ fn put_text<W: Write>(
     }
 }
 
-/// Writes the line of an event, and answers the place after the last line of a session that was written. At a fault a first part
-/// of it was written.
+/// Writes the line of an event, and answers the place after the last line of a session that was written. At a fault a
+/// first part of it was written.
 pub(crate) fn put_event<W: Write>(
     text: &mut Text,
     writer: &mut Watched<W>,
@@ -165,11 +172,14 @@ pub(crate) fn put_event<W: Write>(
     at: u32,
     event: &Event,
 ) -> Result<u32, TrailFault>
-    requires coming { (x : State) × (e : AnyEvent) × (later : List AnyEvent) × Comes x e later core.now at × (kept_of e ≡ event.now) }
+    requires coming { (x : State) × (e : AnyEvent) × (later : List AnyEvent) × Comes x e later core.now at
+        × (kept_of e ≡ event.now) }
     requires fine { writer.old.failed ≡ false }
-    ensures told { IfOk result (λ next. (x : State) (e : AnyEvent) (later : List AnyEvent) → Comes x e later core.now at → kept_of e ≡ event.now
+    ensures told { IfOk result (λ next. (x : State) (e : AnyEvent) (later : List AnyEvent) → Comes x e later core.now at
+        → kept_of e ≡ event.now
         → WroteLine x e later core.now next (W.contents writer.old.inner) (W.contents writer.new.inner)) }
-    ensures part { OnErr result ((x : State) (e : AnyEvent) (later : List AnyEvent) → Comes x e later core.now at → kept_of e ≡ event.now
+    ensures part { OnErr result ((x : State) (e : AnyEvent) (later : List AnyEvent) → Comes x e later core.now at
+        → kept_of e ≡ event.now
         → AppendsPart (W.contents writer.old.inner) (W.contents writer.new.inner) (event_text x e ++ 10 ∷ [])) }
     ensures fine { OnOk result (writer.new.failed ≡ false) }
     ensures fault { IfErr result (λ fault. writer.new.failed ≡ is_write fault) }
@@ -177,9 +187,9 @@ pub(crate) fn put_event<W: Write>(
     let Ok(next) = put_text(text, writer, core, at, event) else {
         return Err(TrailFault::Memory);
     };
-    if put(writer, b"\n") {
-        Ok(next)
-    } else {
+    if writer.failed() {
         Err(TrailFault::Write)
+    } else {
+        Ok(next)
     }
 }

@@ -5,5 +5,6 @@ ghost use Rattle.bl_audit.specs.declared.bookmark.Bookmark.{Bookmark};
 
 /// A bookmark stays right while more happens.
 pub fn bookmarks_stay()
-    ensures { (before after : Chronicle) (bookmark : Bookmark) → HasGrown before after → IsBookmark before bookmark → IsBookmark after bookmark }
+    ensures { (before after : Chronicle) (bookmark : Bookmark) → HasGrown before after → IsBookmark before bookmark
+        → IsBookmark after bookmark }
 {}

@@ -40,8 +40,8 @@ pub(crate) fn answer_is_plain(names: &Names, answer: &Answer)
     }
 }
 
-/// Writes the canonical text of a work that some text reads as, in place of what was written before. An error comes only where a
-/// growth is refused.
+/// Writes the canonical text of a work that some text reads as, in place of what was written before. An error comes
+/// only where a growth is refused.
 pub(crate) fn set_work(text: &mut Text, names: &Names, work: &Work) -> Result<(), AllocError>
     requires { IsReadable names.now work.now }
     ensures text { OnOk result (text.new.bytes ≡ canonical_line names.now (asked.Work work.now)) }

@@ -23,8 +23,8 @@ use std::io::Write;
 
 /// Writes the lines of the events after a bookmark, each with its LF, and moves it after the last of them.
 ///
-/// At a fault a first part of these lines was written, and the bookmark stays: `Write` comes only where the writer failed in this
-/// call, and `Memory` only where a growth was refused.
+/// At a fault a first part of these lines was written, and the bookmark stays: `Write` comes only where the writer
+/// failed in this call, and `Memory` only where a growth was refused.
 pub fn write_lines<W: Write>(
     alloc: Global,
     hall: &Hall,
@@ -61,21 +61,25 @@ pub fn write_lines<W: Write>(
 /// Writes the trail of a hall as text: the version, which is 2, the limit, a line for each event, and `stop`. The text
 /// is written piece by piece and handed on at its end; at most one line's work is kept meanwhile.
 ///
-/// At a fault a first part of the text was written: `Write` comes only where the writer failed in this call, and `Memory` only
-/// where a growth was refused.
+/// At a fault a first part of the text was written: `Write` comes only where the writer failed in this call, and
+/// `Memory` only where a growth was refused.
 pub fn write_trail<W: Write>(
     alloc: Global,
     hall: &Hall,
     writer: &mut Watched<W>,
 ) -> Result<(), TrailFault>
     requires { writer.old.failed ≡ false }
-    ensures text { OnOk result (Appends (W.contents writer.old.inner) (W.contents writer.new.inner) (trail_text hall.now.setup hall.now.limit hall.now.trail)) }
-    ensures true_text { OnOk result (IsTrueText hall.now.setup (trail_text hall.now.setup hall.now.limit hall.now.trail) (length hall.now.trail)) }
+    ensures text { OnOk result (Appends (W.contents writer.old.inner) (W.contents writer.new.inner)
+        (trail_text hall.now.setup hall.now.limit hall.now.trail)) }
+    ensures true_text { OnOk result (IsTrueText hall.now.setup (trail_text hall.now.setup hall.now.limit hall.now.trail)
+        (length hall.now.trail)) }
     // Whoever replays the text accepts it, with the number of the events.
     ensures accepted { OnOk result ((verdict : AnyVerdict)
-        → IsVerdict hall.now.setup (trail_text hall.now.setup hall.now.limit hall.now.trail) verdict → verdict ≡ Accepted (length hall.now.trail)) }
+        → IsVerdict hall.now.setup (trail_text hall.now.setup hall.now.limit hall.now.trail) verdict
+        → verdict ≡ Accepted (length hall.now.trail)) }
     ensures handed_on { OnOk result (writer.new.unflushed ≡ false) }
-    ensures part { OnErr result (AppendsPart (W.contents writer.old.inner) (W.contents writer.new.inner) (trail_text hall.now.setup hall.now.limit hall.now.trail)) }
+    ensures part { OnErr result (AppendsPart (W.contents writer.old.inner) (W.contents writer.new.inner)
+        (trail_text hall.now.setup hall.now.limit hall.now.trail)) }
     ensures fault { IfErr result (λ fault. writer.new.failed ≡ is_write fault) }
 {
     true_texts_are_accepted();

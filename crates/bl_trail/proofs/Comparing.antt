@@ -22,10 +22,6 @@ left-none : (y z : Option (List ℕ)) (b : List ℕ) → y ≡ None → IsLeft y
 left-none None z b is q = q
 left-none (Some t) z b is q = absurd (cc)
 
-pub left-nil : (x : Option (List ℕ)) → IsLeft x [] x
-left-nil None = refl
-left-nil (Some t) = refl
-
 -- two pieces as one
 pub left-append : (a b : List ℕ) (x y z : Option (List ℕ)) → IsLeft x a y → IsLeft y b z → IsLeft x (a ++ b) z
 left-append a b None y z p q = left-none y z b p q

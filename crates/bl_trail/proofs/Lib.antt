@@ -1,5 +1,6 @@
 mod Base
 mod Rows
+mod Lines
 pub mod Numbers
 pub mod Words
 pub mod Following

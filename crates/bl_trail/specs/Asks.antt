@@ -1,5 +1,6 @@
 -- What a line of a trail asks, before anybody asks whether it is right.
-use Rattle.std.specs.Prelude.{◌≡◌, ◌≢◌, ℕ, ◌<◌, ◌^◌, if◌then◌else◌, ◌==◌, List, [], ◌∷◌, ◌++◌, Option, Some, None, codes, decimal}
+use Rattle.std.specs.Prelude.{◌≡◌, ◌≢◌, ℕ, ◌<◌, ◌^◌, if◌then◌else◌, ◌==◌, List, [], ◌∷◌, ◌++◌, Option, Some, None}
+use Rattle.std.specs.Prelude.{codes, decimal}
 use Rattle.std.specs.List.{AllByRecursion}
 use Rattle.std.specs.Borrow.{Bor}
 use Rattle.bl_trail.specs.declared.ask.Ask.{Ask}
@@ -24,7 +25,8 @@ ReadsNumber bytes read = (n : ℕ) → n < 2 ^ 32 → bytes ≡ decimal n → re
 
 -- a number with a space behind it, and what stands behind that, are read
 abbrev pub ReadsNumbered : List ℕ → Option (ℕ × List ℕ) → Type 0
-ReadsNumbered bytes read = (n : ℕ) (rest : List ℕ) → n < 2 ^ 32 → bytes ≡ decimal n ++ (32 ∷ rest) → read ≡ Some (n, rest)
+ReadsNumbered bytes read = (n : ℕ) (rest : List ℕ) → n < 2 ^ 32 → bytes ≡ decimal n ++ (32 ∷ rest)
+    → read ≡ Some (n, rest)
 
 -- an event, as a line asks for it
 pub data Asked : Type 0 where
@@ -52,10 +54,13 @@ pub record IsAskedBy (word rest : List ℕ) (asked : Asked) : Type 0 where
   pub opened : word ≡ codes "open" → asked ≡ opens rest
   pub admitted : word ≡ codes "line" → (session ordinal : ℕ) (text : List ℕ) → session < 2 ^ 32 → ordinal < 2 ^ 32
       → rest ≡ decimal session ++ (32 ∷ (decimal ordinal ++ (32 ∷ text))) → asked ≡ admits session ordinal text
-  pub started : word ≡ codes "start" → (n : ℕ) (words : List ℕ) → n < 2 ^ 32 → rest ≡ decimal n ++ (32 ∷ words) → asked ≡ starts n words
-  pub ended : word ≡ codes "end" → (n : ℕ) (words : List ℕ) → n < 2 ^ 32 → rest ≡ decimal n ++ (32 ∷ words) → asked ≡ ends n
+  pub started : word ≡ codes "start" → (n : ℕ) (words : List ℕ) → n < 2 ^ 32 → rest ≡ decimal n ++ (32 ∷ words)
+      → asked ≡ starts n words
+  pub ended : word ≡ codes "end" → (n : ℕ) (words : List ℕ) → n < 2 ^ 32 → rest ≡ decimal n ++ (32 ∷ words)
+      → asked ≡ ends n
   pub lost : word ≡ codes "lost" → (n : ℕ) → n < 2 ^ 32 → rest ≡ decimal n → asked ≡ loses n
 
 -- A line of an event asks for that event; what another line asks is not said.
 abbrev pub IsAsked : List ℕ → Asked → Type 0
-IsAsked line asked = (word : List ℕ) (rest : List ℕ) → HasNo 32 word → line ≡ word ++ (32 ∷ rest) → IsAskedBy word rest asked
+IsAsked line asked = (word : List ℕ) (rest : List ℕ) → HasNo 32 word → line ≡ word ++ (32 ∷ rest)
+    → IsAskedBy word rest asked

@@ -14,9 +14,11 @@ use Rattle.bl_trail.specs.declared.verdict.Verdict.TheVariants.{Accepted, Reject
 abbrev pub IsNoEvent : State → List ℕ → Type 0
 IsNoEvent x line = (event : Event) → Needs x event → HasEvent x.setup.version event → line ≡ event_text x event → ⊥
 
--- the line is the text of an event that the version has and that may come next, and this is so of the state that it leads to
+-- the line is the text of an event that the version has and that may come next, and this is so of the state that it
+-- leads to
 abbrev pub IsTaken : State → List ℕ → (State → Type 0) → Type 0
-IsTaken x line next = (event : Event) × Needs x event × HasEvent x.setup.version event × (line ≡ event_text x event) × next (change x event)
+IsTaken x line next = (event : Event) × Needs x event × HasEvent x.setup.version event × (line ≡ event_text x event)
+    × next (change x event)
 
 -- the text is that of these events, which the version has, and then something else
 pub record Followed (x : State) (text rest : List ℕ) (events : List Event) : Type 0 where
@@ -33,7 +35,8 @@ pub record IsLine (text line rest : List ℕ) : Type 0 where
 -- what stands next is not right: no whole line, or one that is neither `stop` nor an event's
 abbrev pub IsNotNext : State → List ℕ → Type 0
 IsNotNext x text =
-    HasNo 10 text ⊎ ((line : List ℕ) × (rest : List ℕ) × IsLine text line rest × (line ≢ codes "stop") × IsNoEvent x line)
+    HasNo 10 text ⊎ ((line : List ℕ) × (rest : List ℕ) × IsLine text line rest × (line ≢ codes "stop")
+    × IsNoEvent x line)
 
 -- something stands behind the closing `stop`
 abbrev pub IsMore : List ℕ → Type 0
@@ -41,7 +44,8 @@ IsMore text = (HasNo 10 text × (text ≢ [])) ⊎ ((line : List ℕ) × (rest :
 
 -- the events end by a `stop` with nothing behind it; or behind them, or behind the `stop`, something is not right
 abbrev pub IsFollowed : State → List ℕ → Verdict → Type 0
-IsFollowed x text (Accepted count) = (events : List Event) × Followed x text (codes "stop" ++ 10 ∷ []) events × (count ≡ length events)
+IsFollowed x text (Accepted count) = (events : List Event) × Followed x text (codes "stop" ++ 10 ∷ []) events
+    × (count ≡ length events)
 IsFollowed x text (Rejected number) =
     (events : List Event) × (rest : List ℕ)
     × ((Followed x text rest events × IsNotNext (state_after x events) rest × (number ≡ length events + 3))

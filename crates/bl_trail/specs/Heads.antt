@@ -15,8 +15,8 @@ IsNoVersionLine setup line = (version : Version) → HasSetup version setup → 
 abbrev pub IsNoLimitLine : List ℕ → Type 0
 IsNoLimitLine line = (limit : ℕ) → IsLimit limit → line ≡ codes "limit " ++ decimal limit → ⊥
 
--- the text begins with the head lines of a limit and a version that has the setup; or a line of its head is the first that
--- is not right
+-- the text begins with the head lines of a limit and a version that has the setup; or a line of its head is the first
+-- that is not right
 abbrev pub IsHead : Setup → List ℕ → Head → Type 0
 IsHead setup text (Right version limit rest) =
     HasSetup version setup × IsLimit limit × (text ≡ joined (head_lines version limit) ++ rest.now)

@@ -12,7 +12,8 @@ use Rattle.bl_work.specs.Readable.{IsReadable}
 -- what bl_script says of lines: the canonical text of a readable work reads as it, and no bytes ask two things
 pub record Reads (names : KnownNames) : Type 0 where
   pub names_are : AreNames names
-  pub again : (work : Work) → IsReadable names work → LineOf names (canonical_line names (line.Work work)) (line.Work work)
+  pub again : (work : Work) → IsReadable names work
+      → LineOf names (canonical_line names (line.Work work)) (line.Work work)
   pub one : (bytes : List ℕ) (l m : Line) → LineOf names bytes l → LineOf names bytes m → l ≡ m
 
 -- the numbers of a state are small, so that they have one text each

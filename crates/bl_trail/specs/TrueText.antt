@@ -39,7 +39,8 @@ joined lines = flat_map (λ line. line ++ 10 ∷ []) lines
 abbrev pub HasNoLf : List ℕ → Type 0
 HasNoLf = AllByRecursion (λ b. b ≢ 10)
 
--- TrueText: the text is that of a trail of so many events, of some version that has them and the setup, and under some limit
+-- TrueText: the text is that of a trail of so many events, of some version that has them and the setup, and under some
+-- limit
 pub record IsTrueText (setup : Setup) (text : List ℕ) (count : ℕ) : Type 0 where
   pub version : Version
   pub has_setup : HasSetup version setup
@@ -71,12 +72,13 @@ AreRight setup lines = (more : List (List ℕ)) × GoesOn setup lines more
 abbrev pub AreAll : Setup → List (List ℕ) → Type 0
 AreAll setup lines = GoesOn setup lines []
 
--- What stands behind lines that are right is wrong: it has no LF, and is not the nothing behind a closing `stop`; or its first line
--- is not right.
+-- What stands behind lines that are right is wrong: it has no LF, and is not the nothing behind a closing `stop`; or
+-- its first line is not right.
 abbrev pub IsWrong : Setup → List (List ℕ) → List ℕ → Type 0
 IsWrong setup lines behind =
     (HasNoLf behind × (behind ≡ [] → AreAll setup lines → ⊥))
-    ⊎ ((line : List ℕ) × (rest : List ℕ) × HasNoLf line × (behind ≡ line ++ 10 ∷ rest) × (AreRight setup (lines ++ line ∷ []) → ⊥))
+    ⊎ ((line : List ℕ) × (rest : List ℕ) × HasNoLf line × (behind ≡ line ++ 10 ∷ rest)
+    × (AreRight setup (lines ++ line ∷ []) → ⊥))
 
 -- Rejected: this is the number of the first line that is not right, counted from 1
 pub record FirstWrong (setup : Setup) (text : List ℕ) (number : ℕ) : Type 0 where

@@ -1,4 +1,5 @@
--- What the versions of a trail have: version 2 has every setup and every work, version 1 knows of no document that comes or goes.
+-- What the versions of a trail have: version 2 has every setup and every work, version 1 knows of no document that
+-- comes or goes.
 use Rattle.std.specs.Prelude.{ℕ, ◌<◌, List, length}
 use Rattle.std.specs.List.{AllByRecursion}
 use Rattle.bl_policy.specs.Properties.{IsPresent}

@@ -4,7 +4,8 @@ ghost use Rattle.bl_order.specs.Machine.{State, Event, Needs};
 ghost use Rattle.bl_trail.specs.EventText.{event_text};
 ghost use Rattle.bl_trail.specs.OneEvent.{IsSmall};
 ghost use Rattle.bl_trail.specs.Asking.{asked_for};
-ghost use Rattle.bl_trail.specs.Asks.{before, behind, ReadsNumber, ReadsNumbered, numbered_of, asked_of, IsAskedBy, IsAsked, admits};
+ghost use Rattle.bl_trail.specs.Asks.{before, behind, ReadsNumber, ReadsNumbered, numbered_of, asked_of, IsAskedBy};
+ghost use Rattle.bl_trail.specs.Asks.{IsAsked, admits};
 
 use memchr::memchr;
 
@@ -86,7 +87,8 @@ fn numbered(text: &[u8]) -> Option<(u32, &[u8])>
 /// What a session's line asks behind its first word.
 fn ask_line(text: &[u8]) -> Ask<'_>
     ensures { (session ordinal : ℕ) (work : List ℕ) → session < 2 ^ 32 → ordinal < 2 ^ 32
-        → text.now ≡ decimal session ++ (32 ∷ (decimal ordinal ++ (32 ∷ work))) → asked_of result ≡ admits session ordinal work }
+        → text.now ≡ decimal session ++ (32 ∷ (decimal ordinal ++ (32 ∷ work)))
+        → asked_of result ≡ admits session ordinal work }
 {
     match numbered(text) {
         Some((session, rest)) => match numbered(rest) {
@@ -131,8 +133,8 @@ fn asked(line: &[u8]) -> Ask<'_>
     }
 }
 
-/// Which event a line would be. A line that is the text of an event that may come next asks for that event; what is asked by
-/// any other line is not said, so whoever asks compares the line with the text of the event.
+/// Which event a line would be. A line that is the text of an event that may come next asks for that event; what is
+/// asked by any other line is not said, so whoever asks compares the line with the text of the event.
 pub fn ask_of(line: &[u8]) -> Ask<'_>
     ensures { (x : State) (event : Event) → IsSmall x → Needs x event → line.now ≡ event_text x event
         → asked_of result ≡ asked_for x event }

@@ -1,5 +1,6 @@
 //! Whether a line is the text of an event. It is compared piece by piece, so that no text is made for it.
-ghost use Rattle.std.specs.Prelude.{◌≡◌, ◌↔◌, ◌<◌, ◌++◌, ◌∷◌, [], IfSome, IsTrue, Some, codes, decimal, length, option_copied, slice_index_or};
+ghost use Rattle.std.specs.Prelude.{◌≡◌, ◌↔◌, ◌<◌, ◌++◌, ◌∷◌, [], IfSome, IsTrue, Some, codes, decimal, length};
+ghost use Rattle.std.specs.Prelude.{option_copied, slice_index_or};
 ghost use Rattle.bl_work.specs.declared.answer.Answer.TheVariants.{Done, Denied};
 ghost use Rattle.bl_wire.specs.Named.{NamesAnswer, NamesDenial};
 ghost use Rattle.bl_wire.specs.Replies.{answer_text, object_text};
@@ -121,7 +122,8 @@ pub fn is_open(names: &Names, subject: SubjectId, line: &[u8]) -> bool
 
 /// Whether the line is that of a session whose work has this text.
 pub fn is_line(session: u32, ordinal: u32, work: &[u8], line: &[u8]) -> bool
-    ensures { IsTrue result ↔ (line.now ≡ codes "line " ++ (decimal session ++ (32 ∷ (decimal ordinal ++ (32 ∷ work.now))))) }
+    ensures { IsTrue result ↔ (line.now ≡ codes "line "
+        ++ (decimal session ++ (32 ∷ (decimal ordinal ++ (32 ∷ work.now))))) }
 {
     let rest = after(Some(line), b"line ");
     let rest = after_number(rest, session);

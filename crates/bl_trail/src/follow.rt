@@ -13,14 +13,16 @@ pub trait Follows {
     // the events so far lead to this state, and this text is still to come
     ghost stands: { Self → State → List ℕ → Type 0 };
 
-    /// Takes the next line, if it is an event's that may come next: whether it is. Where it is not, or a growth is refused, no
-    /// further line may be taken.
+    /// Takes the next line, if it is an event's that may come next: whether it is. Where it is not, or a growth is
+    /// refused, no further line may be taken.
     fn take(&mut self, line: &[u8]) -> Result<bool, AllocError>
         requires plain { HasNo 10 line.now }
         requires stands { (x : State) × (rest : List ℕ) × stands self.old x (line.now ++ 10 ∷ rest) }
-        ensures right { IfOk result (λ right. right ≡ true → (x : State) (rest : List ℕ) → stands self.old x (line.now ++ 10 ∷ rest)
+        ensures right { IfOk result (λ right. right ≡ true → (x : State) (rest : List ℕ)
+            → stands self.old x (line.now ++ 10 ∷ rest)
             → IsTaken x line.now (λ y. stands self.new y rest)) }
-        ensures wrong { IfOk result (λ right. right ≡ false → (x : State) (rest : List ℕ) → stands self.old x (line.now ++ 10 ∷ rest)
+        ensures wrong { IfOk result (λ right. right ≡ false → (x : State) (rest : List ℕ)
+            → stands self.old x (line.now ++ 10 ∷ rest)
             → IsNoEvent x line.now) };
 }
 
@@ -42,8 +44,8 @@ fn is_stop(line: &[u8]) -> bool
     line == b"stop".as_slice()
 }
 
-/// The verdict on the lines behind the head, as the machine takes them: in time that is proportional to the text, the machine's own
-/// time apart.
+/// The verdict on the lines behind the head, as the machine takes them: in time that is proportional to the text, the
+/// machine's own time apart.
 pub fn follow<M: Follows>(machine: &mut M, text: &[u8]) -> Result<Verdict, AllocError>
     requires { (x : State) × M.stands machine.old x text.now }
     ensures { IfOk result (λ verdict. (x : State) → M.stands machine.old x text.now → IsFollowed x text.now verdict) }

@@ -47,7 +47,8 @@ fn version_of(setup: &Setup, line: &[u8]) -> Option<Version>
 
 /// The limit that the line names, which is 1 to 100,000; `None` where the line is not the text of such a limit.
 fn limit_of(alloc: Global, line: &[u8]) -> Result<Option<u32>, AllocError>
-    ensures some { IfOk result (λ found. IfSome found (λ limit. IsLimit limit × (line.now ≡ codes "limit " ++ decimal limit))) }
+    ensures some { IfOk result (λ found. IfSome found
+        (λ limit. IsLimit limit × (line.now ≡ codes "limit " ++ decimal limit))) }
     ensures none { IfOk result (λ found. found ≡ None → IsNoLimitLine line.now) }
 {
     let (_, behind) = split_word(line, b' ');
@@ -70,8 +71,8 @@ fn limit_of(alloc: Global, line: &[u8]) -> Result<Option<u32>, AllocError>
     Ok(Some(limit))
 }
 
-/// The head of the text of a trail over the setup: its first line is `trail 2`, or `trail 1` where every document of the
-/// setup is present, its second the `limit` line. An error comes only where a growth is refused.
+/// The head of the text of a trail over the setup: its first line is `trail 2`, or `trail 1` where every document of
+/// the setup is present, its second the `limit` line. An error comes only where a growth is refused.
 pub fn head_of<'a>(alloc: Global, setup: &Setup, text: &'a [u8]) -> Result<Head<'a>, AllocError>
     ensures { IfOk result (IsHead setup.now text.now) }
 {

@@ -26,22 +26,25 @@ pub enum Verdict {
 
 /// A text has one verdict at most: where it is true, no line of it is wrong.
 pub fn one_verdict()
-    ensures { (setup : Setup) (text : List ℕ) (count number : ℕ) → IsTrueText setup text count → FirstWrong setup text number → ⊥ }
+    ensures { (setup : Setup) (text : List ℕ) (count number : ℕ) → IsTrueText setup text count
+        → FirstWrong setup text number → ⊥ }
 {}
 
 /// The verdict on a true text is that it is accepted, with the number of its events.
 pub fn true_texts_are_accepted()
-    ensures { (setup : Setup) (text : List ℕ) (count : ℕ) (verdict : AnyVerdict) → IsTrueText setup text count → IsVerdict setup text verdict
+    ensures { (setup : Setup) (text : List ℕ) (count : ℕ) (verdict : AnyVerdict) → IsTrueText setup text count
+        → IsVerdict setup text verdict
         → verdict ≡ Accepted count }
 {
     one_verdict();
 }
 
 /// Where the lines after the head were followed to their end, in a run that is judged by the version of the head, the
-/// verdict on them is the verdict on the whole text: a line that is the text of no event that may come next stands in no
-/// true text after the lines before it. The version has to have the setup.
+/// verdict on them is the verdict on the whole text: a line that is the text of no event that may come next stands in
+/// no true text after the lines before it. The version has to have the setup.
 pub fn what_was_followed_tells_the_verdict()
-    ensures { (setup : Setup) (version : AnyVersion) (limit : ℕ) → HasSetup version setup → IsLimit limit → Agree setup → AreNames setup.names
+    ensures { (setup : Setup) (version : AnyVersion) (limit : ℕ) → HasSetup version setup → IsLimit limit → Agree setup
+        → AreNames setup.names
         → (text : List ℕ) (verdict : AnyVerdict) → IsFollowed (start (by_version version setup) limit) text verdict
         → IsVerdict setup (joined (head_lines version limit) ++ text) verdict }
 {

@@ -1,4 +1,5 @@
-//! What the versions of a trail have: version 2 has every setup and every work, version 1 knows of no document that comes or goes.
+//! What the versions of a trail have: version 2 has every setup and every work, version 1 knows of no document that
+//! comes or goes.
 ghost use Rattle.std.specs.Prelude.{◌↔◌, IsTrue};
 ghost use Rattle.bl_setup.specs.declared.version.Version.TheVariants.{One};
 ghost use Rattle.bl_trail.specs.Versions.{HasSetup, HasWork, KeepsDocuments};

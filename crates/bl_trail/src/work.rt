@@ -11,12 +11,13 @@ use bl_write::canonical::canonical_works_read_again;
 use bl_write::matching::is_text_of;
 use std::alloc::{AllocError, Global};
 
-/// The work whose canonical text this is: `None` for a text that reads as no work, and for one that is not the canonical text of
-/// the work that it reads as. An error comes only where a growth is refused.
+/// The work whose canonical text this is: `None` for a text that reads as no work, and for one that is not the
+/// canonical text of the work that it reads as. An error comes only where a growth is refused.
 pub fn work_of(alloc: Global, names: &Names, text: &[u8]) -> Result<Option<Work>, AllocError>
     ensures some { IfOk result (λ found. IfSome found (IsWorkText names.now text.now)) }
     // No other work has this text.
-    ensures one { IfOk result (λ found. IfSome found (λ work. (other : AnyWork) → IsWorkText names.now text.now other → other ≡ work)) }
+    ensures one { IfOk result (λ found. IfSome found
+        (λ work. (other : AnyWork) → IsWorkText names.now text.now other → other ≡ work)) }
     ensures none { IfOk result (λ found. found ≡ None → IsNoWorkText names.now text.now) }
 {
     canonical_works_read_again();

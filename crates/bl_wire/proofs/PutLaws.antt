@@ -1,8 +1,8 @@
 -- Texts that are put one after the other.
 use Rattle.std.proofs.Common.{◌≡◌, ℕ, zero, suc, ◌+◌, ◌≤◌, Bool, true, false, List, [], ◌∷◌, ◌++◌, length, refl, sym, ap, subst, ◌∙◌, append-nil, append_assoc, add-one, ◌<◌, get_or, arith, take, length-append, take_all, drop, length-drop}
 use Rattle.std.proofs.Math.Seq.{take-add, take-append-add, take-suc}
-use Rattle.std.specs.Io.KnownBytes.{Appends, Keeps}
-use Rattle.std.proofs.KnownBytes.{Appends-nil, Appends-trans, Appends-kept}
+use Rattle.std.specs.Io.KnownBytes.{Appends}
+use Rattle.std.proofs.KnownBytes.{Appends-nil, Appends-trans}
 use Rattle.std.specs.List.{flat_map}
 use Rattle.std.proofs.lemmas.Grind.{flat_map-append}
 use Rattle.bl_wire.specs.Replies.{output_text}
@@ -19,6 +19,10 @@ take-front-of (suc n) (x ∷ a) b = ap (λ l. x ∷ l) (take-front-of n a b)
 take-over-all : (n : ℕ) (a : List ℕ) → length a ≤ n → take n a ≡ a
 take-over-all n a le = take_all n a le
 
+-- no mark is set and not set
+pub clash : (b : Bool) → b ≡ true → b ≡ false → ⊥
+clash b yes' no' = cc
+
 -- all of a text was put on a writer that did not fail
 pub puts-all : (a : List ℕ) (x y : EndState) → Puts a x y → y.failed ≡ false → Appends x.bytes y.bytes a
 puts-all a x y p fine = subst (Appends x.bytes y.bytes) (take-over-all p.much a (p.all fine)) p.bytes
@@ -29,9 +33,6 @@ puts-nil x y is = subst (Puts [] x) (sym is) (record { much = 0; bytes = Appends
 pub puts-append : (a b : List ℕ) (x y z : EndState) → Puts a x y → Puts b y z → Puts (a ++ b) x z
 puts-append a b x y z p q = go y.failed refl
   where
-    clash : (b : Bool) → b ≡ true → b ≡ false → ⊥
-    clash b yes' no' = cc
-
     go : (failed : Bool) → y.failed ≡ failed → Puts (a ++ b) x z
     go false fine = record {
       much = length a + q.much;
@@ -78,18 +79,6 @@ puts-output front xs i text d x y z lt is p q =
 pub puts-line : (a b c d : List ℕ) (x y z u v : EndState) → Puts a x y → Puts b y z → Puts c z u → Puts d u v → Puts (((a ++ b) ++ c) ++ d) x v
 puts-line a b c d x y z u v p q r s = puts-append ((a ++ b) ++ c) d x u v (puts-append (a ++ b) c x z u (puts-append a b x y z p q) r) s
 
--- what was put is handed on, or that failed
-pub puts-kept : (a : List ℕ) (x y z : EndState) → Puts a x y → y.failed ≡ false → Keeps y.bytes z.bytes → Puts a x z
-puts-kept a x y z p fine kept = record {
-  much = p.much;
-  bytes = Appends-kept x.bytes y.bytes z.bytes (take p.much a) p.bytes kept;
-  all = λ well. p.all fine;
-  none = λ was. absurd (clash y.failed (p.none was).1 fine);
-}
-  where
-    clash : (b : Bool) → b ≡ true → b ≡ false → ⊥
-    clash b yes' no' = cc
-
 -- a first part of a text was written to a writer that had not failed, and then the rest was put
 pub puts-rest : (n : ℕ) (bytes rest : List ℕ) (x y z : EndState) → rest ≡ drop n bytes → x.failed ≡ false → Appends x.bytes y.bytes (take n bytes) → Puts rest y z → Puts bytes x z
 puts-rest n bytes rest x y z is fine begun q = record {
@@ -99,6 +88,3 @@ puts-rest n bytes rest x y z is fine begun q = record {
   all = λ well. omega (arith, ap length is, length-drop n bytes, q.all well);
   none = λ failed. absurd (clash x.failed failed fine);
 }
-  where
-    clash : (b : Bool) → b ≡ true → b ≡ false → ⊥
-    clash b yes' no' = cc

@@ -6,7 +6,8 @@ use Rattle.bl_work.specs.Names.{KnownNames}
 use Rattle.bl_work.specs.declared.answer.Answer.{Answer}
 use Rattle.bl_work.specs.declared.answer.Answer.TheVariants.{Done, RuleDone, Denied, Lost}
 use Rattle.bl_order.specs.Machine.{State}
-pub use Rattle.bl_order.specs.Labels.{Tag, no_tag, tag_at, tag_of, tags_to, tag, is_before, Reply, put_in, is_of, replies_to}
+pub use Rattle.bl_order.specs.Labels.{Tag, no_tag, tag_at, tag_of, tags_to, tag, is_before, Reply, put_in, is_of}
+pub use Rattle.bl_order.specs.Labels.{replies_to}
 use Rattle.bl_wire.specs.Texts.{refusal}
 
 -- a label's numbers with dots between them
@@ -26,7 +27,8 @@ object_text names (Some doc) = codes " " ++ slice_index_or names.documents doc [
 abbrev pub answer_text : KnownNames → Answer → List ℕ
 answer_text names (Done outputs) = codes " done" ++ flat_map output_text outputs
 answer_text names (Denied denial) =
-    codes " denied " ++ (word_of denial.clause ++ (codes " " ++ (slice_index_or names.subjects denial.subject [] ++ object_text names denial.object)))
+    codes " denied " ++ (word_of denial.clause
+    ++ (codes " " ++ (slice_index_or names.subjects denial.subject [] ++ object_text names denial.object)))
 answer_text names RuleDone = codes " done"
 answer_text names Lost = codes " lost"
 

@@ -22,7 +22,8 @@ IsSaid names text (Ask work) = LineOf names text (lines.Work work)
 abbrev pub IsTurn : KnownNames → List ℕ → Turn → Type 0
 IsTurn names line Skip = is_blank (without_cr line) ≡ true
 IsTurn names line Wait = (is_blank (without_cr line) ≡ false) × IsSaid names (without_cr line) Wait
-IsTurn names line (Greets subject) = (is_blank (without_cr line) ≡ false) × IsSaid names (without_cr line) (Greets subject)
+IsTurn names line (Greets subject) = (is_blank (without_cr line) ≡ false)
+    × IsSaid names (without_cr line) (Greets subject)
 IsTurn names line (Bad fault) = (is_blank (without_cr line) ≡ false) × IsSaid names (without_cr line) (Bad fault)
 IsTurn names line (Ask work) = (is_blank (without_cr line) ≡ false) × IsSaid names (without_cr line) (Ask work)
 

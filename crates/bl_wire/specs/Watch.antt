@@ -6,8 +6,8 @@ use Rattle.std.specs.Result.{result_ok}
 use Rattle.std.specs.Borrow.{Bor}
 use Rattle.std.specs.Io.KnownBytes.{Appends}
 
--- a reader or a writer, whether a call of it failed, whether something was written to it that was not handed on, and whether it
--- showed more bytes than were taken
+-- a reader or a writer, whether a call of it failed, whether something was written to it that was not handed on, and
+-- whether it showed more bytes than were taken
 pub record Watch (T : Type 0) : Type 0 where
   pub inner : T
   pub failed : Bool
@@ -16,7 +16,8 @@ pub record Watch (T : Type 0) : Type 0 where
 
 abbrev pub watch_code : {T : Type 0} → Coded T → Coded (Watch T)
 watch_code {T} code =
-    code_by (T × (Bool × (Bool × Bool))) (coded× code (coded× coded_bool (coded× coded_bool coded_bool))) (λ w. (w.inner, (w.failed, (w.unflushed, w.at_hand))))
+    code_by (T × (Bool × (Bool × Bool))) (coded× code (coded× coded_bool (coded× coded_bool coded_bool)))
+    (λ w. (w.inner, (w.failed, (w.unflushed, w.at_hand))))
     (λ p. record { inner = p.0; failed = p.1.0; unflushed = p.1.1.0; at_hand = p.1.1.1 }) (λ _. refl)
 
 -- what was done to an end: what is known of its bytes before and after, and whether a call of it failed
@@ -37,7 +38,8 @@ pub record EndState : Type 0 where
 abbrev pub end_state : {T : Type 0} → (T → Option (List ℕ)) → Watch T → EndState
 end_state known end = record { bytes = known end.inner; failed = end.failed }
 
--- Own choice: a text was put, all of it unless the writer failed; then a first part of it, and none where it had failed before.
+-- Own choice: a text was put, all of it unless the writer failed; then a first part of it, and none where it had failed
+-- before.
 pub record Puts (text : List ℕ) (old new : EndState) : Type 0 where
   pub much : ℕ
   pub bytes : Appends old.bytes new.bytes (take much text)

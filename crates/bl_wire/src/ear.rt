@@ -24,8 +24,8 @@ pub trait Ear {
         ensures fault { IfErr result (λ fault. (is_read fault ≡ false) × (is_write fault ≡ false)) };
 }
 
-/// What was handed over of the bytes that a reader showed: how many were heard, whether the input was at its end, and whether more
-/// bytes were shown and are still at hand.
+/// What was handed over of the bytes that a reader showed: how many were heard, whether the input was at its end, and
+/// whether more bytes were shown and are still at hand.
 #[derive(Clone, Copy, Debug, PartialEq, Eq)]
 pub struct Handed {
     pub bytes: usize,
@@ -58,14 +58,17 @@ pub(crate) fn hand_shown<E: Ear>(ear: &mut E, shown: &[u8]) -> Result<Handed, Se
     }
 }
 
-/// Asks a reader for bytes, and has those that it shows heard; those that were heard are taken. After a fault nothing is taken.
+/// Asks a reader for bytes, and has those that it shows heard; those that were heard are taken. After a fault nothing
+/// is taken.
 pub(crate) fn hand_over<R: Source, E: Ear>(
     reader: &mut R,
     ear: &mut E,
 ) -> Result<Handed, SessionFault>
     requires { E.listens ear.old }
-    ensures ok { IfOk result (λ handed. HandsOver (R.shows reader.old) E.hears handed (R.remaining reader.old) (R.remaining reader.new) ear.old ear.new) }
-    ensures err { IfErr result (λ fault. HandsNone (R.shows reader.old) E.hears fault (R.remaining reader.old) (R.remaining reader.new) ear.old ear.new) }
+    ensures ok { IfOk result (λ handed. HandsOver (R.shows reader.old) E.hears handed (R.remaining reader.old)
+        (R.remaining reader.new) ear.old ear.new) }
+    ensures err { IfErr result (λ fault. HandsNone (R.shows reader.old) E.hears fault (R.remaining reader.old)
+        (R.remaining reader.new) ear.old ear.new) }
     ensures fault { IfErr result (λ fault. is_write fault ≡ false) }
 {
     let handed = match reader.show() {

@@ -1,9 +1,10 @@
 //! Readers and writers of which contracts can say what a call answered. The library's traits don't say
 //! when a call may fail; these have relations for it, which nothing but a call gives.
 //!
-//! Three bodies of one call each stand between these relations and the library's own calls: `show`, `take` and `hand_on` of each
-//! `BufRead` and each `Write`. No clause of the library says when a call fails, so none can say that they pass a failure on as it
-//! came: they are trusted, and tests of long blocks, failing writes and failing flushes look at them.
+//! Three bodies of one call each stand between these relations and the library's own calls: `show`, `take` and
+//! `hand_on` of each `BufRead` and each `Write`. No clause of the library says when a call fails, so none can say that
+//! they pass a failure on as it came: they are trusted, and tests of long blocks, failing writes and failing flushes
+//! look at them.
 ghost use Rattle.std.specs.Prelude.{◌≡◌, ◌≤◌, [], List, ℕ, Bool, Option, IfSome, IfOk, length, take, ⊤};
 ghost use Rattle.std.specs.Borrow.{sem};
 ghost use Rattle.std.specs.Io.{StartsWith};

@@ -1,6 +1,7 @@
 //! A line while it comes. Only its first 8,193 bytes are kept, which is enough to tell what the
 //! line is: a line has at most 8,192 bytes, and a CR may stand behind it.
-ghost use Rattle.std.specs.Prelude.{◌≡◌, ◌++◌, [], List, ℕ, IfOk, fold, nat_lt, length, take, ◌≤◌, ◌+◌, ◌||◌, vec_capacity};
+ghost use Rattle.std.specs.Prelude.{◌≡◌, ◌++◌, [], List, ℕ, IfOk, fold, nat_lt, length, take, ◌≤◌, ◌+◌, ◌||◌};
+ghost use Rattle.std.specs.Prelude.{vec_capacity};
 
 use std::alloc::{AllocError, Global};
 
@@ -81,8 +82,10 @@ impl Held {
 
     /// Keeps of the part what there is room for.
     fn keep(&mut self, part: &[u8])
-        ensures bytes { length self.old.bytes.items ≤ 8193 → self.new.bytes.items ≡ take 8193 (self.old.bytes.items ++ part.now) }
-        ensures over { length self.old.bytes.items ≤ 8193 → self.new.over ≡ (self.old.over || nat_lt 8193 (length self.old.bytes.items + length part.now)) }
+        ensures bytes { length self.old.bytes.items ≤ 8193
+            → self.new.bytes.items ≡ take 8193 (self.old.bytes.items ++ part.now) }
+        ensures over { length self.old.bytes.items ≤ 8193
+            → self.new.over ≡ (self.old.over || nat_lt 8193 (length self.old.bytes.items + length part.now)) }
         ensures look { self.new.look ≡ self.old.look }
     {
         let room = KEPT.saturating_sub(self.bytes.len());

@@ -38,8 +38,8 @@ pub fn whole_line(shown: &[u8], left: usize) -> Option<usize>
     lf_place(&shown[..most])
 }
 
-/// Looks at what a reader shows, up to an LF or `left` bytes, holds what belongs to the line, and says which of the bytes are to be
-/// taken. `None` where none may be taken.
+/// Looks at what a reader shows, up to an LF or `left` bytes, holds what belongs to the line, and says which of the
+/// bytes are to be taken. `None` where none may be taken.
 pub fn scan(shown: &[u8], held: &mut Held, left: usize) -> Option<Found>
     requires { 0 < length shown.now }
     ensures found { IfSome result (λ found. Scanned found.bytes found.part shown.now held.old held.new left) }

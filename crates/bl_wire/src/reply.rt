@@ -37,7 +37,8 @@ fn put_fault<W: Write>(writer: &mut Watched<W>, fault: &LineFault)
 
 /// Writes the reply to a line that has a fault, unless the writer has failed.
 pub fn put_bad<W: Write>(writer: &mut Watched<W>, ordinal: u32, fault: &LineFault)
-    ensures { Puts (refusal ordinal (fault_words fault.now)) (end_state W.contents writer.old) (end_state W.contents writer.new) }
+    ensures { Puts (refusal ordinal (fault_words fault.now)) (end_state W.contents writer.old)
+        (end_state W.contents writer.new) }
 {
     put_number(writer, ordinal);
     put(writer, b" refused ");

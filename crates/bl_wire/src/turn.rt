@@ -108,7 +108,8 @@ fn said(alloc: Global, names: &Names, text: &[u8]) -> Result<Turn, AllocError>
 /// it is. A line that is too long takes no memory.
 pub fn turn_held(alloc: Global, names: &Names, held: &Held) -> Result<Turn, AllocError>
     ensures turn { IfOk result (λ turn. (line : List ℕ) → HoldsLine held.now line → IsTurn names.now line turn) }
-    ensures long { (line : List ℕ) → HoldsLine held.now line → most_line_bytes < length (without_cr line) → IsOk result }
+    ensures long { (line : List ℕ) → HoldsLine held.now line → most_line_bytes < length (without_cr line)
+        → IsOk result }
 {
     match held.look {
         Look::Filled => {}

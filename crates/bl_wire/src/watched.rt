@@ -2,7 +2,8 @@
 //! traced to the end that it came from. Nobody else sets the mark: it is kept here, beside the
 //! few calls that can fail. It says what `Source` and `Target` answered; that these pass on what the
 //! library's call answered is trusted (ends.rt).
-ghost use Rattle.std.specs.Prelude.{◌≡◌, ◌==◌, ◌≤◌, ◌<◌, nat_lt, false, not, ◌||◌, ◌&&◌, IfOk, IfErr, OnOk, length, take};
+ghost use Rattle.std.specs.Prelude.{◌≡◌, ◌==◌, ◌≤◌, ◌<◌, nat_lt, false, not, ◌||◌, ◌&&◌, IfOk, IfErr, OnOk, length};
+ghost use Rattle.std.specs.Prelude.{take};
 ghost use Rattle.std.specs.Io.KnownBytes.{Keeps, Appends};
 ghost use Rattle.bl_wire.specs.Faults.{is_read, is_write};
 ghost use Rattle.bl_wire.specs.Handing.{HandsNone, HandsOver};
@@ -12,8 +13,8 @@ use crate::ends::{Source, Target};
 use crate::fault::SessionFault;
 use std::marker::Model;
 
-/// A reader or a writer, whether a call of it failed, whether something was written to it
-/// that was not handed on, and whether it showed more bytes than were taken. Any error counts, `Interrupted` too. An end that failed isn't called
+/// A reader or a writer, whether a call of it failed, whether something was written to it that was not handed on, and
+/// whether it showed more bytes than were taken. Any error counts, `Interrupted` too. An end that failed isn't called
 /// again.
 #[derive(Drop)]
 pub struct Watched<T> {
@@ -82,13 +83,15 @@ impl<T> Watched<T> {
 }
 
 impl<R: Source> Watched<R> {
-    /// Asks for bytes, and has those that are shown heard; those that were heard are taken. After a fault nothing is taken. A reader
-    /// that failed is marked.
+    /// Asks for bytes, and has those that are shown heard; those that were heard are taken. After a fault nothing is
+    /// taken. A reader that failed is marked.
     pub fn hand_over<E: Ear>(&mut self, ear: &mut E) -> Result<Handed, SessionFault>
         requires fine { self.old.failed ≡ false }
         requires listens { E.listens ear.old }
-        ensures ok { IfOk result (λ handed. HandsOver (R.shows self.old.inner) E.hears handed (R.remaining self.old.inner) (R.remaining self.new.inner) ear.old ear.new) }
-        ensures err { IfErr result (λ fault. HandsNone (R.shows self.old.inner) E.hears fault (R.remaining self.old.inner) (R.remaining self.new.inner) ear.old ear.new) }
+        ensures ok { IfOk result (λ handed. HandsOver (R.shows self.old.inner) E.hears handed
+            (R.remaining self.old.inner) (R.remaining self.new.inner) ear.old ear.new) }
+        ensures err { IfErr result (λ fault. HandsNone (R.shows self.old.inner) E.hears fault
+            (R.remaining self.old.inner) (R.remaining self.new.inner) ear.old ear.new) }
         ensures fine { OnOk result (self.new.failed ≡ false) }
         ensures failed { IfErr result (λ fault. self.new.failed ≡ is_read fault) }
         ensures fault { IfErr result (λ fault. is_write fault ≡ false) }

@@ -1,8 +1,8 @@
 //! The canonical text of a line: one space between two words that follow each other, no other blank, no `else` before an empty
 //! body, and the categories of a level in the scheme's order.
-ghost use Rattle.std.specs.Prelude.{◌≡◌, ◌<◌, ◌≤◌, ℕ, List, [], ◌∷◌, ◌++◌, length, OnOk, IfOk};
+ghost use Rattle.std.specs.Prelude.{◌≡◌, ◌<◌, ◌≤◌, ℕ, List, [], ◌∷◌, ◌++◌, false, if◌then◌else◌, length, OnOk, IfOk, true};
 ghost use Rattle.bl_level.specs.Token.{tok, toks};
-ghost use Rattle.bl_level.specs.Canonical.{sign_byte as byte_of, is_word as is_a_word, spelled, canonical};
+ghost use Rattle.bl_level.specs.Canonical.{sign_byte as byte_of, is_word as is_a_word, canonical};
 ghost use Rattle.bl_work.specs.declared.asked.Line.TheVariants as asked;
 ghost use Rattle.bl_work.specs.declared.work.Work.TheVariants.{Behaviour, Rule as AskedRule};
 ghost use Rattle.bl_write.specs.CanonicalLine.{IsCanonicalOf, canonical_line};
@@ -96,20 +96,45 @@ impl Text {
         self.bytes.reserve(SHORT_LINE_BYTES)
     }
 
-    /// Writes the bytes of a token.
-    fn put_bytes(&mut self, token: Token<'_>) -> Result<(), AllocError>
-        ensures { OnOk result (self.new ≡ record self.old { bytes = self.old.bytes ++ spelled (tok token.entry) }) }
+    /// Writes a word, behind a space where it follows another.
+    fn put_word(&mut self, word: &[u8]) -> Result<(), AllocError>
+        ensures { OnOk result (self.new ≡ record {
+          bytes = self.old.bytes ++ ((if self.old.word then 32 ∷ [] else []) ++ word.now);
+          word = true;
+        }) }
     {
-        match token {
-            Token::Reserved(word) => self.bytes.extend_from_slice(word.text()),
-            Token::Name(name) => self.bytes.extend_from_slice(name),
-            Token::Text(text) => {
-                self.bytes.push(b'"')?;
-                self.bytes.extend_from_slice(text)?;
-                self.bytes.extend_from_slice(b"\"")
-            }
-            Token::Sign(sign) => self.bytes.extend_from_slice(sign_text(sign)),
+        if self.ends_with_word {
+            self.bytes.push(b' ')?;
         }
+        self.bytes.extend_from_slice(word)?;
+        self.ends_with_word = true;
+        Ok(())
+    }
+
+    /// Writes a text between quotation marks.
+    fn put_quoted(&mut self, text: &[u8]) -> Result<(), AllocError>
+        ensures { OnOk result (self.new ≡ record {
+          bytes = self.old.bytes ++ (34 ∷ (text.now ++ 34 ∷ []));
+          word = false;
+        }) }
+    {
+        self.bytes.push(b'"')?;
+        self.bytes.extend_from_slice(text)?;
+        self.bytes.push(b'"')?;
+        self.ends_with_word = false;
+        Ok(())
+    }
+
+    /// Writes a sign.
+    fn put_sign(&mut self, sign: Sign) -> Result<(), AllocError>
+        ensures { OnOk result (self.new ≡ record {
+          bytes = self.old.bytes ++ byte_of sign ∷ [];
+          word = false;
+        }) }
+    {
+        self.bytes.extend_from_slice(sign_text(sign))?;
+        self.ends_with_word = false;
+        Ok(())
     }
 
     /// The bytes, which are the canonical text of the tokens that were written.
@@ -163,12 +188,12 @@ impl Sink for Text {
 
     /// Writes a token, behind a space where it follows a word and is one.
     fn put(&mut self, token: Token<'_>) -> Result<(), AllocError> {
-        if self.ends_with_word && is_word(token) {
-            self.bytes.push(b' ')?;
+        match token {
+            Token::Reserved(word) => self.put_word(word.text()),
+            Token::Name(name) => self.put_word(name),
+            Token::Text(text) => self.put_quoted(text),
+            Token::Sign(sign) => self.put_sign(sign),
         }
-        self.put_bytes(token)?;
-        self.ends_with_word = is_word(token);
-        Ok(())
     }
 }
 

@@ -51,7 +51,7 @@ returns-in-Open-clause-told g c x e later comes kept =
     let is = is-open e s (kept ∙ c.in-Open.is) in
     as-line x e (Opens s) later end c.args.at old new is
     (open-line x later end c.args.at old new s (as-event x e (Opens s) later end c.args.at is comes) agree are
-    (subst (λ (k : KnownNames). Puts (codes "open " ++ slice_index_or k.subjects s []) old new) names c.put_open.ensures))
+    (subst (λ (k : KnownNames). Puts ((codes "open " ++ slice_index_or k.subjects s []) ++ 10 ∷ []) old new) names c.put_open.ensures))
 
 pub put_next_line-requires : goal.put_next_line-requires
 put_next_line-requires g c =
@@ -68,7 +68,7 @@ returns-in-Line-clause-told g c =
     let same : c.new-session.result ≡ i = search rules in
     ok-four c.put_next_line.result
     (λ next. (w : Work) (rest : List Work) → lines_from end c.args.at ≡ w ∷ rest
-    → Puts (codes "line " ++ (decimal c.new-session.result ++ (32 ∷ (decimal k ++ (32 ∷ canonical_line end.setup.names (asked.Work w)))))) old new)
+    → Puts ((codes "line " ++ (decimal c.new-session.result ++ (32 ∷ (decimal k ++ (32 ∷ canonical_line end.setup.names (asked.Work w)))))) ++ 10 ∷ []) old new)
     (λ next. (w : Work) (rest : List Work) → lines_from end c.args.at ≡ w ∷ rest → HasNoLf (canonical_line end.setup.names (asked.Work w)))
     (λ next. next ≤ length end.order)
     (λ next. (w : Work) (rest : List Work) → lines_from end c.args.at ≡ w ∷ rest → lines_from end next ≡ rest)
@@ -79,7 +79,7 @@ returns-in-Line-clause-told g c =
     as-line x e (Admits i k is.0) later end next old new is.1
     (admitted-line x later end c.args.at old new i k next is.0 (as-event x e (Admits i k is.0) later end c.args.at is.1 comes)
     (subst NumbersFit c.in-Line.is c.numbers_fit.ensures).0 (subst NumbersFit c.in-Line.is c.numbers_fit.ensures).1
-    (subst (λ (n : ℕ). Puts (codes "line " ++ (decimal n ++ (32 ∷ (decimal k ++ (32 ∷ canonical_line end.setup.names (asked.Work is.0)))))) old new) same (puts is.0 (works_in later) lines)) (plain is.0 (works_in later) lines) place (more is.0 (works_in later) lines)))
+    (subst (λ (n : ℕ). Puts ((codes "line " ++ (decimal n ++ (32 ∷ (decimal k ++ (32 ∷ canonical_line end.setup.names (asked.Work is.0)))))) ++ 10 ∷ []) old new) same (puts is.0 (works_in later) lines)) (plain is.0 (works_in later) lines) place (more is.0 (works_in later) lines)))
     c.put_next_line.ensures.text c.put_next_line.ensures.plain c.put_next_line.ensures.place c.put_next_line.ensures.next
 
 pub put_start-requires : goal.put_start-requires
@@ -104,8 +104,8 @@ returns-in-Start-clause-told g c x e later comes kept =
     as-line x e (Starts n) later end c.args.at old new is
     (start-line x later end c.args.at old new n (as-event x e (Starts n) later end c.args.at is comes) (subst NumbersFit c.in-Start.is c.numbers_fit.ensures) are
     (subst (λ o. NamesWords end.setup.names (words_later o)) told (names-told end.setup agree c.answer.result c.answer.ensures.known))
-    (subst (λ (w : Words). Puts (codes "start " ++ (decimal n ++ words_text end.setup.names w)) old new) words
-    (subst (λ (k : KnownNames). Puts (codes "start " ++ (decimal n ++ words_text k c.start_words.result)) old new) names c.put_start.ensures)))
+    (subst (λ (w : Words). Puts ((codes "start " ++ (decimal n ++ words_text end.setup.names w)) ++ 10 ∷ []) old new) words
+    (subst (λ (k : KnownNames). Puts ((codes "start " ++ (decimal n ++ words_text k c.start_words.result)) ++ 10 ∷ []) old new) names c.put_start.ensures)))
 
 pub answer_is_plain-requires : goal.answer_is_plain-requires
 answer_is_plain-requires g c =
@@ -136,7 +136,7 @@ returns-in-Some-clause-told g c x e later comes kept =
     let is = is-end e n (kept ∙ c.in-End.is) in
     as-line x e (Ends n) later end c.args.at old new is
     (end-line x later end c.args.at old new n (as-event x e (Ends n) later end c.args.at is comes) c.in-Some.answer.now c.in-Some.ensures.value (subst NumbersFit c.in-End.is c.numbers_fit.ensures)
-    (subst (λ (k : KnownNames). Puts (codes "end " ++ (decimal n ++ answer_text k c.in-Some.answer.now)) old new) names c.put_end.ensures)
+    (subst (λ (k : KnownNames). Puts ((codes "end " ++ (decimal n ++ answer_text k c.in-Some.answer.now)) ++ 10 ∷ []) old new) names c.put_end.ensures)
     (subst (λ (k : KnownNames). HasNoLf (answer_text k c.in-Some.answer.now)) names c.answer_is_plain.ensures))
 
 pub returns-in-Lost-clause-told : goal.returns-in-Lost-clause-told

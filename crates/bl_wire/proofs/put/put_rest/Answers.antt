@@ -1,11 +1,9 @@
-use Rattle.std.proofs.Common.{rules, sym, ap, subst, ◌≡◌, ◌∙◌, ◌++◌, ◌-◌, ◌≤◌, take, drop, length, take-take, Bool, true, false}
+use Rattle.std.proofs.Common.{rules, sym, ap, subst, ◌≡◌, ◌∙◌, ◌++◌, ◌-◌, ◌≤◌, take, drop, length, take-take}
 use Rattle.std.proofs.Math.Seq.{take-add}
 use Rattle.std.specs.Io.KnownBytes.{Appends}
 use Rattle.std.proofs.KnownBytes.{Appends-trans}
+use Rattle.bl_wire.proofs.PutLaws.{clash}
 use Rattle.bl_wire.proofs.put.put_rest.Goals as goal
-
-clash : (b : Bool) → b ≡ true → b ≡ false → ⊥
-clash b yes' no' = cc
 
 pub loop-at-preserved : goal.loop-at-preserved
 loop-at-preserved g c =
