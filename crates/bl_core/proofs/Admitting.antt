@@ -14,7 +14,7 @@ use Rattle.bl_setup.specs.declared.version.Version.TheVariants.{One, Two}
 use Rattle.bl_order.specs.Headline.{IsReached}
 use Rattle.bl_order.specs.Known.{KnowsWork}
 use Rattle.bl_order.specs.Room.{IsBehaviourOrRule}
-use Rattle.bl_order.specs.Order.{Entry, Task, accesses_of, is_altered}
+use Rattle.bl_order.specs.Order.{accesses_of, is_altered}
 use Rattle.bl_order.specs.Order as orders
 use Rattle.bl_order.specs.Past.{Past, no_entry, subject_of, carried_of, task_of, earlier, first_task, child_task}
 use Rattle.bl_order.specs.Machine.{State, Session, Opens, Admits, Needs, change, past_at, runs, is_lost, is_running, session_at, no_session, entry_weight, weight_of, Waiting}
@@ -292,10 +292,10 @@ session-read c i r lt at =
     ap (λ (s : Row). s.subject) at
     ∙ sym (ap (λ (s : Session). s.subject) (get_or-map row_value c.sessions.items i r no_session lt))
 
+pub length-sessions : (c : Inside) → length (state_of c).sessions ≡ length c.sessions.items
+length-sessions c = length-map c.sessions.items row_value
+
 pub last-read : (c : Inside) (i : ℕ) (r : Row) → i < length c.sessions.items → r ≡ get_or c.sessions.items i r → r.last ≡ (session_at (state_of c) i).last
 last-read c i r lt at =
     ap (λ (s : Row). s.last) at
     ∙ sym (ap (λ (s : Session). s.last) (get_or-map row_value c.sessions.items i r no_session lt))
-
-pub length-sessions : (c : Inside) → length (state_of c).sessions ≡ length c.sessions.items
-length-sessions c = length-map c.sessions.items row_value

@@ -21,3 +21,4 @@ pub mod Looking
 pub mod Queueing
 pub mod HeldLaws
 pub mod HeldQueues
+pub mod Tasks

@@ -1,5 +1,5 @@
 -- The queues tell of the places, through each change of these.
-use Rattle.std.proofs.Common.{◌≡◌, ◌≢◌, ℕ, ◌+◌, ◌<◌, ◌⊎◌, inl, inr, Bool, true, false, ◌||◌, List, [], ◌∷◌, length, get_or, set, refl, ap, sym, ◌∙◌, subst, arith, length-set, get_or-set_same, get_or-set_other, true≢false}
+use Rattle.std.proofs.Common.{◌≡◌, ◌≢◌, ℕ, ◌+◌, ◌<◌, ◌⊎◌, inl, inr, Bool, true, false, ◌||◌, List, [], ◌∷◌, length, get_or, set, refl, ap, sym, ◌∙◌, subst, arith, length-set, get_or-set_same, get_or-set_other}
 use Rattle.std.specs.Prelude.{map}
 use Rattle.std.specs.List.{list_any}
 use Rattle.std.proofs.lemmas.List.{length-map, get_or-map}
@@ -7,7 +7,7 @@ use Rattle.std.proofs.lemmas.List.Elements.{All-map}
 use Rattle.bl_work.specs.declared.answer.Answer.TheVariants as answers
 use Rattle.bl_setup.specs.Setup.{Setup}
 use Rattle.bl_order.specs.Claims.{NumberedClaim, numbered_claims, numbers_exclude, AreFewAndApart}
-use Rattle.bl_order.specs.Order.{Task, Runs, Applies, conflict, is_rule}
+use Rattle.bl_order.specs.Order.{Task, Runs, conflict}
 use Rattle.bl_order.specs.Past.{Past}
 use Rattle.bl_order.specs.Machine.{MayStart, past_at, phase_at, runs, is_waiting, is_running, is_over}
 use Rattle.bl_order.specs.Room.{IsBehaviourOrRule}
@@ -19,7 +19,7 @@ use Rattle.bl_queue.specs.Entries as entries
 use Rattle.bl_queue.specs.Queues.{Queue, with_stand}
 use Rattle.bl_queue.specs.declared.claim.Claim.{Claim}
 use Rattle.bl_place.specs.Places.{no_place, place_in, phase_of, work_in, task_in}
-use Rattle.bl_place.specs.Queueing.{claims_for, policy_claim, stand_for, queued_at, QueuesTell}
+use Rattle.bl_place.specs.Queueing.{claims_for, stand_for, queued_at, QueuesTell}
 use Rattle.bl_core.specs.View.{state_of}
 use Rattle.bl_core.specs.Keeps.{Keeps, Tells}
 use Rattle.bl_place.specs.declared.place.Place.{Place}
@@ -73,11 +73,6 @@ conflict-for earlier later =
     any-along as_claim (λ a. list_any (λ b. excludes a b) (claims_for later)) (λ a. list_any (λ b. numbers_exclude a b) (numbered_claims later)) (numbered_claims earlier)
     (λ a. any-along as_claim (λ b. excludes (as_claim a) b) (λ b. numbers_exclude a b) (numbered_claims later) (λ b. refl))
     ∙ sym (conflict-numbered earlier later)
-
--- a rule has the policy alone
-pub claims-rule : (task : Task) → is_rule task ≡ true → claims_for task ≡ policy_claim false ∷ []
-claims-rule (Runs script index) rule = absurd (true≢false (sym rule))
-claims-rule (Applies rule) is = refl
 
 -- a task that is told has claims that an entry may have
 pub claims-right : (setup : Setup) (places : List Place) (n : ℕ) (past : Past) → Tells setup places n past → IsBehaviourOrRule (task_in places n)

@@ -1,12 +1,14 @@
 use Rattle.std.proofs.Common.{◌≡◌, ◌<◌, ◌≤◌, ◌+◌, ◌++◌, ◌∷◌, [], ℕ, List, length, length-append, sym, subst, ap, ◌∙◌, get_or, arith, refl, set}
-use Rattle.std.specs.Vec.{with_item}
+use Rattle.std.specs.Vec.{vec_len, with_item}
 use Rattle.bl_level.specs.Level.{SecurityLevel}
 use Rattle.bl_policy.specs.Policy.{lowest}
 use Rattle.bl_work.specs.declared.work.Work.{Work}
 use Rattle.bl_order.specs.Machine.{State, Admits, Needs, change, session_at}
+use Rattle.bl_order.specs.Headline.{IsReached}
 use Rattle.bl_order.specs.Order.{Entry, Line}
 use Rattle.bl_order.proofs.Reached.{reached-next}
 use Rattle.bl_place.specs.Queueing.{MayEnter, QueuesTell}
+use Rattle.bl_core.specs.Keeps.{Keeps}
 use Rattle.bl_core.specs.View.{state_of}
 use Rattle.bl_place.specs.declared.place.Descent.TheVariants as descents
 use Rattle.bl_place.specs.declared.place.Place.{Place}
@@ -87,18 +89,33 @@ longer c =
     ∙ length-append c.self.inside.places.items (new_place (length c.self.inside.places.items) c.args.session c.args.ordinal c.index_mut-row.result.now.subject c.args.work ∷ [])
 
 -- the order has room for the new place
-within : (c : After-as_slice) → length c.self.inside.places.items + 1 ≤ c.self.inside.limit
-within c =
+room_for : (i : Inside) → Keeps i → (session ordinal : ℕ) (work : Work) → Needs (state_of i) (Admits session ordinal work) → ((x : State) → IsReached x → length x.order ≤ x.limit)
+    → length i.places.items + 1 ≤ i.limit
+room_for i k session ordinal work asks room =
     omega (
       arith,
-      length-order c.self.inside,
-      length-append (state_of c.self.inside).order (new_entry c ∷ []),
-      c.the_order_has_room.ensures.order (change (state_of c.self.inside) (Admits c.args.session c.args.ordinal c.args.work))
-          (reached-next (state_of c.self.inside) (Admits c.args.session c.args.ordinal c.args.work) c.self.invariant.reached (asked c)),
+      length-order i,
+      length-append (state_of i).order (new_entry ∷ []),
+      room (change (state_of i) (Admits session ordinal work)) (reached-next (state_of i) (Admits session ordinal work) k.reached asks),
     )
   where
-    new_entry : (c : After-as_slice) → Entry
-    new_entry c = Line c.args.session c.args.ordinal (session_at (state_of c.self.inside) c.args.session).subject c.args.work
+    new_entry : Entry
+    new_entry = Line session ordinal (session_at (state_of i) session).subject work
+
+within : (c : After-as_slice) → length c.self.inside.places.items + 1 ≤ c.self.inside.limit
+within c = room_for c.self.inside c.self.invariant c.args.session c.args.ordinal c.args.work (asked c) c.the_order_has_room.ensures.order
+
+pub index_mut-row-requires : goal.index_mut-row-requires
+index_mut-row-requires c =
+    subst (λ (m : ℕ). m < vec_len c.self.inside.sessions) (sym c.number.ensures)
+    (subst (λ (m : ℕ). c.args.session < m) (length-sessions c.self.inside ∙ sym c.self.inside.sessions.ok.0)
+    (subst (λ (x : State). c.args.session < length x.sessions) (sym c.self.view_is) c.requires.0))
+
+pub push_reserved-requires : goal.push_reserved-requires
+push_reserved-requires c =
+    let room = room_for c.self.inside c.self.invariant c.args.session c.args.ordinal c.args.work
+    (subst (λ (x : State). Needs x (Admits c.args.session c.args.ordinal c.args.work)) (sym c.self.view_is) c.requires) c.the_order_has_room.ensures.order in
+    omega (arith, room, c.self.invariant.reserved, c.self.inside.places.ok.0)
 
 pub enter_queues-requires-clause-before : goal.enter_queues-requires-clause-before
 enter_queues-requires-clause-before c =
@@ -141,3 +158,6 @@ returns-clause-change c =
     state-admitted c.self.inside (after c) c.args.session c.args.ordinal c.index_mut-row.result.now.subject c.args.work (admitted c)
     (session-read c.self.inside c.args.session c.index_mut-row.result.now (there c) (row c))
     ∙ ap (λ (x : State). change x (Admits c.args.session c.args.ordinal c.args.work)) c.self.view_is
+
+pub returns-clause-place : goal.returns-clause-place
+returns-clause-place c = c.len-n.ensures ∙ c.self.inside.places.ok.0 ∙ sym (length-order c.self.inside) ∙ ap (λ (x : State). length x.order) c.self.view_is
