@@ -102,11 +102,13 @@ fn admit_lines<R: AllocGlobal + Abort>(
 
 /// The oldest or the newest entry that may start.
 fn next_ready(core: &Core, newest: bool) -> Option<u32> {
-    if newest {
-        (0..ENTRIES).rev().find(|n| core.is_ready(*n))
-    } else {
-        (0..ENTRIES).find(|n| core.is_ready(*n))
+    for count in 0..ENTRIES {
+        let n = if newest { ENTRIES - 1 - count } else { count };
+        if core.is_ready(n) {
+            return Some(n);
+        }
     }
+    None
 }
 
 /// Starts so many entries one after another, as far as there are some that may start, and gives what is done of those

@@ -107,6 +107,7 @@ fn refused_with<R: AllocGlobal + Abort>(rt: &R, name: &[u8]) -> Option<(Cause, b
     let work = long_work(rt);
     let mut core = core_naming(rt, name);
     let cause = cause_of(&mut core, right(rt, work.share()), &work);
+    drop(work);
     drop(core);
     cause
 }

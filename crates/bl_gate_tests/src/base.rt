@@ -8,6 +8,7 @@ use bl_eval::evaluate::eval;
 use bl_eval::lent::{Done, Lent};
 use bl_gate::gate::Gate;
 use bl_gate::pass::Pass;
+use bl_hall::event::Event;
 use bl_hall::hall::Hall;
 use bl_hall::reply::Reply;
 use bl_policy::id::SubjectId;
@@ -50,10 +51,7 @@ pub(super) fn base_gate<R: AllocGlobal + Abort>(rt: &R) -> (Gate, Pass)
 {
     let setup = right(rt, read_setup(rt.alloc(), BASE));
     let hall = right(rt, Hall::new(rt.alloc(), setup, 10_000));
-    match Gate::new(hall) {
-        Ok(made) => made,
-        Err(_no_gate) => panic!(rt; "no gate"),
-    }
+    right(rt, Gate::new(hall))
 }
 
 /// The work of a line that shows memo.
@@ -76,10 +74,7 @@ pub(super) fn admit<R: AllocGlobal + Abort + Wait>(
     ensures { Follows pass.old pass.new }
 {
     let work = show_memo(rt, gate);
-    match gate.line(rt, pass, session, ordinal, work) {
-        Ok(place) => place,
-        Err(_refused) => panic!(rt; "refused"),
-    }
+    right(rt, gate.line(rt, pass, session, ordinal, work))
 }
 
 /// Opens a session of `ann` and admits a line that shows memo, by one pass; gives the session and the line's place.
@@ -110,10 +105,7 @@ pub(super) fn lent_of(rt: &impl Abort, begun: Started) -> Lent
 pub(super) fn done_of<R: AllocGlobal + Abort>(rt: &R, lent: Lent) -> Done
     ensures { result ≡ lent }
 {
-    match eval(rt.alloc(), lent) {
-        Ok(done) => done,
-        Err(_unrun) => panic!(rt; "no memory"),
-    }
+    right(rt, eval(rt.alloc(), lent))
 }
 
 /// Starts an entry, which runs, and does what it does. The pass has it in hand, and what it had before.
@@ -157,9 +149,49 @@ pub(super) fn is_answered<R: Abort + Wait>(
     requires { pass.old.gate ≡ gate.now }
     ensures { Follows pass.old pass.new }
 {
-    match gate.answers(rt, pass, session, 0) {
-        Ok(Some(replies)) => is_memo(replies.as_slice()),
-        Ok(None) => false,
-        Err(_fault) => panic!(rt; "not answered"),
-    }
+    let answered = right(rt, gate.answers(rt, pass, session, 0));
+    let shown = match &answered {
+        Some(replies) => is_memo(replies.as_slice()),
+        None => false,
+    };
+    drop(answered);
+    shown
+}
+
+/// Asserts that a session is answered so.
+pub(super) fn assert_answered<R: Abort + Wait>(
+    rt: &R,
+    gate: &Gate,
+    pass: &mut Pass,
+    session: SessionNo,
+)
+    requires { pass.old.gate ≡ gate.now }
+    ensures { Follows pass.old pass.new }
+{
+    assert!(rt; is_answered(rt, gate, pass, session));
+}
+
+/// Asserts that these are the first session and the first line.
+pub(super) fn assert_first(rt: &impl Abort, session: SessionNo, place: u32) {
+    assert!(rt; session.number() == 0 && place == 0);
+}
+
+/// Asserts that a pass has all parts.
+pub(super) fn assert_all_parts(rt: &impl Abort, pass: &Pass) {
+    assert!(rt; pass.parts() == 64);
+}
+
+/// Asserts what has happened in a hall.
+pub(super) fn assert_trail(rt: &impl Abort, hall: &Hall, events: &[Event]) {
+    assert!(rt; hall.trail() == events);
+}
+
+/// Closes a gate with a pass that has all parts, and asserts what has happened in its hall.
+pub(super) fn assert_closed(rt: &impl Abort, gate: Gate, pass: Pass, events: &[Event])
+    requires gate { pass.gate ≡ gate }
+    requires parts { pass.parts ≡ 64 }
+{
+    let hall = gate.close(pass);
+    assert_trail(rt, &hall, events);
+    drop(hall);
 }

@@ -1,8 +1,8 @@
 //! Somebody else speaks for the session.
 ghost use Rattle.std.specs.Prelude.{◌≡◌, ◌+◌};
 
-use super::base::{base_gate, show_memo};
-use super::served::{Ended, READ_ONE, comes, opened};
+use super::base::{assert_trail, base_gate, right, show_memo};
+use super::served::{Ended, READ_ONE, assert_ended, assert_told, comes, opened};
 use bl_core::session::SessionNo;
 use bl_gate::gate::Gate;
 use bl_gate::pass::Pass;
@@ -78,6 +78,7 @@ fn intrude<R: AllocGlobal + Abort + Wait + Clock>(
     if answer.is_ok() {
         talk.spoken.store(1, Ordering::SeqCst);
     }
+    drop(answer);
     pass
 }
 
@@ -109,10 +110,7 @@ fn visit<R: AllocGlobal + Abort + Wait + Clock>(
         first,
         second,
     };
-    let Ok(reader) = BufReader::new(rt.alloc(), halves) else {
-        panic!(rt; "no reader");
-    };
-    let mut reader = Watched::new(reader);
+    let mut reader = Watched::new(right(rt, BufReader::new(rt.alloc(), halves)));
     let mut writer = Watched::new(Vec::new(rt.alloc()));
     let bell = Bell::new();
     let service = Service {
@@ -123,10 +121,13 @@ fn visit<R: AllocGlobal + Abort + Wait + Clock>(
         pause: &NoPause,
     };
     let (pass, result) = serve(&service, pass, &mut reader, &mut writer);
+    let read_failed = reader.failed();
+    drop(reader);
+    drop(bell);
     Visited {
         pass,
         result,
-        read_failed: reader.failed(),
+        read_failed,
         write_failed: writer.failed(),
         told: writer.into_inner(),
     }
@@ -196,14 +197,13 @@ fn serve_beside<R: AllocGlobal + Abort + Threads + Wait + Clock + Sync>(
 fn clash(rt: HostRuntime) {
     let (hello, line) = READ_ONE.split_at(10);
     let ended = serve_beside(&rt, 9, hello, line);
-    assert!(rt; ended.result == Err(SessionFault::Clash));
-    assert!(rt; !ended.read_failed && !ended.write_failed);
-    assert!(rt; ended.writer.as_slice() == b"ok\n".as_slice());
+    assert_ended(&rt, &ended, Err(SessionFault::Clash), false, false);
+    assert_told(&rt, ended.writer.as_slice(), b"ok\n");
     let intruded = Event::Line {
         session: 0,
         ordinal: 9,
     };
-    assert!(rt; ended.hall.trail() == [opened(), intruded].as_slice());
+    assert_trail(&rt, &ended.hall, [opened(), intruded].as_slice());
     drop(ended);
 }
 
@@ -215,12 +215,7 @@ fn spoken_for_behind(rt: HostRuntime) {
     let (hello_and_line, _) = READ_ONE.split_at(43);
     let rest = b"wait\nwhen read memo do show memo; end\nwait\n";
     let ended = serve_beside(&rt, 5, hello_and_line, rest);
-    assert!(rt;
-        ended.result == Err(SessionFault::Clash),
-        "{:?}",
-        ended.result
-    );
-    assert!(rt; !ended.read_failed && !ended.write_failed);
-    assert!(rt; ended.writer.as_slice() == b"ok\n1 done \"m1\"\nok\n".as_slice());
+    assert_ended(&rt, &ended, Err(SessionFault::Clash), false, false);
+    assert_told(&rt, ended.writer.as_slice(), b"ok\n1 done \"m1\"\nok\n");
     drop(ended);
 }

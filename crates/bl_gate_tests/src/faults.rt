@@ -1,10 +1,10 @@
 //! A reader and a writer that fail in mid-stream. What was admitted stays admitted, and the pass comes back.
-use super::served::{READ_ONE, admitted, opened, serve_over};
+use super::base::{assert_trail, right};
+use super::served::{READ_ONE, admitted, assert_ended, assert_told, opened, serve_over};
 use bl_hall::event::Event;
 use bl_wire::fault::SessionFault;
 use std::io;
 use std::io::{BufReader, Read, Write};
-use std::test::Fail;
 
 /// Gives its bytes, and then fails.
 #[derive(Drop)]
@@ -23,16 +23,14 @@ impl Read for GivesThenFails<'_> {
 
 /// Reading fails behind an admitted line: it was not run, and only the first reply is written.
 #[test]
-fn read_fails_in_a_line(rt: HostRuntime) -> Result<(), Fail> {
+fn read_fails_in_a_line(rt: HostRuntime) {
     let bytes = b"hello ann\nwhen read memo do show memo; end\nwa";
-    let input = BufReader::new(rt.alloc(), GivesThenFails { bytes })?;
+    let input = right(&rt, BufReader::new(rt.alloc(), GivesThenFails { bytes }));
     let ended = serve_over(&rt, input, Vec::new(rt.alloc()));
-    assert!(rt; ended.result == Err(SessionFault::Read));
-    assert!(rt; ended.read_failed && !ended.write_failed);
-    assert!(rt; ended.writer.as_slice() == b"ok\n".as_slice());
-    assert!(rt; ended.hall.trail() == [opened(), admitted()].as_slice());
+    assert_ended(&rt, &ended, Err(SessionFault::Read), true, false);
+    assert_told(&rt, ended.writer.as_slice(), b"ok\n");
+    assert_trail(&rt, &ended.hall, [opened(), admitted()].as_slice());
     drop(ended);
-    Ok(())
 }
 
 /// Takes so many bytes, and then fails.
@@ -66,10 +64,9 @@ fn write_fails_after_five_bytes(rt: HostRuntime) {
         room: 5,
     };
     let ended = serve_over(&rt, READ_ONE, output);
-    assert!(rt; ended.result == Err(SessionFault::Write));
-    assert!(rt; !ended.read_failed && ended.write_failed);
-    assert!(rt; ended.writer.taken.as_slice() == b"ok\n1 ".as_slice());
+    assert_ended(&rt, &ended, Err(SessionFault::Write), false, true);
+    assert_told(&rt, ended.writer.taken.as_slice(), b"ok\n1 ");
     let events = [opened(), admitted(), Event::Start(0), Event::End(0)];
-    assert!(rt; ended.hall.trail() == events.as_slice());
+    assert_trail(&rt, &ended.hall, events.as_slice());
     drop(ended);
 }

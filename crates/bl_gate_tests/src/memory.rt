@@ -1,9 +1,9 @@
-//! What a turn does where a growth is refused. With ample memory the test here passes by the example's own answers alone. It passes whatever
-//! single growth is refused too: `bench/growths` refuses each in turn, and tells so by a file.
+//! What a turn does where a growth is refused. With ample memory the test here passes by the example's own answers
+//! alone. It passes whatever single growth is refused too: `bench/growths` refuses each in turn, and tells so by a file.
 ghost use Rattle.std.specs.Prelude.{◌≡◌, IfSome};
 ghost use Rattle.bl_gate.specs.Gates.{Follows};
 
-use super::base::{ANN, BASE, SHOW_MEMO, is_memo, right};
+use super::base::{ANN, BASE, SHOW_MEMO, assert_all_parts, is_memo, right};
 use bl_core::session::SessionNo;
 use bl_gate::gate::Gate;
 use bl_gate::pass::Pass;
@@ -41,6 +41,11 @@ fn assert_before<R: Abort + Files + Print>(rt: &R) {
     say(rt, "before");
 }
 
+/// Asserts that a growth was refused in a call, before which that was so or not.
+fn assert_refused<R: Abort + Files>(rt: &R, before: bool) {
+    assert!(rt; !before && was_refused(rt), "no growth was refused");
+}
+
 /// A hall over the base setup for lines up to a weight of 10,000; none where a growth is refused.
 fn hall_or_none(alloc: Global) -> Option<Hall> {
     Hall::new(alloc, read_setup(alloc, BASE).ok()?, 10_000).ok()
@@ -51,10 +56,7 @@ fn gate_or_none(alloc: Global) -> Option<(Gate, Pass)>
     ensures gate { IfSome result (λ made. made.1.gate ≡ made.0) }
     ensures parts { IfSome result (λ made. made.1.parts ≡ 64) }
 {
-    match Gate::new(hall_or_none(alloc)?) {
-        Ok(made) => Some(made),
-        Err(_no_gate) => None,
-    }
+    Gate::new(hall_or_none(alloc)?).ok()
 }
 
 /// The work of a line that shows memo; none where a growth is refused.
@@ -72,13 +74,12 @@ fn admit<R: AllocGlobal + Abort + Wait>(rt: &R, gate: &Gate, pass: &mut Pass, wo
 {
     let session = right(rt, gate.open(rt, pass, SubjectId::new(ANN)));
     assert!(rt; session.number() == 0);
-    match gate.line(rt, pass, session, 1, work) {
-        Ok(place) => assert!(rt; place == 0),
-        Err(_refused) => panic!(rt; "refused"),
-    }
+    let place = right(rt, gate.line(rt, pass, session, 1, work));
+    assert!(rt; place == 0);
 }
 
-/// Takes the turn of the line that was admitted, and says what came of it: it is done; or, where a growth was refused in the call, lost.
+/// Takes the turn of the line that was admitted, and says what came of it: it is done; or, where a growth was refused
+/// in the call, lost.
 fn turn<R: AllocGlobal + Abort + Files + Print + Wait>(rt: &R, gate: &Gate, pass: &mut Pass) -> bool
     requires { pass.old.gate ≡ gate.now }
     ensures { Follows pass.old pass.new }
@@ -90,7 +91,7 @@ fn turn<R: AllocGlobal + Abort + Files + Print + Wait>(rt: &R, gate: &Gate, pass
         return true;
     }
     assert!(rt; turn == Turn::Lost(0));
-    assert!(rt; !before && was_refused(rt), "no growth was refused");
+    assert_refused(rt, before);
     say(rt, "1 lost");
     false
 }
@@ -102,7 +103,19 @@ fn is_lost(replies: &[Reply]) -> bool {
         && matches!(replies[0].answer, Answer::Lost)
 }
 
-/// Asserts that the session is answered as the turn was; or, where a growth was refused in the call, out of memory. Says which.
+/// Asserts that these replies are to a turn that was done, or to one that was lost.
+fn assert_replies(rt: &impl Abort, replies: &[Reply], done: bool) {
+    assert!(rt;
+        if done {
+            is_memo(replies)
+        } else {
+            is_lost(replies)
+        }
+    );
+}
+
+/// Asserts that the session is answered as the turn was; or, where a growth was refused in the call, out of memory.
+/// Says which.
 fn assert_answered<R: AllocGlobal + Abort + Files + Print + Wait>(
     rt: &R,
     gate: &Gate,
@@ -115,18 +128,12 @@ fn assert_answered<R: AllocGlobal + Abort + Files + Print + Wait>(
     let before = was_refused(rt);
     match gate.answers(rt, pass, SessionNo::new(0), 0) {
         Ok(Some(replies)) => {
-            let replies = replies.as_slice();
-            assert!(rt;
-                if done {
-                    is_memo(replies)
-                } else {
-                    is_lost(replies)
-                }
-            );
+            assert_replies(rt, replies.as_slice(), done);
+            drop(replies);
             say(rt, "own");
         }
         Err(AnswersFault::Memory) => {
-            assert!(rt; !before && was_refused(rt), "no growth was refused");
+            assert_refused(rt, before);
             say(rt, "out of memory");
         }
         Ok(None) | Err(AnswersFault::Session) => panic!(rt; "not answered"),
@@ -156,6 +163,11 @@ fn are_of_a_turn(events: &[Event], done: bool) -> bool {
     }
 }
 
+/// Asserts that a hall has the events of such a turn.
+fn assert_turn(rt: &impl Abort, hall: &Hall, done: bool) {
+    assert!(rt; are_of_a_turn(hall.trail(), done));
+}
+
 /// One pass admits a line, another takes the turn, and the first asks for the answers.
 fn take_the_turn<R: AllocGlobal + Abort + Files + Print + Wait>(
     rt: &R,
@@ -171,9 +183,9 @@ fn take_the_turn<R: AllocGlobal + Abort + Files + Print + Wait>(
     let done = turn(rt, &gate, &mut other);
     assert_answered(rt, &gate, &mut pass, done);
     gate.meet(&mut pass, other);
-    assert!(rt; pass.parts() == 64);
+    assert_all_parts(rt, &pass);
     let hall = gate.close(pass);
-    assert!(rt; are_of_a_turn(hall.trail(), done));
+    assert_turn(rt, &hall, done);
     drop(hall);
 }
 

@@ -1,14 +1,16 @@
 //! Two behaviours that run side by side.
 ghost use Rattle.std.specs.Prelude.{◌≡◌};
 
-use super::base::{ask, base_gate, is_answered};
+use super::base::{ask, assert_answered, base_gate};
 use bl_gate::gate::Gate;
 use bl_gate::pass::Pass;
 use bl_hall::event::Event;
+use bl_hall::hall::Hall;
 use bl_worker::bell::Bell;
 use bl_worker::pause::Pause;
 use bl_worker::worker::run_worker;
 use std::alloc::Global;
+use std::process::Abort;
 use std::sync::Wait;
 use std::sync::atomic::{AtomicU64, Ordering};
 use std::thread;
@@ -64,7 +66,8 @@ fn work_both<R: Threads + Wait + Sync>(
     hold: &HoldFirst,
 ) -> (Pass, Pass)
     requires { (one.gate ≡ gate.now) × (two.gate ≡ gate.now) }
-    ensures { (result.0.gate ≡ one.gate) × (result.0.parts ≡ one.parts) × (result.1.gate ≡ two.gate) × (result.1.parts ≡ two.parts) }
+    ensures { (result.0.gate ≡ one.gate) × (result.0.parts ≡ one.parts)
+        × (result.1.gate ≡ two.gate) × (result.1.parts ≡ two.parts) }
 {
     thread::join(
         rt,
@@ -100,13 +103,15 @@ fn work_until_two<R: Threads + Wait + Sync>(
     hold: &HoldFirst,
 ) -> (Pass, Pass)
     requires { (one.gate ≡ gate.now) × (two.gate ≡ gate.now) }
-    ensures { (result.0.gate ≡ one.gate) × (result.0.parts ≡ one.parts) × (result.1.gate ≡ two.gate) × (result.1.parts ≡ two.parts) }
+    ensures { (result.0.gate ≡ one.gate) × (result.0.parts ≡ one.parts)
+        × (result.1.gate ≡ two.gate) × (result.1.parts ≡ two.parts) }
 {
     let (passes, ()) = thread::join(
         rt,
         move || -> (Pass, Pass)
             requires { (one.gate ≡ gate.now) × (two.gate ≡ gate.now) }
-            ensures { (result.0.gate ≡ one.gate) × (result.0.parts ≡ one.parts) × (result.1.gate ≡ two.gate) × (result.1.parts ≡ two.parts) }
+            ensures { (result.0.gate ≡ one.gate) × (result.0.parts ≡ one.parts)
+                × (result.1.gate ≡ two.gate) × (result.1.parts ≡ two.parts) }
         { work_both(rt, alloc, gate, one, two, hold) },
         move || close_after_two(rt, &hold.bell),
     );
@@ -122,7 +127,18 @@ fn overlap(events: &[Event]) -> bool {
         && matches!(events[7], Event::End(_))
 }
 
-/// Lines of two sessions read one document, with two workers: the first behaviour that runs is held until the other has ended.
+/// Asserts that the first behaviour was held until another entry had ended.
+fn assert_held(rt: &impl Abort, hold: &HoldFirst) {
+    assert!(rt; hold.held.load(Ordering::SeqCst) == 1);
+}
+
+/// Asserts that two entries overlapped in a hall.
+fn assert_overlap(rt: &impl Abort, hall: &Hall) {
+    assert!(rt; overlap(hall.trail()));
+}
+
+/// Lines of two sessions read one document, with two workers: the first behaviour that runs is held until the other has
+/// ended.
 #[test]
 fn two_workers_overlap(rt: HostRuntime) {
     let (gate, mut pass) = base_gate(&rt);
@@ -138,10 +154,11 @@ fn two_workers_overlap(rt: HostRuntime) {
     let (one, two) = work_until_two(&rt, rt.alloc(), &gate, one, two, &hold);
     gate.meet(&mut pass, one);
     gate.meet(&mut pass, two);
-    assert!(rt; hold.held.load(Ordering::SeqCst) == 1);
-    assert!(rt; is_answered(&rt, &gate, &mut pass, first));
-    assert!(rt; is_answered(&rt, &gate, &mut pass, second));
+    assert_held(&rt, &hold);
+    assert_answered(&rt, &gate, &mut pass, first);
+    assert_answered(&rt, &gate, &mut pass, second);
     let hall = gate.close(pass);
-    assert!(rt; overlap(hall.trail()));
+    assert_overlap(&rt, &hall);
     drop(hall);
+    drop(hold);
 }

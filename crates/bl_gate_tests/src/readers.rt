@@ -6,12 +6,14 @@ use super::served::{READ_ONE, TOLD_ONE, admitted, comes, opened};
 use bl_gate::gate::Gate;
 use bl_gate::pass::Pass;
 use bl_hall::event::Event;
+use bl_hall::hall::Hall;
 use bl_serve::session::{Service, serve};
 use bl_wire::watched::Watched;
 use bl_worker::bell::Bell;
 use bl_worker::pause::Pause;
 use bl_worker::worker::run_worker;
 use std::alloc::Global;
+use std::process::Abort;
 use std::rt::Clock;
 use std::sync::Wait;
 use std::sync::atomic::{AtomicU64, Ordering};
@@ -79,7 +81,9 @@ fn visit<R: Wait + Clock>(
     let (pass, result) = serve(&service, pass, &mut reader, &mut writer);
     hold.over.fetch_add(1, Ordering::SeqCst);
     let told = writer.into_inner();
-    (pass, result == Ok(()) && told.as_slice() == TOLD_ONE)
+    let right = result == Ok(()) && told.as_slice() == TOLD_ONE;
+    drop(told);
+    (pass, right)
 }
 
 /// A session that begins once a behaviour runs. So its thread cannot be the one in which the first is held, with the
@@ -218,6 +222,17 @@ fn overlap(trail: &[Event]) -> bool {
     trail == events.as_slice()
 }
 
+/// Asserts that both sessions were right, and that the first behaviour was held until one of them had ended.
+fn assert_held<R>(rt: &impl Abort, right: bool, hold: &HoldFirst<R>) {
+    assert!(rt; right);
+    assert!(rt; hold.held.load(Ordering::SeqCst) == 1);
+}
+
+/// Asserts that two sessions overlapped in a hall.
+fn assert_overlap(rt: &impl Abort, hall: &Hall) {
+    assert!(rt; overlap(hall.trail()));
+}
+
 /// Two sessions and two workers: the first behaviour that runs is held until one of the two sessions has ended, and
 /// both are told what they should.
 #[test]
@@ -225,9 +240,9 @@ fn two_readers_overlap(rt: HostRuntime) {
     let (gate, mut pass) = base_gate(&rt);
     let hold = HoldFirst::new(rt);
     let right = serve_both(&rt, rt.alloc(), &gate, &mut pass, &hold);
-    assert!(rt; right);
-    assert!(rt; hold.held.load(Ordering::SeqCst) == 1);
+    assert_held(&rt, right, &hold);
     let hall = gate.close(pass);
-    assert!(rt; overlap(hall.trail()));
+    assert_overlap(&rt, &hall);
     drop(hall);
+    drop(hold);
 }

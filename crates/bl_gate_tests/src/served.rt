@@ -89,11 +89,31 @@ pub(super) fn serve_over<R: BufRead + Drop, W: Write + Drop, T: AllocGlobal + Ab
         pause: &NoPause,
     };
     let (pass, result) = serve(&service, pass, &mut reader, &mut writer);
+    let read_failed = reader.failed();
+    drop(reader);
+    drop(bell);
     Ended {
         result,
-        read_failed: reader.failed(),
+        read_failed,
         write_failed: writer.failed(),
         writer: writer.into_inner(),
         hall: gate.close(pass),
     }
+}
+
+/// Asserts how a session ended, and which end has failed.
+pub(super) fn assert_ended<W>(
+    rt: &impl Abort,
+    ended: &Ended<W>,
+    outcome: Result<(), SessionFault>,
+    read_failed: bool,
+    write_failed: bool,
+) {
+    assert!(rt; ended.result == outcome, "{:?}", ended.result);
+    assert!(rt; ended.read_failed == read_failed && ended.write_failed == write_failed);
+}
+
+/// Asserts what was written.
+pub(super) fn assert_told(rt: &impl Abort, written: &[u8], text: &[u8]) {
+    assert!(rt; written == text);
 }

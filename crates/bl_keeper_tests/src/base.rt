@@ -1,11 +1,12 @@
 //! A gate, a journal of it, and what the tests ask of both.
-ghost use Rattle.std.specs.Prelude.{◌≡◌, false, Ok};
+ghost use Rattle.std.specs.Prelude.{◌≡◌, [], false, Ok};
 ghost use Rattle.bl_gate.specs.Gates.{Follows, hall_seen};
 ghost use Rattle.bl_keeper.specs.Keeping.{HasKept};
+ghost use Rattle.bl_setup.specs.declared.version.Version.TheVariants.{Two};
 
-use bl_connection::stream::Ends;
+use bl_connection::stream::{Answer, Ends, Stream};
 use bl_core::session::SessionNo;
-use bl_disk::device::Device;
+use bl_disk::device::{Device, DeviceError};
 use bl_disk_tests::torn::Torn;
 use bl_gate::gate::Gate;
 use bl_gate::pass::Pass;
@@ -52,6 +53,21 @@ pub(super) struct Begun<D: Device> {
     pub(super) journal: Journal<D>,
 }
 
+/// A gate over the base setup, in whose hall nothing has happened, and the pass with all its parts.
+fn base_gate<R: AllocGlobal + Abort>(rt: &R) -> (Gate, Pass)
+    ensures gate { result.1.gate ≡ result.0 }
+    ensures parts { result.1.parts ≡ 64 }
+    ensures version { result.1.gate.base.setup.version ≡ Two }
+    ensures limit { result.1.gate.base.limit ≡ 10000 }
+    ensures seen { result.1.seen ≡ [] }
+{
+    let setup = right(rt, read_setup(rt.alloc(), BASE));
+    // asked for the proof alone: the setup is of version 2
+    let _version = setup.version();
+    let hall = right(rt, Hall::new(rt.alloc(), setup, LIMIT));
+    right(rt, Gate::new(hall))
+}
+
 /// A gate over the base setup, in whose hall nothing has happened, and its journal in this file.
 pub(super) fn begin_in<D: Device + Drop, R: AllocGlobal + Abort>(rt: &R, device: D) -> Begun<D>
     requires { D.has_failed device ≡ false }
@@ -60,20 +76,12 @@ pub(super) fn begin_in<D: Device + Drop, R: AllocGlobal + Abort>(rt: &R, device:
     ensures sound { D.has_failed result.journal.log.device ≡ false }
     ensures kept { HasKept (hall_seen result.pass) result.journal.bookmark (D.now result.journal.log.device) }
 {
-    let setup = right(rt, read_setup(rt.alloc(), BASE));
-    // asked for the proof alone: the setup is of version 2
-    let _version = setup.version();
-    let hall = right(rt, Hall::new(rt.alloc(), setup, LIMIT));
-    let Ok((gate, pass)) = Gate::new(hall) else {
-        panic!(rt; "no gate");
-    };
-    match begin(rt.alloc(), LIMIT, device) {
-        Ok(journal) => Begun {
-            gate,
-            pass,
-            journal,
-        },
-        Err(_refused) => panic!(rt; "no journal"),
+    let journal = right(rt, begin(rt.alloc(), LIMIT, device));
+    let (gate, pass) = base_gate(rt);
+    Begun {
+        gate,
+        pass,
+        journal,
     }
 }
 
@@ -86,7 +94,7 @@ pub(super) fn open<R: Wait + Abort>(rt: &R, gate: &Gate, pass: &mut Pass) -> Ses
 }
 
 /// The text of a journal in which so many sessions of `ann` were opened.
-pub(super) fn text_of<R: AllocGlobal + Abort>(rt: &R, sessions: usize) -> Vec<u8> {
+fn text_of<R: AllocGlobal + Abort>(rt: &R, sessions: usize) -> Vec<u8> {
     let mut text = Vec::new(rt.alloc());
     right(rt, text.extend_from_slice(HEAD));
     for _ in 0..sessions {
@@ -100,6 +108,32 @@ pub(super) fn torn<R: AllocGlobal + Abort>(rt: &R, room: usize, syncs: usize) ->
     ensures { result.failed ≡ false }
 {
     right(rt, Torn::new(rt.alloc(), b"", room, syncs))
+}
+
+/// A journal has not failed.
+pub(super) fn assert_sound<D: Device>(rt: &impl Abort, journal: &Journal<D>) {
+    assert!(rt; journal.fault.is_none());
+}
+
+/// A journal has failed by this fault of its file.
+pub(super) fn assert_failed<D: Device>(rt: &impl Abort, journal: &Journal<D>, fault: DeviceError) {
+    assert!(rt; journal.fault == Some(fault));
+}
+
+/// What is kept is the text of a journal in which so many sessions of `ann` were opened.
+pub(super) fn assert_lines<R: AllocGlobal + Abort>(rt: &R, kept: &[u8], sessions: usize) {
+    let text = text_of(rt, sessions);
+    assert!(rt; kept == text.as_slice());
+}
+
+/// A text is written to a stream, which answers so.
+pub(super) fn assert_write<S: Stream>(
+    rt: &impl Abort,
+    stream: &mut S,
+    text: &[u8],
+    answer: Answer,
+) {
+    assert!(rt; stream.write(text) == answer);
 }
 
 /// A stream that gives nothing, and keeps what it is written.

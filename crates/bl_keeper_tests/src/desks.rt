@@ -3,9 +3,12 @@ ghost use Rattle.std.specs.Prelude.{◌≡◌, false};
 ghost use Rattle.bl_gate.specs.Gates.{hall_seen};
 ghost use Rattle.bl_keeper.specs.Keeping.{HasKept};
 
-use super::base::{Begun, begin_in, open, text_of, to_list, torn};
-use bl_connection::stream::{Answer, Ends, Stream};
+use super::base::{
+    Begun, assert_failed, assert_lines, assert_sound, assert_write, begin_in, open, to_list, torn,
+};
+use bl_connection::stream::{Answer, Ends};
 use bl_disk::device::{Device, DeviceError};
+use bl_disk_tests::torn::Torn;
 use bl_gate::gate::Gate;
 use bl_gate::pass::Pass;
 use bl_keeper::desk::{Desk, Desks, Place};
@@ -35,10 +38,21 @@ fn stream_of<'a, K: Keep, R: AllocGlobal + Wait>(
     KeptStream::new(rt, rt.alloc(), keep, place, to_list(rt))
 }
 
-/// What was written to a stream.
-fn told<K: Keep, R: Wait>(stream: ToList<'_, K, R>) -> Vec<u8> {
+/// A text is written to a stream, and refused with this fault.
+fn assert_refused<K: Keep, R: Abort + Wait>(
+    rt: &R,
+    stream: &mut ToList<'_, K, R>,
+    text: &[u8],
+    fault: JournalFault,
+) {
+    assert_write(rt, stream, text, Answer::Failed);
+    assert!(rt; stream.refused == Some(fault));
+}
+
+/// This was written to a stream, which ends.
+fn assert_told<K: Keep, R: Abort + Wait>(rt: &R, stream: ToList<'_, K, R>, text: &[u8]) {
     let (ends, _) = stream.into_parts();
-    ends.writer
+    assert!(rt; ends.writer.as_slice() == text);
 }
 
 /// The desk of the first thread.
@@ -57,35 +71,57 @@ fn note_events<K: Keep>(rt: &impl Abort, keep: &K, events: u64) {
     }
 }
 
+/// Serves all that wait at a desk: for all that have asked with a smaller number than this it is decided what came of
+/// it.
+fn serve<K: Keep, R: AllocGlobal + Abort + Wait>(rt: &R, keep: &K) -> u64 {
+    match keep.serve(rt, rt.alloc()) {
+        Some(decided) => decided,
+        None => panic!(rt; "closed"),
+    }
+}
+
+/// The connections 7 and 9 wait no more, in this order.
+fn assert_both_next<R: Abort + Wait>(rt: &R, desk: &Desk, decided: u64) {
+    assert!(rt; desk.next(rt, decided) == Some(7));
+    assert!(rt; desk.next(rt, decided) == Some(9));
+}
+
+/// Both connections wait at this desk, and are served; nobody else is.
+fn serve_both<K: Keep, R: AllocGlobal + Abort + Wait>(rt: &R, keep: &K, desk: &Desk) {
+    assert!(rt; !desk.has_next(rt, keep.decided(rt)));
+    let decided = serve(rt, keep);
+    assert!(rt; keep.decided(rt) == decided);
+    assert!(rt; desk.has_next(rt, decided));
+    assert_both_next(rt, desk, decided);
+    assert!(rt; desk.next(rt, decided).is_none());
+}
+
+/// Nobody will wait any more.
+fn close<K: Keep, R: AllocGlobal + Abort + Wait>(rt: &R, keep: &K) {
+    keep.close(rt);
+    assert!(rt; keep.serve(rt, rt.alloc()).is_none());
+}
+
 /// Two connections write once each, and wait; then they are served at once, and each writes. What tells of no later
 /// event is written at once, and what does waits again. Then nobody will wait any more.
 fn wait_both<K: Keep, R: AllocGlobal + Abort + Wait>(rt: &R, keep: &K) {
     let desk = first_desk(rt, keep);
     let mut one = stream_of(rt, keep, 0, 7);
     let mut two = stream_of(rt, keep, 0, 9);
-    assert!(rt; one.write(b"one\n") == Answer::WouldBlock);
-    assert!(rt; one.write(b"one\n") == Answer::WouldBlock);
-    assert!(rt; two.write(b"two\n") == Answer::WouldBlock);
-    assert!(rt; !desk.has_next(rt, keep.decided(rt)));
-    let Some(decided) = keep.serve(rt, rt.alloc()) else {
-        panic!(rt; "closed");
-    };
-    assert!(rt; keep.decided(rt) == decided);
-    assert!(rt; desk.has_next(rt, decided));
-    assert!(rt; desk.next(rt, decided) == Some(7));
-    assert!(rt; desk.next(rt, decided) == Some(9));
-    assert!(rt; desk.next(rt, decided).is_none());
-    assert!(rt; one.write(b"one\n") == Answer::Moved(4));
-    assert!(rt; two.write(b"two\n") == Answer::Moved(4));
-    assert!(rt; one.write(b"more\n") == Answer::WouldBlock);
+    assert_write(rt, &mut one, b"one\n", Answer::WouldBlock);
+    assert_write(rt, &mut one, b"one\n", Answer::WouldBlock);
+    assert_write(rt, &mut two, b"two\n", Answer::WouldBlock);
+    serve_both(rt, keep, desk);
+    assert_write(rt, &mut one, b"one\n", Answer::Moved(4));
+    assert_write(rt, &mut two, b"two\n", Answer::Moved(4));
+    assert_write(rt, &mut one, b"more\n", Answer::WouldBlock);
     note_events(rt, keep, 1);
-    assert!(rt; two.write(b"no more\n") == Answer::Moved(8));
+    assert_write(rt, &mut two, b"no more\n", Answer::Moved(8));
     note_events(rt, keep, 2);
-    assert!(rt; two.write(b"later\n") == Answer::WouldBlock);
-    keep.close(rt);
-    assert!(rt; keep.serve(rt, rt.alloc()).is_none());
-    assert!(rt; told(one).as_slice() == b"one\n".as_slice());
-    assert!(rt; told(two).as_slice() == b"two\nno more\n".as_slice());
+    assert_write(rt, &mut two, b"later\n", Answer::WouldBlock);
+    close(rt, keep);
+    assert_told(rt, one, b"one\n");
+    assert_told(rt, two, b"two\nno more\n");
 }
 
 /// Two connections wait, and both are refused with this fault, and all that ask later.
@@ -93,40 +129,44 @@ fn refuse_both<K: Keep, R: AllocGlobal + Abort + Wait>(rt: &R, keep: &K, fault: 
     let desk = first_desk(rt, keep);
     let mut one = stream_of(rt, keep, 0, 7);
     let mut two = stream_of(rt, keep, 0, 9);
-    assert!(rt; one.write(b"one\n") == Answer::WouldBlock);
-    assert!(rt; two.write(b"two\n") == Answer::WouldBlock);
-    let Some(decided) = keep.serve(rt, rt.alloc()) else {
-        panic!(rt; "closed");
-    };
+    assert_write(rt, &mut one, b"one\n", Answer::WouldBlock);
+    assert_write(rt, &mut two, b"two\n", Answer::WouldBlock);
+    assert_both_next(rt, desk, serve(rt, keep));
+    assert_refused(rt, &mut one, b"one\n", fault);
+    assert_refused(rt, &mut two, b"two\n", fault);
+    assert_write(rt, &mut two, b"two\n", Answer::Failed);
+    assert_told(rt, one, b"");
+    assert_told(rt, two, b"");
+}
+
+/// Connection 7 waits no more at the one desk, and nobody does at the other.
+fn assert_one_next<R: Abort + Wait>(rt: &R, desk: &Desk, other: &Desk, decided: u64) {
     assert!(rt; desk.next(rt, decided) == Some(7));
-    assert!(rt; desk.next(rt, decided) == Some(9));
-    assert!(rt; one.write(b"one\n") == Answer::Failed);
-    assert!(rt; one.refused == Some(fault));
-    assert!(rt; two.write(b"two\n") == Answer::Failed);
-    assert!(rt; two.refused == Some(fault));
-    assert!(rt; two.write(b"two\n") == Answer::Failed);
-    assert!(rt; told(one).is_empty());
-    assert!(rt; told(two).is_empty());
+    assert!(rt; other.next(rt, decided).is_none());
+}
+
+/// The desk of the second thread, which has no other connection.
+fn alone_desk<'a, K: Keep>(rt: &impl Abort, keep: &'a K) -> &'a Desk {
+    match keep.desk(1) {
+        Some(other) => {
+            other.set_alone(true);
+            other
+        }
+        None => panic!(rt; "no desk"),
+    }
 }
 
 /// Who is all that its thread has to look after has the journal keep up itself, and serves who waits at another desk,
 /// whose thread is told.
 fn wait_alone<K: Keep, R: AllocGlobal + Abort + Wait>(rt: &R, keep: &K) {
     let desk = first_desk(rt, keep);
-    let Some(other) = keep.desk(1) else {
-        panic!(rt; "no desk");
-    };
-    other.set_alone(true);
+    let other = alone_desk(rt, keep);
     let mut one = stream_of(rt, keep, 0, 7);
     let mut two = stream_of(rt, keep, 1, 9);
-    assert!(rt; one.write(b"one\n") == Answer::WouldBlock);
-    assert!(rt; two.write(b"two\n") == Answer::Moved(4));
-    let Some(decided) = keep.serve(rt, rt.alloc()) else {
-        panic!(rt; "closed");
-    };
-    assert!(rt; desk.next(rt, decided) == Some(7));
-    assert!(rt; other.next(rt, decided).is_none());
-    assert!(rt; one.write(b"one\n") == Answer::Moved(4));
+    assert_write(rt, &mut one, b"one\n", Answer::WouldBlock);
+    assert_write(rt, &mut two, b"two\n", Answer::Moved(4));
+    assert_one_next(rt, desk, other, serve(rt, keep));
+    assert_write(rt, &mut one, b"one\n", Answer::Moved(4));
 }
 
 /// What is tried with a keeper.
@@ -134,6 +174,15 @@ enum Trial {
     Waits,
     IsRefused(JournalFault),
     IsAlone,
+}
+
+/// Tries so with a keeper.
+fn try_so<K: Keep, R: AllocGlobal + Abort + Wait>(rt: &R, keep: &K, trial: Trial) {
+    match trial {
+        Trial::Waits => wait_both(rt, keep),
+        Trial::IsRefused(fault) => refuse_both(rt, keep, fault),
+        Trial::IsAlone => wait_alone(rt, keep),
+    }
 }
 
 /// Opens a session, and tries so with a keeper that has two desks; gives the journal back.
@@ -152,50 +201,44 @@ fn try_with<G: Which, D: Device, R: AllocGlobal + Abort + Wait>(
     let part = gate.split_pass(&mut pass);
     let keeper = Keeper::<G, D>::new(gate, part, journal, Desks::new(rt.alloc(), 2, true));
     open(rt, gate, &mut pass);
-    match trial {
-        Trial::Waits => wait_both(rt, &keeper),
-        Trial::IsRefused(fault) => refuse_both(rt, &keeper, fault),
-        Trial::IsAlone => wait_alone(rt, &keeper),
-    }
+    try_so(rt, &keeper, trial);
     let (journal, part) = keeper.finish();
     gate.meet(&mut pass, part);
+    drop(pass);
+    journal
+}
+
+/// Tries so with a keeper whose journal is in a file of which so many syncs succeed; gives the journal back.
+fn try_in<R: AllocGlobal + Abort + Wait>(rt: &R, syncs: usize, trial: Trial) -> Journal<Torn> {
+    let Begun {
+        gate,
+        pass,
+        journal,
+    } = begin_in(rt, torn(rt, 1_000, syncs));
+    let journal = try_with::<Brand, _, _>(rt, &gate, pass, journal, trial);
+    drop(gate);
     journal
 }
 
 /// Of the file's syncs one is left: it serves both.
 #[test]
 fn one_sync_serves_all_at_a_desk(rt: HostRuntime) {
-    let Begun {
-        gate,
-        pass,
-        journal,
-    } = begin_in(&rt, torn(&rt, 1_000, 3));
-    let journal = try_with::<Brand, _, _>(&rt, &gate, pass, journal, Trial::Waits);
-    assert!(rt; journal.fault.is_none());
-    assert!(rt; journal.log.device.now().kept.as_slice() == text_of(&rt, 1).as_slice());
+    let journal = try_in(&rt, 3, Trial::Waits);
+    assert_sound(&rt, &journal);
+    assert_lines(&rt, journal.log.device.now().kept.as_slice(), 1);
 }
 
 /// The file's next sync fails: both learn why.
 #[test]
 fn all_at_a_desk_learn_of_a_failure(rt: HostRuntime) {
-    let Begun {
-        gate,
-        pass,
-        journal,
-    } = begin_in(&rt, torn(&rt, 1_000, 2));
     let trial = Trial::IsRefused(JournalFault::Device(DeviceError::Failed));
-    let journal = try_with::<Brand, _, _>(&rt, &gate, pass, journal, trial);
-    assert!(rt; journal.fault == Some(DeviceError::Failed));
+    let journal = try_in(&rt, 2, trial);
+    assert_failed(&rt, &journal, DeviceError::Failed);
 }
 
 /// Of the file's syncs one is left: who is alone has it, and it serves both.
 #[test]
 fn who_is_alone_serves_others_too(rt: HostRuntime) {
-    let Begun {
-        gate,
-        pass,
-        journal,
-    } = begin_in(&rt, torn(&rt, 1_000, 3));
-    let journal = try_with::<Brand, _, _>(&rt, &gate, pass, journal, Trial::IsAlone);
-    assert!(rt; journal.fault.is_none());
+    let journal = try_in(&rt, 3, Trial::IsAlone);
+    assert_sound(&rt, &journal);
 }

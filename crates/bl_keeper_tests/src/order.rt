@@ -1,5 +1,5 @@
 //! Nothing is written before it was kept.
-use super::base::FIRST;
+use super::base::{FIRST, assert_write};
 use bl_connection::stream::{Answer, Stream};
 use bl_keeper::desk::Desk;
 use bl_keeper::keep::Keep;
@@ -7,6 +7,7 @@ use bl_keeper::receipt::Receipt;
 use bl_keeper::stream::KeptStream;
 use bl_record::fault::JournalFault;
 use std::alloc::Global;
+use std::process::Abort;
 use std::sync::Wait;
 use std::sync::atomic::{AtomicU64, Ordering};
 
@@ -113,6 +114,12 @@ impl Stream for Notes<'_> {
     }
 }
 
+/// Three writes were noted, each after a keep of its own.
+fn assert_in_order(rt: &impl Abort, notes: &Notes<'_>) {
+    assert!(rt; notes.writes == 3);
+    assert!(rt; notes.in_order);
+}
+
 #[test]
 fn each_write_comes_after_a_keep_of_its_own(rt: HostRuntime) {
     let counts = Counts {
@@ -125,9 +132,8 @@ fn each_write_comes_after_a_keep_of_its_own(rt: HostRuntime) {
     };
     let mut stream = KeptStream::new(&rt, rt.alloc(), &counts, FIRST, notes);
     for _ in 0..3u32 {
-        assert!(rt; stream.write(b"ok\n") == Answer::Moved(3));
+        assert_write(&rt, &mut stream, b"ok\n", Answer::Moved(3));
     }
     let (notes, _) = stream.into_parts();
-    assert!(rt; notes.writes == 3);
-    assert!(rt; notes.in_order);
+    assert_in_order(&rt, &notes);
 }

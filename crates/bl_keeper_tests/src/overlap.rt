@@ -3,7 +3,7 @@ ghost use Rattle.std.specs.Prelude.{◌≡◌, false};
 ghost use Rattle.bl_gate.specs.Gates.{hall_seen};
 ghost use Rattle.bl_keeper.specs.Keeping.{HasKept};
 
-use super::base::{Begun, begin_in, no_desks, open, right};
+use super::base::{Begun, assert_sound, begin_in, no_desks, open, right};
 use super::crowded::{Crowded, Meeting};
 use bl_disk::device::Device;
 use bl_gate::gate::Gate;
@@ -122,9 +122,14 @@ fn keep_all<
     meeting.begin(4);
     drop(keep_four(rt, gate, &keeper, meeting, pass));
     let (journal, part) = keeper.finish();
-    assert!(rt; journal.fault.is_none());
+    assert_sound(rt, &journal);
     drop(journal);
     drop(part);
+}
+
+/// At most two syncs served each round of four.
+fn assert_shared(rt: &impl Abort, meeting: &Meeting) {
+    assert!(rt; meeting.syncs() <= 66);
 }
 
 /// Of four threads that ask again and again, at most one asks alone: so two syncs serve four. Each has its line kept
@@ -138,5 +143,6 @@ fn one_sync_serves_all_that_asked_before_it(rt: HostRuntime) {
         journal,
     } = begin_in(&rt, Crowded::new(&rt, rt.alloc(), &meeting));
     keep_all::<Brand, _, _>(&rt, &gate, pass, journal, &meeting);
-    assert!(rt; meeting.syncs() <= 66);
+    drop(gate);
+    assert_shared(&rt, &meeting);
 }

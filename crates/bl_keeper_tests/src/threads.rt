@@ -3,11 +3,12 @@ ghost use Rattle.std.specs.Prelude.{◌≡◌, false};
 ghost use Rattle.bl_gate.specs.Gates.{hall_seen};
 ghost use Rattle.bl_keeper.specs.Keeping.{HasKept};
 
-use super::base::{Begun, begin_in, no_desks, open, right, text_of};
+use super::base::{Begun, assert_lines, assert_sound, begin_in, no_desks, open, right};
 use bl_disk::device::Device;
-use bl_disk::memory::Memory;
+use bl_disk::memory::{Memory, Moment};
 use bl_gate::gate::Gate;
 use bl_gate::pass::Pass;
+use bl_hall::hall::Hall;
 use bl_keeper::keep::Keep;
 use bl_keeper::keeper::Keeper;
 use bl_keeper::which::Which;
@@ -88,6 +89,17 @@ fn keep_both<
     (journal, one)
 }
 
+/// A file has what two threads did, and nothing that is not kept.
+fn assert_all_kept<R: AllocGlobal + Abort>(rt: &R, file: &Moment) {
+    assert_lines(rt, file.kept.as_slice(), 2 * TIMES);
+    assert!(rt; file.loose.is_empty());
+}
+
+/// In a hall two threads did so much.
+fn assert_events(rt: &impl Abort, hall: &Hall) {
+    assert!(rt; hall.trail().len() == 2 * TIMES);
+}
+
 /// Each of two threads opens sessions, and has each kept before it goes on: at the end the file has all of them, in the
 /// order of the trail.
 #[test]
@@ -98,9 +110,10 @@ fn all_is_kept_that_two_threads_did(rt: HostRuntime) {
         journal,
     } = begin_in(&rt, Memory::new(rt.alloc(), Vec::new(rt.alloc())));
     let (journal, pass) = keep_both::<Brand, _, _>(&rt, &gate, pass, journal);
-    let text = text_of(&rt, 2 * TIMES);
-    assert!(rt; journal.fault.is_none());
-    assert!(rt; journal.log.device.now().kept.as_slice() == text.as_slice());
-    assert!(rt; journal.log.device.now().loose.is_empty());
-    assert!(rt; gate.close(pass).trail().len() == 2 * TIMES);
+    assert_sound(&rt, &journal);
+    assert_all_kept(&rt, journal.log.device.now());
+    drop(journal);
+    let hall = gate.close(pass);
+    assert_events(&rt, &hall);
+    drop(hall);
 }

@@ -1,4 +1,6 @@
 //! A run of `serve` with clients beside it, and marks for which a thread waits.
+ghost use Rattle.std.specs.Prelude.{◌≡◌, Ok};
+
 use bl_host::entrance::Entrance;
 use bl_host::options::Options;
 use bl_keep::part::TrailFile;
@@ -8,6 +10,7 @@ use bl_worker::pause::Pause;
 use std::alloc::Global;
 use std::io::{Read, Write};
 use std::net::{Ipv4Addr, Net, Shutdown, SocketAddr, TcpListener, TcpStream};
+use std::process::Abort;
 use std::rt::Files;
 use std::sync::Wait;
 use std::sync::atomic::{AtomicU64, Ordering};
@@ -30,12 +33,22 @@ pub(crate) const BASE: &[u8] = b"ranks u c s t\ncategories nato crypto\n\
 /// The most turns for which something is held.
 const MOST_TURNS: u32 = 1_000_000;
 
-/// After each so many turns a thread that is held sleeps too. On a machine that is loaded all turns may pass, if they only yield, before
-/// another thread has had one.
+/// After each so many turns a thread that is held sleeps too. On a machine that is loaded all turns may pass, if they
+/// only yield, before another thread has had one.
 const TURNS_TO_A_NAP: u32 = 1_000;
 
 /// For how long it sleeps.
 const NAP_MILLIS: u64 = 20;
+
+/// What came where no fault may come.
+pub(crate) fn right<T, E>(rt: &impl Abort, outcome: Result<T, E>) -> T
+    ensures { outcome ≡ Ok result }
+{
+    match outcome {
+        Ok(value) => value,
+        Err(_fault) => panic!(rt; "a fault"),
+    }
+}
 
 /// A listener at some free port of this machine, and where it is.
 pub(crate) fn listen<R: Net<Listener = TcpListener, Stream = TcpStream>>(
@@ -54,7 +67,37 @@ pub(crate) fn connect<R: Net<Listener = TcpListener, Stream = TcpStream>>(
     TcpStream::connect(rt, at)
 }
 
+/// Greets as `ann`, and hears that this session is open.
+pub(crate) fn greet(stream: &mut TcpStream) -> io::Result<()> {
+    stream.write_all(b"hello ann\n")?;
+    let mut greeted = [0u8; 3];
+    stream.read_exact(&mut greeted)
+}
+
+/// Sends a client's lines, and ends its input.
+pub(crate) fn say(stream: &mut TcpStream, lines: &[u8]) -> io::Result<()> {
+    stream.write_all(lines)?;
+    stream.shutdown(Shutdown::Write)
+}
+
+/// What a client hears up to the end.
+pub(crate) fn hear(stream: &mut TcpStream, alloc: Global) -> io::Result<Vec<u8>> {
+    let mut heard = Vec::new(alloc);
+    stream.read_to_end(&mut heard)?;
+    Ok(heard)
+}
+
 /// What a client hears who sends these lines and ends its input.
+pub(crate) fn hear_after(
+    stream: &mut TcpStream,
+    alloc: Global,
+    lines: &[u8],
+) -> io::Result<Vec<u8>> {
+    say(stream, lines)?;
+    hear(stream, alloc)
+}
+
+/// The same over a connection of its own.
 pub(crate) fn converse<R: Net<Listener = TcpListener, Stream = TcpStream>>(
     rt: &R,
     alloc: Global,
@@ -62,11 +105,9 @@ pub(crate) fn converse<R: Net<Listener = TcpListener, Stream = TcpStream>>(
     lines: &[u8],
 ) -> io::Result<Vec<u8>> {
     let mut stream = connect(rt, at)?;
-    stream.write_all(lines)?;
-    stream.shutdown(Shutdown::Write)?;
-    let mut heard = Vec::new(alloc);
-    stream.read_to_end(&mut heard)?;
-    Ok(heard)
+    let heard = hear_after(&mut stream, alloc, lines);
+    drop(stream);
+    heard
 }
 
 /// How a run of `serve` ended: its status, what it told and what it said of faults.
@@ -82,6 +123,11 @@ impl Served {
     pub(crate) fn ended(&self, status: u8, said: &str) -> bool {
         self.status == status && self.said.as_slice() == said.as_bytes()
     }
+}
+
+/// Asserts that a run of `serve` ended with this status, and with these words on faults.
+pub(crate) fn assert_ended(rt: &impl Abort, served: &Served, status: u8, said: &str) {
+    assert!(rt; served.ended(status, said));
 }
 
 /// A run of `serve` over the base setup.

@@ -1,7 +1,7 @@
 //! Sessions of one thread, of which one waits for the journal.
 ghost use Rattle.std.specs.Prelude.{◌≡◌, false};
 
-use super::base::{BASE, Served, connect, listen};
+use super::base::{BASE, Served, assert_ended, connect, greet, hear, listen, right, say};
 use super::held::{Held, Marks};
 use bl_alone::run::{Recorded, RecordedFile};
 use bl_disk_tests::torn::Torn;
@@ -12,15 +12,14 @@ use bl_serving::begin::Start;
 use bl_serving::run::{ServingRun, serve_recorded_on};
 use bl_setup::reader::read_setup;
 use bl_wire::watched::Watched;
-use std::alloc::{AllocGlobal, Global};
-use std::io::{Read, Write};
-use std::net::{Net, Shutdown, SocketAddr, TcpListener, TcpStream};
+use std::alloc::AllocGlobal;
+use std::net::{Net, SocketAddr, TcpListener, TcpStream};
 use std::process::Abort;
 use std::rt::Files;
 use std::sync::Wait;
+use std::thread;
 use std::thread::Threads;
 use std::time::Clock;
-use std::{io, thread};
 
 /// What each client asks once it was greeted.
 const LINES: &[u8] = b"when read note do show note; end\n";
@@ -43,30 +42,21 @@ const RUN: ServingRun = ServingRun {
 };
 
 /// A connection whose session is open, as its client has heard.
-fn greet<R: Net<Listener = TcpListener, Stream = TcpStream>>(
+fn enter<R: Abort + Net<Listener = TcpListener, Stream = TcpStream>>(
     rt: &R,
     at: SocketAddr,
-) -> io::Result<TcpStream> {
-    let mut stream = connect(rt, at)?;
-    stream.write_all(b"hello ann\n")?;
-    let mut greeted = [0u8; 3];
-    stream.read_exact(&mut greeted)?;
-    Ok(stream)
+) -> TcpStream {
+    let mut stream = right(rt, connect(rt, at));
+    right(rt, greet(&mut stream));
+    stream
 }
 
-/// Sends a client's lines, and ends its input.
-fn ask(stream: &mut TcpStream) -> io::Result<()> {
-    stream.write_all(LINES)?;
-    stream.shutdown(Shutdown::Write)
-}
-
-/// What a client hears until its session is over; nothing where it has left.
-fn hear(alloc: Global, stream: Option<TcpStream>) -> io::Result<Vec<u8>> {
-    let mut heard = Vec::new(alloc);
-    if let Some(mut stream) = stream {
-        stream.read_to_end(&mut heard)?;
-    }
-    Ok(heard)
+/// What a client hears until its session is over.
+fn hear_all<R: AllocGlobal + Abort>(rt: &R, stream: TcpStream) -> Vec<u8> {
+    let mut stream = stream;
+    let heard = right(rt, hear(&mut stream, rt.alloc()));
+    drop(stream);
+    heard
 }
 
 /// What the first of two clients does while it waits for the journal.
@@ -76,52 +66,59 @@ enum First {
     Leaves,
 }
 
-/// The first client asks, and stays or leaves once it waits for the journal.
-fn ask_first(mut one: TcpStream, marks: &Marks, first: First) -> io::Result<Option<TcpStream>> {
+/// The first client asks, and waits for the journal.
+fn ask_first(rt: &impl Abort, one: &mut TcpStream, marks: &Marks) {
     marks.hold();
-    ask(&mut one)?;
+    right(rt, say(one, LINES));
     marks.is_held();
+}
+
+/// What the first client hears, once the second has asked; nothing where it has left before that.
+fn hear_first<R: AllocGlobal + Abort>(
+    rt: &R,
+    one: TcpStream,
+    two: &mut TcpStream,
+    first: First,
+) -> Vec<u8> {
     match first {
-        First::Stays => Ok(Some(one)),
+        First::Stays => {
+            right(rt, say(two, LINES));
+            hear_all(rt, one)
+        }
         First::Leaves => {
             drop(one);
-            Ok(None)
+            right(rt, say(two, LINES));
+            Vec::new(rt.alloc())
         }
     }
 }
 
 /// What two clients hear, of whom the second asks while the first waits for the journal.
-fn visit<R: Net<Listener = TcpListener, Stream = TcpStream>>(
+fn visit<R: AllocGlobal + Abort + Net<Listener = TcpListener, Stream = TcpStream>>(
     rt: &R,
-    alloc: Global,
     at: SocketAddr,
     marks: &Marks,
     first: First,
-) -> io::Result<(Vec<u8>, Vec<u8>)> {
-    let one = greet(rt, at)?;
-    let mut two = greet(rt, at)?;
-    let one = ask_first(one, marks, first)?;
-    ask(&mut two)?;
-    Ok((hear(alloc, one)?, hear(alloc, Some(two))?))
+) -> (Vec<u8>, Vec<u8>) {
+    let mut one = enter(rt, at);
+    let mut two = enter(rt, at);
+    ask_first(rt, &mut one, marks);
+    let heard = hear_first(rt, one, &mut two, first);
+    (heard, hear_all(rt, two))
 }
 
 /// A file of which so many syncs succeed.
 fn file<'a, R: AllocGlobal + Abort>(rt: &R, syncs: usize, marks: &'a Marks) -> Held<'a>
     ensures { result.torn.failed ≡ false }
 {
-    match Torn::new(rt.alloc(), b"", 100_000, syncs) {
-        Ok(torn) => Held::new(torn, marks),
-        Err(_refused) => panic!(rt; "no memory"),
-    }
+    Held::new(right(rt, Torn::new(rt.alloc(), b"", 100_000, syncs)), marks)
 }
 
 /// What a run over the base setup starts from, with a file of which so many syncs succeed.
 fn begin<'a, R: AllocGlobal + Abort>(rt: &R, syncs: usize, marks: &'a Marks) -> Start<Held<'a>>
     ensures { result.device.torn.failed ≡ false }
 {
-    let Ok(setup) = read_setup(rt.alloc(), BASE) else {
-        panic!(rt; "no setup");
-    };
+    let setup = right(rt, read_setup(rt.alloc(), BASE));
     Start {
         setup,
         device: file(rt, syncs, marks),
@@ -155,18 +152,20 @@ where
         pause: marks,
         log: None,
     };
+    let entrance = Entrance::Port(listener);
     let mut writer = Watched::new(Vec::new(rt.alloc()));
     let mut errors = Watched::new(Vec::new(rt.alloc()));
-    let recorded = serve_recorded_on(
+    let status = status_of(serve_recorded_on(
         &run_context,
-        &Entrance::Port(listener),
+        &entrance,
         &RUN,
         begin(rt, syncs, marks),
         &mut writer,
         &mut errors,
-    );
+    ));
+    drop(entrance);
     Served {
-        status: status_of(recorded),
+        status,
         told: writer.into_inner(),
         said: errors.into_inner(),
     }
@@ -175,7 +174,7 @@ where
 /// What two clients heard, and how the run ended that served them.
 #[derive(Drop)]
 struct Came {
-    heard: io::Result<(Vec<u8>, Vec<u8>)>,
+    heard: (Vec<u8>, Vec<u8>),
     served: Served,
 }
 
@@ -193,23 +192,19 @@ fn serve_two<
 where
     R::File: Send,
 {
-    let Ok((listener, at)) = listen(rt) else {
-        panic!(rt; "no port");
-    };
+    let (listener, at) = right(rt, listen(rt));
     let (heard, served) = thread::join(
         rt,
-        move || visit(rt, rt.alloc(), at, marks, first),
+        move || visit(rt, at, marks, first),
         || serve_with(rt, listener, marks, syncs),
     );
     Came { heard, served }
 }
 
-/// Whether the clients heard just this.
-fn are_heard(came: &Came, one: &[u8], two: &[u8]) -> bool {
-    match &came.heard {
-        Ok(heard) => heard.0.as_slice() == one && heard.1.as_slice() == two,
-        Err(_) => false,
-    }
+/// Asserts that the second client's line ran while the first waited, and that the clients heard just this.
+fn assert_heard(rt: &impl Abort, marks: &Marks, came: &Came, one: &[u8], two: &[u8]) {
+    assert!(rt; marks.was_seen());
+    assert!(rt; came.heard.0.as_slice() == one && came.heard.1.as_slice() == two);
 }
 
 /// While the first session waits for the journal, the thread hears the second and runs what it asks; both are answered
@@ -218,22 +213,21 @@ fn are_heard(came: &Came, one: &[u8], two: &[u8]) -> bool {
 fn a_thread_goes_on_while_a_session_waits(rt: HostRuntime) {
     let marks = Marks::new(rt);
     let came = serve_two(&rt, &marks, 1_000, First::Stays);
-    assert!(rt; marks.was_seen());
-    assert!(rt; are_heard(&came, REPLIES, REPLIES));
-    assert!(rt; came.served.ended(0, ""));
+    assert_heard(&rt, &marks, &came, REPLIES, REPLIES);
+    assert_ended(&rt, &came.served, 0, "");
     drop(came);
 }
 
 /// The sync for which the first session waits fails, while the second goes on: both learn it, and hear nothing more.
-/// The head of the file takes two syncs, and each greeting one.
+/// Which of them is told first is not said. The head of the file takes two syncs, and each greeting one.
 #[test]
 fn all_learn_that_wait_where_a_file_fails(rt: HostRuntime) {
-    let said = "session 1: not kept\nsession 2: not kept\ntrail cut short\n";
+    let in_order = "session 1: not kept\nsession 2: not kept\ntrail cut short\n";
+    let in_turn = "session 2: not kept\nsession 1: not kept\ntrail cut short\n";
     let marks = Marks::new(rt);
     let came = serve_two(&rt, &marks, 4, First::Stays);
-    assert!(rt; marks.was_seen());
-    assert!(rt; are_heard(&came, b"", b""));
-    assert!(rt; came.served.ended(3, said));
+    assert_heard(&rt, &marks, &came, b"", b"");
+    assert!(rt; came.served.ended(3, in_order) || came.served.ended(3, in_turn));
     drop(came);
 }
 
@@ -242,8 +236,7 @@ fn all_learn_that_wait_where_a_file_fails(rt: HostRuntime) {
 fn a_run_ends_whose_client_has_left_while_it_waits(rt: HostRuntime) {
     let marks = Marks::new(rt);
     let came = serve_two(&rt, &marks, 1_000, First::Leaves);
-    assert!(rt; marks.was_seen());
-    assert!(rt; are_heard(&came, b"", REPLIES));
+    assert_heard(&rt, &marks, &came, b"", REPLIES);
     assert!(rt; came.served.status == 0);
     drop(came);
 }

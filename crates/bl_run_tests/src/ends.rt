@@ -1,9 +1,11 @@
 //! Sessions that end early, and trails that cannot be kept.
-use super::base::{Served, clear, connect, converse, listen, serve, two_of_each};
+use super::base::{
+    Served, assert_ended, clear, connect, converse, listen, right, say, serve, two_of_each,
+};
 use bl_worker::pause::NoPause;
 use std::alloc::{AllocError, AllocGlobal, Global};
 use std::io::{Read, Write};
-use std::net::{Net, Shutdown, SocketAddr, TcpListener, TcpStream};
+use std::net::{Net, SocketAddr, TcpListener, TcpStream};
 use std::process::Abort;
 use std::rt::Files;
 use std::sync::Wait;
@@ -22,6 +24,15 @@ enum Visit<'a> {
     Resets,
 }
 
+/// What a client hears up to the end or to where its connection fails, who sends these bytes and ends its input.
+fn hear_some(stream: &mut TcpStream, alloc: Global, bytes: &[u8]) -> io::Result<Vec<u8>> {
+    say(stream, bytes)?;
+    let mut heard = Vec::new(alloc);
+    let _ = stream.read_to_end(&mut heard);
+    Ok(heard)
+}
+
+/// The same over a connection of its own.
 fn say_too_much<R: Net<Listener = TcpListener, Stream = TcpStream>>(
     rt: &R,
     alloc: Global,
@@ -29,11 +40,9 @@ fn say_too_much<R: Net<Listener = TcpListener, Stream = TcpStream>>(
     bytes: &[u8],
 ) -> io::Result<Vec<u8>> {
     let mut stream = connect(rt, at)?;
-    stream.write_all(bytes)?;
-    stream.shutdown(Shutdown::Write)?;
-    let mut heard = Vec::new(alloc);
-    let _ = stream.read_to_end(&mut heard);
-    Ok(heard)
+    let heard = hear_some(&mut stream, alloc, bytes);
+    drop(stream);
+    heard
 }
 
 fn reset<R: Net<Listener = TcpListener, Stream = TcpStream>>(
@@ -46,19 +55,19 @@ fn reset<R: Net<Listener = TcpListener, Stream = TcpStream>>(
     stream.read_exact(&mut first)
 }
 
-/// What the client hears; none where it could not do what it does.
-fn carry_out<R: Net<Listener = TcpListener, Stream = TcpStream>>(
+/// What the client hears, who can do what it does.
+fn carry_out<R: Abort + Net<Listener = TcpListener, Stream = TcpStream>>(
     rt: &R,
     alloc: Global,
     at: SocketAddr,
     does: Visit<'_>,
-) -> Option<Vec<u8>> {
+) -> Vec<u8> {
     match does {
-        Visit::Says(bytes) => converse(rt, alloc, at, bytes).ok(),
-        Visit::SaysTooMuch(bytes) => say_too_much(rt, alloc, at, bytes).ok(),
+        Visit::Says(bytes) => right(rt, converse(rt, alloc, at, bytes)),
+        Visit::SaysTooMuch(bytes) => right(rt, say_too_much(rt, alloc, at, bytes)),
         Visit::Resets => {
-            reset(rt, at).ok()?;
-            Some(Vec::new(alloc))
+            right(rt, reset(rt, at));
+            Vec::new(alloc)
         }
     }
 }
@@ -73,14 +82,12 @@ fn serve_one<
         + Net<Listener = TcpListener, Stream = TcpStream>
         + Clock
         + Sync,
->(rt: &R, trail: &str, does: Visit<'_>) -> (Option<Vec<u8>>, Served)
+>(rt: &R, trail: &str, does: Visit<'_>) -> (Vec<u8>, Served)
 where
     R::File: Send,
 {
     let alloc = rt.alloc();
-    let Ok((listener, at)) = listen(rt) else {
-        panic!(rt; "no port");
-    };
+    let (listener, at) = right(rt, listen(rt));
     clear(rt, trail);
     let run = two_of_each(1, trail);
     let came = thread::join(
@@ -92,12 +99,16 @@ where
     came
 }
 
+/// Asserts that a run told that it listens, and nothing else.
+fn assert_told(rt: &impl Abort, served: &Served) {
+    assert!(rt; served.told.as_slice() == b"listening\n".as_slice());
+}
+
 /// A session with no first line is served to its end, and is no fault of the run.
 #[test]
 fn a_session_without_a_line_is_no_fault(rt: HostRuntime) {
     let (heard, served) = serve_one(&rt, "silent.trail", Visit::Says(b""));
-    assert!(rt; heard.is_some());
-    assert!(rt; served.ended(0, ""));
+    assert_ended(&rt, &served, 0, "");
     drop(heard);
     drop(served);
 }
@@ -106,9 +117,8 @@ fn a_session_without_a_line_is_no_fault(rt: HostRuntime) {
 #[test]
 fn a_trail_that_cannot_be_kept_is_told(rt: HostRuntime) {
     let (heard, served) = serve_one(&rt, "nowhere/silent.trail", Visit::Says(b"hello ann\n"));
-    assert!(rt; heard.is_some());
-    assert!(rt; served.ended(3, "cannot write trail\n"));
-    assert!(rt; served.told.as_slice() == b"listening\n".as_slice());
+    assert_ended(&rt, &served, 3, "cannot write trail\n");
+    assert_told(&rt, &served);
     drop(heard);
     drop(served);
 }
@@ -116,44 +126,47 @@ fn a_trail_that_cannot_be_kept_is_told(rt: HostRuntime) {
 /// A client that resets its connection: its session ends early, which is told and is no fault of the run.
 #[test]
 fn a_session_that_is_reset_is_told(rt: HostRuntime) {
-    let (gone, served) = serve_one(&rt, "reset.trail", Visit::Resets);
-    assert!(rt; gone.is_some());
-    assert!(rt; served.ended(0, "session 1: read fault\n"));
-    drop(gone);
+    let (heard, served) = serve_one(&rt, "reset.trail", Visit::Resets);
+    assert_ended(&rt, &served, 0, "session 1: read fault\n");
+    drop(heard);
     drop(served);
 }
 
-/// A greeting, a line, lines of blanks, a `wait` with which a session has read all that it may, and one byte more.
-fn long_session(alloc: Global) -> Result<Vec<u8>, AllocError> {
-    let row = vec![in alloc; b' '; 7_999]?;
-    let mut lines = Vec::from_slice(alloc, b"hello ann\nwhen read note do show note; end\n")?;
-    for _ in 0..2_097 {
-        lines.extend_from_slice(row.as_slice())?;
+/// Adds this row so many times.
+fn add_rows(lines: &mut Vec<u8>, row: &[u8], rows: u32) -> Result<(), AllocError> {
+    for _ in 0..rows {
+        lines.extend_from_slice(row)?;
         lines.push(b'\n')?;
     }
-    let rest = vec![in alloc; b' '; 1_167]?;
-    lines.extend_from_slice(rest.as_slice())?;
-    lines.extend_from_slice(b"\nwait\n\n")?;
-    Ok(lines)
+    Ok(())
 }
 
-/// Whether just this was heard.
-fn is_heard(heard: &Option<Vec<u8>>, text: &[u8]) -> bool {
-    match heard {
-        Some(heard) => heard.as_slice() == text,
-        None => false,
-    }
+/// A greeting, a line, lines of blanks, a `wait` with which a session has read all that it may, and one byte more.
+fn long_session<R: AllocGlobal + Abort>(rt: &R) -> Vec<u8> {
+    let begin = b"hello ann\nwhen read note do show note; end\n";
+    let mut lines = right(rt, Vec::from_slice(rt.alloc(), begin));
+    let row = right(rt, vec![in rt.alloc(); b' '; 7_999]);
+    right(rt, add_rows(&mut lines, &row, 2_097));
+    drop(row);
+    let rest = right(rt, vec![in rt.alloc(); b' '; 1_167]);
+    right(rt, add_rows(&mut lines, &rest, 1));
+    drop(rest);
+    right(rt, lines.extend_from_slice(b"wait\n\n"));
+    lines
+}
+
+/// Asserts that just this was heard.
+fn assert_heard(rt: &impl Abort, heard: &[u8], text: &[u8]) {
+    assert!(rt; heard == text);
 }
 
 /// A session with too many bytes ends early, and its client hears the block that was closed before.
 #[test]
 fn a_closed_block_is_heard_of_a_session_that_is_too_long(rt: HostRuntime) {
-    let Ok(lines) = long_session(rt.alloc()) else {
-        panic!(rt; "no memory");
-    };
+    let lines = long_session(&rt);
     let (heard, served) = serve_one(&rt, "long.trail", Visit::SaysTooMuch(lines.as_slice()));
-    assert!(rt; is_heard(&heard, b"ok\n1 done \"n1\"\nok\n"));
-    assert!(rt; served.ended(0, "session 1: too long\n"));
+    assert_heard(&rt, &heard, b"ok\n1 done \"n1\"\nok\n");
+    assert_ended(&rt, &served, 0, "session 1: too long\n");
     drop(heard);
     drop(served);
     drop(lines);

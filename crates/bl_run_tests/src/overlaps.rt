@@ -66,8 +66,8 @@ fn visit<R: Net<Listener = TcpListener, Stream = TcpStream>>(
     told.as_slice() == REPLIES
 }
 
-/// A client that comes once a behaviour runs. So the thread of its session cannot be the one in which the first is held, with the other
-/// session's line.
+/// A client that comes once a behaviour runs. So the thread of its session cannot be the one in which the first is
+/// held, with the other session's line.
 fn visit_later<R: Net<Listener = TcpListener, Stream = TcpStream>>(
     rt: &R,
     alloc: Global,
@@ -111,7 +111,8 @@ fn is_accepted<R: Files + AllocGlobal>(rt: &R, name: &str, words: &[u8]) -> bool
     status == 0 && verdict.into_inner().as_slice() == words
 }
 
-/// Two workers, two session threads and two sessions: the first behaviour that runs is held until the other session's client has read `bye`.
+/// Two workers, two session threads and two sessions: the first behaviour that runs is held until the other session's
+/// client has read `bye`.
 #[test]
 fn tcp_overlap(rt: HostRuntime) {
     let alloc = rt.alloc();

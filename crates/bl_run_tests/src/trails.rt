@@ -1,5 +1,5 @@
 //! Trail files: under which name a trail stands at the end of a run, and what stands beside it.
-use super::base::BASE;
+use super::base::{BASE, right};
 use super::failing::FailingFiles;
 use bl_keep::part::TrailFile;
 use bl_run::alone::alone_kept_on;
@@ -78,17 +78,16 @@ fn clear<R: Files>(rt: &R, names: &[&str]) {
     }
 }
 
-/// Whether the file of this name has just these bytes.
-fn has<R: Files + AllocGlobal>(rt: &R, name: &str, bytes: &[u8]) -> bool {
-    match fs::read(rt, name) {
-        Ok(found) => found.as_slice() == bytes,
-        Err(_) => false,
-    }
+/// Asserts that the file of this name has just these bytes.
+fn assert_file<R: Files + AllocGlobal + Abort>(rt: &R, name: &str, bytes: &[u8]) {
+    let found = right(rt, fs::read(rt, name));
+    assert!(rt; found.as_slice() == bytes, "{name}");
+    drop(found);
 }
 
-/// Whether nothing stands under this name.
-fn is_missing<R: Files>(rt: &R, name: &str) -> bool {
-    fs::symlink_metadata(rt, name).is_err()
+/// Asserts that nothing stands under this name.
+fn assert_missing<R: Files + Abort>(rt: &R, name: &str) {
+    assert!(rt; fs::symlink_metadata(rt, name).is_err(), "{name}");
 }
 
 /// Makes a file with this text.
@@ -112,42 +111,59 @@ fn remove_folder<R: Files + Abort>(rt: &R, name: &str) {
     assert!(rt; fs::remove_dir(rt, name).is_ok(), "{name}");
 }
 
-/// Whether a session with this trail file was served, with nothing said, and its trail stands under the file's name.
-fn is_kept<R: Files + AllocGlobal>(rt: &R, trail: TrailFile<'_>) -> bool {
+/// Asserts that a session with the trail file of this name ended with this status, and with these words.
+fn assert_sat(rt: &impl Abort, name: &str, sat: &Sat, status: u8, said: &str) {
+    assert!(rt;
+        sat.status == status && sat.said.as_slice() == said.as_bytes(),
+        "{name}"
+    );
+}
+
+/// Asserts that just this was written in a session.
+fn assert_written(rt: &impl Abort, sat: &Sat, text: &[u8]) {
+    assert!(rt; sat.written.as_slice() == text);
+}
+
+/// Asserts that a session with this trail file was served, with nothing said, and that its trail stands under the
+/// file's name.
+fn assert_kept<R: Files + AllocGlobal + Abort>(rt: &R, trail: TrailFile<'_>) {
     let name = trail.name;
     let sat = sit(rt, rt.alloc(), trail);
-    let is_kept = sat.status == 0 && sat.said.is_empty() && has(rt, name, TRAIL);
+    assert_sat(rt, name, &sat, 0, "");
     drop(sat);
-    is_kept
+    assert_file(rt, name, TRAIL);
 }
 
-/// Whether a session with this trail file was served and its trail was not kept, with these words and the trail left in
-/// this file.
-fn is_left<R: Files + AllocGlobal>(rt: &R, trail: TrailFile<'_>, said: &str, part: &str) -> bool {
+/// Asserts that a session with this trail file was served and that its trail was not kept, with these words and the
+/// trail left in this file.
+fn assert_left<R: Files + AllocGlobal + Abort>(
+    rt: &R,
+    trail: TrailFile<'_>,
+    said: &str,
+    part: &str,
+) {
+    let name = trail.name;
     let sat = sit(rt, rt.alloc(), trail);
-    let is_left = sat.status == 3
-        && sat.written.as_slice() == b"ok\n1 done \"m1\"\nbye\n".as_slice()
-        && sat.said.as_slice() == said.as_bytes()
-        && has(rt, part, TRAIL);
+    assert_written(rt, &sat, b"ok\n1 done \"m1\"\nbye\n");
+    assert_sat(rt, name, &sat, 3, said);
     drop(sat);
-    is_left
+    assert_file(rt, part, TRAIL);
 }
 
-/// Whether a session with this trail file was not served, since the trail cannot be kept.
-fn is_refused<R: Files + AllocGlobal>(rt: &R, trail: TrailFile<'_>) -> bool {
+/// Asserts that a session with this trail file was not served, since the trail cannot be kept.
+fn assert_refused<R: Files + AllocGlobal + Abort>(rt: &R, trail: TrailFile<'_>) {
+    let name = trail.name;
     let sat = sit(rt, rt.alloc(), trail);
-    let is_refused = sat.status == 3
-        && sat.written.is_empty()
-        && sat.said.as_slice() == b"cannot write trail\n".as_slice();
+    assert_written(rt, &sat, b"");
+    assert_sat(rt, name, &sat, 3, "cannot write trail\n");
     drop(sat);
-    is_refused
 }
 
 #[test]
 fn a_trail_takes_its_name(rt: HostRuntime) {
     clear(&rt, &["takes.trail", "takes.trail.part"]);
-    assert!(rt; is_kept(&rt, plain("takes.trail")));
-    assert!(rt; is_missing(&rt, "takes.trail.part"));
+    assert_kept(&rt, plain("takes.trail"));
+    assert_missing(&rt, "takes.trail.part");
     clear(&rt, &["takes.trail"]);
 }
 
@@ -155,7 +171,7 @@ fn a_trail_takes_its_name(rt: HostRuntime) {
 #[test]
 fn a_trail_is_its_owners(rt: HostRuntime) {
     clear(&rt, &["owned.trail", "owned.trail.part"]);
-    assert!(rt; is_kept(&rt, plain("owned.trail")));
+    assert_kept(&rt, plain("owned.trail"));
     let mode = fs::metadata(&rt, "owned.trail").map_or(0, |found| found.mode());
     assert!(rt; mode & 0o777 == 0o600);
     clear(&rt, &["owned.trail"]);
@@ -166,11 +182,8 @@ fn stays<R: Files + AllocGlobal + Abort>(rt: &R, text: &str) {
     let names = ["stands.trail", "stands.trail.part"];
     let said = "cannot write trail\nthe whole trail is in stands.trail.part\n";
     put(rt, "stands.trail", text);
-    assert!(rt;
-        is_left(rt, plain("stands.trail"), said, "stands.trail.part"),
-        "at {text}"
-    );
-    assert!(rt; has(rt, "stands.trail", text.as_bytes()), "at {text}");
+    assert_left(rt, plain("stands.trail"), said, "stands.trail.part");
+    assert_file(rt, "stands.trail", text.as_bytes());
     clear(rt, &names);
 }
 
@@ -183,8 +196,8 @@ fn what_stands_stays(rt: HostRuntime) {
     stays(&rt, "ranks u\n");
     stays(&rt, "trail 1\nlimit 1\nstop\n");
     link(&rt, "nowhere.trail", "stands.trail");
-    assert!(rt; is_left(&rt, plain("stands.trail"), said, "stands.trail.part"));
-    assert!(rt; is_missing(&rt, "nowhere.trail"));
+    assert_left(&rt, plain("stands.trail"), said, "stands.trail.part");
+    assert_missing(&rt, "nowhere.trail");
     clear(&rt, &names);
 }
 
@@ -194,14 +207,12 @@ fn a_folder_stays(rt: HostRuntime) {
     let said_again = "cannot write trail\nthe whole trail is in folder.trail.part.2\n";
     clear(&rt, &["folder.trail.part"]);
     make_folder(&rt, "folder.trail");
-    assert!(rt; is_left(&rt, plain("folder.trail"), said, "folder.trail.part"));
-    assert!(rt;
-        is_left(
-            &rt,
-            replacing("folder.trail"),
-            said_again,
-            "folder.trail.part.2"
-        )
+    assert_left(&rt, plain("folder.trail"), said, "folder.trail.part");
+    assert_left(
+        &rt,
+        replacing("folder.trail"),
+        said_again,
+        "folder.trail.part.2",
     );
     remove_folder(&rt, "folder.trail");
     clear(&rt, &["folder.trail.part", "folder.trail.part.2"]);
@@ -221,10 +232,10 @@ fn a_taken_part_is_passed_over(rt: HostRuntime) {
     put(&rt, "bait", "bait");
     link(&rt, "bait", "busy.trail.part");
     put(&rt, "busy.trail.part.2", "other");
-    assert!(rt; is_kept(&rt, plain("busy.trail")));
-    assert!(rt; has(&rt, "bait", b"bait"));
-    assert!(rt; has(&rt, "busy.trail.part.2", b"other"));
-    assert!(rt; is_missing(&rt, "busy.trail.part.3"));
+    assert_kept(&rt, plain("busy.trail"));
+    assert_file(&rt, "bait", b"bait");
+    assert_file(&rt, "busy.trail.part.2", b"other");
+    assert_missing(&rt, "busy.trail.part.3");
     clear(&rt, &names);
 }
 
@@ -235,11 +246,11 @@ fn a_trail_alone_is_replaced(rt: HostRuntime) {
     let said = "cannot write trail\nthe whole trail is in old.trail.part\n";
     clear(&rt, &names);
     put(&rt, "old.trail", "trail 1\nlimit 1\nstop\n");
-    assert!(rt; is_kept(&rt, replacing("old.trail")));
-    assert!(rt; is_missing(&rt, "old.trail.part"));
+    assert_kept(&rt, replacing("old.trail"));
+    assert_missing(&rt, "old.trail.part");
     put(&rt, "old.trail", "ranks u\n");
-    assert!(rt; is_left(&rt, replacing("old.trail"), said, "old.trail.part"));
-    assert!(rt; has(&rt, "old.trail", b"ranks u\n"));
+    assert_left(&rt, replacing("old.trail"), said, "old.trail.part");
+    assert_file(&rt, "old.trail", b"ranks u\n");
     clear(&rt, &names);
 }
 
@@ -250,11 +261,11 @@ fn a_claim_is_told_first(rt: HostRuntime) {
     clear(&rt, &names);
     put(&rt, "claimed.trail", "trail 1\nlimit 1\nstop\n");
     for name in ["claimed.trail", "nowhere/claimed.trail", ""] {
-        assert!(rt; is_refused(&rt, claiming(name)), "at {name}");
+        assert_refused(&rt, claiming(name));
     }
-    assert!(rt; is_missing(&rt, "claimed.trail.part"));
+    assert_missing(&rt, "claimed.trail.part");
     clear(&rt, &names);
-    assert!(rt; is_kept(&rt, claiming("claimed.trail")));
+    assert_kept(&rt, claiming("claimed.trail"));
     clear(&rt, &names);
 }
 
@@ -262,7 +273,7 @@ fn a_claim_is_told_first(rt: HostRuntime) {
 fn long_name<R: AllocGlobal + Abort>(rt: &R, length: usize) -> String {
     let mut name = String::new(rt.alloc());
     for _ in 0..length {
-        assert!(rt; name.push('n').is_ok());
+        right(rt, name.push('n'));
     }
     name
 }
@@ -271,7 +282,7 @@ fn long_name<R: AllocGlobal + Abort>(rt: &R, length: usize) -> String {
 fn takes_name<R: Files + AllocGlobal + Abort>(rt: &R, length: usize) {
     let name = long_name(rt, length);
     clear(rt, &[name.as_str()]);
-    assert!(rt; is_kept(rt, plain(name.as_str())), "at {length}");
+    assert_kept(rt, plain(name.as_str()));
     clear(rt, &[name.as_str()]);
     drop(name);
 }
@@ -288,7 +299,7 @@ fn a_long_name_is_cut_for_its_part(rt: HostRuntime) {
 fn joined<R: AllocGlobal + Abort>(rt: &R, parts: &[&str]) -> String {
     let mut text = String::new(rt.alloc());
     for part in parts {
-        assert!(rt; text.push_str(part).is_ok());
+        right(rt, text.push_str(part));
     }
     text
 }
@@ -303,7 +314,7 @@ fn is_cut_in_its_folder<R: Files + AllocGlobal + Abort>(
     let _ = fs::create_dir(rt, "long.folder");
     clear(rt, &[name, part]);
     put(rt, name, "other");
-    assert!(rt; is_left(rt, plain(name), said, part));
+    assert_left(rt, plain(name), said, part);
     clear(rt, &[name, part]);
     remove_folder(rt, "long.folder");
 }
@@ -329,12 +340,17 @@ fn a_long_name_is_cut_in_its_folder(rt: HostRuntime) {
     drop(said);
 }
 
-/// Whether a session whose trail's file has room for so many bytes was served, with these words.
-fn is_cut_short(rt: &HostRuntime, room: usize, trail: TrailFile<'_>, said: &str) -> bool {
+/// Asserts that a session whose trail's file has room for so many bytes was served, with these words.
+fn assert_cut_short<R: Files + AllocGlobal + Abort>(
+    rt: &R,
+    room: usize,
+    trail: TrailFile<'_>,
+    said: &str,
+) {
+    let name = trail.name;
     let sat = sit(&FailingFiles { rt, room }, rt.alloc(), trail);
-    let is_cut = sat.status == 3 && sat.said.as_slice() == said.as_bytes();
+    assert_sat(rt, name, &sat, 3, said);
     drop(sat);
-    is_cut
 }
 
 /// A file that fails in the middle of a trail: what was written stays, and is told; the name stays free.
@@ -343,8 +359,8 @@ fn a_trail_is_cut_short(rt: HostRuntime) {
     let names = ["cut.trail", "cut.trail.part"];
     let said = "cannot write trail\nthe trail is cut short in cut.trail.part\n";
     clear(&rt, &names);
-    assert!(rt; is_cut_short(&rt, 20, plain("cut.trail"), said));
-    assert!(rt; has(&rt, "cut.trail.part", b"trail 2\nlimit 10000\n"));
-    assert!(rt; is_missing(&rt, "cut.trail"));
+    assert_cut_short(&rt, 20, plain("cut.trail"), said);
+    assert_file(&rt, "cut.trail.part", b"trail 2\nlimit 10000\n");
+    assert_missing(&rt, "cut.trail");
     clear(&rt, &names);
 }

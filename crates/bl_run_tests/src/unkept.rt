@@ -1,7 +1,7 @@
 //! A server that can keep no more.
 ghost use Rattle.std.specs.Prelude.{◌≡◌, ◌<◌};
 
-use super::base::{BASE, connect, listen};
+use super::base::{BASE, connect, greet, hear_after, listen, right};
 use bl_disk::device::DeviceError;
 use bl_entrance::acceptor::SharedLog;
 use bl_gate::gate::Gate;
@@ -18,8 +18,7 @@ use bl_record::fault::JournalFault;
 use bl_setup::reader::read_setup;
 use bl_worker::pause::NoPause;
 use std::alloc::{AllocGlobal, Global};
-use std::io::{Read, Write};
-use std::net::{Net, Shutdown, SocketAddr, TcpListener, TcpStream};
+use std::net::{Net, SocketAddr, TcpListener, TcpStream};
 use std::process::Abort;
 use std::rt::Files;
 use std::sync::Wait;
@@ -158,34 +157,45 @@ fn host_three<R: AllocGlobal + Abort + Threads + Wait + Files + Net + Clock + Sy
 where
     R::File: Send,
 {
-    let alloc = rt.alloc();
-    let Ok(setup) = read_setup(alloc, BASE) else {
-        panic!(rt; "no setup");
-    };
-    let Ok(hall) = Hall::new(alloc, setup, 10_000) else {
-        panic!(rt; "no hall");
-    };
-    let Ok((gate, pass)) = Gate::new(hall) else {
-        panic!(rt; "no gate");
-    };
-    host_at(rt, &gate, pass, listener, keep)
+    let setup = right(rt, read_setup(rt.alloc(), BASE));
+    let hall = right(rt, Hall::new(rt.alloc(), setup, 10_000));
+    let (gate, pass) = right(rt, Gate::new(hall));
+    let left = host_at(rt, &gate, pass, listener, keep);
+    drop(gate);
+    left
 }
 
-/// Greets, and once that is answered asks for more; what is heard after the answer.
+/// What a client hears who greets, and once that is answered asks for more.
+fn ask_more(stream: &mut TcpStream, alloc: Global) -> io::Result<Vec<u8>> {
+    greet(stream)?;
+    hear_after(stream, alloc, b"when read memo do show memo; end\nwait\n")
+}
+
+/// The same over a connection of its own.
 fn ask<R: Net<Listener = TcpListener, Stream = TcpStream>>(
     rt: &R,
     alloc: Global,
     at: SocketAddr,
 ) -> io::Result<Vec<u8>> {
     let mut stream = connect(rt, at)?;
-    stream.write_all(b"hello ann\n")?;
-    let mut greeted = [0u8; 3];
-    stream.read_exact(&mut greeted)?;
-    stream.write_all(b"when read memo do show memo; end\nwait\n")?;
-    stream.shutdown(Shutdown::Write)?;
-    let mut heard = Vec::new(alloc);
-    stream.read_to_end(&mut heard)?;
-    Ok(heard)
+    let heard = ask_more(&mut stream, alloc);
+    drop(stream);
+    heard
+}
+
+/// Asserts that all threads were started, that all parts came back, and that the first session alone ended early, since
+/// it was not kept.
+fn assert_left(rt: &impl Abort, left: &Left) {
+    assert!(rt; left.whole);
+    assert_eq!(rt; left.parts, 64);
+    assert_eq!(rt; left.ended.len(), 1);
+    assert!(rt; left.ended[0].session == 1);
+    assert!(rt; left.ended[0].why == Why::NotKept);
+}
+
+/// Asserts that nothing was heard.
+fn assert_unheard(rt: &impl Abort, heard: &[u8]) {
+    assert!(rt; heard.is_empty());
 }
 
 /// What was kept is told, and no more. No further connection is taken then, so the server ends, though two more were
@@ -193,9 +203,7 @@ fn ask<R: Net<Listener = TcpListener, Stream = TcpStream>>(
 #[test]
 fn what_is_not_kept_is_not_told(rt: HostRuntime) {
     let alloc = rt.alloc();
-    let Ok((listener, at)) = listen(&rt) else {
-        panic!(rt; "no port");
-    };
+    let (listener, at) = right(&rt, listen(&rt));
     let keep = Once {
         asked: AtomicU64::new(0),
     };
@@ -205,13 +213,9 @@ fn what_is_not_kept_is_not_told(rt: HostRuntime) {
         move || ask(handle, alloc, at),
         || host_three(handle, listener, &keep),
     );
-    let Ok(heard) = heard else {
-        panic!(rt; "not greeted");
-    };
-    assert!(rt; heard.is_empty());
-    assert!(rt; left.whole);
-    assert_eq!(rt; left.parts, 64);
-    assert_eq!(rt; left.ended.len(), 1);
-    assert!(rt; left.ended[0].session == 1);
-    assert!(rt; left.ended[0].why == Why::NotKept);
+    let heard = right(&rt, heard);
+    assert_unheard(&rt, &heard);
+    assert_left(&rt, &left);
+    drop(heard);
+    drop(left);
 }

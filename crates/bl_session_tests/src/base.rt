@@ -1,13 +1,14 @@
 //! The setup of the worked examples, and sessions over it.
-ghost use Rattle.std.specs.Prelude.{◌≤◌};
+ghost use Rattle.std.specs.Prelude.{◌≡◌, ◌≤◌, Ok};
 
 use bl_session::alone::serve_alone;
 use bl_setup::reader::read_setup;
 use bl_setup::setup::Setup;
+use bl_wire::fault::SessionFault;
 use bl_wire::watched::Watched;
 use std::alloc::{AllocError, Global};
+use std::io::{BufRead, Write};
 use std::process::Abort;
-use std::test::Fail;
 
 /// The behaviour that reads the memo and shows it.
 pub const SHOW_MEMO: &str = "when read memo do show memo; end";
@@ -45,15 +46,30 @@ pub fn joined(alloc: Global, texts: &[&str]) -> Result<Vec<u8>, AllocError> {
     Ok(bytes)
 }
 
+/// What came where no fault may come.
+pub fn right<T, E>(rt: &impl Abort, outcome: Result<T, E>) -> T
+    ensures { outcome ≡ Ok result }
+{
+    match outcome {
+        Ok(value) => value,
+        Err(_fault) => panic!(rt; "a fault"),
+    }
+}
+
 /// The base setup, with this content of the note.
-pub fn setup_with(alloc: Global, note: &str) -> Result<Setup, Fail> {
-    let text = joined(alloc, [BEFORE_NOTE, note, BEHIND_NOTE].as_slice())?;
-    Ok(read_setup(alloc, &text)?)
+pub fn setup_with<R: AllocGlobal + Abort>(rt: &R, note: &str) -> Setup {
+    let text = right(
+        rt,
+        joined(rt.alloc(), [BEFORE_NOTE, note, BEHIND_NOTE].as_slice()),
+    );
+    let setup = right(rt, read_setup(rt.alloc(), &text));
+    drop(text);
+    setup
 }
 
 /// The base setup.
-pub fn base(alloc: Global) -> Result<Setup, Fail> {
-    setup_with(alloc, "n1")
+pub fn base<R: AllocGlobal + Abort>(rt: &R) -> Setup {
+    setup_with(rt, "n1")
 }
 
 /// The base setup, with these lines after it; none where a growth is refused.
@@ -62,27 +78,51 @@ pub fn setup_or_none(alloc: Global, more: &str) -> Option<Setup> {
     read_setup(alloc, &text).ok()
 }
 
-/// Serves the input over a setup. The bytes that were written, and how many were left unread; none where the session
-/// did not end well.
-fn served(alloc: Global, setup: Setup, limit: u32, input: &[u8]) -> Option<(Vec<u8>, usize)>
+/// How a session ended: its result, which end has failed, and both ends.
+#[derive(Drop)]
+pub struct Ended<R, W> {
+    pub result: Result<(), SessionFault>,
+    pub read_failed: bool,
+    pub write_failed: bool,
+    pub reader: R,
+    pub writer: W,
+}
+
+/// Serves a session over a setup, from one end to the other.
+pub fn serve<R: BufRead, W: Write>(
+    alloc: Global,
+    setup: Setup,
+    limit: u32,
+    input: R,
+    output: W,
+) -> Ended<R, W>
     requires some { 1 ≤ limit }
     requires most { limit ≤ 100000 }
 {
     let mut reader = Watched::new(input);
-    let mut writer = Watched::new(Vec::new(alloc));
-    serve_alone(alloc, setup, limit, &mut reader, &mut writer).ok()?;
-    Some((writer.into_inner(), reader.into_inner().len()))
+    let mut writer = Watched::new(output);
+    let result = serve_alone(alloc, setup, limit, &mut reader, &mut writer);
+    Ended {
+        result,
+        read_failed: reader.failed(),
+        write_failed: writer.failed(),
+        reader: reader.into_inner(),
+        writer: writer.into_inner(),
+    }
 }
 
 /// Asserts that these bytes are this text.
-fn assert_text(rt: &impl Abort, written: Vec<u8>, text: &str) {
-    match String::from_utf8(written) {
-        Ok(said) => {
-            assert_eq!(rt; said.as_str(), text);
-            drop(said);
-        }
+fn assert_text(rt: &impl Abort, written: &[u8], text: &str) {
+    match str::from_utf8(written) {
+        Ok(said) => assert_eq!(rt; said, text),
         Err(_) => panic!(rt; "no text"),
     }
+}
+
+/// Asserts that a session ended well, and that this text was written in it.
+fn assert_told(rt: &impl Abort, ended: &Ended<&[u8], Vec<u8>>, text: &str) {
+    assert!(rt; ended.result == Ok(()), "no session");
+    assert_text(rt, ended.writer.as_slice(), text);
 }
 
 /// Asserts what is written to this input over a setup, and gives how many of its bytes were left unread.
@@ -96,13 +136,11 @@ pub fn assert_served<R: AllocGlobal + Abort>(
     requires some { 1 ≤ limit }
     requires most { limit ≤ 100000 }
 {
-    match served(rt.alloc(), setup, limit, input) {
-        Some((written, left)) => {
-            assert_text(rt, written, output);
-            left
-        }
-        None => panic!(rt; "no session"),
-    }
+    let ended = serve(rt.alloc(), setup, limit, input, Vec::new(rt.alloc()));
+    assert_told(rt, &ended, output);
+    let left = ended.reader.len();
+    drop(ended);
+    left
 }
 
 /// Asserts what is written to this input over the base setup with these lines after it, under a limit.

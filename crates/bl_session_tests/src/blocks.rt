@@ -1,6 +1,6 @@
 //! The replies of each block, and what stays from one block to the next.
-use crate::base::{assert_said, assert_served, joined, setup_with};
-use std::test::Fail;
+use crate::base::{assert_said, assert_served, joined, right, setup_with};
+use std::process::Abort;
 
 /// The second block has its own replies alone, and finds what the first one left.
 #[test]
@@ -38,30 +38,31 @@ fn refused_lines_among_blocks(rt: HostRuntime) {
     assert_said(&rt, input, output);
 }
 
+/// A content of 65,536 bytes, the most that one may have.
+fn longest_content<R: AllocGlobal + Abort>(rt: &R) -> String {
+    let mut content = String::new(rt.alloc());
+    for _ in 0..4_096 {
+        right(rt, content.push_str("0123456789abcdef"));
+    }
+    content
+}
+
+/// What is written where this content of the note is shown twice.
+fn shown_twice<R: AllocGlobal + Abort>(rt: &R, note: &str) -> String {
+    let parts = ["ok\n1 done \"", note, "\"\n2 done \"", note, "\"\nbye\n"];
+    let bytes = right(rt, joined(rt.alloc(), parts.as_slice()));
+    right(rt, String::from_utf8(bytes))
+}
+
 /// A content of 65,536 bytes, the most that one may have, is shown twice: a block of more than 131,072 bytes is written
 /// whole, and its writer has not failed.
 #[test]
-fn long_block(rt: HostRuntime) -> Result<(), Fail> {
-    let alloc = rt.alloc();
-    let mut note = String::new(alloc);
-    for _ in 0..4_096 {
-        note.push_str("0123456789abcdef")?;
-    }
+fn long_block(rt: HostRuntime) {
+    let note = longest_content(&rt);
+    let output = shown_twice(&rt, note.as_str());
+    let setup = setup_with(&rt, note.as_str());
     let input = b"hello ann\nwhen read note do show note; end\nwhen read note do show note; end\n";
-    let parts = [
-        "ok\n1 done \"",
-        note.as_str(),
-        "\"\n2 done \"",
-        note.as_str(),
-        "\"\nbye\n",
-    ];
-    let output = String::from_utf8(joined(alloc, parts.as_slice())?)?;
-    assert_served(
-        &rt,
-        setup_with(alloc, note.as_str())?,
-        10_000,
-        input,
-        output.as_str(),
-    );
-    Ok(())
+    let _left = assert_served(&rt, setup, 10_000, input, output.as_str());
+    drop(output);
+    drop(note);
 }

@@ -1,6 +1,5 @@
 //! What a behaviour shows and leaves.
 use crate::base::{assert_said, assert_served, setup_with};
-use std::test::Fail;
 
 const CHOOSE_AND_POUR: &str = "hello ann\n\
     when read note, write memo do \
@@ -14,9 +13,8 @@ fn choose_and_pour(rt: HostRuntime) {
 }
 
 #[test]
-fn choose_and_pour_else(rt: HostRuntime) -> Result<(), Fail> {
-    let setup = setup_with(rt.alloc(), "n2")?;
+fn choose_and_pour_else(rt: HostRuntime) {
+    let setup = setup_with(&rt, "n2");
     let input = CHOOSE_AND_POUR.as_bytes();
     assert_served(&rt, setup, 10_000, input, "ok\n1 done \"no\"\nbye\n");
-    Ok(())
 }

@@ -1,13 +1,9 @@
 //! Readers and writers that fail in mid-stream.
-use crate::base::base;
-use bl_session::alone::serve_alone;
+use crate::base::{Ended, base, right, serve};
 use bl_wire::fault::SessionFault;
-use bl_wire::watched::Watched;
-use std::alloc::Global;
 use std::io;
 use std::io::{BufReader, Read, Write};
 use std::process::Abort;
-use std::test::Fail;
 
 /// A session of four lines, of which the first adds to the memo and spawns a reader.
 const INPUT: &[u8] = b"hello ann\n\
@@ -67,82 +63,83 @@ impl<W: Write> Write for FailAt<W> {
     }
 }
 
-/// How a session ended of which one read or one write fails, and what it wrote.
-#[derive(Drop)]
-struct Ended {
-    result: Result<(), SessionFault>,
-    read_failed: bool,
-    write_failed: bool,
-    written: Vec<u8>,
-}
+/// How a session ended of which one read or one write fails.
+type Broken = Ended<BufReader<FailAt<&'static [u8]>>, FailAt<Vec<u8>>>;
 
 /// Serves the session with these calls failing.
-fn serve_broken(alloc: Global, read: Option<usize>, write: Option<usize>) -> Result<Ended, Fail> {
+fn serve_broken<R: AllocGlobal + Abort>(
+    rt: &R,
+    read: Option<usize>,
+    write: Option<usize>,
+) -> Broken {
     let input = FailAt {
         inner: INPUT,
         left: read,
     };
     let output = FailAt {
-        inner: Vec::new(alloc),
+        inner: Vec::new(rt.alloc()),
         left: write,
     };
-    let mut reader = Watched::new(BufReader::new(alloc, input)?);
-    let mut writer = Watched::new(output);
-    let result = serve_alone(alloc, base(alloc)?, 10_000, &mut reader, &mut writer);
-    Ok(Ended {
-        result,
-        read_failed: reader.failed(),
-        write_failed: writer.failed(),
-        written: writer.into_inner().inner,
-    })
+    let input = right(rt, BufReader::new(rt.alloc(), input));
+    serve(rt.alloc(), base(rt), 10_000, input, output)
 }
 
 /// Whether the session ended by this fault, after it wrote a first part of what it has to.
-fn broke(ended: &Ended, fault: SessionFault) -> bool {
+fn broke(ended: &Broken, fault: SessionFault) -> bool {
+    let written = ended.writer.inner.as_slice();
     ended.result == Err(fault)
         && ended.read_failed == (fault == SessionFault::Read)
         && ended.write_failed == (fault == SessionFault::Write)
-        && ended.written.len() < OUTPUT.len()
-        && OUTPUT.starts_with(&ended.written)
+        && written.len() < OUTPUT.len()
+        && OUTPUT.starts_with(written)
 }
 
 /// Whether the session ended well, with all that it has to write.
-fn came_to_its_end(ended: &Ended) -> bool {
+fn came_to_its_end(ended: &Broken) -> bool {
     ended.result == Ok(())
         && !ended.read_failed
         && !ended.write_failed
-        && ended.written.as_slice() == OUTPUT
+        && ended.writer.inner.as_slice() == OUTPUT
 }
 
-/// How many sessions break at a read, or else at a write, until one comes to its end.
-fn breaks(alloc: Global, reads: bool) -> Result<usize, Fail> {
+/// Whether the session came to its end. Asserts that it broke by this fault where it did not.
+fn is_whole(rt: &impl Abort, ended: &Broken, fault: SessionFault) -> bool {
+    if came_to_its_end(ended) {
+        return true;
+    }
+    assert!(rt; broke(ended, fault), "another answer");
+    false
+}
+
+/// Whether the session comes to its end of which this read or else this write fails, as the fault says. Asserts that
+/// it breaks by the fault where it does not.
+fn outlasts<R: AllocGlobal + Abort>(rt: &R, k: usize, fault: SessionFault) -> bool {
+    let (read, write) = if fault == SessionFault::Read {
+        (Some(k), None)
+    } else {
+        (None, Some(k))
+    };
+    let ended = serve_broken(rt, read, write);
+    let whole = is_whole(rt, &ended, fault);
+    drop(ended);
+    whole
+}
+
+/// How many sessions break by this fault until one comes to its end.
+fn breaks<R: AllocGlobal + Abort>(rt: &R, fault: SessionFault) -> usize {
     for k in 0..100 {
-        let now = if reads {
-            serve_broken(alloc, Some(k), None)?
-        } else {
-            serve_broken(alloc, None, Some(k))?
-        };
-        if came_to_its_end(&now) {
-            return Ok(k);
-        }
-        let fault = if reads {
-            SessionFault::Read
-        } else {
-            SessionFault::Write
-        };
-        if !broke(&now, fault) {
-            return Err(Fail::new("another answer"));
+        if outlasts(rt, k, fault) {
+            return k;
         }
     }
-    Err(Fail::new("no end"))
+    panic!(rt; "no end");
 }
 
 /// There are at least as many reads and writes as the input and the output have pieces of seven bytes.
 #[test]
-fn fail_each(rt: HostRuntime) -> Result<(), Fail> {
-    assert!(rt; breaks(rt.alloc(), true)? >= 19);
-    assert!(rt; breaks(rt.alloc(), false)? >= 6);
-    Ok(())
+fn fail_each(rt: HostRuntime) {
+    assert!(rt; breaks(&rt, SessionFault::Read) >= 19);
+    assert!(rt; breaks(&rt, SessionFault::Write) >= 6);
 }
 
 /// Gives its bytes, and then fails.
@@ -160,39 +157,30 @@ impl Read for GivesThenFails<'_> {
     }
 }
 
-/// Serves a session of which reading fails behind these bytes.
-fn serve_cut(alloc: Global, bytes: &[u8]) -> Result<Ended, Fail> {
-    let mut reader = Watched::new(BufReader::new(alloc, GivesThenFails { bytes })?);
-    let mut writer = Watched::new(Vec::new(alloc));
-    let result = serve_alone(alloc, base(alloc)?, 10_000, &mut reader, &mut writer);
-    Ok(Ended {
-        result,
-        read_failed: reader.failed(),
-        write_failed: writer.failed(),
-        written: writer.into_inner(),
-    })
-}
-
 /// Asserts that reading failed, and that the session's first reply alone was written.
-fn assert_read_failed<R: Abort>(rt: &R, ended: &Ended) {
+fn assert_read_failed<I>(rt: &impl Abort, ended: &Ended<I, Vec<u8>>) {
     assert!(rt; ended.result == Err(SessionFault::Read));
     assert!(rt; ended.read_failed);
-    assert!(rt; ended.written.as_slice() == b"ok\n".as_slice());
+    assert!(rt; ended.writer.as_slice() == b"ok\n".as_slice());
+}
+
+/// Asserts the same of a session of which reading fails behind these bytes.
+fn assert_cut<R: AllocGlobal + Abort>(rt: &R, bytes: &[u8]) {
+    let input = right(rt, BufReader::new(rt.alloc(), GivesThenFails { bytes }));
+    let ended = serve(rt.alloc(), base(rt), 10_000, input, Vec::new(rt.alloc()));
+    assert_read_failed(rt, &ended);
+    drop(ended);
 }
 
 #[test]
-fn read_fails_in_a_line(rt: HostRuntime) -> Result<(), Fail> {
-    let bytes = b"hello ann\nwhen read memo do show memo; end\nwa";
-    assert_read_failed(&rt, &serve_cut(rt.alloc(), bytes)?);
-    Ok(())
+fn read_fails_in_a_line(rt: HostRuntime) {
+    assert_cut(&rt, b"hello ann\nwhen read memo do show memo; end\nwa");
 }
 
 /// A `wait` without its LF is no line where reading failed behind it.
 #[test]
-fn read_fails_behind_a_line_without_lf(rt: HostRuntime) -> Result<(), Fail> {
-    let bytes = b"hello ann\nwhen read memo do show memo; end\nwait";
-    assert_read_failed(&rt, &serve_cut(rt.alloc(), bytes)?);
-    Ok(())
+fn read_fails_behind_a_line_without_lf(rt: HostRuntime) {
+    assert_cut(&rt, b"hello ann\nwhen read memo do show memo; end\nwait");
 }
 
 /// Takes so many bytes, and then fails or takes nothing.
@@ -219,34 +207,29 @@ impl Write for TakesThenFails {
     }
 }
 
-/// Serves a session to a writer that has room for five bytes.
-fn serve_narrow(alloc: Global, fails: bool) -> Result<Ended, Fail> {
-    let mut reader = Watched::new(&b"hello ann\nwhen read memo do show memo; end\nwait\n"[..]);
-    let mut writer = Watched::new(TakesThenFails {
-        taken: Vec::new(alloc),
-        room: 5,
-        fails,
-    });
-    let result = serve_alone(alloc, base(alloc)?, 10_000, &mut reader, &mut writer);
-    Ok(Ended {
-        result,
-        read_failed: reader.failed(),
-        write_failed: writer.failed(),
-        written: writer.into_inner().taken,
-    })
-}
-
 /// Asserts that writing failed behind five bytes.
-fn assert_write_failed<R: Abort>(rt: &R, ended: &Ended) {
+fn assert_write_failed<I>(rt: &impl Abort, ended: &Ended<I, TakesThenFails>) {
     assert!(rt; ended.result == Err(SessionFault::Write));
     assert!(rt; ended.write_failed);
-    assert!(rt; ended.written.as_slice() == b"ok\n1 ".as_slice());
+    assert!(rt; ended.writer.taken.as_slice() == b"ok\n1 ".as_slice());
+}
+
+/// Asserts the same of a session to a writer that has room for five bytes.
+fn assert_narrow<R: AllocGlobal + Abort>(rt: &R, fails: bool) {
+    let input = b"hello ann\nwhen read memo do show memo; end\nwait\n".as_slice();
+    let output = TakesThenFails {
+        taken: Vec::new(rt.alloc()),
+        room: 5,
+        fails,
+    };
+    let ended = serve(rt.alloc(), base(rt), 10_000, input, output);
+    assert_write_failed(rt, &ended);
+    drop(ended);
 }
 
 #[test]
-fn write_fails_after_five_bytes(rt: HostRuntime) -> Result<(), Fail> {
+fn write_fails_after_five_bytes(rt: HostRuntime) {
     for fails in [false, true] {
-        assert_write_failed(&rt, &serve_narrow(rt.alloc(), fails)?);
+        assert_narrow(&rt, fails);
     }
-    Ok(())
 }

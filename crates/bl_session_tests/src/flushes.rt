@@ -1,15 +1,11 @@
 //! That replies are flushed before a read that may wait, that the replies to lines which come together are one write,
 //! and a flush that fails.
-use crate::base::base;
-use bl_session::alone::serve_alone;
+use crate::base::{base, right, serve};
 use bl_wire::fault::SessionFault;
-use bl_wire::watched::Watched;
-use std::alloc::Global;
 use std::cell::Cell;
 use std::io;
 use std::io::{BufReader, BufWriter, Read, Write};
 use std::process::Abort;
-use std::test::Fail;
 
 /// The lines of a session of two blocks, of which the second is empty.
 const LINES: [&str; 4] = [
@@ -85,7 +81,7 @@ impl Write for SeenOnceFlushed<'_> {
 
 /// How a session ended of which one flush may fail.
 #[derive(Drop)]
-struct Ended {
+struct Seen {
     result: Result<(), SessionFault>,
     write_failed: bool,
     written: Vec<u8>,
@@ -94,69 +90,80 @@ struct Ended {
 }
 
 /// Serves the session that comes in these pieces, with this flush failing.
-fn serve_seen(alloc: Global, pieces: &[&str], left: Option<usize>) -> Result<Ended, Fail> {
+fn serve_seen<R: AllocGlobal + Abort>(rt: &R, pieces: &[&str], left: Option<usize>) -> Seen {
     let flushed = Cell::new(0);
     let writes = Cell::new(0);
     let input = PieceByPiece {
         pieces,
         at: 0,
         flushed: &flushed,
-        seen: Vec::new(alloc),
+        seen: Vec::new(rt.alloc()),
     };
     let output = SeenOnceFlushed {
-        written: Vec::new(alloc),
+        written: Vec::new(rt.alloc()),
         writes: &writes,
         flushed: &flushed,
         left,
     };
-    let mut reader = Watched::new(BufReader::new(alloc, input)?);
-    let mut writer = Watched::new(output);
-    let result = serve_alone(alloc, base(alloc)?, 10_000, &mut reader, &mut writer);
-    let seen = reader.into_inner().into_inner().seen;
-    Ok(Ended {
-        result,
-        write_failed: writer.failed(),
-        written: writer.into_inner().written,
-        seen,
+    let input = right(rt, BufReader::new(rt.alloc(), input));
+    let ended = serve(rt.alloc(), base(rt), 10_000, input, output);
+    Seen {
+        result: ended.result,
+        write_failed: ended.write_failed,
+        written: ended.writer.written,
+        seen: ended.reader.into_inner().seen,
         flushed: flushed.get(),
-    })
+    }
 }
 
 /// Asserts that the session came to its end, and that before each read so many bytes were flushed.
-fn assert_seen<R: Abort>(rt: &R, ended: &Ended, seen: &[usize]) {
+fn assert_seen(rt: &impl Abort, ended: &Seen, seen: &[usize]) {
     assert!(rt; ended.result == Ok(()));
     assert!(rt; ended.written.as_slice() == OUTPUT);
     assert!(rt; ended.seen.as_slice() == seen);
     assert_eq!(rt; ended.flushed, 25);
 }
 
+/// Asserts the same of the session that comes in these pieces.
+fn assert_flushed<R: AllocGlobal + Abort>(rt: &R, pieces: &[&str], seen: &[usize]) {
+    let ended = serve_seen(rt, pieces, None);
+    assert_seen(rt, &ended, seen);
+    drop(ended);
+}
+
 /// Each `ok` is seen before the next line is read, and `bye` at the end.
 #[test]
-fn replies_are_seen_before_the_next_line(rt: HostRuntime) -> Result<(), Fail> {
-    let ended = serve_seen(rt.alloc(), LINES.as_slice(), None)?;
-    assert_seen(&rt, &ended, [0, 3, 3, 18, 21].as_slice());
-    Ok(())
+fn replies_are_seen_before_the_next_line(rt: HostRuntime) {
+    assert_flushed(&rt, LINES.as_slice(), [0, 3, 3, 18, 21].as_slice());
 }
 
 /// The replies to lines that come together are flushed once, before the next read.
 #[test]
-fn a_batch_is_flushed_once(rt: HostRuntime) -> Result<(), Fail> {
-    let ended = serve_seen(rt.alloc(), TOGETHER.as_slice(), None)?;
-    assert_seen(&rt, &ended, [0, 21].as_slice());
-    Ok(())
+fn a_batch_is_flushed_once(rt: HostRuntime) {
+    assert_flushed(&rt, TOGETHER.as_slice(), [0, 21].as_slice());
 }
 
 /// No reply stays back behind half a line.
 #[test]
-fn replies_are_seen_before_the_rest_of_a_line(rt: HostRuntime) -> Result<(), Fail> {
-    let ended = serve_seen(rt.alloc(), HALVES.as_slice(), None)?;
-    assert_seen(&rt, &ended, [0, 18, 21].as_slice());
-    Ok(())
+fn replies_are_seen_before_the_rest_of_a_line(rt: HostRuntime) {
+    assert_flushed(&rt, HALVES.as_slice(), [0, 18, 21].as_slice());
+}
+
+/// Asserts that a session came to its end, and that all that was written to it was flushed, after two writes.
+fn assert_batch(
+    rt: &impl Abort,
+    outcome: Result<(), SessionFault>,
+    flushed: &Cell<usize>,
+    writes: &Cell<usize>,
+) {
+    assert!(rt; outcome == Ok(()));
+    assert_eq!(rt; flushed.get(), 25);
+    assert_eq!(rt; writes.get(), 2);
 }
 
 /// Through a writer's buffer the replies to lines that come together are one write, and so is `bye`.
 #[test]
-fn a_batch_is_one_write(rt: HostRuntime) -> Result<(), Fail> {
+fn a_batch_is_one_write(rt: HostRuntime) {
     let alloc = rt.alloc();
     let flushed = Cell::new(0);
     let writes = Cell::new(0);
@@ -166,32 +173,39 @@ fn a_batch_is_one_write(rt: HostRuntime) -> Result<(), Fail> {
         flushed: &flushed,
         left: None,
     };
-    let mut reader = Watched::new(TOGETHER[0].as_bytes());
-    let mut writer = Watched::new(BufWriter::new(alloc, output)?);
-    let result = serve_alone(alloc, base(alloc)?, 10_000, &mut reader, &mut writer);
-    assert!(rt; result == Ok(()));
-    assert_eq!(rt; flushed.get(), 25);
-    assert_eq!(rt; writes.get(), 2);
-    Ok(())
+    let output = right(&rt, BufWriter::new(alloc, output));
+    let ended = serve(alloc, base(&rt), 10_000, TOGETHER[0].as_bytes(), output);
+    assert_batch(&rt, ended.result, &flushed, &writes);
+    drop(ended);
 }
 
 /// Asserts that the session ended for a failure of its writer, and that this is what it wrote.
-fn assert_cut<R: Abort>(rt: &R, ended: &Ended, written: &[u8]) {
+fn assert_write_failed(rt: &impl Abort, ended: &Seen, written: &[u8]) {
     assert!(rt; ended.result == Err(SessionFault::Write));
     assert!(rt; ended.write_failed);
     assert!(rt; ended.written.as_slice() == written);
 }
 
+/// Asserts the same of the session before whose failing flush so many others are done.
+fn assert_cut<R: AllocGlobal + Abort>(rt: &R, left: usize, written: &[u8]) {
+    let ended = serve_seen(rt, LINES.as_slice(), Some(left));
+    assert_write_failed(rt, &ended, written);
+    drop(ended);
+}
+
+/// Asserts that the session comes to its end before whose failing flush so many others are due.
+fn assert_whole<R: AllocGlobal + Abort>(rt: &R, left: usize) {
+    let ended = serve_seen(rt, LINES.as_slice(), Some(left));
+    let result = ended.result;
+    drop(ended);
+    assert!(rt; result == Ok(()));
+}
+
 /// Each flush fails in turn: the session ends, and nothing more is written.
 #[test]
-fn flush_each_fails(rt: HostRuntime) -> Result<(), Fail> {
+fn flush_each_fails(rt: HostRuntime) {
     for k in 0..ENDS.len() {
-        assert_cut(
-            &rt,
-            &serve_seen(rt.alloc(), LINES.as_slice(), Some(k))?,
-            &OUTPUT[..ENDS[k]],
-        );
+        assert_cut(&rt, k, &OUTPUT[..ENDS[k]]);
     }
-    assert!(rt; serve_seen(rt.alloc(), LINES.as_slice(), Some(ENDS.len()))?.result == Ok(()));
-    Ok(())
+    assert_whole(&rt, ENDS.len());
 }

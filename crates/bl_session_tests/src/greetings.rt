@@ -1,6 +1,5 @@
 //! How a session begins, and how lines and the input end.
 use crate::base::{assert_said, assert_served, base};
-use std::test::Fail;
 
 #[test]
 fn greet_and_leave(rt: HostRuntime) {
@@ -27,11 +26,10 @@ fn cr_before_lf(rt: HostRuntime) {
 }
 
 #[test]
-fn first_line_must_be_hello(rt: HostRuntime) -> Result<(), Fail> {
-    let setup = base(rt.alloc())?;
+fn first_line_must_be_hello(rt: HostRuntime) {
+    let setup = base(&rt);
     let input = b"wait\nhello ann\n";
     let left = assert_served(&rt, setup, 10_000, input, "refused hello\nbye\n");
     assert_eq!(rt; left, 10);
     assert_said(&rt, "hello zed\n", "refused hello\nbye\n");
-    Ok(())
 }

@@ -5,9 +5,7 @@ use bl_session::alone::serve_keeping;
 use bl_session::keep::{Keep, Stop, Unreached};
 use bl_wire::fault::SessionFault;
 use bl_wire::watched::Watched;
-use std::alloc::Global;
-use std::rt::HostRuntime;
-use std::test::Fail;
+use std::process::Abort;
 
 /// A session of two blocks.
 const LINES: &str =
@@ -42,59 +40,87 @@ impl Keep for Counting {
 
 /// A session of two blocks, of which so many trails are kept before that fails so: how it ended, what it wrote, and
 /// how long the trails are that were kept.
-fn served(
-    alloc: Global,
+fn served<R: AllocGlobal + Abort>(
+    rt: &R,
     left: usize,
     why: Unreached,
-) -> Result<(Result<(), Stop>, Vec<u8>, Vec<usize>), Fail> {
+) -> (Result<(), Stop>, Vec<u8>, Vec<usize>) {
     let mut keep = Counting {
-        lengths: Vec::new(alloc),
+        lengths: Vec::new(rt.alloc()),
         left,
         why,
     };
-    let setup = base(alloc)?;
     let mut reader = Watched::new(LINES.as_bytes());
-    let mut writer = Watched::new(Vec::new(alloc));
+    let mut writer = Watched::new(Vec::new(rt.alloc()));
     let (result, session) = serve_keeping(
-        alloc,
-        setup,
+        rt.alloc(),
+        base(rt),
         10_000,
         &mut keep,
         &mut reader,
         &mut writer,
     );
     drop(session);
-    Ok((result, writer.into_inner(), keep.lengths))
+    (result, writer.into_inner(), keep.lengths)
+}
+
+/// Asserts that a session ended so, and that this text was written in it.
+fn assert_ended(
+    rt: &impl Abort,
+    outcome: Result<(), Stop>,
+    ended: Result<(), Stop>,
+    written: &[u8],
+    text: &str,
+) {
+    assert_eq!(rt; outcome, ended);
+    assert_eq!(rt; written, text.as_bytes());
+}
+
+/// Asserts the same of a session of which so many trails are kept before that fails so, and gives how long these are.
+fn assert_served<R: AllocGlobal + Abort>(
+    rt: &R,
+    left: usize,
+    why: Unreached,
+    ended: Result<(), Stop>,
+    text: &str,
+) -> Vec<usize> {
+    let (result, written, lengths) = served(rt, left, why);
+    assert_ended(rt, result, ended, written.as_slice(), text);
+    drop(written);
+    lengths
+}
+
+/// Asserts that the trails that were kept are so long.
+fn assert_lengths(rt: &impl Abort, lengths: &[usize], expected: &[usize]) {
+    assert_eq!(rt; lengths, expected);
 }
 
 #[test]
-fn each_trail_is_kept_before_it_is_told(rt: HostRuntime) -> Result<(), Fail> {
-    let (result, written, lengths) = served(rt.alloc(), 10, Unreached::Failed)?;
-    assert_eq!(&rt; result, Ok(()));
-    assert_eq!(&rt;
-        written.as_slice(),
-        b"ok\n1 done \"m1\"\nok\n2 done \"n1\"\nbye\n".as_slice()
-    );
+fn each_trail_is_kept_before_it_is_told(rt: HostRuntime) {
+    let text = "ok\n1 done \"m1\"\nok\n2 done \"n1\"\nbye\n";
+    let lengths = assert_served(&rt, 10, Unreached::Failed, Ok(()), text);
     // the session; a line that starts and ends; another one
-    assert_eq!(&rt; lengths.as_slice(), [1, 4, 7].as_slice());
-    Ok(())
+    assert_lengths(&rt, lengths.as_slice(), [1, 4, 7].as_slice());
+    drop(lengths);
+}
+
+/// Asserts that this text is written where no trail is kept after so many.
+fn assert_told<R: AllocGlobal + Abort>(rt: &R, left: usize, text: &str) {
+    let lengths = assert_served(rt, left, Unreached::Failed, Err(Stop::NotKept), text);
+    let count = lengths.len();
+    drop(lengths);
+    assert_eq!(rt; count, left);
 }
 
 #[test]
-fn nothing_is_told_that_is_not_kept(rt: HostRuntime) -> Result<(), Fail> {
+fn nothing_is_told_that_is_not_kept(rt: HostRuntime) {
     for (left, text) in [(0, ""), (1, "ok\n"), (2, "ok\n1 done \"m1\"\nok\n")] {
-        let (result, written, lengths) = served(rt.alloc(), left, Unreached::Failed)?;
-        assert_eq!(&rt; result, Err(Stop::NotKept));
-        assert_eq!(&rt; written.as_slice(), text.as_bytes());
-        assert_eq!(&rt; lengths.len(), left);
+        assert_told(&rt, left, text);
     }
-    Ok(())
 }
 
 #[test]
-fn refused_memory_is_told_as_such(rt: HostRuntime) -> Result<(), Fail> {
-    let (result, written, _) = served(rt.alloc(), 1, Unreached::Memory)?;
-    assert_eq!(&rt; result, Err(Stop::Fault(SessionFault::Memory)));
-    assert_eq!(&rt; written.as_slice(), b"ok\n".as_slice());
-    Ok(())
+fn refused_memory_is_told_as_such(rt: HostRuntime) {
+    let ended = Err(Stop::Fault(SessionFault::Memory));
+    drop(assert_served(&rt, 1, Unreached::Memory, ended, "ok\n"));
 }

@@ -1,10 +1,9 @@
 //! What a session answers where a growth is refused. With ample memory each test here passes by the session's own
 //! output alone. It passes whatever single growth is refused too: `bench/growths` refuses each in turn, and tells so by
 //! a file.
+use crate::base;
 use crate::base::{RESERVED, setup_or_none};
-use bl_session::alone::serve_alone;
 use bl_wire::fault::SessionFault;
-use bl_wire::watched::Watched;
 use std::alloc::AllocGlobal;
 use std::fs;
 use std::io::Print;
@@ -30,12 +29,10 @@ fn serve<R: AllocGlobal + Files>(rt: &R, more: &str, input: &str) -> Option<Ende
     let room = Vec::with_capacity(rt.alloc(), 1_000).ok()?;
     let setup = setup_or_none(rt.alloc(), more)?;
     let before = was_refused(rt);
-    let mut reader = Watched::new(input.as_bytes());
-    let mut writer = Watched::new(room);
-    let result = serve_alone(rt.alloc(), setup, 10_000, &mut reader, &mut writer);
+    let ended = base::serve(rt.alloc(), setup, 10_000, input.as_bytes(), room);
     Some(Ended {
-        result,
-        written: writer.into_inner(),
+        result: ended.result,
+        written: ended.writer,
         refused: !before && was_refused(rt),
     })
 }
@@ -73,7 +70,11 @@ fn came<'a, R: AllocGlobal + Files>(
     one_lost: &[(&'a str, &str)],
 ) -> Option<&'a str> {
     match serve(rt, more, input) {
-        Some(ended) => came_of(&ended, whole, one_lost),
+        Some(ended) => {
+            let came = came_of(&ended, whole, one_lost);
+            drop(ended);
+            came
+        }
         None if was_refused(rt) => Some("before"),
         None => None,
     }
