@@ -290,7 +290,8 @@ where
 
 /// What is said to who begins a session at a terminal.
 const HINT: &[u8] =
-    b"Say `hello SUBJECT`, and then a line for each request. `wait` brings the answers, and the end of input (Ctrl-D) ends the session.\n";
+    b"Say `hello SUBJECT`, and then a line for each request. `wait` brings the answers, and the end of input
+        (Ctrl-D) ends the session.\n";
 
 /// Says at a terminal how a session goes.
 fn tell_hint<R: Eprint>(rt: &R) {

@@ -6,7 +6,8 @@ use Rattle.bl_connection.specs.declared.stream.Answer.TheVariants.{Moved, WouldB
 
 -- a read into this room gave so many bytes, and none only at the end of the input
 abbrev pub Gives : Option (List ℕ) → Option (List ℕ) → Answer → List ℕ → Type 0
-Gives before after (Moved n) room = (n ≤ length room) × Consumes before after (take n room) × (n ≡ 0 → 0 < length room → IsAtEnd after)
+Gives before after (Moved n) room = (n ≤ length room) × Consumes before after (take n room)
+    × (n ≡ 0 → 0 < length room → IsAtEnd after)
 Gives before after WouldBlock room = Keeps before after
 Gives before after Failed room = Keeps before after
 

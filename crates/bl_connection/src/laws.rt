@@ -11,7 +11,9 @@ use crate::stream::Stream;
 
 /// Where more was answered, all that went through a stream is still the exchange that it was.
 pub fn what_was_answered_stands<S: Stream>()
-    ensures { (names : KnownNames) (opening : Opening) (before after : ℕ → List ℕ) (upto more : ℕ) (left : ℕ → List ℕ) (conn : Connection S) (x : Exchange)
-        → upto ≤ more → SameUpTo upto before after → IsConnected S.remaining S.contents names (Answers opening before upto) left conn x
+    ensures { (names : KnownNames) (opening : Opening) (before after : ℕ → List ℕ) (upto more : ℕ) (left : ℕ → List ℕ)
+        (conn : Connection S) (x : Exchange)
+        → upto ≤ more → SameUpTo upto before after
+        → IsConnected S.remaining S.contents names (Answers opening before upto) left conn x
         → IsConnected S.remaining S.contents names (Answers opening after more) left conn x }
 {}

@@ -1,4 +1,5 @@
-//! A connection: a session over one stream that may say that it would block. It reads and writes once at a call, and waits for nothing.
+//! A connection: a session over one stream that may say that it would block. It reads and writes once at a call, and
+//! waits for nothing.
 //!
 //!     stream        a stream whose two directions do not disturb each other, and how it answers
 //!     connection    a conversation with its stream, what was read and not heard yet, and what was told and not written yet

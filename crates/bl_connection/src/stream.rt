@@ -1,7 +1,8 @@
 //! Streams that may say that they would block.
 //!
-//! One body of one call each stands between `Stream` and the library's own calls: `read` and `write` of `Ends`. No clause of the library
-//! says when a call fails, so none can say that they pass an answer on as it came: they are trusted, and tests look at them.
+//! One body of one call each stands between `Stream` and the library's own calls: `read` and `write` of `Ends`. No
+//! clause of the library says when a call fails, so none can say that they pass an answer on as it came: they are
+//! trusted, and tests look at them.
 ghost use Rattle.std.specs.Prelude.{◌≡◌, ⊤, ℕ, List, Option, IfOk, IfErr};
 ghost use Rattle.std.specs.IoError.{error_kind};
 ghost use Rattle.std.specs.Io.KnownBytes.{Keeps};
@@ -22,8 +23,8 @@ pub enum Answer {
     Failed,
 }
 
-/// A stream: bytes come, and bytes go, and neither direction disturbs the other. The library says nothing of that for a type that is
-/// both its `Read` and its `Write`.
+/// A stream: bytes come, and bytes go, and neither direction disturbs the other. The library says nothing of that for a
+/// type that is both its `Read` and its `Write`.
 pub trait Stream {
     // the bytes that reads will give from here on, where they are known
     ghost remaining: { Self → Option (List ℕ) };

@@ -14,8 +14,8 @@ use std::mem;
 /// Once so many bytes were told, they are to be written before more is told.
 const MOST_TOLD: usize = 65_536;
 
-/// Tells the next part of what a conversation has to say after the bytes. An error comes where memory was refused; then a first part of it
-/// stands there.
+/// Tells the next part of what a conversation has to say after the bytes. An error comes where memory was refused; then
+/// a first part of it stands there.
 pub(crate) fn tell_part<B: Replies>(
     alloc: Global,
     block: &mut B,
@@ -24,12 +24,14 @@ pub(crate) fn tell_part<B: Replies>(
 ) -> Result<(), AllocError>
     requires need { need_of conv.old ≡ needs.Room }
     requires stands { MayTake (B.stands block.old) (conv.old.after + conv.old.line + 1) }
-    ensures ok { OnOk result (ToldOn (B.left block.old) (B.left block.new) conv.old conv.new output.old.items output.new.items) }
+    ensures ok { OnOk result (ToldOn (B.left block.old)
+        (B.left block.new) conv.old conv.new output.old.items output.new.items) }
     ensures err { OnErr result (ToldShort (B.left block.old) conv.old conv.new output.old.items output.new.items) }
     ensures nearer { parts_left (B.left block.new) conv.new < parts_left (B.left block.old) conv.old }
     ensures done { (need_of conv.new ≡ needs.Room → ⊥) → (conv.new.pending.items ≡ []) × GoesOnAlone 0 conv.new.stage }
     ensures stands { need_of conv.new ≡ needs.Room → MayTake (B.stands block.new) (conv.new.after + conv.new.line + 1) }
-    ensures on { ((need_of conv.new ≡ needs.Room) × (waits_left conv.new ≡ waits_left conv.old)) ⊎ (waits_left conv.new < waits_left conv.old) }
+    ensures on { ((need_of conv.new ≡ needs.Room) × (waits_left conv.new ≡ waits_left conv.old))
+        ⊎ (waits_left conv.new < waits_left conv.old) }
 {
     let mut writer = Watched::new(mem::replace(output, Vec::new(alloc)));
     conv.tell(block, &mut writer);
@@ -38,8 +40,8 @@ pub(crate) fn tell_part<B: Replies>(
     if failed { Err(AllocError) } else { Ok(()) }
 }
 
-/// Tells the next parts after the bytes, until they are 64 KB or more, or all was told. An error comes where memory was refused, as
-/// `tell_part` has it.
+/// Tells the next parts after the bytes, until they are 64 KB or more, or all was told. An error comes where memory was
+/// refused, as `tell_part` has it.
 pub(crate) fn tell_parts<B: Replies>(
     alloc: Global,
     block: &mut B,
@@ -48,9 +50,11 @@ pub(crate) fn tell_parts<B: Replies>(
 ) -> Result<(), AllocError>
     requires need { need_of conv.old ≡ needs.Room }
     requires stands { MayTake (B.stands block.old) (conv.old.after + conv.old.line + 1) }
-    ensures ok { OnOk result (ToldOn (B.left block.old) (B.left block.new) conv.old conv.new output.old.items output.new.items) }
+    ensures ok { OnOk result (ToldOn (B.left block.old)
+        (B.left block.new) conv.old conv.new output.old.items output.new.items) }
     ensures err { OnErr result (ToldShort (B.left block.old) conv.old conv.new output.old.items output.new.items) }
-    ensures done { OnOk result ((need_of conv.new ≡ needs.Room → ⊥) → (conv.new.pending.items ≡ []) × GoesOnAlone 0 conv.new.stage) }
+    ensures done { OnOk result ((need_of conv.new ≡ needs.Room → ⊥) → (conv.new.pending.items ≡ [])
+        × GoesOnAlone 0 conv.new.stage) }
     ensures stands { need_of conv.new ≡ needs.Room → MayTake (B.stands block.new) (conv.new.after + conv.new.line + 1) }
     ensures most { OnOk result (need_of conv.new ≡ needs.Room → 65536 ≤ length output.new.items) }
     ensures nearer { OnOk result (waits_left conv.new ≤ waits_left conv.old) }

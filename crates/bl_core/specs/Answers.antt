@@ -50,7 +50,8 @@ grants_at x n = let loan = loan_at x n in loans n (part_of loan).accesses loan.i
 abbrev pub IsLentBy : State → Loan → Type 0
 IsLentBy x loan = IsTrue (runs x loan.entry) × (loan ≡ loan_at x loan.entry)
 
--- what a start answers: the denial that the place is answered, that its rule is done, or its behaviour with what it is lent
+-- what a start answers: the denial that the place is answered, that its rule is done, or its behaviour with what it is
+-- lent
 abbrev pub IsStarted : State → ℕ → Started → Type 0
 IsStarted x n (Denied denial) = (past_at x n).answer ≡ answers.Denied denial
 IsStarted x n RuleDone = (past_at x n).answer ≡ answers.RuleDone
@@ -64,7 +65,8 @@ IsStarvedBy n (start_fault.Memory entry) = entry ≡ n
 -- why no session is opened
 abbrev pub IsNotOpened : State → ℕ → OpenRefused → Type 0
 IsNotOpened x subject open_refused.Stranger = length x.setup.policy.subjects ≤ subject
-IsNotOpened x subject open_refused.SessionsFull = (subject < length x.setup.policy.subjects) × (most_sessions ≤ length x.sessions)
+IsNotOpened x subject open_refused.SessionsFull = (subject < length x.setup.policy.subjects)
+    × (most_sessions ≤ length x.sessions)
 
 -- why a line is not admitted: each cause where none of those before it holds
 abbrev pub IsCause : State → ℕ → ℕ → Work → Cause → Type 0

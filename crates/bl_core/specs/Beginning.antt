@@ -8,8 +8,8 @@ use Rattle.bl_order.specs.Machine.{most_sessions}
 use Rattle.bl_place.specs.Shelves.{new_shelf}
 use Rattle.bl_core.specs.declared.beginning.Beginning.{Beginning}
 
--- the policy and the contents of the setup, which is of version 2, no session and no place, and room for the most sessions and so many
--- places
+-- the policy and the contents of the setup, which is of version 2, no session and no place, and room for the most
+-- sessions and so many places
 pub record Begins (setup : Setup) (limit : ℕ) (b : Beginning) : Type 0 where
   pub agree : Agree setup
   pub two : setup.version ≡ Two

@@ -43,8 +43,8 @@ pub record AreShelved (x : State) (shelves : List Shelf) : Type 0 where
   pub home : (doc : ℕ) → doc < length shelves → (shelf_in shelves doc).lent ≡ false
       → (n : ℕ) → runs x n ≡ true → is_altered (accesses_of (past_at x n).task) doc ≡ false
 
--- what the fields keep at a state: a trail leads to it, it is judged by version 2, the policy and the contents are those now, each
--- place is told, the queues have all places, and there is room for all that may still come
+-- what the fields keep at a state: a trail leads to it, it is judged by version 2, the policy and the contents are
+-- those now, each place is told, the queues have all places, and there is room for all that may still come
 pub record KeepsAt (x : State) (c : Inside) : Type 0 where
   pub reached : IsReached x
   pub agree : Agree c.setup

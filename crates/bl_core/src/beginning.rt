@@ -14,7 +14,8 @@ use std::alloc::{AllocError, Global};
 /// How many sessions a core opens at most.
 pub(crate) const MOST_SESSIONS: usize = 1000;
 
-/// What a core of an empty order has beside its setup: the setup's policy and contents, and room for its sessions and places.
+/// What a core of an empty order has beside its setup: the setup's policy and contents, and room for its sessions and
+/// places.
 #[derive(Drop)]
 pub(crate) struct Beginning {
     pub(crate) sessions: Vec<Session>,

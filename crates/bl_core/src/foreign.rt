@@ -4,7 +4,8 @@
 use bl_eval::lent::{Done, DoneParts, Unrun, UnrunParts};
 use std::marker::Model;
 
-/// What was done, handed back by a core that did not lend what it was done with. Its value is what was lent, and to whom.
+/// What was done, handed back by a core that did not lend what it was done with. Its value is what was lent, and to
+/// whom.
 pub struct Foreign {
     done: Done,
 }
@@ -39,7 +40,8 @@ impl Foreign {
         done
     }
 
-    /// Spends what was done, where the core that lent it is not at hand. If another core did, the entry there never ends.
+    /// Spends what was done, where the core that lent it is not at hand. If another core did, the entry there never
+    /// ends.
     pub fn bury(self) {
         let Foreign { done } = self;
         let DoneParts {
@@ -89,7 +91,8 @@ impl ForeignUnrun {
         unrun
     }
 
-    /// Spends what was left undone, where the core that lent it is not at hand. If another core did, the entry there never ends.
+    /// Spends what was left undone, where the core that lent it is not at hand. If another core did, the entry there
+    /// never ends.
     pub fn bury(self) {
         let ForeignUnrun { unrun } = self;
         let UnrunParts {

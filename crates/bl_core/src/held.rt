@@ -10,8 +10,8 @@ use bl_policy::id::{DocId, SubjectId};
 use bl_queue::queues::Queues;
 use std::marker::Model;
 
-/// The accesses that are held, one after another: for each running entry, in the order of entries, what it declares, in declared
-/// order, with the subject that it speaks for. Its value is the list of those that are left.
+/// The accesses that are held, one after another: for each running entry, in the order of entries, what it declares, in
+/// declared order, with the subject that it speaks for. Its value is the list of those that are left.
 #[derive(Drop)]
 pub struct Held<'a> {
     places: &'a [Place],

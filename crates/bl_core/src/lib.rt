@@ -1,5 +1,5 @@
-//! The core: the machine of the admission order, over real documents, grants and answers. Its value is a state of the machine, and
-//! each call that changes it changes it by one event.
+//! The core: the machine of the admission order, over real documents, grants and answers. Its value is a state of the
+//! machine, and each call that changes it changes it by one event.
 //!
 //!     beginning  what a core begins with
 //!     machine    the core and its calls

@@ -39,8 +39,8 @@ use std::marker::Model;
 
 /// The machine of the admission order. Its value is a state that a trail leads to.
 ///
-/// Each call that succeeds and changes it changes it by one event; a call that refuses leaves it as it was. Only `new` and `start`
-/// take memory: the first reserves room for as many places as the limit.
+/// Each call that succeeds and changes it changes it by one event; a call that refuses leaves it as it was. Only `new`
+/// and `start` take memory: the first reserves room for as many places as the limit.
 #[derive(Drop)]
 pub struct Core {
     alloc: Global,
@@ -103,7 +103,8 @@ fn ruled(denial: &Option<Denial>) -> Answer
     }
 }
 
-/// Empties the content of the document that a rule deletes, where the policy had nothing against it. It takes no memory.
+/// Empties the content of the document that a rule deletes, where the policy had nothing against it. It takes no
+/// memory.
 fn delete_content(shelves: &mut [Shelf], rule: &Rule, denial: &Option<Denial>)
     requires { (doc : ℕ) → IsTrue (deletes rule.now doc) → doc < length shelves.old }
     ensures { AreEmptied (λ doc. is_rule_done (ruled denial.now) && deletes rule.now doc) shelves.old shelves.new }
@@ -114,7 +115,9 @@ fn delete_content(shelves: &mut [Shelf], rule: &Rule, denial: &Option<Denial>)
 }
 
 impl Core {
-    ghost use Rattle.std.specs.Prelude.{◌≡◌, ◌<◌, ◌≤◌, ◌↔◌, ℕ, Bool, true, false, IsTrue, IsSome, IsNone, IsOk, length, IfOk, OnErr, OnOk, IfErr, IfSome, IfNone, MatchResult, MatchOption, Some, None, Ok, Err, option_map, option_and_then, slice_get, map, All};
+    ghost use Rattle.std.specs.Prelude.{◌≡◌, ◌<◌, ◌≤◌, ◌↔◌, ℕ, Bool, true, false, IsTrue, IsSome, IsNone, IsOk, length};
+    ghost use Rattle.std.specs.Prelude.{IfOk, OnErr, OnOk, IfErr, IfSome, IfNone, MatchResult, MatchOption, Some, None};
+    ghost use Rattle.std.specs.Prelude.{Ok, Err, option_map, option_and_then, slice_get, map, All};
     ghost use Rattle.bl_policy.specs.Properties.{IsSecure};
     ghost use Rattle.bl_core.specs.HeldItems.{item_of};
     ghost use Rattle.bl_queue.specs.Queues.{most_entries};
@@ -123,7 +126,8 @@ impl Core {
     ghost use Rattle.bl_order.specs.Headline.{Holds, IsReached};
     ghost use Rattle.bl_order.specs.Known.{KnowsAnswer, KnowsWork};
     ghost use Rattle.bl_order.specs.Lineage.{KeepsItsLineage};
-    ghost use Rattle.bl_order.specs.Machine.{Opens, Admits, Starts, Ends, Loses, MayStart, Hold, Needs, State, change, has_ended, held, is_lost, past_at, runs, start};
+    ghost use Rattle.bl_order.specs.Machine.{Opens, Admits, Starts, Ends, Loses, MayStart, Hold, Needs, State, change};
+    ghost use Rattle.bl_order.specs.Machine.{has_ended, held, is_lost, past_at, runs, start};
     ghost use Rattle.bl_order.specs.Now.{content_at, content_now, policy_at, policy_now, IsFirstToAlter};
     ghost use Rattle.bl_order.specs.Order.{Applies, Runs, accesses_of, is_altered, is_rule};
     ghost use Rattle.bl_order.specs.Past.{is_done};
@@ -131,8 +135,8 @@ impl Core {
     ghost use Rattle.bl_core.specs.Answers.{IsCause, IsLentBy, IsNotOpened, IsStarted, IsStarvedBy, grants_at, loan_at};
     ghost use Rattle.bl_core.specs.Origins.{origin_of, work_asked};
 
-    /// A core of an empty order over this setup, for lines that weigh no more than the limit, which is 1 to 100,000. An error comes
-    /// only where a growth is refused.
+    /// A core of an empty order over this setup, for lines that weigh no more than the limit, which is 1 to 100,000. An
+    /// error comes only where a growth is refused.
     pub fn new(alloc: Global, setup: Setup, limit: u32) -> Result<Core, AllocError>
         requires some { 1 ≤ limit }
         requires most { limit ≤ most_entries }
@@ -157,12 +161,14 @@ impl Core {
         }
     }
 
-    /// Opens a session for a subject, and answers its number. `Stranger` comes where the setup has no such subject, and then
-    /// `SessionsFull` where there are 1,000 sessions.
+    /// Opens a session for a subject, and answers its number. `Stranger` comes where the setup has no such subject, and
+    /// then `SessionsFull` where there are 1,000 sessions.
     pub fn open(&mut self, subject: SubjectId) -> Result<SessionNo, OpenRefused>
-        ensures ok { IfOk result (λ session. (session ≡ length self.old.sessions) × (self.new ≡ change self.old (Opens subject))) }
+        ensures ok { IfOk result (λ session. (session ≡ length self.old.sessions)
+            × (self.new ≡ change self.old (Opens subject))) }
         ensures err { OnErr result (self.new ≡ self.old) }
-        ensures cause { MatchResult result (λ _. Needs self.old (Opens subject)) (λ refused. IsNotOpened self.old subject refused) }
+        ensures cause { MatchResult result (λ _. Needs self.old (Opens subject))
+            (λ refused. IsNotOpened self.old subject refused) }
     {
         if usize::from(subject.position()) >= self.setup.policy().subjects() {
             return Err(OpenRefused::Stranger);
@@ -211,10 +217,11 @@ impl Core {
         None
     }
 
-    /// Admits a line of a session with its ordinal, and answers its place in the order, from 0. A refusal hands the work back, with
-    /// the first cause that holds.
+    /// Admits a line of a session with its ordinal, and answers its place in the order, from 0. A refusal hands the
+    /// work back, with the first cause that holds.
     pub fn line(&mut self, session: SessionNo, ordinal: u32, work: Work) -> Result<u32, Refused>
-        ensures ok { IfOk result (λ n. (n ≡ length self.old.order) × (self.new ≡ change self.old (Admits session ordinal work))) }
+        ensures ok { IfOk result (λ n. (n ≡ length self.old.order)
+            × (self.new ≡ change self.old (Admits session ordinal work))) }
         ensures err { OnErr result (self.new ≡ self.old) }
         ensures cause { MatchResult result (λ _. Needs self.old (Admits session ordinal work))
             (λ refused. IsCause self.old session ordinal work refused.cause × (refused.work ≡ work)) }
@@ -226,8 +233,8 @@ impl Core {
         self.readable_line(session, ordinal, work)
     }
 
-    /// Admits a line as `line` does, with a work that some text reads as by the setup's names, as one that was just read: that is not
-    /// asked again.
+    /// Admits a line as `line` does, with a work that some text reads as by the setup's names, as one that was just
+    /// read: that is not asked again.
     pub fn readable_line(
         &mut self,
         session: SessionNo,
@@ -278,14 +285,16 @@ impl Core {
         n
     }
 
-    /// Whether an entry may start: it is there and has not begun, and each earlier one that it conflicts with has ended.
+    /// Whether an entry may start: it is there and has not begun, and each earlier one that it conflicts with has
+    /// ended.
     pub fn is_ready(&self, n: u32) -> bool
         ensures { IsTrue result ↔ MayStart self.now n }
     {
         self.queues.is_ready(n)
     }
 
-    /// An entry that may start: of those, the one that came first to wait for nothing. There is none only where no entry may.
+    /// An entry that may start: of those, the one that came first to wait for nothing. There is none only where no
+    /// entry may.
     pub fn ready(&self) -> Option<u32>
         ensures some { IfSome result (λ n. MayStart self.now n) }
         ensures none { IsNone result → (n : ℕ) → ¬ MayStart self.now n }
@@ -296,7 +305,8 @@ impl Core {
     /// The rule of a place; `None` for a behaviour.
     fn rule(&self, n: u32) -> Option<Rule>
         requires { n < length self.now.order }
-        ensures { MatchOption result (is_rule (past_at self.now n).task ≡ false) (λ rule. (past_at self.now n).task ≡ Applies rule) }
+        ensures { MatchOption result (is_rule (past_at self.now n).task ≡ false)
+            (λ rule. (past_at self.now n).task ≡ Applies rule) }
     {
         match work_at(self.places.as_slice(), n as usize) {
             Work::Behaviour(_) => None,
@@ -327,7 +337,8 @@ impl Core {
     fn judge(&self, n: u32) -> Option<Denial>
         requires may { MayStart self.now n }
         requires behaviour { is_rule (past_at self.now n).task ≡ false }
-        ensures { MatchOption result (IsTrue (is_done (past_at self.now n).answer)) (λ denial. (past_at self.now n).answer ≡ answers.Denied denial) }
+        ensures { MatchOption result (IsTrue (is_done (past_at self.now n).answer))
+            (λ denial. (past_at self.now n).answer ≡ answers.Denied denial) }
     {
         let Some(accesses) = declared(self.places.as_slice(), n as usize) else {
             unreachable!()
@@ -402,10 +413,10 @@ impl Core {
         }
     }
 
-    /// Starts an entry. A rule or a denied behaviour ends at once, and a document that is deleted is empty from then on; another
-    /// behaviour runs, and is lent the contents of what it declares, in declared order. `NotReady` comes where the entry may not start,
-    /// and `Memory` where a growth was refused. Where an untrusted subject's entry runs, what it may alter dominates all that it and
-    /// those above it may look at.
+    /// Starts an entry. A rule or a denied behaviour ends at once, and a document that is deleted is empty from then
+    /// on; another behaviour runs, and is lent the contents of what it declares, in declared order. `NotReady` comes
+    /// where the entry may not start, and `Memory` where a growth was refused. Where an untrusted subject's entry runs,
+    /// what it may alter dominates all that it and those above it may look at.
     pub fn start(&mut self, n: u32) -> Result<Started, StartFault>
         ensures ok { IfOk result (λ begun. IsStarted self.old n begun × (self.new ≡ change self.old (Starts n))) }
         ensures err { OnErr result (self.new ≡ self.old) }
@@ -428,8 +439,9 @@ impl Core {
         }
     }
 
-    /// Ends a running entry with what was done of what it was lent: its exclusive contents come back, its answer is kept, and its
-    /// children enter at the end of the order. Each of them carries the level at which the entry ran, joined with what it carried.
+    /// Ends a running entry with what was done of what it was lent: its exclusive contents come back, its answer is
+    /// kept, and its children enter at the end of the order. Each of them carries the level at which the entry ran,
+    /// joined with what it carried.
     pub fn finish_lent(&mut self, done: Done)
         requires running { IsTrue (runs self.old done.entry) }
         requires lent { done ≡ loan_at self.old done.entry }
@@ -489,9 +501,9 @@ impl Core {
         self.lose_granted(entry, grants);
     }
 
-    /// Ends a running entry as lost, with what it was lent, which nobody has tried. It is for whoever follows a trail in which the
-    /// entry was lost. A worker cannot lose so what it never tried: no gate has this call, and no `Unrun` is made of a `Lent` but by
-    /// `eval`.
+    /// Ends a running entry as lost, with what it was lent, which nobody has tried. It is for whoever follows a trail
+    /// in which the entry was lost. A worker cannot lose so what it never tried: no gate has this call, and no `Unrun`
+    /// is made of a `Lent` but by `eval`.
     pub fn lose_running(&mut self, lent: Lent)
         requires running { IsTrue (runs self.old lent.entry) }
         requires lent { lent ≡ loan_at self.old lent.entry }
@@ -548,10 +560,12 @@ impl Core {
         }
     }
 
-    /// Hands back what was done where it is what `finish_lent` takes. `Foreign` comes exactly where the entry does not run here, or the
-    /// script, the index or the inputs are not those that it was lent, and hands it back too. It takes no memory.
+    /// Hands back what was done where it is what `finish_lent` takes. `Foreign` comes exactly where the entry does not
+    /// run here, or the script, the index or the inputs are not those that it was lent, and hands it back too. It takes
+    /// no memory.
     pub fn recognise(&self, done: Done) -> Result<Done, Foreign>
-        ensures { MatchResult result (λ own. IsLentBy self.now done × (own ≡ done)) (λ foreign. ¬ IsLentBy self.now done × (foreign ≡ done)) }
+        ensures { MatchResult result (λ own. IsLentBy self.now done × (own ≡ done))
+            (λ foreign. ¬ IsLentBy self.now done × (foreign ≡ done)) }
     {
         if !self.has_lent(&done) {
             return Err(Foreign::new(done));
@@ -559,10 +573,12 @@ impl Core {
         Ok(done)
     }
 
-    /// Hands back what was left undone where it is what `lose_lent` takes. `ForeignUnrun` comes exactly where the entry does not run
-    /// here, or the script, the index or the inputs are not those that it was lent, and hands it back too. It takes no memory.
+    /// Hands back what was left undone where it is what `lose_lent` takes. `ForeignUnrun` comes exactly where the entry
+    /// does not run here, or the script, the index or the inputs are not those that it was lent, and hands it back too.
+    /// It takes no memory.
     pub fn recognise_unrun(&self, unrun: Unrun) -> Result<Unrun, ForeignUnrun>
-        ensures { MatchResult result (λ own. IsLentBy self.now unrun × (own ≡ unrun)) (λ foreign. ¬ IsLentBy self.now unrun × (foreign ≡ unrun)) }
+        ensures { MatchResult result (λ own. IsLentBy self.now unrun × (own ≡ unrun))
+            (λ foreign. ¬ IsLentBy self.now unrun × (foreign ≡ unrun)) }
     {
         if !self.has_lent_unrun(&unrun) {
             return Err(ForeignUnrun::new(unrun));
@@ -570,32 +586,36 @@ impl Core {
         Ok(unrun)
     }
 
-    /// Ends a running entry as `finish_lent` does. `Foreign` comes exactly where the entry does not run here, or the script, the
-    /// index or the inputs are not those that it was lent, and hands back what was done. It takes no memory.
+    /// Ends a running entry as `finish_lent` does. `Foreign` comes exactly where the entry does not run here, or the
+    /// script, the index or the inputs are not those that it was lent, and hands back what was done. It takes no
+    /// memory.
     pub fn finish(&mut self, done: Done) -> Result<(), Foreign>
         ensures ok { OnOk result (self.new ≡ change self.old (Ends done.entry)) }
         ensures err { OnErr result (self.new ≡ self.old) }
-        ensures foreign { MatchResult result (λ _. IsLentBy self.old done) (λ foreign. ¬ IsLentBy self.old done × (foreign ≡ done)) }
+        ensures foreign { MatchResult result (λ _. IsLentBy self.old done)
+            (λ foreign. ¬ IsLentBy self.old done × (foreign ≡ done)) }
     {
         let own = self.recognise(done)?;
         self.finish_lent(own);
         Ok(())
     }
 
-    /// Ends a running entry as lost, as `lose_lent` does. `ForeignUnrun` comes exactly where the entry does not run here, or the
-    /// script, the index or the inputs are not those that it was lent, and hands them back. It takes no memory.
+    /// Ends a running entry as lost, as `lose_lent` does. `ForeignUnrun` comes exactly where the entry does not run
+    /// here, or the script, the index or the inputs are not those that it was lent, and hands them back. It takes no
+    /// memory.
     pub fn lose(&mut self, unrun: Unrun) -> Result<(), ForeignUnrun>
         ensures ok { OnOk result (self.new ≡ change self.old (Loses unrun.entry)) }
         ensures err { OnErr result (self.new ≡ self.old) }
-        ensures foreign { MatchResult result (λ _. IsLentBy self.old unrun) (λ foreign. ¬ IsLentBy self.old unrun × (foreign ≡ unrun)) }
+        ensures foreign { MatchResult result (λ _. IsLentBy self.old unrun)
+            (λ foreign. ¬ IsLentBy self.old unrun × (foreign ≡ unrun)) }
     {
         let own = self.recognise_unrun(unrun)?;
         self.lose_lent(own);
         Ok(())
     }
 
-    /// Ends an entry as lost that may start, whether or not it was refused memory. It is for whoever follows a trail in which the
-    /// entry was lost. A worker cannot lose so what it never tried: no gate has this call.
+    /// Ends an entry as lost that may start, whether or not it was refused memory. It is for whoever follows a trail in
+    /// which the entry was lost. A worker cannot lose so what it never tried: no gate has this call.
     pub fn lose_untried(&mut self, n: u32)
         requires { MayStart self.old n }
         ensures { self.new ≡ change self.old (Loses n) }
@@ -632,9 +652,9 @@ impl Core {
         }
     }
 
-    /// The accesses that are held: for each running entry, in the order of entries, what it declares, in declared order, with the
-    /// subject that it speaks for. Under the policy now each has the three properties. It takes no memory, and looks at running entries
-    /// alone.
+    /// The accesses that are held: for each running entry, in the order of entries, what it declares, in declared
+    /// order, with the subject that it speaks for. Under the policy now each has the three properties. It takes no
+    /// memory, and looks at running entries alone.
     pub fn held(&self) -> Held<'_>
         ensures items { result ≡ map item_of (held self.now) }
         ensures secure { All (λ (h : Hold). IsSecure (policy_now self.now) h.subject h.doc h.mode) (held self.now) }
@@ -659,14 +679,17 @@ impl Core {
         &self.policy
     }
 
-    /// The content of a document of the setup; `None` exactly while a running entry declares the document append or write. It is the
-    /// content at the first entry that is still to alter the document.
+    /// The content of a document of the setup; `None` exactly while a running entry declares the document append or
+    /// write. It is the content at the first entry that is still to alter the document.
     pub fn content(&self, doc: DocId) -> Option<&Document>
         requires { doc < length self.now.setup.contents }
         ensures value { IfSome result (λ content. content.now ≡ content_now self.now doc) }
-        ensures first { IfSome result (λ content. (n : ℕ) → IsFirstToAlter self.now doc n → content.now ≡ content_at self.now doc n) }
-        ensures none { IfNone result ((n : ℕ) × IsTrue (runs self.now n) × IsTrue (is_altered (accesses_of (past_at self.now n).task) doc)) }
-        ensures some { IfSome result (λ _. (n : ℕ) → IsTrue (runs self.now n) → ¬ IsTrue (is_altered (accesses_of (past_at self.now n).task) doc)) }
+        ensures first { IfSome result (λ content. (n : ℕ) → IsFirstToAlter self.now doc n
+            → content.now ≡ content_at self.now doc n) }
+        ensures none { IfNone result ((n : ℕ) × IsTrue (runs self.now n)
+            × IsTrue (is_altered (accesses_of (past_at self.now n).task) doc)) }
+        ensures some { IfSome result (λ _. (n : ℕ) → IsTrue (runs self.now n)
+            → ¬ IsTrue (is_altered (accesses_of (past_at self.now n).task) doc)) }
     {
         let shelf = &self.shelves[doc.position() as usize];
         if shelf.lent {
@@ -720,7 +743,8 @@ impl Core {
 
     /// The work of an entry that is a line; `None` for a child, and where it is not there.
     pub fn work(&self, n: u32) -> Option<&Work>
-        ensures work { MatchOption result (option_and_then work_asked (slice_get self.now.order n) ≡ None) (λ work. option_and_then work_asked (slice_get self.now.order n) ≡ Some work.now) }
+        ensures work { MatchOption result (option_and_then work_asked (slice_get self.now.order n) ≡ None)
+            (λ work. option_and_then work_asked (slice_get self.now.order n) ≡ Some work.now) }
         ensures readable { IfSome result (λ work. IsReadable self.now.setup.names work.now) }
         ensures known { IfSome result (λ work. KnowsWork self.now.setup work.now) }
     {
@@ -735,8 +759,9 @@ impl Core {
         }
     }
 
-    /// The level that an entry carries, below which it may alter nothing unless its subject is trusted: the lowest for a line, and for a
-    /// child the level at which its parent ran, joined with what that carried. `None` where it is not there.
+    /// The level that an entry carries, below which it may alter nothing unless its subject is trusted: the lowest for
+    /// a line, and for a child the level at which its parent ran, joined with what that carried. `None` where it is not
+    /// there.
     pub fn carried(&self, n: u32) -> Option<Level>
         ensures value { IfSome result (λ level. level ≡ (past_at self.now n).carried) }
         ensures some { IsSome result ↔ n < length self.now.order }
@@ -750,7 +775,8 @@ impl Core {
     /// The script of which an entry runs a behaviour, and the number of that behaviour; `None` for a rule.
     pub fn behaviour(&self, n: u32) -> Option<(&Script, usize)>
         requires { n < length self.now.order }
-        ensures { MatchOption result (is_rule (past_at self.now n).task ≡ true) (λ found. (past_at self.now n).task ≡ Runs found.0.now found.1) }
+        ensures { MatchOption result (is_rule (past_at self.now n).task ≡ true)
+            (λ found. (past_at self.now n).task ≡ Runs found.0.now found.1) }
     {
         match work_at(self.places.as_slice(), n as usize) {
             Work::Behaviour(script) => Some((script, usize::from(self.places[n as usize].index))),

@@ -256,10 +256,10 @@ impl<'a, S: Stream> Crowd<'a, S> {
     /// One turn at the gate with what is in hand, once the count of ends was read. It ends what was run. It does what
     /// each member asks, and what it asks at the next lines of what was read, so many at most. If the portion says so,
     /// it runs what is ready then and short to run, in the turn, and has the blocks answered that members wait for. It
-    /// begins what is ready, until the batch is full, as many were begun as it may have in hand, or nothing is ready. It
-    /// begins no more where an entry is ready that is long to run, once as many were begun as the portion says. What was
-    /// begun is to be run with the gate free, by `Batch::run`, and ends in the next round. No session is opened and no
-    /// line admitted but for members; a line only where the quota says that it fits.
+    /// begins what is ready, until the batch is full, as many were begun as it may have in hand, or nothing is ready.
+    /// It begins no more where an entry is ready that is long to run, once as many were begun as the portion says. What
+    /// was begun is to be run with the gate free, by `Batch::run`, and ends in the next round. No session is opened and
+    /// no line admitted but for members; a line only where the quota says that it fits.
     pub fn round<R: Wait, Q: Asks>(
         &mut self,
         rt: &R,

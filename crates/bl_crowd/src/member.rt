@@ -437,8 +437,8 @@ impl<'a, S: Stream> Member<'a, S> {
         Ok(true)
     }
 
-    /// Has its block answered, if it waits for that and no entry of its session is left that has not ended. Where memory
-    /// was refused it has failed, and asks that still.
+    /// Has its block answered, if it waits for that and no entry of its session is left that has not ended. Where
+    /// memory was refused it has failed, and asks that still.
     pub fn settle_on(&mut self, turn: &AtGate<'_>)
         requires way { (names : KnownNames) × (first : PassView) × IsHome names turn.now
             × IsMember S.remaining S.contents names first turn.now self.old }

@@ -1,5 +1,5 @@
 -- Texts that begin with others.
-use Rattle.std.proofs.Common.{◌≡◌, ℕ, zero, suc, ◌≤◌, List, [], ◌∷◌, ◌++◌, length, take, refl, sym, ◌∙◌, ap, arith, append_assoc, append-nil}
+use Rattle.std.proofs.Common.{ℕ, zero, suc, ◌≤◌, List, [], ◌∷◌, ◌++◌, length, take, refl, sym, ◌∙◌, ap, arith, append_assoc, append-nil}
 use Rattle.bl_disk.specs.File.{Begins, File, Keeps}
 
 -- a text begins with itself
@@ -17,17 +17,6 @@ take-behind (b ∷ front) rest zero le = absurd (omega (arith, le))
 take-behind (b ∷ front) rest (suc n) le =
     let t : Begins front (take n (front ++ rest)) = take-behind front rest n (omega (arith, le)) in
     (t.0, ap (λ l. b ∷ l) t.1)
-
--- two cuts at one place leave the one front of the other
-pub take-both : (n : ℕ) (front whole : List ℕ) → Begins front whole → Begins (take n front) (take n whole)
-take-both n front whole (rest, is) = go n front whole is
-  where
-    go : (n : ℕ) (front whole : List ℕ) → whole ≡ front ++ rest → Begins (take n front) (take n whole)
-    go zero front whole is = ([], refl)
-    go (suc n) [] whole is = (take (suc n) whole, refl)
-    go (suc n) (b ∷ front) whole is =
-        let t : Begins (take n front) (take n (front ++ rest)) = go n front (front ++ rest) refl in
-        (t.0, ap (take (suc n)) is ∙ ap (λ l. b ∷ l) t.1)
 
 -- what is kept, each crash leaves
 pub crash-keeps : (front : List ℕ) (file : File) → Begins front file.kept → Keeps front file

@@ -1,6 +1,5 @@
 -- What stays of an addition that is cut at a greatest length.
-use Rattle.std.proofs.Common.{◌≡◌, ℕ, zero, suc, ◌-◌, ◌≤◌, min, Bool, true, false, ◌&&◌, cond, IsTrue, List, [], ◌∷◌, ◌++◌, take, length, refl, ap, sym, ◌∙◌, subst, arith, length-append, Result, Ok, Err}
-use Rattle.std.specs.Prelude.{OnOk, is_ok}
+use Rattle.std.proofs.Common.{◌≡◌, ℕ, zero, suc, ◌-◌, ◌≤◌, min, Bool, true, false, ◌&&◌, cond, IsTrue, List, [], ◌∷◌, ◌++◌, take, length, refl, ap, sym, ◌∙◌, subst, arith, length-append}
 use native.Mathlib.Numerals.{unary_clauses}
 use Rattle.std.specs.List.{list_all}
 use Rattle.std.proofs.lemmas.List.{length-take}
@@ -58,8 +57,3 @@ module _ (c t : List ℕ) (n r : ℕ) (len : n ≡ length c) (room : r ≡ min (
   pub content-tried : (ok : Bool) (new : List ℕ) → new ≡ cond ok (c ++ take r t) c → IsContent c → IsTrue (list_all is_content_byte t) → IsContent new
   content-tried true new e was plain = subst (λ (l : List ℕ). IsContent l) (sym e) (content-front was plain)
   content-tried false new e was plain = subst (λ (l : List ℕ). IsContent l) (sym e) was
-
--- what an append that may be refused leaves, where it was not
-pub kept_on_ok : {U E : Type 0} (r : Result U E) (new more old wanted : List ℕ) → new ≡ cond (is_ok r) more old → more ≡ wanted → OnOk r (new ≡ wanted)
-kept_on_ok (Ok u) new more old wanted e same = e ∙ same
-kept_on_ok (Err u) new more old wanted e same = tt

@@ -1,5 +1,5 @@
 -- What a conversation has heard.
-use Rattle.std.proofs.Common.{◌≡◌, ◌≢◌, ℕ, ◌+◌, ◌*◌, ◌<◌, ◌≤◌, ◌⊎◌, inl, inr, Bool, true, false, List, [], ◌∷◌, ◌++◌, length, refl, sym, ap, subst, ◌∙◌, append_assoc, append-nil, arith, take, Option, Some, None, IfSome, ◌-◌, length-append, length-take-le}
+use Rattle.std.proofs.Common.{◌≡◌, ◌≢◌, ℕ, ◌+◌, ◌<◌, ◌≤◌, ◌⊎◌, inl, inr, Bool, true, false, List, [], ◌∷◌, ◌++◌, length, refl, sym, ap, subst, ◌∙◌, append_assoc, append-nil, arith, take, Option, Some, None, IfSome, ◌-◌, length-append, length-take-le}
 use Rattle.std.proofs.lemmas.List.Elements.{All-nil, All-append}
 use Rattle.bl_work.specs.Names.{KnownNames}
 use Rattle.bl_wire.specs.HoldsLine.{HoldsLine}
@@ -39,10 +39,6 @@ no_input true stage ended is = let no' = not_ended true stage is in cc
 lines_last : (line : List ℕ) → 0 < length line → HasNoLf line → lines_of line ≡ line ∷ []
 lines_last [] some plain = absurd (omega arith)
 lines_last (b ∷ line) some plain = lines-last b line plain
-
--- what is held of a line is so of the room that was taken out, or made for a new line
-pub held_begun : (old : Option Held) (held : Held) → old ≡ Some held → (line : List ℕ) → HoldsBegun old line → HoldsLine held line
-held_begun old held is line begun = (subst (λ o. HoldsBegun o line) is begun).1
 
 pub held_new : (old : Option Held) (held : Held) → old ≡ None → HoldsLine held [] → (line : List ℕ) → HoldsBegun old line → HoldsLine held line
 held_new old held is holds line begun =

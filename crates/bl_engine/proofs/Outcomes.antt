@@ -13,11 +13,6 @@ pub if_err-both : {A E : Type 0} (r : Result A E) {P Q S : E → Type 0} → ((e
 if_err-both (Ok x) f p q = tt
 if_err-both (Err e) f p q = f e p q
 
--- what holds holds of each result
-pub on_ok-all : {A E : Type 0} (r : Result A E) {P : Type 0} → P → OnOk r P
-on_ok-all (Ok a) p = p
-on_ok-all (Err e) p = tt
-
 pub on_err-all : {A E : Type 0} (r : Result A E) {P : Type 0} → P → OnErr r P
 on_err-all (Ok a) p = tt
 on_err-all (Err e) p = p
@@ -25,10 +20,6 @@ on_err-all (Err e) p = p
 pub if_ok-map : {A E : Type 0} (r : Result A E) {P Q : A → Type 0} → ((a : A) → P a → Q a) → IfOk r P → IfOk r Q
 if_ok-map (Ok x) f p = f x p
 if_ok-map (Err e) f p = tt
-
-pub if_ok-both : {A E : Type 0} (r : Result A E) {P Q S : A → Type 0} → ((a : A) → P a → Q a → S a) → IfOk r P → IfOk r Q → IfOk r S
-if_ok-both (Ok x) f p q = f x p q
-if_ok-both (Err e) f p q = tt
 
 -- what is not there
 pub not_some : {A : Type 0} (o : Option A) → ((a : A) → o ≡ Some a → ⊥) → o ≡ None

@@ -1,18 +1,10 @@
 -- What is told of a block, part by part.
-use Rattle.std.proofs.Common.{◌≡◌, ℕ, suc, ◌+◌, ◌<◌, ◌≤◌, Bool, true, false, List, [], ◌∷◌, ◌++◌, length, refl, sym, ap, ◌∙◌, append_assoc, append-nil, arith, drop, get_or, drop-cons, add-one}
-use Rattle.bl_wire.specs.Watch.{EndState, Puts}
+use Rattle.std.proofs.Common.{◌≡◌, ℕ, suc, ◌+◌, ◌<◌, ◌≤◌, List, [], ◌∷◌, ◌++◌, length, refl, sym, ap, ◌∙◌, append_assoc, arith, drop, get_or, drop-cons, add-one}
 use Rattle.bl_wire.specs.declared.turn.Pending.{Pending}
 use Rattle.bl_wire.specs.declared.turn.Pending.TheVariants.{Again, Refused, Asked}
 use Rattle.bl_engine.specs.BlockText.{block_text, reply_to}
-use Rattle.bl_engine.specs.Parts.{PutsPart, SameAbove, rest_of}
+use Rattle.bl_engine.specs.Parts.{SameAbove}
 use Rattle.bl_engine.specs.Conversations.{Talk, lines_left}
-
-pub part_whole : (text : List ℕ) (e f : EndState) → Puts text e f → PutsPart text [] true e f
-part_whole text e f puts = record { part = text; split = sym (append-nil text); puts = puts; some = λ is. cc; none = λ is. refl }
-
-pub part_asked : (was left : List ℕ) (last : Bool) (e f : EndState) → PutsPart was left last e f → PutsPart was (rest_of last left) last e f
-part_asked was left true e f p = record { part = p.part; split = p.split ∙ ap (λ l. p.part ++ l) (p.none refl); puts = p.puts; some = p.some; none = λ is. refl }
-part_asked was left false e f p = record { part = p.part; split = p.split; puts = p.puts; some = p.some; none = λ is. cc }
 
 -- the text of a block above an ordinal up to which alone replies were taken
 pub block_above : (f g : ℕ → List ℕ) (n k : ℕ) (pending : List Pending) → SameAbove n f g → n ≤ k → block_text g k pending ≡ block_text f k pending

@@ -101,9 +101,6 @@ block-same n f g same k (Asked ∷ pending) h =
 pub same_refl : (n : ℕ) (f : ℕ → List ℕ) → SameUpTo n f f
 same_refl n f k h = refl
 
-pub same_trans : (n : ℕ) (f g h : ℕ → List ℕ) → SameUpTo n f g → SameUpTo n g h → SameUpTo n f h
-same_trans n f g h one two k le = two k le ∙ one k le
-
 -- the text of one reply more
 pub block-step : (r : ℕ → List ℕ) (k : ℕ) (pending : List Pending) (i ordinal : ℕ) (p : Pending) → i < length pending → p ≡ get_or pending i p → ordinal ≡ k + suc i
     → block_text r k (take (suc i) pending) ≡ block_text r k (take i pending) ++ reply_to r ordinal p

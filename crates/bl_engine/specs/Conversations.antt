@@ -1,5 +1,6 @@
 -- How far a conversation has come.
-use Rattle.std.specs.Prelude.{◌≡◌, ℕ, ◌+◌, ◌*◌, ◌-◌, ◌<◌, ◌≤◌, ◌⊎◌, Bool, true, false, List, [], ◌∷◌, ◌++◌, length, drop, Option, Some, None, IfSome, replicate, ⊤}
+use Rattle.std.specs.Prelude.{◌≡◌, ℕ, ◌+◌, ◌*◌, ◌-◌, ◌<◌, ◌≤◌, ◌⊎◌, Bool, true, false, List, [], ◌∷◌, ◌++◌, length}
+use Rattle.std.specs.Prelude.{drop, Option, Some, None, IfSome, replicate, ⊤}
 use Rattle.bl_work.specs.Names.{KnownNames}
 use Rattle.bl_wire.specs.HoldsLine.{HoldsLine}
 use Rattle.bl_wire.specs.declared.held.Held.{Held}
@@ -88,7 +89,8 @@ abbrev pub whole_asked : Opening → List Turn → List Request
 whole_asked Open turns = told_by turns
 whole_asked Full turns = full_asked turns
 
--- the block of a conversation: the last ordinal before it, its lines, how many of them were told, and whether the input is at its end
+-- the block of a conversation: the last ordinal before it, its lines, how many of them were told, and whether the input
+-- is at its end
 pub record Talk : Type 0 where
   pub ended : Bool
   pub after : ℕ
@@ -153,8 +155,10 @@ pub record HasGreeted (talk : Talk) (turns : List Turn) (asked : List Request) (
   pub asked_is : asked ≡ Opens subject ∷ []
   pub quiet : said ≡ []
 
--- The session is open. All blocks before the open one were told whole, and nothing of that, after which these turns stand.
-pub record IsOpen (given : Given) (talk : Talk) (behind turns : List Turn) (asked : List Request) (said : List ℕ) : Type 0 where
+-- The session is open. All blocks before the open one were told whole, and nothing of that, after which these turns
+-- stand.
+pub record IsOpen (given : Given) (talk : Talk) (behind turns : List Turn) (asked : List Request)
+    (said : List ℕ) : Type 0 where
   pub is_open : given.opening ≡ Open
   pub subject : ℕ
   pub head : List Turn
@@ -174,7 +178,8 @@ abbrev pub TellsWhole : (ℕ → List ℕ) → List Turn → List ℕ → Type 0
 TellsWhole replies turns said = (before : List ℕ) × AreWholeBefore replies turns before × Begins before said
 
 -- The session is open, and what was told and what is still to be told are the text of all its lines.
-pub record IsTelling (given : Given) (talk : Talk) (turns : List Turn) (asked : List Request) (said rest : List ℕ) : Type 0 where
+pub record IsTelling (given : Given) (talk : Talk) (turns : List Turn) (asked : List Request)
+    (said rest : List ℕ) : Type 0 where
   pub is_open : given.opening ≡ Open
   pub subject : ℕ
   pub head : List Turn
@@ -194,7 +199,8 @@ IsWhy RefusesHello given ended turns = IsRefusal turns
 IsWhy FindsFull given ended turns = (given.opening ≡ Full) × ((subject : ℕ) × IsOpening subject turns)
 
 -- What was told and what is still to be told are all that is told, and all was asked.
-pub record IsEnding (given : Given) (closing : Closing) (ended : Bool) (turns : List Turn) (asked : List Request) (said rest : List ℕ) : Type 0 where
+pub record IsEnding (given : Given) (closing : Closing) (ended : Bool) (turns : List Turn) (asked : List Request)
+    (said rest : List ℕ) : Type 0 where
   pub why : IsWhy closing given ended turns
   pub stops : StopsAtRefusal turns
   pub asked_is : asked ≡ whole_asked given.opening turns
@@ -205,7 +211,8 @@ pub record IsEnding (given : Given) (closing : Closing) (ended : Bool) (turns : 
 abbrev pub IsSettling : Closing → Given → Talk → List Turn → List Request → List ℕ → Type 0
 IsSettling GoesOn given talk turns asked said = IsOpen given talk (Wait ∷ []) turns asked said
 IsSettling Ends given talk turns asked said =
-    (talk.ended ≡ true) × ((before : List Request) × (asked ≡ before ++ Settles ∷ []) × IsOpen given talk [] turns before said)
+    (talk.ended ≡ true) × ((before : List Request) × (asked ≡ before ++ Settles ∷ [])
+    × IsOpen given talk [] turns before said)
 IsSettling RefusesHello given talk turns asked said = ⊥
 IsSettling FindsFull given talk turns asked said = ⊥
 
@@ -213,8 +220,10 @@ IsSettling FindsFull given talk turns asked said = ⊥
 abbrev pub IsToldTo : Closing → Given → (ℕ → List ℕ) → Talk → List Turn → List Request → List ℕ → Type 0
 IsToldTo GoesOn given left talk turns asked said = IsTelling given talk turns asked said (owed left talk GoesOn)
 IsToldTo Ends given left talk turns asked said = IsEnding given Ends talk.ended turns asked said (owed left talk Ends)
-IsToldTo RefusesHello given left talk turns asked said = IsEnding given RefusesHello talk.ended turns asked said (owed left talk RefusesHello)
-IsToldTo FindsFull given left talk turns asked said = IsEnding given FindsFull talk.ended turns asked said (owed left talk FindsFull)
+IsToldTo RefusesHello given left talk turns asked said = IsEnding given RefusesHello talk.ended turns asked said
+    (owed left talk RefusesHello)
+IsToldTo FindsFull given left talk turns asked said = IsEnding given FindsFull talk.ended turns asked said
+    (owed left talk FindsFull)
 
 -- what was asked and told at a stage
 abbrev pub IsAt : Stage → Given → (ℕ → List ℕ) → Talk → List Turn → List Request → List ℕ → Type 0
@@ -223,11 +232,13 @@ IsAt stages.Opens given left talk turns asked said = HasGreeted talk turns asked
 IsAt stages.Listens given left talk turns asked said = IsOpen given talk [] turns asked said
 IsAt (stages.Settles closing) given left talk turns asked said = IsSettling closing given talk turns asked said
 IsAt (stages.Tells closing) given left talk turns asked said = IsToldTo closing given left talk turns asked said
-IsAt stages.Over given left talk turns asked said = (closing : Closing) × IsEnding given closing talk.ended turns asked said []
+IsAt stages.Over given left talk turns asked said = (closing : Closing)
+    × IsEnding given closing talk.ended turns asked said []
 
--- These bytes were heard, which are these turns and a line that has begun, and so much was asked and said. `left` is what is still to
--- be taken of the replies to the block that is told.
-pub record Spoke (names : KnownNames) (given : Given) (left : ℕ → List ℕ) (conv : Conversation) (turns : List Turn) (asked : List Request) (heard said : List ℕ) : Type 0 where
+-- These bytes were heard, which are these turns and a line that has begun, and so much was asked and said. `left` is
+-- what is still to be taken of the replies to the block that is told.
+pub record Spoke (names : KnownNames) (given : Given) (left : ℕ → List ℕ) (conv : Conversation) (turns : List Turn)
+    (asked : List Request) (heard said : List ℕ) : Type 0 where
   pub cut : HasHeard names conv turns heard
   pub point : IsAt conv.stage given left (talk_of conv) turns asked said
 
@@ -249,17 +260,20 @@ IsOf turn (Admits ordinal work) = turn ≡ Ask work
 IsOf turn Settles = ⊤
 
 -- These bytes were heard after others, with one turn more at most, and this is asked.
-pub record HearsMore (names : KnownNames) (old new : Conversation) (turns : List Turn) (heard bytes : List ℕ) (request : Option Request) : Type 0 where
+pub record HearsMore (names : KnownNames) (old new : Conversation) (turns : List Turn) (heard bytes : List ℕ)
+    (request : Option Request) : Type 0 where
   pub more : List Turn
   pub few : length more ≤ 1
   pub origin : IfSome request (IsHeardOf names)
   pub cut : HasHeard names new (turns ++ more) (heard ++ bytes)
   pub point : (given : Given) (left : ℕ → List ℕ) (asked : List Request) (said : List ℕ)
-      → IsAt old.stage given left (talk_of old) turns asked said → IsAt new.stage given left (talk_of new) (turns ++ more) (asked ++ asks request) said
+      → IsAt old.stage given left (talk_of old) turns asked said
+      → IsAt new.stage given left (talk_of new) (turns ++ more) (asked ++ asks request) said
 
 -- it has heard these bytes, whatever it heard before
 abbrev pub Hears : KnownNames → (old new : Conversation) → List ℕ → Option Request → Type 0
-Hears names old new bytes request = (turns : List Turn) (heard : List ℕ) → HasHeard names old turns heard → HearsMore names old new turns heard bytes request
+Hears names old new bytes request = (turns : List Turn) (heard : List ℕ) → HasHeard names old turns heard
+    → HearsMore names old new turns heard bytes request
 
 -- the ordinal of what is to be admitted is the last one of the block, and a new one
 abbrev pub IsNumbered : (old new : Conversation) → Request → Type 0
@@ -267,7 +281,8 @@ IsNumbered old new (Opens subject) = ⊤
 IsNumbered old new (Admits ordinal work) = (ordinal ≡ last_ordinal new) × (last_ordinal old < ordinal)
 IsNumbered old new Settles = ⊤
 
--- it waits for nothing from the machine: it hears lines, tells words with no such number of lines before them, or is over
+-- it waits for nothing from the machine: it hears lines, tells words with no such number of lines before them, or is
+-- over
 abbrev pub GoesOnAlone : ℕ → Stage → Type 0
 GoesOnAlone lines stages.Greets = ⊤
 GoesOnAlone lines stages.Opens = ⊥
@@ -299,18 +314,22 @@ pub record SameBlock (old new : Conversation) : Type 0 where
 
 -- it goes on where the machine takes the subject so
 abbrev pub IsOpenedAs : Opening → (old new : Conversation) → Type 0
-IsOpenedAs opening old new = (names : KnownNames) (given : Given) (left : ℕ → List ℕ) (turns : List Turn) (asked : List Request) (heard said : List ℕ)
-    → given.opening ≡ opening → Spoke names given left old turns asked heard said → Spoke names given left new turns asked heard said
+IsOpenedAs opening old new = (names : KnownNames) (given : Given) (left : ℕ → List ℕ) (turns : List Turn)
+    (asked : List Request) (heard said : List ℕ)
+    → given.opening ≡ opening → Spoke names given left old turns asked heard said
+    → Spoke names given left new turns asked heard said
 
 -- it goes on with the replies to the block, of which nothing was taken
 abbrev pub IsAnswered : (old new : Conversation) → Type 0
-IsAnswered old new = (names : KnownNames) (given : Given) (was left : ℕ → List ℕ) (turns : List Turn) (asked : List Request) (heard said : List ℕ)
+IsAnswered old new = (names : KnownNames) (given : Given) (was left : ℕ → List ℕ) (turns : List Turn)
+    (asked : List Request) (heard said : List ℕ)
     → SameWithin old.after (old.after + length old.pending.items) given.replies left
     → Spoke names given was old turns asked heard said → Spoke names given left new turns asked heard said
 
 -- it has said so much more
 abbrev pub Says : (was left : ℕ → List ℕ) → (old new : Conversation) → List ℕ → Type 0
-Says was left old new more = (names : KnownNames) (given : Given) (turns : List Turn) (asked : List Request) (heard said : List ℕ)
+Says was left old new more = (names : KnownNames) (given : Given) (turns : List Turn) (asked : List Request)
+    (heard said : List ℕ)
     → Spoke names given was old turns asked heard said → Spoke names given left new turns asked heard (said ++ more)
 
 -- there may be one line more in the block
@@ -327,8 +346,10 @@ pub record Keeps (old new : Conversation) (line : Pending) : Type 0 where
 
 -- one line more was taken, and this is asked at it
 abbrev pub Moves : (old new : Conversation) → Turn → Option Request → Type 0
-Moves old new turn request = (given : Given) (left : ℕ → List ℕ) (turns : List Turn) (asked : List Request) (said : List ℕ)
-    → IsAt old.stage given left (talk_of old) turns asked said → IsAt new.stage given left (talk_of new) (turns ++ turn ∷ []) (asked ++ asks request) said
+Moves old new turn request = (given : Given) (left : ℕ → List ℕ) (turns : List Turn) (asked : List Request)
+    (said : List ℕ)
+    → IsAt old.stage given left (talk_of old) turns asked said
+    → IsAt new.stage given left (talk_of new) (turns ++ turn ∷ []) (asked ++ asks request) said
 
 pub record TakesTurn (old new : Conversation) (turn : Turn) (request : Option Request) : Type 0 where
   pub held : new.held ≡ old.held
@@ -345,7 +366,8 @@ pub record LetsGo (old new : Conversation) : Type 0 where
   pub talk : talk_of new ≡ talk_of old
 
 -- the line that was held so is taken
-pub record TakesLine (names : KnownNames) (held_line : Held) (old new : Conversation) (request : Option Request) : Type 0 where
+pub record TakesLine (names : KnownNames) (held_line : Held) (old new : Conversation)
+    (request : Option Request) : Type 0 where
   pub turn : Turn
   pub is_turn : (line : List ℕ) → HoldsLine held_line line → IsTurn names line turn
   pub held : new.held ≡ old.held
@@ -414,9 +436,10 @@ waits_of true stage = waits_at stage
 abbrev pub waits_left : Conversation → ℕ
 waits_left conv = 8 * conv.left + waits_of conv.ended conv.stage
 
--- All that was heard are these turns, and all that they tell was said and asked. It is all of the input, or up to a first line that was
--- refused.
-pub record IsAll (names : KnownNames) (given : Given) (conv : Conversation) (turns : List Turn) (asked : List Request) (heard said : List ℕ) : Type 0 where
+-- All that was heard are these turns, and all that they tell was said and asked. It is all of the input, or up to a
+-- first line that was refused.
+pub record IsAll (names : KnownNames) (given : Given) (conv : Conversation) (turns : List Turn) (asked : List Request)
+    (heard said : List ℕ) : Type 0 where
   pub are : AreTurns names (lines_of heard) turns
   pub cut : AreSo conv.ended heard (lines_of heard)
   pub closing : Closing
@@ -432,14 +455,16 @@ AnswersAllAtTheEnd = (names : KnownNames) (given : Given) (left : ℕ → List �
     (asked : List Request) (heard said : List ℕ) → Spoke names given left conv turns asked heard said
     → need_of conv ≡ needs.Over → IsAll names given conv turns asked heard said
 
--- What was said begins what these turns tell, and each block that was told is whole; while lines are heard, so are all whose `wait`
--- came. What was said is part of what is told whatever comes after these turns, unless the input is at its end. What was asked
--- is what they ask, but for settling.
-pub record IsSoFar (given : Given) (conv : Conversation) (turns : List Turn) (asked : List Request) (said : List ℕ) : Type 0 where
+-- What was said begins what these turns tell, and each block that was told is whole; while lines are heard, so are all
+-- whose `wait` came. What was said is part of what is told whatever comes after these turns, unless the input is at its
+-- end. What was asked is what they ask, but for settling.
+pub record IsSoFar (given : Given) (conv : Conversation) (turns : List Turn) (asked : List Request)
+    (said : List ℕ) : Type 0 where
   pub begins : Begins said (whole_text given.opening given.replies turns)
   pub blocks : TellsWhole given.replies turns said
   pub quiet : is_hearing conv.stage ≡ true → AreWhole given.replies turns said
-  pub due : given.opening ≡ Open → (conv.ended ≡ true) ⊎ ((text : List ℕ) × IsDue given.replies turns text × Begins said text)
+  pub due : given.opening ≡ Open → (conv.ended ≡ true)
+      ⊎ ((text : List ℕ) × IsDue given.replies turns text × Begins said text)
   pub stops : StopsAtRefusal turns
   pub settles : ℕ
   pub asked_is : whole_asked given.opening turns ≡ asked ++ replicate settles Settles

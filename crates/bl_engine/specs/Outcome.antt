@@ -1,5 +1,6 @@
 -- How a session ends.
-use Rattle.std.specs.Prelude.{◌≡◌, ℕ, ◌+◌, ◌≤◌, Bool, true, false, List, [], ◌++◌, length, Option, OnSome, ◌⊎◌, replicate, codes, take}
+use Rattle.std.specs.Prelude.{◌≡◌, ℕ, ◌+◌, ◌≤◌, Bool, true, false, List, [], ◌++◌, length, Option, OnSome, ◌⊎◌}
+use Rattle.std.specs.Prelude.{replicate, codes, take}
 use Rattle.std.specs.Io.KnownBytes.{Consumes, Appends, IsAtEnd}
 use Rattle.bl_work.specs.Names.{KnownNames}
 use Rattle.bl_wire.specs.Lines.{lines_of, AreLines, HasNoLf}
@@ -31,7 +32,8 @@ IsCut true bytes lines before after = AreLines bytes lines
 IsCut false bytes lines before after = (lines_of bytes ≡ lines) × OnSome before (IsAtEnd after)
 
 -- these turns were read, and so many bytes may still be read
-pub record Cutting (again : Bool) (names : KnownNames) (start rest : Option (List ℕ)) (left : ℕ) (turns : List Turn) : Type 0 where
+pub record Cutting (again : Bool) (names : KnownNames) (start rest : Option (List ℕ)) (left : ℕ)
+    (turns : List Turn) : Type 0 where
   pub bytes : List ℕ
   pub lines : List (List ℕ)
   pub cut : IsCut again bytes lines start rest
@@ -39,7 +41,8 @@ pub record Cutting (again : Bool) (names : KnownNames) (start rest : Option (Lis
   pub count : left + length bytes ≡ 16777216
   pub are : AreTurns names lines turns
 
--- The input was read to its end, or to the end of a first line that was refused and no further, and its transcript is written.
+-- The input was read to its end, or to the end of a first line that was refused and no further, and its transcript is
+-- written.
 pub record Finished (names : KnownNames) (ends : Ends) (view : View) : Type 0 where
   pub bytes : List ℕ
   pub turns : List Turn
@@ -57,8 +60,8 @@ pub record Finished (names : KnownNames) (ends : Ends) (view : View) : Type 0 wh
 abbrev pub refused_sessions : List ℕ
 refused_sessions = codes "refused sessions\n"
 
--- The first line that is not skipped asked for a session, and there were as many as there may be. The input was read to the end of
--- that line and no further, nothing was told, and this text is written.
+-- The first line that is not skipped asked for a session, and there were as many as there may be. The input was read to
+-- the end of that line and no further, nothing was told, and this text is written.
 pub record TurnedAway (names : KnownNames) (ends : Ends) (view : View) (text : List ℕ) : Type 0 where
   pub subject : ℕ
   pub turns : List Turn
@@ -70,7 +73,8 @@ pub record TurnedAway (names : KnownNames) (ends : Ends) (view : View) (text : L
   pub came : view.came []
 
 -- a first part of these words is written, and writing failed
-pub record TurnedAwayInPart (fault : SessionFault) (names : KnownNames) (ends : Ends) (read_failed write_failed : Bool) (view : View) (text : List ℕ) : Type 0 where
+pub record TurnedAwayInPart (fault : SessionFault) (names : KnownNames) (ends : Ends) (read_failed write_failed : Bool)
+    (view : View) (text : List ℕ) : Type 0 where
   pub much : ℕ
   pub part : TurnedAway names ends view (take much text)
   pub is_write : fault ≡ Write
@@ -81,17 +85,20 @@ pub record TurnedAwayInPart (fault : SessionFault) (names : KnownNames) (ends : 
 abbrev pub IsCause : SessionFault → Option (List ℕ) → Option (List ℕ) → Bool → Bool → ℕ → Type 0
 IsCause Read start rest read_failed write_failed taken = (read_failed ≡ true) × (write_failed ≡ false)
 IsCause Write start rest read_failed write_failed taken = (read_failed ≡ false) × (write_failed ≡ true)
-IsCause TooLong start rest read_failed write_failed taken = (read_failed ≡ false) × (write_failed ≡ false) × (taken ≡ 16777216) × OnSome start (HasMore rest)
+IsCause TooLong start rest read_failed write_failed taken = (read_failed ≡ false) × (write_failed ≡ false)
+    × (taken ≡ 16777216) × OnSome start (HasMore rest)
 IsCause Memory start rest read_failed write_failed taken = (read_failed ≡ false) × (write_failed ≡ false)
 IsCause Clash start rest read_failed write_failed taken = (read_failed ≡ false) × (write_failed ≡ false)
 
--- the bytes are whole lines, or where it wasn't reading that stopped they may be all of an input whose last line has no LF
+-- the bytes are whole lines, or where it wasn't reading that stopped they may be all of an input whose last line has no
+-- LF
 abbrev pub AreWholeLines : SessionFault → List ℕ → List ℕ → Option (List ℕ) → Option (List ℕ) → Type 0
 AreWholeLines fault bytes part start rest =
     AreLines bytes (lines_of bytes) ⊎ ((is_reading fault ≡ false) × (part ≡ []) × OnSome start (IsAtEnd rest))
 
 -- these turns were read whole, and then a part of a line that is dropped
-pub record Broken (fault : SessionFault) (names : KnownNames) (start rest : Option (List ℕ)) (read_failed write_failed : Bool) (turns : List Turn) : Type 0 where
+pub record Broken (fault : SessionFault) (names : KnownNames) (start rest : Option (List ℕ))
+    (read_failed write_failed : Bool) (turns : List Turn) : Type 0 where
   pub bytes : List ℕ
   pub part : List ℕ
   pub took : Consumes start rest (bytes ++ part)
@@ -127,21 +134,24 @@ IsDue replies turns text = AreWhole replies turns text ⊎ (IsRefusal turns × (
 
 -- a part of what is written whatever comes, or of the last words at the end of the input
 abbrev pub IsDuePart : (ℕ → List ℕ) → (start rest : Option (List ℕ)) → List Turn → List ℕ → Type 0
-IsDuePart replies start rest heard written = OnSome start (IsAtEnd rest) ⊎ ((text : List ℕ) × IsDue replies heard text × Begins written text)
+IsDuePart replies start rest heard written = OnSome start (IsAtEnd rest)
+    ⊎ ((text : List ℕ) × IsDue replies heard text × Begins written text)
 
--- What a session that ended early has written. Where reading stopped it is all blocks whose `wait` came. Where memory was
--- refused, or somebody else spoke for the session, it is they as well, but the block that the last line closes may be lacking. Where writing failed a part of what is
--- written next may follow.
-abbrev pub IsPutAt : SessionFault → (ℕ → List ℕ) → (start rest : Option (List ℕ)) → (turns heard : List Turn) → List ℕ → Type 0
+-- What a session that ended early has written. Where reading stopped it is all blocks whose `wait` came. Where memory
+-- was refused, or somebody else spoke for the session, it is they as well, but the block that the last line closes may
+-- be lacking. Where writing failed a part of what is written next may follow.
+abbrev pub IsPutAt : SessionFault → (ℕ → List ℕ) → (start rest : Option (List ℕ)) → (turns heard : List Turn) → List ℕ
+    → Type 0
 IsPutAt Read replies start rest turns heard written = AreWhole replies turns written
 IsPutAt TooLong replies start rest turns heard written = AreWhole replies turns written
 IsPutAt Memory replies start rest turns heard written = AreWholeBefore replies turns written
 IsPutAt Write replies start rest turns heard written =
-    ((done : List ℕ) × AreWholeBefore replies turns done × Begins done written) × IsDuePart replies start rest heard written
+    ((done : List ℕ) × AreWholeBefore replies turns done × Begins done written)
+    × IsDuePart replies start rest heard written
 IsPutAt Clash replies start rest turns heard written = AreWholeBefore replies turns written
 
--- What was heard of the lines that were read: all of them, or where memory was refused or somebody else spoke for the session all but
--- perhaps the last.
+-- What was heard of the lines that were read: all of them, or where memory was refused or somebody else spoke for the
+-- session all but perhaps the last.
 abbrev pub WereHeard : SessionFault → List Turn → List Turn → Type 0
 WereHeard Read heard turns = heard ≡ turns
 WereHeard Write heard turns = heard ≡ turns
@@ -149,9 +159,11 @@ WereHeard TooLong heard turns = heard ≡ turns
 WereHeard Memory heard turns = LacksTheLast heard turns
 WereHeard Clash heard turns = LacksTheLast heard turns
 
--- The session ended early. What is written begins the transcript of the lines that were heard, whatever is answered later. What was told is what these lines tell, but for settling. Nothing
--- was read behind a first line that was refused.
-pub record Stopped (fault : SessionFault) (names : KnownNames) (ends : Ends) (read_failed write_failed : Bool) (view : View) : Type 0 where
+-- The session ended early. What is written begins the transcript of the lines that were heard, whatever is answered
+-- later. What was told is what these lines tell, but for settling. Nothing was read behind a first line that was
+-- refused.
+pub record Stopped (fault : SessionFault) (names : KnownNames) (ends : Ends) (read_failed write_failed : Bool)
+    (view : View) : Type 0 where
   pub turns : List Turn
   pub read : Broken fault names ends.start ends.rest read_failed write_failed turns
   pub stops : StopsAtRefusal turns
@@ -167,4 +179,5 @@ pub record Stopped (fault : SessionFault) (names : KnownNames) (ends : Ends) (re
   pub settles : ℕ
   pub told_is : told_by heard ≡ told ++ replicate settles Settles
   pub begins : (later : ℕ → List ℕ) → SameUpTo upto view.replies later → Begins written (session_text later heard)
-  pub closed : (later : ℕ → List ℕ) → SameUpTo upto view.replies later → IsPutAt fault later ends.start ends.rest turns heard written
+  pub closed : (later : ℕ → List ℕ) → SameUpTo upto view.replies later
+      → IsPutAt fault later ends.start ends.rest turns heard written

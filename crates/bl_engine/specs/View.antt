@@ -2,8 +2,8 @@
 use Rattle.std.specs.Prelude.{ℕ, List, Option}
 use Rattle.bl_engine.specs.Requests.{Request}
 
--- the text of the replies to each ordinal as things stand, up to which ordinals they stand for good, and what may have been told to
--- bring the machine here
+-- the text of the replies to each ordinal as things stand, up to which ordinals they stand for good, and what may have
+-- been told to bring the machine here
 pub record View : Type 1 where
   pub replies : ℕ → List ℕ
   pub settled : ℕ → Type 0
@@ -13,7 +13,8 @@ pub record View : Type 1 where
 abbrev pub seen : (ℕ → List ℕ) → (ℕ → Type 0) → (List Request → Type 0) → View
 seen replies settled came = record { replies = replies; settled = settled; came = came }
 
--- what is known of the bytes at both ends: those to be read at first and those that rest, those written at first and those kept now
+-- what is known of the bytes at both ends: those to be read at first and those that rest, those written at first and
+-- those kept now
 pub record Ends : Type 0 where
   pub start : Option (List ℕ)
   pub rest : Option (List ℕ)

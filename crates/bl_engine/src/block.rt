@@ -13,7 +13,8 @@ use bl_wire::turn::Pending;
 use bl_wire::watched::Watched;
 use std::io::Write;
 
-/// The replies to the lines of a block. They are taken line by line, by rising ordinal, and those to a line part by part.
+/// The replies to the lines of a block. They are taken line by line, by rising ordinal, and those to a line part by
+/// part.
 pub trait Replies {
     // what is still to be taken of the replies to each ordinal
     ghost left: { Self → ℕ → List ℕ };
@@ -21,11 +22,12 @@ pub trait Replies {
     // the replies above this ordinal may still be taken
     ghost stands: { Self → ℕ → Type 0 };
 
-    /// Writes the next part of the replies to an ordinal, unless the writer has failed, and says whether it is the last one. Each part
-    /// but the last has a byte at least.
+    /// Writes the next part of the replies to an ordinal, unless the writer has failed, and says whether it is the last
+    /// one. Each part but the last has a byte at least.
     fn put_part<W: Write>(&mut self, ordinal: u32, writer: &mut Watched<W>) -> bool
         requires { MayTake (stands self.old) ordinal }
-        ensures part { PutsPart (left self.old ordinal) (left self.new ordinal) result (end_state W.contents writer.old) (end_state W.contents writer.new) }
+        ensures part { PutsPart (left self.old ordinal) (left self.new ordinal) result (end_state W.contents writer.old)
+            (end_state W.contents writer.new) }
         ensures others { SameAbove ordinal (left self.old) (left self.new) }
         ensures stands { MayTake (stands self.new) (next_behind result ordinal) };
 }
@@ -55,7 +57,9 @@ pub(crate) fn put_reply<B: Replies, W: Write>(
     line: &Pending,
 ) -> bool
     requires { MayTake (B.stands block.old) ordinal }
-    ensures part { PutsPart (reply_to (B.left block.old) ordinal line.now) (rest_of result (reply_to (B.left block.new) ordinal line.now)) result (end_state W.contents writer.old) (end_state W.contents writer.new) }
+    ensures part { PutsPart (reply_to (B.left block.old) ordinal line.now)
+        (rest_of result (reply_to (B.left block.new) ordinal line.now)) result (end_state W.contents writer.old)
+        (end_state W.contents writer.new) }
     ensures others { SameAbove ordinal (B.left block.old) (B.left block.new) }
     ensures stands { MayTake (B.stands block.new) (next_behind result ordinal) }
 {

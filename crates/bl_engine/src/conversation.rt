@@ -1,7 +1,8 @@
-//! A conversation of a session as a value: it is handed bytes as they come and replies as they are there, says what it asks of the
-//! machine behind it, and tells what it has to say. It calls no reader and no machine, so it can be left at any moment, and many of
-//! them can share a thread.
-ghost use Rattle.std.specs.Prelude.{◌≡◌, ◌+◌, ◌≤◌, ◌<◌, ◌^◌, ◌++◌, ◌∷◌, [], ◌⊎◌, ℕ, List, Bool, true, false, Option, Some, None, IfOk, OnOk, IfErr, IfNone, IfSome, length, take, drop};
+//! A conversation of a session as a value: it is handed bytes as they come and replies as they are there, says what it
+//! asks of the machine behind it, and tells what it has to say. It calls no reader and no machine, so it can be left at
+//! any moment, and many of them can share a thread.
+ghost use Rattle.std.specs.Prelude.{◌≡◌, ◌+◌, ◌≤◌, ◌<◌, ◌^◌, ◌++◌, ◌∷◌, [], ◌⊎◌, ℕ, List, Bool, true, false, Option};
+ghost use Rattle.std.specs.Prelude.{Some, None, IfOk, OnOk, IfErr, IfNone, IfSome, length, take, drop};
 ghost use Rattle.bl_engine.specs.Unopened.{is_unopened};
 
 use crate::block::{Replies, greeting, put_reply};
@@ -82,9 +83,9 @@ pub struct Heard {
     pub request: Option<Request>,
 }
 
-/// A session: what is held of the line that has begun, if one has, how many bytes may still be heard, whether the input is at its end,
-/// the last ordinal before the block, the block's lines, and how many of them were told. So one whose lines have all ended holds no room
-/// for a line.
+/// A session: what is held of the line that has begun, if one has, how many bytes may still be heard, whether the input
+/// is at its end, the last ordinal before the block, the block's lines, and how many of them were told. So one whose
+/// lines have all ended holds no room for a line.
 #[derive(Drop)]
 pub struct Conversation {
     pub held: Option<Held>,
@@ -134,13 +135,17 @@ impl Conversation {
     ghost use Rattle.bl_wire.specs.Reads.{IsWholeLine};
     ghost use Rattle.bl_work.specs.Names.{KnownNames};
     ghost use Rattle.bl_engine.specs.Parts.{MayTake};
-    ghost use Rattle.bl_engine.specs.Conversations.{Given, Spoke, Hears, Says, IsOpenedAs, IsAnswered, TakesTurn, TakesLine, HoldsBegun, LetsGo, TellsPart, Closes, Keeps, KeepsBlock, SameBlock, GoesOnAlone, last_ordinal, need_of, words_of, is_hearing, parts_left, waits_left, HasRoom};
+    ghost use Rattle.bl_engine.specs.Conversations.{Given, Spoke, Hears, Says, IsOpenedAs, IsAnswered, TakesTurn};
+    ghost use Rattle.bl_engine.specs.Conversations.{TakesLine, HoldsBegun, LetsGo, TellsPart, Closes, Keeps};
+    ghost use Rattle.bl_engine.specs.Conversations.{KeepsBlock, SameBlock, GoesOnAlone, last_ordinal, need_of};
+    ghost use Rattle.bl_engine.specs.Conversations.{words_of, is_hearing, parts_left, waits_left, HasRoom};
     ghost use Rattle.bl_engine.specs.declared.conversation.Need.TheVariants as needs;
     ghost use Rattle.bl_engine.specs.declared.conversation.Stage.TheVariants as stages;
 
     /// A conversation of which nothing was heard yet.
     pub fn new(alloc: Global) -> Result<Conversation, AllocError>
-        ensures spoke { IfOk result (λ conv. (names : KnownNames) (given : Given) (left : ℕ → List ℕ) → Spoke names given left conv [] [] [] []) }
+        ensures spoke { IfOk result (λ conv. (names : KnownNames) (given : Given) (left : ℕ → List ℕ)
+            → Spoke names given left conv [] [] [] []) }
         ensures need { IfOk result (λ conv. need_of conv ≡ needs.Input) }
     {
         Ok(Conversation {
@@ -191,7 +196,8 @@ impl Conversation {
         Ok(())
     }
 
-    /// Takes a line before the session is open: a `hello` asks that it be opened, and any other one that is not skipped is refused.
+    /// Takes a line before the session is open: a `hello` asks that it be opened, and any other one that is not skipped
+    /// is refused.
     fn greet(&mut self, turn: &Turn) -> Option<Request>
         requires { self.old.stage ≡ stages.Greets }
         ensures takes { TakesTurn self.old self.new turn.now result }
@@ -293,9 +299,9 @@ impl Conversation {
         }
     }
 
-    /// Hears of these bytes up to the end of one line, and at most what may still be heard, and says how many they were and what is
-    /// asked at them. `TooLong` comes where nothing more may be heard, and `Memory` where memory was refused; then nothing is said of
-    /// the conversation any more, and it is to be dropped.
+    /// Hears of these bytes up to the end of one line, and at most what may still be heard, and says how many they were
+    /// and what is asked at them. `TooLong` comes where nothing more may be heard, and `Memory` where memory was
+    /// refused; then nothing is said of the conversation any more, and it is to be dropped.
     pub fn hear(
         &mut self,
         alloc: Global,
@@ -304,7 +310,8 @@ impl Conversation {
     ) -> Result<Heard, SessionFault>
         requires need { need_of self.old ≡ needs.Input }
         requires some { 0 < length bytes.now }
-        ensures ok { IfOk result (λ heard. Hears names.now self.old self.new (take heard.taken bytes.now) heard.request) }
+        ensures ok { IfOk result (λ heard. Hears names.now self.old self.new
+            (take heard.taken bytes.now) heard.request) }
         ensures block { IfOk result (λ heard. KeepsBlock self.old self.new heard.request) }
         ensures more { OnOk result (self.new.ended ≡ false) }
         ensures within { IfOk result (λ heard. heard.taken ≤ length bytes.now) }
@@ -352,8 +359,8 @@ impl Conversation {
         self.held.take()
     }
 
-    /// Hears that the input is at its end, and what is asked then. A line that has begun is a line. It is told so until it waits for
-    /// something else. An error comes where memory was refused, as `Memory` of `hear` does.
+    /// Hears that the input is at its end, and what is asked then. A line that has begun is a line. It is told so until
+    /// it waits for something else. An error comes where memory was refused, as `Memory` of `hear` does.
     pub fn end(&mut self, alloc: Global, names: &Names) -> Result<Option<Request>, AllocError>
         requires { (need_of self.old ≡ needs.Input) ⊎ (need_of self.old ≡ needs.End) }
         ensures ok { IfOk result (Hears names.now self.old self.new []) }
@@ -410,7 +417,8 @@ impl Conversation {
     fn tell_line<B: Replies, W: Write>(&mut self, block: &mut B, writer: &mut Watched<W>)
         requires line { self.old.line < length self.old.pending.items }
         requires stands { MayTake (B.stands block.old) (self.old.after + self.old.line + 1) }
-        ensures told { TellsPart (B.left block.old) (B.left block.new) self.old self.new (end_state W.contents writer.old) (end_state W.contents writer.new) }
+        ensures told { TellsPart (B.left block.old) (B.left block.new) self.old self.new
+            (end_state W.contents writer.old) (end_state W.contents writer.new) }
         ensures stands { MayTake (B.stands block.new) (self.new.after + self.new.line + 1) }
     {
         let ordinal = self.after + self.line as u32 + 1;
@@ -432,7 +440,8 @@ impl Conversation {
         self.stage = closing.next();
     }
 
-    /// Tells the next part of what it has to say, unless the writer has failed: of the replies to a line, or what closes them.
+    /// Tells the next part of what it has to say, unless the writer has failed: of the replies to a line, or what
+    /// closes them.
     pub fn tell<B: Replies, W: Write>(&mut self, block: &mut B, writer: &mut Watched<W>)
         requires need { need_of self.old ≡ needs.Room }
         requires stands { MayTake (B.stands block.old) (self.old.after + self.old.line + 1) }

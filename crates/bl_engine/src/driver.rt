@@ -1,5 +1,5 @@
-//! What a driver that may wait does with one conversation: it has heard what a reader shows, and writes what is told. What was written
-//! is handed on before a read that may wait.
+//! What a driver that may wait does with one conversation: it has heard what a reader shows, and writes what is told.
+//! What was written is handed on before a read that may wait.
 ghost use Rattle.std.specs.Prelude.{◌≡◌, ◌+◌, ◌<◌, false, true, not, IfErr, OnOk};
 ghost use Rattle.std.specs.Io.KnownBytes.{Keeps};
 ghost use Rattle.bl_wire.specs.declared.fault.SessionFault.TheVariants.{Write};
@@ -43,8 +43,8 @@ impl Ear for Listener<'_> {
     }
 }
 
-/// Hands on what was written, unless the reader has bytes at hand, so that no reply stays back while the next read waits. It
-/// says whether that was done; otherwise the writer is marked.
+/// Hands on what was written, unless the reader has bytes at hand, so that no reply stays back while the next read
+/// waits. It says whether that was done; otherwise the writer is marked.
 fn hand_on<R: BufRead, W: Write>(reader: &Watched<R>, writer: &mut Watched<W>) -> bool
     requires { writer.old.failed ≡ false }
     ensures handed_on { result ≡ true → reader.now.at_hand ≡ false → writer.new.unflushed ≡ false }
@@ -54,8 +54,8 @@ fn hand_on<R: BufRead, W: Write>(reader: &Watched<R>, writer: &mut Watched<W>) -
     reader.at_hand() || !writer.unflushed() || writer.flush()
 }
 
-/// Has heard what the reader shows, or that its input is at its end. After a fault nothing is taken from the reader, and the
-/// conversation is to be dropped.
+/// Has heard what the reader shows, or that its input is at its end. After a fault nothing is taken from the reader,
+/// and the conversation is to be dropped.
 pub fn listen<R: BufRead, W: Write>(
     listener: &mut Listener<'_>,
     reader: &mut Watched<R>,
@@ -85,7 +85,8 @@ pub fn listen<R: BufRead, W: Write>(
     Ok(())
 }
 
-/// Tells all that the conversation has to say of a block, until it waits for something else. `Write` comes where the writer failed.
+/// Tells all that the conversation has to say of a block, until it waits for something else. `Write` comes where the
+/// writer failed.
 pub fn tell_all<B: Replies, W: Write>(
     conv: &mut Conversation,
     block: &mut B,
@@ -94,9 +95,11 @@ pub fn tell_all<B: Replies, W: Write>(
     requires writer { writer.old.failed ≡ false }
     requires need { need_of conv.old ≡ needs.Room }
     requires stands { MayTake (B.stands block.old) (conv.old.after + conv.old.line + 1) }
-    ensures ok { OnOk result (ToldAll (B.left block.old) (B.left block.new) conv.old conv.new (W.contents writer.old.inner) (W.contents writer.new.inner)) }
+    ensures ok { OnOk result (ToldAll (B.left block.old) (B.left block.new) conv.old conv.new
+        (W.contents writer.old.inner) (W.contents writer.new.inner)) }
     ensures fine { OnOk result (writer.new.failed ≡ false) }
-    ensures part { IfErr result (λ fault. ToldPart (B.left block.old) conv.old (W.contents writer.old.inner) (W.contents writer.new.inner)) }
+    ensures part { IfErr result (λ fault. ToldPart (B.left block.old) conv.old (W.contents writer.old.inner)
+        (W.contents writer.new.inner)) }
     ensures write { IfErr result (λ fault. (fault ≡ Write) × (writer.new.failed ≡ true)) }
 {
     'parts: loop {

@@ -1,5 +1,5 @@
-//! The engine of a session: a value that turns the bytes of a client into requests to a machine, and the machine's replies into bytes.
-//! It calls no reader, no writer and no machine of its own accord.
+//! The engine of a session: a value that turns the bytes of a client into requests to a machine, and the machine's
+//! replies into bytes. It calls no reader, no writer and no machine of its own accord.
 //!
 //!     conversation    a session as a value: bytes become requests, and replies bytes
 //!     request         what a conversation asks

@@ -152,8 +152,8 @@ impl<'a, F: Write + Drop> Acceptor<'a, F> {
     ghost use Rattle.std.specs.Prelude.{◌≡◌};
     ghost use Rattle.bl_entrance.specs.Ends.{ended_of};
 
-    /// An acceptor for so many session threads, connections in all and connections at once, and where to hear what is told
-    /// there. An error comes where memory was refused.
+    /// An acceptor for so many session threads, connections in all and connections at once, and where to hear what is
+    /// told there. An error comes where memory was refused.
     pub fn new(
         alloc: Global,
         entrance: &'a Entrance,

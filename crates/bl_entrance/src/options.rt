@@ -1,5 +1,5 @@
-//! How many threads there are, how many sessions they take, how many at once, how long one may be idle, and how long the
-//! trail may become.
+//! How many threads there are, how many sessions they take, how many at once, how long one may be idle, and how long
+//! the trail may become.
 ghost use Rattle.std.specs.Prelude.{◌≤◌};
 ghost use Rattle.std.specs.Option.{ForSome};
 

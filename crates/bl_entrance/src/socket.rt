@@ -33,10 +33,10 @@ impl Link {
 
 /// What a connection over TCP that is watched knows of its input, by the waits of its thread.
 ///
-/// A read that leaves room has taken all that was there, and the system tells at the next wait that more has come: until
-/// then a read would block, and is not tried. But it leaves room before an end or urgent data too, which may have been
-/// told by a wait before that read. So a read is tried where something exceptional was told, of whatever socket, since
-/// this one was last seen to have no more.
+/// A read that leaves room has taken all that was there, and the system tells at the next wait that more has come:
+/// until then a read would block, and is not tried. But it leaves room before an end or urgent data too, which may have
+/// been told by a wait before that read. So a read is tried where something exceptional was told, of whatever socket,
+/// since this one was last seen to have no more.
 #[derive(Drop)]
 struct Input {
     counts: WaitCounts,

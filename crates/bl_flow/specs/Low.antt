@@ -33,8 +33,8 @@ history_of x = record { setup = x.setup; lost = is_lost x; order = x.order }
 abbrev pub is_low_document : SecurityLevel → SecurityPolicy → ℕ → Bool
 is_low_document level policy doc = dominates level (level_of policy doc)
 
--- a place is low where the level dominates the join of the level at which it runs (Bell and La Padula 1976, current level) and
--- that which it carries (own choice)
+-- a place is low where the level dominates the join of the level at which it runs (Bell and La Padula 1976, current
+-- level) and that which it carries (own choice)
 abbrev pub is_low_place : SecurityLevel → History → ℕ → Bool
 is_low_place level history n = dominates level (join_of (place_in history n).level (place_in history n).carried)
 

@@ -16,11 +16,12 @@ pub record IsPossible (history : History) : Type 0 where
   pub legal : IsLegal history.setup history.lost history.order
   pub scripts : (n : ℕ) → n < length history.order → IsBehaviourOrRule (place_in history n).task
 
--- What the star property is for (Bell and La Padula 1976), asked with what a place carries (own choice): a low place looks
--- at low documents alone, and a low document is altered by low places alone.
+-- What the star property is for (Bell and La Padula 1976), asked with what a place carries (own choice): a low place
+-- looks at low documents alone, and a low document is altered by low places alone.
 pub record LetsNothingDown (level : SecurityLevel) (history : History) (n : ℕ) : Type 0 where
   pub looks : (doc : ℕ) → IsTrue (is_low_place level history n)
-      → IsTrue (declares observes (accesses_of (place_in history n).task) doc) → IsTrue (is_low_document level (policy_in history n) doc)
+      → IsTrue (declares observes (accesses_of (place_in history n).task) doc)
+      → IsTrue (is_low_document level (policy_in history n) doc)
   pub alters : (doc : ℕ) → IsTrue (may_alter (place_in history n).task doc)
       → IsTrue (is_low_document level (policy_in history n) doc) → IsTrue (is_low_place level history n)
 

@@ -19,9 +19,9 @@ use bl_order::laws::{
 use bl_policy::laws::{first_fault_is_the_first, rules_keep_rights};
 use bl_work::laws::blind_append;
 
-/// Goguen and Meseguer 1982, noninterference, of what the star property of Bell and La Padula 1976 is for: low subjects are
-/// told what they would be told if all others were silent, but for their rules, and the documents that are not low had any
-/// contents.
+/// Goguen and Meseguer 1982, noninterference, of what the star property of Bell and La Padula 1976 is for: low subjects
+/// are told what they would be told if all others were silent, but for their rules, and the documents that are not low
+/// had any contents.
 pub fn low_places_stand_alone()
     ensures { (level : SecurityLevel) (history : History) (setup : Setup) →
         IsPossible history → IsSealed level history → AgreeLow level history.setup setup →
@@ -35,8 +35,8 @@ pub fn low_places_stand_alone()
     rules_make_the_policy();
 }
 
-/// Two histories that differ only in what is not kept, in sessions and ordinals, and in contents of documents that are not
-/// low, tell low subjects the same.
+/// Two histories that differ only in what is not kept, in sessions and ordinals, and in contents of documents that are
+/// not low, tell low subjects the same.
 pub fn low_subjects_are_told_the_same()
     ensures { (level : SecurityLevel) (one two : History) →
         IsPossible one → IsPossible two → IsSealed level one → IsSealed level two →
@@ -84,8 +84,8 @@ pub fn reached_orders_bring_scripts()
     tasks_are_of_scripts();
 }
 
-/// For every two trails whose histories are sealed: where the states that they lead to differ only in what is not kept, in
-/// sessions and ordinals, and in contents of documents that are not low, low subjects are told the same.
+/// For every two trails whose histories are sealed: where the states that they lead to differ only in what is not kept,
+/// in sessions and ordinals, and in contents of documents that are not low, low subjects are told the same.
 pub fn states_tell_low_subjects_the_same()
     ensures { (level : SecurityLevel) (x y : State) →
         IsReached x → IsReached y → IsSealed level (history_of x) → IsSealed level (history_of y) →
@@ -96,9 +96,9 @@ pub fn states_tell_low_subjects_the_same()
     reached_orders_bring_scripts();
 }
 
-/// The same of two cores, each in the state that it is in: an entry that is kept of both is answered alike, and brings the
-/// same children. One that has not ended is compared by the answer that it will have if nothing more is lost. A core is judged
-/// by version 2, so where no trusted subject speaks to either there is nothing to look at.
+/// The same of two cores, each in the state that it is in: an entry that is kept of both is answered alike, and brings
+/// the same children. One that has not ended is compared by the answer that it will have if nothing more is lost. A
+/// core is judged by version 2, so where no trusted subject speaks to either there is nothing to look at.
 pub fn cores_tell_low_subjects_the_same(one: &Core, two: &Core)
     ensures sealed { (level : SecurityLevel) →
         IsSealed level (history_of one.now) → IsSealed level (history_of two.now) →

@@ -8,6 +8,7 @@ use Rattle.std.specs.contracts.option.Option as Option
 use Rattle.atomic_table.proofs.send_lease.SendLease.TheSendSync as leases
 use Rattle.atomic_table.proofs.shared.Seat.TheSendSync as seats
 use Rattle.atomic_table.proofs.shared.Shared.TheSendSync as tables
+use Rattle.bl_setup.proofs.setup.Setup.TheSendSync as setups
 use Rattle.bl_work.proofs.names.Names.TheSendSync as names
 use Rattle.bl_work.proofs.script.Body.TheLaws.TheKnot as bodies
 use Rattle.bl_work.specs.contracts.names.Names as Names
@@ -22,7 +23,7 @@ place_send : IsSend Place.the_row
 place_send = search (crosses, bodies.crosses, sendable) depth 60 fits 20000
 
 core_send : IsSend Core.the_row
-core_send = search (place_send, crosses, bodies.crosses, sendable) depth 60 fits 20000
+core_send = search (place_send, setups.the_send, crosses, bodies.crosses, sendable) depth 60 fits 20000
 
 pub hall_send : IsSend Hall.the_row
 hall_send = search (core_send, crosses, bodies.crosses, sendable) depth 60 fits 20000

@@ -2,7 +2,7 @@
 use Rattle.std.proofs.Common.{◌≡◌, ℕ, List, [], ◌∷◌, ◌++◌, length, refl, ap, ◌∙◌, subst}
 use Rattle.bl_order.specs.Machine.{State, Event}
 use Rattle.bl_hall.specs.Chronicle.{Chronicle, state_now}
-use Rattle.bl_gate.specs.Gates.{GateId, PassView, Calls, Follows, KeepsInHand, KeepsInHandBut, hall_with}
+use Rattle.bl_gate.specs.Gates.{GateId, PassView, Calls, Follows, hall_with}
 use Rattle.bl_gate.proofs.Trails.{begins_itself, begins_more}
 
 pub follows_itself : (p : PassView) → Follows p p
@@ -14,13 +14,6 @@ follows_then p q r f g = record { gate = g.gate ∙ f.gate; parts = g.parts ∙ 
 -- it stays at the hall that its gate was given
 pub base_stays : (p q : PassView) → Follows p q → q.gate.base ≡ p.gate.base
 base_stays p q f = ap (λ (g : GateId). g.base) f.gate
-
--- what is in hand stays so from one to the next
-pub keeps_then : (p q r : PassView) → KeepsInHand p q → KeepsInHand q r → KeepsInHand p r
-keeps_then p q r first second loan held = second loan (first loan held)
-
-pub keeps_but_then : (n : ℕ) (p q r : PassView) → KeepsInHand p q → KeepsInHandBut n q r → KeepsInHandBut n p r
-keeps_but_then n p q r first second loan apart held = second loan apart (first loan held)
 
 -- an event of a turn is one of the pass that began it
 pub calls_from : (p q r : PassView) (event : Event) (Answered : State → Type 0) → Follows p q → q.own ≡ p.own → Calls q event Answered r → Calls p event Answered r

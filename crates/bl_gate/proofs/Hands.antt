@@ -17,6 +17,3 @@ first_of_held d (x ∷ xs) = x.1
 pub held_is : (x y : Option Chronicle) (l : Held) → l ≡ (0, x) ∷ [] → l ≡ (0, y) ∷ rest l → y ≡ x
 unfolding first_of_held
 held_is x y l e d = ap (first_of_held x) (sym d ∙ e)
-
-pub held_then : (x y : Option Chronicle) (l k : Held) → l ≡ (0, x) ∷ [] → k ≡ (0, y) ∷ rest l → k ≡ (0, y) ∷ []
-held_then x y l k e d = d ∙ ap (λ (m : Held). (0, y) ∷ rest m) e

@@ -145,19 +145,6 @@ held_later p q same (rest, more) legal own loan ends held =
     behind r (inl e) = inl (there r ∙ e)
     behind r (inr e) = inr (there r ∙ e)
 
--- where the pass has seen and owns the same
-pub held_same : (p q : PassView) → q.gate.base ≡ p.gate.base → q.seen ≡ p.seen → q.own ≡ p.own → (loan : Loan) → HasLoanInHand p loan → HasLoanInHand q loan
-held_same p q base seen own loan held =
-    let state : state_seen q ≡ state_seen p = (λ i. state_now (hall_with (base i) (seen i))) in record {
-      entry = record {
-        position = held.entry.position;
-        own = subst (λ (l : List ℕ). 1 ≤ times held.entry.position l) (sym own) held.entry.own;
-        start = ap (λ (l : List Event). slice_get l held.entry.position) seen ∙ held.entry.start;
-        running = subst (λ (y : State). runs y loan.entry ≡ true) (sym state) held.entry.running;
-      };
-      lent = held.lent ∙ ap (λ (y : State). loan_at y loan.entry) (sym state);
-    }
-
 -- what is in hand runs in the hall that the pass has seen, and is lent what the loan is
 pub seen_lends : (p : PassView) (lent : Chronicle) (loan : Loan) → lent ≡ hall_seen p → HasLoanInHand p loan → IsLentBy (state_now lent) loan
 seen_lends p lent loan is held = subst (λ (h : Chronicle). IsLentBy (state_now h) loan) (sym is) (held.entry.running, held.lent)

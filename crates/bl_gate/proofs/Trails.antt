@@ -15,9 +15,6 @@ begins_any xs = (xs, refl)
 pub begins_more : (xs ys zs : List Event) → StartsWith xs ys → StartsWith ys zs → StartsWith xs zs
 begins_more xs ys zs p q = (q.0 ++ p.0, p.1 ∙ (ap (λ (l : List Event). l ++ p.0) q.1 ∙ append_assoc zs q.0 p.0))
 
-pub begins_push : (xs ys : List Event) (e : Event) → StartsWith xs ys → StartsWith (xs ++ e ∷ []) ys
-begins_push xs ys e p = (p.0 ++ e ∷ [], ap (λ (l : List Event). l ++ e ∷ []) p.1 ∙ append_assoc ys p.0 (e ∷ []))
-
 -- of two beginnings of one trail the one that is no longer begins the other
 pub begins_longer : (t xs ys : List Event) → StartsWith t xs → StartsWith t ys → length xs ≤ length ys → StartsWith ys xs
 begins_longer t [] ys p q l = begins_any ys

@@ -16,8 +16,8 @@ pub record GateId : Type 0 where
   pub table : TableId
   pub base : Chronicle
 
--- A pass: the gate that made it, the trail that the pass has seen, the positions in it of its own calls, and its parts of the right
--- to close the gate, which are 64 in all.
+-- A pass: the gate that made it, the trail that the pass has seen, the positions in it of its own calls, and its parts
+-- of the right to close the gate, which are 64 in all.
 pub record PassView : Type 0 where
   pub gate : GateId
   pub seen : List Event
@@ -67,8 +67,8 @@ pub record Follows (before after : PassView) : Type 0 where
 abbrev pub OwnsAllSince : PassView → PassView → Type 0
 OwnsAllSince before after = after.own ≡ before.own ++ gained (length before.seen) (length after.seen)
 
--- A call that is an event. The trail begins with all that the pass had seen and ends with the event, where the pass has gained the
--- position; and what is answered holds in the state that the trail led to before it.
+-- A call that is an event. The trail begins with all that the pass had seen and ends with the event, where the pass has
+-- gained the position; and what is answered holds in the state that the trail led to before it.
 pub record Calls (before : PassView) (event : Event) (Answered : State → Type 0) (after : PassView) : Type 0 where
   pub trail : List Event
   pub from : StartsWith trail before.seen
@@ -82,8 +82,8 @@ IsOf n (Denied denial) = Unit {0}
 IsOf n RuleDone = Unit {0}
 IsOf n (Run lent) = lent.entry ≡ n
 
--- An entry is in a pass's hand: the pass owns a position at which it has seen the entry start, and the entry runs in the state that the
--- pass has seen.
+-- An entry is in a pass's hand: the pass owns a position at which it has seen the entry start, and the entry runs in
+-- the state that the pass has seen.
 pub record InHand (pass : PassView) (n : ℕ) : Type 0 where
   pub position : ℕ
   pub own : 1 ≤ times position pass.own

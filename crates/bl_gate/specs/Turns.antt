@@ -1,6 +1,7 @@
 -- The rule of the gate's table, and what each step on it tells.
 -- Word 0 counts the tickets drawn, word 1 those served. The slot has the hall.
-use Rattle.std.specs.Prelude.{◌≡◌, ◌≢◌, ℕ, ◌<◌, ◌≤◌, ◌==◌, true, false, ◌⊎◌, List, [], ◌∷◌, ◌++◌, length, slice_get, Option, Some, None}
+use Rattle.std.specs.Prelude.{◌≡◌, ◌≢◌, ℕ, ◌<◌, ◌≤◌, ◌==◌, true, false, ◌⊎◌, List, [], ◌∷◌, ◌++◌, length, slice_get}
+use Rattle.std.specs.Prelude.{Option, Some, None}
 use mathlib.Core.Option.{some, none}
 use mathlib.Core.Option as Found
 use lib.ListN.{get_elem?}
@@ -16,8 +17,8 @@ abbrev pub has_ticket : ℕ → Option ℕ → ℕ
 has_ticket t (Some k) = one_if (k == t)
 has_ticket t None = 0
 
--- Tickets and parts. Each ticket that is drawn and not served is with just one view, and no other is. Parts add up to 64, and who has
--- none is nobody.
+-- Tickets and parts. Each ticket that is drawn and not served is with just one view, and no other is. Parts add up to
+-- 64, and who has none is nobody.
 pub record Queue (drawn served : ℕ) (views : List View) : Type 0 where
   pub small : drawn < 18446744073709551616
   pub order : served ≤ drawn
@@ -51,13 +52,16 @@ EndsAt trail p n = (slice_get trail p ≡ Some (Ends n)) ⊎ (slice_get trail p 
 
 -- whoever owns these positions owns the start of each entry of which it owns the end, where that start stands before it
 abbrev pub EndsItsOwn : List Event → List ℕ → Type 0
-EndsItsOwn trail own = (n p q : ℕ) → 1 ≤ times p own → EndsAt trail p n → q < p → slice_get trail q ≡ Some (Starts n) → 1 ≤ times q own
+EndsItsOwn trail own = (n p q : ℕ) → 1 ≤ times p own → EndsAt trail p n → q < p → slice_get trail q ≡ Some (Starts n)
+    → 1 ≤ times q own
 
 -- of the entries that were started here, none ends in the trail behind what was seen
 abbrev pub NoEndBehind : Brought → List Event → Type 0
-NoEndBehind b trail = (n q r : ℕ) → 1 ≤ times q b.own → slice_get b.seen q ≡ Some (Starts n) → length b.seen ≤ r → EndsAt trail r n → ⊥
+NoEndBehind b trail = (n q r : ℕ) → 1 ≤ times q b.own → slice_get b.seen q ≡ Some (Starts n) → length b.seen ≤ r
+    → EndsAt trail r n → ⊥
 
--- what was brought is of this hall, this trail begins with what was seen, and none of the entries ends in it behind that
+-- what was brought is of this hall, this trail begins with what was seen, and none of the entries ends in it behind
+-- that
 pub record IsTold (base : Chronicle) (trail : List Event) (b : Brought) : Type 0 where
   pub of_hall : b.base ≡ base
   pub seen : StartsWith trail b.seen
@@ -67,9 +71,10 @@ abbrev pub AreTold : Chronicle → List Event → List Brought → Type 0
 AreTold base trail [] = Unit {0}
 AreTold base trail (b ∷ bs) = IsTold base trail b × AreTold base trail bs
 
--- Seen trails and own positions. There is one trail, and it is legal; it begins with the hall's at first and with what each view has
--- seen, and one view has seen it whole. Own positions lie inside what was seen. Of the trail's positions after the first ones each is
--- just one view's own, and no other position is. Whoever owns the end of an entry owns its start.
+-- Seen trails and own positions. There is one trail, and it is legal; it begins with the hall's at first and with what
+-- each view has seen, and one view has seen it whole. Own positions lie inside what was seen. Of the trail's positions
+-- after the first ones each is just one view's own, and no other position is. Whoever owns the end of an entry owns its
+-- start.
 pub record Trails (base : Chronicle) (trail : List Event) (views : List View) : Type 0 where
   pub begins : StartsWith trail base.trail
   pub legal : HasTrail (hall_with base trail)
@@ -81,8 +86,8 @@ pub record Trails (base : Chronicle) (trail : List Event) (views : List View) : 
   pub owned : (p : ℕ) → total (λ v. times p v.own) views ≡ within (length base.trail) (length trail) p
   pub starters : (i : ℕ) (v : View) → get_elem? views i ≡ some v → EndsItsOwn trail v.own
 
--- A hall that was taken, and went on: it is the hall that the gate was given, with a trail that begins with what was seen where it was
--- taken, and of the entries that were ended there the starts are one's own.
+-- A hall that was taken, and went on: it is the hall that the gate was given, with a trail that begins with what was
+-- seen where it was taken, and of the entries that were ended there the starts are one's own.
 pub record HasGoneOn (v : View) (hall : Chronicle) : Type 0 where
   pub of_hall : hall ≡ hall_with v.base hall.trail
   pub legal : HasTrail hall
@@ -110,8 +115,8 @@ Told = Step (Option Chronicle)
 abbrev pub Draws : Told → Sat → ℕ → Sat → Type 0
 Draws st m found n = (n.1 ≡ m.1) × (found ≡ st.first → n.0 ≡ drew m.0 found) × (found ≢ st.first → n.0 ≡ m.0)
 
--- the hall came into the seat's hands, with a legal trail that begins with all that it had seen; nobody else has ended what it had
--- started, and it has ended nothing else
+-- the hall came into the seat's hands, with a legal trail that begins with all that it had seen; nobody else has ended
+-- what it had started, and it has ended nothing else
 abbrev pub Comes : Sat → Sat → Type 0
 Comes m n =
     (trail : List Event) × StartsWith trail m.0.seen × HasTrail (hall_with m.0.base trail) × (n.0 ≡ entered m.0 trail)
@@ -131,8 +136,8 @@ in_hand (v, []) = []
 abbrev pub Passes : Told → Sat → ℕ → Sat → Type 0
 Passes st m found n = (n.0 ≡ went m.0 (in_hand m)) × (n.1 ≡ rest m.1)
 
--- a look after a seat took in another: what each had seen is seen, and nothing that it had started has ended behind that; no position is
--- owned twice, parts are at most all parts, and the trail that was seen is legal
+-- a look after a seat took in another: what each had seen is seen, and nothing that it had started has ended behind
+-- that; no position is owned twice, parts are at most all parts, and the trail that was seen is legal
 abbrev pub Hears : Told → Sat → ℕ → Sat → Type 0
 Hears st m found n =
     (n ≡ (heard m.0, m.1)) × AreTold m.0.base m.0.seen m.0.met × ((p : ℕ) → times p m.0.own ≤ 1) × (m.0.parts ≤ 64)

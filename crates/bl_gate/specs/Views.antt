@@ -1,18 +1,21 @@
 -- What a seat of the gate's table knows, and how it changes.
-use Rattle.std.specs.Prelude.{◌≡◌, ℕ, ◌+◌, ◌-◌, ◌<◌, Bool, true, false, cond, List, [], ◌∷◌, ◌++◌, length, Option, Some, None, nat_le}
+use Rattle.std.specs.Prelude.{◌≡◌, ℕ, ◌+◌, ◌-◌, ◌<◌, Bool, true, false, cond, List, [], ◌∷◌, ◌++◌, length, Option, Some}
+use Rattle.std.specs.Prelude.{None, nat_le}
 use Rattle.bl_order.specs.Machine.{Event}
 use Rattle.bl_hall.specs.Chronicle.{Chronicle}
 use Rattle.bl_gate.specs.Counts.{gained}
 use Rattle.bl_gate.specs.Gates.{no_hall}
 
--- what a seat brings where two meet: the hall that the gate was given, the trail that it had seen, and the positions of its own calls
+-- what a seat brings where two meet: the hall that the gate was given, the trail that it had seen, and the positions of
+-- its own calls
 pub record Brought : Type 0 where
   pub base : Chronicle
   pub seen : List Event
   pub own : List ℕ
 
--- The hall that the gate was given; the trail that was seen; what two brought that met, until a look tells what follows from it; the
--- positions of one's own calls; the ticket; whether the hall is in one's hands; and the parts of the right to close.
+-- The hall that the gate was given; the trail that was seen; what two brought that met, until a look tells what follows
+-- from it; the positions of one's own calls; the ticket; whether the hall is in one's hands; and the parts of the right
+-- to close.
 pub record View : Type 0 where
   pub base : Chronicle
   pub seen : List Event
@@ -40,7 +43,13 @@ entered v trail = record v { seen = trail; met = []; inside = true }
 
 -- the hall was put back, with this trail
 abbrev pub went : View → List Event → View
-went v trail = record v { seen = trail; own = v.own ++ gained (length v.seen) (length trail); ticket = None; inside = false }
+went v trail = record v {
+  seen = trail;
+  own = v.own
+      ++ gained (length v.seen) (length trail);
+  ticket = None;
+  inside = false;
+}
 
 abbrev pub longer : List Event → List Event → List Event
 longer xs ys = cond (nat_le (length xs) (length ys)) ys xs

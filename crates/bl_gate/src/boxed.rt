@@ -5,8 +5,8 @@ use bl_hall::hall::Hall;
 use std::alloc::Global;
 use std::marker::Model;
 
-/// A hall that is handed on by its address. It goes through two hands in each call of a gate, and to move it whole takes longer than
-/// most calls.
+/// A hall that is handed on by its address. It goes through two hands in each call of a gate, and to move it whole
+/// takes longer than most calls.
 #[derive(Drop)]
 pub struct BoxedHall {
     pub(crate) inner: Box<Hall>,

@@ -1,5 +1,6 @@
 //! The gate, and the calls of the hall through it.
-ghost use Rattle.std.specs.Prelude.{◌≡◌, ◌≢◌, ◌⊎◌, All, ◌+◌, ◌-◌, ◌<◌, ◌≤◌, ◌++◌, ◌∷◌, ◌↔◌, [], ℕ, IsTrue, IsSome, IsNone, IsOk, IfOk, IfErr, IfSome, OnOk, OnErr, None, length, map};
+ghost use Rattle.std.specs.Prelude.{◌≡◌, ◌≢◌, ◌⊎◌, All, ◌+◌, ◌-◌, ◌<◌, ◌≤◌, ◌++◌, ◌∷◌, ◌↔◌, [], ℕ, IsTrue, IsSome};
+ghost use Rattle.std.specs.Prelude.{IsNone, IsOk, IfOk, IfErr, IfSome, OnOk, OnErr, None, length, map};
 ghost use Rattle.bl_setup.specs.Agreement.{Agree};
 ghost use Rattle.bl_order.specs.Known.{KnowsAnswer};
 ghost use Rattle.bl_order.specs.Machine.{Opens, Admits, Starts, Ends, Loses, MayStart};
@@ -7,7 +8,8 @@ ghost use Rattle.bl_core.specs.Answers.{IsCause, IsLentBy, IsNotOpened, IsStarte
 ghost use Rattle.bl_hall.specs.Chronicle.{Continues, HasTrail};
 ghost use Rattle.bl_hall.specs.Told.{AreAnswers, IsUnanswered, Waits, reply_of};
 ghost use Rattle.bl_gate.specs.Counts.{StartsWith, times, within};
-ghost use Rattle.bl_gate.specs.Gates.{Calls, Follows, GivesInHand, HasLoanInHand, InHand, IsOf, KeepsInHand, KeepsInHandBut, hall_seen, hall_with, state_seen};
+ghost use Rattle.bl_gate.specs.Gates.{Calls, Follows, GivesInHand, HasLoanInHand, InHand, IsOf, KeepsInHand};
+ghost use Rattle.bl_gate.specs.Gates.{KeepsInHandBut, hall_seen, hall_with, state_seen};
 ghost use Rattle.bl_gate.specs.Turns.{EndsItsOwn, HasGoneOn, NoEndBehind};
 ghost use Rattle.bl_gate.specs.Views.{IsIdle, HasTurn, brings, drew, entered, went};
 
@@ -35,13 +37,14 @@ use std::time::Duration;
 /// How long a call sleeps at most before it looks again whether its turn has come.
 const NAP_MICROS: u64 = 50;
 
-/// A hall that many threads call, each with a pass of its own, in the order of their tickets: who calls it draws a ticket, waits until it
-/// is served, makes one call of the hall or, in a `Turn`, several, and has the next ticket served. So all calls stand in one trail, and a
-/// pass knows what it has seen of it and which positions are its own. An entry that a pass has started, and that runs, is in its hand
-/// until it ends it itself: no other pass can.
+/// A hall that many threads call, each with a pass of its own, in the order of their tickets: who calls it draws a
+/// ticket, waits until it is served, makes one call of the hall or, in a `Turn`, several, and has the next ticket
+/// served. So all calls stand in one trail, and a pass knows what it has seen of it and which positions are its own. An
+/// entry that a pass has started, and that runs, is in its hand until it ends it itself: no other pass can.
 ///
-/// The calls that take a runtime may wait for another thread, and what is said of them holds if they return. They wait in the lobby, one
-/// after another, so that who draws a ticket is served at once; nothing that is proved rests on the lobby.
+/// The calls that take a runtime may wait for another thread, and what is said of them holds if they return. They wait
+/// in the lobby, one after another, so that who draws a ticket is served at once; nothing that is proved rests on the
+/// lobby.
 #[derive(Drop)]
 pub struct Gate {
     table: Table<Option<BoxedHall>, View, Snapshot<Hall>, InTurn, Global>,
@@ -75,8 +78,9 @@ pub struct NoGate {
 }
 
 impl Gate {
-    /// A gate round a hall, and the pass with all its parts, which has seen the hall's trail and owns nothing. An error comes only
-    /// where a growth is refused, and hands the hall back. What runs in the hall already is in no pass's hand, and ends only after `close`.
+    /// A gate round a hall, and the pass with all its parts, which has seen the hall's trail and owns nothing. An error
+    /// comes only where a growth is refused, and hands the hall back. What runs in the hall already is in no pass's
+    /// hand, and ends only after `close`.
     #[tactic(auto, using(crate::proofs::Setups::names_stay))]
     pub fn new(hall: Hall) -> Result<(Gate, Pass), NoGate>
         ensures gate { IfOk result (λ made. (made.1.gate ≡ made.0) × (made.0.base ≡ hall)) }
@@ -147,8 +151,8 @@ impl Gate {
         self.lobby.lock(rt)
     }
 
-    /// Waits a moment where a word of the table is as it was found: at first it spins, then it yields, and then it sleeps in short
-    /// steps.
+    /// Waits a moment where a word of the table is as it was found: at first it spins, then it yields, and then it
+    /// sleeps in short steps.
     fn rest<R: Wait>(&self, rt: &R, backoff: &Backoff, word: usize, found: u64)
         requires { word < 2 }
     {
@@ -161,15 +165,16 @@ impl Gate {
         }
     }
 
-    /// Waits a moment where no ticket could be drawn: somebody else drew the one that was looked for, so that the count was found to be
-    /// another one, or 2^64 - 1 were drawn, and none is left.
+    /// Waits a moment where no ticket could be drawn: somebody else drew the one that was looked for, so that the count
+    /// was found to be another one, or 2^64 - 1 were drawn, and none is left.
     fn rest_undrawn<R: Wait>(&self, rt: &R, backoff: &Backoff, drawn: u64, found: u64)
         requires { (found ≢ drawn) ⊎ (drawn ≡ 18446744073709551615) }
     {
         self.rest(rt, backoff, 0, found);
     }
 
-    /// Draws a ticket. After 2^64 - 1 of them it waits for good, and at no other count: where one is left it tries to have it.
+    /// Draws a ticket. After 2^64 - 1 of them it waits for good, and at no other count: where one is left it tries to
+    /// have it.
     fn draw<R: Wait>(&self, rt: &R, seat: &mut Place) -> u64
         requires gate { seat.old.table_id ≡ self.now.table }
         requires idle { IsIdle seat.old.me.0 }
@@ -232,8 +237,9 @@ impl Gate {
         shared.fetch_add::<PassOn>(seat, 1, 1);
     }
 
-    /// Waits until nobody else has the hall, and takes it for a turn of several calls, until that is left. The turn has what the pass had,
-    /// and has seen the hall's trail. Who has its pass by reference takes it from there (`Pass::take`), and puts back what `leave` gives.
+    /// Waits until nobody else has the hall, and takes it for a turn of several calls, until that is left. The turn has
+    /// what the pass had, and has seen the hall's trail. Who has its pass by reference takes it from there
+    /// (`Pass::take`), and puts back what `leave` gives.
     pub fn turn<'a, R: Wait>(&'a self, rt: &R, pass: Pass) -> Turn<'a>
         requires gate { pass.gate ≡ self.now }
         ensures follows { Follows pass result }
@@ -254,8 +260,8 @@ impl Gate {
         }
     }
 
-    /// Opens a session for a subject, and answers its number, as the hall does at that point of the trail. A refusal is the hall's
-    /// there, and adds nothing.
+    /// Opens a session for a subject, and answers its number, as the hall does at that point of the trail. A refusal is
+    /// the hall's there, and adds nothing.
     pub fn open<R: Wait>(
         &self,
         rt: &R,
@@ -266,8 +272,10 @@ impl Gate {
         ensures follows { Follows pass.old pass.new }
         ensures trail { HasTrail (hall_seen pass.new) }
         ensures in_hand { KeepsInHand pass.old pass.new }
-        ensures ok { IfOk result (λ session. Calls pass.old (Opens subject) (λ x. session ≡ length x.sessions) pass.new) }
-        ensures err { IfErr result (λ refused. (pass.new.own ≡ pass.old.own) × IsNotOpened (state_seen pass.new) subject refused) }
+        ensures ok { IfOk result (λ session. Calls pass.old (Opens subject)
+            (λ x. session ≡ length x.sessions) pass.new) }
+        ensures err { IfErr result (λ refused. (pass.new.own ≡ pass.old.own)
+            × IsNotOpened (state_seen pass.new) subject refused) }
     {
         let mut turn = self.turn(rt, pass.take());
         let answer = turn.open(subject);
@@ -275,8 +283,8 @@ impl Gate {
         answer
     }
 
-    /// Admits a line of a session, and answers its place, as the hall does at that point of the trail. A refusal is the hall's there,
-    /// adds nothing and hands the work back.
+    /// Admits a line of a session, and answers its place, as the hall does at that point of the trail. A refusal is the
+    /// hall's there, adds nothing and hands the work back.
     pub fn line<R: Wait>(
         &self,
         rt: &R,
@@ -289,8 +297,10 @@ impl Gate {
         ensures follows { Follows pass.old pass.new }
         ensures trail { HasTrail (hall_seen pass.new) }
         ensures in_hand { KeepsInHand pass.old pass.new }
-        ensures ok { IfOk result (λ n. Calls pass.old (Admits session ordinal work) (λ x. n ≡ length x.order) pass.new) }
-        ensures err { IfErr result (λ refused. (pass.new.own ≡ pass.old.own) × IsCause (state_seen pass.new) session ordinal work refused.cause) }
+        ensures ok { IfOk result (λ n. Calls pass.old (Admits session ordinal work)
+            (λ x. n ≡ length x.order) pass.new) }
+        ensures err { IfErr result (λ refused. (pass.new.own ≡ pass.old.own)
+            × IsCause (state_seen pass.new) session ordinal work refused.cause) }
         ensures back { IfErr result (λ refused. refused.work ≡ work) }
     {
         let mut turn = self.turn(rt, pass.take());
@@ -299,8 +309,8 @@ impl Gate {
         answer
     }
 
-    /// Starts an entry, as the hall does at that point of the trail. `NotReady` comes where it may not start there, and `Memory` where
-    /// it may and a growth was refused; neither adds anything.
+    /// Starts an entry, as the hall does at that point of the trail. `NotReady` comes where it may not start there, and
+    /// `Memory` where it may and a growth was refused; neither adds anything.
     #[tactic(auto, using(crate::proofs::Starts::what_runs_is_of))]
     pub fn start<R: Wait>(&self, rt: &R, pass: &mut Pass, n: u32) -> Result<Started, StartFault>
         requires gate { pass.old.gate ≡ self.now }
@@ -308,7 +318,8 @@ impl Gate {
         ensures trail { HasTrail (hall_seen pass.new) }
         ensures in_hand { KeepsInHand pass.old pass.new }
         ensures ok { IfOk result (λ begun. Calls pass.old (Starts n) (λ x. IsStarted x n begun) pass.new) }
-        ensures err { IfErr result (λ fault. (pass.new.own ≡ pass.old.own) × ((fault ≡ StartFault.NotReady) ↔ ¬ MayStart (state_seen pass.new) n)) }
+        ensures err { IfErr result (λ fault. (pass.new.own ≡ pass.old.own)
+            × ((fault ≡ StartFault.NotReady) ↔ ¬ MayStart (state_seen pass.new) n)) }
         ensures entry { IfOk result (IsOf n) }
         ensures gives { IfOk result (GivesInHand pass.new) }
         ensures starved { IfErr result (IsStarvedBy n) }
@@ -319,8 +330,8 @@ impl Gate {
         answer
     }
 
-    /// Ends an entry that the pass has in hand with what was done of what it was lent, as the hall does at that point of the trail. Nobody
-    /// else has ended it by then, so it is not refused. It takes no memory.
+    /// Ends an entry that the pass has in hand with what was done of what it was lent, as the hall does at that point
+    /// of the trail. Nobody else has ended it by then, so it is not refused. It takes no memory.
     pub fn finish<R: Wait>(&self, rt: &R, pass: &mut Pass, done: Done)
         requires gate { pass.old.gate ≡ self.now }
         requires held { HasLoanInHand pass.old done }
@@ -334,8 +345,8 @@ impl Gate {
         *pass = turn.leave();
     }
 
-    /// Ends an entry that the pass has in hand as lost, with what it was lent, as the hall does at that point of the trail. Nobody else
-    /// has ended it by then, so it is not refused. It takes no memory.
+    /// Ends an entry that the pass has in hand as lost, with what it was lent, as the hall does at that point of the
+    /// trail. Nobody else has ended it by then, so it is not refused. It takes no memory.
     pub fn lose<R: Wait>(&self, rt: &R, pass: &mut Pass, unrun: Unrun)
         requires gate { pass.old.gate ≡ self.now }
         requires held { HasLoanInHand pass.old unrun }
@@ -349,8 +360,8 @@ impl Gate {
         *pass = turn.leave();
     }
 
-    /// Ends an entry as lost that was refused memory at its start, as the hall does at that point of the trail. `NotReady` comes where
-    /// it may no longer start there, and adds nothing.
+    /// Ends an entry as lost that was refused memory at its start, as the hall does at that point of the trail.
+    /// `NotReady` comes where it may no longer start there, and adds nothing.
     pub fn lose_ready<R: Wait>(
         &self,
         rt: &R,
@@ -386,9 +397,9 @@ impl Gate {
         answer
     }
 
-    /// The replies to a session's lines above an ordinal, as the hall has them at that point of the trail; none exactly where an entry
-    /// of the session has not ended there. What they name is in the setup. `Session` comes where the session is not open there, and `Memory` where a growth was
-    /// refused.
+    /// The replies to a session's lines above an ordinal, as the hall has them at that point of the trail; none exactly
+    /// where an entry of the session has not ended there. What they name is in the setup. `Session` comes where the
+    /// session is not open there, and `Memory` where a growth was refused.
     pub fn answers<R: Wait>(
         &self,
         rt: &R,
@@ -403,8 +414,10 @@ impl Gate {
         ensures own { pass.new.own ≡ pass.old.own }
         ensures open { IfOk result (λ _. session < length (state_seen pass.new).sessions) }
         ensures waits { IfOk result (λ found. IsNone found → Waits (state_seen pass.new) session) }
-        ensures replies { IfOk result (λ found. IfSome found (λ replies. AreAnswers (state_seen pass.new) session after (map reply_of replies.items))) }
-        ensures known { IfOk result (λ found. IfSome found (λ replies. All (λ reply. KnowsAnswer (state_seen pass.new).setup reply.answer) replies.items)) }
+        ensures replies { IfOk result (λ found. IfSome found
+            (λ replies. AreAnswers (state_seen pass.new) session after (map reply_of replies.items))) }
+        ensures known { IfOk result (λ found. IfSome found
+            (λ replies. All (λ reply. KnowsAnswer (state_seen pass.new).setup reply.answer) replies.items)) }
         ensures fault { IfErr result (λ fault. IsUnanswered (state_seen pass.new) session fault) }
     {
         let turn = self.turn(rt, pass.take());
@@ -436,8 +449,9 @@ impl Gate {
         }
     }
 
-    /// Takes in another pass of the same gate, with all its parts. The pass has then seen what each had seen, and owns the positions
-    /// of both; no position is owned twice. What either had in hand it has, and no entry was in both hands.
+    /// Takes in another pass of the same gate, with all its parts. The pass has then seen what each had seen, and owns
+    /// the positions of both; no position is owned twice. What either had in hand it has, and no entry was in both
+    /// hands.
     pub fn meet(&self, pass: &mut Pass, other: Pass)
         requires gate { (pass.old.gate ≡ self.now) × (other.gate ≡ self.now) }
         ensures gate { pass.new.gate ≡ self.now }
@@ -459,8 +473,9 @@ impl Gate {
         };
     }
 
-    /// The hall, once all parts have met in one pass. The gate is handed over, so nobody is inside a call. The hall's trail is what
-    /// the pass has seen: the events that the gate was given, and then just those of the pass's own calls.
+    /// The hall, once all parts have met in one pass. The gate is handed over, so nobody is inside a call. The hall's
+    /// trail is what the pass has seen: the events that the gate was given, and then just those of the pass's own
+    /// calls.
     pub fn close(self, pass: Pass) -> Hall
         requires gate { pass.gate ≡ self }
         requires all { pass.parts ≡ 64 }

@@ -1,5 +1,6 @@
-//! The gate: a hall that many threads call, one at a time, in the order of their tickets. All calls stand in one legal trail. A pass
-//! knows what it has seen of it and which positions are its own, and who has met all passes knows the whole.
+//! The gate: a hall that many threads call, one at a time, in the order of their tickets. All calls stand in one legal
+//! trail. A pass knows what it has seen of it and which positions are its own, and who has met all passes knows the
+//! whole.
 //!
 //!     boxed   a hall in memory of its own, as it is handed on
 //!     gate    the gate, and the calls of the hall through it

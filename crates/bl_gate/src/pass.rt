@@ -10,9 +10,9 @@ pub(crate) const PARTS: u32 = 64;
 /// A seat at the gate's table, whose slot has the hall.
 pub(crate) type Place = Seat<Option<BoxedHall>, View>;
 
-/// What a thread calls a gate with, and its parts of the right to close it: 1 to 64 of the 64 that there are. A gate makes it. It has
-/// no memory but of its parts: what it has seen, and which positions of the trail are its own, only contracts know. Where it was taken
-/// from, a pass of no gate and with no parts is left.
+/// What a thread calls a gate with, and its parts of the right to close it: 1 to 64 of the 64 that there are. A gate
+/// makes it. It has no memory but of its parts: what it has seen, and which positions of the trail are its own, only
+/// contracts know. Where it was taken from, a pass of no gate and with no parts is left.
 #[derive(Drop)]
 pub struct Pass {
     pub(crate) seat: Option<Place>,

@@ -1,5 +1,5 @@
-//! The rule of the gate's table: what its two words and its slot have to do with what each pass knows. It stands in three passes:
-//! tickets and parts, then the slot, then the trails that were seen and the positions that are owned.
+//! The rule of the gate's table: what its two words and its slot have to do with what each pass knows. It stands in
+//! three passes: tickets and parts, then the slot, then the trails that were seen and the positions that are owned.
 use crate::boxed::BoxedHall;
 use atomic_table::{Join, Play, Split, TableRule};
 use bl_hall::hall::Hall;

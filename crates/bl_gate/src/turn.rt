@@ -1,12 +1,14 @@
 //! A turn at the gate.
-ghost use Rattle.std.specs.Prelude.{◌≡◌, All, ◌++◌, ◌∷◌, ◌<◌, ◌↔◌, [], ℕ, IsNone, IfOk, IfErr, IfSome, OnOk, OnErr, length, map};
+ghost use Rattle.std.specs.Prelude.{◌≡◌, All, ◌++◌, ◌∷◌, ◌<◌, ◌↔◌, [], ℕ, IsNone, IfOk, IfErr, IfSome, OnOk, OnErr};
+ghost use Rattle.std.specs.Prelude.{length, map};
 ghost use Rattle.bl_work.specs.Readable.{IsReadable};
 ghost use Rattle.bl_order.specs.Known.{KnowsAnswer};
 ghost use Rattle.bl_order.specs.Machine.{Opens, Admits, Starts, Ends, Loses, MayStart};
 ghost use Rattle.bl_core.specs.Answers.{IsCause, IsLentBy, IsNotOpened, IsStarted, IsStarvedBy};
 ghost use Rattle.bl_hall.specs.Chronicle.{HasTrail};
 ghost use Rattle.bl_hall.specs.Told.{AreAnswers, IsUnanswered, Waits, reply_of};
-ghost use Rattle.bl_gate.specs.Gates.{Calls, Follows, GivesInHand, HasLoanInHand, IsOf, KeepsInHand, KeepsInHandBut, OwnsAllSince, hall_seen, state_seen};
+ghost use Rattle.bl_gate.specs.Gates.{Calls, Follows, GivesInHand, HasLoanInHand, IsOf, KeepsInHand, KeepsInHandBut};
+ghost use Rattle.bl_gate.specs.Gates.{OwnsAllSince, hall_seen, state_seen};
 
 use crate::boxed::BoxedHall;
 use crate::gate::Gate;
@@ -22,8 +24,8 @@ use bl_work::work::Work;
 use std::marker::Model;
 use std::sync::MutexGuard;
 
-/// A pass that has the hall until it leaves, and makes as many calls of it as it likes: each is as the gate's of that name, and nobody
-/// else's comes in between. It has to be left, or else nobody would make a call again.
+/// A pass that has the hall until it leaves, and makes as many calls of it as it likes: each is as the gate's of that
+/// name, and nobody else's comes in between. It has to be left, or else nobody would make a call again.
 pub struct Turn<'a> {
     pub(crate) gate: &'a Gate,
     pub(crate) alone: MutexGuard<'a, ()>,
@@ -48,7 +50,8 @@ impl<'a> Model for Turn<'a> {
 
     ghost view = { λ turn. pass_of turn.seat.table_id (went turn.seat.me.0 turn.hall.value.trail) turn.parts };
 
-    ghost invariant = { λ turn. HasTurn turn.seat.me.0 × (turn.seat.me.1 ≡ (0, None) ∷ []) × (turn.seat.me.0.parts ≡ turn.parts)
+    ghost invariant = { λ turn. HasTurn turn.seat.me.0 × (turn.seat.me.1 ≡ (0, None) ∷ [])
+        × (turn.seat.me.0.parts ≡ turn.parts)
         × (turn.seat.table_id ≡ turn.gate.now.table) × HasGoneOn turn.seat.me.0 turn.hall.value };
 }
 
@@ -59,8 +62,10 @@ impl<'a> Turn<'a> {
         ensures trail { HasTrail (hall_seen self.new) }
         ensures own { OwnsAllSince self.old self.new }
         ensures in_hand { KeepsInHand self.old self.new }
-        ensures ok { IfOk result (λ session. Calls self.old (Opens subject) (λ x. session ≡ length x.sessions) self.new) }
-        ensures err { IfErr result (λ refused. (self.new ≡ self.old) × IsNotOpened (state_seen self.new) subject refused) }
+        ensures ok { IfOk result (λ session. Calls self.old (Opens subject)
+            (λ x. session ≡ length x.sessions) self.new) }
+        ensures err { IfErr result (λ refused. (self.new ≡ self.old)
+            × IsNotOpened (state_seen self.new) subject refused) }
     {
         self.hall.open(subject)
     }
@@ -71,15 +76,17 @@ impl<'a> Turn<'a> {
         ensures trail { HasTrail (hall_seen self.new) }
         ensures own { OwnsAllSince self.old self.new }
         ensures in_hand { KeepsInHand self.old self.new }
-        ensures ok { IfOk result (λ n. Calls self.old (Admits session ordinal work) (λ x. n ≡ length x.order) self.new) }
-        ensures err { IfErr result (λ refused. (self.new ≡ self.old) × IsCause (state_seen self.new) session ordinal work refused.cause) }
+        ensures ok { IfOk result (λ n. Calls self.old (Admits session ordinal work)
+            (λ x. n ≡ length x.order) self.new) }
+        ensures err { IfErr result (λ refused. (self.new ≡ self.old)
+            × IsCause (state_seen self.new) session ordinal work refused.cause) }
         ensures back { IfErr result (λ refused. refused.work ≡ work) }
     {
         self.hall.line(session, ordinal, work)
     }
 
-    /// Admits a line as `line` does, with a work that some text reads as by the names of the gate's setup, as one that was just read: that
-    /// is not asked again.
+    /// Admits a line as `line` does, with a work that some text reads as by the names of the gate's setup, as one that
+    /// was just read: that is not asked again.
     pub fn readable_line(
         &mut self,
         session: SessionNo,
@@ -91,7 +98,8 @@ impl<'a> Turn<'a> {
         ensures trail { HasTrail (hall_seen self.new) }
         ensures own { OwnsAllSince self.old self.new }
         ensures in_hand { KeepsInHand self.old self.new }
-        ensures ok { IfOk result (λ n. Calls self.old (Admits session ordinal work) (λ x. n ≡ length x.order) self.new) }
+        ensures ok { IfOk result (λ n. Calls self.old (Admits session ordinal work)
+            (λ x. n ≡ length x.order) self.new) }
         ensures err { IfErr result (λ refused. (self.new ≡ self.old)
             × IsCause (state_seen self.new) session ordinal work refused.cause) }
         ensures back { IfErr result (λ refused. refused.work ≡ work) }
@@ -99,8 +107,8 @@ impl<'a> Turn<'a> {
         self.hall.readable_line(session, ordinal, work)
     }
 
-    /// Starts an entry. `NotReady` comes where it may not start, and `Memory` where it may and a growth was refused; neither adds
-    /// anything.
+    /// Starts an entry. `NotReady` comes where it may not start, and `Memory` where it may and a growth was refused;
+    /// neither adds anything.
     #[tactic(auto, using(crate::proofs::Starts::what_runs_is_of))]
     pub fn start(&mut self, n: u32) -> Result<Started, StartFault>
         ensures follows { Follows self.old self.new }
@@ -108,7 +116,8 @@ impl<'a> Turn<'a> {
         ensures own { OwnsAllSince self.old self.new }
         ensures in_hand { KeepsInHand self.old self.new }
         ensures ok { IfOk result (λ begun. Calls self.old (Starts n) (λ x. IsStarted x n begun) self.new) }
-        ensures err { IfErr result (λ fault. (self.new ≡ self.old) × ((fault ≡ StartFault.NotReady) ↔ ¬ MayStart (state_seen self.new) n)) }
+        ensures err { IfErr result (λ fault. (self.new ≡ self.old)
+            × ((fault ≡ StartFault.NotReady) ↔ ¬ MayStart (state_seen self.new) n)) }
         ensures entry { IfOk result (IsOf n) }
         ensures gives { IfOk result (GivesInHand self.new) }
         ensures starved { IfErr result (IsStarvedBy n) }
@@ -140,7 +149,8 @@ impl<'a> Turn<'a> {
         self.hall.lose_lent(unrun);
     }
 
-    /// Ends an entry as lost that was refused memory at its start. `NotReady` comes where it may no longer start, and adds nothing.
+    /// Ends an entry as lost that was refused memory at its start. `NotReady` comes where it may no longer start, and
+    /// adds nothing.
     pub fn lose_ready(&mut self, starved: Starved) -> Result<(), NotReady>
         ensures follows { Follows self.old self.new }
         ensures trail { HasTrail (hall_seen self.new) }
@@ -167,8 +177,9 @@ impl<'a> Turn<'a> {
         self.hall.ready()
     }
 
-    /// The replies to a session's lines above an ordinal; none exactly where an entry of the session has not ended. What they name is
-    /// in the setup. `Session` comes where the session is not open, and `Memory` where a growth was refused.
+    /// The replies to a session's lines above an ordinal; none exactly where an entry of the session has not ended.
+    /// What they name is in the setup. `Session` comes where the session is not open, and `Memory` where a growth was
+    /// refused.
     pub fn answers(
         &self,
         session: SessionNo,
@@ -176,8 +187,10 @@ impl<'a> Turn<'a> {
     ) -> Result<Option<Vec<Reply>>, AnswersFault>
         ensures open { IfOk result (λ _. session < length (state_seen self.now).sessions) }
         ensures waits { IfOk result (λ found. IsNone found → Waits (state_seen self.now) session) }
-        ensures replies { IfOk result (λ found. IfSome found (λ replies. AreAnswers (state_seen self.now) session after (map reply_of replies.items))) }
-        ensures known { IfOk result (λ found. IfSome found (λ replies. All (λ reply. KnowsAnswer (state_seen self.now).setup reply.answer) replies.items)) }
+        ensures replies { IfOk result (λ found. IfSome found
+            (λ replies. AreAnswers (state_seen self.now) session after (map reply_of replies.items))) }
+        ensures known { IfOk result (λ found. IfSome found
+            (λ replies. All (λ reply. KnowsAnswer (state_seen self.now).setup reply.answer) replies.items)) }
         ensures fault { IfErr result (λ fault. IsUnanswered (state_seen self.now) session fault) }
     {
         self.hall.answers(session, after)

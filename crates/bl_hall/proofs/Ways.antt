@@ -91,14 +91,6 @@ under-next links line start now at n w is = go w.rest w.leads w.there w.few w.wh
               omega (arith, steps-are (next_in links) (length links) (next_in links n) rest leads (omega (arith, few)), steps-are (next_in links) (length links) at (m ∷ rest) l few);
         }
 
-pub under-end : (links : List Link) (line : ℕ) (start now : List ℕ) (at : Option ℕ) → IsUnderWay links line start now at → at ≡ None
-    → (family : List ℕ) × Leads (next_in links) (Some line) family × (now ≡ start ++ family)
-under-end links line start now at w is = go w.rest w.leads w.whole
-  where
-    go : (rest : List ℕ) → Leads (next_in links) at rest → Leads (next_in links) (Some line) (w.done ++ rest) → (family : List ℕ) × Leads (next_in links) (Some line) family × (now ≡ start ++ family)
-    go [] l whole = (w.done, subst (Leads (next_in links) (Some line)) (append-nil w.done) whole, w.added)
-    go (m ∷ rest) l whole = let e : Some m ≡ None = sym l.0 ∙ is in absurd (cc)
-
 -- ---- families, gathered from the last line
 
 pub gather-step : (links : List Link) (lines : List ℕ) (x : ℕ) (family tail : List ℕ) → Leads (next_in links) (Some x) family → AreGathered links lines tail → AreGathered links (lines ++ x ∷ []) (family ++ tail)
@@ -166,18 +158,6 @@ on-next order links s after lines at line w is = go (lines_below order s w.upto)
             rest = λ n rest g. (let same : n ∷ rest ≡ m ∷ more = sym g ∙ e in let two : n ≡ m = cc in subst (λ j. ordinal_in order j ≤ after) (sym (two ∙ one)) small);
           };
         }
-
-pub on-end : (order : List Entry) (links : List Link) (s after : ℕ) (lines : List ℕ) (at : Option ℕ) → IsOnTheWay order links s after lines at → at ≡ None → AreLinesAbove order s after lines
-on-end order links s after lines at w is = record {
-  upto = w.upto;
-  split = w.split;
-  within = w.within;
-  above = w.above;
-  rest = λ n more g. absurd (led n more (subst (Leads (earlier_in links) at) g w.leads));
-}
-  where
-    led : (n : ℕ) (more : List ℕ) → Leads (earlier_in links) at (n ∷ more) → ⊥
-    led n more h = let f : Some n ≡ None = sym h.0 ∙ is in absurd (cc)
 
 -- where nothing is popped nothing is left
 pub nothing-left : (xs : List ℕ) (n : ℕ) (r : Option ℕ) → n ≡ length xs → (IsSome r ↔ (0 < n)) → ((x : ℕ) → r ≡ Some x → ⊥) → xs ≡ []

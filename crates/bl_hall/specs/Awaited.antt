@@ -7,7 +7,8 @@ use Rattle.bl_order.specs.Machine.{State, Phase, Waiting, Running, Ended, Gone, 
 abbrev pub awaited_below : State → ℕ → ℕ → ℕ
 awaited_below x session zero = 0
 awaited_below x session (suc n) =
-    if ((tag x.order n).session == session) && not (has_ended x n) then suc (awaited_below x session n) else awaited_below x session n
+    if ((tag x.order n).session == session) && not (has_ended x n) then suc
+    (awaited_below x session n) else awaited_below x session n
 
 abbrev pub awaited : State → ℕ → ℕ
 awaited x session = awaited_below x session (length x.order)

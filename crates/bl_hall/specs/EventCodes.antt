@@ -7,7 +7,8 @@ use Rattle.bl_work.specs.WorkCodes.{coded_work}
 use Rattle.bl_work.specs.declared.work.Work.{Work}
 use Rattle.bl_order.specs.Machine.{Event, Opens, Admits, Starts, Ends, Loses}
 
--- an event: the subject of an opening, the session, the ordinal and the work of a line, or the place of one of the others
+-- an event: the subject of an opening, the session, the ordinal and the work of a line, or the place of one of the
+-- others
 abbrev StoredEvent : Type 0
 StoredEvent = (ℕ ⊎ (ℕ × (ℕ × Work))) ⊎ (ℕ ⊎ (ℕ ⊎ ℕ))
 
@@ -34,4 +35,5 @@ event_again (Loses n) = refl
 
 abbrev pub coded_event : Coded Event
 coded_event =
-    code_by StoredEvent (coded⊎ (coded⊎ coded_ℕ (coded× coded_ℕ (coded× coded_ℕ coded_work))) (coded⊎ coded_ℕ (coded⊎ coded_ℕ coded_ℕ))) stored_event event_from event_again
+    code_by StoredEvent (coded⊎ (coded⊎ coded_ℕ (coded× coded_ℕ (coded× coded_ℕ coded_work)))
+    (coded⊎ coded_ℕ (coded⊎ coded_ℕ coded_ℕ))) stored_event event_from event_again

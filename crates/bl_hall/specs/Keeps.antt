@@ -17,7 +17,8 @@ use Rattle.bl_hall.specs.Linked.{family, lines_below, link_at, tally_at, next_in
 pub record AreLinks (order : List Entry) (links : List Link) : Type 0 where
   pub as_many : length links ≡ length order
   pub session : (n : ℕ) → n < length order → (link_at links n).session ≡ (tag order n).session
-  pub families : (n session ordinal subject : ℕ) (work : Work) → slice_get order n ≡ Some (Line session ordinal subject work)
+  pub families : (n session ordinal subject : ℕ) (work : Work)
+      → slice_get order n ≡ Some (Line session ordinal subject work)
       → Leads (next_in links) (Some n) (family order session ordinal)
 
 -- of each session of a state how many entries it waits for, and its last line
@@ -27,7 +28,8 @@ pub record AreTallies (x : State) (links : List Link) (tallies : List Tally) : T
   pub lines : (session : ℕ) → session < length x.sessions
       → Leads (earlier_in links) (tally_at tallies session).line (lines_below x.order session (length x.order))
 
--- The core is where the trail leads; the links and the tallies are those of its state; and there is room for all that may come.
+-- The core is where the trail leads; the links and the tallies are those of its state; and there is room for all that
+-- may come.
 pub record Keeps (h : Inside) : Type 0 where
   pub trail : HasTrail (chronicle_of h)
   pub leads : h.core ≡ state_now (chronicle_of h)

@@ -1,6 +1,7 @@
--- How the places of a session hang together: the places of each line in order of their labels, and the lines of a session, the last
--- one first.
-use Rattle.std.specs.Prelude.{◌≡◌, ◌≢◌, ℕ, zero, suc, ◌+◌, ◌-◌, ◌<◌, ◌≤◌, Bool, false, ◌==◌, if◌then◌else◌, List, [], ◌∷◌, ◌++◌, All, length, slice_index_or, slice_set, Option, Some, None}
+-- How the places of a session hang together: the places of each line in order of their labels, and the lines of a
+-- session, the last one first.
+use Rattle.std.specs.Prelude.{◌≡◌, ◌≢◌, ℕ, zero, suc, ◌+◌, ◌-◌, ◌<◌, ◌≤◌, Bool, false, ◌==◌, if◌then◌else◌, List, []}
+use Rattle.std.specs.Prelude.{◌∷◌, ◌++◌, All, length, slice_index_or, slice_set, Option, Some, None}
 use Rattle.bl_order.specs.Labels.{Tag, tag, is_before, is_of}
 use Rattle.bl_order.specs.Order.{Entry, Line, Child}
 use Rattle.bl_order.specs.Past.{no_entry}
@@ -10,12 +11,14 @@ use Rattle.bl_hall.specs.declared.link.Tally.{Tally}
 -- one place more among those in order of their labels
 abbrev pub put_place : List Entry → ℕ → List ℕ → List ℕ
 put_place order n [] = n ∷ []
-put_place order n (m ∷ places) = if is_before (tag order n).label (tag order m).label then n ∷ m ∷ places else m ∷ put_place order n places
+put_place order n (m ∷ places) = if is_before (tag order n).label
+    (tag order m).label then n ∷ m ∷ places else m ∷ put_place order n places
 
 -- the places below n whose tags pass a test, in order of their labels
 abbrev pub places_with : List Entry → (Tag → Bool) → ℕ → List ℕ
 places_with order mine zero = []
-places_with order mine (suc n) = if mine (tag order n) then put_place order n (places_with order mine n) else places_with order mine n
+places_with order mine (suc n) = if mine (tag order n) then put_place order n
+    (places_with order mine n) else places_with order mine n
 
 -- the places of a line and of its descendants, in order of their labels
 abbrev pub family : List Entry → ℕ → ℕ → List ℕ
@@ -54,15 +57,25 @@ abbrev pub lead_to : ℕ → ℕ → Option ℕ → Option ℕ
 lead_to at zero behind = behind
 lead_to at (suc places) behind = Some at
 
--- So many children have entered behind all places: the parent leads to the first of them, each to the one after it, and the last one to
--- where the parent led.
+-- So many children have entered behind all places: the parent leads to the first of them, each to the one after it, and
+-- the last one to where the parent led.
 pub record HaveEntered (links : List Link) (n children : ℕ) (after : List Link) : Type 0 where
   pub as_many : length after ≡ length links + children
   pub others : (m : ℕ) → m < length links → m ≢ n → link_at after m ≡ link_at links m
   pub parent : link_at after n
-      ≡ record { session = (link_at links n).session; next = lead_to (length links) children (next_in links n); earlier = earlier_in links n }
+      ≡ record {
+        session = (link_at links n).session;
+        next = lead_to (length links) children
+            (next_in links n);
+        earlier = earlier_in links n;
+      }
   pub entered : (i : ℕ) → i < children → link_at after (length links + i)
-      ≡ record { session = (link_at links n).session; next = lead_to (length links + i + 1) (children - i - 1) (next_in links n); earlier = None }
+      ≡ record {
+        session = (link_at links n).session;
+        next = lead_to (length links + i + 1) (children - i - 1)
+            (next_in links n);
+        earlier = None;
+      }
 
 abbrev pub no_tally : Tally
 no_tally = record { awaited = 0; line = None }
@@ -74,13 +87,21 @@ tally_at tallies session = slice_index_or tallies session no_tally
 abbrev pub one_less : List Link → List Tally → ℕ → List Tally
 one_less links tallies n =
     let session = (link_at links n).session in
-    slice_set tallies session (record { awaited = (tally_at tallies session).awaited - 1; line = (tally_at tallies session).line })
+    slice_set tallies session (record {
+      awaited = (tally_at tallies session).awaited - 1;
+      line =
+          (tally_at tallies session).line;
+    })
 
 -- and where so many more are awaited
 abbrev pub more_awaited : List Link → List Tally → ℕ → ℕ → List Tally
 more_awaited links tallies n children =
     let session = (link_at links n).session in
-    slice_set tallies session (record { awaited = (tally_at tallies session).awaited + children; line = (tally_at tallies session).line })
+    slice_set tallies session (record {
+      awaited = (tally_at tallies session).awaited + children;
+      line =
+          (tally_at tallies session).line;
+    })
 
 -- the ordinal of a line; 0 for a child
 abbrev pub line_ordinal : Entry → ℕ
@@ -109,4 +130,5 @@ pub record HasFamily (links : List Link) (line : ℕ) : Type 0 where
 abbrev pub AreGathered : List Link → List ℕ → List ℕ → Type 0
 AreGathered links [] places = places ≡ []
 AreGathered links (line ∷ lines) places =
-    (front : List ℕ) × (family : List ℕ) × AreGathered links lines front × Leads (next_in links) (Some line) family × (places ≡ front ++ family)
+    (front : List ℕ) × (family : List ℕ) × AreGathered links lines front × Leads (next_in links) (Some line) family
+    × (places ≡ front ++ family)

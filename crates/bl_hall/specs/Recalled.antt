@@ -37,10 +37,16 @@ later_works (work ∷ rest) = rest
 abbrev pub recalled : List Work → List kept.Event → List Event
 recalled lines [] = []
 recalled lines (kept_as.Open subject ∷ events) = Opens subject ∷ recalled lines events
-recalled lines (kept_as.Line session ordinal ∷ events) = Admits session ordinal (next_work lines) ∷ recalled (later_works lines) events
+recalled lines (kept_as.Line session ordinal ∷ events) = Admits session ordinal (next_work lines) ∷ recalled
+    (later_works lines) events
 recalled lines (kept_as.Start n ∷ events) = Starts n ∷ recalled lines events
 recalled lines (kept_as.End n ∷ events) = Ends n ∷ recalled lines events
 recalled lines (kept_as.Lost n ∷ events) = Loses n ∷ recalled lines events
 
 abbrev pub chronicle_of : Inside → Chronicle
-chronicle_of h = record { setup = h.core.setup; limit = h.core.limit; trail = recalled (works_of h.core.order) h.events.items }
+chronicle_of h = record {
+  setup = h.core.setup;
+  limit = h.core.limit;
+  trail = recalled
+      (works_of h.core.order) h.events.items;
+}

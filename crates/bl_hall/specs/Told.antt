@@ -1,5 +1,6 @@
 -- What a hall tells a session: the replies to its lines above an ordinal, in numeric order of their labels.
-use Rattle.std.specs.Prelude.{◌≡◌, ℕ, zero, suc, ◌<◌, ◌≤◌, Bool, false, ◌&&◌, ◌==◌, nat_lt, IsTrue, if◌then◌else◌, List, [], length, slice_index_or, AllPairs, Contains}
+use Rattle.std.specs.Prelude.{◌≡◌, ℕ, zero, suc, ◌<◌, ◌≤◌, Bool, false, ◌&&◌, ◌==◌, nat_lt, IsTrue, if◌then◌else◌, List}
+use Rattle.std.specs.Prelude.{[], length, slice_index_or, AllPairs, Contains}
 use Rattle.bl_work.specs.Few.{items_of}
 use Rattle.bl_order.specs.Labels.{Tag, Reply, tag, put_in, is_before}
 use Rattle.bl_order.specs.Machine.{State, past_at, has_ended}
@@ -19,7 +20,8 @@ is_above session after tag = (tag.session == session) && nat_lt after (slice_ind
 abbrev pub replies_above : State → ℕ → ℕ → ℕ → List Reply
 replies_above x session after zero = []
 replies_above x session after (suc n) =
-    if is_above session after (tag x.order n) then put_in (reply_in x n) (replies_above x session after n) else replies_above x session after n
+    if is_above session after (tag x.order n) then put_in (reply_in x n)
+    (replies_above x session after n) else replies_above x session after n
 
 -- the ordinal of the line that an entry is, or that it descends from
 abbrev pub root_ordinal : Tag → ℕ
@@ -31,8 +33,8 @@ pub record IsAbove (x : State) (session after n : ℕ) : Type 0 where
   pub own : (tag x.order n).session ≡ session
   pub above : after < root_ordinal (tag x.order n)
 
--- The replies to the lines of a session above an ordinal, as they stand: in numeric order of their labels, no two with one label; the
--- reply to each entry above the ordinal, and no other.
+-- The replies to the lines of a session above an ordinal, as they stand: in numeric order of their labels, no two with
+-- one label; the reply to each entry above the ordinal, and no other.
 pub record AreInOrder (x : State) (session after : ℕ) (replies : List Reply) : Type 0 where
   pub rising : AllPairs (λ (earlier later : Reply). IsTrue (is_before earlier.label later.label)) replies
   pub each : (n : ℕ) → IsAbove x session after n → Contains replies (reply_in x n)

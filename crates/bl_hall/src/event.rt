@@ -6,8 +6,8 @@ use bl_policy::id::SubjectId;
 pub enum Event {
     /// A session was opened for this subject; its number is the count of those before it.
     Open(SubjectId),
-    /// The line of the session of this number was admitted with this ordinal; its entry is the next of the order. There are at most
-    /// 1,000 sessions, so two bytes hold the number.
+    /// The line of the session of this number was admitted with this ordinal; its entry is the next of the order. There
+    /// are at most 1,000 sessions, so two bytes hold the number.
     Line { session: u16, ordinal: u32 },
     /// An entry was started: it runs, or it has ended as a rule or as denied.
     Start(u32),

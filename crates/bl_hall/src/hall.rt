@@ -19,8 +19,9 @@ use std::marker::Model;
 
 /// The core with its trail. Its value is the setup, the limit and the events, and the core's state is where these lead.
 ///
-/// Each call that succeeds and changes it adds the one event that it is; every other call leaves it as it was. Only `new`, `start`
-/// and what answers a session take memory: `new` reserves room for all events that the limit lets happen.
+/// Each call that succeeds and changes it adds the one event that it is; every other call leaves it as it was. Only
+/// `new`, `start` and what answers a session take memory: `new` reserves room for all events that the limit lets
+/// happen.
 #[derive(Drop)]
 pub struct Hall {
     alloc: Global,
@@ -49,7 +50,9 @@ impl Model for Hall {
 }
 
 impl Hall {
-    ghost use Rattle.std.specs.Prelude.{◌≡◌, ◌<◌, ◌≤◌, ◌↔◌, ℕ, IsTrue, IsSome, IsNone, IsOk, length, map, All, [], IfOk, OnErr, OnOk, IfErr, IfSome, MatchResult, MatchOption, Some, None, Ok, Err};
+    ghost use Rattle.std.specs.Prelude.{◌≡◌, ◌<◌, ◌≤◌, ◌↔◌, ℕ, IsTrue, IsSome, IsNone, IsOk, length, map, All, []};
+    ghost use Rattle.std.specs.Prelude.{IfOk, OnErr, OnOk, IfErr, IfSome, MatchResult, MatchOption, Some, None, Ok};
+    ghost use Rattle.std.specs.Prelude.{Err};
     ghost use Rattle.bl_work.specs.Readable.{IsReadable};
     ghost use Rattle.bl_order.specs.Known.{KnowsAnswer};
     ghost use Rattle.bl_order.specs.Labels.{tag};
@@ -59,8 +62,8 @@ impl Hall {
     ghost use Rattle.bl_hall.specs.Chronicle.{Continues, HasTrail, kept_of, state_now, with_event};
     ghost use Rattle.bl_hall.specs.Told.{AreAnswers, IsUnanswered, Waits, reply_in, reply_of};
 
-    /// A hall in which nothing has happened, over this setup, for lines that weigh no more than the limit, which is 1 to 100,000. An
-    /// error comes only where a growth is refused.
+    /// A hall in which nothing has happened, over this setup, for lines that weigh no more than the limit, which is 1
+    /// to 100,000. An error comes only where a growth is refused.
     pub fn new(alloc: Global, setup: Setup, limit: u32) -> Result<Hall, AllocError>
         requires some { 1 ≤ limit }
         requires most { limit ≤ 100000 }
@@ -82,18 +85,20 @@ impl Hall {
         }
     }
 
-    /// The allocator that it was made with; a gate round it makes its own parts with this one. No clause says which it is, since a
-    /// hall's value has no allocator.
+    /// The allocator that it was made with; a gate round it makes its own parts with this one. No clause says which it
+    /// is, since a hall's value has no allocator.
     pub fn alloc(&self) -> Global {
         self.alloc
     }
 
-    /// Opens a session for a subject, and answers its number. `Stranger` comes where the setup has no such subject, and then
-    /// `SessionsFull` where there are 1,000 sessions.
+    /// Opens a session for a subject, and answers its number. `Stranger` comes where the setup has no such subject, and
+    /// then `SessionsFull` where there are 1,000 sessions.
     pub fn open(&mut self, subject: SubjectId) -> Result<SessionNo, OpenRefused>
-        ensures ok { IfOk result (λ session. (session ≡ length (state_now self.old).sessions) × (self.new ≡ with_event self.old (Opens subject))) }
+        ensures ok { IfOk result (λ session. (session ≡ length (state_now self.old).sessions)
+            × (self.new ≡ with_event self.old (Opens subject))) }
         ensures err { OnErr result (self.new ≡ self.old) }
-        ensures cause { MatchResult result (λ _. Needs (state_now self.old) (Opens subject)) (λ refused. IsNotOpened (state_now self.old) subject refused) }
+        ensures cause { MatchResult result (λ _. Needs (state_now self.old) (Opens subject))
+            (λ refused. IsNotOpened (state_now self.old) subject refused) }
         ensures continues { Continues self.old self.new }
     {
         the_order_has_room();
@@ -110,10 +115,11 @@ impl Hall {
         }
     }
 
-    /// Admits a line of a session with its ordinal, and answers its place in the order, from 0. A refusal hands the work back, with
-    /// the first cause that holds.
+    /// Admits a line of a session with its ordinal, and answers its place in the order, from 0. A refusal hands the
+    /// work back, with the first cause that holds.
     pub fn line(&mut self, session: SessionNo, ordinal: u32, work: Work) -> Result<u32, Refused>
-        ensures ok { IfOk result (λ n. (n ≡ length (state_now self.old).order) × (self.new ≡ with_event self.old (Admits session ordinal work))) }
+        ensures ok { IfOk result (λ n. (n ≡ length (state_now self.old).order)
+            × (self.new ≡ with_event self.old (Admits session ordinal work))) }
         ensures err { OnErr result (self.new ≡ self.old) }
         ensures cause { MatchResult result (λ _. Needs (state_now self.old) (Admits session ordinal work))
             (λ refused. IsCause (state_now self.old) session ordinal work refused.cause × (refused.work ≡ work)) }
@@ -126,8 +132,8 @@ impl Hall {
         self.readable_line(session, ordinal, work)
     }
 
-    /// Admits a line as `line` does, with a work that some text reads as by the setup's names, as one that was just read: that is not
-    /// asked again.
+    /// Admits a line as `line` does, with a work that some text reads as by the setup's names, as one that was just
+    /// read: that is not asked again.
     pub fn readable_line(
         &mut self,
         session: SessionNo,
@@ -162,10 +168,12 @@ impl Hall {
         self.core.ready()
     }
 
-    /// Starts an entry. A rule or a denied behaviour ends at once; another behaviour runs, and is lent the contents of what it
-    /// declares, in declared order. `NotReady` comes where the entry may not start, and `Memory` where a growth was refused.
+    /// Starts an entry. A rule or a denied behaviour ends at once; another behaviour runs, and is lent the contents of
+    /// what it declares, in declared order. `NotReady` comes where the entry may not start, and `Memory` where a growth
+    /// was refused.
     pub fn start(&mut self, n: u32) -> Result<Started, StartFault>
-        ensures ok { IfOk result (λ begun. IsStarted (state_now self.old) n begun × (self.new ≡ with_event self.old (Starts n))) }
+        ensures ok { IfOk result (λ begun. IsStarted (state_now self.old) n begun
+            × (self.new ≡ with_event self.old (Starts n))) }
         ensures err { OnErr result (self.new ≡ self.old) }
         ensures not_ready { (result ≡ Err StartFault.NotReady) ↔ ¬ MayStart (state_now self.old) n }
         ensures starved { IfErr result (IsStarvedBy n) }
@@ -183,8 +191,8 @@ impl Hall {
         }
     }
 
-    /// Ends a running entry with what was done of what it was lent: its exclusive contents come back, its answer is kept, and its
-    /// children enter at the end of the order.
+    /// Ends a running entry with what was done of what it was lent: its exclusive contents come back, its answer is
+    /// kept, and its children enter at the end of the order.
     pub fn finish_lent(&mut self, done: Done)
         requires running { IsTrue (runs (state_now self.old) done.entry) }
         requires lent { done ≡ loan_at (state_now self.old) done.entry }
@@ -203,12 +211,14 @@ impl Hall {
         self.events.push_reserved(Event::End(n));
     }
 
-    /// Ends a running entry as `finish_lent` does. `Foreign` comes exactly where the entry does not run here, or the script, the
-    /// index or the inputs are not those that it was lent, and hands back what was done. It takes no memory.
+    /// Ends a running entry as `finish_lent` does. `Foreign` comes exactly where the entry does not run here, or the
+    /// script, the index or the inputs are not those that it was lent, and hands back what was done. It takes no
+    /// memory.
     pub fn finish(&mut self, done: Done) -> Result<(), Foreign>
         ensures ok { OnOk result (self.new ≡ with_event self.old (Ends done.entry)) }
         ensures err { OnErr result (self.new ≡ self.old) }
-        ensures foreign { MatchResult result (λ _. IsLentBy (state_now self.old) done) (λ foreign. ¬ IsLentBy (state_now self.old) done × (foreign ≡ done)) }
+        ensures foreign { MatchResult result (λ _. IsLentBy (state_now self.old) done)
+            (λ foreign. ¬ IsLentBy (state_now self.old) done × (foreign ≡ done)) }
         ensures continues { Continues self.old self.new }
     {
         let own = self.core.recognise(done)?;
@@ -230,12 +240,14 @@ impl Hall {
         self.events.push_reserved(Event::Lost(n));
     }
 
-    /// Ends a running entry as lost, as `lose_lent` does. `ForeignUnrun` comes exactly where the entry does not run here, or the
-    /// script, the index or the inputs are not those that it was lent, and hands them back. It takes no memory.
+    /// Ends a running entry as lost, as `lose_lent` does. `ForeignUnrun` comes exactly where the entry does not run
+    /// here, or the script, the index or the inputs are not those that it was lent, and hands them back. It takes no
+    /// memory.
     pub fn lose(&mut self, unrun: Unrun) -> Result<(), ForeignUnrun>
         ensures ok { OnOk result (self.new ≡ with_event self.old (Loses unrun.entry)) }
         ensures err { OnErr result (self.new ≡ self.old) }
-        ensures foreign { MatchResult result (λ _. IsLentBy (state_now self.old) unrun) (λ foreign. ¬ IsLentBy (state_now self.old) unrun × (foreign ≡ unrun)) }
+        ensures foreign { MatchResult result (λ _. IsLentBy (state_now self.old) unrun)
+            (λ foreign. ¬ IsLentBy (state_now self.old) unrun × (foreign ≡ unrun)) }
         ensures continues { Continues self.old self.new }
     {
         let own = self.core.recognise_unrun(unrun)?;
@@ -243,9 +255,9 @@ impl Hall {
         Ok(())
     }
 
-    /// Ends a running entry as lost, with what it was lent, which nobody has tried. It is for whoever follows a trail in which the
-    /// entry was lost. A worker cannot lose so what it never tried: no gate has this call, and no `Unrun` is made of a `Lent` but by
-    /// `eval`.
+    /// Ends a running entry as lost, with what it was lent, which nobody has tried. It is for whoever follows a trail
+    /// in which the entry was lost. A worker cannot lose so what it never tried: no gate has this call, and no `Unrun`
+    /// is made of a `Lent` but by `eval`.
     pub fn lose_running(&mut self, lent: Lent)
         requires running { IsTrue (runs (state_now self.old) lent.entry) }
         requires lent { lent ≡ loan_at (state_now self.old) lent.entry }
@@ -259,8 +271,8 @@ impl Hall {
         self.events.push_reserved(Event::Lost(n));
     }
 
-    /// Ends an entry as lost that may start, whether or not it was refused memory. It is for whoever follows a trail in which the
-    /// entry was lost. A worker cannot lose so what it never tried: no gate has this call.
+    /// Ends an entry as lost that may start, whether or not it was refused memory. It is for whoever follows a trail in
+    /// which the entry was lost. A worker cannot lose so what it never tried: no gate has this call.
     pub fn lose_untried(&mut self, n: u32)
         requires { MayStart (state_now self.old) n }
         ensures change { self.new ≡ with_event self.old (Loses n) }
@@ -286,14 +298,17 @@ impl Hall {
         Ok(())
     }
 
-    /// The places of all entries of a session whose line's ordinal is above `after`, in numeric order of their labels; `Ok(None)`
-    /// exactly where an entry of the session has not ended. It takes time for the lines above `after` and their descendants alone.
-    /// `Session` comes where the session is not open, and `Memory` where a growth was refused.
+    /// The places of all entries of a session whose line's ordinal is above `after`, in numeric order of their labels;
+    /// `Ok(None)` exactly where an entry of the session has not ended. It takes time for the lines above `after` and
+    /// their descendants alone. `Session` comes where the session is not open, and `Memory` where a growth was refused.
     pub fn places(&self, session: SessionNo, after: u32) -> Result<Option<Vec<u32>>, AnswersFault>
         ensures open { IfOk result (λ _. session < length (state_now self.now).sessions) }
         ensures waits { IfOk result (λ found. IsNone found → Waits (state_now self.now) session) }
-        ensures replies { IfOk result (λ found. IfSome found (λ places. AreAnswers (state_now self.now) session after (map (reply_in (state_now self.now)) places.items))) }
-        ensures ended { IfOk result (λ found. IfSome found (λ places. All (λ n. IsTrue (has_ended (state_now self.now) n)) places.items)) }
+        ensures replies { IfOk result (λ found. IfSome found
+            (λ places. AreAnswers (state_now self.now) session after
+            (map (reply_in (state_now self.now)) places.items))) }
+        ensures ended { IfOk result (λ found. IfSome found
+            (λ places. All (λ n. IsTrue (has_ended (state_now self.now) n)) places.items)) }
         ensures fault { IfErr result (λ fault. IsUnanswered (state_now self.now) session fault) }
     {
         let number = session.number() as usize;
@@ -318,8 +333,9 @@ impl Hall {
         }
     }
 
-    /// The label of an entry that is there, put into `label` in place of what stood there: the ordinal of its line, and the child
-    /// numbers from there down to it. An error comes only where a growth is refused, and leaves `label` empty.
+    /// The label of an entry that is there, put into `label` in place of what stood there: the ordinal of its line, and
+    /// the child numbers from there down to it. An error comes only where a growth is refused, and leaves `label`
+    /// empty.
     pub fn write_label(&self, n: u32, label: &mut Vec<u32>) -> Result<(), AllocError>
         requires { n < length (state_now self.now).order }
         ensures ok { OnOk result (label.new.items ≡ (tag (state_now self.now).order n).label) }
@@ -328,9 +344,10 @@ impl Hall {
         write_label(&self.core, n, label)
     }
 
-    /// The replies to all lines of a session whose ordinal is above `after`, with those to their descendants, in numeric order of
-    /// labels; `Ok(None)` exactly where an entry of the session has not ended. What they name is in the setup. It takes time for these
-    /// lines and their descendants alone. `Session` comes where the session is not open, and `Memory` where a growth was refused.
+    /// The replies to all lines of a session whose ordinal is above `after`, with those to their descendants, in
+    /// numeric order of labels; `Ok(None)` exactly where an entry of the session has not ended. What they name is in
+    /// the setup. It takes time for these lines and their descendants alone. `Session` comes where the session is not
+    /// open, and `Memory` where a growth was refused.
     pub fn answers(
         &self,
         session: SessionNo,
@@ -338,8 +355,10 @@ impl Hall {
     ) -> Result<Option<Vec<Reply>>, AnswersFault>
         ensures open { IfOk result (λ _. session < length (state_now self.now).sessions) }
         ensures waits { IfOk result (λ found. IsNone found → Waits (state_now self.now) session) }
-        ensures replies { IfOk result (λ found. IfSome found (λ replies. AreAnswers (state_now self.now) session after (map reply_of replies.items))) }
-        ensures known { IfOk result (λ found. IfSome found (λ replies. All (λ reply. KnowsAnswer (state_now self.now).setup reply.answer) replies.items)) }
+        ensures replies { IfOk result (λ found. IfSome found
+            (λ replies. AreAnswers (state_now self.now) session after (map reply_of replies.items))) }
+        ensures known { IfOk result (λ found. IfSome found
+            (λ replies. All (λ reply. KnowsAnswer (state_now self.now).setup reply.answer) replies.items)) }
         ensures fault { IfErr result (λ fault. IsUnanswered (state_now self.now) session fault) }
     {
         let Some(places) = self.places(session, after)? else {
@@ -354,8 +373,10 @@ impl Hall {
     /// The replies to the entries of these places.
     fn replies(&self, places: &[u32]) -> Result<Vec<Reply>, AllocError>
         requires { All (λ n. IsTrue (has_ended (state_now self.now) n)) places.now }
-        ensures are { IfOk result (λ replies. map reply_of replies.items ≡ map (reply_in (state_now self.now)) places.now) }
-        ensures known { IfOk result (λ replies. All (λ reply. KnowsAnswer (state_now self.now).setup reply.answer) replies.items) }
+        ensures are { IfOk result (λ replies. map reply_of replies.items ≡ map
+            (reply_in (state_now self.now)) places.now) }
+        ensures known { IfOk result (λ replies. All
+            (λ reply. KnowsAnswer (state_now self.now).setup reply.answer) replies.items) }
     {
         let mut replies = Vec::with_capacity(self.alloc, places.len())?;
         for n in places {

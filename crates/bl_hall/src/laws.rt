@@ -6,10 +6,12 @@ ghost use Rattle.bl_order.specs.Labels.{replies_to};
 ghost use Rattle.bl_hall.specs.Chronicle.{Chronicle, HasTrail, state_now, with_event};
 ghost use Rattle.bl_hall.specs.Told.{AreInOrder, replies_above};
 
-/// One event more leads on by its change, and keeps a trail a trail where it may come next; and a trail leads to the state.
+/// One event more leads on by its change, and keeps a trail a trail where it may come next; and a trail leads to the
+/// state.
 pub fn events_lead_on()
     ensures change { (h : Chronicle) (event : Event) → state_now (with_event h event) ≡ change (state_now h) event }
-    ensures trail { (h : Chronicle) (event : Event) → HasTrail h → Needs (state_now h) event → HasTrail (with_event h event) }
+    ensures trail { (h : Chronicle) (event : Event) → HasTrail h → Needs (state_now h) event
+        → HasTrail (with_event h event) }
     ensures reached { (h : Chronicle) → HasTrail h → IsReached (state_now h) }
 {}
 
@@ -21,5 +23,6 @@ pub fn replies_go_by_lines()
 
 /// The replies above an ordinal stand in numeric order of their labels, each once, in each state that a trail leads to.
 pub fn replies_stand_in_order()
-    ensures { (x : State) (session after : ℕ) → IsReached x → AreInOrder x session after (replies_above x session after (length x.order)) }
+    ensures { (x : State) (session after : ℕ) → IsReached x
+        → AreInOrder x session after (replies_above x session after (length x.order)) }
 {}

@@ -1,5 +1,5 @@
-//! The hall: the core with its trail. Its value is the setup, the limit and all events, of which the core's state is a function; each
-//! call that succeeds and changes it adds one event.
+//! The hall: the core with its trail. Its value is the setup, the limit and all events, of which the core's state is a
+//! function; each call that succeeds and changes it adds one event.
 //!
 //!     hall         the hall and its calls
 //!     event        the events as they are kept

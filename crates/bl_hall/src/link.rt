@@ -1,5 +1,6 @@
 //! How the places of a session hang together.
-ghost use Rattle.std.specs.Prelude.{◌≡◌, ◌<◌, ◌≤◌, ◌+◌, ◌-◌, ◌^◌, ◌++◌, ◌∷◌, IsTrue, [], length, slice_set, vec_len, None, Some, if◌then◌else◌};
+ghost use Rattle.std.specs.Prelude.{◌≡◌, ◌<◌, ◌≤◌, ◌+◌, ◌-◌, ◌^◌, ◌++◌, ◌∷◌, IsTrue, [], length, slice_set, vec_len};
+ghost use Rattle.std.specs.Prelude.{None, Some, if◌then◌else◌};
 ghost use Rattle.std.specs.Vec.{vec_capacity};
 ghost use Rattle.bl_order.specs.Machine.{has_ended};
 ghost use Rattle.bl_hall.specs.Linked.{HaveEntered, lead_to, link_at, more_awaited, one_less, tally_at};
@@ -35,8 +36,10 @@ pub(crate) fn link_line(links: &mut Vec<Link>, tallies: &mut Vec<Tally>, session
     requires there { session < length tallies.old.items }
     requires few { (tally_at tallies.old.items session).awaited + 1 < 2 ^ 32 }
     requires place { n + 1 < 2 ^ 32 }
-    ensures links { links.new.items ≡ links.old.items ++ record { session = session; next = None; earlier = (tally_at tallies.old.items session).line } ∷ [] }
-    ensures tallies { tallies.new.items ≡ slice_set tallies.old.items session (record { awaited = (tally_at tallies.old.items session).awaited + 1; line = Some n }) }
+    ensures links { links.new.items ≡ links.old.items
+        ++ record { session = session; next = None; earlier = (tally_at tallies.old.items session).line } ∷ [] }
+    ensures tallies { tallies.new.items ≡ slice_set tallies.old.items session
+        (record { awaited = (tally_at tallies.old.items session).awaited + 1; line = Some n }) }
     ensures links_room { vec_capacity links.new ≡ vec_capacity links.old }
     ensures tallies_room { vec_capacity tallies.new ≡ vec_capacity tallies.old }
 {

@@ -3,7 +3,8 @@ use bl_work::answer::Answer;
 use bl_work::few::Few;
 use std::alloc::AllocError;
 
-/// The answer of an entry under its label: the ordinal of its line, and the child numbers from there down to the entry, each from 1.
+/// The answer of an entry under its label: the ordinal of its line, and the child numbers from there down to the entry,
+/// each from 1.
 #[derive(Drop)]
 pub struct Reply {
     pub label: Few<u32>,

@@ -22,9 +22,11 @@ impl Rooms {
     /// Room for all that the limit lets happen, and nothing in it. An error comes only where a growth is refused.
     pub(crate) fn new(alloc: Global, limit: u32) -> Result<Rooms, AllocError>
         requires { limit ≤ 100000 }
-        ensures events { IfOk result (λ rooms. (rooms.events.items ≡ []) × (most_sessions + 3 * limit ≤ vec_capacity rooms.events)) }
+        ensures events { IfOk result (λ rooms. (rooms.events.items ≡ [])
+            × (most_sessions + 3 * limit ≤ vec_capacity rooms.events)) }
         ensures links { IfOk result (λ rooms. (rooms.links.items ≡ []) × (limit ≤ vec_capacity rooms.links)) }
-        ensures tallies { IfOk result (λ rooms. (rooms.tallies.items ≡ []) × (most_sessions ≤ vec_capacity rooms.tallies)) }
+        ensures tallies { IfOk result (λ rooms. (rooms.tallies.items ≡ [])
+            × (most_sessions ≤ vec_capacity rooms.tallies)) }
     {
         let places = limit as usize;
         let events = Vec::with_capacity(alloc, MOST_SESSIONS + 3 * places)?;

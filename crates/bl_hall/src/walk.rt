@@ -1,11 +1,13 @@
 //! Ways over the links: the lines of a session, the places of each of them, and the label of a place.
-ghost use Rattle.std.specs.Prelude.{◌≡◌, ◌<◌, ◌++◌, ℕ, [], All, List, IfOk, OnErr, OnOk, length, reverse, slice_index_or, Some};
+ghost use Rattle.std.specs.Prelude.{◌≡◌, ◌<◌, ◌++◌, ℕ, [], All, List, IfOk, OnErr, OnOk, length, reverse};
+ghost use Rattle.std.specs.Prelude.{slice_index_or, Some};
 ghost use Rattle.bl_work.specs.Few.{items_of};
 ghost use Rattle.bl_order.specs.Headline.{IsReached};
 ghost use Rattle.bl_order.specs.Labels.{tag};
 ghost use Rattle.bl_order.specs.Past.{no_entry};
 ghost use Rattle.bl_hall.specs.Keeps.{AreLinks};
-ghost use Rattle.bl_hall.specs.Linked.{AreGathered, AreLinesAbove, HasFamily, Leads, earlier_in, line_ordinal, lines_below, next_in, places_with};
+ghost use Rattle.bl_hall.specs.Linked.{AreGathered, AreLinesAbove, HasFamily, Leads, earlier_in, line_ordinal};
+ghost use Rattle.bl_hall.specs.Linked.{lines_below, next_in, places_with};
 ghost use Rattle.bl_hall.specs.Told.{is_above};
 
 use crate::link::{Link, Tally};
@@ -36,7 +38,8 @@ fn lines_above(
     after: u32,
 ) -> Result<Vec<u32>, AllocError>
     requires links { AreLinks core.now.order links.now }
-    requires lines { Leads (earlier_in links.now) tally.now.line (lines_below core.now.order session (length core.now.order)) }
+    requires lines { Leads (earlier_in links.now) tally.now.line
+        (lines_below core.now.order session (length core.now.order)) }
     ensures { IfOk result (λ lines. AreLinesAbove core.now.order session after lines.items) }
 {
     // the contract alone speaks of the session
@@ -56,7 +59,8 @@ fn lines_above(
 /// Adds the places of a line and of its descendants, in order of their labels.
 fn push_family(links: &[Link], line: u32, places: &mut Vec<u32>) -> Result<(), AllocError>
     requires { HasFamily links.now line }
-    ensures { OnOk result ((family : List ℕ) × Leads (next_in links.now) (Some line) family × (places.new.items ≡ places.old.items ++ family)) }
+    ensures { OnOk result ((family : List ℕ) × Leads (next_in links.now) (Some line) family
+        × (places.new.items ≡ places.old.items ++ family)) }
 {
     let mut at = Some(line);
     'places: while let Some(n) = at {
@@ -90,8 +94,10 @@ pub(crate) fn places_above(
 ) -> Result<Vec<u32>, AllocError>
     requires reached { IsReached core.now }
     requires links { AreLinks core.now.order links.now }
-    requires lines { Leads (earlier_in links.now) tally.now.line (lines_below core.now.order session (length core.now.order)) }
-    ensures { IfOk result (λ places. places.items ≡ places_with core.now.order (is_above session after) (length core.now.order)) }
+    requires lines { Leads (earlier_in links.now) tally.now.line
+        (lines_below core.now.order session (length core.now.order)) }
+    ensures { IfOk result (λ places. places.items ≡ places_with core.now.order (is_above session after)
+        (length core.now.order)) }
 {
     let lines = lines_above(alloc, core, links, tally, session, after)?;
     gather_families(alloc, links, lines)

@@ -59,7 +59,8 @@ pub record GoesOnFrom (earlier later : Journal) : Type 0 where
   pub limit : later.limit ≡ earlier.limit
   pub events : Begins earlier.events later.events
 
--- what was read at the head of a file, where it is right, is the journal's version and limit, with the lines of its events behind them
+-- what was read at the head of a file, where it is right, is the journal's version and limit, with the lines of its
+-- events behind them
 abbrev pub IsHeadOf : Setup → Journal → Head → Type 0
 IsHeadOf setup journal (Right version limit rest) =
     (version ≡ journal.version) × (limit ≡ journal.limit) × Begins (joined (lines_of_events setup journal)) rest.now

@@ -4,8 +4,8 @@ use Rattle.bl_disk.specs.File.{Begins}
 use Rattle.bl_setup.specs.Setup.{Setup}
 use Rattle.bl_journal.specs.Journals.{GoesOnFrom, IsHistory, IsRecovered, Journal, journal_text}
 
--- One life of a journal, from where it was recovered to a crash: what was kept when the crash came, the file that the crash left, and the
--- journal that was recovered of that.
+-- One life of a journal, from where it was recovered to a crash: what was kept when the crash came, the file that the
+-- crash left, and the journal that was recovered of that.
 pub record Life : Type 0 where
   pub kept : Journal
   pub file : List ℕ

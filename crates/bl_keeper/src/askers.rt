@@ -56,8 +56,8 @@ impl<D: Device> Askers<D> {
         self.board.lock(rt).receipt_of(events)
     }
 
-    /// Asks for who tells of so many events at most, and answers a receipt that serves it, once there is one. None comes
-    /// where that one is to have the journal keep up, and to tell what comes of it: till then nobody else does.
+    /// Asks for who tells of so many events at most, and answers a receipt that serves it, once there is one. None
+    /// comes where that one is to have the journal keep up, and to tell what comes of it: till then nobody else does.
     pub(crate) fn wait_for<R: Wait>(&self, rt: &R, events: u64) -> Option<Receipt>
         ensures { IfSome result (ShowsKept D.now) }
     {

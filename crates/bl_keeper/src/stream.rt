@@ -11,10 +11,10 @@ use std::alloc::Global;
 use std::sync::Wait;
 use std::sync::atomic::Ordering;
 
-/// A stream that has kept, before each write, all of which that may tell: the events that the trail had at the last
-/// turn of its thread at the gate. Where that is refused, nothing is written, and the write has failed. Where its
-/// thread has a desk and other connections, it waits there: till it is decided each write would block. What is written
-/// then has to be what was to be written when it asked, or a front of that.
+/// A stream over another. Before it writes, it has all events kept of which that may tell: those that the trail had at
+/// the last turn of its thread at the gate. Where that is refused, nothing is written, and the write has failed. Where
+/// its thread has a desk and other connections, it waits there: till it is decided each write would block. What is
+/// written then has to be what was to be written when it asked, or a front of that.
 #[derive(Drop)]
 pub struct KeptStream<'a, S, K, T> {
     rt: &'a T,

@@ -76,10 +76,6 @@ below-members x (suc n) each =
     let half : x / 2 < 2 ^ n = below-members (x / 2) n (λ k member. let l : suc k < suc n = each (suc k) (bit_at-suc x k ∙ member) in omega arith) in
     omega (arith, half, pow-suc 2 n)
 
--- a number is below 2 ^ n just where each of its members is below n
-pub below-bits : (x n : ℕ) → (x < 2 ^ n) ↔ ((k : ℕ) → bit_at x k ≡ 1 → k < n)
-below-bits x n = (member-below x n, below-members x n)
-
 -- the mask of one category has no other member
 pub one-member : (k j : ℕ) → (bit_at (2 ^ k) j ≡ 1) ↔ (j ≡ k)
 one-member k j = ((λ h. there h (cases_eq j k)), (λ e. ap (λ i. bit_at (2 ^ k) i) e ∙ bit_at-pow_same k))

@@ -123,14 +123,6 @@ at_end behind (n ∷ names) done begins =
     let q : front [] ≡ token (sign Open) begins.0 = ap front done ∙ begins.1 in
     absurd (cc)
 
-pub reads_rank : (scheme : SchemeNames) (bytes behind rank : List ℕ) (result : Result Level LevelFault) → StandsFirst bytes (name rank) behind →
-    [] ≡ past_blanks behind → Reads scheme (record { rank = rank; categories = [] }) result →
-    (text : LevelText) → ReadsAsLevel bytes text → Reads scheme text result
-reads_rank scheme bytes behind rank result at done read text reads =
-    let first = rank_first bytes behind rank text at reads in
-    let none : text.categories ≡ [] = at_end behind text.categories done first.1 in
-    subst (λ t. Reads scheme t result) (sym (same_text text rank [] first.0 none)) read
-
 pub reads_braces : (scheme : SchemeNames) (bytes behind listed rank : List ℕ) (so_far result : Result Level LevelFault) → StandsFirst bytes (name rank) behind →
     ([] ≡ past_blanks behind → ⊥) → StandsFirst behind (sign Open) listed → Reads scheme (record { rank = rank; categories = [] }) so_far →
     ReadsOn scheme so_far listed result → (text : LevelText) → ReadsAsLevel bytes text → Reads scheme text result

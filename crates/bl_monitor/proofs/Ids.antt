@@ -13,9 +13,7 @@ use Rattle.bl_setup.specs.declared.version.Version.{Version}
 use Rattle.bl_order.specs.Past.{fault_of_task, first_task, child_task}
 use Rattle.bl_order.specs.Known.{KnowsTask, KnowsWork, KnowsDenial}
 use Rattle.bl_order.proofs.KnownAnswers.{denial_known}
-use Rattle.bl_monitor.specs.declared.monitor.Entry.{Entry}
 use Rattle.bl_monitor.specs.declared.monitor.Entry.TheVariants as entry
-use Rattle.bl_monitor.specs.Heard.{Knows}
 use Rattle.bl_monitor.specs.Judging.{HasBelow}
 
 -- what is to be done of a work whose ids are there
@@ -34,8 +32,3 @@ task_ids setup p s carried known w index there = denial_known setup p s known ca
 work_of_version : (v : Version) (setup : Setup) (w : Work) → KnowsWork setup w → KnowsWork (by_version v setup) w
 work_of_version v setup (work.Behaviour script) knows = knows
 work_of_version v setup (work.Rule rule) knows = knows
-
--- a setup of another version has the same ids
-pub knows_of_version : (v : Version) (setup : Setup) (e : Entry) → Knows setup e → Knows (by_version v setup) e
-knows_of_version v setup (entry.Line subject w lost) knows = (knows.0, work_of_version v setup w knows.1)
-knows_of_version v setup (entry.Child parent which lost) knows = tt

@@ -1,14 +1,12 @@
 -- How a run goes on by one statement, and by several.
-use Rattle.std.proofs.Common.{◌≡◌, ℕ, zero, suc, ◌<◌, Bool, true, false, cond, List, [], ◌∷◌, ◌++◌, length, get_or, set, take, refl, add-one, ◌+◌, ◌≤◌, sym, ◌∙◌, ap, subst, arith, ◌⊎◌, inl, inr}
+use Rattle.std.proofs.Common.{◌≡◌, ℕ, zero, suc, ◌<◌, true, false, cond, List, [], ◌∷◌, ◌++◌, length, get_or, set, take, refl, add-one, ◌+◌, ◌≤◌, sym, ◌∙◌, ap, subst, arith, ◌⊎◌, inl, inr}
 use Rattle.std.specs.Prelude.{◌==◌}
 use Rattle.std.proofs.Math.Seq.{take-suc}
 use Rattle.std.proofs.lemmas.Bool.Decides.{eqb_tells}
 use Rattle.std.proofs.lemmas.List.{get_or_default, get_or-set_same, get_or-set_other, length-set}
 use Rattle.bl_work.specs.Content.{added}
-use Rattle.bl_work.specs.Effects.{Effect, Out, Put, Add, Child, after, outputs, children, effects_from, holds_of}
+use Rattle.bl_work.specs.Effects.{Effect, Out, Put, Add, Child, after, outputs, children, effects_from}
 use Rattle.bl_work.specs.Statements as statement
-use Rattle.bl_work.specs.Statements.{Statements}
-use Rattle.bl_work.specs.declared.script.Condition.{Condition}
 use Rattle.bl_work.specs.Body.{statements_of, depth}
 use Rattle.bl_work.specs.declared.script.Stmt.{Stmt}
 use Rattle.bl_work.specs.declared.script.Stmt.TheVariants as stmt
@@ -123,19 +121,6 @@ pub poured : (from to : ℕ) (text : List ℕ) (before now : List (List ℕ)) (o
     → GoesOn (statement.Add to text statement.Nothing) before old now new → GoesOn (statement.Pour from to statement.Nothing) before old now new
 poured from to text before now old new lt is adds =
     λ start effects stands. subst (λ t. StandsAfter start (effects ++ Add to t ∷ []) now new) (is ∙ stands.contents from lt) (adds start effects stands)
-
--- the branch that a condition chooses is what an `if` runs
-pub branched : (doc : ℕ) (asks : Condition) (text : List ℕ) (taken left_out : Statements) (b : Bool) (before now : List (List ℕ)) (old new : Run) → doc < length before
-    → b ≡ holds_of asks (content_listed before doc) text → GoesOn (cond b taken left_out) before old now new
-    → GoesOn (statement.If doc asks text taken left_out statement.Nothing) before old now new
-branched doc asks text taken left_out b before now old new lt holds ran =
-    λ start effects stands. subst (λ es. StandsAfter start es now new)
-    (chosen start effects b ∙ ap (λ v. cond v (effects_from start effects taken) (effects_from start effects left_out)) (holds ∙ ap (λ c. holds_of asks c text) (stands.contents doc lt)))
-    (ran start effects stands)
-  where
-    chosen : (start : ℕ → List ℕ) (es : List Effect) (b : Bool) → effects_from start es (cond b taken left_out) ≡ cond b (effects_from start es taken) (effects_from start es left_out)
-    chosen start es true = refl
-    chosen start es false = refl
 
 -- the effects of statements one after another
 pub effects-append : (contents : ℕ → List ℕ) (xs ys : List Stmt) (so_far : List Effect)

@@ -1,5 +1,6 @@
 -- What a monitor has been told, and what the definitions of the order say of it.
-use Rattle.std.specs.Prelude.{◌≡◌, ℕ, suc, ◌<◌, ◌≤◌, Bool, true, false, ◌&&◌, if◌then◌else◌, nat_lt, List, [], ◌∷◌, ◌++◌, length, map, take, slice_index_or, Option, Some, None}
+use Rattle.std.specs.Prelude.{◌≡◌, ℕ, suc, ◌<◌, ◌≤◌, Bool, true, false, ◌&&◌, if◌then◌else◌, nat_lt, List, [], ◌∷◌}
+use Rattle.std.specs.Prelude.{◌++◌, length, map, take, slice_index_or, Option, Some, None}
 use Rattle.bl_policy.specs.FirstFault.{first_fault}
 use Rattle.bl_policy.specs.Policy.{SecurityPolicy}
 use Rattle.bl_policy.specs.declared.denial.Denial.{Denial}
@@ -78,16 +79,17 @@ spawned_by heard n = if nat_lt n (length heard.order) then children (place_at he
 abbrev pub heard_policy_at : Heard → ℕ → SecurityPolicy
 heard_policy_at heard n = policy_before heard.setup (is_lost heard) heard.order n
 
--- FirstFault of the accesses that an entry declares, at its place and with the level that it carries: a rule declares none, and has no
--- fault of an access
+-- FirstFault of the accesses that an entry declares, at its place and with the level that it carries: a rule declares
+-- none, and has no fault of an access
 abbrev pub fault_of : Heard → ℕ → Option Denial
 fault_of heard n =
     if nat_lt n (length heard.order)
-    then first_fault (heard_policy_at heard n) (place_at heard n).subject (place_at heard n).carried (accesses_of (place_at heard n).task)
+    then first_fault (heard_policy_at heard n) (place_at heard n).subject (place_at heard n).carried
+    (accesses_of (place_at heard n).task)
     else None
 
--- A monitor was told the entries of a state's order up to place n, one after another, without sessions and ordinals, and which of them
--- are lost.
+-- A monitor was told the entries of a state's order up to place n, one after another, without sessions and ordinals,
+-- and which of them are lost.
 pub record IsToldAlone (heard : Heard) (x : State) (lost : ℕ → Bool) (n : ℕ) : Type 0 where
   pub setup : heard.setup ≡ x.setup
   pub entries : heard.order ≡ map unnamed (take (suc n) x.order)

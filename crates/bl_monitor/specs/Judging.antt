@@ -44,7 +44,8 @@ effects_on contents part = effects_of (lent part.accesses (content_listed conten
 -- the content of a document once the behaviour ran on these contents
 abbrev pub content_once_run : List (List ℕ) → Part → ℕ → List ℕ
 content_once_run contents part doc =
-    if is_altered part.accesses doc then after (content_listed contents doc) (effects_on contents part) doc else content_listed contents doc
+    if is_altered part.accesses doc then after (content_listed contents doc)
+    (effects_on contents part) doc else content_listed contents doc
 
 -- the behaviour ran on these contents
 pub record IsDone (contents : List (List ℕ)) (part : Part) (j : Judged) : Type 0 where
@@ -85,8 +86,8 @@ pub record IsJudged (policy : SecurityPolicy) (contents : List (List ℕ)) (c : 
 abbrev pub content_behind : List (List ℕ) → Past → ℕ → List ℕ
 content_behind contents past doc = leaves past doc (content_listed contents doc)
 
--- Carried (own choice, for what a behaviour remembers), of the children of a place that ran at this level and carried this one itself:
--- the join of both; in version 1 nothing is carried.
+-- Carried (own choice, for what a behaviour remembers), of the children of a place that ran at this level and carried
+-- this one itself: the join of both; in version 1 nothing is carried.
 abbrev pub carried_by_children : Version → SecurityLevel → SecurityLevel → SecurityLevel
 carried_by_children One level carried = lowest
 carried_by_children Two level carried = join_of level carried

@@ -18,8 +18,8 @@ UsesBelow count (If doc asks text then_body else_body rest) =
     (doc < count) × UsesBelow count then_body × UsesBelow count else_body × UsesBelow count rest
 UsesBelow count (Spawn behaviour rest) = UsesBelow count rest
 
--- the contents, the texts that were shown and the behaviours that were spawned are what these effects make of the contents at
--- the start
+-- the contents, the texts that were shown and the behaviours that were spawned are what these effects make of the
+-- contents at the start
 pub record StandsAfter (start : ℕ → List ℕ) (effects : List Effect) (now : List (List ℕ)) (run : Run) : Type 0 where
   pub contents : (doc : ℕ) → doc < length now → content_listed now doc ≡ after (start doc) effects doc
   pub shown : run.shown.items ≡ outputs effects

@@ -53,19 +53,23 @@ pub record Tells (setup : Setup) (policy : SecurityPolicy) (place : Place) (past
   pub carried : past.carried ≡ place.admitted.carried
   pub by_children : place.carried_by_children ≡ carried_by_children setup.version past.level past.carried
   pub task : past.task ≡ task_of place.admitted
-  pub fault : place.fault ≡ first_fault policy place.admitted.subject place.admitted.carried (accesses_of (task_of place.admitted))
+  pub fault : place.fault ≡ first_fault policy place.admitted.subject place.admitted.carried
+      (accesses_of (task_of place.admitted))
   pub ran : is_some place.children ≡ is_done past.answer
   pub spawned : spawned_of place.children ≡ children past.effects
   pub each : All (λ behaviour. behaviour < length (script_of place.admitted.work)) (children past.effects)
   pub few : length (children past.effects) ≤ length (script_of place.admitted.work)
 
 -- one policy, one content of each document, and what is kept of each place, are as looking back finds them
-pub record IsSound (setup : Setup) (policy : SecurityPolicy) (contents : List (List ℕ)) (places : List Place) : Type 0 where
+pub record IsSound (setup : Setup) (policy : SecurityPolicy) (contents : List (List ℕ))
+    (places : List Place) : Type 0 where
   pub agree : Agree setup
   pub ruled : policy ≡ policy_of setup (pasts_of setup places)
   pub as_many : length contents ≡ length setup.contents
-  pub current : (doc : ℕ) → doc < length contents → content_listed contents doc ≡ content_of setup (pasts_of setup places) doc
-  pub told : (k : ℕ) → k < length places → Tells setup (kept_policy_at setup places k) (slice_index_or places k no_place) (at_place (pasts_of setup places) k)
+  pub current : (doc : ℕ) → doc < length contents
+      → content_listed contents doc ≡ content_of setup (pasts_of setup places) doc
+  pub told : (k : ℕ) → k < length places → Tells setup (kept_policy_at setup places k)
+      (slice_index_or places k no_place) (at_place (pasts_of setup places) k)
 
 -- an entry may come behind these places
 abbrev pub CanCome : List Place → Entry → Type 0

@@ -6,7 +6,8 @@ ghost use Rattle.bl_work.specs.Statements.{no_part};
 ghost use Rattle.bl_order.specs.Order.{Runs, Applies};
 ghost use Rattle.bl_order.specs.Past.{changed};
 ghost use Rattle.bl_order.specs.Known.{AreBelow};
-ghost use Rattle.bl_monitor.specs.Judging.{KnowsEntry, IsJudged, IsDone, IsIdle, Leaves, carried_by_children, case_of, content_once_run, content_behind, record_of};
+ghost use Rattle.bl_monitor.specs.Judging.{KnowsEntry, IsJudged, IsDone, IsIdle, Leaves, carried_by_children, case_of};
+ghost use Rattle.bl_monitor.specs.Judging.{content_once_run, content_behind, record_of};
 ghost use Rattle.bl_monitor.specs.Places.{task_of};
 
 use crate::place::Admitted;
@@ -31,7 +32,8 @@ pub(crate) struct Judged {
     pub(crate) children: Option<Vec<u8>>,
 }
 
-/// The level that the children of an entry carry: in version 2 its subject's current level, joined with what it carries itself.
+/// The level that the children of an entry carry: in version 2 its subject's current level, joined with what it carries
+/// itself.
 pub(crate) fn level_for_children(version: Version, policy: &Policy, admitted: &Admitted) -> Level
     requires { admitted.now.subject < length policy.now.subjects }
     ensures { result ≡ carried_by_children version (current_of policy.now admitted.now.subject) admitted.now.carried }
@@ -52,7 +54,8 @@ fn done(
     requires index { index < length script.now }
     requires documents { AreBelow (length contents.old) script.now }
     ensures done { IfOk result (IsDone contents.old (slice_index_or script.now index no_part)) }
-    ensures left { OnOk result (Leaves contents.old (content_once_run contents.old (slice_index_or script.now index no_part)) contents.new) }
+    ensures left { OnOk result (Leaves contents.old
+        (content_once_run contents.old (slice_index_or script.now index no_part)) contents.new) }
     ensures err { OnErr result (contents.new ≡ contents.old) }
 {
     let mut running = Run::new(alloc);
@@ -95,9 +98,11 @@ fn behaviour(
     requires documents { AreBelow (length policy.now.documents) script.now }
     requires index { admitted.now.index < length script.now }
     requires as_many { length policy.now.documents ≡ length contents.old }
-    ensures judged { IfOk result (IsJudged policy.now contents.old (case_of admitted.now (Runs script.now admitted.now.index))) }
+    ensures judged { IfOk result (IsJudged policy.now contents.old
+        (case_of admitted.now (Runs script.now admitted.now.index))) }
     ensures left { OnOk result (Leaves contents.old
-        (content_behind contents.old (record_of policy.now contents.old (case_of admitted.now (Runs script.now admitted.now.index)))) contents.new) }
+        (content_behind contents.old (record_of policy.now contents.old
+        (case_of admitted.now (Runs script.now admitted.now.index)))) contents.new) }
     ensures err { OnErr result (contents.new ≡ contents.old) }
 {
     let index = admitted.index as usize;
@@ -111,8 +116,8 @@ fn behaviour(
     }
 }
 
-/// What comes of a rule, which changes the policy unless it is lost or fails its condition. A deletion that is done also
-/// empties the content of its document. It takes no memory.
+/// What comes of a rule, which changes the policy unless it is lost or fails its condition. A deletion that is done
+/// also empties the content of its document. It takes no memory.
 fn apply(policy: &mut Policy, contents: &mut [Document], admitted: &Admitted, rule: &Rule) -> Judged
     requires subject { admitted.now.subject < length policy.old.subjects }
     requires ids { IsRuleOf policy.old rule.now }
@@ -120,7 +125,8 @@ fn apply(policy: &mut Policy, contents: &mut [Document], admitted: &Admitted, ru
     ensures judged { IsJudged policy.old contents.old (case_of admitted.now (Applies rule.now)) result }
     ensures policy { policy.new ≡ changed result.answer (Applies rule.now) admitted.now.subject policy.old }
     ensures left { Leaves contents.old
-        (content_behind contents.old (record_of policy.old contents.old (case_of admitted.now (Applies rule.now)))) contents.new }
+        (content_behind contents.old (record_of policy.old contents.old
+        (case_of admitted.now (Applies rule.now)))) contents.new }
 {
     if admitted.lost {
         return idle(Answer::Lost, None);
@@ -134,8 +140,8 @@ fn apply(policy: &mut Policy, contents: &mut [Document], admitted: &Admitted, ru
     idle(Answer::RuleDone, None)
 }
 
-/// What comes of an entry under this policy and these contents. A rule changes the policy, and a behaviour that is done the
-/// contents, which a deletion that is done changes too; after an error both are as they were.
+/// What comes of an entry under this policy and these contents. A rule changes the policy, and a behaviour that is done
+/// the contents, which a deletion that is done changes too; after an error both are as they were.
 pub(crate) fn judge(
     alloc: Global,
     policy: &mut Policy,
@@ -144,9 +150,11 @@ pub(crate) fn judge(
 ) -> Result<Judged, AllocError>
     requires { KnowsEntry policy.old contents.old admitted.now }
     ensures judged { IfOk result (IsJudged policy.old contents.old (case_of admitted.now (task_of admitted.now))) }
-    ensures policy { IfOk result (λ judged. policy.new ≡ changed judged.answer (task_of admitted.now) admitted.now.subject policy.old) }
+    ensures policy { IfOk result (λ judged. policy.new ≡ changed judged.answer
+        (task_of admitted.now) admitted.now.subject policy.old) }
     ensures left { OnOk result (Leaves contents.old
-        (content_behind contents.old (record_of policy.old contents.old (case_of admitted.now (task_of admitted.now)))) contents.new) }
+        (content_behind contents.old (record_of policy.old contents.old
+        (case_of admitted.now (task_of admitted.now)))) contents.new) }
     ensures err { OnErr result (policy.new ≡ policy.old) }
     ensures err_contents { OnErr result (contents.new ≡ contents.old) }
 {

@@ -8,12 +8,14 @@ ghost use Rattle.bl_monitor.specs.Heard.{Heard, IsToldAlone, answer_at};
 
 use bl_order::laws::headline;
 
-/// A monitor that is told the entries up to a place, one after another, answers the last of them (`Monitor::next`) what the headline
-/// says is told alone; and so, of a place that has ended, runs or may start in a state that a trail leads to, what a core answers.
+/// A monitor that is told the entries up to a place, one after another, answers the last of them (`Monitor::next`) what
+/// the headline says is told alone; and so, of a place that has ended, runs or may start in a state that a trail leads
+/// to, what a core answers.
 pub fn monitors_answer_as_told_alone()
     ensures alone { (x : State) (lost : ℕ → Bool) (n : ℕ) (heard : Heard) → IsToldAlone heard x lost n →
         answer_at heard n ≡ (told_alone x lost n).answer }
-    ensures core { (x : State) (lost : ℕ → Bool) (n : ℕ) (heard : Heard) → IsReached x → n < length x.order → IsAtHand x n → AgreeUpTo x lost n →
+    ensures core { (x : State) (lost : ℕ → Bool) (n : ℕ) (heard : Heard) → IsReached x → n < length x.order
+        → IsAtHand x n → AgreeUpTo x lost n →
         IsToldAlone heard x lost n → answer_at heard n ≡ (past_at x n).answer }
 {
     headline();

@@ -44,7 +44,8 @@ pub enum Entry {
 /// Why an entry was not answered.
 #[derive(Clone, Copy, Debug, PartialEq, Eq)]
 pub enum MonitorFault {
-    /// No entry spawned such a child: `which` is 0, or the parent is no earlier entry that was done with so many children.
+    /// No entry spawned such a child: `which` is 0, or the parent is no earlier entry that was done with so many
+    /// children.
     NoChild,
     /// A growth was refused.
     Memory,
@@ -60,8 +61,8 @@ impl From<AllocError> for MonitorFault {
     }
 }
 
-/// The answers of an admission order, one entry after another. The setup says by itself that runs are judged by version 2; the
-/// monitor's own version decides.
+/// The answers of an admission order, one entry after another. The setup says by itself that runs are judged by version
+/// 2; the monitor's own version decides.
 #[derive(Drop)]
 pub struct Monitor {
     alloc: Global,
@@ -214,7 +215,8 @@ impl Monitor {
     /// One more owner of the setup, which says by itself that runs are judged by version 2.
     pub fn share_setup(&self) -> Result<Arc<Setup, Global>, AllocError>
         ensures value { IfOk result (λ setup. self.now.setup ≡ by_version self.now.setup.version (arc_value setup)) }
-        ensures knows { IfOk result (λ setup. (entry : Entry) → Knows (arc_value setup) entry → Knows self.now.setup entry) }
+        ensures knows { IfOk result (λ setup. (entry : Entry) → Knows (arc_value setup) entry
+            → Knows self.now.setup entry) }
     {
         Ok(Arc::try_clone(&self.setup)?)
     }
@@ -252,8 +254,8 @@ impl Monitor {
         }
     }
 
-    /// The behaviours that an entry spawned, in order, by their numbers in its script: its which-th child, counted from 1, runs
-    /// the which-th of them. None for a number that is no entry's, or an entry's that was not done.
+    /// The behaviours that an entry spawned, in order, by their numbers in its script: its which-th child, counted from
+    /// 1, runs the which-th of them. None for a number that is no entry's, or an entry's that was not done.
     pub fn spawned(&self, n: u32) -> &[u8]
         ensures { result.now ≡ spawned_by self.now n }
     {
@@ -266,8 +268,8 @@ impl Monitor {
         }
     }
 
-    /// What the policy had against the accesses of an entry at its place, lost or not: the first that was not granted, with what
-    /// it failed first. `None` where each was granted, for a rule, and for a number that is no entry's.
+    /// What the policy had against the accesses of an entry at its place, lost or not: the first that was not granted,
+    /// with what it failed first. `None` where each was granted, for a rule, and for a number that is no entry's.
     pub fn fault(&self, n: u32) -> Option<Denial>
         ensures { result ≡ fault_of self.now n }
     {

@@ -1,5 +1,6 @@
 //! A behaviour while it runs: it changes the contents in place, and keeps what it has shown and spawned so far and what
-//! undoes its changes. So an addition is written behind a content that has no other owner, and nothing is copied for it.
+//! undoes its changes. So an addition is written behind a content that has no other owner, and nothing is copied for
+//! it.
 ghost use Rattle.std.specs.Prelude.{◌≡◌, ◌<◌, ◌∷◌, [], ℕ, List, length, slice_set, All, OnOk};
 ghost use Rattle.bl_work.specs.Body.{statements_of};
 ghost use Rattle.bl_work.specs.Statements as statement;
@@ -56,7 +57,8 @@ impl Run {
     }
 
     fn say(&mut self, text: &Document) -> Result<(), AllocError>
-        ensures ran { OnOk result ((contents : List (List ℕ)) → GoesOn (statement.Say text.now statement.Nothing) contents self.old contents self.new) }
+        ensures ran { OnOk result ((contents : List (List ℕ))
+            → GoesOn (statement.Say text.now statement.Nothing) contents self.old contents self.new) }
         ensures undos { self.new.undos ≡ self.old.undos }
     {
         let said = text.share()?;
@@ -143,7 +145,8 @@ impl Run {
     }
 
     fn spawn(&mut self, behaviour: u8) -> Result<(), AllocError>
-        ensures ran { OnOk result ((contents : List (List ℕ)) → GoesOn (statement.Spawn behaviour statement.Nothing) contents self.old contents self.new) }
+        ensures ran { OnOk result ((contents : List (List ℕ))
+            → GoesOn (statement.Spawn behaviour statement.Nothing) contents self.old contents self.new) }
         ensures undos { self.new.undos ≡ self.old.undos }
     {
         self.spawned.push(behaviour)?;
@@ -176,7 +179,8 @@ impl Run {
         statement: &Stmt,
     ) -> Result<(), AllocError>
         requires { UsesBelow (length contents.old) (statements_of (statement.now ∷ [])) }
-        ensures ran { OnOk result (GoesOn (statements_of (statement.now ∷ [])) contents.old self.old contents.new self.new) }
+        ensures ran { OnOk result (GoesOn (statements_of
+            (statement.now ∷ [])) contents.old self.old contents.new self.new) }
         ensures back { LeadsBack contents.old self.old contents.new self.new }
     {
         match statement {

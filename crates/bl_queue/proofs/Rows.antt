@@ -151,6 +151,3 @@ first_over below above from k (Some n) over here later first =
 -- the numbers of a row under one word, and of one under that, are few
 pub few_words : (below above : List ℕ) (k : ℕ) → IsOver below above → length above ≡ 1 → mark below k ≡ 1 → k < 4096
 few_words below above k over one is = omega (arith, over.room, one, mark-within below k is)
-
-pub few_regions : (words : List ℕ) (k : ℕ) → length words ≡ 1 → mark words k ≡ 1 → k < 64
-few_regions words k one is = omega (arith, one, mark-within words k is)

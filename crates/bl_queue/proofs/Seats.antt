@@ -1,7 +1,7 @@
 -- The entries and the claims as the code keeps them.
 use Rattle.std.proofs.Common.{◌≡◌, ℕ, suc, ◌+◌, ◌-◌, ◌<◌, ◌≤◌, List, [], ◌∷◌, ◌++◌, length, get_or, set, map, take, drop, refl, sym, ap, ◌∙◌, arith, length-drop}
 use Rattle.std.proofs.Math.Seq.{drop-append_seam, map-set_same}
-use Rattle.std.proofs.lemmas.List.{get_or-map, map-set, map-append, length-map, length-take-le, drop-append-le, take-append-le, take_all}
+use Rattle.std.proofs.lemmas.List.{get_or-map, map-set, map-append, length-map, drop-append-le, take-append-le, take_all}
 use Rattle.bl_queue.specs.declared.claim.Claim.{Claim}
 use Rattle.bl_queue.specs.declared.cown.Held.{Held}
 use Rattle.bl_queue.specs.declared.entry.Seat.{Seat}
@@ -24,10 +24,6 @@ rest claims s within =
     let size : length (drop s.place claims) ≡ length claims - s.place = length-drop s.place claims in
     let le : s.place + s.count ≤ length claims = within in
     omega (arith, size, le)
-
-pub own_count : (claims : List Held) (s : Seat) → IsWithin claims s → length (entry_of claims s).claims ≡ s.count
-own_count claims s within =
-    length-map (take s.count (drop s.place claims)) given ∙ length-take-le s.count (drop s.place claims) (rest claims s within)
 
 same_entry : (claims more : List Held) (s : Seat) → IsWithin claims s → entry_of (claims ++ more) s ≡ entry_of claims s
 same_entry claims more s within =

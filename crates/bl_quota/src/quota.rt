@@ -45,7 +45,8 @@ impl Quota {
     ghost use Rattle.std.specs.Prelude.{◌≡◌, ◌<◌, ◌≤◌, ◌+◌, ◌^◌, ◌↔◌, IsTrue};
     ghost use Rattle.bl_work.specs.Readable.{IsReadable};
     ghost use Rattle.bl_sizes.specs.Counts.{IsCounted};
-    ghost use Rattle.bl_quota.specs.Quotas.{IsFit, IsFull, IsLooked, IsQuota, IsRecounted, IsSettled, WasQuota, limit_of};
+    ghost use Rattle.bl_quota.specs.Quotas.{IsFit, IsFull, IsLooked, IsQuota, IsRecounted, IsSettled, WasQuota};
+    ghost use Rattle.bl_quota.specs.Quotas.{limit_of};
 
     /// The count of a core under a limit: of a run that begins, or of one that goes on.
     pub fn new(core: &Core, most: u32) -> Quota

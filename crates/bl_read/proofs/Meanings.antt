@@ -4,8 +4,6 @@ use Rattle.std.specs.Prelude.{Contains}
 use Rattle.std.specs.Str.{bytes_eq}
 use Rattle.std.proofs.lemmas.Slice.Eq.{bytes_eq-Decides}
 use Rattle.std.proofs.lemmas.List.Quantifiers.{position-Some}
-use Rattle.std.specs.Result.{IsErrAnd}
-use Rattle.std.proofs.lemmas.Result.{err_from_is_err_and}
 use Rattle.bl_level.specs.Table.{place_of}
 use Rattle.bl_work.specs.declared.asked.Line.{Line}
 use Rattle.bl_work.specs.declared.asked.Line.TheVariants as line
@@ -34,10 +32,6 @@ means_one names (when first more body) _ _ p q = absurd p
 means_one names (rule r) (line.Work (Rule a)) (line.Work (Rule b)) p q = ap (λ x. line.Work (Rule x)) (one_rule names r a b p q)
 means_one names (rule r) (line.Work (Rule a)) _ p q = absurd q
 means_one names (rule r) _ _ p q = absurd p
-
--- what an error of a `?` answers
-pub exits_with : {X E : Type 0} (P : E → Type 0) (r : Result X E) (e : E) → IsErrAnd r (λ y. y ≡ e) → P e → IfErr r P
-exits_with P r e is h = let p = err_from_is_err_and r is in rw (p.1, p.2) h
 
 -- a name that has a place is there
 placed : (name : List ℕ) (names : List (List ℕ)) (k : ℕ) → place_of name names ≡ Some k → Contains names name

@@ -23,8 +23,8 @@ pub record HasFault (names : KnownNames) (bytes : List ℕ) (fault : LineFault) 
   pub reads : ReadsAs bytes spelled
   pub fault_is : IsFaultOf names spelled fault
 
--- The fault of a line: it is too long; or it is not, and is spelled as no line; or it is spelled as one that has the fault.
--- Where memory runs out nothing is said.
+-- The fault of a line: it is too long; or it is not, and is spelled as no line; or it is spelled as one that has the
+-- fault. Where memory runs out nothing is said.
 abbrev pub IsLineFault : KnownNames → List ℕ → LineFault → Type 0
 IsLineFault names bytes Long = most_line_bytes < length bytes
 IsLineFault names bytes (Syntax place) = (length bytes ≤ most_line_bytes) × SyntaxFault bytes place

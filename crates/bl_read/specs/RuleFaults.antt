@@ -64,9 +64,10 @@ pub record IsRuleFaultless (names : KnownNames) (rule : SpelledRule) : Type 0 wh
   pub known : All (IsKnown names) (mentions_in rule)
   pub once : AreDistinct (categories_in rule)
 
--- The fault of a rule: the first name from the left that is not what its place asks; or, where each is, the first category from
--- the left that stands a second time in the level. It has no other.
+-- The fault of a rule: the first name from the left that is not what its place asks; or, where each is, the first
+-- category from the left that stands a second time in the level. It has no other.
 abbrev pub IsFaultOfRule : KnownNames → SpelledRule → LineFault → Type 0
 IsFaultOfRule names rule (Unknown name) = IsNameOfFirst (IsKnown names) mentioned (mentions_in rule) name
-IsFaultOfRule names rule (Twice name) = All (IsKnown names) (mentions_in rule) × IsFirstRepeated (categories_in rule) name
+IsFaultOfRule names rule (Twice name) = All (IsKnown names) (mentions_in rule)
+    × IsFirstRepeated (categories_in rule) name
 IsFaultOfRule names rule _ = ⊥

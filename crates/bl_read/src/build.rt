@@ -1,5 +1,6 @@
-//! From a `when` as it was read to its script. Each behaviour that is spawned stands where its text begins: its place is taken
-//! before what it spawns itself is built. The outermost behaviour stands in no list, so that a script of one needs none.
+//! From a `when` as it was read to its script. Each behaviour that is spawned stands where its text begins: its place
+//! is taken before what it spawns itself is built. The outermost behaviour stands in no list, so that a script of one
+//! needs none.
 ghost use Rattle.std.specs.Prelude.{◌≡◌, ◌+◌, ◌≤◌, [], ◌∷◌, ◌++◌, map, length, All, IfOk, OnOk};
 ghost use Rattle.bl_work.specs.Meaning.{script_of, whens};
 ghost use Rattle.bl_work.specs.WhenFaults.{lists_in, IsFaultless, AreContents};
@@ -20,9 +21,9 @@ use bl_work::names::Names;
 use bl_work::script::{Behaviour, Body, Choice, Script, Stmt};
 use std::alloc::{AllocError, Global};
 
-/// The script of a `when` that has no fault: at most 32 behaviours nested at most 8 deep, each of at most 8 accesses to different
-/// documents and of statements that keep to them, with no name that is no document's. Its texts are contents. What its check found
-/// out is not looked up or counted again.
+/// The script of a `when` that has no fault: at most 32 behaviours nested at most 8 deep, each of at most 8 accesses to
+/// different documents and of statements that keep to them, with no name that is no document's. Its texts are contents.
+/// What its check found out is not looked up or counted again.
 pub fn build_script(
     alloc: Global,
     names: &Names,
@@ -34,7 +35,8 @@ pub fn build_script(
     requires checked { IsChecked names.now (raw_access first) (map raw_access more.now) body.now checked }
     requires faultless { IsFaultless names.now (raw_access first) (map raw_access more.now) body.now }
     requires texts { AreContents body.now }
-    ensures { IfOk result (λ script. script ≡ script_of names.now (raw_access first.entry) (map raw_access more.now) body.now) }
+    ensures { IfOk result (λ script. script ≡ script_of names.now (raw_access first.entry)
+        (map raw_access more.now) body.now) }
 {
     let mut spawned = Vec::with_capacity(alloc, checked.spawned)?;
     let lookup = Lookup::over(names, first, more, checked.accesses);
@@ -57,7 +59,8 @@ fn push_when(
     requires accesses { All HasFewAccesses ((raw_access first ∷ map raw_access more.now) ∷ lists_in body.now) }
     requires texts { AreContents body.now }
     ensures { OnOk result (with_outermost spawned.new.items ≡ with_outermost spawned.old.items
-        ++ when_from names.now (length (with_outermost spawned.old.items)) (raw_access first.entry) (map raw_access more.now) body.now) }
+        ++ when_from names.now (length (with_outermost spawned.old.items)) (raw_access first.entry)
+        (map raw_access more.now) body.now) }
 {
     let place = spawned.len();
     spawned.push(unbuilt())?;
@@ -79,7 +82,8 @@ fn body_of(
     requires few { length (with_outermost spawned.old.items) + whens body.now ≤ most_behaviours }
     requires accesses { All HasFewAccesses (lists_in body.now) }
     requires texts { AreContents body.now }
-    ensures { IfOk result (IsBuilt lookup.now.names.now body.now (with_outermost spawned.old.items) (with_outermost spawned.new.items)) }
+    ensures { IfOk result (IsBuilt lookup.now.names.now body.now (with_outermost spawned.old.items)
+        (with_outermost spawned.new.items)) }
 {
     match body.statements() {
         [] => Ok(Body::empty()),
@@ -99,7 +103,8 @@ fn long_body_of(
     requires few { length (with_outermost spawned.old.items) + whens (raw_body raws.now) ≤ most_behaviours }
     requires accesses { All HasFewAccesses (lists_in (raw_body raws.now)) }
     requires texts { AreContents (raw_body raws.now) }
-    ensures { IfOk result (IsBuilt lookup.now.names.now (raw_body raws.now) (with_outermost spawned.old.items) (with_outermost spawned.new.items)) }
+    ensures { IfOk result (IsBuilt lookup.now.names.now (raw_body raws.now) (with_outermost spawned.old.items)
+        (with_outermost spawned.new.items)) }
 {
     let mut statements = Vec::with_capacity(alloc, raws.len())?;
     for raw in raws {
@@ -120,7 +125,8 @@ fn statement_of(
     requires few { length (with_outermost spawned.old.items) + whens (raw_body (raw.now ∷ [])) ≤ most_behaviours }
     requires accesses { All HasFewAccesses (lists_in (raw_body (raw.now ∷ []))) }
     requires texts { AreContents (raw_body (raw.now ∷ [])) }
-    ensures { IfOk result (λ statement. IsBuilt lookup.now.names.now (raw_body (raw.now ∷ [])) (with_outermost spawned.old.items)
+    ensures { IfOk result (λ statement. IsBuilt lookup.now.names.now (raw_body (raw.now ∷ []))
+        (with_outermost spawned.old.items)
         (with_outermost spawned.new.items) (statements_of (statement ∷ []))) }
 {
     match raw {

@@ -27,12 +27,14 @@ use bl_work::names::Names;
 use bl_work::work::Work;
 use std::alloc::{AllocError, Global};
 
-/// What the bytes of a line ask. The line comes without its end. Want of memory may come at any line that is not too long.
+/// What the bytes of a line ask. The line comes without its end. Want of memory may come at any line that is not too
+/// long.
 pub fn read_line(alloc: Global, names: &Names, bytes: &[u8]) -> Result<Line, LineFault>
     // What is read is what the bytes ask.
     ensures found { IfOk result (λ line. LineOf names.now bytes.now line) }
     // What the bytes ask is read, unless memory runs out.
-    ensures only { (line : AskedLine) → LineOf names.now bytes.now line → MatchResult result (λ read. read ≡ line) IsWantOfMemory }
+    ensures only { (line : AskedLine) → LineOf names.now bytes.now line
+        → MatchResult result (λ read. read ≡ line) IsWantOfMemory }
     // Which fault it is.
     ensures fault { IfErr result (IsLineFault names.now bytes.now) }
     // A line that is too long takes no memory.
@@ -56,7 +58,8 @@ pub fn read_line(alloc: Global, names: &Names, bytes: &[u8]) -> Result<Line, Lin
 fn read_by_parts(alloc: Global, names: &Names, bytes: &[u8]) -> Result<Line, LineFault>
     requires { length bytes.now ≤ most_line_bytes }
     ensures found { IfOk result (λ line. LineOf names.now bytes.now line) }
-    ensures only { (line : AskedLine) → LineOf names.now bytes.now line → MatchResult result (λ read. read ≡ line) IsWantOfMemory }
+    ensures only { (line : AskedLine) → LineOf names.now bytes.now line
+        → MatchResult result (λ read. read ≡ line) IsWantOfMemory }
     ensures fault { IfErr result (IsLineFault names.now bytes.now) }
 {
     match read_raw(alloc, bytes) {
@@ -105,7 +108,8 @@ fn behaviour<'a>(
     requires proper { AreProper (spell (when (raw_access first) (map raw_access more.now) body.now)) }
     requires texts { HasSpelledContents (when (raw_access first) (map raw_access more.now) body.now) }
     ensures found { IfOk result (Means names.now (when (raw_access first.entry) (map raw_access more.now) body.now)) }
-    ensures fault { IfErr result (IsFaultOrMemory names.now (when (raw_access first.entry) (map raw_access more.now) body.now)) }
+    ensures fault { IfErr result (IsFaultOrMemory names.now
+        (when (raw_access first.entry) (map raw_access more.now) body.now)) }
 {
     names_are_names();
     let checked = check_when(names, first, more, body)?;
@@ -115,10 +119,13 @@ fn behaviour<'a>(
 
 /// A line asks one thing, or has one fault; where memory runs out nothing is said.
 pub fn one_answer()
-    ensures asked { (names : KnownNames) (bytes : List ℕ) (l m : AskedLine) → LineOf names bytes l → LineOf names bytes m → l ≡ m }
-    ensures fault { (names : KnownNames) (bytes : List ℕ) (f g : LineFault) → IsLineFault names bytes f → IsLineFault names bytes g
+    ensures asked { (names : KnownNames) (bytes : List ℕ) (l m : AskedLine) → LineOf names bytes l
+        → LineOf names bytes m → l ≡ m }
+    ensures fault { (names : KnownNames) (bytes : List ℕ) (f g : LineFault) → IsLineFault names bytes f
+        → IsLineFault names bytes g
         → f ≢ Memory → g ≢ Memory → f ≡ g }
-    ensures either { (names : KnownNames) (bytes : List ℕ) (l : AskedLine) (f : LineFault) → LineOf names bytes l → IsLineFault names bytes f → f ≡ Memory }
+    ensures either { (names : KnownNames) (bytes : List ℕ) (l : AskedLine) (f : LineFault) → LineOf names bytes l
+        → IsLineFault names bytes f → f ≡ Memory }
 {
     one_reading();
     read_tokens_are_proper();

@@ -57,7 +57,8 @@ impl<'a> Lookup<'a> {
     ) -> Lookup<'a>
         requires { length more.now < MOST_ACCESSES }
         ensures names { result.names.now ≡ names.now }
-        ensures accesses { result.accesses ≡ map (spelled_access names.now) (raw_access first.entry ∷ map raw_access more.now) }
+        ensures accesses { result.accesses ≡ map (spelled_access names.now)
+            (raw_access first.entry ∷ map raw_access more.now) }
     {
         Lookup::over(names, first, more, accesses_of(names, first, more))
     }

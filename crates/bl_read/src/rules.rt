@@ -1,12 +1,14 @@
-//! What a rule asks, and what is wrong with one that is spelled as it should be. Its names are looked up once; only where that fails
-//! each fault is asked of the whole rule before the next, from the left. Nothing here takes memory.
-ghost use Rattle.std.specs.Prelude.{◌≡◌, ◌↔◌, ◌∷◌, [], map, All, Contains, Some, IsTrue, IfSome, IfNone, IfOk, IfErr, MatchResult};
+//! What a rule asks, and what is wrong with one that is spelled as it should be. Its names are looked up once; only
+//! where that fails each fault is asked of the whole rule before the next, from the left. Nothing here takes memory.
+ghost use Rattle.std.specs.Prelude.{◌≡◌, ◌↔◌, ◌∷◌, [], map, All, Contains, Some, IsTrue, IfSome, IfNone, IfOk, IfErr};
+ghost use Rattle.std.specs.Prelude.{MatchResult};
 ghost use Rattle.bl_level.specs.LevelText as of_level;
 ghost use Rattle.bl_level.specs.Name.{AreProper};
 ghost use Rattle.bl_level.specs.Table.{AreDistinct, IsFirstRepeated, place_of};
 ghost use Rattle.bl_work.specs.First.{IsNameOfFirst};
 ghost use Rattle.bl_syntax.specs.RawRules.{raw_names, raw_level, raw_rule};
-ghost use Rattle.bl_read.specs.RuleFaults.{category_mention, right_mentions, mentioned, mentions_in, mentions_in_level, categories_in, IsKnown, IsRuleFaultless, IsFaultOfRule};
+ghost use Rattle.bl_read.specs.RuleFaults.{category_mention, right_mentions, mentioned, mentions_in, mentions_in_level};
+ghost use Rattle.bl_read.specs.RuleFaults.{categories_in, IsKnown, IsRuleFaultless, IsFaultOfRule};
 ghost use Rattle.bl_work.specs.RuleMeaning.{MeansRule};
 ghost use Rattle.bl_work.specs.SpelledRules.{spell_rule};
 
@@ -27,9 +29,9 @@ pub enum Role {
     Category,
 }
 
-/// What the rule asks, or its fault: `Unknown` with the first name from the left that is no subject, document, rank or category,
-/// as its place asks; otherwise `Twice` with the first category from the left that stands a second time in the level. It takes no
-/// memory, so that it never answers `Memory`.
+/// What the rule asks, or its fault: `Unknown` with the first name from the left that is no subject, document, rank or
+/// category, as its place asks; otherwise `Twice` with the first category from the left that stands a second time in
+/// the level. It takes no memory, so that it never answers `Memory`.
 pub fn read_rule(names: &Names, rule: &RawRule<'_>) -> Result<Rule, LineFault>
     requires { AreProper (spell_rule (raw_rule rule.now)) }
     ensures found { IfOk result (MeansRule names.now (raw_rule rule.now)) }
@@ -132,7 +134,8 @@ fn is_known(names: &Names, role: Role, name: &[u8]) -> bool
     }
 }
 
-/// Err has the first category of the rule, from the left, that stands a second time in the level, and Ok says that there is none.
+/// Err has the first category of the rule, from the left, that stands a second time in the level, and Ok says that
+/// there is none.
 fn check_rule_once<'a>(rule: &RawRule<'a>) -> Result<(), &'a [u8]>
     ensures { let xs = categories_in (raw_rule rule.now) in
         MatchResult result (λ _. AreDistinct xs) (λ name. IsFirstRepeated xs name.now) }
@@ -210,7 +213,8 @@ fn rule_of(names: &Names, rule: &RawRule<'_>) -> Option<Rule>
 fn right_of(names: &Names, right: &RawRight<'_>) -> Option<(SubjectId, DocId)>
     ensures found { IfSome result (λ both. (place_of right.now.subject.now names.now.subjects ≡ Some both.0)
         × (place_of right.now.document.now names.now.documents ≡ Some both.1)) }
-    ensures unknown { IfNone result (All (IsKnown names.now) (right_mentions right.now.subject.now right.now.document.now) → ⊥) }
+    ensures unknown { IfNone result (All (IsKnown names.now)
+        (right_mentions right.now.subject.now right.now.document.now) → ⊥) }
 {
     let subject = names.subject(right.subject)?;
     let document = names.document(right.document)?;

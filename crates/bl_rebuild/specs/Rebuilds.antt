@@ -19,16 +19,16 @@ use Rattle.bl_rebuild.specs.declared.rebuild.Rebuilt.{Rebuilt}
 abbrev pub journal_of : Chronicle → Journal
 journal_of hall = record { version = Two; limit = hall.limit; events = hall.trail }
 
--- The hall is over the setup, and has the events that are recovered of the text; what stands in front is their journal's text; and what
--- runs in the hall was lent just this.
+-- The hall is over the setup, and has the events that are recovered of the text; what stands in front is their
+-- journal's text; and what runs in the hall was lent just this.
 pub record IsRebuilt (setup : Setup) (text : List ℕ) (rebuilt : Rebuilt) : Type 0 where
   pub setup_is : rebuilt.hall.setup ≡ setup
   pub recovered : IsRecovered setup text (journal_of rebuilt.hall)
   pub right : rebuilt.right ≡ length (journal_text setup (journal_of rebuilt.hall))
   pub running : rebuilt.running.items ≡ loans_now (state_now rebuilt.hall)
 
--- The events of the lines in front were made on a follower's hall, and what stands after so many bytes goes no further; and what runs in
--- the hall was lent just this.
+-- The events of the lines in front were made on a follower's hall, and what stands after so many bytes goes no further;
+-- and what runs in the hall was lent just this.
 pub record IsFollowedBy (before : Follower) (head : ℕ) (text : List ℕ) (rebuilt : Rebuilt) : Type 0 where
   pub events : List Event
   pub rest : List ℕ
@@ -46,7 +46,8 @@ pub record IsOld (setup : Setup) (text : List ℕ) : Type 0 where
   pub rest : List ℕ
   pub split : text ≡ joined (head_lines One limit) ++ rest
 
--- a line is the first of the text that is not right; where it is one of the head, of which there are two, no journal is recovered
+-- a line is the first of the text that is not right; where it is one of the head, of which there are two, no journal is
+-- recovered
 pub record IsHeadless (setup : Setup) (text : List ℕ) (line : ℕ) : Type 0 where
   pub wrong : FirstWrong setup text line
   pub none : line ≤ 2 → (journal : Journal) → IsRecovered setup text journal → ⊥

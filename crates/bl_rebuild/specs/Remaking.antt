@@ -29,4 +29,5 @@ MayOpen x name subject = Needs x (Opens subject) × (name ≡ slice_index_or x.s
 
 -- a work of this text may be admitted
 abbrev pub MayAdmit : State → ℕ → ℕ → List ℕ → Work → Type 0
-MayAdmit x session ordinal text work = Needs x (Admits session ordinal work) × (text ≡ canonical_line x.setup.names (line.Work work))
+MayAdmit x session ordinal text work = Needs x (Admits session ordinal work)
+    × (text ≡ canonical_line x.setup.names (line.Work work))

@@ -1,5 +1,6 @@
 -- What runs in a state, with what it was lent.
-use Rattle.std.specs.Prelude.{◌≡◌, ℕ, zero, suc, if◌then◌else◌, List, [], ◌∷◌, ◌++◌, length, slice_index_or, Option, Some, None}
+use Rattle.std.specs.Prelude.{◌≡◌, ℕ, zero, suc, if◌then◌else◌, List, [], ◌∷◌, ◌++◌, length, slice_index_or, Option}
+use Rattle.std.specs.Prelude.{Some, None}
 use Rattle.bl_eval.specs.Loan.{Loan}
 use Rattle.bl_order.specs.Machine.{State, runs}
 use Rattle.bl_core.specs.Answers.{loan_at}

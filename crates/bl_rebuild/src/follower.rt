@@ -19,13 +19,15 @@ pub(crate) struct Follower {
 }
 
 impl Follower {
-    /// Takes the next line, if it is an event's that may come next: whether it is. Where it is not, nothing was made, and no further
-    /// line may be taken. An error comes only where a growth is refused.
+    /// Takes the next line, if it is an event's that may come next: whether it is. Where it is not, nothing was made,
+    /// and no further line may be taken. An error comes only where a growth is refused.
     fn take(&mut self, line: &[u8]) -> Result<bool, AllocError>
         requires plain { HasNo 10 line.now }
         requires stands { (rest : List ℕ) × IsInStep self.old (line.now ++ 10 ∷ rest) }
-        ensures right { IfOk result (λ right. right ≡ true → (rest : List ℕ) → IsInStep self.old (line.now ++ 10 ∷ rest) → HasTaken self.old line.now rest self.new) }
-        ensures wrong { IfOk result (λ right. right ≡ false → (rest : List ℕ) → IsInStep self.old (line.now ++ 10 ∷ rest) → IsNoEvent (state_now self.old.remade.hall) line.now) }
+        ensures right { IfOk result (λ right. right ≡ true → (rest : List ℕ) → IsInStep self.old (line.now ++ 10 ∷ rest)
+            → HasTaken self.old line.now rest self.new) }
+        ensures wrong { IfOk result (λ right. right ≡ false → (rest : List ℕ)
+            → IsInStep self.old (line.now ++ 10 ∷ rest) → IsNoEvent (state_now self.old.remade.hall) line.now) }
         ensures same { IfOk result (λ right. right ≡ false → self.new.remade ≡ self.old.remade) }
     {
         the_order_has_room();
@@ -37,8 +39,8 @@ impl Follower {
     }
 }
 
-/// Follows the lines of a text as far as they are right, and answers how many bytes that were. It looks at each byte once, the
-/// replayer's and the hall's own time apart. An error comes only where a growth is refused.
+/// Follows the lines of a text as far as they are right, and answers how many bytes that were. It looks at each byte
+/// once, the replayer's and the hall's own time apart. An error comes only where a growth is refused.
 pub(crate) fn follow_far(follower: &mut Follower, text: &[u8]) -> Result<usize, AllocError>
     requires { IsInStep follower.old text.now }
     ensures { IfOk result (HasFollowed follower.old follower.new text.now) }

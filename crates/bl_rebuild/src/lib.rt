@@ -1,5 +1,5 @@
-//! The hall that a trail's text leads to, and what still runs there. The text may end anywhere: its longest true front is followed by
-//! a replayer, and each event of it is made on a hall.
+//! The hall that a trail's text leads to, and what still runs there. The text may end anywhere: its longest true front
+//! is followed by a replayer, and each event of it is made on a hall.
 //!
 //!     unfinished   an entry that runs where the text ends
 //!     slots        what runs, by place

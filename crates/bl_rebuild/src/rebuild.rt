@@ -118,10 +118,11 @@ fn follow_on(follower: Follower, head: usize, text: &[u8]) -> Result<Rebuilt, Al
     }
 }
 
-/// Follows the longest front of the text that is right, and gives the hall that it leads to. What is after that front, a line that is
-/// torn or wrong, is left out, and `right` says how long the front is; a closing `stop` is no event, and so after it. What runs there was
-/// lent just this, so whoever goes on evaluates it again on the same contents. `Head` comes where the head is not right, `OldVersion`
-/// for a trail of version 1, and `Memory` only where a growth is refused, also in an evaluation; then nothing is kept.
+/// Follows the longest front of the text that is right, and gives the hall that it leads to. What is after that front,
+/// a line that is torn or wrong, is left out, and `right` says how long the front is; a closing `stop` is no event, and
+/// so after it. What runs there was lent just this, so whoever goes on evaluates it again on the same contents. `Head`
+/// comes where the head is not right, `OldVersion` for a trail of version 1, and `Memory` only where a growth is
+/// refused, also in an evaluation; then nothing is kept.
 pub fn rebuild(alloc: Global, setup: &Setup, text: &[u8]) -> Result<Rebuilt, RebuildFault>
     ensures ok { IfOk result (IsRebuilt setup.now text.now) }
     ensures err { IfErr result (IsNotRebuilt setup.now text.now) }

@@ -28,7 +28,8 @@ pub(crate) struct Remade {
 }
 
 impl Remade {
-    /// A hall in which nothing has happened. An error comes only where a growth is refused, here and in the calls below.
+    /// A hall in which nothing has happened. An error comes only where a growth is refused, here and in the calls
+    /// below.
     pub(crate) fn new(alloc: Global, setup: Setup, limit: u32) -> Result<Remade, AllocError>
         requires { IsLimit limit }
         ensures hall { IfOk result (λ remade. remade.hall ≡ record { setup = setup; limit = limit; trail = [] }) }
@@ -46,7 +47,8 @@ impl Remade {
     fn open(&mut self, name: &[u8])
         requires whole { IsWhole self.old }
         requires may { (subject : ℕ) × MayOpen (state_now self.old.hall) name.now subject }
-        ensures { (subject : ℕ) → MayOpen (state_now self.old.hall) name.now subject → IsMade self.old (Opens subject) self.new }
+        ensures { (subject : ℕ) → MayOpen (state_now self.old.hall) name.now subject
+            → IsMade self.old (Opens subject) self.new }
     {
         let names = self.hall.core().setup().names();
         // asked for the proof alone: no name stands twice
@@ -64,7 +66,8 @@ impl Remade {
     fn admit(&mut self, session: u32, ordinal: u32, text: &[u8]) -> Result<(), AllocError>
         requires whole { IsWhole self.old }
         requires may { (work : AnyWork) × MayAdmit (state_now self.old.hall) session ordinal text.now work }
-        ensures { OnOk result ((work : AnyWork) → MayAdmit (state_now self.old.hall) session ordinal text.now work → IsMade self.old (Admits session ordinal work) self.new) }
+        ensures { OnOk result ((work : AnyWork) → MayAdmit (state_now self.old.hall) session ordinal text.now work
+            → IsMade self.old (Admits session ordinal work) self.new) }
     {
         let Some(work) = work_of(self.alloc, self.hall.core().names(), text)? else {
             unreachable!()
@@ -128,7 +131,8 @@ impl Remade {
         requires whole { IsWhole self.old }
         requires small { IsSmall (state_now self.old.hall) }
         requires next { (event : Event) × IsNext (state_now self.old.hall) event line.now }
-        ensures { OnOk result ((event : Event) → IsNext (state_now self.old.hall) event line.now → IsMade self.old event self.new) }
+        ensures { OnOk result ((event : Event) → IsNext (state_now self.old.hall) event line.now
+            → IsMade self.old event self.new) }
     {
         match ask_of(line) {
             Ask::Opens(name) => {

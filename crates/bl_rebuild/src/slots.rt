@@ -1,5 +1,6 @@
 //! What runs, by place.
-ghost use Rattle.std.specs.Prelude.{◌≡◌, ◌==◌, ◌^◌, ◌<◌, ℕ, [], length, IfOk, OnOk, Some, None, if◌then◌else◌, option_to_list};
+ghost use Rattle.std.specs.Prelude.{◌≡◌, ◌==◌, ◌^◌, ◌<◌, ℕ, [], length, IfOk, OnOk, Some, None, if◌then◌else◌};
+ghost use Rattle.std.specs.Prelude.{option_to_list};
 ghost use Rattle.std.specs.List.{flat_map};
 ghost use Rattle.bl_rebuild.specs.Unfinished.{slot_at};
 
@@ -41,7 +42,8 @@ impl Slots {
 
     /// Keeps what a place was lent.
     pub(crate) fn put(&mut self, n: u32, lent: Lent) -> Result<(), AllocError>
-        ensures { OnOk result ((k : ℕ) → slot_at self.new.slots.items k ≡ (if k == n then Some lent else slot_at self.old.slots.items k)) }
+        ensures { OnOk result ((k : ℕ) → slot_at self.new.slots.items k ≡
+            (if k == n then Some lent else slot_at self.old.slots.items k)) }
     {
         let unfinished = Unfinished::new(lent);
         let at = n as usize;
@@ -53,7 +55,8 @@ impl Slots {
     /// Hands over what a place was lent; `None` where it does not run.
     pub(crate) fn take(&mut self, n: u32) -> Option<Lent>
         ensures value { result ≡ slot_at self.old.slots.items n }
-        ensures rest { (k : ℕ) → slot_at self.new.slots.items k ≡ (if k == n then None else slot_at self.old.slots.items k) }
+        ensures rest { (k : ℕ) → slot_at self.new.slots.items k ≡
+            (if k == n then None else slot_at self.old.slots.items k) }
     {
         let at = n as usize;
         if at >= self.slots.len() {

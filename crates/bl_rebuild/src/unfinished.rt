@@ -2,8 +2,8 @@
 use bl_eval::lent::{Lent, UnrunParts};
 use std::marker::Model;
 
-/// An entry that runs, with what it was lent. Its value is what was lent. Where it is dropped nothing of that is given back: its hall
-/// goes with it, or keeps the entry running for ever.
+/// An entry that runs, with what it was lent. Its value is what was lent. Where it is dropped nothing of that is given
+/// back: its hall goes with it, or keeps the entry running for ever.
 pub struct Unfinished {
     lent: Lent,
 }

@@ -1,5 +1,5 @@
 -- A hall goes on event by event, and comes nearer to its end.
-use Rattle.std.proofs.Common.{◌≡◌, ℕ, suc, ◌+◌, ◌*◌, ◌≤◌, Bool, true, false, List, [], ◌∷◌, ◌++◌, length, refl, sym, ◌∙◌, ap, subst, arith, append-nil, append_assoc, length-append, length-set, inl, inr, ◌⊎◌}
+use Rattle.std.proofs.Common.{◌≡◌, ℕ, suc, ◌+◌, ◌*◌, ◌≤◌, Bool, true, false, List, [], ◌∷◌, ◌++◌, length, refl, sym, ◌∙◌, ap, subst, arith, append_assoc, length-append, length-set, inl, inr, ◌⊎◌}
 use Rattle.std.specs.Prelude.{IsTrue}
 use Rattle.bl_audit.proofs.Trails.{limit-now}
 use Rattle.bl_hall.proofs.Happening.{happened-next, most-happened}
@@ -10,9 +10,6 @@ use Rattle.bl_order.specs.Headline.{Holds, IsReached}
 use Rattle.bl_order.specs.Machine.{State, Event, Opens, Admits, Starts, Ends, Loses, IsTrail, MayStart, Needs, Session, change, has_ended, most_sessions, runs, session_at, start, state_after}
 use Rattle.bl_record.specs.Ending.{HasGoneOn, HaveAllEnded}
 use Rattle.bl_record.specs.Nearing.{IsIdle, IsNearer}
-
-pub no-more : (h : Chronicle) → HasTrail h → HasGoneOn h h
-no-more h trail = record { grown = record { setup = refl; limit = refl; more = []; trail = sym (append-nil h.trail) }; trail = trail }
 
 pub one-more : (a b : Chronicle) (e : Event) → b ≡ with_event a e → HasTrail b → HasGoneOn a b
 one-more a b e is trail = record {

@@ -15,7 +15,8 @@ use Rattle.bl_setup.specs.Setup.{Setup}
 use Rattle.bl_setup.specs.declared.version.Version.TheVariants.{Two}
 use Rattle.bl_trail.specs.TrueText.{HasNoLf, joined}
 
--- The file has the text of the hall's trail and nothing else, all of it is on the disk for certain, and the bookmark stands after all of it.
+-- The file has the text of the hall's trail and nothing else, all of it is on the disk for certain, and the bookmark
+-- stands after all of it.
 pub record IsKept (hall : Chronicle) (reached : Bookmark) (file : File) : Type 0 where
   pub two : hall.setup.version ≡ Two
   pub history : IsHistory hall.setup (journal_of hall)
@@ -37,7 +38,8 @@ abbrev pub LosesNothing : Setup → Journal → File → Type 0
 LosesNothing setup kept file =
     (left : List ℕ) (found : Journal) → MayLeave file left → IsRecovered setup left found → GoesOnFrom kept found
 
--- by what a journal has failed, after a call that told this fault: where a growth was refused, the device has not failed
+-- by what a journal has failed, after a call that told this fault: where a growth was refused, the device has not
+-- failed
 abbrev pub HasFailedBy : Option DeviceError → JournalFault → Type 0
 HasFailedBy failed (Device error) = failed ≡ Some error
 HasFailedBy failed Memory = failed ≡ None

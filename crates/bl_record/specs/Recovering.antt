@@ -34,8 +34,8 @@ pub record IsResumed (setup : Setup) (text : List ℕ) (hall : Chronicle) (cut :
   pub not_over : finished.recovered.rest ≢ codes "stop\n"
   pub few : lines_in finished.recovered.rest ≤ 1
 
--- The file is closed: it has the true text of so many events, those of a finished hall, and all of it is on the disk. So many bytes of the text
--- were cut off; a closing stop is not counted.
+-- The file is closed: it has the true text of so many events, those of a finished hall, and all of it is on the disk.
+-- So many bytes of the text were cut off; a closing stop is not counted.
 pub record IsClosed (setup : Setup) (text : List ℕ) (events cut : ℕ) (file : File) : Type 0 where
   pub closed : Chronicle
   pub finished : IsFinished setup text closed
@@ -46,10 +46,12 @@ pub record IsClosed (setup : Setup) (text : List ℕ) (events cut : ℕ) (file :
   pub was_over : finished.recovered.rest ≡ codes "stop\n" → cut ≡ 0
   pub was_cut : finished.recovered.rest ≢ codes "stop\n" → cut ≡ length finished.recovered.rest
 
--- Whatever history was kept on the disk before is kept at each moment on the way, so that what is recovered after a crash goes on from it.
+-- Whatever history was kept on the disk before is kept at each moment on the way, so that what is recovered after a
+-- crash goes on from it.
 abbrev pub LosesNoHistory : {D : Type 0} → (D → File) → (D → List File) → Setup → D → D → Type 0
 LosesNoHistory now past setup from to =
-    (kept : Journal) → IsHistory setup kept → Keeps (journal_text setup kept) (now from) → Passes now past from to (LosesNothing setup kept)
+    (kept : Journal) → IsHistory setup kept → Keeps (journal_text setup kept) (now from)
+    → Passes now past from to (LosesNothing setup kept)
 
 -- why no journal is recovered of a text
 abbrev pub IsNotRecovered : Setup → List ℕ → RecoverFault → Type 0

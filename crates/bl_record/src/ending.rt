@@ -16,7 +16,8 @@ use bl_order::laws::{each_state_holds, the_order_has_room};
 use bl_rebuild::unfinished::Unfinished;
 use std::alloc::{AllocError, Global};
 
-/// Evaluates what a running entry was lent, and ends it with what was done. An error comes only where a growth is refused.
+/// Evaluates what a running entry was lent, and ends it with what was done. An error comes only where a growth is
+/// refused.
 fn end_lent(alloc: Global, hall: &mut Hall, lent: Lent) -> Result<(), AllocError>
     requires running { IsTrue (runs (state_now hall.old) lent.entry) }
     requires lent { lent ≡ loan_at (state_now hall.old) lent.entry }
@@ -81,8 +82,8 @@ fn run_waiting(alloc: Global, hall: &mut Hall) -> Result<(), AllocError>
     Ok(())
 }
 
-/// Ends all that was admitted and has not ended, of a hall in which just this runs. An error comes only where a growth is refused; the
-/// hall is then left anywhere on the way.
+/// Ends all that was admitted and has not ended, of a hall in which just this runs. An error comes only where a growth
+/// is refused; the hall is then left anywhere on the way.
 pub fn end_all(alloc: Global, hall: &mut Hall, running: Vec<Unfinished>) -> Result<(), AllocError>
     requires trail { HasTrail hall.old }
     requires running { running.items ≡ loans_now (state_now hall.old) }

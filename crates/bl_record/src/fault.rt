@@ -83,8 +83,8 @@ pub enum ResumeFault {
     Unrecovered(RecoverFault),
     /// The trail is over: after its events stands `stop`, and nothing else. The file is as it was.
     Over,
-    /// More would have to be cut off than one whole line: this line of the file, counted from 1, is the first that is not
-    /// right, and at least one whole line comes after it. The file is as it was.
+    /// More would have to be cut off than one whole line: this line of the file, counted from 1, is the first that is
+    /// not right, and at least one whole line comes after it. The file is as it was.
     Wrong(u64),
 }
 

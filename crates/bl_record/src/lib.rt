@@ -1,4 +1,5 @@
-//! A journal: the text of a hall's trail, in a file that grows while the hall does, and what is made of the file after a crash.
+//! A journal: the text of a hall's trail, in a file that grows while the hall does, and what is made of the file after
+//! a crash.
 //!
 //!     fault      why a journal goes no further, and why a file is not gone on with
 //!     journal    keeps up with a hall, and is closed

@@ -124,7 +124,8 @@ fn go_on<D: Device>(
     requires sound { D.has_failed device ≡ false }
     requires completed { IsCompleted setup.now (seen (D.now device)) completed }
     ensures hall { IfOk result (λ resumed. resumed.hall ≡ completed.hall) }
-    ensures kept { IfOk result (λ resumed. IsKept resumed.hall resumed.journal.bookmark (D.now resumed.journal.log.device)) }
+    ensures kept { IfOk result (λ resumed. IsKept resumed.hall resumed.journal.bookmark
+        (D.now resumed.journal.log.device)) }
     ensures cut { IfOk result (λ resumed. resumed.cut ≡ completed.rest.bytes) }
     ensures fine { IfOk result (λ resumed. resumed.journal.fault ≡ None) }
     ensures sound { IfOk result (λ resumed. D.has_failed resumed.journal.log.device ≡ false) }
@@ -154,14 +155,14 @@ fn go_on<D: Device>(
 }
 
 /// Goes on from the file of a journal, where a crash left at most one whole line after its right part, and a torn one:
-/// cuts that off, ends all that was admitted and has not ended, and writes the lines of that too; all is on the disk then.
-/// So a run can go on from the hall and the journal that come of it. Whenever the machine ends on the way, what was kept
-/// before is recovered again.
+/// cuts that off, ends all that was admitted and has not ended, and writes the lines of that too; all is on the disk
+/// then. So a run can go on from the hall and the journal that come of it. Whenever the machine ends on the way, what
+/// was kept before is recovered again.
 ///
-/// `Unrecovered` says why no journal was recovered: `Head` and `OldVersion` by what the file says, `Memory` where a growth
-/// is refused, and `Device` where the device failed. `Over` comes where the trail is closed, and `Wrong` where more would
-/// have to be cut off: `recover` does that. These two, `Head` and `OldVersion` leave the file as it was. The device is
-/// given back with each fault.
+/// `Unrecovered` says why no journal was recovered: `Head` and `OldVersion` by what the file says, `Memory` where a
+/// growth is refused, and `Device` where the device failed. `Over` comes where the trail is closed, and `Wrong` where
+/// more would have to be cut off: `recover` does that. These two, `Head` and `OldVersion` leave the file as it was. The
+/// device is given back with each fault.
 pub fn resume<D: Device>(
     alloc: Global,
     setup: &Setup,
@@ -169,7 +170,8 @@ pub fn resume<D: Device>(
 ) -> Result<Resumed<D>, (ResumeFault, D)>
     requires { D.has_failed device ≡ false }
     ensures resumed { IfOk result (λ resumed. IsResumed setup.now (seen (D.now device)) resumed.hall resumed.cut) }
-    ensures kept { IfOk result (λ resumed. IsKept resumed.hall resumed.journal.bookmark (D.now resumed.journal.log.device)) }
+    ensures kept { IfOk result (λ resumed. IsKept resumed.hall resumed.journal.bookmark
+        (D.now resumed.journal.log.device)) }
     ensures fine { IfOk result (λ resumed. resumed.journal.fault ≡ None) }
     ensures sound { IfOk result (λ resumed. D.has_failed resumed.journal.log.device ≡ false) }
     ensures any_moment { IfOk result (λ resumed. LosesNoHistory D.now D.past setup.now device resumed.journal.log.device) }
@@ -225,12 +227,14 @@ fn close_up<D: Device>(
     }
 }
 
-/// Closes the file of a journal, whatever a crash left after its right part: cuts that off, ends all that was admitted and has not
-/// ended, writes the lines of that too, and adds `stop`; all is on the disk then, and who replays it accepts it. A file that is closed
-/// already is read, completed and closed again. Whenever the machine ends on the way, what was kept before is recovered again.
+/// Closes the file of a journal, whatever a crash left after its right part: cuts that off, ends all that was admitted
+/// and has not ended, writes the lines of that too, and adds `stop`; all is on the disk then, and who replays it
+/// accepts it. A file that is closed already is read, completed and closed again. Whenever the machine ends on the way,
+/// what was kept before is recovered again.
 ///
-/// `Head` comes where the head of the file is torn or wrong, and `OldVersion` for a trail of version 1: these leave the file as it was.
-/// `Memory` comes where a growth is refused, and `Device` where the device failed. The device is given back with each fault.
+/// `Head` comes where the head of the file is torn or wrong, and `OldVersion` for a trail of version 1: these leave the
+/// file as it was. `Memory` comes where a growth is refused, and `Device` where the device failed. The device is given
+/// back with each fault.
 pub fn recover<D: Device>(
     alloc: Global,
     setup: &Setup,

@@ -32,9 +32,6 @@ knows-by : (s : Setup) (w : Work) (b : Bool) (o : Origin) → KnowsPlace s (reco
 knows-by s w b (Line subject) k = (k.origin, k.work)
 knows-by s w b (Child parent which) k = tt
 
-pub knows-told : (s : Setup) (p : Place) (b : Bool) → KnowsPlace s p → Knows s (entry_told p b)
-knows-told s p b k = knows-by s p.work b p.origin (record { work = k.work; origin = k.origin })
-
 any-default : (l : List Place) (n : ℕ) (d e : Place) → n < length l → get_or l n d ≡ get_or l n e
 any-default [] n d e lt = absurd (omega arith)
 any-default (x ∷ l) zero d e lt = refl

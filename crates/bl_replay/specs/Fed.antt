@@ -10,14 +10,16 @@ use Rattle.bl_replay.specs.Told.{IsTold}
 use Rattle.bl_replay.specs.declared.place.Place.{Place}
 
 -- The monitor was told the first entries of the order with the marks, and these are its answers.
-pub record IsFed (setup : Setup) (marks : ℕ → Bool) (order : List Entry) (h : Heard) (answers : List Answer) : Type 0 where
+pub record IsFed (setup : Setup) (marks : ℕ → Bool) (order : List Entry) (h : Heard)
+    (answers : List Answer) : Type 0 where
   pub told : IsTold setup marks order h
   pub lost : length h.lost ≡ length h.order
   pub many : length answers ≡ length h.order
   pub are : (n : ℕ) (d : Answer) → n < length answers → slice_index_or answers n d ≡ answer_at h n
   pub known : All (KnowsAnswer setup) answers
 
--- whatever first ones of the places a monitor was told, with the marks, the next one may come: where it is a child, its parent spawned it
+-- whatever first ones of the places a monitor was told, with the marks, the next one may come: where it is a child, its
+-- parent spawned it
 abbrev pub ComeInOrder : Setup → (ℕ → Bool) → List Place → Type 0
 ComeInOrder setup marks places =
     (h : Heard) → IsTold setup marks (map entry_in places) h → length h.order < length places

@@ -40,7 +40,8 @@ pub record KeepsAt (x : State) (r : Replayer) : Type 0 where
   pub queues : r.queues ≡ record { cowns = length x.setup.policy.documents + 1; limit = x.limit; entries = map queued_as r.places.items }
   pub fed : IsFed x.setup (lost_later r.marks.items) (map entry_in r.places.items) r.monitor r.answers.items
 
--- the events so far lead to the state, and the marks foretell what this text, which is still to come, says of the ends of places
+-- the events so far lead to the state, and the marks foretell what this text, which is still to come, says of the ends
+-- of places
 pub record Replays (r : Replayer) (x : State) (text : List ℕ) : Type 0 where
   pub keeps : KeepsAt x r
   pub found : List Finding

@@ -90,4 +90,5 @@ pub record KnowsPlace (setup : Setup) (p : Place) : Type 0 where
 abbrev pub child_places : ℕ → Work → ℕ → List ℕ → List Place
 child_places parent work which [] = []
 child_places parent work which (index ∷ rest) =
-    record { origin = Child parent which; work = work; index = index; stand = Waiting } ∷ child_places parent work (which + 1) rest
+    record { origin = Child parent which; work = work; index = index; stand = Waiting } ∷ child_places parent work
+    (which + 1) rest

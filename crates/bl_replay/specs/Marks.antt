@@ -1,5 +1,6 @@
 -- What the lines that are still to come say of the ends of places.
-use Rattle.std.specs.Prelude.{◌≡◌, ℕ, Bool, true, false, IsTrue, if◌then◌else◌, ◌==◌, List, [], ◌∷◌, slice_index_or, Option, Some, None}
+use Rattle.std.specs.Prelude.{◌≡◌, ℕ, Bool, true, false, IsTrue, if◌then◌else◌, ◌==◌, List, [], ◌∷◌, slice_index_or}
+use Rattle.std.specs.Prelude.{Option, Some, None}
 use Rattle.bl_order.specs.Past.{is_done}
 use Rattle.bl_order.specs.Machine.{State, Event, Opens, Admits, Starts, Ends, Loses, past_at, is_lost, has_ended}
 use Rattle.bl_replay.specs.declared.mark.Mark.{Mark}
@@ -23,7 +24,8 @@ first_end [] k = false
 first_end (None ∷ found) k = first_end found k
 first_end (Some end ∷ found) k = if end.0 == k then end.1 else first_end found k
 
--- The marks say of each place that has ended whether it is lost, and of each other one whether the lines to come lose it.
+-- The marks say of each place that has ended whether it is lost, and of each other one whether the lines to come lose
+-- it.
 abbrev pub Foretells : State → (ℕ → Bool) → List Finding → Type 0
 Foretells x marks found = (k : ℕ) → marks k ≡ (if has_ended x k then is_lost x k else first_end found k)
 

@@ -30,7 +30,8 @@ fn claim_of(access: &Access) -> Claim
     }
 }
 
-/// Lists what a behaviour of the work or its rule claims, in place of what stood there. An error comes only where a growth is refused.
+/// Lists what a behaviour of the work or its rule claims, in place of what stood there. An error comes only where a
+/// growth is refused.
 fn list_claims(claims: &mut Vec<Claim>, work: &Work, index: u8) -> Result<(), AllocError>
     requires { IsBehaviourOrRule (child_task (first_task work.now) index) }
     ensures { OnOk result (claims.new.items ≡ queue_claims (child_task (first_task work.now) index)) }
@@ -72,7 +73,10 @@ pub fn enter(
     requires cowns { 1 ≤ queues.old.cowns }
     requires known { All (λ (access : AnyAccess). access.doc < queues.old.cowns - 1) (accesses_of (task_in place)) }
     ensures places { OnOk result (places.new.items ≡ places.old.items ++ place ∷ []) }
-    ensures queues { OnOk result (queues.new ≡ record queues.old { entries = queues.old.entries ++ record { claims = queue_claims (task_in place); stand = Waiting } ∷ [] }) }
+    ensures queues { OnOk result (queues.new ≡ record queues.old {
+      entries = queues.old.entries
+          ++ record { claims = queue_claims (task_in place); stand = Waiting } ∷ [];
+    }) }
 {
     claims_go_by_number();
     list_claims(claims, &place.work, place.index)?;
@@ -81,8 +85,8 @@ pub fn enter(
     Ok(())
 }
 
-/// The children of an entry enter, in order, by the numbers of their behaviours; there is room for them. An error comes only where a
-/// growth is refused.
+/// The children of an entry enter, in order, by the numbers of their behaviours; there is room for them. An error comes
+/// only where a growth is refused.
 pub fn enter_children(
     queues: &mut Queues,
     places: &mut Vec<Place>,
@@ -96,9 +100,13 @@ pub fn enter_children(
     requires room { length places.old.items + length spawned.now ≤ queues.old.limit }
     requires tasks { All (λ index. IsBehaviourOrRule (child_task (first_task work.now) index)) spawned.now }
     requires cowns { 1 ≤ queues.old.cowns }
-    requires known { (index : ℕ) → All (λ (access : AnyAccess). access.doc < queues.old.cowns - 1) (accesses_of (child_task (first_task work.now) index)) }
+    requires known { (index : ℕ) → All (λ (access : AnyAccess). access.doc < queues.old.cowns - 1)
+        (accesses_of (child_task (first_task work.now) index)) }
     ensures places { OnOk result (places.new.items ≡ places.old.items ++ child_places parent work.now 1 spawned.now) }
-    ensures queues { OnOk result (queues.new ≡ record queues.old { entries = queues.old.entries ++ map queued_as (child_places parent work.now 1 spawned.now) }) }
+    ensures queues { OnOk result (queues.new ≡ record queues.old {
+      entries = queues.old.entries
+          ++ map queued_as (child_places parent work.now 1 spawned.now);
+    }) }
 {
     let mut which = 0;
     for index in spawned {

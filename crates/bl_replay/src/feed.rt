@@ -21,8 +21,10 @@ fn feed_next(
     requires small { length places.now ≤ 100000 }
     requires known { All (KnowsPlace monitor.old.setup) places.now }
     requires come { ComeInOrder monitor.old.setup (lost_later marks.now) places.now }
-    requires fed { IsFed monitor.old.setup (lost_later marks.now) (map entry_in places.now) monitor.old answers.old.items }
-    ensures fed { OnOk result (IsFed monitor.old.setup (lost_later marks.now) (map entry_in places.now) monitor.new answers.new.items) }
+    requires fed { IsFed monitor.old.setup (lost_later marks.now)
+        (map entry_in places.now) monitor.old answers.old.items }
+    ensures fed { OnOk result (IsFed monitor.old.setup (lost_later marks.now)
+        (map entry_in places.now) monitor.new answers.new.items) }
     ensures one { OnOk result (length answers.new.items ≡ length answers.old.items + 1) }
     ensures setup { OnOk result (monitor.new.setup ≡ monitor.old.setup) }
 {
@@ -38,7 +40,8 @@ fn feed_next(
     Ok(())
 }
 
-/// Tells the monitor the entries up to this place, where it was not told them yet. An error comes only where a growth is refused.
+/// Tells the monitor the entries up to this place, where it was not told them yet. An error comes only where a growth
+/// is refused.
 pub fn feed(
     monitor: &mut Monitor,
     answers: &mut Vec<Answer>,
@@ -50,8 +53,10 @@ pub fn feed(
     requires small { length places.now ≤ 100000 }
     requires known { All (KnowsPlace monitor.old.setup) places.now }
     requires come { ComeInOrder monitor.old.setup (lost_later marks.now) places.now }
-    requires fed { IsFed monitor.old.setup (lost_later marks.now) (map entry_in places.now) monitor.old answers.old.items }
-    ensures fed { OnOk result (IsFed monitor.old.setup (lost_later marks.now) (map entry_in places.now) monitor.new answers.new.items) }
+    requires fed { IsFed monitor.old.setup (lost_later marks.now)
+        (map entry_in places.now) monitor.old answers.old.items }
+    ensures fed { OnOk result (IsFed monitor.old.setup (lost_later marks.now)
+        (map entry_in places.now) monitor.new answers.new.items) }
     ensures told { OnOk result (n < length answers.new.items) }
 {
     let from = answers.len();

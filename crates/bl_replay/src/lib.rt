@@ -1,5 +1,5 @@
-//! The replay of a trail's text: it is accepted exactly where it is true, and otherwise the first line that is not right is named.
-//! No core is driven: readiness is asked of queues, and answers of a monitor.
+//! The replay of a trail's text: it is accepted exactly where it is true, and otherwise the first line that is not
+//! right is named. No core is driven: readiness is asked of queues, and answers of a monitor.
 //!
 //!     mark        what becomes of each place, by the lines that end places
 //!     place       the entries of the order, with where they stand

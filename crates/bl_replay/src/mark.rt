@@ -90,7 +90,8 @@ fn note(marks: &mut Vec<Mark>, n: u32, lost: bool) -> Result<(), AllocError>
     }
 }
 
-/// What becomes of each place: what the first line says that ends it. Where no line loses a place, which one search tells, none is marked.
+/// What becomes of each place: what the first line says that ends it. Where no line loses a place, which one search
+/// tells, none is marked.
 pub fn foretell(alloc: Global, text: &[u8]) -> Result<Vec<Mark>, AllocError>
     ensures { IfOk result (λ marks. (found : List Finding) × AreFindings text.now found × AreMarked marks.items found) }
 {

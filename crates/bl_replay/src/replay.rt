@@ -18,8 +18,8 @@ use bl_trail::head::{Head, head_of};
 use bl_trail::verdict::{Verdict, what_was_followed_tells_the_verdict};
 use std::alloc::{AllocError, Global};
 
-/// A replayer of no event, which judges by this version, for lines that say this of the ends of places. An error comes only where a
-/// growth is refused.
+/// A replayer of no event, which judges by this version, for lines that say this of the ends of places. An error comes
+/// only where a growth is refused.
 pub fn begin(
     alloc: Global,
     setup: &Setup,
@@ -58,8 +58,8 @@ pub fn begin(
 
 /// Replays the text of a trail over the setup that it began with, by the version that its first line names. `Accepted`
 /// comes exactly where the text is true, with the number of its events; otherwise `Rejected` names the first line that
-/// is not right after the lines before it, counted from 1. Version 1 has no rule that creates or deletes a document, and
-/// no setup in which one is absent. An error comes only where a growth is refused.
+/// is not right after the lines before it, counted from 1. Version 1 has no rule that creates or deletes a document,
+/// and no setup in which one is absent. An error comes only where a growth is refused.
 pub fn replay(alloc: Global, setup: &Setup, text: &[u8]) -> Result<Verdict, AllocError>
     ensures { IfOk result (IsVerdict setup.now text.now) }
 {

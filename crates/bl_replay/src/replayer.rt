@@ -70,14 +70,16 @@ fn weight(work: &Work) -> u32
 }
 
 impl Replayer {
-    ghost use Rattle.std.specs.Prelude.{◌≡◌, ◌↔◌, ℕ, ◌<◌, ◌≤◌, ◌++◌, ◌∷◌, true, false, Bool, [], IfOk, OnOk, IfSome, IsTrue, List, length, slice_index_or, ◌⊎◌};
+    ghost use Rattle.std.specs.Prelude.{◌≡◌, ◌↔◌, ℕ, ◌<◌, ◌≤◌, ◌++◌, ◌∷◌, true, false, Bool, [], IfOk, OnOk, IfSome};
+    ghost use Rattle.std.specs.Prelude.{IsTrue, List, length, slice_index_or, ◌⊎◌};
     ghost use Rattle.bl_write.specs.CanonicalLine.{canonical_line};
     ghost use Rattle.bl_work.specs.declared.asked.Line.TheVariants as asked;
     ghost use Rattle.bl_work.specs.declared.work.Work.{Work as AnyWork};
     ghost use Rattle.bl_work.specs.Readable.{IsReadable};
     ghost use Rattle.bl_setup.specs.Setup.{Setup as AnySetup};
     ghost use Rattle.bl_order.specs.Past.{is_done};
-    ghost use Rattle.bl_order.specs.Machine.{Admits, Ends, Loses, MayStart, Needs, Opens, Starts, State, change, past_at, runs};
+    ghost use Rattle.bl_order.specs.Machine.{Admits, Ends, Loses, MayStart, Needs, Opens, Starts, State, change};
+    ghost use Rattle.bl_order.specs.Machine.{past_at, runs};
     ghost use Rattle.bl_trail.specs.Asks.{HasNo};
     ghost use Rattle.bl_replay.specs.Keeps.{DoesNotCome, HasCome, IsReady, KeepsAt, Replays};
     ghost use Rattle.bl_replay.specs.Marks.{AreForetold, lost_later};
@@ -85,7 +87,8 @@ impl Replayer {
 
     /// Opens a session.
     fn add_session(&mut self, subject: SubjectId) -> Result<(), AllocError>
-        ensures keeps { OnOk result ((x : State) → KeepsAt x self.old → Needs x (Opens subject) → KeepsAt (change x (Opens subject)) self.new) }
+        ensures keeps { OnOk result ((x : State) → KeepsAt x self.old → Needs x (Opens subject)
+            → KeepsAt (change x (Opens subject)) self.new) }
         ensures marks { OnOk result (self.new.marks ≡ self.old.marks) }
     {
         steps_lead_on();
@@ -96,7 +99,8 @@ impl Replayer {
     /// Takes the opening of a session for the subject of this name.
     fn open(&mut self, name: &[u8], line: &[u8]) -> Result<bool, AllocError>
         requires { IsReady self.old line.now }
-        ensures right { IfOk result (λ right. right ≡ true → (x : State) → KeepsAt x self.old → (subject : ℕ) × HasCome x (Opens subject) line.now self.new) }
+        ensures right { IfOk result (λ right. right ≡ true → (x : State) → KeepsAt x self.old → (subject : ℕ)
+            × HasCome x (Opens subject) line.now self.new) }
         ensures wrong { IfOk result (λ right. right ≡ false → (x : State) → KeepsAt x self.old → (subject : ℕ)
             → name.now ≡ slice_index_or x.setup.names.subjects subject [] → DoesNotCome x (Opens subject) line.now) }
         ensures marks { IfOk result (λ right. right ≡ true → self.new.marks ≡ self.old.marks) }
@@ -116,7 +120,8 @@ impl Replayer {
 
     /// Whether a session's line may be admitted with this ordinal and work.
     fn may_admit(&self, session: u32, ordinal: u32, work: &Work) -> bool
-        ensures { (x : State) → KeepsAt x self.now → IsReadable x.setup.names work.now → (IsTrue result ↔ Needs x (Admits session ordinal work.now)) }
+        ensures { (x : State) → KeepsAt x self.now → IsReadable x.setup.names work.now
+            → (IsTrue result ↔ Needs x (Admits session ordinal work.now)) }
     {
         match self.sessions.get(session as usize) {
             Some(row) => ordinal > row.last
@@ -129,7 +134,8 @@ impl Replayer {
     /// Admits a line.
     fn add_line(&mut self, session: u32, ordinal: u32, work: Work) -> Result<(), AllocError>
         requires { (x : State) × KeepsAt x self.old × Needs x (Admits session ordinal work) }
-        ensures keeps { OnOk result ((x : State) → KeepsAt x self.old → Needs x (Admits session ordinal work) → KeepsAt (change x (Admits session ordinal work)) self.new) }
+        ensures keeps { OnOk result ((x : State) → KeepsAt x self.old → Needs x (Admits session ordinal work)
+            → KeepsAt (change x (Admits session ordinal work)) self.new) }
         ensures marks { OnOk result (self.new.marks ≡ self.old.marks) }
     {
         steps_lead_on();
@@ -160,9 +166,11 @@ impl Replayer {
         line: &[u8],
     ) -> Result<bool, AllocError>
         requires { IsReady self.old line.now }
-        ensures right { IfOk result (λ right. right ≡ true → (x : State) → KeepsAt x self.old → (work : AnyWork) × HasCome x (Admits session ordinal work) line.now self.new) }
+        ensures right { IfOk result (λ right. right ≡ true → (x : State) → KeepsAt x self.old → (work : AnyWork)
+            × HasCome x (Admits session ordinal work) line.now self.new) }
         ensures wrong { IfOk result (λ right. right ≡ false → (x : State) → KeepsAt x self.old → (work : AnyWork)
-            → text.now ≡ canonical_line x.setup.names (asked.Work work) → DoesNotCome x (Admits session ordinal work) line.now) }
+            → text.now ≡ canonical_line x.setup.names (asked.Work work)
+            → DoesNotCome x (Admits session ordinal work) line.now) }
         ensures marks { IfOk result (λ right. right ≡ true → self.new.marks ≡ self.old.marks) }
     {
         let Some(work) = work_of(self.alloc, self.setup.names(), text)? else {
@@ -214,7 +222,8 @@ impl Replayer {
 
     /// Has the monitor answer the places up to this one.
     fn feed_to(&mut self, n: u32) -> Result<(), AllocError>
-        requires { (x : State) × KeepsAt x self.old × AreForetold (lost_later self.old.marks.items) x × (n < length x.order) }
+        requires { (x : State) × KeepsAt x self.old × AreForetold (lost_later self.old.marks.items) x
+            × (n < length x.order) }
         ensures keeps { OnOk result ((x : State) → KeepsAt x self.old → KeepsAt x self.new) }
         ensures told { OnOk result (n < length self.new.answers.items) }
         ensures marks { OnOk result (self.new.marks ≡ self.old.marks) }
@@ -237,7 +246,8 @@ impl Replayer {
     fn words(&self, n: u32) -> Option<Words>
         requires told { n < length self.now.answers.items }
         requires keeps { (x : State) × KeepsAt x self.now }
-        ensures words { (x : State) → KeepsAt x self.now → AreForetold (lost_later self.now.marks.items) x → MayStart x n → AreWords x n (lost_later self.now.marks.items n) result }
+        ensures words { (x : State) → KeepsAt x self.now → AreForetold (lost_later self.now.marks.items) x
+            → MayStart x n → AreWords x n (lost_later self.now.marks.items n) result }
         ensures known { IfSome result (KnowsWords self.now.setup) }
     {
         what_is_at_hand_rests_on_ended_places();
@@ -249,7 +259,8 @@ impl Replayer {
     /// Starts a place: it runs from now on, or has ended.
     fn begin(&mut self, n: u32, runs: bool)
         requires { (x : State) × KeepsAt x self.old × MayStart x n }
-        ensures keeps { (x : State) → KeepsAt x self.old → MayStart x n → is_done (past_at x n).answer ≡ runs → KeepsAt (change x (Starts n)) self.new }
+        ensures keeps { (x : State) → KeepsAt x self.old → MayStart x n → is_done (past_at x n).answer ≡ runs
+            → KeepsAt (change x (Starts n)) self.new }
         ensures marks { self.new.marks ≡ self.old.marks }
     {
         claims_go_by_number();
@@ -267,8 +278,10 @@ impl Replayer {
     fn start(&mut self, n: u32, line: &[u8]) -> Result<bool, AllocError>
         requires plain { HasNo 10 line.now }
         requires ready { IsReady self.old line.now }
-        ensures right { IfOk result (λ right. right ≡ true → (x : State) (rest : List ℕ) → Replays self.old x (line.now ++ 10 ∷ rest) → HasCome x (Starts n) line.now self.new) }
-        ensures wrong { IfOk result (λ right. right ≡ false → (x : State) (rest : List ℕ) → Replays self.old x (line.now ++ 10 ∷ rest) → DoesNotCome x (Starts n) line.now) }
+        ensures right { IfOk result (λ right. right ≡ true → (x : State) (rest : List ℕ)
+            → Replays self.old x (line.now ++ 10 ∷ rest) → HasCome x (Starts n) line.now self.new) }
+        ensures wrong { IfOk result (λ right. right ≡ false → (x : State) (rest : List ℕ)
+            → Replays self.old x (line.now ++ 10 ∷ rest) → DoesNotCome x (Starts n) line.now) }
         ensures marks { IfOk result (λ right. right ≡ true → self.new.marks ≡ self.old.marks) }
     {
         the_order_has_room();
@@ -288,10 +301,12 @@ impl Replayer {
 
     /// Ends a running place: its children enter.
     fn finish(&mut self, n: u32) -> Result<(), AllocError>
-        requires runs { (x : State) × KeepsAt x self.old × AreForetold (lost_later self.old.marks.items) x × IsTrue (runs x n) }
+        requires runs { (x : State) × KeepsAt x self.old × AreForetold (lost_later self.old.marks.items) x
+            × IsTrue (runs x n) }
         requires kept { lost_later self.old.marks.items n ≡ false }
         requires told { n < length self.old.answers.items }
-        ensures keeps { OnOk result ((x : State) → KeepsAt x self.old → AreForetold (lost_later self.old.marks.items) x → IsTrue (runs x n)
+        ensures keeps { OnOk result ((x : State) → KeepsAt x self.old → AreForetold (lost_later self.old.marks.items) x
+            → IsTrue (runs x n)
             → KeepsAt (change x (Ends n)) self.new) }
         ensures marks { OnOk result (self.new.marks ≡ self.old.marks) }
     {
@@ -318,8 +333,10 @@ impl Replayer {
     fn end(&mut self, n: u32, line: &[u8]) -> Result<bool, AllocError>
         requires plain { HasNo 10 line.now }
         requires ready { IsReady self.old line.now }
-        ensures right { IfOk result (λ right. right ≡ true → (x : State) (rest : List ℕ) → Replays self.old x (line.now ++ 10 ∷ rest) → HasCome x (Ends n) line.now self.new) }
-        ensures wrong { IfOk result (λ right. right ≡ false → (x : State) (rest : List ℕ) → Replays self.old x (line.now ++ 10 ∷ rest) → DoesNotCome x (Ends n) line.now) }
+        ensures right { IfOk result (λ right. right ≡ true → (x : State) (rest : List ℕ)
+            → Replays self.old x (line.now ++ 10 ∷ rest) → HasCome x (Ends n) line.now self.new) }
+        ensures wrong { IfOk result (λ right. right ≡ false → (x : State) (rest : List ℕ)
+            → Replays self.old x (line.now ++ 10 ∷ rest) → DoesNotCome x (Ends n) line.now) }
         ensures marks { IfOk result (λ right. right ≡ true → self.new.marks ≡ self.old.marks) }
     {
         the_order_has_room();
@@ -353,8 +370,10 @@ impl Replayer {
     /// Takes the loss of a place.
     fn lose(&mut self, n: u32, line: &[u8]) -> Result<bool, AllocError>
         requires { IsReady self.old line.now }
-        ensures right { IfOk result (λ right. right ≡ true → (x : State) → KeepsAt x self.old → HasCome x (Loses n) line.now self.new) }
-        ensures wrong { IfOk result (λ right. right ≡ false → (x : State) → KeepsAt x self.old → DoesNotCome x (Loses n) line.now) }
+        ensures right { IfOk result (λ right. right ≡ true → (x : State) → KeepsAt x self.old
+            → HasCome x (Loses n) line.now self.new) }
+        ensures wrong { IfOk result (λ right. right ≡ false → (x : State) → KeepsAt x self.old
+            → DoesNotCome x (Loses n) line.now) }
         ensures marks { IfOk result (λ right. right ≡ true → self.new.marks ≡ self.old.marks) }
     {
         if !self.may_lose(n) {

@@ -25,8 +25,8 @@ fn answer_words(answer: &Answer) -> Option<Words>
     }
 }
 
-/// What a start says of a place that may start. A place that is lost later is not answered, but the policy's fault tells
-/// whether it runs: it must, since otherwise it would end at its start.
+/// What a start says of a place that may start. A place that is lost later is not answered, but the policy's fault
+/// tells whether it runs: it must, since otherwise it would end at its start.
 pub fn start_words(
     monitor: &Monitor,
     answers: &[Answer],
@@ -35,9 +35,12 @@ pub fn start_words(
     n: u32,
 ) -> Option<Words>
     requires { n < length answers.now }
-    ensures words { (x : State) (marks : ℕ → Bool) → IsFed x.setup marks (map unnamed x.order) monitor.now answers.now → AreForetold marks x
-        → RestsOnEndedPlaces x → MayStart x n → later ≡ marks n → rule ≡ is_rule (past_at x n).task → AreWords x n later result }
-    ensures known { (setup : AnySetup) (marks : ℕ → Bool) (order : List Entry) → IsFed setup marks order monitor.now answers.now
+    ensures words { (x : State) (marks : ℕ → Bool) → IsFed x.setup marks (map unnamed x.order) monitor.now answers.now
+        → AreForetold marks x
+        → RestsOnEndedPlaces x → MayStart x n → later ≡ marks n → rule ≡ is_rule (past_at x n).task
+        → AreWords x n later result }
+    ensures known { (setup : AnySetup) (marks : ℕ → Bool) (order : List Entry)
+        → IsFed setup marks order monitor.now answers.now
         → IfSome result (KnowsWords setup) }
 {
     if later {

@@ -69,7 +69,8 @@ AskNothing count seats = (i : ℕ) (d : Seat) → i < count → (get_or seats i 
 -- of the first ones each whose session is open was told of
 abbrev pub AreTold : ℕ → List Seat → List (Option (ℕ × ℕ)) → Type 0
 AreTold count seats sessions =
-    (i : ℕ) (d : Seat) (e : Option (ℕ × ℕ)) → i < count → (get_or seats i d).greeted ≡ false → get_or sessions i e ≡ None
+    (i : ℕ) (d : Seat) (e : Option (ℕ × ℕ)) → i < count → (get_or seats i d).greeted ≡ false
+    → get_or sessions i e ≡ None
 
 -- the same connections, of which the same were told
 pub record IsSame (old new : Table) : Type 0 where

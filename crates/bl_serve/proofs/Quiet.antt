@@ -1,14 +1,10 @@
 -- Passes that keep quiet.
-use Rattle.std.proofs.Common.{refl}
 use Rattle.bl_hall.specs.Chronicle.{HasTrail}
 use Rattle.bl_gate.specs.Gates.{PassView, Follows, hall_seen}
-use Rattle.bl_gate.proofs.Following.{follows_itself, follows_then}
+use Rattle.bl_gate.proofs.Following.{follows_then}
 use Rattle.bl_worker.specs.Turns.{AddsTurnsAlone}
-use Rattle.bl_worker.proofs.Adding.{adds_itself, adds_then}
+use Rattle.bl_worker.proofs.Adding.{adds_then}
 use Rattle.bl_serve.specs.Courses.{KeepsQuiet}
-
-pub quiet_itself : (p : PassView) → KeepsQuiet p p
-quiet_itself p = record { follows = follows_itself p; adds = adds_itself _ p p refl; trail = λ legal. legal }
 
 -- one call or one turn
 pub quiet_once : (p q : PassView) → Follows p q → AddsTurnsAlone p q → HasTrail (hall_seen q) → KeepsQuiet p q

@@ -1,10 +1,9 @@
 -- Laws of the replies that a session was told: which of them are to a line, and that what comes later doesn't change them.
-use Rattle.std.proofs.Common.{◌≡◌, ℕ, suc, ◌+◌, ◌⊎◌, inl, inr, length-append, ◌<◌, ◌≤◌, ◌==◌, Bool, true, false, if◌then◌else◌, List, [], ◌∷◌, ◌++◌, length, map, take, drop, length-drop, refl, sym, ap, subst, ◌∙◌, append-nil, arith, nat_lt, get_or, All, codes}
+use Rattle.std.proofs.Common.{◌≡◌, ℕ, ◌+◌, ◌⊎◌, inl, inr, ◌<◌, ◌≤◌, ◌==◌, Bool, true, false, if◌then◌else◌, List, [], ◌∷◌, ◌++◌, length, map, take, drop, length-drop, refl, sym, ap, subst, ◌∙◌, append-nil, arith, nat_lt, get_or, All, codes}
 use Rattle.std.specs.List.{flat_map}
-use Rattle.std.proofs.lemmas.List.{map-append, get_or-drop, get_or-take, take_more, length-take, take-append-drop}
+use Rattle.std.proofs.lemmas.List.{get_or-drop, get_or-take, take_more, length-take, take-append-drop}
 use Rattle.std.proofs.Math.Seq.{drop-cons}
 use Rattle.std.proofs.lemmas.List.Elements.{All-append, All-cons, All-head, All-nil, All-tail, All-weaker, filter-append}
-use Rattle.std.proofs.lemmas.Grind.{flat_map-append}
 use Rattle.std.proofs.lemmas.Bool.Decides.{eqb_tells, nat_tests}
 use Rattle.bl_work.specs.Few.{items_of}
 use Rattle.bl_work.specs.Names.{KnownNames}
@@ -12,7 +11,6 @@ use Rattle.bl_hall.specs.declared.reply.Reply as owned
 use Rattle.bl_hall.specs.Told.{reply_of}
 use Rattle.bl_wire.specs.Named.{NamesAnswer}
 use Rattle.bl_wire.specs.Replies.{label_text, answer_text, reply_text, line_or_full}
-use Rattle.bl_wire.specs.Texts.{refusal}
 use Rattle.bl_serve.specs.Told.{ordinal_of, line_of, told_text, BeginsAbove, GoByLine, IsPage, IsTold}
 
 not_same : (n k : ℕ) → (n ≡ k → ⊥) → (n == k) ≡ false
@@ -100,40 +98,13 @@ line_until k at told above =
     ap (line_of k) (sym (take-append-drop at told))
     ∙ line_front k (take at told) (drop at told) (All-weaker (λ (r : owned.Reply). k < ordinal_of r) (λ (r : owned.Reply). ordinal_of r ≡ k → ⊥) (λ r lt is. omega (arith, lt, is)) (drop at told) above)
 
--- those before a place are to earlier lines
-pub line_before : (k n at : ℕ) (told : List owned.Reply) → n < k → All (λ r. ordinal_of r ≤ n) (take at told) → line_of k (take at told) ≡ []
-line_before k n at told lt low =
-    none_to k (take at told) (All-weaker (λ (r : owned.Reply). ordinal_of r ≤ n) (λ (r : owned.Reply). ordinal_of r ≡ k → ⊥) (λ r le is. omega (arith, le, lt, is)) (take at told) low)
-
 -- ---- texts
-
--- the text of one reply more
-pub text_on : (names : KnownNames) (told : List owned.Reply) (r : owned.Reply)
-    → flat_map (reply_text names) (map reply_of (told ++ r ∷ [])) ≡ flat_map (reply_text names) (map reply_of told) ++ reply_text names (reply_of r)
-text_on names told r =
-    ap (flat_map (reply_text names)) (map-append reply_of told (r ∷ []))
-    ∙ flat_map-append (reply_text names) (map reply_of told) (reply_of r ∷ [])
-    ∙ ap (λ l. flat_map (reply_text names) (map reply_of told) ++ l) (append-nil (reply_text names (reply_of r)))
 
 -- a line with replies, and one without
 pub text_some : (names : KnownNames) (k : ℕ) (replies : List owned.Reply) → nat_lt 0 (length replies) ≡ true
     → flat_map (reply_text names) (map reply_of replies) ≡ line_or_full names k (map reply_of replies)
 text_some names k [] some = cc
 text_some names k (r ∷ replies) some = refl
-
-pub text_none : (names : KnownNames) (k : ℕ) (replies : List owned.Reply) → nat_lt 0 (length replies) ≡ false
-    → line_or_full names k (map reply_of replies) ≡ flat_map (reply_text names) (map reply_of replies) ++ refusal k (codes "full")
-text_none names k [] none = refl
-text_none names k (r ∷ replies) none = absurd (long (length replies) none)
-  where
-    long : (n : ℕ) → nat_lt 0 (suc n) ≡ false → ⊥
-    long n none = grind (arith, nat_tests)
-
-pub some_more : (l : List owned.Reply) (r : owned.Reply) → true ≡ nat_lt 0 (length (l ++ r ∷ []))
-some_more l r = let long = length-append l (r ∷ []) in sym (is_less (length (l ++ r ∷ [])) (omega (arith, long)))
-  where
-    is_less : (n : ℕ) → 0 < n → nat_lt 0 n ≡ true
-    is_less n lt = grind (arith, nat_tests)
 
 -- a label that begins so
 pub labelled : (reply : owned.Reply) (n : ℕ) (path : List ℕ) (names : KnownNames) → items_of reply.label ≡ n ∷ path

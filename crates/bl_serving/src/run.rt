@@ -43,8 +43,8 @@ use std::thread::Threads;
 use std::time::Clock;
 
 /// What a run was asked for: the weight of the lines that are admitted at most, 1 to 100,000, how many threads and
-/// sessions there are, and whether session threads go on while a line is being kept, as is worth it where that waits for
-/// a disk.
+/// sessions there are, and whether session threads go on while a line is being kept, as is worth it where that waits
+/// for a disk.
 #[derive(Clone, Copy)]
 pub struct ServingRun {
     pub limit: u32,

@@ -4,7 +4,7 @@ use Rattle.std.specs.Prelude.{All, IsTrue, drop, Some, None, Option}
 use Rattle.std.specs.List.{flat_map}
 use Rattle.std.specs.Option.{is_some}
 use Rattle.std.proofs.lemmas.Bool.Decides.{nat_tests}
-use Rattle.std.proofs.lemmas.List.{drop_more, drop_all}
+use Rattle.std.proofs.lemmas.List.{drop_more}
 use Rattle.bl_work.specs.Names.{KnownNames}
 use Rattle.bl_order.specs.Machine.{State, has_ended}
 use Rattle.bl_order.specs.Labels.{Reply, Tag, tag, put_in, is_before, is_of, replies_to}
@@ -166,16 +166,6 @@ pub left_more : (x : State) (block later : Block) (d : ℕ) → block.next < len
 left_more x block later d lt same next =
     ap (map (reply_in x)) (drop_more block.places.items block.next d lt)
     ∙ ap (λ l. reply_in x (slice_index_or block.places.items block.next d) ∷ map (reply_in x) l) (ap (λ l. drop (block.next + 1) l) (sym same) ∙ ap (λ k. drop k later.places.items) (sym next))
-
-pub none_left : (x : State) (block : Block) → length block.places.items ≤ block.next → left_in x block ≡ []
-none_left x block le = ap (map (reply_in x)) (drop_all block.next block.places.items le)
-
--- a place whose line is above an ordinal is not in front
-pub not_in_front : (x : State) (block : Block) (n p : ℕ) → block.next < length block.places.items → slice_index_or block.places.items block.next 0 ≡ p → n < line_of (reply_in x p) → up_to n (left_in x block) ≡ []
-not_in_front x block n p lt is far =
-    ap (λ l. up_to n (map (reply_in x) l)) (drop_more block.places.items block.next 0 lt)
-    ∙ ap (λ b. cond b (reply_in x (slice_index_or block.places.items block.next 0) ∷ up_to n (map (reply_in x) (drop (block.next + 1) block.places.items))) [])
-    (ap (λ q. nat_le (line_of (reply_in x q)) n) is ∙ no (line_of (reply_in x p)) n far)
 
 module _ (x : State) (block later : Block) (n p : ℕ) (f : IsInFront x block n (Some p)) (same : later.places.items ≡ block.places.items) (next : later.next ≡ block.next + 1) where
   left_step : left_in x block ≡ reply_in x p ∷ left_in x later

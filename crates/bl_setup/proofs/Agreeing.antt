@@ -2,9 +2,9 @@
 use Rattle.std.proofs.Common.{◌≡◌, ℕ, zero, suc, ◌+◌, Bool, false, List, [], ◌∷◌, ◌++◌, length, length-append, get_or, Option, Some, None, unwrap_or, refl, sym, ap, subst, ◌∙◌, arith}
 use Rattle.std.specs.Prelude.{IsTrue, is_some}
 use Rattle.bl_level.specs.Scheme.{SchemeNames}
-use Rattle.bl_declare.specs.Declaration.{SubjectText, DocumentText, AllowText}
+use Rattle.bl_declare.specs.Declaration.{SubjectText, DocumentText}
 use Rattle.bl_setup.specs.Agreement.{Agree, of_scheme}
-use Rattle.bl_setup.specs.Grammar.{AddsSubject, AddsDocument, AddsModes}
+use Rattle.bl_setup.specs.Grammar.{AddsSubject, AddsDocument}
 use Rattle.bl_setup.specs.Setup.{Setup}
 
 one_longer : {X Y : Type 0} (xs : List X) (ys : List Y) (x : X) (y : Y) → length xs ≡ length ys → length (xs ++ x ∷ []) ≡ length (ys ++ y ∷ [])
@@ -50,14 +50,4 @@ agree_document before d after h a =
       presence = one_longer before.names.documents before.policy.present _ _ h.presence;
       contents = one_longer before.names.documents before.contents _ _ h.contents;
       absent = empty_more before.policy.present before.contents d.content (sym h.presence ∙ h.contents) h.absent;
-    })
-
-pub agree_modes : (before : Setup) (m : AllowText) (after : Setup) → Agree before → AddsModes before m after → Agree after
-agree_modes before m after h a =
-    subst Agree (sym a.is) (record {
-      subjects = h.subjects;
-      documents = h.documents;
-      presence = h.presence;
-      contents = h.contents;
-      absent = h.absent;
     })

@@ -11,7 +11,7 @@ use Rattle.bl_setup.specs.Setup.{Setup}
 use Rattle.bl_setup.specs.Taking.{AreSkipped, Skips, Takes, EndsEarly, Stops, Refuses}
 use Rattle.bl_declare.specs.declared.fault.SetupFault.{SetupFault}
 use Rattle.bl_declare.specs.declared.fault.SetupFaultKind.{SetupFaultKind}
-use Rattle.bl_declare.specs.declared.fault.SetupFaultKind.TheVariants.{Syntax, Unknown, Repeated, Memory}
+use Rattle.bl_declare.specs.declared.fault.SetupFaultKind.TheVariants.{Unknown, Repeated, Memory}
 use Rattle.bl_setup.proofs.FaultLemmas.{fails_in_time}
 use Rattle.bl_setup.proofs.FirstLemmas.{fault_is_no_setup}
 use Rattle.bl_setup.proofs.WholeLemmas.{one_spelled}
@@ -19,10 +19,6 @@ use Rattle.bl_setup.proofs.WholeLemmas.{one_spelled}
 one_more_skipped : (front : List (List ℕ)) (line : List ℕ) → AreSkipped front → is_skipped line ≡ true → AreSkipped (front ++ line ∷ [])
 one_more_skipped [] line s e = (e, tt)
 one_more_skipped (x ∷ front) line s e = (s.0, one_more_skipped front line s.1 e)
-
--- nothing is skipped yet
-pub skips_none : (count : ℕ) (lines : List (List ℕ)) → Skips count lines count lines
-skips_none count lines = record { front = []; split = refl; skipped = tt; counted = omega arith }
 
 -- a line more is skipped
 pub skips_more : (count : ℕ) (lines : List (List ℕ)) (number : ℕ) (line : List ℕ) (rest : List (List ℕ)) → Skips count lines number (line ∷ rest) → is_skipped line ≡ true
@@ -157,10 +153,6 @@ stopped_refuses bytes fault (inr f) = inr (λ setup s. fault_is_no_setup bytes s
 pub spells_nothing : (s : SoFar) (line : List ℕ) (kind : SetupFaultKind) → OfSyntax kind ((d : Declaration) → Begins line (spell_declaration d) [] → ⊥) → UnlessMemory kind (LineFault s line kind)
 spells_nothing s line kind (inl m) = inl m
 spells_nothing s line kind (inr f) = inr (inl (f.0, λ d spelled due. f.1 d spelled))
-
--- a line that spells what is not due
-pub spells_undue : (s : SoFar) (line : List ℕ) (d : Declaration) → Begins line (spell_declaration d) [] → (IsDue s d → ⊥) → UnlessMemory Syntax (LineFault s line Syntax)
-spells_undue s line d spelled undue = inr (inl (refl, λ e spelled' due. undue (subst (IsDue s) (one_spelled line e d spelled' spelled) due)))
 
 -- a line that spells a declaration that is refused
 pub line_refused : (s : SoFar) (line : List ℕ) (d : Declaration) (kind : SetupFaultKind) → Begins line (spell_declaration d) [] → UnlessMemory kind (Refuses s d kind)

@@ -62,10 +62,6 @@ line_adds_one b line x y (d, s, p) (e, t, q) =
     let same = one_spelled line e d t s in
     adds_one b d x y p (subst (λ z. Adds b z y) same q)
 
--- nothing is left
-pub remain_none : (lines : List (List ℕ)) (s : Setup) → lines ≡ [] → Remain lines s s
-remain_none lines s e = rw e (record { declarations = []; spelled = refl; leads = refl })
-
 pub remain_same : (lines : List (List ℕ)) (s after : Setup) → lines ≡ [] → Remain lines s after → after ≡ s
 remain_same lines s after e r = go lines e r.declarations r.spelled r.leads
   where

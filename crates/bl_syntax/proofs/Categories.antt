@@ -23,9 +23,6 @@ pub record Listed (categories : List (List ℕ)) (whole rest : List Tok) : Type 
   pub are : categories ≡ first ∷ more
   pub split : whole ≡ sign Open ∷ name first ∷ (commas more ++ rest)
 
-pub listed_one : (c : List ℕ) (whole behind rest : List Tok) → whole ≡ sign Open ∷ behind → behind ≡ name c ∷ rest → Listed (c ∷ []) whole rest
-listed_one c whole behind rest e f = record { first = c; more = []; are = refl; split = e ∙ ap (λ ts. sign Open ∷ ts) f }
-
 commas_push : (categories : List (List ℕ)) (c : List ℕ) (ts : List Tok) → commas (categories ++ c ∷ []) ++ ts ≡ commas categories ++ sign Comma ∷ name c ∷ ts
 commas_push [] c ts = refl
 commas_push (x ∷ categories) c ts = ap (λ us. sign Comma ∷ name x ∷ us) (commas_push categories c ts)

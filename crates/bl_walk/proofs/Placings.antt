@@ -6,7 +6,7 @@ use Rattle.std.specs.Str.{bytes_eq}
 use Rattle.std.proofs.lemmas.Bool.{and_parts, and_from, or_cases, or_left, or_right, eq-eqb}
 use Rattle.std.proofs.lemmas.Bool.Decides.{Decides-eqb}
 use Rattle.std.proofs.lemmas.Slice.Eq.{bytes_eq-Decides}
-use Rattle.std.proofs.lemmas.List.Elements.{All-cons, All-nil, All-head, All-tail, All-push, All-contains}
+use Rattle.std.proofs.lemmas.List.Elements.{All-cons, All-nil, All-head, All-tail, All-push}
 use Rattle.bl_level.specs.Table.{place_of}
 use Rattle.bl_level.specs.Lexing.{token, front, past_blanks}
 use Rattle.bl_level.specs.Token.{Tok, reserved, name, sign}
@@ -21,7 +21,7 @@ use Rattle.bl_work.specs.Modes.{declares}
 use Rattle.bl_work.specs.Names.{KnownNames, AreNames}
 use Rattle.bl_work.specs.Spelled.{SpelledAccess, mode_word, spell_access, spell_more}
 use Rattle.bl_work.specs.WhenFaults.{documents_in, declarations_behind, Declaration, IsOnce, IsDeclared}
-use Rattle.bl_walk.specs.Placed.{name_at, IsPlaced, IsOfDocument, spelled_access, spelled_accesses, spell_accesses, TakesAccess, TakesAccesses, TakesDeclared}
+use Rattle.bl_walk.specs.Placed.{name_at, IsPlaced, IsOfDocument, spelled_access, spelled_accesses, spell_accesses, TakesAccess, TakesAccesses}
 use Rattle.bl_walk.specs.Takes.{IsCut, Takes}
 use Rattle.bl_walk.proofs.Takings.{takes_join, takes_then}
 use Rattle.bl_work.specs.Script.{most_accesses}
@@ -168,12 +168,3 @@ declared_by test (x ∷ xs) zero a lt at passes =
     (and_from (x.doc == a.doc) (test x.mode) (eq-eqb x.doc a.doc (ap (λ (y : Access). y.doc) at)) (ap (λ (y : Access). test y.mode) at ∙ passes))
 declared_by test (x ∷ xs) (suc k) a lt at passes =
     or_right ((x.doc == a.doc) && test x.mode) (declares test xs a.doc) (declared_by test xs k a (omega (arith, lt)) at passes)
-
--- a document that one of the accesses declares as is asked
-pub declared_taken : (names : KnownNames) (accesses : List Access) (test : Mode → Bool) (bytes rest : List ℕ) (a : Access) → All (IsOfDocument names) accesses
-    → Contains accesses a → test a.mode ≡ true → Takes bytes (name (name_at names a.doc) ∷ []) rest → TakesDeclared names accesses test bytes rest a.doc
-declared_taken names accesses test bytes rest a are there passes t = record {
-  placed = All-contains (IsOfDocument names) accesses a are there;
-  declared = declared_by test accesses there.0 a there.1 there.2 passes;
-  takes = t;
-}

@@ -1,6 +1,6 @@
 -- Batches of entries in hand, step by step.
-use Rattle.std.proofs.Common.{◌≡◌, ◌≢◌, ℕ, ◌+◌, ◌<◌, ◌≤◌, ◌⊎◌, Bool, length, inl, inr, List, [], ◌∷◌, ◌++◌, map, true, false, true≢false, refl, sym, ap, ◌∙◌, subst, arith, append_assoc, append-nil}
-use Rattle.std.specs.Prelude.{◌==◌, ◌↔◌, All, IsSome, IsTrue, MatchBool, MatchResult, Option, reverse, Result, Ok, Err}
+use Rattle.std.proofs.Common.{◌≡◌, ◌≢◌, ℕ, ◌+◌, ◌<◌, ◌≤◌, ◌⊎◌, Bool, length, inl, inr, List, [], ◌∷◌, ◌++◌, map, true, false, refl, sym, ap, ◌∙◌, subst, arith, append_assoc, append-nil}
+use Rattle.std.specs.Prelude.{◌==◌, All, IsTrue, MatchBool, MatchResult, reverse, Result, Ok, Err}
 use Rattle.std.proofs.lemmas.Bool.Decides.{nat_tests}
 use Rattle.std.proofs.lemmas.List.{map-append, reverse-append}
 use Rattle.std.proofs.lemmas.List.Elements.{All-nil, All-cons, All-head, All-tail, All-push, All-weaker}
@@ -258,12 +258,6 @@ one_ended false now was count more after before none is = omega (arith, before, 
 pub one_held : (over : Bool) (now was count more after : ℕ) → AreInHand over now was count → more ≡ 1 → after ≡ now + more → AreInHand over after was (count + 1)
 one_held true now was count more after before one is = omega (arith, before, one, is)
 one_held false now was count more after before one is = omega (arith, before, one, is)
-
--- where some have ended, that is to be rung
-pub rung_if : {E : Type 0} (ended : Option E) (over : Bool) (now was count : ℕ) → AreInHand over now was count → IsSome ended ↔ IsTrue over
-    → (IsSome ended ↔ (now < was + count)) × (now ≤ was + count)
-rung_if ended true now was count held (to, from) = ((λ _. held, λ _. from refl), omega (arith, held))
-rung_if ended false now was count held (to, from) = ((λ is. absurd (true≢false (sym (to is))), λ few. absurd (omega (arith, held, few))), omega (arith, held))
 
 -- ---- what was begun and is over
 

@@ -4,7 +4,7 @@ use Rattle.std.specs.Prelude.{IsTrue, slice_get}
 use Rattle.bl_order.specs.Machine.{State, Starts, has_ended}
 use Rattle.bl_hall.specs.Chronicle.{HasTrail}
 use Rattle.bl_gate.specs.Counts.{times}
-use Rattle.bl_gate.specs.Gates.{PassView, Calls, Follows, HasLoanInHand, KeepsInHand, hall_seen, state_seen}
+use Rattle.bl_gate.specs.Gates.{PassView, Calls, Follows, HasLoanInHand, hall_seen, state_seen}
 use Rattle.bl_gate.proofs.Totals.{times-append}
 use Rattle.bl_gate.proofs.Trails.{begins_length, get_sooner}
 use Rattle.bl_gate.proofs.Following.{calls_from}
@@ -115,12 +115,6 @@ module _ (p t u q : PassView) (follows : Follows p t) (own : t.own ≡ p.own) (l
       ran last
 
 -- ---- hands
-
--- what was in hand where a turn began
-pub hand_kept : (p q : PassView) (hand : Hand) → KeepsInHand p q → HasInHand p hand → HasInHand q hand
-hand_kept p q Empty keeps held = tt
-hand_kept p q (Ran done) keeps held = keeps done held
-hand_kept p q (Failed unrun) keeps held = keeps unrun held
 
 -- what was run is in hand
 pub hand_of : (p : PassView) (lent : Loan) (hand : Hand) → IsHandOf lent hand → HasLoanInHand p lent → HasInHand p hand

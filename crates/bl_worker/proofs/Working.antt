@@ -16,8 +16,7 @@ use Rattle.bl_core.specs.declared.machine.Started.TheVariants as begun
 use Rattle.bl_gate.specs.Gates.{PassView, Calls, Follows, hall_seen, state_seen}
 use Rattle.bl_worker.specs.declared.turn.Turn.{Turn}
 use Rattle.bl_worker.specs.declared.turn.Turn.TheVariants.{Idle, Missed, Denied, Done, Lost}
-use Rattle.bl_worker.specs.Turns.{Closes, HasEndedAs, HasRun, HasWorked, IsDenied, IsDoneOrRuleDone, IsLost, IsTurnOf, Settles, WasTaken, has_begun}
-use Rattle.bl_worker.specs.Hands.{IsNoMiss}
+use Rattle.bl_worker.specs.Turns.{Closes, HasEndedAs, HasWorked, IsDenied, IsDoneOrRuleDone, IsLost, Settles, has_begun}
 use Rattle.bl_gate.proofs.Passing.{lost_moves}
 use Rattle.bl_worker.proofs.Settling.{happened, of_start, passes_later, settles_call, settles_calls}
 
@@ -77,13 +76,6 @@ taken p q r n follows legal follows' legal' may no_more = (had_not (has_begun (s
 
 -- ---- turns
 
-pub ran_worked : (p q : PassView) (t : Turn) → HasRun q t → HasWorked p q t
-ran_worked p q Idle h = absurd h
-ran_worked p q (Missed n) h = absurd h
-ran_worked p q (Denied n) h = absurd h
-ran_worked p q (Done n) h = h
-ran_worked p q (Lost n) h = h
-
 -- what was done from a pass that owns as much
 pub worked_from : (p q r : PassView) (t : Turn) → q.own ≡ p.own → HasWorked q r t → HasWorked p r t
 worked_from p q r Idle same h = (h.0 ∙ same, h.1)
@@ -91,15 +83,6 @@ worked_from p q r (Missed n) same h = (h.0 ∙ same, h.1)
 worked_from p q r (Denied n) same h = h
 worked_from p q r (Done n) same h = h
 worked_from p q r (Lost n) same h = h
-
--- an entry that was ready at one moment of the turn, and was missed
-pub was_taken : (p q r : PassView) (n : ℕ) (t : Turn) → Follows p q → HasTrail (hall_seen q) → Follows q r → HasTrail (hall_seen r) → MayStart (state_seen q) n
-    → IsTurnOf n t → HasWorked q r t → WasTaken p r t
-was_taken p q r n Idle follows legal follows' legal' may of h = tt
-was_taken p q r n (Missed m) follows legal follows' legal' may of h = taken p q r m follows legal follows' legal' (subst (MayStart (state_seen q)) (sym of) may) h.1
-was_taken p q r n (Denied m) follows legal follows' legal' may of h = tt
-was_taken p q r n (Done m) follows legal follows' legal' may of h = tt
-was_taken p q r n (Lost m) follows legal follows' legal' may of h = tt
 
 -- the pass's own event after the start has ended what was started
 pub settles_run : (p q r : PassView) (n : ℕ) (A : State → Type 0) → Calls p (Starts n) A q → Follows q r → Closes n q r → Settles p r
@@ -160,18 +143,3 @@ settles_loss p q n A call = settles_call p q (Loses n) A call (λ k e. absurd (n
 
 pub settles_end : (p q : PassView) (n : ℕ) (A : State → Type 0) → Calls p (Ends n) A q → Settles p q
 settles_end p q n A call = settles_call p q (Ends n) A call (λ k e. absurd (no_start_is_end n k (let h : Ends n ≡ Starts k = cc in h)))
-
--- who missed nothing has nothing to tell of another
-pub no_miss_taken : (p q : PassView) (t : Turn) → IsNoMiss t → WasTaken p q t
-no_miss_taken p q Idle h = tt
-no_miss_taken p q (Missed n) h = absurd h
-no_miss_taken p q (Denied n) h = tt
-no_miss_taken p q (Done n) h = tt
-no_miss_taken p q (Lost n) h = tt
-
-pub ran_missed_none : (q : PassView) (t : Turn) → HasRun q t → IsNoMiss t
-ran_missed_none q Idle h = absurd h
-ran_missed_none q (Missed n) h = absurd h
-ran_missed_none q (Denied n) h = absurd h
-ran_missed_none q (Done n) h = tt
-ran_missed_none q (Lost n) h = tt

@@ -97,8 +97,8 @@ fn run_one(alloc: Global, turn: &mut AtGate<'_>, n: u32)
 }
 
 /// Runs entries that are ready and short to run, whosever, one after another, each from its start to its end in the
-/// turn: while they run the gate is not free. It stops where none is ready, the next one is long, or 256 were run. Where
-/// there was any, that is to be rung.
+/// turn: while they run the gate is not free. It stops where none is ready, the next one is long, or 256 were run.
+/// Where there was any, that is to be rung.
 pub fn run_short(alloc: Global, turn: &mut AtGate<'_>) -> Option<EndToRing>
     requires trail { HasTrail (hall_seen turn.old) }
     ensures follows { Follows turn.old turn.new }
