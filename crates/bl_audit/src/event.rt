@@ -14,13 +14,14 @@ ghost use Rattle.bl_trail.specs.TrueText.{HasNoLf};
 ghost use Rattle.bl_audit.specs.Comes.{Comes, HasLine, NumbersFit, lines_from, words_later};
 ghost use Rattle.bl_audit.specs.Written.{AppendsPart, WroteLine, is_write};
 
-use crate::plain::{answer_is_plain, set_work};
+use crate::plain::{answer_is_plain, work_is_plain};
 use bl_core::machine::Core;
 use bl_core::session::SessionNo;
 use bl_hall::event::Event;
-use bl_trail::text::{Words, put_end, put_line, put_loss, put_open, put_start};
+use bl_trail::text::{Words, put_end, put_line, put_loss, put_open, put_short_line, put_start};
 use bl_wire::watched::Watched;
 use bl_work::answer::Answer;
+use bl_work::names::Names;
 use bl_work::work::Work;
 use bl_write::write::Text;
 use std::alloc::AllocError;
@@ -62,6 +63,30 @@ fn start_words(answer: Option<&Answer>) -> Words
     }
 }
 
+/// Writes the line of a session that asks this work. An error comes only where a growth is refused, before anything is
+/// written.
+fn put_work_line<W: Write>(
+    text: &mut Text,
+    writer: &mut Watched<W>,
+    names: &Names,
+    session: u32,
+    ordinal: u32,
+    work: &Work,
+) -> Result<(), AllocError>
+    requires { IsReadable names.now work.now }
+    ensures ok { OnOk result (Puts ((codes "line " ++ (decimal session
+        ++ (32 ∷ (decimal ordinal ++ (32 ∷ canonical_line names.now (asked.Work work.now)))))) ++ 10 ∷ [])
+        (end_state W.contents writer.old) (end_state W.contents writer.new)) }
+    ensures err { OnErr result (writer.new ≡ writer.old) }
+{
+    if put_short_line(writer, names, session, ordinal, work) {
+        return Ok(());
+    }
+    text.set_work(names, work)?;
+    put_line(writer, session, ordinal, text.bytes());
+    Ok(())
+}
+
 /// Writes the line of the next work of a session, which is the first one at or after a place, and answers the place
 /// after it. An error comes only where a growth is refused, before anything is written.
 fn put_next_line<W: Write>(
@@ -87,8 +112,9 @@ fn put_next_line<W: Write>(
     let Some((n, work)) = line_from(core, at) else {
         unreachable!()
     };
-    set_work(text, core.names(), work)?;
-    put_line(writer, session.number(), ordinal, text.bytes());
+    let names = core.names();
+    work_is_plain(names, work);
+    put_work_line(text, writer, names, session.number(), ordinal, work)?;
     Ok(n + 1)
 }
 

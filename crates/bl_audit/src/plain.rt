@@ -1,5 +1,4 @@
 //! That the texts of which a line is made have no LF.
-ghost use Rattle.std.specs.Prelude.{◌≡◌, OnOk};
 ghost use Rattle.bl_work.specs.declared.answer.Answer.TheVariants.{Done};
 ghost use Rattle.bl_work.specs.declared.asked.Line.TheVariants as asked;
 ghost use Rattle.bl_work.specs.Readable.{IsReadable};
@@ -12,8 +11,6 @@ use bl_work::answer::{Answer, Outputs};
 use bl_work::names::Names;
 use bl_work::work::Work;
 use bl_write::canonical::{canonical_works_read_again, lines_have_no_lf};
-use bl_write::write::Text;
-use std::alloc::AllocError;
 
 /// What was shown has no LF: it is looked at for the proof alone.
 fn outputs_are_plain(names: &Names, outputs: &Outputs)
@@ -40,16 +37,15 @@ pub(crate) fn answer_is_plain(names: &Names, answer: &Answer)
     }
 }
 
-/// Writes the canonical text of a work that some text reads as, in place of what was written before. An error comes
-/// only where a growth is refused.
-pub(crate) fn set_work(text: &mut Text, names: &Names, work: &Work) -> Result<(), AllocError>
+/// A work's canonical text has no LF: it is looked at for the proof alone.
+pub(crate) fn work_is_plain(names: &Names, work: &Work)
     requires { IsReadable names.now work.now }
-    ensures text { OnOk result (text.new.bytes ≡ canonical_line names.now (asked.Work work.now)) }
-    ensures plain { OnOk result (HasNoLf text.new.bytes) }
+    ensures { HasNoLf (canonical_line names.now (asked.Work work.now)) }
 {
     lines_have_no_lf();
     canonical_works_read_again();
     // asked for the proof alone: the names are a server's
     let _scheme = names.scheme();
-    text.set_work(names, work)
+    // the contract alone speaks of the work
+    let _ = work;
 }

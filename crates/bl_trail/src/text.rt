@@ -1,15 +1,17 @@
 //! The lines of events, each its text and an LF. A short one is written in one piece.
 ghost use Rattle.std.specs.Prelude.{◌≡◌, ◌<◌, ◌++◌, ◌∷◌, [], IfOk, IfSome, codes, decimal, false, length};
-ghost use Rattle.std.specs.Prelude.{slice_index_or};
+ghost use Rattle.std.specs.Prelude.{slice_index_or, true};
 ghost use Rattle.bl_wire.specs.Named.{NamesAnswer};
 ghost use Rattle.bl_wire.specs.Replies.{answer_text, output_text};
 ghost use Rattle.bl_wire.specs.Watch.{Puts, end_state};
 ghost use Rattle.bl_work.specs.Names.{KnownNames};
+ghost use Rattle.bl_work.specs.Readable.{IsReadable};
+ghost use Rattle.bl_work.specs.declared.asked.Line.TheVariants as asked;
 ghost use Rattle.bl_work.specs.declared.answer.Answer.TheVariants.{Done};
+ghost use Rattle.bl_write.specs.CanonicalLine.{canonical_line};
 ghost use Rattle.bl_trail.specs.StartWords.{NamesWords, words_text};
 ghost use Rattle.bl_trail.specs.TrueText.{head_lines, joined, version_line};
 
-use arrayvec::ArrayVec;
 use bl_policy::denial::Denial;
 use bl_policy::id::SubjectId;
 use bl_setup::version::Version;
@@ -18,6 +20,8 @@ use bl_wire::watched::Watched;
 use bl_wire::words::put_answer;
 use bl_work::answer::{Answer, Outputs};
 use bl_work::names::Names;
+use bl_work::work::Work;
+use bl_write::short::{ShortLine, with_work};
 use itoa::Buffer;
 use std::alloc::{AllocError, Global};
 use std::io::Write;
@@ -82,12 +86,6 @@ pub fn put_head<W: Write>(writer: &mut Watched<W>, version: Version, limit: u32)
     put(writer, b"\n");
 }
 
-/// How many bytes a line has at most that is put together before it is written.
-const MOST_TOGETHER: usize = 96;
-
-/// A short line, or a first part of it.
-type ShortLine = ArrayVec<u8, MOST_TOGETHER>;
-
 /// Adds a number in decimal, if there is room.
 fn add_number(line: &mut ShortLine, number: u32) -> Option<()>
     ensures { IfSome result (λ _. line.new.items ≡ line.old.items ++ decimal number) }
@@ -106,10 +104,11 @@ fn add_output(line: &mut ShortLine, text: &[u8]) -> Option<()>
     line.try_push(b'"').ok()
 }
 
-/// The line of a session whose work has this text, if it is short.
-fn short_line(session: u32, ordinal: u32, work: &[u8]) -> Option<ShortLine>
-    ensures { IfSome result (λ line. line.items
-        ≡ (codes "line " ++ (decimal session ++ (32 ∷ (decimal ordinal ++ (32 ∷ work.now))))) ++ 10 ∷ []) }
+/// The line of a session that asks this work, if it is short.
+fn short_line(names: &Names, session: u32, ordinal: u32, work: &Work) -> Option<ShortLine>
+    requires { IsReadable names.now work.now }
+    ensures { IfSome result (λ line. line.items ≡ (codes "line " ++ (decimal session
+        ++ (32 ∷ (decimal ordinal ++ (32 ∷ canonical_line names.now (asked.Work work.now)))))) ++ 10 ∷ []) }
 {
     let mut line = ShortLine::new();
     line.try_extend_from_slice(b"line ").ok()?;
@@ -117,7 +116,7 @@ fn short_line(session: u32, ordinal: u32, work: &[u8]) -> Option<ShortLine>
     line.try_push(b' ').ok()?;
     add_number(&mut line, ordinal)?;
     line.try_push(b' ').ok()?;
-    line.try_extend_from_slice(work).ok()?;
+    let mut line = with_work(line, names, work)?;
     line.try_push(b'\n').ok()?;
     Some(line)
 }
@@ -154,16 +153,33 @@ pub fn put_line<W: Write>(writer: &mut Watched<W>, session: u32, ordinal: u32, w
     ensures { Puts ((codes "line " ++ (decimal session ++ (32 ∷ (decimal ordinal ++ (32 ∷ work.now))))) ++ 10 ∷ [])
         (end_state W.contents writer.old) (end_state W.contents writer.new) }
 {
-    match short_line(session, ordinal, work) {
+    put_number_between(writer, b"line ", session, b" ");
+    put_number_between(writer, b"", ordinal, b" ");
+    put(writer, work);
+    put(writer, b"\n");
+}
+
+/// Writes the line of a session that asks this work, unless the writer has failed, and says `true`. Where the line is
+/// not short it writes nothing, and says `false`.
+pub fn put_short_line<W: Write>(
+    writer: &mut Watched<W>,
+    names: &Names,
+    session: u32,
+    ordinal: u32,
+    work: &Work,
+) -> bool
+    requires { IsReadable names.now work.now }
+    ensures put { result ≡ true → Puts ((codes "line " ++ (decimal session
+        ++ (32 ∷ (decimal ordinal ++ (32 ∷ canonical_line names.now (asked.Work work.now)))))) ++ 10 ∷ [])
+        (end_state W.contents writer.old) (end_state W.contents writer.new) }
+    ensures none { result ≡ false → writer.new ≡ writer.old }
+{
+    match short_line(names, session, ordinal, work) {
         Some(line) => {
             put(writer, line.as_slice());
+            true
         }
-        None => {
-            put_number_between(writer, b"line ", session, b" ");
-            put_number_between(writer, b"", ordinal, b" ");
-            put(writer, work);
-            put(writer, b"\n");
-        }
+        None => false,
     }
 }
 

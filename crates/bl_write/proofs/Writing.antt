@@ -1,5 +1,5 @@
 -- What is written token by token is the canonical text.
-use Rattle.std.proofs.Common.{◌≡◌, ℕ, Bool, List, [], ◌∷◌, ◌++◌, refl, sym, ap, ◌∙◌, append_assoc}
+use Rattle.std.proofs.Common.{◌≡◌, ℕ, Bool, false, List, [], ◌∷◌, ◌++◌, refl, sym, ap, ◌∙◌, append_assoc}
 use Rattle.std.specs.Prelude.{◌&&◌, if◌then◌else◌, Err, Ok, OnOk, Result}
 use Rattle.std.specs.List.{fold}
 use Rattle.std.proofs.lemmas.List.{append-nil}
@@ -29,6 +29,11 @@ written w (t ∷ ts) =
 pub written_is_canonical : (ts : List Tok) → (fold with_token nothing_written ts).bytes ≡ canonical ts
 written_is_canonical [] = refl
 written_is_canonical (t ∷ ts) = written nothing_written (t ∷ ts)
+
+-- the same behind other bytes, which end with no word
+pub written_behind : (before : List ℕ) (ts : List Tok) → (fold with_token (record { bytes = before; word = false }) ts).bytes ≡ before ++ canonical ts
+written_behind before [] = written (record { bytes = before; word = false }) []
+written_behind before (t ∷ ts) = written (record { bytes = before; word = false }) (t ∷ ts)
 
 -- what follows where a call went well
 pub on_ok : {T E : Type 0} (r : Result T E) (P Q : Type 0) → (P → Q) → OnOk r P → OnOk r Q

@@ -1,6 +1,7 @@
 //! The canonical text of a line, and which works some text reads as.
 //!
 //!     write        writes a line's canonical text
+//!     short        puts it into a short line, which takes no memory
 //!     knows        which works some text reads as
 //!     line_len     how long a line's canonical text is
 //!     matching     whether a text is the canonical one of a work
@@ -14,6 +15,7 @@ pub mod canonical;
 pub mod knows;
 pub mod line_len;
 pub mod matching;
+pub mod short;
 mod sink;
 mod spell;
 mod spell_rules;

@@ -7,8 +7,8 @@ use Rattle.bl_trail.proofs.text.put_line.Goals as goal
 numbered : (n : ℕ) (rest : List ℕ) → decimal n ++ (32 ∷ rest) ≡ (decimal n ++ codes " ") ++ rest
 numbered n rest = sym (append_assoc (decimal n) (codes " ") rest)
 
-pub returns-in-None : goal.returns-in-None
-returns-in-None g c =
+pub returns : goal.returns
+returns g c =
     let session : List ℕ = decimal c.args.session ++ codes " " in
     let ordinal : List ℕ = decimal c.args.ordinal ++ codes " " in
     let work : List ℕ = c.args.work.now in
@@ -19,4 +19,4 @@ returns-in-None g c =
     ∙ ap (λ t. session ++ t) (numbered c.args.ordinal work)) ∙ sym (append_assoc (codes "line ") session (ordinal ++ work)) in
     puts-four (line ++ codes "\n") front (codes "" ++ ordinal) work (codes "\n") _ _ _ _ _
     (ap (λ t. t ++ codes "\n") whole ∙ after-three front ordinal work (codes "\n"))
-    c.put_number_between.ensures c.put_number_between-in-None.ensures c.put-in-None.ensures.puts c.put-in-None-2.ensures.puts
+    c.put_number_between.ensures c.put_number_between-2.ensures c.put.ensures.puts c.put-2.ensures.puts
