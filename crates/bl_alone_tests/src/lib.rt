@@ -1,4 +1,5 @@
-//! The tests of `bl_alone` and `bl_resume`: what a run tells and leaves in its file, which is full or fails at each place.
+//! The tests of `bl_alone` and `bl_resume`: what a run tells and leaves in its file, which is full or fails at each
+//! place.
 //!
 //!     base      a run over the base setup, and its trail
 //!     whole     a trail that is whole

@@ -44,8 +44,8 @@ fn assert_cut<R: AllocGlobal + Abort>(
     Ok(())
 }
 
-/// Reading fails at each call in turn, the one that would find the end too: each block whose `wait` came is written whole, and nothing
-/// else.
+/// Reading fails at each call in turn, the one that would find the end too: each block whose `wait` came is written
+/// whole, and nothing else.
 #[test]
 fn read_fails_at_each_call(rt: HostRuntime) -> Result<(), Fail> {
     for call in 1..=82 {

@@ -1,5 +1,6 @@
-//! What a connection does where a growth is refused. With ample memory each test here passes by the session's own output alone. It passes
-//! whatever single growth is refused too: `bench/growths` refuses each in turn, and tells so by a file.
+//! What a connection does where a growth is refused. With ample memory each test here passes by the session's own
+//! output alone. It passes whatever single growth is refused too: `bench/growths` refuses each in turn, and tells so by
+//! a file.
 use super::base::{Ended, Session, serve_or_none};
 use super::streams::Manner;
 use bl_engine::conversation::Opening;
@@ -17,8 +18,8 @@ fn was_refused(rt: &impl Files) -> bool {
     !matches!(fs::exists(rt, "refused"), Ok(false))
 }
 
-/// What became of a session whose text this is, where a growth may have been refused in it: it has its text, or it ended out of memory
-/// after a first part of that. Nothing where it is neither.
+/// What became of a session whose text this is, where a growth may have been refused in it: it has its text, or it
+/// ended out of memory after a first part of that. Nothing where it is neither.
 fn came_of(ended: &Ended, text: &[u8], refused: bool) -> Option<&'static str> {
     match ended.result {
         Ok(()) if ended.written.as_slice() == text => Some("own"),
@@ -29,8 +30,8 @@ fn came_of(ended: &Ended, text: &[u8], refused: bool) -> Option<&'static str> {
     }
 }
 
-/// Asserts that a session of these lines, of which so many bytes come at a call, has its text, or where a growth was refused ended out
-/// of memory; says what became of it.
+/// Asserts that a session of these lines, of which so many bytes come at a call, has its text, or where a growth was
+/// refused ended out of memory; says what became of it.
 fn assert_outlasts<R: AllocGlobal + Abort + Files + Print>(rt: &R, input: &[u8], most: usize) {
     let session = Session {
         input,

@@ -66,7 +66,8 @@ fn assert_told<R: AllocGlobal + Abort>(
     Ok(())
 }
 
-/// Serves an example in each manner: at once, a byte at a time, and where each call of either end says once that it would block.
+/// Serves an example in each manner: at once, a byte at a time, and where each call of either end says once that it
+/// would block.
 fn assert_told_in_each_manner<R: AllocGlobal + Abort>(
     rt: &R,
     example: &Example,

@@ -1,5 +1,5 @@
-//! Entries that two passes have in hand, and how each pass ends its own. Wrong bodies are tried on what stands here, since tests are no part of the
-//! crate that those are tried on.
+//! Entries that two passes have in hand, and how each pass ends its own. Wrong bodies are tried on what stands here,
+//! since tests are no part of the crate that those are tried on.
 ghost use Rattle.std.specs.Prelude.{◌≡◌};
 ghost use Rattle.bl_core.specs.Answers.{IsLentBy};
 ghost use Rattle.bl_gate.specs.Gates.{Calls, Follows, HasLoanInHand};

@@ -29,8 +29,8 @@ fn events_of_three() -> [Event; 10] {
     ]
 }
 
-/// One pass starts two entries and another a third. Each ends its own, the first two in another order than they started, and the hall has what
-/// was done once the two have met.
+/// One pass starts two entries and another a third. Each ends its own, the first two in another order than they
+/// started, and the hall has what was done once the two have met.
 #[test]
 fn finish_in_another_order(rt: HostRuntime) {
     let (gate, mut pass) = base_gate(&rt);

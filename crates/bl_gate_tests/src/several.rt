@@ -20,8 +20,8 @@ fn line(ordinal: u32) -> Event {
     }
 }
 
-/// The events of two turns of one pass, between which another pass admits a line: the first turn opens a session, admits two lines and starts
-/// them, the second ends them, the last first.
+/// The events of two turns of one pass, between which another pass admits a line: the first turn opens a session,
+/// admits two lines and starts them, the second ends them, the last first.
 fn events_of_two_turns() -> [Event; 8] {
     [
         Event::Open(SubjectId::new(ANN)),

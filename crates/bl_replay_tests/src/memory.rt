@@ -1,5 +1,5 @@
-//! What a replay answers where a growth is refused. With ample memory each test here passes by the verdicts alone. It passes whatever single
-//! growth is refused too: `bench/growths` refuses each in turn, and tells so by a file.
+//! What a replay answers where a growth is refused. With ample memory each test here passes by the verdicts alone. It
+//! passes whatever single growth is refused too: `bench/growths` refuses each in turn, and tells so by a file.
 use crate::base::base_or_none;
 use bl_replay::replay::replay;
 use bl_setup::setup::Setup;
@@ -11,7 +11,8 @@ use std::io::Print;
 use std::process::Abort;
 use std::rt::Files;
 
-/// The trail of `read-one`, run by one worker; then without its last line, with another answer, and with a further line.
+/// The trail of `read-one`, run by one worker; then without its last line, with another answer, and with a further
+/// line.
 const READ_ONE: [(&str, Verdict); 4] = [
     (
         "trail 1\nlimit 10000\nopen ann\nline 0 1 when read memo do show memo;end\nstart 0 run\nend 0 done \"m1\"\nstop\n",
@@ -31,8 +32,8 @@ const READ_ONE: [(&str, Verdict); 4] = [
     ),
 ];
 
-/// A trail with a child, a rule, a denial and an entry that is lost while it runs, then one whose last answer is another, one that starts
-/// what waits, and one that ends too early.
+/// A trail with a child, a rule, a denial and an entry that is lost while it runs, then one whose last answer is
+/// another, one that starts what waits, and one that ends too early.
 const MORE: [(&str, Verdict); 4] = [
     (
         "trail 1\nlimit 9\nopen root\nopen ann\n\
@@ -71,7 +72,8 @@ fn say(rt: &impl Print, came: &str) {
     let _ = println!(rt; "{came}");
 }
 
-/// Asserts that the answer to a text is this verdict or, where a growth was refused in the call, out of memory; says which.
+/// Asserts that the answer to a text is this verdict or, where a growth was refused in the call, out of memory; says
+/// which.
 fn assert_no_other<R: AllocGlobal + Abort + Files + Print>(
     rt: &R,
     setup: &Setup,

@@ -63,7 +63,8 @@ fn version_1_knows_no_absent_document(rt: HostRuntime) -> Result<(), Fail> {
     )
 }
 
-/// Over a setup in which each document is present, the line of a `create` or a `delete` is the first that is not right in version 1.
+/// Over a setup in which each document is present, the line of a `create` or a `delete` is the first that is not right
+/// in version 1.
 #[test]
 fn version_1_has_no_create_and_no_delete(rt: HostRuntime) -> Result<(), Fail> {
     assert_verdicts(

@@ -1,5 +1,5 @@
--- The canonical text of a line: the bytes of its tokens, with one space between two words that follow each other and no other blank,
--- with no `else` before a body of no statements, and with the categories of a level in the scheme's order.
+-- The canonical text of a line: the bytes of its tokens, with one space between two words that follow each other and no
+-- other blank, with no `else` before a body of no statements, and with the categories of a level in the scheme's order.
 use Rattle.std.specs.Prelude.{◌≡◌, ◌≢◌, ℕ, List}
 use Rattle.bl_level.specs.Canonical.{canonical}
 use Rattle.bl_level.specs.Level.{SecurityLevel}
@@ -23,7 +23,8 @@ IsTidy (set document words rest) = IsTidy rest
 IsTidy (copy from to rest) = IsTidy rest
 IsTidy (pour from to rest) = IsTidy rest
 IsTidy (if_then document asks words then_body rest) = IsTidy then_body × IsTidy rest
-IsTidy (if_else document asks words then_body else_body rest) = (else_body ≢ empty) × IsTidy then_body × IsTidy else_body × IsTidy rest
+IsTidy (if_else document asks words then_body else_body rest) = (else_body ≢ empty) × IsTidy then_body
+    × IsTidy else_body × IsTidy rest
 IsTidy (spawn first more body rest) = IsTidy body × IsTidy rest
 
 -- the text is a level's canonical one: its categories stand in the scheme's order

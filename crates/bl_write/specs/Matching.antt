@@ -1,5 +1,6 @@
 -- What is left of a text while it is compared with tokens, one behind the other.
-use Rattle.std.specs.Prelude.{ℕ, Bool, false, nat_eq, ◌&&◌, if◌then◌else◌, List, [], ◌∷◌, ◌++◌, Option, None, Some, option_and_then}
+use Rattle.std.specs.Prelude.{ℕ, Bool, false, nat_eq, ◌&&◌, if◌then◌else◌, List, [], ◌∷◌, ◌++◌, Option, None, Some}
+use Rattle.std.specs.Prelude.{option_and_then}
 use Rattle.bl_level.specs.Token.{Tok}
 use Rattle.bl_level.specs.Canonical.{spelled, is_word}
 

@@ -1,5 +1,5 @@
--- What a script or a rule names is there: subjects and documents among the names, levels in the scheme, and the behaviours that the
--- statements of a script spawn.
+-- What a script or a rule names is there: subjects and documents among the names, levels in the scheme, and the
+-- behaviours that the statements of a script spawn.
 use Rattle.std.specs.Prelude.{ℕ, ◌<◌, List, length, All}
 use Rattle.bl_level.specs.Scheme.{SchemeNames, HoldsLevel}
 use Rattle.bl_policy.specs.declared.access.Access.{Access}
@@ -24,10 +24,13 @@ AreWithin documents behaviours (Show doc rest) = (doc < documents) × AreWithin 
 AreWithin documents behaviours (Say text rest) = AreWithin documents behaviours rest
 AreWithin documents behaviours (Add doc text rest) = (doc < documents) × AreWithin documents behaviours rest
 AreWithin documents behaviours (Set doc text rest) = (doc < documents) × AreWithin documents behaviours rest
-AreWithin documents behaviours (Copy from to rest) = (from < documents) × (to < documents) × AreWithin documents behaviours rest
-AreWithin documents behaviours (Pour from to rest) = (from < documents) × (to < documents) × AreWithin documents behaviours rest
+AreWithin documents behaviours (Copy from to rest) = (from < documents) × (to < documents)
+    × AreWithin documents behaviours rest
+AreWithin documents behaviours (Pour from to rest) = (from < documents) × (to < documents)
+    × AreWithin documents behaviours rest
 AreWithin documents behaviours (If doc asks text then_body else_body rest) =
-    (doc < documents) × AreWithin documents behaviours then_body × AreWithin documents behaviours else_body × AreWithin documents behaviours rest
+    (doc < documents) × AreWithin documents behaviours then_body × AreWithin documents behaviours else_body
+    × AreWithin documents behaviours rest
 AreWithin documents behaviours (Spawn behaviour rest) = (behaviour < behaviours) × AreWithin documents behaviours rest
 
 -- the level of a rule, where it has one, is the scheme's

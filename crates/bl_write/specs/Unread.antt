@@ -13,7 +13,8 @@ use Rattle.bl_work.specs.declared.asked.Line.TheVariants as line
 use Rattle.bl_work.specs.declared.script.Condition.{Condition}
 use Rattle.bl_work.specs.declared.work.Work.TheVariants.{Behaviour, Rule}
 use Rattle.bl_work.specs.Grammar.{SpelledLine, hello, wait, when, rule}
-use Rattle.bl_work.specs.Spelled.{SpelledAccess, SpelledBody, empty, show, say, add, set, copy, pour, if_then, if_else, spawn, spell_body, spell_when}
+use Rattle.bl_work.specs.Spelled.{SpelledAccess, SpelledBody, empty, show, say, add, set, copy, pour, if_then, if_else}
+use Rattle.bl_work.specs.Spelled.{spawn, spell_body, spell_when}
 use Rattle.bl_work.specs.SpelledRules.{SpelledRule, give, rescind, current, classify, create, delete}
 use Rattle.bl_work.specs.Statements.{Statements, Nothing, Show, Say, Add, Set, Copy, Pour, If, Spawn, Part}
 
@@ -59,7 +60,8 @@ module _ (names : KnownNames) where
   unread_body below (Copy from to rest) = copy (name_at from) (name_at to) (unread_body below rest)
   unread_body below (Pour from to rest) = pour (name_at from) (name_at to) (unread_body below rest)
   unread_body below (If doc asks text then_body else_body rest) =
-      unread_if (name_at doc) asks text (unread_body below then_body) (unread_body below else_body) (unread_body below rest)
+      unread_if (name_at doc) asks text (unread_body below then_body) (unread_body below else_body)
+      (unread_body below rest)
   unread_body below (Spawn behaviour rest) =
       spawn (below behaviour).first (below behaviour).more (below behaviour).body (unread_body below rest)
 
@@ -72,7 +74,8 @@ module _ (names : KnownNames) where
   abbrev pub unread_from : ℕ → List Part → List SpelledWhen
   unread_from k [] = []
   unread_from k (part ∷ rest) =
-      unread_when part.accesses (unread_body (λ j. slice_index_or (unread_from (k + 1) rest) (j - (k + 1)) no_when) part.body)
+      unread_when part.accesses
+      (unread_body (λ j. slice_index_or (unread_from (k + 1) rest) (j - (k + 1)) no_when) part.body)
       ∷ unread_from (k + 1) rest
 
   -- the `when` of a behaviour, by its number

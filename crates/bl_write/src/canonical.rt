@@ -1,5 +1,5 @@
-//! Laws of the canonical text of a script or a rule: it is read again from it, and no text of it is shorter; and that no text of
-//! a line has an LF.
+//! Laws of the canonical text of a script or a rule: it is read again from it, and no text of it is shorter; and that
+//! no text of a line has an LF.
 ghost use Rattle.std.specs.Prelude.{◌≤◌, ◌≢◌, ℕ, List, All, length};
 ghost use Rattle.bl_work.specs.Names.{KnownNames, AreNames};
 ghost use Rattle.bl_work.specs.Statements.{Part};
@@ -26,8 +26,10 @@ pub fn canonical_script_reads_again()
 
 /// The names know each script that some text reads as by them, and its canonical text is no longer than the text.
 pub fn canonical_script_is_shortest()
-    ensures known { (names : KnownNames) (bytes : List ℕ) (script : List Part) → LineOf names bytes (Work (Behaviour script)) → IsKnownScript names script }
-    ensures shortest { (names : KnownNames) (bytes : List ℕ) (script : List Part) → LineOf names bytes (Work (Behaviour script))
+    ensures known { (names : KnownNames) (bytes : List ℕ) (script : List Part)
+        → LineOf names bytes (Work (Behaviour script)) → IsKnownScript names script }
+    ensures shortest { (names : KnownNames) (bytes : List ℕ) (script : List Part)
+        → LineOf names bytes (Work (Behaviour script))
         → length (canonical_script names script) ≤ length bytes }
 {
     canonical_is_shortest();
@@ -44,9 +46,11 @@ pub fn canonical_rule_reads_again()
 
 /// The names know each rule that some text reads as by them, and its canonical text is no longer than the text.
 pub fn canonical_rule_is_shortest()
-    ensures known { (names : KnownNames) (bytes : List ℕ) (rule : asked_rule.Rule) → AreNames names → LineOf names bytes (Work (Rule rule))
+    ensures known { (names : KnownNames) (bytes : List ℕ) (rule : asked_rule.Rule) → AreNames names
+        → LineOf names bytes (Work (Rule rule))
         → IsKnownRule names rule }
-    ensures shortest { (names : KnownNames) (bytes : List ℕ) (rule : asked_rule.Rule) → AreNames names → LineOf names bytes (Work (Rule rule))
+    ensures shortest { (names : KnownNames) (bytes : List ℕ) (rule : asked_rule.Rule) → AreNames names
+        → LineOf names bytes (Work (Rule rule))
         → length (canonical_rule names rule) ≤ length bytes }
 {
     canonical_is_shortest();
@@ -68,5 +72,6 @@ pub fn canonical_works_read_again()
 
 /// No text of a line has an LF.
 pub fn lines_have_no_lf()
-    ensures { (names : KnownNames) (bytes : List ℕ) (line : asked_line.Line) → LineOf names bytes line → All (λ b. b ≢ 10) bytes }
+    ensures { (names : KnownNames) (bytes : List ℕ) (line : asked_line.Line) → LineOf names bytes line
+        → All (λ b. b ≢ 10) bytes }
 {}

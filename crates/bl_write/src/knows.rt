@@ -1,5 +1,6 @@
-//! Which works some text reads as, by given names: those whose subjects and documents are among the names, whose level the scheme
-//! holds, and whose canonical text is no longer than a line. The text is counted and not written, so that no memory is taken.
+//! Which works some text reads as, by given names: those whose subjects and documents are among the names, whose level
+//! the scheme holds, and whose canonical text is no longer than a line. The text is counted and not written, so that no
+//! memory is taken.
 ghost use Rattle.std.specs.Prelude.{◌≡◌, ◌↔◌, ◌≤◌, length, IsTrue};
 ghost use Rattle.bl_level.specs.Token.{tok};
 ghost use Rattle.bl_level.specs.Canonical.{spelled};
@@ -198,8 +199,8 @@ pub trait KnowsWorks {
 }
 
 impl KnowsWorks for Names {
-    /// Whether some text reads as this work by these names: each subject and document that it names is among them, its level is the
-    /// scheme's, and its canonical text has at most 8,192 bytes. It takes no memory.
+    /// Whether some text reads as this work by these names: each subject and document that it names is among them, its
+    /// level is the scheme's, and its canonical text has at most 8,192 bytes. It takes no memory.
     fn knows(&self, work: &Work) -> bool
         ensures { IsTrue result ↔ IsReadable self.now work.now }
     {

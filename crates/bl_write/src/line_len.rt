@@ -46,7 +46,8 @@ fn rule_len(names: &Names, rule: Rule) -> usize
     }
 }
 
-/// How many bytes the canonical text of a line has that asks this work, which some text reads as by these names. It takes no memory.
+/// How many bytes the canonical text of a line has that asks this work, which some text reads as by these names. It
+/// takes no memory.
 pub fn line_len(names: &Names, work: &Work) -> usize
     requires { IsReadable names.now work.now }
     ensures { result ≡ length (canonical_line names.now (asked.Work work.now)) }

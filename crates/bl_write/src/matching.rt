@@ -1,4 +1,5 @@
-//! Whether a text is the canonical one of a work. It is compared token by token, so that no text is written and no memory is taken.
+//! Whether a text is the canonical one of a work. It is compared token by token, so that no text is written and no
+//! memory is taken.
 ghost use Rattle.std.specs.Prelude.{◌≡◌, ◌↔◌, [], IsTrue, Some, option_copied};
 ghost use Rattle.bl_level.specs.Canonical.{spelled};
 ghost use Rattle.bl_level.specs.Token.{tok};

@@ -1,5 +1,5 @@
-//! The tokens of a script, put one behind the other: of each `when` its accesses and its statements, and where these spawn a
-//! behaviour, the tokens of its `when`.
+//! The tokens of a script, put one behind the other: of each `when` its accesses and its statements, and where these
+//! spawn a behaviour, the tokens of its `when`.
 ghost use Rattle.std.specs.Prelude.{◌≡◌, ◌<◌, [], ◌∷◌, map, fold, length, OnOk};
 ghost use Rattle.bl_level.specs.Token.{reserved, name, text, sign};
 ghost use Rattle.bl_name.specs.declared.token.Keyword.TheVariants.{To, If, Then};
@@ -61,7 +61,8 @@ fn put_access<S: Sink>(sink: &mut S, names: &Names, access: Access) -> Result<()
 /// Puts the accesses behind the first one of a `when`.
 fn put_more<S: Sink>(sink: &mut S, names: &Names, accesses: &[Access]) -> Result<(), S::Refusal>
     requires { AreIn (length names.now.documents) accesses.now }
-    ensures { OnOk result (sink.new ≡ fold S.taken sink.old (spell_more (map (unread_access names.now) accesses.now) [])) }
+    ensures { OnOk result (sink.new ≡ fold S.taken sink.old
+        (spell_more (map (unread_access names.now) accesses.now) [])) }
 {
     for access in accesses {
         sink.put(Token::Sign(Sign::Comma))?;
@@ -105,7 +106,8 @@ fn put_move<S: Sink>(
     requires from { from < length names.now.documents }
     requires to { to < length names.now.documents }
     ensures { OnOk result (sink.new ≡ fold S.taken sink.old
-        (reserved word ∷ name (name_at names.now from) ∷ reserved To ∷ name (name_at names.now to) ∷ sign Semicolon ∷ [])) }
+        (reserved word ∷ name (name_at names.now from) ∷ reserved To ∷ name (name_at names.now to)
+        ∷ sign Semicolon ∷ [])) }
 {
     let source = Token::Name(name_of(names, from));
     let target = Token::Name(name_of(names, to));
@@ -126,7 +128,8 @@ fn put_condition<'a, S: Sink>(
 ) -> Result<(), S::Refusal>
     requires { doc < length names.now.documents }
     ensures { OnOk result (sink.new ≡ fold S.taken sink.old
-        (reserved If ∷ name (name_at names.now doc) ∷ reserved (spelled.asks_word test) ∷ text words.now ∷ reserved Then ∷ [])) }
+        (reserved If ∷ name (name_at names.now doc) ∷ reserved (spelled.asks_word test) ∷ text words.now
+        ∷ reserved Then ∷ [])) }
 {
     let document = Token::Name(name_of(names, doc));
     let asks = Token::Reserved(asks_word(test));

@@ -1,4 +1,5 @@
-//! The tokens of a rule, put one behind the other: its names, its letter, and its level with the categories in the scheme's order.
+//! The tokens of a rule, put one behind the other: its names, its letter, and its level with the categories in the
+//! scheme's order.
 ghost use Rattle.std.specs.Prelude.{◌≡◌, ◌<◌, if◌then◌else◌, [], ◌∷◌, fold, length, OnOk};
 ghost use Rattle.bl_name.specs.declared.token.Sign.TheVariants.{Comma, Open};
 ghost use Rattle.bl_level.specs.LevelText.{held_names, spell_level, spell_categories, text_of};
@@ -31,7 +32,8 @@ fn put_right<S: Sink>(
     requires subject { subject < length names.now.subjects }
     requires document { doc < length names.now.documents }
     ensures { OnOk result (sink.new ≡ fold S.taken sink.old
-        (reserved word ∷ name (subject_at names.now subject) ∷ name (name_at names.now doc) ∷ name (spelled.letter_of mode) ∷ [])) }
+        (reserved word ∷ name (subject_at names.now subject) ∷ name (name_at names.now doc)
+        ∷ name (spelled.letter_of mode) ∷ [])) }
 {
     let whose = Token::Name(names.subject_name(subject).bytes());
     let document = Token::Name(name_of(names, doc));
@@ -48,7 +50,8 @@ fn sign_before(opened: bool) -> Sign
 
 /// Puts the categories of a level in braces, in the scheme's order, and nothing where it has none.
 fn put_categories<S: Sink>(sink: &mut S, scheme: &Scheme, level: &Level) -> Result<(), S::Refusal>
-    ensures { OnOk result (sink.new ≡ fold S.taken sink.old (spell_categories (held_names level.now 0 scheme.now.categories))) }
+    ensures { OnOk result (sink.new ≡ fold S.taken sink.old
+        (spell_categories (held_names level.now 0 scheme.now.categories))) }
 {
     let categories = scheme.categories();
     let mut opened = false;

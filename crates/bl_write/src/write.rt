@@ -1,6 +1,7 @@
-//! The canonical text of a line: one space between two words that follow each other, no other blank, no `else` before an empty
-//! body, and the categories of a level in the scheme's order.
-ghost use Rattle.std.specs.Prelude.{◌≡◌, ◌<◌, ◌≤◌, ℕ, List, [], ◌∷◌, ◌++◌, false, if◌then◌else◌, length, OnOk, IfOk, true};
+//! The canonical text of a line: one space between two words that follow each other, no other blank, no `else` before
+//! an empty body, and the categories of a level in the scheme's order.
+ghost use Rattle.std.specs.Prelude.{◌≡◌, ◌<◌, ◌≤◌, ℕ, List, [], ◌∷◌, ◌++◌, false, if◌then◌else◌, length, OnOk, IfOk};
+ghost use Rattle.std.specs.Prelude.{true};
 ghost use Rattle.bl_level.specs.Token.{tok, toks};
 ghost use Rattle.bl_level.specs.Canonical.{sign_byte as byte_of, is_word as is_a_word, canonical};
 ghost use Rattle.bl_work.specs.declared.asked.Line.TheVariants as asked;
@@ -168,8 +169,8 @@ impl Text {
         put_rule(self, names, rule)
     }
 
-    /// Writes the canonical text of a work that some text reads as by these names, in place of what was written before. It fails only
-    /// where a growth is refused.
+    /// Writes the canonical text of a work that some text reads as by these names, in place of what was written before.
+    /// It fails only where a growth is refused.
     pub fn set_work(&mut self, names: &Names, work: &Work) -> Result<(), AllocError>
         requires { IsReadable names.now work.now }
         ensures { OnOk result (self.new.bytes ≡ canonical_line names.now (asked.Work work.now)) }
@@ -238,16 +239,18 @@ fn text_of(alloc: Global, names: &Names, line: &Line) -> Result<Vec<u8>, AllocEr
     }
 }
 
-/// The canonical text of a line that some text reads as by these names: one space between two words that follow each other, no
-/// other blank, no `else` before an empty body, and the categories of a level in the scheme's order. It fails only where a growth
-/// is refused.
+/// The canonical text of a line that some text reads as by these names: one space between two words that follow each
+/// other, no other blank, no `else` before an empty body, and the categories of a level in the scheme's order. It fails
+/// only where a growth is refused.
 pub fn write_line(alloc: Global, names: &Names, line: &Line) -> Result<Vec<u8>, AllocError>
     requires { (bytes : List ℕ) × LineOf names.now bytes line.now }
     // The text reads as the line.
     ensures reads { IfOk result (λ text. LineOf names.now text.items line.now) }
     // No text that reads as the line is shorter.
-    ensures shortest { IfOk result (λ text. (bytes : List ℕ) → LineOf names.now bytes line.now → length text.items ≤ length bytes) }
-    // The text has no blank but one space between two words, no `else` before an empty body, and categories in the scheme's order.
+    ensures shortest { IfOk result (λ text. (bytes : List ℕ) → LineOf names.now bytes line.now
+        → length text.items ≤ length bytes) }
+    // The text has no blank but one space between two words, no `else` before an empty body, and categories in the
+    // scheme's order.
     ensures canonical { IfOk result (λ text. IsCanonicalOf names.now text.items line.now) }
     // It is the one canonical text of the line.
     ensures one { IfOk result (λ text. text.items ≡ canonical_line names.now line.now) }
