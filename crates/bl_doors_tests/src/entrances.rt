@@ -24,12 +24,12 @@ enum Source {
 
 /// Whether what is found next is that somebody calls, and no more.
 fn is_called(watch: &mut Watch) -> bool {
-    watch.wait(None) && watch.events().all(|event| found_by(event) == Found::Call)
+    watch.wait(1, None) && watch.events().all(|event| found_by(event) == Found::Call)
 }
 
 /// Whether what is found next is that the stream of this number is ready.
 fn is_ready(watch: &mut Watch, number: u32) -> bool {
-    watch.wait(None)
+    watch.wait(1, None)
         && watch
             .events()
             .any(|event| found_by(event) == Found::Ready(number))

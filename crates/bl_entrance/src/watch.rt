@@ -12,8 +12,15 @@ use std::net::Net;
 use std::os::fd::AsRawFd;
 use std::time::Duration;
 
-/// How many events one wait gives at most.
+/// How many events a wait of many connections gives at most.
 const MOST_EVENTS: usize = 256;
+
+/// So many connections are few.
+const FEW_CONNECTIONS: usize = 16;
+
+/// How many events a wait of few connections gives at most: those are answered before others are read, so that who asks
+/// next does not wait for all of them.
+const FEW_EVENTS: usize = 4;
 
 /// The token of the thread's alarm and of the listeners. Connections have the tokens from 1 on.
 const CALL: usize = 0;
@@ -34,23 +41,27 @@ pub enum Found {
 #[derive(Drop)]
 pub struct Watch {
     poll: Poll,
-    events: Events,
+    few: Events,
+    many: Events,
+    /// Whether the last wait was one of few connections.
+    was_of_few: bool,
     counts: WaitCounts,
 }
 
 impl Watch {
     /// Watches nothing yet. An error comes where memory or a descriptor was refused.
     pub fn new<R: Net>(rt: &R, alloc: Global) -> io::Result<Watch> {
-        let Ok(events) = Events::with_capacity(alloc, MOST_EVENTS) else {
-            return Err(io::Error::from(ErrorKind::OutOfMemory));
-        };
+        let few = events_of(alloc, FEW_EVENTS)?;
+        let many = events_of(alloc, MOST_EVENTS)?;
         let Ok(counts) = WaitCounts::new(alloc) else {
             return Err(io::Error::from(ErrorKind::OutOfMemory));
         };
         let poll = Poll::new(rt)?;
         Ok(Watch {
             poll,
-            events,
+            few,
+            many,
+            was_of_few: false,
             counts,
         })
     }
@@ -80,11 +91,18 @@ impl Watch {
         self.poll.registry().register(stream, token, all)
     }
 
-    /// Waits until something is ready, for so long at most where that is said, and says whether the system could be
-    /// asked.
-    pub fn wait(&mut self, most: Option<Duration>) -> bool {
-        let asked = self.poll.poll(&mut self.events, most).is_ok();
-        let exceptional = self.events.iter().any(is_exceptional);
+    /// Waits until something is ready of so many connections, of the listeners or the alarm, for so long at most where
+    /// that is said, and says whether the system could be asked. Of 16 connections or fewer it gives four events at
+    /// most, the oldest first, and the next wait gives the others.
+    pub fn wait(&mut self, connections: usize, most: Option<Duration>) -> bool {
+        self.was_of_few = connections <= FEW_CONNECTIONS;
+        let told = if self.was_of_few {
+            self.poll.poll(&mut self.few, most)
+        } else {
+            self.poll.poll(&mut self.many, most)
+        };
+        let asked = told.is_ok();
+        let exceptional = self.events().any(is_exceptional);
         self.counts.add(exceptional || !asked);
         asked
     }
@@ -96,7 +114,19 @@ impl Watch {
 
     /// What the last wait gave.
     pub fn events(&self) -> Iter<'_> {
-        self.events.iter()
+        if self.was_of_few {
+            self.few.iter()
+        } else {
+            self.many.iter()
+        }
+    }
+}
+
+/// Room for so many events. An error comes where memory was refused.
+fn events_of(alloc: Global, most: usize) -> io::Result<Events> {
+    match Events::with_capacity(alloc, most) {
+        Ok(events) => Ok(events),
+        Err(_) => Err(io::Error::from(ErrorKind::OutOfMemory)),
     }
 }
 

@@ -338,7 +338,7 @@ impl<'a, K: Keep, T: Wait + Clock> Attendant<'a, K, T> {
         } else {
             Some(Duration::ZERO)
         };
-        if !self.watch.wait(most) {
+        if !self.watch.wait(self.rounds.len(), most) {
             // where the system cannot be asked, each is tried
             self.called = true;
             self.rounds.stir_all();

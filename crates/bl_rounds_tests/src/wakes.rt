@@ -60,10 +60,10 @@ fn an_end_wakes_who_waits_for_one(rt: HostRuntime) {
     assert!(rt; alarms.arm(0, &one).is_some());
     assert!(rt; alarms.arm(1, &one).is_none());
     alarms.ring_end(EndToRing::new());
-    assert!(rt; watch.wait(None));
+    assert!(rt; watch.wait(1, None));
     assert!(rt; watch.events().count() == 1);
     assert!(rt; watch.events().all(|event| found_by(event) == Found::Call));
-    assert!(rt; watch.wait(Some(Duration::ZERO)));
+    assert!(rt; watch.wait(1, Some(Duration::ZERO)));
     assert!(rt; watch.events().next().is_none());
 }
 
@@ -81,7 +81,7 @@ fn meet<R: AllocGlobal + Net<Listener = TcpListener, Stream = TcpStream> + Abort
     let mut watch = right(rt, Watch::new(rt, rt.alloc()));
     right(rt, watch.watch_listener(&listener));
     let peer = right(rt, TcpStream::connect(rt, at));
-    assert!(rt; watch.wait(None));
+    assert!(rt; watch.wait(1, None));
     let (stream, _) = right(rt, listener.accept());
     let socket = right(rt, Socket::new(stream));
     Met {
@@ -105,7 +105,7 @@ fn has_found(watch: &Watch, number: u32, ended: bool) -> bool {
 /// Waits until that is found, and says whether it came.
 fn finds(watch: &mut Watch, number: u32, ended: bool) -> bool {
     for _ in 0..MOST_WAITS {
-        let asked = watch.wait(Some(Duration::from_millis(WAIT_MILLIS)));
+        let asked = watch.wait(1, Some(Duration::from_millis(WAIT_MILLIS)));
         if asked && has_found(watch, number, ended) {
             return true;
         }
@@ -117,7 +117,9 @@ fn finds(watch: &mut Watch, number: u32, ended: bool) -> bool {
 fn read_on(watch: &mut Watch, socket: &mut Socket, room: &mut [u8]) -> Answer {
     for _ in 0..MOST_WAITS {
         let answer = socket.read(room);
-        if answer != Answer::WouldBlock || !watch.wait(Some(Duration::from_millis(WAIT_MILLIS))) {
+        if answer != Answer::WouldBlock
+            || !watch.wait(1, Some(Duration::from_millis(WAIT_MILLIS)))
+        {
             return answer;
         }
     }
@@ -163,7 +165,53 @@ fn an_end_that_was_told_early_is_found(rt: HostRuntime) {
     assert!(rt; met.peer.write_all(b"hello").is_ok());
     assert!(rt; met.peer.shutdown(Shutdown::Write).is_ok());
     assert!(rt; finds(&mut met.watch, 7, true));
-    assert!(rt; met.watch.wait(Some(Duration::ZERO)));
+    assert!(rt; met.watch.wait(1, Some(Duration::ZERO)));
     assert!(rt; met.socket.read(&mut room) == Answer::Moved(5));
     assert!(rt; met.socket.read(&mut room) == Answer::Moved(0));
+}
+
+/// A peer that is connected, and the socket by which it came.
+#[derive(Drop)]
+struct Joined {
+    peer: TcpStream,
+    socket: Socket,
+}
+
+/// So many peers, whose sockets are watched from the number 1 on.
+fn join_all<R: AllocGlobal + Net<Listener = TcpListener, Stream = TcpStream> + Abort>(
+    rt: &R,
+    watch: &Watch,
+    count: u32,
+) -> Vec<Joined> {
+    let listener = right(rt, TcpListener::bind(rt, (Ipv4Addr::LOCALHOST, 0)));
+    let at = right(rt, listener.local_addr());
+    let mut all = Vec::new(rt.alloc());
+    for number in 1..=count {
+        let peer = right(rt, TcpStream::connect(rt, at));
+        let (stream, _) = right(rt, listener.accept());
+        let mut socket = right(rt, Socket::new(stream));
+        assert!(rt; socket.watch(watch, number).is_ok());
+        assert!(rt; all.push(Joined { peer, socket }).is_ok());
+    }
+    all
+}
+
+/// A wait of few connections tells of four that are ready, and the next one of the others; a wait of many tells of all.
+#[test]
+fn a_wait_of_few_connections_tells_of_four(rt: HostRuntime) {
+    let mut watch = right(&rt, Watch::new(&rt, rt.alloc()));
+    let mut all = join_all(&rt, &watch, 6);
+    // that they can be written to is told first
+    assert!(rt; watch.wait(6, Some(Duration::ZERO)));
+    assert!(rt; watch.events().count() == 4);
+    assert!(rt; watch.wait(6, Some(Duration::ZERO)));
+    assert!(rt; watch.events().count() == 2);
+    assert!(rt; watch.wait(17, Some(Duration::ZERO)));
+    assert!(rt; watch.events().next().is_none());
+    for one in &mut all {
+        assert!(rt; one.peer.write_all(b"hello").is_ok());
+    }
+    assert!(rt; watch.wait(17, Some(Duration::ZERO)));
+    assert!(rt; watch.events().count() == 6);
+    assert!(rt; all.len() == 6);
 }
