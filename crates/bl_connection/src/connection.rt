@@ -2,8 +2,8 @@
 //! for nothing: what is to come next is asked by `state`. What is asked of the machine is met by whoever owns the
 //! connection.
 //!
-//! At most 16 KB are read at a time, or 512 bytes where the read before did not fill its room, and no more before all
-//! of that was heard. Nothing is heard before all that was told is written, and no more is told once 64 KB wait. So a
+//! A read has room for 120 bytes, 512 or 16 KB, by how many came last without a pause, and no more is read before all of
+//! that was heard. Nothing is heard before all that was told is written, and no more is told once 64 KB wait. So a
 //! client that takes nothing costs a block, 16 KB and less than 64 KB and one part of a reply, and after a fault of
 //! reading all that was told is written.
 ghost use Rattle.std.specs.Prelude.{◌≡◌, ◌<◌, ◌≤◌, length};
@@ -21,8 +21,11 @@ use std::snapshot::Snapshot;
 /// How many bytes a read takes at most.
 const MOST_READ: usize = 16_384;
 
-/// How many it takes at most where the one before did not fill its room.
-const FEW_READ: usize = 512;
+/// How many it takes at most where fewer came last: a long line, or some.
+const SOME_READ: usize = 512;
+
+/// How many it takes at most where fewer came last: a short line and `wait`.
+const FEW_READ: usize = 120;
 
 /// How many bytes have room at first of what is told: a short line's reply, and `ok`.
 const FEW_TOLD: usize = 64;
@@ -56,8 +59,8 @@ pub enum Progress {
 }
 
 /// A session over a stream: the stream, and what it was at first; the conversation; the bytes that were read last, how
-/// many of them were heard, whether they filled their room, and whether the stream's input is at its end; the bytes
-/// that were told last, and how many of them were written.
+/// many of them were heard, whether they filled their room, how many came with those that did before without a pause,
+/// and whether the stream's input is at its end; the bytes that were told last, and how many of them were written.
 #[derive(Drop)]
 pub struct Connection<S> {
     stream: S,
@@ -67,6 +70,7 @@ pub struct Connection<S> {
     input: Vec<u8>,
     heard: usize,
     filled: bool,
+    came: usize,
     ended: bool,
     output: Vec<u8>,
     written: usize,
@@ -74,12 +78,27 @@ pub struct Connection<S> {
     ghost written_within: { written ≤ length output.items },
 }
 
-/// How many bytes a read is to take at most, by whether the one before filled its room.
-fn room_after(filled: bool) -> usize
+/// How many bytes a read is to take at most, by how many came last without a pause.
+fn room_for(came: usize) -> usize
     ensures some { 0 < result }
     ensures most { result ≤ 16384 }
 {
-    if filled { MOST_READ } else { FEW_READ }
+    if came < FEW_READ {
+        FEW_READ
+    } else if came < SOME_READ {
+        SOME_READ
+    } else {
+        MOST_READ
+    }
+}
+
+/// How many bytes came without a pause, with so many that have just come, where those before filled their room or not.
+fn came_with(before: usize, filled: bool, count: usize) -> usize {
+    if filled {
+        before.saturating_add(count)
+    } else {
+        count
+    }
 }
 
 impl<S: Stream> Connection<S> {
@@ -112,6 +131,7 @@ impl<S: Stream> Connection<S> {
             input: Vec::new(alloc),
             heard: 0,
             filled: false,
+            came: 0,
             ended: false,
             output: Vec::new(alloc),
             written: 0,
@@ -171,7 +191,7 @@ impl<S: Stream> Connection<S> {
         ensures err { IfErr result (λ fault. (left : ℕ → List ℕ)
             → StopsAs S.remaining S.contents fault left self.old self.new) }
     {
-        let most = room_after(self.filled);
+        let most = room_for(self.came);
         let mut room = vec![in self.alloc; 0u8; most]?;
         let count = match self.stream.read(room.as_mut_slice()) {
             Answer::Moved(count) => count,
@@ -181,6 +201,7 @@ impl<S: Stream> Connection<S> {
         room.truncate(count);
         self.input = room;
         self.heard = 0;
+        self.came = came_with(self.came, self.filled, count);
         self.filled = count == most;
         self.ended = count == 0;
         Ok(Progress::Moved)
@@ -344,6 +365,7 @@ impl<S: Stream> Connection<S> {
             input: _,
             heard: _,
             filled: _,
+            came: _,
             ended: _,
             output: _,
             written: _,

@@ -12,7 +12,7 @@ use std::process::Abort;
 use std::test::Fail;
 
 /// The setup of the worked examples, as far as the tests speak of it.
-const BASE: &[u8] = b"ranks u c s t\n\
+pub(crate) const BASE: &[u8] = b"ranks u c s t\n\
 categories nato crypto\n\
 subject ann greatest s{nato} current s{nato}\n\
 document memo s{nato} \"m1\"\n\

@@ -6,6 +6,7 @@
 //!     texts       what is written to the worked examples, however the stream goes
 //!     faults      streams that fail, and inputs that are too long
 //!     memory      what a connection does where a growth is refused
+//!     rooms       how much room a read has
 #![tactic(auto)]
 
 #[cfg(test)]
@@ -14,6 +15,8 @@ mod base;
 mod faults;
 #[cfg(test)]
 mod memory;
+#[cfg(test)]
+mod rooms;
 pub mod shows;
 #[cfg(test)]
 mod streams;
