@@ -13,3 +13,4 @@ pub mod Matches
 pub mod RulesWritten
 pub mod RulesSpelled
 pub mod PlainLines
+pub mod KnownWorks

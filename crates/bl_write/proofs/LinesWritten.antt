@@ -1,13 +1,11 @@
 -- The text of a line as it is read back: it reads as the line, it is canonical, and no text of the line is shorter.
-use Rattle.std.proofs.Common.{◌≡◌, ℕ, zero, suc, ◌+◌, ◌-◌, ◌<◌, ◌≤◌, List, [], ◌∷◌, length, get_or, Some, Ok, Err, refl, sym, subst, arith}
+use Rattle.std.proofs.Common.{◌≡◌, ℕ, zero, suc, ◌+◌, ◌-◌, ◌≤◌, List, [], ◌∷◌, length, get_or, Some, Ok, Err, refl, sym, subst, arith}
 use Rattle.std.specs.Prelude.{Result, IfOk}
 use Rattle.std.specs.Str.{bytes_eq}
 use Rattle.std.proofs.lemmas.List.Quantifiers.{position-Some}
 use Rattle.bl_level.specs.Canonical.{canonical}
 use Rattle.bl_level.specs.Lexing.{Begins}
-use Rattle.bl_level.specs.Name.{AreProper}
 use Rattle.bl_level.specs.Table.{place_of}
-use Rattle.bl_level.specs.Token.{Tok}
 use Rattle.bl_policy.specs.declared.access.Access.{Access}
 use Rattle.bl_work.specs.declared.asked.Line.{Line}
 use Rattle.bl_work.specs.declared.asked.Line.TheVariants as line
@@ -17,7 +15,7 @@ use Rattle.bl_policy.specs.declared.rule.Rule.TheVariants as rule_of
 use Rattle.bl_work.specs.declared.work.Work.TheVariants.{Behaviour, Rule}
 use Rattle.bl_write.specs.CanonicalLine.{IsTidy, IsTidyRule, IsTidyLine, IsCanonicalOf, canonical_line}
 use Rattle.bl_work.specs.Grammar.{SpelledLine, hello, wait, when, rule, spell}
-use Rattle.bl_write.specs.Known.{IsKnownScript, canonical_script, IsKnownRule, canonical_rule}
+use Rattle.bl_write.specs.Known.{IsKnownScript}
 use Rattle.bl_work.specs.LineGrammar.{Means, LineOf}
 use Rattle.bl_work.specs.Meaning.{script_of}
 use Rattle.bl_work.specs.Names.{KnownNames, AreNames}
@@ -29,7 +27,9 @@ use Rattle.bl_work.proofs.AskedScripts.{CanonicalIsShortest, ReadTokensAreProper
 use Rattle.bl_work.proofs.Behaviours.{same_bytes}
 use Rattle.bl_write.proofs.Faultless.{faultless_is}
 use Rattle.bl_write.proofs.Reread.{script_is, names_known}
-use Rattle.bl_write.proofs.RulesWritten.{rule_means}
+use Rattle.bl_write.proofs.Knowing.{line_known, line_shortest}
+use Rattle.bl_write.proofs.ReadAgain.{CanonicalReadsAgain, script_reads_again}
+use Rattle.bl_write.proofs.RulesWritten.{rule_known, rule_means, rule_reads_again, rule_shortest}
 
 -- ---- no `else` before a body of no statements
 
@@ -89,58 +89,9 @@ module _ (names : KnownNames) where
 -- ---- what a line as it is read back asks
 
 module _ (names : KnownNames) where
-  -- the subject of a line is there
-  pub subject_there : (bytes : List ℕ) (subject : ℕ) → LineOf names bytes (line.Hello subject) → subject < length names.subjects
-  subject_there bytes subject l = go l.spelled l.means
-    where
-      go : (spelled : SpelledLine) → Means names spelled (line.Hello subject) → subject < length names.subjects
-      go (hello name) means = (position-Some (bytes_eq name) names.subjects subject [] means).0
-      go wait means = absurd means
-      go (when first more body) means = absurd means
-      go (rule asked) means = absurd means
-
   -- a `hello` has one spelling
   hello_is : (name : List ℕ) (subject : ℕ) → place_of name names.subjects ≡ Some subject → name ≡ get_or names.subjects subject []
   hello_is name subject means = same_bytes name (get_or names.subjects subject []) (position-Some (bytes_eq name) names.subjects subject [] means).1
-
--- what the laws of tokens say
-abbrev pub CanonicalReadsAgain : Type 0
-CanonicalReadsAgain = (ts : List Tok) → AreProper ts → Begins (canonical ts) ts []
-
--- the same of a script
-abbrev pub ScriptReadsAgain : Type 0
-ScriptReadsAgain = (names : KnownNames) (script : List Part) → AreNames names → IsScript script → IsKnownScript names script
-    → LineOf names (canonical_script names script) (line.Work (Behaviour script))
-
-abbrev pub ScriptIsShortest : Type 0
-ScriptIsShortest = (names : KnownNames) (bytes : List ℕ) (script : List Part) → LineOf names bytes (line.Work (Behaviour script))
-    → length (canonical_script names script) ≤ length bytes
-
-abbrev pub ScriptIsKnown : Type 0
-ScriptIsKnown = (names : KnownNames) (bytes : List ℕ) (script : List Part) → LineOf names bytes (line.Work (Behaviour script)) → IsKnownScript names script
-
--- the same of a rule
-abbrev pub RuleReadsAgain : Type 0
-RuleReadsAgain = (names : KnownNames) (r : asked_rule.Rule) → AreNames names → IsKnownRule names r → LineOf names (canonical_rule names r) (line.Work (Rule r))
-
-abbrev pub RuleIsShortest : Type 0
-RuleIsShortest = (names : KnownNames) (bytes : List ℕ) (r : asked_rule.Rule) → AreNames names → LineOf names bytes (line.Work (Rule r))
-    → length (canonical_rule names r) ≤ length bytes
-
-abbrev pub RuleIsKnown : Type 0
-RuleIsKnown = (names : KnownNames) (bytes : List ℕ) (r : asked_rule.Rule) → AreNames names → LineOf names bytes (line.Work (Rule r)) → IsKnownRule names r
-
--- what the laws say that a line is written by
-pub record AreLaws : Type 0 where
-  pub again : CanonicalReadsAgain
-  pub shortest : CanonicalIsShortest
-  pub proper : ReadTokensAreProper
-  pub script_again : ScriptReadsAgain
-  pub script_shortest : ScriptIsShortest
-  pub script_known : ScriptIsKnown
-  pub rule_again : RuleReadsAgain
-  pub rule_shortest : RuleIsShortest
-  pub rule_known : RuleIsKnown
 
 -- what is written of a line: the text reads as it, no text of it is shorter, and it is canonical
 pub record IsWritten (names : KnownNames) (asked : Line) (text : List ℕ) : Type 0 where
@@ -204,25 +155,25 @@ module _ (names : KnownNames) where
       let documents = names_known names table.documents.distinct script is.preorder is.each known.there in
       (faultless_is names first more body (subst IsScript same is) documents, same)
 
-  pub line_written : AreLaws → (asked : Line) → AreNames names → (bytes : List ℕ) → LineOf names bytes asked → IsWritten names asked (canonical_line names asked)
-  line_written laws (line.Hello subject) table bytes l =
-      one_spelling laws.again laws.shortest laws.proper names (line.Hello subject) (hello (get_or names.subjects subject [])) (only_hello subject) tt bytes l
-  line_written laws line.Wait table bytes l =
-      one_spelling laws.again laws.shortest laws.proper names line.Wait wait only_wait tt bytes l
-  line_written laws (line.Work (Behaviour script)) table bytes l =
+  pub line_written : CanonicalReadsAgain → CanonicalIsShortest → ReadTokensAreProper → (asked : Line) → AreNames names → (bytes : List ℕ) → LineOf names bytes asked
+      → IsWritten names asked (canonical_line names asked)
+  line_written again shortest proper (line.Hello subject) table bytes l =
+      one_spelling again shortest proper names (line.Hello subject) (hello (get_or names.subjects subject [])) (only_hello subject) tt bytes l
+  line_written again shortest proper line.Wait table bytes l = one_spelling again shortest proper names line.Wait wait only_wait tt bytes l
+  line_written again shortest proper (line.Work (Behaviour script)) table bytes l =
       let asked : Line = line.Work (Behaviour script) in
-      let known = laws.script_known names bytes script l in
-      let is = asked_script laws.shortest laws.proper names bytes script l in
+      let known = line_known shortest names bytes script l in
+      let is = asked_script shortest proper names bytes script l in
       record {
-        reads = laws.script_again names script table is known;
-        shortest = λ bytes l. laws.script_shortest names bytes script l;
+        reads = script_reads_again again names script table is known;
+        shortest = λ bytes l. line_shortest shortest names bytes script l;
         canonical = record { spelled = unread_line names asked; tidy = tidy_line names asked; means = script_means script table is known; text = refl };
       }
-  line_written laws (line.Work (Rule r)) table bytes l =
-      let known = laws.rule_known names bytes r table l in
+  line_written again shortest proper (line.Work (Rule r)) table bytes l =
+      let known = rule_known shortest names bytes r table l in
       record {
-        reads = laws.rule_again names r table known;
-        shortest = λ bytes l. laws.rule_shortest names bytes r table l;
+        reads = rule_reads_again again proper names r table known;
+        shortest = λ bytes l. rule_shortest shortest names bytes r table l;
         canonical = record { spelled = rule (unread_rule names r); tidy = tidy_rule names r; means = rule_means names table r known.there; text = refl };
       }
 

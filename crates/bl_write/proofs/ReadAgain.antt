@@ -1,7 +1,5 @@
 -- A script that the names know is read again from its canonical text.
-use Rattle.std.proofs.Common.{◌≡◌, ◌≤◌, ℕ, Bool, false, List, [], length, sym, ◌∙◌, subst}
-use Rattle.std.specs.Prelude.{◌↔◌, IsTrue}
-use Rattle.std.proofs.lemmas.Bool.{false≢true}
+use Rattle.std.proofs.Common.{◌≡◌, List, [], subst}
 use Rattle.bl_level.specs.Canonical.{canonical}
 use Rattle.bl_level.specs.Lexing.{Begins}
 use Rattle.bl_level.specs.Name.{AreProper}
@@ -10,13 +8,12 @@ use Rattle.bl_work.specs.declared.asked.Line.TheVariants as line
 use Rattle.bl_work.specs.declared.work.Work.TheVariants.{Behaviour}
 use Rattle.bl_work.specs.Grammar.{when}
 use Rattle.bl_write.specs.Known.{IsKnownScript, canonical_script}
-use Rattle.bl_work.specs.LineGrammar.{most_line_bytes, LineOf}
+use Rattle.bl_work.specs.LineGrammar.{LineOf}
 use Rattle.bl_work.specs.Meaning.{script_of}
 use Rattle.bl_work.specs.Names.{KnownNames, AreNames}
 use Rattle.bl_work.specs.Script.{IsScript}
 use Rattle.bl_work.specs.Spelled.{spell_when}
 use Rattle.bl_work.specs.Statements.{Part}
-use Rattle.bl_write.specs.There.{AreThere}
 use Rattle.bl_write.specs.Unread.{unread}
 use Rattle.bl_write.proofs.Faultless.{faultless_is, contents_are, when_proper}
 use Rattle.bl_write.proofs.Reread.{script_is, names_known}
@@ -41,28 +38,3 @@ script_reads_again again names script table is known =
       reads = again (spell_when first more body) proper;
       means = (faultless_is names first more body own documents, same);
     }
-
--- ---- which scripts are known
-
--- what the two laws of scripts say
-abbrev pub ScriptReadsAgain : Type 0
-ScriptReadsAgain = (names : KnownNames) (script : List Part) → AreNames names → IsScript script → IsKnownScript names script
-    → LineOf names (canonical_script names script) (line.Work (Behaviour script))
-
-abbrev pub ScriptIsKnown : Type 0
-ScriptIsKnown = (names : KnownNames) (bytes : List ℕ) (script : List Part) → LineOf names bytes (line.Work (Behaviour script)) → IsKnownScript names script
-
--- some text reads as the script
-abbrev pub HasText : KnownNames → List Part → Type 0
-HasText names script = (bytes : List ℕ) × LineOf names bytes (line.Work (Behaviour script))
-
--- a script whose documents are there has a text exactly where its canonical text is short
-pub text_where_short : ScriptReadsAgain → ScriptIsKnown → (names : KnownNames) (script : List Part) (short : Bool) → AreNames names → IsScript script → AreThere names script
-    → IsTrue short ↔ (length (canonical_script names script) ≤ most_line_bytes) → IsTrue short ↔ HasText names script
-text_where_short again known names script short table is there decides =
-    (λ h. (canonical_script names script, again names script table is (record { there = there; short = decides.0 h })), λ (bytes, l). decides.1 (known names bytes script l).short)
-
--- and none where some document is not there
-pub no_text : ScriptIsKnown → (names : KnownNames) (script : List Part) (there : Bool) → IsTrue there ↔ AreThere names script → there ≡ false → IsTrue there ↔ HasText names script
-no_text known names script there decides is =
-    (λ h. absurd (false≢true (sym is ∙ h)), λ (bytes, l). decides.1 (known names bytes script l).there)

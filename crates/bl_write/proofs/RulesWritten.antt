@@ -1,7 +1,5 @@
 -- A rule is read again from its canonical text, and no text of it is shorter.
-use Rattle.std.proofs.Common.{◌≡◌, ◌<◌, ◌≤◌, ℕ, Bool, false, List, [], ◌∷◌, ◌++◌, length, get_or, refl, sym, ap, subst, ◌∙◌, arith, length-append}
-use Rattle.std.specs.Prelude.{◌↔◌, IsTrue}
-use Rattle.std.proofs.lemmas.Bool.{false≢true}
+use Rattle.std.proofs.Common.{◌≡◌, ◌<◌, ◌≤◌, ℕ, List, [], ◌∷◌, ◌++◌, length, get_or, refl, sym, ap, subst, arith, length-append}
 use Rattle.bl_name.specs.declared.token.Keyword.TheVariants.{Current, Classify}
 use Rattle.bl_level.specs.Canonical.{canonical}
 use Rattle.bl_level.specs.Level.{SecurityLevel}
@@ -20,7 +18,7 @@ use Rattle.bl_work.specs.declared.asked.Line.TheVariants as line
 use Rattle.bl_work.specs.declared.work.Work.TheVariants as work
 use Rattle.bl_work.specs.Grammar.{SpelledLine, hello, wait, when, rule, spell}
 use Rattle.bl_write.specs.Known.{IsKnownRule, canonical_rule}
-use Rattle.bl_work.specs.LineGrammar.{most_line_bytes, Means, LineOf}
+use Rattle.bl_work.specs.LineGrammar.{Means, LineOf}
 use Rattle.bl_work.specs.Names.{KnownNames, AreNames}
 use Rattle.bl_work.specs.RuleMeaning.{MeansRule}
 use Rattle.bl_work.specs.SpelledRules.{SpelledRule, give, rescind, current, classify, create, delete, letter_of, spell_rule}
@@ -171,27 +169,3 @@ pub rule_known : CanonicalIsShortest → (names : KnownNames) (bytes : List ℕ)
 rule_known shortest names bytes r table l =
     let of = of_line shortest names bytes r l.spelled table l.reads l.means in
     record { there = of.there; short = omega (arith, of.shortest, l.short) }
-
--- ---- which rules are known
-
--- what the two laws of rules say
-abbrev RuleReadsAgain : Type 0
-RuleReadsAgain = (names : KnownNames) (r : Rule) → AreNames names → IsKnownRule names r → LineOf names (canonical_rule names r) (line.Work (work.Rule r))
-
-abbrev RuleIsKnown : Type 0
-RuleIsKnown = (names : KnownNames) (bytes : List ℕ) (r : Rule) → AreNames names → LineOf names bytes (line.Work (work.Rule r)) → IsKnownRule names r
-
--- some text reads as the rule
-abbrev HasText : KnownNames → Rule → Type 0
-HasText names r = (bytes : List ℕ) × LineOf names bytes (line.Work (work.Rule r))
-
--- a rule that is there has a text exactly where its canonical text is short
-pub text_where_short : RuleReadsAgain → RuleIsKnown → (names : KnownNames) (r : Rule) (short : Bool) → AreNames names → IsRuleThere names r
-    → IsTrue short ↔ (length (canonical_rule names r) ≤ most_line_bytes) → IsTrue short ↔ HasText names r
-text_where_short again known names r short table there decides =
-    (λ h. (canonical_rule names r, again names r table (record { there = there; short = decides.0 h })), λ (bytes, l). decides.1 (known names bytes r table l).short)
-
--- and none where it is not there
-pub no_text : RuleIsKnown → (names : KnownNames) (r : Rule) (there : Bool) → AreNames names → IsTrue there ↔ IsRuleThere names r → there ≡ false → IsTrue there ↔ HasText names r
-no_text known names r there table decides is =
-    (λ h. absurd (false≢true (sym is ∙ h)), λ (bytes, l). decides.1 (known names bytes r table l).there)

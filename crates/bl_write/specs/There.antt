@@ -6,7 +6,10 @@ use Rattle.bl_policy.specs.declared.access.Access.{Access}
 use Rattle.bl_policy.specs.declared.rule.Rule as asked_rule
 use Rattle.bl_policy.specs.declared.rule.Rule.TheVariants as asked
 use Rattle.bl_policy.specs.RuleEffect.{HasIdsBelow}
+use Rattle.bl_work.specs.declared.work.Work.{Work}
+use Rattle.bl_work.specs.declared.work.Work.TheVariants.{Behaviour, Rule}
 use Rattle.bl_work.specs.Names.{KnownNames}
+use Rattle.bl_work.specs.Script.{IsScript}
 use Rattle.bl_work.specs.Statements.{Statements, Nothing, Show, Say, Add, Set, Copy, Pour, If, Spawn, Part}
 
 -- each document that the accesses declare is one of so many
@@ -46,3 +49,8 @@ HasHeldLevel scheme (asked.Delete doc) = Unit {0}
 pub record IsRuleThere (names : KnownNames) (rule : asked_rule.Rule) : Type 0 where
   pub ids : HasIdsBelow (length names.subjects) (length names.documents) rule
   pub level : HasHeldLevel names.scheme rule
+
+-- what a work names is there
+abbrev pub IsWorkThere : KnownNames → Work → Type 0
+IsWorkThere names (Behaviour script) = IsScript script × AreThere names script
+IsWorkThere names (Rule rule) = IsRuleThere names rule

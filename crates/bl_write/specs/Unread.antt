@@ -11,8 +11,9 @@ use Rattle.bl_work.specs.Names.{KnownNames}
 use Rattle.bl_work.specs.declared.asked.Line.{Line}
 use Rattle.bl_work.specs.declared.asked.Line.TheVariants as line
 use Rattle.bl_work.specs.declared.script.Condition.{Condition}
+use Rattle.bl_work.specs.declared.work.Work.{Work}
 use Rattle.bl_work.specs.declared.work.Work.TheVariants.{Behaviour, Rule}
-use Rattle.bl_work.specs.Grammar.{SpelledLine, hello, wait, when, rule}
+use Rattle.bl_work.specs.Grammar.{SpelledLine, hello, wait, when, rule, spell}
 use Rattle.bl_work.specs.Spelled.{SpelledAccess, SpelledBody, empty, show, say, add, set, copy, pour, if_then, if_else}
 use Rattle.bl_work.specs.Spelled.{spawn, spell_body, spell_when}
 use Rattle.bl_work.specs.SpelledRules.{SpelledRule, give, rescind, current, classify, create, delete}
@@ -105,3 +106,7 @@ module _ (names : KnownNames) where
   unread_line line.Wait = wait
   unread_line (line.Work (Behaviour script)) = when (unread script).first (unread script).more (unread script).body
   unread_line (line.Work (Rule asked)) = rule (unread_rule asked)
+
+  -- the tokens of a work
+  abbrev pub work_tokens : Work → List Tok
+  work_tokens work = spell (unread_line (line.Work work))

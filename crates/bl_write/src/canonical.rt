@@ -1,6 +1,6 @@
 //! Laws of the canonical text of a script or a rule: it is read again from it, and no text of it is shorter; and that
 //! no text of a line has an LF.
-ghost use Rattle.std.specs.Prelude.{◌≤◌, ◌≢◌, ℕ, List, All, length};
+ghost use Rattle.std.specs.Prelude.{◌↔◌, ◌≤◌, ◌≢◌, ℕ, List, All, length};
 ghost use Rattle.bl_work.specs.Names.{KnownNames, AreNames};
 ghost use Rattle.bl_work.specs.Statements.{Part};
 ghost use Rattle.bl_work.specs.Script.{IsScript};
@@ -10,7 +10,7 @@ ghost use Rattle.bl_work.specs.declared.asked.Line as asked_line;
 ghost use Rattle.bl_work.specs.declared.work.Work as asked_work;
 ghost use Rattle.bl_write.specs.CanonicalLine.{canonical_line};
 ghost use Rattle.bl_policy.specs.declared.rule.Rule as asked_rule;
-ghost use Rattle.bl_write.specs.Known.{canonical_script, IsKnownScript, canonical_rule, IsKnownRule};
+ghost use Rattle.bl_write.specs.Known.{canonical_script, IsKnownScript, canonical_rule, IsKnownRule, IsKnownWork};
 ghost use Rattle.bl_work.specs.declared.asked.Line.TheVariants.{Work};
 ghost use Rattle.bl_work.specs.declared.work.Work.TheVariants.{Behaviour, Rule};
 
@@ -64,10 +64,16 @@ pub fn canonical_works_read_again()
     canonical_reads_again();
     canonical_is_shortest();
     read_tokens_are_proper();
-    canonical_script_reads_again();
-    canonical_script_is_shortest();
-    canonical_rule_reads_again();
-    canonical_rule_is_shortest();
+}
+
+/// Some text reads as a work exactly where what it names is there and its canonical text is no longer than a line.
+pub(crate) fn readable_is_known()
+    ensures { (names : KnownNames) (work : asked_work.Work) → AreNames names
+        → IsReadable names work ↔ IsKnownWork names work }
+{
+    canonical_reads_again();
+    canonical_is_shortest();
+    read_tokens_are_proper();
 }
 
 /// No text of a line has an LF.

@@ -5,21 +5,17 @@ ghost use Rattle.std.specs.Prelude.{◌≡◌, ◌↔◌, ◌≤◌, length, IsT
 ghost use Rattle.bl_level.specs.Token.{tok};
 ghost use Rattle.bl_level.specs.Canonical.{spelled};
 ghost use Rattle.bl_write.specs.Counting.{counted, nothing_counted};
-ghost use Rattle.bl_write.specs.Known.{canonical_script, canonical_rule};
+ghost use Rattle.bl_write.specs.CanonicalLine.{canonical_line};
 ghost use Rattle.bl_work.specs.LineGrammar.{most_line_bytes};
 ghost use Rattle.bl_work.specs.Readable.{IsReadable};
 ghost use Rattle.bl_work.specs.Script.{IsScript};
-ghost use Rattle.bl_write.specs.There.{AreIn, AreThere, HasHeldLevel, IsRuleThere};
-ghost use Rattle.bl_work.specs.declared.work.Work.TheVariants.{Behaviour, Rule as AskedRule};
+ghost use Rattle.bl_write.specs.There.{AreIn, AreThere, HasHeldLevel, IsRuleThere, IsWorkThere};
+ghost use Rattle.bl_work.specs.declared.asked.Line.TheVariants as asked;
 
-use crate::canonical::{
-    canonical_rule_is_shortest, canonical_rule_reads_again, canonical_script_is_shortest,
-    canonical_script_reads_again,
-};
+use crate::canonical::readable_is_known;
+use crate::room::is_word;
 use crate::sink::Sink;
-use crate::spell::put_when;
-use crate::spell_rules::put_rule;
-use crate::write::is_word;
+use crate::spell_work::put_work;
 use bl_level::scheme::Scheme;
 use bl_level::token::Token;
 use bl_policy::access::Access;
@@ -127,30 +123,6 @@ fn are_there(names: &Names, script: &Script) -> bool
     true
 }
 
-/// Whether the canonical text of the script is no longer than a line.
-fn is_short(names: &Names, script: &Script) -> bool
-    requires script { IsScript script.now }
-    requires there { AreThere names.now script.now }
-    ensures { IsTrue result ↔ (length (canonical_script names.now script.now) ≤ most_line_bytes) }
-{
-    let mut length = Length::new();
-    match put_when(&mut length, names, script, 0) {
-        Ok(()) => length.fits(),
-        Err(never) => match never {},
-    }
-}
-
-/// Whether some text reads as this script by these names.
-fn knows_script(names: &Names, script: &Script) -> bool
-    ensures { IsTrue result ↔ IsReadable names.now (Behaviour script.now) }
-{
-    canonical_script_reads_again();
-    canonical_script_is_shortest();
-    // asked for the proof alone: no name stands twice in a table
-    let _ = names.scheme();
-    are_there(names, script) && is_short(names, script)
-}
-
 /// Whether the scheme holds the rule's level, where it has one.
 fn has_held_level(scheme: &Scheme, rule: &Rule) -> bool
     ensures { IsTrue result ↔ HasHeldLevel scheme.now rule.now }
@@ -169,27 +141,26 @@ fn is_rule_there(names: &Names, rule: &Rule) -> bool
     rule.has_ids_below(names.subjects(), names.documents()) && has_held_level(names.scheme(), rule)
 }
 
-/// Whether the canonical text of the rule is no longer than a line.
-fn is_rule_short(names: &Names, rule: &Rule) -> bool
-    requires { IsRuleThere names.now rule.now }
-    ensures { IsTrue result ↔ (length (canonical_rule names.now rule.now) ≤ most_line_bytes) }
+/// Whether what the work names is there.
+fn is_there(names: &Names, work: &Work) -> bool
+    ensures { IsTrue result ↔ IsWorkThere names.now work.now }
 {
-    let mut length = Length::new();
-    match put_rule(&mut length, names, *rule) {
-        Ok(()) => length.fits(),
-        Err(never) => match never {},
+    match work {
+        Work::Behaviour(script) => are_there(names, script),
+        Work::Rule(rule) => is_rule_there(names, rule),
     }
 }
 
-/// Whether some text reads as this rule by these names.
-fn knows_rule(names: &Names, rule: &Rule) -> bool
-    ensures { IsTrue result ↔ IsReadable names.now (AskedRule rule.now) }
+/// Whether the canonical text of a work whose names are there is no longer than a line.
+fn is_short(names: &Names, work: &Work) -> bool
+    requires { IsWorkThere names.now work.now }
+    ensures { IsTrue result ↔ (length (canonical_line names.now (asked.Work work.now)) ≤ most_line_bytes) }
 {
-    canonical_rule_reads_again();
-    canonical_rule_is_shortest();
-    // asked for the proof alone: no name stands twice in a table
-    let _ = names.scheme();
-    is_rule_there(names, rule) && is_rule_short(names, rule)
+    let mut length = Length::new();
+    match put_work(&mut length, names, work) {
+        Ok(()) => length.fits(),
+        Err(never) => match never {},
+    }
 }
 
 /// What can tell which works some text reads as.
@@ -204,9 +175,9 @@ impl KnowsWorks for Names {
     fn knows(&self, work: &Work) -> bool
         ensures { IsTrue result ↔ IsReadable self.now work.now }
     {
-        match work {
-            Work::Behaviour(script) => knows_script(self, script),
-            Work::Rule(rule) => knows_rule(self, rule),
-        }
+        readable_is_known();
+        // asked for the proof alone: no name stands twice in a table
+        let _ = self.scheme();
+        is_there(self, work) && is_short(self, work)
     }
 }

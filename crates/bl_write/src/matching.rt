@@ -5,20 +5,14 @@ ghost use Rattle.bl_level.specs.Canonical.{spelled};
 ghost use Rattle.bl_level.specs.Token.{tok};
 ghost use Rattle.bl_work.specs.Readable.{IsReadable};
 ghost use Rattle.bl_work.specs.declared.asked.Line.TheVariants as asked;
-ghost use Rattle.bl_work.specs.declared.work.Work.TheVariants.{Behaviour, Rule as AskedRule};
 ghost use Rattle.bl_write.specs.CanonicalLine.{canonical_line};
-ghost use Rattle.bl_write.specs.Known.{canonical_rule, canonical_script};
 ghost use Rattle.bl_write.specs.Matching.{left_of, matched, nothing_matched};
 
-use crate::canonical::{canonical_rule_is_shortest, canonical_script_is_shortest};
+use crate::room::{is_word, sign_text};
 use crate::sink::Sink;
-use crate::spell::put_when;
-use crate::spell_rules::put_rule;
-use crate::write::{is_word, sign_text};
+use crate::spell_work::put_readable;
 use bl_level::token::Token;
-use bl_policy::rule::Rule;
 use bl_work::names::Names;
-use bl_work::script::Script;
 use bl_work::work::Work;
 use std::convert::Infallible;
 use std::marker::Model;
@@ -92,7 +86,7 @@ impl<'a> Sink for Left<'a> {
 
     ghost taken = { matched };
 
-    /// Goes on behind a token, and behind a space before it where it follows a word and is one.
+    /// Goes on after a token, and after a space before it where it follows a word and is one.
     fn put(&mut self, token: Token<'_>) -> Result<(), Infallible> {
         if self.ends_with_word && is_word(token) {
             self.rest = after(self.rest, b" ");
@@ -103,43 +97,14 @@ impl<'a> Sink for Left<'a> {
     }
 }
 
-/// Whether this is the canonical text of a script that some text reads as.
-fn is_script_text(names: &Names, script: &Script, text: &[u8]) -> bool
-    requires { IsReadable names.now (Behaviour script.now) }
-    ensures { IsTrue result ↔ (text.now ≡ canonical_script names.now script.now) }
-{
-    canonical_script_is_shortest();
-    // asked for the proof alone: a script has a behaviour, and its accesses are declared as a script's are
-    let _ = script.weight();
-    let mut left = Left::new(text);
-    match put_when(&mut left, names, script, 0) {
-        Ok(()) => left.is_over(),
-        Err(never) => match never {},
-    }
-}
-
-/// Whether this is the canonical text of a rule that some text reads as.
-fn is_rule_text(names: &Names, rule: Rule, text: &[u8]) -> bool
-    requires { IsReadable names.now (AskedRule rule) }
-    ensures { IsTrue result ↔ (text.now ≡ canonical_rule names.now rule) }
-{
-    canonical_rule_is_shortest();
-    // asked for the proof alone: no name stands twice in a table
-    let _ = names.scheme();
-    let mut left = Left::new(text);
-    match put_rule(&mut left, names, rule) {
-        Ok(()) => left.is_over(),
-        Err(never) => match never {},
-    }
-}
-
 /// Whether this is the canonical text of a work that some text reads as. It takes no memory.
 pub fn is_text_of(names: &Names, work: &Work, text: &[u8]) -> bool
     requires { IsReadable names.now work.now }
     ensures { IsTrue result ↔ (text.now ≡ canonical_line names.now (asked.Work work.now)) }
 {
-    match work {
-        Work::Behaviour(script) => is_script_text(names, script, text),
-        Work::Rule(rule) => is_rule_text(names, *rule, text),
+    let mut left = Left::new(text);
+    match put_readable(&mut left, names, work) {
+        Ok(()) => left.is_over(),
+        Err(never) => match never {},
     }
 }

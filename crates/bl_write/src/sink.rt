@@ -1,4 +1,4 @@
-//! What takes tokens, one behind the other.
+//! What takes tokens, one after the other.
 ghost use Rattle.std.specs.Prelude.{◌≡◌, fold, OnOk};
 ghost use Rattle.bl_level.specs.Token.{Tok, tok, toks};
 
@@ -11,7 +11,7 @@ pub trait Sink {
 
     ghost taken: { Self → Tok → Self };
 
-    /// Takes a token behind those that it has taken.
+    /// Takes a token after those that it has taken.
     fn put(&mut self, token: Token<'_>) -> Result<(), Self::Refusal>
         ensures { OnOk result (self.new ≡ taken self.old (tok token.entry)) };
 }

@@ -1,4 +1,4 @@
-//! The tokens of a script, put one behind the other: of each `when` its accesses and its statements, and where these
+//! The tokens of a script, put one after the other: of each `when` its accesses and its statements, and where these
 //! spawn a behaviour, the tokens of its `when`.
 ghost use Rattle.std.specs.Prelude.{◌≡◌, ◌<◌, [], ◌∷◌, map, fold, length, OnOk};
 ghost use Rattle.bl_level.specs.Token.{reserved, name, text, sign};
@@ -51,14 +51,12 @@ fn put_access<S: Sink>(sink: &mut S, names: &Names, access: Access) -> Result<()
     requires { access.doc < length names.now.documents }
     ensures { OnOk result (sink.new ≡ fold S.taken sink.old (spell_access (unread_access names.now access) [])) }
 {
-    let name = name_of(names, access.doc);
-    put_all(
-        sink,
-        &[Token::Reserved(mode_word(access.mode)), Token::Name(name)],
-    )
+    let mode = Token::Reserved(mode_word(access.mode));
+    let document = Token::Name(name_of(names, access.doc));
+    put_all(sink, &[mode, document])
 }
 
-/// Puts the accesses behind the first one of a `when`.
+/// Puts the accesses after the first one of a `when`.
 fn put_more<S: Sink>(sink: &mut S, names: &Names, accesses: &[Access]) -> Result<(), S::Refusal>
     requires { AreIn (length names.now.documents) accesses.now }
     ensures { OnOk result (sink.new ≡ fold S.taken sink.old
@@ -83,16 +81,10 @@ fn put_change<'a, S: Sink>(
     ensures { OnOk result (sink.new ≡ fold S.taken sink.old
         (reserved word ∷ name (name_at names.now doc) ∷ text words.now ∷ sign Semicolon ∷ [])) }
 {
+    let change = Token::Reserved(word);
     let document = Token::Name(name_of(names, doc));
-    put_all(
-        sink,
-        &[
-            Token::Reserved(word),
-            document,
-            Token::Text(words),
-            SEMICOLON,
-        ],
-    )
+    let text = Token::Text(words);
+    put_all(sink, &[change, document, text, SEMICOLON])
 }
 
 /// Puts a statement that copies or pours a document into another.
@@ -109,13 +101,11 @@ fn put_move<S: Sink>(
         (reserved word ∷ name (name_at names.now from) ∷ reserved To ∷ name (name_at names.now to)
         ∷ sign Semicolon ∷ [])) }
 {
+    let moves = Token::Reserved(word);
     let source = Token::Name(name_of(names, from));
-    let target = Token::Name(name_of(names, to));
     let to_word = Token::Reserved(Keyword::To);
-    put_all(
-        sink,
-        &[Token::Reserved(word), source, to_word, target, SEMICOLON],
-    )
+    let target = Token::Name(name_of(names, to));
+    put_all(sink, &[moves, source, to_word, target, SEMICOLON])
 }
 
 /// Puts the condition of an `if`.
@@ -131,19 +121,12 @@ fn put_condition<'a, S: Sink>(
         (reserved If ∷ name (name_at names.now doc) ∷ reserved (spelled.asks_word test) ∷ text words.now
         ∷ reserved Then ∷ [])) }
 {
+    let if_word = Token::Reserved(Keyword::If);
     let document = Token::Name(name_of(names, doc));
     let asks = Token::Reserved(asks_word(test));
-    let then = Token::Reserved(Keyword::Then);
-    put_all(
-        sink,
-        &[
-            Token::Reserved(Keyword::If),
-            document,
-            asks,
-            Token::Text(words),
-            then,
-        ],
-    )
+    let text = Token::Text(words);
+    let then_word = Token::Reserved(Keyword::Then);
+    put_all(sink, &[if_word, document, asks, text, then_word])
 }
 
 /// Puts the `when` of a behaviour, by its number.
@@ -205,11 +188,9 @@ fn put_statement<S: Sink>(
 {
     match statement {
         Stmt::Show(doc) => {
-            let name = name_of(names, *doc);
-            put_all(
-                sink,
-                &[Token::Reserved(Keyword::Show), Token::Name(name), SEMICOLON],
-            )
+            let show = Token::Reserved(Keyword::Show);
+            let document = Token::Name(name_of(names, *doc));
+            put_all(sink, &[show, document, SEMICOLON])
         }
         Stmt::Say(text) => {
             let text = Token::Text(text.bytes());

@@ -1,4 +1,4 @@
-//! The tokens of a rule, put one behind the other: its names, its letter, and its level with the categories in the
+//! The tokens of a rule, put one after the other: its names, its letter, and its level with the categories in the
 //! scheme's order.
 ghost use Rattle.std.specs.Prelude.{◌≡◌, ◌<◌, if◌then◌else◌, [], ◌∷◌, fold, length, OnOk};
 ghost use Rattle.bl_name.specs.declared.token.Sign.TheVariants.{Comma, Open};
@@ -41,7 +41,7 @@ fn put_right<S: Sink>(
     put_all(sink, &[Token::Reserved(word), whose, document, letter])
 }
 
-/// The sign before a category: a comma behind another one, or else the opening brace.
+/// The sign before a category: a comma after another one, or else the opening brace.
 fn sign_before(opened: bool) -> Sign
     ensures { result ≡ if opened then Comma else Open }
 {

@@ -7,18 +7,7 @@ use Rattle.bl_write.proofs.write.write_line.Goals as goal
 -- the laws are called before the text is written
 written : (c : goal.After-text_of) → IsWritten c.args.names.now c.args.line.now (canonical_line c.args.names.now c.args.line.now)
 written c =
-    line_written c.args.names.now
-    (record {
-      again = c.canonical_reads_again.ensures;
-      shortest = c.canonical_is_shortest.ensures;
-      proper = c.read_tokens_are_proper.ensures;
-      script_again = c.canonical_script_reads_again.ensures;
-      script_shortest = c.canonical_script_is_shortest.ensures.shortest;
-      script_known = c.canonical_script_is_shortest.ensures.known;
-      rule_again = c.canonical_rule_reads_again.ensures;
-      rule_shortest = c.canonical_rule_is_shortest.ensures.shortest;
-      rule_known = c.canonical_rule_is_shortest.ensures.known;
-    })
+    line_written c.args.names.now c.canonical_reads_again.ensures c.canonical_is_shortest.ensures c.read_tokens_are_proper.ensures
     c.args.line.now c.scheme.ensures.names c.requires.0 c.requires.1
 
 pub returns-clause-reads : goal.returns-clause-reads

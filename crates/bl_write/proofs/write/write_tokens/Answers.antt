@@ -7,5 +7,5 @@ use Rattle.bl_write.proofs.write.write_tokens.Goals as goal
 
 pub returns : goal.returns
 returns c =
-    c.into_bytes.ensures ∙ ap (λ (w : Written). w.bytes) (c.in_ok-put_all.ensures ∙ ap (λ (w : Written). fold with_token w (toks c.args.tokens.now)) c.new-text.ensures)
+    ap (λ (w : Written). w.bytes) (c.text.view_is ∙ c.in_ok-put_all.ensures ∙ ap (λ (w : Written). fold with_token w (toks c.args.tokens.now)) c.new-text.ensures)
     ∙ written_is_canonical (toks c.args.tokens.now)
