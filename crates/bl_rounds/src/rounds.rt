@@ -743,7 +743,6 @@ impl<'a, S: Stream> Rounds<'a, S> {
     }
 
     /// Gives the pass back. All that it has started has ended. Streams of connections that have not left are dropped.
-    #[tactic(auto, using(crate::proofs::Going::rest_follows, crate::proofs::Going::rest_settles))]
     pub fn close(self) -> Pass
     where
         S: Drop,
