@@ -114,7 +114,8 @@ fn what_is_left_is_told_to_workers(rt: HostRuntime) {
         events: None,
     };
     let mut thread = Rounds::new(alloc, &gate, pass);
-    let stream = ends_of(alloc, says.as_slice(), pausing_at(4), Manner::PLAIN);
+    // four reads take all of it
+    let stream = ends_of(alloc, says.as_slice(), pausing_at(5), Manner::PLAIN);
     assert!(rt; thread.join(stream, 1).is_ok());
     for _ in 0..ROUNDS {
         thread.round(&context, &mut NoQuota);
