@@ -1,5 +1,7 @@
-//! What is left where a growth is refused.
-use super::base::{ANN, MEMO, SHOW_MEMO, base_or_none, finish, has, is_done, is_lost, right, run};
+//! What is left in a core where a growth is refused. With ample memory each test here passes by what is done alone. It
+//! passes whatever single growth is refused too, and `starved_and_lost` where its second entry's start is refused one
+//! after its first is lost: `bench/growths` refuses them, and tells so by a file.
+use super::base::{ANN, MEMO, SHOW_MEMO, base_or_none, finish, has, is_done, is_lost, run};
 use bl_core::machine::{Core, Started};
 use bl_core::refusal::{NotReady, StartFault, Starved};
 use bl_core::session::SessionNo;
@@ -9,7 +11,30 @@ use bl_policy::id::SubjectId;
 use bl_read::line::read_line;
 use bl_work::asked::Line;
 use std::alloc::{AllocGlobal, Global};
+use std::fs;
+use std::io::Print;
 use std::process::Abort;
+use std::rt::Files;
+
+/// How many growths were refused so far: who refuses one adds a byte to this file then, in the folder where the test
+/// runs.
+fn refusals(rt: &impl Files) -> u64 {
+    match fs::metadata(rt, "refused") {
+        Ok(file) => file.len(),
+        Err(_) => 0,
+    }
+}
+
+/// Says what came of a call.
+fn say(rt: &impl Print, came: &str) {
+    let _ = println!(rt; "{came}");
+}
+
+/// Asserts that a growth was refused in a call, before which so many were, and says what came of it.
+fn say_refused<R: Abort + Files + Print>(rt: &R, before: u64, came: &str) {
+    assert!(rt; refusals(rt) > before, "no growth was refused");
+    say(rt, came);
+}
 
 /// Whether a line of `ann` is admitted: not where a growth of its reading is refused.
 fn admits(core: &mut Core, alloc: Global, ordinal: u32, text: &str) -> bool {
@@ -37,28 +62,15 @@ fn admitted(alloc: Global) -> Option<Core> {
     }
 }
 
-/// What was left undone, which the core did not lend and hands back.
-fn handed_back(rt: &impl Abort, core: &mut Core, unrun: Unrun) -> Unrun {
-    match core.lose(unrun) {
-        Ok(()) => panic!(rt; "not foreign"),
-        Err(foreign) => foreign.into_unrun(),
-    }
-}
-
-/// Ends what a running entry was lent as lost. It comes back from another core first, in which nothing runs.
-fn lose(rt: &impl Abort, core: &mut Core, other: &mut Core, unrun: Unrun) {
-    let unrun = handed_back(rt, other, unrun);
-    match core.lose(unrun) {
-        Ok(()) => {}
-        Err(_foreign) => panic!(rt; "foreign"),
-    }
-}
-
-/// Ends an entry with what is done of what it was lent, or as lost.
-fn finish_or_lose<R: AllocGlobal + Abort>(rt: &R, core: &mut Core, other: &mut Core, lent: Lent) {
-    match eval(rt.alloc(), lent) {
-        Ok(done) => finish(rt, core, done),
-        Err(unrun) => lose(rt, core, other, unrun),
+/// A core like that, beside one in which nothing is admitted; none where a growth is refused.
+fn admitted_and_idle(alloc: Global) -> Option<(Core, Core)> {
+    let other = idle(alloc)?;
+    match admitted(alloc) {
+        Some(core) => Some((core, other)),
+        None => {
+            drop(other);
+            None
+        }
     }
 }
 
@@ -73,14 +85,69 @@ fn lose_starved(rt: &impl Abort, core: &mut Core, starved: Starved) {
     assert!(rt; core.lose_ready(starved).is_ok());
 }
 
-/// Starts and ends the entry that adds.
-fn add<R: AllocGlobal + Abort>(rt: &R, core: &mut Core, other: &mut Core) {
+/// Starts the entry that adds, and gives what it is lent; or ends it as lost, where a growth was refused.
+fn begin_to_add<R: Abort + Files + Print>(rt: &R, core: &mut Core) -> Option<Lent> {
+    let before = refusals(rt);
     match core.start(0) {
-        Ok(Started::Run(lent)) => finish_or_lose(rt, core, other, lent),
+        Ok(Started::Run(lent)) => Some(lent),
         Ok(Started::Denied(_)) | Ok(Started::RuleDone) => panic!(rt; "nothing lent"),
         Err(StartFault::NotReady) => panic!(rt; "not ready"),
-        Err(StartFault::Memory(starved)) => lose_starved(rt, core, starved),
+        Err(StartFault::Memory(starved)) => {
+            say_refused(rt, before, "0 starved");
+            lose_starved(rt, core, starved);
+            None
+        }
     }
+}
+
+/// Ends what a running entry was lent as lost.
+fn lose(rt: &impl Abort, core: &mut Core, unrun: Unrun) {
+    match core.lose(unrun) {
+        Ok(()) => {}
+        Err(_foreign) => panic!(rt; "foreign"),
+    }
+}
+
+/// Ends a running entry with what is done of what it was lent; or as lost, where a growth was refused. Says which, and
+/// gives whether it is done.
+fn finish_or_lose<R: AllocGlobal + Abort + Files + Print>(
+    rt: &R,
+    core: &mut Core,
+    lent: Lent,
+    lost: &str,
+) -> bool {
+    let before = refusals(rt);
+    match eval(rt.alloc(), lent) {
+        Ok(done) => {
+            finish(rt, core, done);
+            say(rt, "own");
+            true
+        }
+        Err(unrun) => {
+            say_refused(rt, before, lost);
+            lose(rt, core, unrun);
+            false
+        }
+    }
+}
+
+/// Starts and ends the entry that adds, and gives whether it is done.
+fn add<R: AllocGlobal + Abort + Files + Print>(rt: &R, core: &mut Core) -> bool {
+    match begin_to_add(rt, core) {
+        Some(lent) => finish_or_lose(rt, core, lent, "0 lost"),
+        None => false,
+    }
+}
+
+/// Asserts what the entry that adds has left: nothing, where it was lost.
+fn assert_added(rt: &impl Abort, core: &Core, done: bool) {
+    assert!(rt;
+        if done {
+            is_done(core, 0, &[]) && has(core, MEMO, "m1a")
+        } else {
+            is_lost(core, 0) && has(core, MEMO, "m1")
+        }
+    );
 }
 
 /// An entry whose start was refused a growth is started again. After its end it is not lost any more.
@@ -91,37 +158,107 @@ fn show_again<R: AllocGlobal + Abort>(rt: &R, core: &mut Core, starved: Starved)
     assert!(rt; core.lose_ready(starved) == Err(NotReady));
 }
 
-/// Starts and ends the entry that shows.
-fn show<R: AllocGlobal + Abort>(rt: &R, core: &mut Core, other: &mut Core) {
+/// Starts and ends the entry that shows, and gives whether it is done.
+fn show<R: AllocGlobal + Abort + Files + Print>(rt: &R, core: &mut Core) -> bool {
+    let before = refusals(rt);
     match core.start(1) {
-        Ok(Started::Run(lent)) => finish_or_lose(rt, core, other, lent),
+        Ok(Started::Run(lent)) => finish_or_lose(rt, core, lent, "1 lost"),
         Ok(Started::Denied(_)) | Ok(Started::RuleDone) => panic!(rt; "nothing lent"),
         Err(StartFault::NotReady) => panic!(rt; "not ready"),
-        Err(StartFault::Memory(starved)) => show_again(rt, core, starved),
+        Err(StartFault::Memory(starved)) => {
+            say_refused(rt, before, "1 starved");
+            show_again(rt, core, starved);
+            true
+        }
     }
 }
 
-/// What the memo has once the entry that adds has ended: what it had, where that one was lost.
-fn memo_after<'a>(core: &Core) -> &'a str {
-    if is_lost(core, 0) { "m1" } else { "m1a" }
+/// Asserts that the entry that shows has shown what the one that adds has left, or is lost.
+fn assert_shown(rt: &impl Abort, core: &Core, added: bool, done: bool) {
+    let memo = if added { "m1a" } else { "m1" };
+    assert!(rt;
+        if done {
+            is_done(core, 1, &[memo])
+        } else {
+            is_lost(core, 1)
+        }
+    );
 }
 
-/// It passes with ample memory, and with any one of its growths refused, one in each run
-/// (`rt try --test --fail-alloc N`): there is no core then, or an entry that was refused a growth at its start is as it
-/// was, and one that was refused a growth while it ran is lost, and has changed nothing.
+/// An entry that was refused a growth while it ran is lost, and has changed nothing. One that was refused a growth at
+/// its start is as it was.
 #[test]
 fn starved_and_lost(rt: HostRuntime) {
-    if let Some(other) = idle(rt.alloc()) {
-        let mut other = other;
-        if let Some(core) = admitted(rt.alloc()) {
+    match admitted(rt.alloc()) {
+        Some(core) => {
             let mut core = core;
-            add(&rt, &mut core, &mut other);
-            let memo = memo_after(&core);
-            assert!(rt; has(&core, MEMO, memo));
-            show(&rt, &mut core, &mut other);
-            assert!(rt; is_lost(&core, 1) || is_done(&core, 1, &[memo]));
+            let added = add(&rt, &mut core);
+            assert_added(&rt, &core, added);
+            let shown = show(&rt, &mut core);
+            assert_shown(&rt, &core, added, shown);
+            assert_added(&rt, &core, added);
             drop(core);
         }
-        drop(other);
+        None => say_refused(&rt, 0, "before"),
+    }
+}
+
+/// What was left undone, which the core did not lend and hands back.
+fn handed_back(rt: &impl Abort, core: &mut Core, unrun: Unrun) -> Unrun {
+    match core.lose(unrun) {
+        Ok(()) => panic!(rt; "not foreign"),
+        Err(foreign) => foreign.into_unrun(),
+    }
+}
+
+/// Ends the entry that adds as `finish_or_lose` does. What was left undone comes back from another core first, in which
+/// nothing runs.
+fn finish_or_lose_in_turn<R: AllocGlobal + Abort + Files + Print>(
+    rt: &R,
+    core: &mut Core,
+    other: &mut Core,
+    lent: Lent,
+) -> bool {
+    let before = refusals(rt);
+    match eval(rt.alloc(), lent) {
+        Ok(done) => {
+            finish(rt, core, done);
+            say(rt, "own");
+            true
+        }
+        Err(unrun) => {
+            say_refused(rt, before, "0 lost");
+            let unrun = handed_back(rt, other, unrun);
+            lose(rt, core, unrun);
+            false
+        }
+    }
+}
+
+/// Starts and ends the entry that adds, beside another core, and gives whether it is done.
+fn add_beside<R: AllocGlobal + Abort + Files + Print>(
+    rt: &R,
+    core: &mut Core,
+    other: &mut Core,
+) -> bool {
+    match begin_to_add(rt, core) {
+        Some(lent) => finish_or_lose_in_turn(rt, core, other, lent),
+        None => false,
+    }
+}
+
+/// A core loses what it lent alone.
+#[test]
+fn foreign_lose(rt: HostRuntime) {
+    match admitted_and_idle(rt.alloc()) {
+        Some((core, other)) => {
+            let mut core = core;
+            let mut other = other;
+            let added = add_beside(&rt, &mut core, &mut other);
+            assert_added(&rt, &core, added);
+            drop(core);
+            drop(other);
+        }
+        None => say_refused(&rt, 0, "before"),
     }
 }

@@ -21,12 +21,23 @@ use std::alloc::AllocGlobal;
 use std::process::Abort;
 use std::sync::Wait;
 
-/// The base setup, as far as the tests speak of it.
+/// The base setup.
 pub(super) const BASE: &[u8] = b"ranks u c s t\n\
 categories nato crypto\n\
 subject ann greatest s{nato} current s{nato}\n\
+subject bob greatest s{nato} current u\n\
+subject cat greatest s{crypto} current s{crypto}\n\
+subject root greatest t{nato,crypto} current u trusted admin\n\
 document memo s{nato} \"m1\"\n\
-allow ann memo r w\n";
+document note u \"n1\"\n\
+document log t{nato,crypto} \"\"\n\
+allow ann memo r w\n\
+allow ann note r w\n\
+allow ann log r a\n\
+allow bob memo r w a\n\
+allow bob note r w\n\
+allow cat memo r\n\
+allow root note r w\n";
 
 /// The subject `ann`.
 pub(super) const ANN: u16 = 0;
@@ -184,14 +195,4 @@ pub(super) fn assert_all_parts(rt: &impl Abort, pass: &Pass) {
 /// Asserts what has happened in a hall.
 pub(super) fn assert_trail(rt: &impl Abort, hall: &Hall, events: &[Event]) {
     assert!(rt; hall.trail() == events);
-}
-
-/// Closes a gate with a pass that has all parts, and asserts what has happened in its hall.
-pub(super) fn assert_closed(rt: &impl Abort, gate: Gate, pass: Pass, events: &[Event])
-    requires gate { pass.gate ≡ gate }
-    requires parts { pass.parts ≡ 64 }
-{
-    let hall = gate.close(pass);
-    assert_trail(rt, &hall, events);
-    drop(hall);
 }

@@ -3,7 +3,7 @@
 //!     base        a gate over the base setup, and what the tests ask of it
 //!     memory      a turn where a growth is refused
 //!     writes      what one pass finds of its own calls
-//!     turns       one turn through the gate
+//!     turns       one turn through the gate, and its trail
 //!     several     several calls in one turn at the gate
 //!     overlaps    two behaviours that run side by side
 //!     ends        how two passes end what each has in hand

@@ -1,12 +1,15 @@
 //! One turn through the gate.
 use super::base::{
-    ANN, ask, assert_all_parts, assert_answered, assert_closed, assert_first, base_gate,
+    ANN, ask, assert_all_parts, assert_answered, assert_first, assert_trail, base_gate, right,
 };
+use bl_audit::trail::write_trail;
 use bl_hall::event::Event;
 use bl_hall::hall::Hall;
 use bl_policy::id::SubjectId;
+use bl_wire::watched::Watched;
 use bl_worker::pause::NoPause;
 use bl_worker::turn::{Turn, work_once};
+use std::alloc::AllocGlobal;
 use std::process::Abort;
 
 /// The events of one line and its turn.
@@ -22,13 +25,30 @@ fn events_of_a_turn() -> [Event; 4] {
     ]
 }
 
+/// Their text.
+const TEXT: &str = "trail 2\n\
+limit 10000\n\
+open ann\n\
+line 0 1 when read memo do show memo;end\n\
+start 0 run\n\
+end 0 done \"m1\"\n\
+stop\n";
+
+/// Asserts the text of a hall's trail.
+fn assert_text<R: AllocGlobal + Abort>(rt: &R, hall: &Hall, wanted: &str) {
+    let mut text = Watched::new(Vec::new(rt.alloc()));
+    right(rt, write_trail(rt.alloc(), hall, &mut text));
+    let text = text.into_inner();
+    assert!(rt; text.as_slice() == wanted.as_bytes());
+}
+
 /// Asserts what became of a turn.
 fn assert_turn(rt: &impl Abort, turn: Turn, expected: Turn) {
     assert!(rt; turn == expected);
 }
 
 /// One pass opens a session and admits a line, another takes the turn, and the hall has what was done once the two have
-/// met.
+/// met. Its trail is written.
 #[test]
 fn one_turn_through_the_gate(rt: HostRuntime) {
     let (gate, mut pass) = base_gate(&rt);
@@ -40,7 +60,10 @@ fn one_turn_through_the_gate(rt: HostRuntime) {
     assert_answered(&rt, &gate, &mut pass, session);
     gate.meet(&mut pass, other);
     assert_all_parts(&rt, &pass);
-    assert_closed(&rt, gate, pass, events_of_a_turn().as_slice());
+    let hall = gate.close(pass);
+    assert_trail(&rt, &hall, events_of_a_turn().as_slice());
+    assert_text(&rt, &hall, TEXT);
+    drop(hall);
 }
 
 /// Asserts that nothing has happened in a hall.

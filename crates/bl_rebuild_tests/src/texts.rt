@@ -16,7 +16,7 @@ fn assert_trail<R: AllocGlobal + Abort>(rt: &R, hall: &Hall, events: u64, wanted
 }
 
 #[test]
-fn one_turn_through_the_gate(rt: HostRuntime) {
+fn trail_of_read_one(rt: HostRuntime) {
     let mut hall = hall_for(&rt, 10_000, &[0]);
     admit(&rt, &mut hall, 0, 1, b"when read memo do show memo; end");
     run(&rt, &mut hall, 0);
