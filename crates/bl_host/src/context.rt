@@ -61,7 +61,7 @@ impl<'a, P: Pause, K: Keep, T: Wait> ThreadContext<'a, P, K, T> {
         requires { pass.gate ≡ self.now.gate.now }
         ensures { Follows pass result }
     {
-        let _closed = run_worker(
+        let _last = run_worker(
             self.rt,
             self.alloc,
             self.gate,

@@ -2,6 +2,7 @@
 
 use crate::count::{Count, Counted, EndToRing, Flag, Looked, Seen, Sleeper, Woken};
 use crate::wake_up::WakeUp;
+use bl_gate::turn::Turn as AtGate;
 use std::sync::{Mutex, Wait};
 
 /// That a bell is closed, as its owner knows who has closed it, and who was told so where it waited. Nobody else has
@@ -22,6 +23,18 @@ impl Closed {
         let _ = (work, ends);
         Closed::told()
     }
+
+    /// Looks in a turn at the gate, which finds all that was admitted before the bell was closed.
+    pub fn look(self, turn: &AtGate<'_>) -> LastLook {
+        let _ = turn;
+        LastLook { _closed: self }
+    }
+}
+
+/// That who was told that a bell is closed has looked in a turn at the gate since. Only a turn gives it.
+#[derive(Drop)]
+pub struct LastLook {
+    _closed: Closed,
 }
 
 /// What a worker asks of a bell. Who is woken beside the threads that wait at one, as threads that sleep elsewhere, has

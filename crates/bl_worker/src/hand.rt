@@ -1,11 +1,14 @@
 //! What a worker has in hand from one turn at the gate to the next.
 ghost use Rattle.std.specs.Prelude.{◌≡◌, ℕ, IsTrue};
-ghost use Rattle.bl_order.specs.Machine.{has_ended};
+ghost use Rattle.bl_order.specs.Machine.{MayStart, has_ended};
 ghost use Rattle.bl_hall.specs.Chronicle.{HasTrail};
 ghost use Rattle.bl_gate.specs.Gates.{Follows, hall_seen, state_seen};
 ghost use Rattle.bl_worker.specs.Turns.{AddsTurnsAlone, AddsTurnsOf, Settles};
 ghost use Rattle.bl_worker.specs.Hands.{Holds, HasInHand, IsHandOf, IsLent, MissesNone, RunsEntry, SettlesBut};
+ghost use Rattle.bl_worker.specs.declared.turn.Begun.TheVariants.{Over};
+ghost use Rattle.bl_worker.specs.declared.turn.Turn.TheVariants.{Idle};
 
+use crate::bell::{Closed, LastLook};
 use crate::count::{EndToRing, Looked, Seen};
 use crate::pause::Pause;
 use crate::turn::{Begun, Turn, begin_next};
@@ -54,14 +57,16 @@ fn put_down(turn: &mut AtGate<'_>, hand: Hand) -> bool
 }
 
 /// A worker's turn at the gate: it ends the entry in hand, and begins one that is ready, if there is one. Where an
-/// entry has ended, that is to be rung. The count of calls was read before, so that it may wait where none is ready.
+/// entry has ended, that is to be rung. The count of calls was read before, so that it may wait where none is ready;
+/// and where it was told before that the bell is closed, the turn is a look since then.
 pub(crate) fn take_turn<R: Wait>(
     rt: &R,
     gate: &Gate,
     pass: &mut Pass,
     hand: Hand,
     seen: Seen,
-) -> (Option<EndToRing>, Begun, Looked)
+    closed: Option<Closed>,
+) -> (Option<EndToRing>, Begun, Looked, Option<LastLook>)
     requires gate { pass.old.gate ≡ gate.now }
     requires held { HasInHand pass.old hand }
     ensures follows { Follows pass.old pass.new }
@@ -69,6 +74,7 @@ pub(crate) fn take_turn<R: Wait>(
     ensures adds { AddsTurnsAlone pass.old pass.new }
     ensures lent { IsLent pass.new result.1 }
     ensures missed { MissesNone result.1 }
+    ensures idle { result.1 ≡ Over Idle → (n : ℕ) → ¬ MayStart (state_seen pass.new) n }
     ensures settles { SettlesBut (RunsEntry result.1) pass.old pass.new }
     ensures ended { (n : ℕ) → Holds hand n → IsTrue (has_ended (state_seen pass.new) n) }
 {
@@ -76,10 +82,14 @@ pub(crate) fn take_turn<R: Wait>(
     let put_down = put_down(&mut turn, hand);
     let begun = begin_next(&mut turn);
     let looked = seen.look(&turn);
+    let last = match closed {
+        Some(closed) => Some(closed.look(&turn)),
+        None => None,
+    };
     *pass = turn.leave();
     let over = match &begun {
         Begun::Over(Turn::Idle) | Begun::Runs(_) => false,
         Begun::Over(_) => true,
     };
-    (EndToRing::if_any(put_down || over), begun, looked)
+    (EndToRing::if_any(put_down || over), begun, looked, last)
 }

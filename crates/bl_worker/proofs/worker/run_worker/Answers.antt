@@ -7,15 +7,15 @@ use Rattle.bl_worker.proofs.Adding.{adds_no_line, adds_then}
 use Rattle.bl_worker.proofs.Handing.{but_then, hand_of, held_as, holds_what_ran, over_runs_none, settled_all}
 use Rattle.bl_worker.proofs.worker.run_worker.Goals as goal
 
-pub returns-in-Some-closed-clause-adds : goal.returns-in-Some-closed-clause-adds
-returns-in-Some-closed-clause-adds g c =
+pub returns-in-Some-last-clause-adds : goal.returns-in-Some-last-clause-adds
+returns-in-Some-last-clause-adds g c =
     adds_then _ c.args.pass.now c.loop.pass c.take_turn-ended.new.pass c.loop.invariant.4 c.take_turn-ended.ensures.adds c.take_turn-ended.ensures.follows
 
-pub returns-in-Some-closed-clause-lines : goal.returns-in-Some-closed-clause-lines
-returns-in-Some-closed-clause-lines g c = adds_no_line _ c.args.pass.now c.take_turn-ended.new.pass (returns-in-Some-closed-clause-adds g c)
+pub returns-in-Some-last-clause-lines : goal.returns-in-Some-last-clause-lines
+returns-in-Some-last-clause-lines g c = adds_no_line _ c.args.pass.now c.take_turn-ended.new.pass (returns-in-Some-last-clause-adds g c)
 
-pub returns-in-Some-closed-clause-settles : goal.returns-in-Some-closed-clause-settles
-returns-in-Some-closed-clause-settles g c =
+pub returns-in-Some-last-clause-settles : goal.returns-in-Some-last-clause-settles
+returns-in-Some-last-clause-settles g c =
     let whole = but_then (Holds c.loop.hand) (RunsEntry c.take_turn-ended.result.1) c.args.pass.now c.loop.pass c.take_turn-ended.new.pass c.loop.invariant.3 c.take_turn-ended.ensures.settles c.take_turn-ended.ensures.follows
     c.take_turn-ended.ensures.trail c.take_turn-ended.ensures.ended in
     settled_all _ c.args.pass.now c.take_turn-ended.new.pass whole (λ n runs. absurd (over_runs_none c.take_turn-ended.result.1 _ c.in-Over-Idle.is n runs))
