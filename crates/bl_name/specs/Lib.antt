@@ -5,5 +5,4 @@ pub mod FrontView
 pub mod Cutting
 pub mod Canonical
 pub mod Table
-pub mod Places
 pub mod TableFault

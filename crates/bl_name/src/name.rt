@@ -1,5 +1,5 @@
 //! A name: a word of 1 to 32 bytes that is not reserved.
-ghost use Rattle.std.specs.Prelude.{◌≡◌, ℕ, ◌↔◌, IsTrue, IsSome, IfNone, IfSome, List, length, ◌≤◌};
+ghost use Rattle.std.specs.Prelude.{◌≡◌, ℕ, ◌↔◌, IsTrue, IsSome, IfSome, List, length, ◌≤◌};
 ghost use Rattle.std.specs.List.{list_all, fold};
 ghost use Rattle.std.specs.Hash as fed;
 ghost use Rattle.std.specs.Hash.{same_Alike};
@@ -12,6 +12,7 @@ ghost use Rattle.bl_name.specs.Name.{IsName, IsWord, begins_with_letter};
 
 use crate::lexer::{Class, is_in, keyword_of};
 use arrayvec::ArrayVec;
+use indexmap::Equivalent;
 use std::hash::{Hash, Hasher};
 use std::marker::Model;
 
@@ -54,16 +55,6 @@ impl Name {
         self.bytes.as_slice()
     }
 
-    /// The bytes by which the name is looked up.
-    pub(crate) fn spelling(&self) -> Spelling
-        ensures value { result ≡ self.now }
-        ensures name { IsName self.now }
-    {
-        Spelling {
-            bytes: kept(self.bytes.as_slice()),
-        }
-    }
-
     /// The same name again. It takes no memory.
     pub fn copy(&self) -> Name
         ensures { result ≡ self.now }
@@ -74,42 +65,49 @@ impl Name {
     }
 }
 
-/// At most 32 bytes, whether they are a name or not, by which a name is looked up.
-#[derive(PartialEq, Eq, Drop)]
-pub(crate) struct Spelling {
-    bytes: ArrayVec<u8, 32>,
+/// What a name's bytes feed a hasher: one write, in place of one for each byte.
+fn feed<H: Hasher>(bytes: &[u8], state: &mut H)
+    ensures { state.new ≡ fold H.write state.old (fed.str bytes.now) }
+{
+    state.write(bytes);
+    state.write_u8(0xff);
 }
 
-impl Model for Spelling {
-    ghost Value = { List ℕ };
-
-    ghost view = { λ s. s.bytes.items };
-
-    ghost inverse = { λ bs. record { bytes = record { items = bs } } };
-}
-
-impl Spelling {
-    /// These bytes; none where they are more than 32, and so no name's.
-    pub(crate) fn new(bytes: &[u8]) -> Option<Spelling>
-        ensures value { IfSome result (λ spelling. spelling ≡ bytes.now) }
-        ensures none { IfNone result (IsName bytes.now → ⊥) }
-    {
-        if bytes.len() > 32 {
-            return None;
-        }
-        Some(Spelling { bytes: kept(bytes) })
-    }
-}
-
-impl Hash for Spelling {
+impl Hash for Name {
     ghost hash_input = { fed.str };
 
     ghost respects_eq = { (same_Alike fed.str bytes_decides).fed };
 
-    /// One write, in place of one for each byte.
     fn hash<H: Hasher>(&self, state: &mut H) {
-        state.write(self.bytes.as_slice());
-        state.write_u8(0xff);
+        feed(self.bytes(), state);
+    }
+}
+
+/// Bytes that a name is looked up by, whether they are a name or not.
+#[derive(Clone, Copy, PartialEq, Eq)]
+pub(crate) struct Spelled<'a> {
+    pub(crate) bytes: &'a [u8],
+}
+
+impl<'a> Hash for Spelled<'a> {
+    ghost hash_input = { λ s. fed.str s.bytes.now };
+
+    ghost respects_eq = { Prim.search (hashing, rules) };
+
+    fn hash<H: Hasher>(&self, state: &mut H) {
+        feed(self.bytes, state);
+    }
+}
+
+impl<'a> Equivalent<Name> for Spelled<'a> {
+    ghost equivalent = { λ s name. bytes_eq s.bytes.now name };
+
+    ghost respects_hash = { λ s name h. ap fed.str ((bytes_decides s.bytes.now name).0 h) };
+
+    ghost respects_eq = { λ s a b. nat_list_eq_equiv.congr s.bytes.now a b };
+
+    fn equivalent(&self, key: &Name) -> bool {
+        self.bytes == key.bytes()
     }
 }
 

@@ -1,28 +1,25 @@
 //! Names in the order in which they were added, none twice.
 ghost use Rattle.std.specs.Prelude.{◌≡◌, ◌==◌, ℕ, ◌↔◌, ◌<◌, ◌++◌, ◌∷◌, [], List, OnOk, OnErr, IfOk, IfErr, IfSome, IsSome, IsErrOf, Contains, slice_get, length, Some};
-ghost use Rattle.bl_name.specs.Places.{AreFound};
 ghost use Rattle.bl_name.specs.Table.{IsTable, place_of};
 ghost use Rattle.bl_name.specs.TableFault.{IsTableFault};
 
-use crate::name::{Name, Spelling};
+use crate::name::{Name, Spelled};
+use indexmap::IndexSet;
 use std::alloc::{AllocError, Global};
-use std::collections::HashMap;
 use std::marker::Model;
 
 /// A table of names, which contracts see as their list. No name stands twice in it.
 #[derive(Drop)]
 pub struct NameTable {
-    names: Vec<Name>,
-    // where each of them stands
-    places: HashMap<Spelling, usize>,
+    names: IndexSet<Name>,
 }
 
 impl Model for NameTable {
     ghost Value = { List (List ℕ) };
 
-    ghost view = { λ t. t.names.items };
+    ghost view = { λ t. t.names.keys };
 
-    ghost invariant = { λ t. AreFound t.names.items t.places };
+    ghost invariant = { λ t. IsTable t.names.keys };
 }
 
 /// Why a name was not added.
@@ -41,8 +38,7 @@ impl NameTable {
         ensures table { IfOk result IsTable }
     {
         Ok(NameTable {
-            names: Vec::with_capacity(alloc, room)?,
-            places: HashMap::with_capacity(alloc, room)?,
+            names: IndexSet::with_capacity(alloc, room)?,
         })
     }
 
@@ -82,7 +78,7 @@ impl NameTable {
         ensures found { IsSome result ↔ (place < length self.now) }
         ensures value { IfSome result (λ name. slice_get self.now place ≡ Some name.now) }
     {
-        self.names.get(place)
+        self.names.get_index(place)
     }
 
     /// The place of a name, where it is there.
@@ -92,7 +88,7 @@ impl NameTable {
         ensures place { IfSome result (λ i. slice_get self.now i ≡ Some name.now) }
         ensures within { IfSome result (λ i. i < length self.now) }
     {
-        self.position_of(name.bytes())
+        self.names.get_index_of(name)
     }
 
     /// The place of the name of these bytes, where it is there. Bytes that are no name are not there.
@@ -102,7 +98,7 @@ impl NameTable {
         ensures place { IfSome result (λ i. slice_get self.now i ≡ Some bytes.now) }
         ensures within { IfSome result (λ i. i < length self.now) }
     {
-        self.places.get(&Spelling::new(bytes)?).copied()
+        self.names.get_index_of(Spelled { bytes })
     }
 
     /// Adds a name behind the others. A fault leaves the table as it was.
@@ -113,15 +109,15 @@ impl NameTable {
         ensures err { OnErr result (self.new ≡ self.old) }
         ensures table { IsTable self.new }
     {
-        if self.position(&name).is_some() {
+        // read for the proof alone: the bytes of a name are a name, as the table wants of its keys
+        let _ = name.bytes();
+        if self.names.contains(&name) {
             return Err(TableFault::Repeated(name));
         }
-        let place = self.names.len();
-        if self.names.reserve(1).is_err() || self.places.insert(name.spelling(), place).is_err() {
-            return Err(TableFault::Memory);
+        match self.names.insert(name) {
+            Ok(_) => Ok(()),
+            Err(_) => Err(TableFault::Memory),
         }
-        self.names.push_reserved(name);
-        Ok(())
     }
 }
 
