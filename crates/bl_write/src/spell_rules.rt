@@ -69,8 +69,9 @@ fn put_categories<S: Sink>(sink: &mut S, scheme: &Scheme, level: &Level) -> Resu
     Ok(())
 }
 
-/// Puts a level that the scheme holds.
-fn put_level<S: Sink>(sink: &mut S, scheme: &Scheme, level: &Level) -> Result<(), S::Refusal>
+/// Puts a level that the scheme holds: its rank, and behind it in braces its categories in the scheme's order, or no
+/// braces where it has none. It ends at the first refusal; what was taken before stays taken.
+pub fn put_level<S: Sink>(sink: &mut S, scheme: &Scheme, level: &Level) -> Result<(), S::Refusal>
     requires { HoldsLevel scheme.now level.now }
     ensures { OnOk result (sink.new ≡ fold S.taken sink.old (spell_level (text_of scheme.now level.now))) }
 {

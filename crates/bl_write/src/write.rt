@@ -56,8 +56,9 @@ impl Text {
         &self.bytes
     }
 
-    /// Begins again, with no text and room for a short line. An error comes only where a growth is refused.
-    fn begin(&mut self) -> Result<(), AllocError>
+    /// Begins again, with no text and room for a short line, so that tokens can be put into it. An error comes only where
+    /// a growth is refused.
+    pub fn begin(&mut self) -> Result<(), AllocError>
         ensures { OnOk result (self.new ≡ nothing_written) }
     {
         self.bytes.clear();
