@@ -80,7 +80,7 @@ pub enum Answer {
     RuleDone,
     /// The policy denied it, and nothing was changed.
     Denied(Denial),
-    /// It was lost, out of memory, and nothing was changed. A session with one worker never has it yet.
+    /// It was lost, out of memory, and nothing was changed.
     Lost,
 }
 
