@@ -8,7 +8,7 @@ use Rattle.bl_policy.specs.Policy.{Clearance}
 use Rattle.bl_setup.specs.Setup.{Setup}
 use Rattle.bl_setup.specs.Agreement.{of_scheme}
 use Rattle.bl_declare.specs.Declaration.{Declaration, SubjectText, DocumentText, declared_content, AllowText, ranks, categories, subject, document, allow}
-use Rattle.bl_setup.specs.Grammar.{AddsSubject, AddsDocument, AddsModes, Leads, IsSetup}
+use Rattle.bl_setup.specs.Grammar.{AddsSubject, AddsDocument, AddsModes, Leads, IsSetupWithin}
 use Rattle.bl_setup.proofs.RightsLemmas.{rights_are_named}
 use Rattle.bl_setup.specs.WholeLists.{subjects_of, documents_of, HaveClearances, HaveLevels, IsDeclared}
 
@@ -112,8 +112,8 @@ added (document d ∷ ds) before after (next, a, l) = added_document before d ds
 added (allow m ∷ ds) before after (next, a, l) = added_modes before m ds next after a (added ds next after l)
 
 -- a setup is what its text declares
-pub setup_is_declared : (bytes : List ℕ) (setup : Setup) → IsSetup bytes setup → IsDeclared bytes setup
-setup_is_declared bytes setup s =
+pub setup_is_declared : (most : ℕ) (bytes : List ℕ) (setup : Setup) → IsSetupWithin most bytes setup → IsDeclared bytes setup
+setup_is_declared most bytes setup s =
     let scheme : SchemeNames = record { ranks = s.lowest ∷ s.higher; categories = s.names } in
     let a = added s.declarations (of_scheme scheme) setup s.leads in
     record {

@@ -5,7 +5,7 @@ use Rattle.bl_level.specs.Scheme.{SchemeNames, IsScheme}
 use Rattle.bl_setup.specs.Setup.{Setup}
 use Rattle.bl_setup.specs.Agreement.{of_scheme}
 use Rattle.bl_declare.specs.Declaration.{Declaration, ranks, categories, spell_declaration}
-use Rattle.bl_setup.specs.Grammar.{IsSetup, Spells, Leads}
+use Rattle.bl_setup.specs.Grammar.{IsSetupWithin, Spells, Leads}
 use Rattle.bl_setup.specs.Heads.{DeclaresRanks, DeclaresCategories, BeginsWith, Remain}
 use Rattle.bl_setup.specs.Lines.{lines_read}
 use Rattle.bl_setup.proofs.HeadLemmas.{ranks_are, categories_are}
@@ -48,8 +48,8 @@ pub record Parts (lines : List (List ℕ)) (setup : Setup) : Type 0 where
   pub begins : BeginsWith lines rest scheme
   pub remain : Remain rest (of_scheme scheme) setup
 
-pub parts_of : (bytes : List ℕ) (setup : Setup) → IsSetup bytes setup → Parts (lines_read bytes) setup
-parts_of bytes setup s =
+pub parts_of : (most : ℕ) (bytes : List ℕ) (setup : Setup) → IsSetupWithin most bytes setup → Parts (lines_read bytes) setup
+parts_of most bytes setup s =
     let h = heads_of (lines_read bytes) s.lowest s.higher s.names s.declarations s.spelled in
     record {
       rest = h.rest;
@@ -88,16 +88,16 @@ same_begin lines rest others scheme other a b =
     record { lines = behind; schemes = categories_are a.second a.names a.categories.words a.categories.spelled other c ∙ sym a.categories.is }
 
 -- so a setup of the text is led to from there
-pub remain_of : (bytes : List ℕ) (rest : List (List ℕ)) (scheme : SchemeNames) (setup : Setup) → BeginsWith (lines_read bytes) rest scheme → IsSetup bytes setup → Remain rest (of_scheme scheme) setup
-remain_of bytes rest scheme setup b s =
-    let p = parts_of bytes setup s in
+pub remain_of : (most : ℕ) (bytes : List ℕ) (rest : List (List ℕ)) (scheme : SchemeNames) (setup : Setup) → BeginsWith (lines_read bytes) rest scheme → IsSetupWithin most bytes setup → Remain rest (of_scheme scheme) setup
+remain_of most bytes rest scheme setup b s =
+    let p = parts_of most bytes setup s in
     let e = same_begin (lines_read bytes) rest p.rest scheme p.scheme b p.begins in
     subst (λ x. Remain x (of_scheme scheme) setup) e.lines (subst (λ x. Remain p.rest (of_scheme x) setup) e.schemes p.remain)
 
 -- and what is led to from there is a setup of the text
-pub setup_found : (bytes : List ℕ) (rest : List (List ℕ)) (scheme : SchemeNames) (setup : Setup) → length bytes ≤ 16777216 → BeginsWith (lines_read bytes) rest scheme
-    → Remain rest (of_scheme scheme) setup → IsSetup bytes setup
-setup_found bytes rest scheme setup size b r =
+pub setup_found : (most : ℕ) (bytes : List ℕ) (rest : List (List ℕ)) (scheme : SchemeNames) (setup : Setup) → length bytes ≤ most → BeginsWith (lines_read bytes) rest scheme
+    → Remain rest (of_scheme scheme) setup → IsSetupWithin most bytes setup
+setup_found most bytes rest scheme setup size b r =
     let e : scheme ≡ record { ranks = b.ranks.lowest ∷ b.ranks.higher; categories = b.categories.words } =
     b.categories.is ∙ (λ i. record { ranks = b.ranks.is i; categories = b.categories.words }) in
     record {

@@ -6,8 +6,8 @@ use Rattle.bl_level.specs.Scheme.{SchemeNames, IsScheme}
 use Rattle.bl_level.specs.Table.{AreDistinct}
 use Rattle.bl_setup.specs.Agreement.{of_scheme}
 use Rattle.bl_declare.specs.Declaration.{Declaration, SubjectText, DocumentText, AllowText, ranks, categories, subject, document, allow, spell_declaration}
-use Rattle.bl_setup.specs.FirstSetupFault.{SoFar, nothing, ranked, declared, IsDue, Declares, Passes, LeadTo, asked, asked_of_level, AllHold, IsTooMuch, IsAbove, DeclarationFault, LineFault, FaultNext, FirstSetupFault, HasOneAnswer}
-use Rattle.bl_setup.specs.Grammar.{IsSetup, Adds, AddsSubject, AddsDocument, AddsModes, Leads, Spells}
+use Rattle.bl_setup.specs.FirstSetupFault.{SoFar, nothing, ranked, declared, IsDue, Declares, Passes, LeadTo, asked, asked_of_level, AllHold, IsTooMuch, IsAbove, DeclarationFault, LineFault, FaultNext, FirstSetupFaultWithin, HasOneAnswer}
+use Rattle.bl_setup.specs.Grammar.{IsSetupWithin, Adds, AddsSubject, AddsDocument, AddsModes, Leads, Spells}
 use Rattle.bl_setup.specs.Heads.{DeclaresRanks, DeclaresCategories}
 use Rattle.bl_setup.specs.Lines.{is_skipped, kept, lines_read, file_lines}
 use Rattle.bl_setup.specs.Setup.{Setup}
@@ -230,15 +230,15 @@ parts_lead lines setup p =
     )
 
 -- the lines of a setup's text lead to it
-pub setup_leads : (bytes : List ℕ) (setup : Setup) → IsSetup bytes setup → LeadTo nothing (file_lines bytes) (declared setup)
-setup_leads bytes setup s = read_leads nothing (file_lines bytes) (declared setup) (parts_lead (lines_read bytes) setup (parts_of bytes setup s))
+pub setup_leads : (most : ℕ) (bytes : List ℕ) (setup : Setup) → IsSetupWithin most bytes setup → LeadTo nothing (file_lines bytes) (declared setup)
+setup_leads most bytes setup s = read_leads nothing (file_lines bytes) (declared setup) (parts_lead (lines_read bytes) setup (parts_of most bytes setup s))
 
 -- a text with a fault is no setup
-pub fault_is_no_setup : (bytes : List ℕ) (setup : Setup) (fault : SetupFault) → IsSetup bytes setup → FirstSetupFault bytes fault → ⊥
-fault_is_no_setup bytes setup fault s (inl f) = let size = s.size in let large = f.0 in omega arith
-fault_is_no_setup bytes setup fault s (inr (size, f)) =
+pub fault_is_no_setup : (most : ℕ) (bytes : List ℕ) (setup : Setup) (fault : SetupFault) → IsSetupWithin most bytes setup → FirstSetupFaultWithin most bytes fault → ⊥
+fault_is_no_setup most bytes setup fault s (inl f) = let size = s.size in let large = f.0 in omega arith
+fault_is_no_setup most bytes setup fault s (inr (size, f)) =
     let r = f.right in
-    let l = subst (λ x. LeadTo nothing x (declared setup)) r.split (setup_leads bytes setup s) in
+    let l = subst (λ x. LeadTo nothing x (declared setup)) r.split (setup_leads most bytes setup s) in
     let e = no_place nothing r.front f.rest f.after (declared setup) fault.kind l r.right f.holds in
     e.1 tt
 
@@ -246,11 +246,11 @@ same_fault : (fault other : SetupFault) → other.line ≡ fault.line → other.
 same_fault fault other line kind = λ i. record { line = line i; kind = kind i }
 
 -- a text has one first fault
-pub one_fault : (bytes : List ℕ) (fault other : SetupFault) → FirstSetupFault bytes fault → FirstSetupFault bytes other → other ≡ fault
-one_fault bytes fault other (inl f) (inl g) = same_fault fault other (g.1 ∙ sym f.1) (g.2 ∙ sym f.2)
-one_fault bytes fault other (inl f) (inr (size, g)) = let large = f.0 in absurd (omega arith)
-one_fault bytes fault other (inr (size, f)) (inl g) = let large = g.0 in absurd (omega arith)
-one_fault bytes fault other (inr (size, f)) (inr (size', g)) =
+pub one_fault : (most : ℕ) (bytes : List ℕ) (fault other : SetupFault) → FirstSetupFaultWithin most bytes fault → FirstSetupFaultWithin most bytes other → other ≡ fault
+one_fault most bytes fault other (inl f) (inl g) = same_fault fault other (g.1 ∙ sym f.1) (g.2 ∙ sym f.2)
+one_fault most bytes fault other (inl f) (inr (size, g)) = let large = f.0 in absurd (omega arith)
+one_fault most bytes fault other (inr (size, f)) (inl g) = let large = g.0 in absurd (omega arith)
+one_fault most bytes fault other (inr (size, f)) (inr (size', g)) =
     let r = f.right in
     let q = g.right in
     let p = one_place nothing r.front q.front f.rest g.rest f.after g.after fault.kind other.kind (sym r.split ∙ q.split) r.right q.right f.holds g.holds in
@@ -266,11 +266,11 @@ lead_one before [] a b l m = m ∙ sym l
 lead_one before (line ∷ lines) a b (next, p, l) (next', p', m) = lead_one next lines a b l (subst (λ x. LeadTo x lines b) (passes_one before line next next' p p') m)
 
 -- a text is one setup
-one_setup : (bytes : List ℕ) (setup other : Setup) → IsSetup bytes setup → IsSetup bytes other → other ≡ setup
-one_setup bytes setup other s t =
-    let e : declared other ≡ declared setup = lead_one nothing (file_lines bytes) (declared setup) (declared other) (setup_leads bytes setup s) (setup_leads bytes other t) in
+one_setup : (most : ℕ) (bytes : List ℕ) (setup other : Setup) → IsSetupWithin most bytes setup → IsSetupWithin most bytes other → other ≡ setup
+one_setup most bytes setup other s t =
+    let e : declared other ≡ declared setup = lead_one nothing (file_lines bytes) (declared setup) (declared other) (setup_leads most bytes setup s) (setup_leads most bytes other t) in
     cc
 
 -- a text has one answer
-pub one_answer : (bytes : List ℕ) → HasOneAnswer bytes
-one_answer bytes = record { setups = one_setup bytes; faults = one_fault bytes; never_both = fault_is_no_setup bytes }
+pub one_answer : (most : ℕ) (bytes : List ℕ) → HasOneAnswer most bytes
+one_answer most bytes = record { setups = one_setup most bytes; faults = one_fault most bytes; never_both = fault_is_no_setup most bytes }

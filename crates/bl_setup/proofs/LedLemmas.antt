@@ -3,7 +3,7 @@ use Rattle.std.proofs.Common.{◌≡◌, ◌↔◌, ℕ, ◌≤◌, Bool, true, 
 use Rattle.bl_level.specs.Scheme.{SchemeNames}
 use Rattle.bl_setup.specs.Agreement.{of_scheme}
 use Rattle.bl_setup.specs.FirstSetupFault.{SoFar, nothing, ranked, declared, Passes, LeadTo}
-use Rattle.bl_setup.specs.Grammar.{IsSetup}
+use Rattle.bl_setup.specs.Grammar.{IsSetupWithin}
 use Rattle.bl_setup.specs.Heads.{DeclaresRanks, BeginsWith, Remain}
 use Rattle.bl_setup.specs.Lines.{is_skipped, kept, lines_read, file_lines}
 use Rattle.bl_setup.specs.Setup.{Setup}
@@ -51,10 +51,10 @@ begun : (lines : List (List ℕ)) (setup : Setup) → ReadTo nothing lines (decl
 begun [] setup is = absurd (cc)
 begun (first ∷ lines) setup (so_far, (names, ranks, is), r) = begun_second first names ranks lines setup (subst (λ x. ReadTo x lines (declared setup)) is r)
 
-pub led_is_setup : (bytes : List ℕ) (setup : Setup) → length bytes ≤ 16777216 → LeadTo nothing (file_lines bytes) (declared setup) → IsSetup bytes setup
-led_is_setup bytes setup size l =
+pub led_is_setup : (most : ℕ) (bytes : List ℕ) (setup : Setup) → length bytes ≤ most → LeadTo nothing (file_lines bytes) (declared setup) → IsSetupWithin most bytes setup
+led_is_setup most bytes setup size l =
     let b : Begun (lines_read bytes) setup = begun (lines_read bytes) setup (leads_read nothing (file_lines bytes) (declared setup) l) in
-    setup_found bytes b.rest b.scheme setup size b.begins b.remain
+    setup_found most bytes b.rest b.scheme setup size b.begins b.remain
 
-pub is_setup_led : (bytes : List ℕ) (setup : Setup) → IsSetup bytes setup ↔ ((length bytes ≤ 16777216) × LeadTo nothing (file_lines bytes) (declared setup))
-is_setup_led bytes setup = (λ s. (s.size, setup_leads bytes setup s), λ l. led_is_setup bytes setup l.0 l.1)
+pub is_setup_led : (most : ℕ) (bytes : List ℕ) (setup : Setup) → IsSetupWithin most bytes setup ↔ ((length bytes ≤ most) × LeadTo nothing (file_lines bytes) (declared setup))
+is_setup_led most bytes setup = (λ s. (s.size, setup_leads most bytes setup s), λ l. led_is_setup most bytes setup l.0 l.1)

@@ -17,8 +17,8 @@ use Rattle.bl_policy.specs.Mode.{flag_of}
 use Rattle.bl_work.proofs.MeantLevels.{level_meant, place_some}
 use Rattle.bl_setup.specs.Agreement.{of_scheme}
 use Rattle.bl_declare.specs.Declaration.{Declaration, SubjectText, DocumentText, declared_content, AllowText, ranks, categories, subject, document, allow, spell_declaration}
-use Rattle.bl_setup.specs.FirstSetupFault.{SoFar, nothing, ranked, declared, IsDue, Declares, Passes, LeadTo, Question, IsSo, kind_of, AllHold, FirstFails, asked, asked_of_names, asked_of_categories, asked_of_level, IsTooMuch, IsAbove, LineFault, FaultNext, FirstSetupFault}
-use Rattle.bl_setup.specs.Grammar.{IsSetup, AddsSubject, AddsDocument, AddsModes}
+use Rattle.bl_setup.specs.FirstSetupFault.{SoFar, nothing, ranked, declared, IsDue, Declares, Passes, LeadTo, Question, IsSo, kind_of, AllHold, FirstFails, asked, asked_of_names, asked_of_categories, asked_of_level, IsTooMuch, IsAbove, LineFault, FaultNext, FirstSetupFaultWithin}
+use Rattle.bl_setup.specs.Grammar.{IsSetupWithin, AddsSubject, AddsDocument, AddsModes}
 use Rattle.bl_setup.specs.Heads.{AreRanks}
 use Rattle.bl_setup.specs.Lines.{is_skipped, file_lines}
 use Rattle.bl_setup.specs.Setup.{Setup}
@@ -274,9 +274,9 @@ lines_answer (line ∷ lines) before well lead wrong = go (is_skipped line) refl
 
 -- ---- a text
 
-fault_at : (bytes : List ℕ) (kind : SetupFaultKind) → length bytes ≤ 16777216 → (at : IsAt nothing (file_lines bytes) kind)
-    → FirstSetupFault bytes (record { line = suc (length at.front); kind = kind })
-fault_at bytes kind size at = inr (
+fault_at : (most : ℕ) (bytes : List ℕ) (kind : SetupFaultKind) → length bytes ≤ most → (at : IsAt nothing (file_lines bytes) kind)
+    → FirstSetupFaultWithin most bytes (record { line = suc (length at.front); kind = kind })
+fault_at most bytes kind size at = inr (
   size,
   record {
     after = at.after;
@@ -293,14 +293,14 @@ too_short : (bytes : List ℕ) (after : SoFar) → LeadTo nothing (file_lines by
 too_short bytes after l f =
     record { front = file_lines bytes; rest = []; after = after; split = sym (append-nil (file_lines bytes)); right = l; fault = f }
 
-pub some_answer : (bytes : List ℕ) → ((setup : Setup) → IsSetup bytes setup → ⊥) → ((fault : SetupFault) → FirstSetupFault bytes fault → ⊥) → ⊥
-some_answer bytes none fine = go (below_or_not 16777216 (length bytes))
+pub some_answer : (most : ℕ) (bytes : List ℕ) → ((setup : Setup) → IsSetupWithin most bytes setup → ⊥) → ((fault : SetupFault) → FirstSetupFaultWithin most bytes fault → ⊥) → ⊥
+some_answer most bytes none fine = go (below_or_not most (length bytes))
   where
-    go : (16777216 < length bytes) ⊎ (length bytes ≤ 16777216) → ⊥
+    go : (most < length bytes) ⊎ (length bytes ≤ most) → ⊥
     go (inl large) = fine (record { line = 0; kind = TooMany }) (inl (large, refl, refl))
-    go (inr size) = lines_answer (file_lines bytes) nothing tt ends (λ kind at. fine _ (fault_at bytes kind size at))
+    go (inr size) = lines_answer (file_lines bytes) nothing tt ends (λ kind at. fine _ (fault_at most bytes kind size at))
       where
         ends : (after : SoFar) → LeadTo nothing (file_lines bytes) after → ⊥
-        ends nothing l = fine _ (fault_at bytes Syntax size (too_short bytes nothing l (refl, λ begun. begun)))
-        ends (ranked names) l = fine _ (fault_at bytes Syntax size (too_short bytes (ranked names) l (refl, λ begun. begun)))
-        ends (declared setup) l = none setup (led_is_setup bytes setup size l)
+        ends nothing l = fine _ (fault_at most bytes Syntax size (too_short bytes nothing l (refl, λ begun. begun)))
+        ends (ranked names) l = fine _ (fault_at most bytes Syntax size (too_short bytes (ranked names) l (refl, λ begun. begun)))
+        ends (declared setup) l = none setup (led_is_setup most bytes setup size l)

@@ -4,8 +4,8 @@ use Rattle.std.proofs.lemmas.List.{append_assoc, length-append}
 use Rattle.bl_level.specs.Lexing.{Begins}
 use Rattle.bl_declare.specs.Declaration.{Declaration, spell_declaration}
 use Rattle.bl_declare.specs.Faults.{UnlessMemory, OfSyntax}
-use Rattle.bl_setup.specs.FirstSetupFault.{SoFar, nothing, IsDue, IsBegun, Declares, LeadTo, LineFault, FaultNext, ReadsNext, LeadOn, StopsAt, FirstSetupFault, IsReadAt, asked}
-use Rattle.bl_setup.specs.Grammar.{IsSetup}
+use Rattle.bl_setup.specs.FirstSetupFault.{SoFar, nothing, IsDue, IsBegun, Declares, LeadTo, LineFault, FaultNext, ReadsNext, LeadOn, StopsAt, FirstSetupFaultWithin, IsReadWithin, asked}
+use Rattle.bl_setup.specs.Grammar.{IsSetupWithin}
 use Rattle.bl_setup.specs.Lines.{is_skipped, file_lines, lines_of, lines_read, kept, without_cr}
 use Rattle.bl_setup.specs.Setup.{Setup}
 use Rattle.bl_setup.specs.Taking.{AreSkipped, Skips, Takes, EndsEarly, Stops, Refuses}
@@ -128,26 +128,27 @@ memory_not_next s [] kind m f = let e = f.0 in cc
 memory_not_next s (line ∷ lines) kind m f = memory_never s line kind m f.1
 
 -- where reading stops is the first fault, unless memory runs out
-pub stopped_first : (bytes : List ℕ) (fault : SetupFault) → length bytes ≤ 16777216 → StopsAt (Stops fault.kind) nothing 0 (file_lines bytes) fault.line
-    → UnlessMemory fault.kind (FirstSetupFault bytes fault)
-stopped_first bytes fault size s = go s.holds
+pub stopped_first : (most : ℕ) (bytes : List ℕ) (fault : SetupFault) → length bytes ≤ most → StopsAt (Stops fault.kind) nothing 0 (file_lines bytes) fault.line
+    → UnlessMemory fault.kind (FirstSetupFaultWithin most bytes fault)
+stopped_first most bytes fault size s = go s.holds
   where
-    go : Stops fault.kind s.after s.rest → UnlessMemory fault.kind (FirstSetupFault bytes fault)
+    go : Stops fault.kind s.after s.rest → UnlessMemory fault.kind (FirstSetupFaultWithin most bytes fault)
     go (inl m) = inl m.0
     go (inr f) = inr (inr (size, record { after = s.after; taken = s.taken; rest = s.rest; right = s.right; holds = f; is = s.is }))
 
 -- and a fault of memory names a line that is read
-pub stopped_memory : (bytes : List ℕ) (fault : SetupFault) → length bytes ≤ 16777216 → StopsAt (Stops fault.kind) nothing 0 (file_lines bytes) fault.line → fault.kind ≡ Memory
-    → IsReadAt bytes fault.line
-stopped_memory bytes fault size s m = go s.holds
+pub stopped_memory : (most : ℕ) (bytes : List ℕ) (fault : SetupFault) → length bytes ≤ most → StopsAt (Stops fault.kind) nothing 0 (file_lines bytes) fault.line → fault.kind ≡ Memory
+    → IsReadWithin most bytes fault.line
+stopped_memory most bytes fault size s m = go s.holds
   where
-    go : Stops fault.kind s.after s.rest → IsReadAt bytes fault.line
+    go : Stops fault.kind s.after s.rest → IsReadWithin most bytes fault.line
     go (inl h) = (size, record { after = s.after; taken = s.taken; rest = s.rest; right = s.right; holds = h.1; is = s.is })
     go (inr f) = absurd (memory_not_next s.after s.rest fault.kind m f)
 
-pub stopped_refuses : (bytes : List ℕ) (fault : SetupFault) → UnlessMemory fault.kind (FirstSetupFault bytes fault) → UnlessMemory fault.kind ((setup : Setup) → IsSetup bytes setup → ⊥)
-stopped_refuses bytes fault (inl m) = inl m
-stopped_refuses bytes fault (inr f) = inr (λ setup s. fault_is_no_setup bytes setup fault s f)
+pub stopped_refuses : (most : ℕ) (bytes : List ℕ) (fault : SetupFault) → UnlessMemory fault.kind (FirstSetupFaultWithin most bytes fault)
+    → UnlessMemory fault.kind ((setup : Setup) → IsSetupWithin most bytes setup → ⊥)
+stopped_refuses most bytes fault (inl m) = inl m
+stopped_refuses most bytes fault (inr f) = inr (λ setup s. fault_is_no_setup most bytes setup fault s f)
 
 -- a line that spells nothing
 pub spells_nothing : (s : SoFar) (line : List ℕ) (kind : SetupFaultKind) → OfSyntax kind ((d : Declaration) → Begins line (spell_declaration d) [] → ⊥) → UnlessMemory kind (LineFault s line kind)

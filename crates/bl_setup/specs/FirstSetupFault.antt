@@ -8,7 +8,7 @@ use Rattle.bl_policy.specs.Limits.{most_subjects, most_documents}
 use Rattle.bl_work.specs.Content.{most_bytes}
 use Rattle.bl_setup.specs.Agreement.{of_scheme}
 use Rattle.bl_declare.specs.Declaration.{Declaration, declared_content, ranks, categories, subject, document, allow, spell_declaration}
-use Rattle.bl_setup.specs.Grammar.{LineAdds, IsSetup, most_setup_bytes}
+use Rattle.bl_setup.specs.Grammar.{LineAdds, IsSetupWithin, most_setup_bytes}
 use Rattle.bl_setup.specs.Heads.{DeclaresRanks, DeclaresCategories}
 use Rattle.bl_setup.specs.Lines.{is_skipped, file_lines}
 use Rattle.bl_setup.specs.Setup.{Setup}
@@ -155,18 +155,28 @@ pub record StopsAt (P : SoFar → List (List ℕ) → Type 0) (before : SoFar) (
   pub holds : P after rest
   pub is : number ≡ suc taken
 
--- Own choice: a text that is too large is at fault as line 0, and otherwise the first line at fault is answered.
-abbrev pub FirstSetupFault : List ℕ → SetupFault → Type 0
-FirstSetupFault bytes fault =
-    ((most_setup_bytes < length bytes) × (fault.line ≡ 0) × (fault.kind ≡ TooMany))
-    ⊎ ((length bytes ≤ most_setup_bytes) × StopsAt (FaultNext fault.kind) nothing 0 (file_lines bytes) fault.line)
+-- Own choice: a text of more than `most` bytes is at fault as line 0; otherwise the first line at fault is answered.
+abbrev pub FirstSetupFaultWithin : ℕ → List ℕ → SetupFault → Type 0
+FirstSetupFaultWithin most bytes fault =
+    ((most < length bytes) × (fault.line ≡ 0) × (fault.kind ≡ TooMany))
+    ⊎ ((length bytes ≤ most) × StopsAt (FaultNext fault.kind) nothing 0 (file_lines bytes) fault.line)
 
--- the number is that of a line that is read, and the lines before it are right
+-- the first fault of the text of a setup file
+abbrev pub FirstSetupFault : List ℕ → SetupFault → Type 0
+FirstSetupFault bytes fault = FirstSetupFaultWithin most_setup_bytes bytes fault
+
+-- the text has at most `most` bytes, the number is that of a line that is read, and the lines before it are right
+abbrev pub IsReadWithin : ℕ → List ℕ → ℕ → Type 0
+IsReadWithin most bytes number = (length bytes ≤ most) × StopsAt ReadsNext nothing 0 (file_lines bytes) number
+
+-- so it is in the text of a setup file
 abbrev pub IsReadAt : List ℕ → ℕ → Type 0
-IsReadAt bytes number = (length bytes ≤ most_setup_bytes) × StopsAt ReadsNext nothing 0 (file_lines bytes) number
+IsReadAt bytes number = IsReadWithin most_setup_bytes bytes number
 
 -- A text has at most one answer: no two setups, no two faults, and not both.
-pub record HasOneAnswer (bytes : List ℕ) : Type 0 where
-  pub setups : (setup other : Setup) → IsSetup bytes setup → IsSetup bytes other → other ≡ setup
-  pub faults : (fault other : SetupFault) → FirstSetupFault bytes fault → FirstSetupFault bytes other → other ≡ fault
-  pub never_both : (setup : Setup) (fault : SetupFault) → IsSetup bytes setup → FirstSetupFault bytes fault → ⊥
+pub record HasOneAnswer (most : ℕ) (bytes : List ℕ) : Type 0 where
+  pub setups : (setup other : Setup) → IsSetupWithin most bytes setup → IsSetupWithin most bytes other → other ≡ setup
+  pub faults : (fault other : SetupFault) → FirstSetupFaultWithin most bytes fault → FirstSetupFaultWithin most bytes other
+      → other ≡ fault
+  pub never_both : (setup : Setup) (fault : SetupFault) → IsSetupWithin most bytes setup
+      → FirstSetupFaultWithin most bytes fault → ⊥

@@ -1,5 +1,5 @@
 -- Which setup the text of a setup file is: a relation between the bytes and the setup.
-use Rattle.std.specs.Prelude.{◌≡◌, ◌↔◌, ℕ, ◌<◌, ◌≤◌, List, [], ◌∷◌, ◌++◌, length, Some, is_some, IsTrue, Contains}
+use Rattle.std.specs.Prelude.{◌≡◌, ◌↔◌, ℕ, ◌<◌, ◌≤◌, List, [], ◌∷◌, ◌++◌, length, Some, is_some, IsTrue, Contains, min}
 use Rattle.bl_level.specs.Level.{SecurityLevel, Dominates}
 use Rattle.bl_level.specs.Table.{place_of}
 use Rattle.bl_level.specs.Scheme.{IsScheme}
@@ -19,6 +19,10 @@ use Rattle.bl_work.specs.Content.{most_bytes}
 -- own choice: a setup file has at most so many bytes
 abbrev pub most_setup_bytes : ℕ
 most_setup_bytes = 16777216
+
+-- own choice: lines are counted in 32 bits, so any other bound counts only up to here
+abbrev pub counted : ℕ → ℕ
+counted most = min most 4294967294
 
 -- The subject's name is new, and there is room for it; its texts mean two levels, the greatest of which dominates the
 -- current one; and it stands behind the subjects that were declared before.
@@ -81,10 +85,10 @@ abbrev pub Spells : List (List ℕ) → List Declaration → Type 0
 Spells [] ds = ds ≡ []
 Spells (line ∷ lines) ds = (d : Declaration) × (rest : List Declaration) × (ds ≡ d ∷ rest) × Begins line (spell_declaration d) [] × Spells lines rest
 
--- Own choice: the lines that are read declare the ranks, then the categories, and then the rest, each name on an earlier
--- line than the one that uses it.
-pub record IsSetup (bytes : List ℕ) (setup : Setup) : Type 0 where
-  pub size : length bytes ≤ most_setup_bytes
+-- Own choice: a text of at most `most` bytes is the setup that the lines lead to that are read: they declare the ranks,
+-- then the categories, and then the rest, each name on an earlier line than the one that uses it.
+pub record IsSetupWithin (most : ℕ) (bytes : List ℕ) (setup : Setup) : Type 0 where
+  pub size : length bytes ≤ most
   pub lowest : List ℕ
   pub higher : List (List ℕ)
   pub names : List (List ℕ)
@@ -92,3 +96,7 @@ pub record IsSetup (bytes : List ℕ) (setup : Setup) : Type 0 where
   pub spelled : Spells (lines_read bytes) (ranks lowest higher ∷ categories names ∷ declarations)
   pub scheme : IsScheme (record { ranks = lowest ∷ higher; categories = names })
   pub leads : Leads (of_scheme (record { ranks = lowest ∷ higher; categories = names })) declarations setup
+
+-- the setup that the text of a setup file is
+abbrev pub IsSetup : List ℕ → Setup → Type 0
+IsSetup bytes setup = IsSetupWithin most_setup_bytes bytes setup

@@ -1,5 +1,5 @@
 //! The lines of a file that are read, one after the other.
-ghost use Rattle.std.specs.Prelude.{◌≡◌, ◌+◌, ◌<◌, ◌≤◌, ◌∷◌, [], length, MatchOption, IfSome};
+ghost use Rattle.std.specs.Prelude.{◌≡◌, ◌+◌, ◌<◌, ◌^◌, ◌∷◌, [], length, MatchOption, IfSome};
 ghost use Rattle.bl_setup.specs.Lines.{lines_of, without_cr, is_comment, is_blank, is_skipped, lines_read, file_lines};
 ghost use Rattle.bl_setup.specs.Taking.{Skips, Takes};
 
@@ -13,7 +13,7 @@ pub const MOST_BYTES: usize = 16_777_216;
 pub struct Lines<'a> {
     pub rest: &'a [u8],
     pub number: u32,
-    ghost in_range: { number + length rest.now ≤ 16777216 },
+    ghost in_range: { number + length rest.now + 1 < 2 ^ 32 },
 }
 
 /// The first line without its LF, and what stands behind it.

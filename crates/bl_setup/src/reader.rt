@@ -1,13 +1,13 @@
 //! Reads a setup file, line by line.
-ghost use Rattle.std.specs.Prelude.{◌≡◌, ◌<◌, ◌∷◌, [], MatchResult, OnOk, IfOk, IfErr};
+ghost use Rattle.std.specs.Prelude.{◌≡◌, ◌+◌, ◌<◌, ◌^◌, ◌∷◌, [], MatchResult, OnOk, IfOk, IfErr};
 ghost use Rattle.bl_setup.specs.Setup as setups;
 ghost use Rattle.bl_setup.specs.Agreement.{Agree, of_scheme};
 ghost use Rattle.bl_setup.specs.Draft.{setup_of};
 ghost use Rattle.bl_declare.specs.Faults.{UnlessMemory};
-ghost use Rattle.bl_setup.specs.Grammar.{IsSetup};
+ghost use Rattle.bl_setup.specs.Grammar.{IsSetup, IsSetupWithin, counted};
 ghost use Rattle.bl_setup.specs.Heads.{BeginsWith, Remain};
 ghost use Rattle.bl_setup.specs.FirstSetupFault as first;
-ghost use Rattle.bl_setup.specs.FirstSetupFault.{LeadOn, StopsAt, FirstSetupFault, IsReadAt};
+ghost use Rattle.bl_setup.specs.FirstSetupFault.{LeadOn, StopsAt, FirstSetupFault, FirstSetupFaultWithin, IsReadAt, IsReadWithin};
 ghost use Rattle.bl_setup.specs.Lines.{lines_read, file_lines};
 ghost use Rattle.bl_setup.specs.Taking.{Takes, EndsEarly, Stops};
 ghost use Rattle.bl_declare.specs.declared.fault.SetupFaultKind.TheVariants.{Memory};
@@ -103,7 +103,29 @@ pub fn read_setup(alloc: Global, bytes: &[u8]) -> Result<Setup, SetupFault>
     // Any fault but out of memory means that the text is no setup.
     ensures fault { IfErr result (λ fault. UnlessMemory fault.kind ((setup : setups.Setup) → IsSetup bytes.now setup → ⊥)) }
 {
-    if bytes.len() > MOST_BYTES {
+    read_setup_within(alloc, bytes, MOST_BYTES)
+}
+
+/// So many bytes have no more lines than can be counted in 32 bits.
+const MOST_COUNTED: usize = 4_294_967_294;
+
+/// The setup that a text of at most `most` bytes is. Lines are counted in 32 bits, so a bound above 4,294,967,294 is
+/// taken for that one.
+///
+/// Faults are answered as by `read_setup`, with `most` in place of its bound: a longer text is line 0, `TooMany`.
+pub fn read_setup_within(alloc: Global, bytes: &[u8], most: usize) -> Result<Setup, SetupFault>
+    ensures setup { IfOk result (IsSetupWithin most bytes.now) }
+    ensures only { IfOk result (λ setup. (other : setups.Setup) → IsSetupWithin most bytes.now other → other ≡ setup) }
+    // Any fault but out of memory is the first of the text.
+    ensures first { IfErr result (λ fault. UnlessMemory fault.kind
+        (FirstSetupFaultWithin (counted most) bytes.now fault)) }
+    // Want of memory names a line that is read, and the lines before it are right.
+    ensures memory { IfErr result (λ fault. fault.kind ≡ Memory → IsReadWithin most bytes.now fault.line) }
+    // Any fault but out of memory means that the text is no setup.
+    ensures fault { IfErr result (λ fault. UnlessMemory fault.kind
+        ((setup : setups.Setup) → IsSetupWithin (counted most) bytes.now setup → ⊥)) }
+{
+    if bytes.len() > most.min(MOST_COUNTED) {
         return Err(SetupFault {
             line: 0,
             kind: SetupFaultKind::TooMany,
@@ -119,5 +141,5 @@ pub fn read_setup(alloc: Global, bytes: &[u8]) -> Result<Setup, SetupFault>
         Err(_) => return Err(lines.fault(SetupFaultKind::Memory)),
     };
     lines.read_into(alloc, &mut draft)?;
-    Ok(Setup::new(draft))
+    Ok(Setup::of(draft.names, draft.policy, draft.contents))
 }

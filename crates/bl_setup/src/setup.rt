@@ -2,7 +2,6 @@
 ghost use Rattle.std.specs.Prelude.{◌≡◌, IfOk};
 ghost use Rattle.bl_setup.specs.Agreement.{Agree};
 
-use crate::draft::Draft;
 use crate::version::Version;
 use bl_policy::policy::Policy;
 use bl_work::document::Document;
@@ -50,17 +49,18 @@ fn shared(contents: &Vec<Document>) -> Result<Vec<Document>, AllocError>
 impl Setup {
     ghost use Rattle.std.specs.Prelude.{◌≡◌, IfOk};
     ghost use Rattle.bl_setup.specs.Agreement.{Agree};
-    ghost use Rattle.bl_setup.specs.Draft.{setup_of};
 
-    /// The setup that was read.
-    pub(crate) fn new(draft: Draft) -> Setup
-        requires { Agree (setup_of draft) }
-        ensures { result ≡ setup_of draft }
+    /// The setup of these parts: the names of subjects and documents with the scheme of their levels, the policy over
+    /// their positions, and the content of each document, in the order of their names. A document that is not present
+    /// has an empty content. A run over it is judged by version 2.
+    pub fn of(names: Names, policy: Policy, contents: Vec<Document>) -> Setup
+        requires { Agree (record { names = names; policy = policy; contents = contents.items; version = Version.Two }) }
+        ensures { result ≡ record { names = names; policy = policy; contents = contents.items; version = Version.Two } }
     {
         Setup {
-            names: draft.names,
-            policy: draft.policy,
-            contents: draft.contents,
+            names,
+            policy,
+            contents,
         }
     }
 
@@ -71,11 +71,7 @@ impl Setup {
         let contents = shared(&self.contents)?;
         let policy = self.policy.copy()?;
         let names = self.names.copy()?;
-        Ok(Setup {
-            names,
-            policy,
-            contents,
-        })
+        Ok(Setup::of(names, policy, contents))
     }
 
     /// The scheme, and the names of subjects and documents in the order in which they were declared.

@@ -4,6 +4,7 @@ use bitflags::Flags;
 use bl_level::level::Level;
 use bl_setup::reader::read_setup;
 use bl_setup::setup::Setup;
+use std::alloc::{AllocError, Global};
 use std::process::Abort;
 use std::test::Fail;
 
@@ -149,6 +150,29 @@ fn a_copy_is_the_same(rt: HostRuntime) -> Result<(), Fail> {
     let passed = check_a_copy_is_the_same(&rt, &setup);
     drop(setup);
     passed
+}
+
+/// The setup of the parts of this one.
+fn of_its_parts(alloc: Global, setup: &Setup) -> Result<Setup, AllocError> {
+    let mut contents = Vec::new(alloc);
+    for content in setup.contents() {
+        contents.push(content.share()?)?;
+    }
+    let policy = setup.policy().copy()?;
+    let names = setup.names().copy()?;
+    Ok(Setup::of(names, policy, contents))
+}
+
+/// What a setup was made of is given back: names, policy and contents.
+#[test]
+fn a_setup_of_its_parts(rt: HostRuntime) -> Result<(), Fail> {
+    let setup = reserving_setup_of(rt.alloc())?;
+    let made = of_its_parts(rt.alloc(), &setup);
+    drop(setup);
+    let made = made?;
+    check_reserved(&rt, &made);
+    drop(made);
+    Ok(())
 }
 
 fn check_line_ends_and_skipped_lines(rt: &impl Abort, setup: &Setup) {
