@@ -14,3 +14,4 @@ pub mod Known
 pub mod Codes
 pub mod TheHeadline
 pub mod Running
+pub mod Standing

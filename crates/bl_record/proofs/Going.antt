@@ -8,7 +8,8 @@ use Rattle.bl_hall.specs.Awaited.{most_events}
 use Rattle.bl_hall.specs.Chronicle.{Chronicle, HasTrail, state_now, with_event}
 use Rattle.bl_order.specs.Headline.{Holds, IsReached}
 use Rattle.bl_order.specs.Machine.{State, Event, Opens, Admits, Starts, Ends, Loses, IsTrail, MayStart, Needs, Session, change, has_ended, most_sessions, runs, session_at, start, state_after}
-use Rattle.bl_record.specs.Ending.{HasGoneOn, HaveAllEnded}
+use Rattle.bl_order.specs.Standing.{HaveAllEnded}
+use Rattle.bl_record.specs.Ending.{HasGoneOn}
 use Rattle.bl_record.specs.Nearing.{IsIdle, IsNearer}
 
 pub one-more : (a b : Chronicle) (e : Event) → b ≡ with_event a e → HasTrail b → HasGoneOn a b

@@ -4,8 +4,9 @@ use Rattle.bl_disk.specs.File.{File, Keeps, all_kept, seen}
 use Rattle.bl_disk.specs.Moments.{Passes}
 use Rattle.bl_hall.specs.Chronicle.{Chronicle, state_now}
 use Rattle.bl_journal.specs.Journals.{IsHistory, IsRecovered, Journal, journal_text}
+use Rattle.bl_order.specs.Standing.{HaveAllEnded}
 use Rattle.bl_rebuild.specs.Rebuilds.{IsHeadless, IsOld, journal_of}
-use Rattle.bl_record.specs.Ending.{HasGoneOn, HaveAllEnded}
+use Rattle.bl_record.specs.Ending.{HasGoneOn}
 use Rattle.bl_record.specs.Kept.{LosesNothing}
 use Rattle.bl_record.specs.declared.fault.RecoverFault.{RecoverFault}
 use Rattle.bl_record.specs.declared.fault.RecoverFault.TheVariants.{Head, OldVersion, Memory, Device}

@@ -3,9 +3,10 @@ ghost use Rattle.std.specs.Prelude.{◌≡◌, false, IfErr, IfOk, OnOk};
 ghost use Rattle.bl_disk.specs.File.{seen};
 ghost use Rattle.bl_disk.specs.Moments.{Passes};
 ghost use Rattle.bl_hall.specs.Chronicle.{HasTrail, state_now};
+ghost use Rattle.bl_order.specs.Standing.{HaveAllEnded};
 ghost use Rattle.bl_rebuild.specs.Unfinished.{loans_now};
 ghost use Rattle.bl_record.specs.Completing.{IsCompleted};
-ghost use Rattle.bl_record.specs.Ending.{HasGoneOn, HaveAllEnded};
+ghost use Rattle.bl_record.specs.Ending.{HasGoneOn};
 ghost use Rattle.bl_record.specs.Recovering.{IsNotRecovered};
 
 use crate::ending::end_all;

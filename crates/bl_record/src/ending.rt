@@ -3,8 +3,9 @@ ghost use Rattle.std.specs.Prelude.{◌≡◌, IsTrue, OnOk};
 ghost use Rattle.bl_core.specs.Answers.{loan_at};
 ghost use Rattle.bl_hall.specs.Chronicle.{HasTrail, state_now, with_event};
 ghost use Rattle.bl_order.specs.Machine.{Ends, MayStart, runs};
+ghost use Rattle.bl_order.specs.Standing.{HaveAllEnded};
 ghost use Rattle.bl_rebuild.specs.Unfinished.{loans_now};
-ghost use Rattle.bl_record.specs.Ending.{HasGoneOn, HaveAllEnded};
+ghost use Rattle.bl_record.specs.Ending.{HasGoneOn};
 ghost use Rattle.bl_record.specs.Nearing.{IsIdle, IsNearer};
 
 use bl_core::machine::Started;
