@@ -13,7 +13,6 @@ use Rattle.bl_setup.specs.declared.version.Version.{Version}
 use Rattle.bl_order.specs.Past.{fault_of_task, first_task, child_task}
 use Rattle.bl_order.specs.Known.{KnowsTask, KnowsWork, KnowsDenial}
 use Rattle.bl_order.proofs.KnownAnswers.{denial_known}
-use Rattle.bl_monitor.specs.declared.monitor.Entry.TheVariants as entry
 use Rattle.bl_monitor.specs.Judging.{HasBelow}
 
 -- what is to be done of a work whose ids are there

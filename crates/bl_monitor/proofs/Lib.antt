@@ -8,3 +8,4 @@ pub mod Coming
 pub mod Errors
 pub mod Ids
 pub mod Alone
+pub mod Standing

@@ -1,6 +1,7 @@
 //! The monitor answers the entries of an admission order one after another, in one thread, as the definitions of the
 //! order say. Sessions run on a hall, not on it: a replay asks it, and tests compare a core with it. It shares no code
-//! with bl_eval, which runs behaviours on what a core lent to them, so that the two can be compared.
+//! with bl_eval, which runs behaviours on what a core lent to them, so that the two can be compared; both search by the
+//! library bstr.
 //!
 //!     monitor    the monitor and its entries
 //!     place      what is kept of each place of the order

@@ -103,7 +103,7 @@ fn owned(alloc: Global, setup: Setup) -> Result<Arc<Setup, Global>, AllocError>
     }
 }
 
-/// The contents that every entry of the order finds first.
+/// The same contents, each with one more owner.
 fn shared(alloc: Global, contents: &[Document]) -> Result<Vec<Document>, AllocError>
     ensures { IfOk result (λ shared. shared.items ≡ contents.now) }
 {
@@ -192,7 +192,9 @@ impl Monitor {
     ghost use Rattle.std.specs.Prelude.{◌≡◌, ◌↔◌, length, [], IfOk, OnOk, OnErr, IsErrOf};
     ghost use Rattle.bl_setup.specs.Setup.{by_version};
     ghost use Rattle.bl_order.specs.Known.{KnowsAnswer};
+    ghost use Rattle.bl_order.specs.Standing.{setup_after};
     ghost use Rattle.bl_monitor.specs.Heard.{Knows, MayCome, with_entry, answer_at, children_of, spawned_by, fault_of};
+    ghost use Rattle.bl_monitor.specs.Heard.{is_lost};
     ghost use Rattle.bl_monitor.specs.declared.monitor.MonitorFault.TheVariants as faults;
 
     /// A monitor of an empty order over this setup. It judges by this version: in version 1 a child carries nothing.
@@ -277,5 +279,18 @@ impl Monitor {
             return None;
         }
         self.places[n as usize].fault
+    }
+
+    /// The setup that stands behind the entries: the names of the first one, and the policy and the contents that the
+    /// entries made. A run over it is judged by version 2, whatever version this monitor judges by. It has names and a
+    /// policy of its own, and shares the contents. An error comes only where a growth is refused.
+    pub fn stands(&self) -> Result<Setup, AllocError>
+        ensures { IfOk result (λ setup. setup ≡ by_version Version.Two
+            (setup_after self.now.setup (is_lost self.now) self.now.order)) }
+    {
+        let contents = shared(self.alloc, &self.contents)?;
+        let policy = self.policy.copy()?;
+        let names = self.setup.names().copy()?;
+        Ok(Setup::of(names, policy, contents))
     }
 }

@@ -4,17 +4,13 @@ ghost use Rattle.bl_work.specs.Effects.{holds_of};
 ghost use Rattle.bl_work.specs.Piece.{has_piece};
 
 use bl_work::script::Condition;
+use bstr::ByteSlice;
 
-/// Whether the piece stands somewhere in the content.
+/// Whether the piece stands somewhere in the content. The library's search takes time proportional to both.
 fn contains(content: &[u8], piece: &[u8]) -> bool
     ensures { result ≡ has_piece content.now piece.now }
 {
-    for start in 0..content.len() {
-        if content[start..].starts_with(piece) {
-            return true;
-        }
-    }
-    piece.is_empty()
+    content.contains_str(piece)
 }
 
 /// Whether a condition holds of a content.

@@ -12,6 +12,7 @@ use bl_setup::setup::Setup;
 use bl_work::answer::{Answer, Outputs};
 use bl_work::asked::Line;
 use std::alloc::{AllocGlobal, Global};
+use std::mem;
 use std::process::Abort;
 
 /// The base setup up to the content of `note`.
@@ -89,6 +90,10 @@ pub(super) enum Step {
     Children(u32, Option<u32>),
     /// The behaviours that an entry spawned.
     Spawned(u32, &'static [u8]),
+    /// The contents of the setup that stands behind the entries, in order.
+    Stands(&'static [&'static str]),
+    /// Another monitor, of version 2, takes its place, over the setup that stands.
+    GoesOn,
 }
 
 /// The base setup with this content of `note`, and with further lines.
@@ -204,6 +209,35 @@ fn has_spawned(monitor: &Monitor, n: u32, wanted: &[u8]) -> bool {
     monitor.spawned(n) == wanted
 }
 
+/// Whether these are the contents of the setup that stands behind a monitor's entries.
+fn has_left(monitor: &Monitor, wanted: &[&str]) -> bool {
+    let Ok(setup) = monitor.stands() else {
+        return false;
+    };
+    let contents = setup.contents();
+    contents.len() == wanted.len()
+        && contents
+            .iter()
+            .zip(wanted)
+            .all(|(content, text)| content.bytes() == text.as_bytes())
+}
+
+/// A monitor over the setup that stands behind another one's entries.
+fn monitor_behind(monitor: &Monitor, alloc: Global) -> Option<Monitor> {
+    Monitor::new(alloc, monitor.stands().ok()?, Version::Two).ok()
+}
+
+/// Puts such a monitor in the other one's place, and says whether there is one.
+fn goes_on(monitor: &mut Monitor, alloc: Global) -> bool {
+    match monitor_behind(monitor, alloc) {
+        Some(next) => {
+            drop(mem::replace(monitor, next));
+            true
+        }
+        None => false,
+    }
+}
+
 /// Whether a monitor says what it has to.
 fn stands(monitor: &mut Monitor, alloc: Global, step: &Step) -> bool {
     match step {
@@ -224,6 +258,8 @@ fn stands(monitor: &mut Monitor, alloc: Global, step: &Step) -> bool {
         Step::Fault(n, wanted) => is_fault(monitor.fault(*n), *wanted),
         Step::Children(n, wanted) => monitor.children(*n) == *wanted,
         Step::Spawned(n, wanted) => has_spawned(monitor, *n, wanted),
+        Step::Stands(wanted) => has_left(monitor, wanted),
+        Step::GoesOn => goes_on(monitor, alloc),
     }
 }
 

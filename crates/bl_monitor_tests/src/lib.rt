@@ -5,6 +5,7 @@
 //!     rules      rules among the entries
 //!     carried    levels that children carry
 //!     presence   documents that come and go
+//!     standing   the setup that stands behind the entries
 #![tactic(auto)]
 
 #[cfg(test)]
@@ -17,3 +18,5 @@ mod entries;
 mod presence;
 #[cfg(test)]
 mod rules;
+#[cfg(test)]
+mod standing;
