@@ -87,6 +87,9 @@ REPLAYED = [
     Work("three documents", "base", ['when read note, write memo, append plan do set memo "x"; show note; end'], 100, 100_000, 1_000),
 ]
 
+# each line asks so often whether a text of 64 KB has a short one
+SEARCHES = Work("300 searches of 64 KB in a line", "wide", ["when read wide do " + 'if wide has "wx" then end; ' * 300 + "end"], 10, 100, 0)
+
 
 def session(work, count):
     """The bytes of a session of so many lines of a work."""
