@@ -3,6 +3,8 @@
 //!
 //!     beginning  what a core begins with
 //!     machine    the core and its calls
+//!     rules      what the start of a rule answers, and the content that it empties
+//!     remaking   the right to lose what nobody tried
 //!     origin     where an entry comes from
 //!     held       what is held, access by access
 //!     session    the numbers of sessions
@@ -16,4 +18,6 @@ pub mod held;
 pub mod machine;
 pub mod origin;
 pub mod refusal;
+pub mod remaking;
+mod rules;
 pub mod session;

@@ -1,14 +1,12 @@
 //! The core and its calls.
-ghost use Rattle.std.specs.Prelude.{◌≡◌, ◌<◌, ◌&&◌, ℕ, IsTrue, length};
-ghost use Rattle.bl_order.specs.Past.{deletes, is_rule_done};
-ghost use Rattle.bl_place.specs.Shelves.{AreEmptied};
-ghost use Rattle.bl_core.specs.Weights.{IsWeighed, ruled};
+ghost use Rattle.bl_core.specs.Weights.{IsWeighed};
 
 use crate::beginning::{Beginning, MOST_SESSIONS};
 use crate::foreign::{Foreign, ForeignUnrun};
 use crate::held::Held;
 use crate::origin::Origin;
 use crate::refusal::{Cause, NotReady, OpenRefused, Refused, StartFault, Starved};
+use crate::rules::{delete_content, ruled};
 use crate::session::{Session, SessionNo};
 use bl_eval::lent::{Done, DoneParts, Lent, Unrun, UnrunParts};
 use bl_grant::withdrawn::Withdrawn;
@@ -20,7 +18,7 @@ use bl_order::laws::{
 use bl_place::place::{
     Descent, Place, Siblings, Stand, declared, enter_children, enter_queues, work_at,
 };
-use bl_place::shelf::{Shelf, empty_deleted, is_done_of, is_unrun_of, lend_from, mark, take_back};
+use bl_place::shelf::{Shelf, is_done_of, is_unrun_of, lend_from, mark, take_back};
 use bl_policy::denial::Denial;
 use bl_policy::id::{DocId, SubjectId};
 use bl_policy::policy::Policy;
@@ -90,27 +88,6 @@ fn weight(work: &Work) -> u32
     match work {
         Work::Behaviour(script) => script.weight() as u32,
         Work::Rule(_) => 1,
-    }
-}
-
-/// The answer of a rule, by what the policy had against it.
-fn ruled(denial: &Option<Denial>) -> Answer
-    ensures { result ≡ ruled denial.now }
-{
-    match denial {
-        Some(denial) => Answer::Denied(*denial),
-        None => Answer::RuleDone,
-    }
-}
-
-/// Empties the content of the document that a rule deletes, where the policy had nothing against it. It takes no
-/// memory.
-fn delete_content(shelves: &mut [Shelf], rule: &Rule, denial: &Option<Denial>)
-    requires { (doc : ℕ) → IsTrue (deletes rule.now doc) → doc < length shelves.old }
-    ensures { AreEmptied (λ doc. is_rule_done (ruled denial.now) && deletes rule.now doc) shelves.old shelves.new }
-{
-    if denial.is_none() {
-        empty_deleted(shelves, rule);
     }
 }
 
@@ -501,10 +478,8 @@ impl Core {
         self.lose_granted(entry, grants);
     }
 
-    /// Ends a running entry as lost, with what it was lent, which nobody has tried. It is for whoever follows a trail
-    /// in which the entry was lost. A worker cannot lose so what it never tried: no gate has this call, and no `Unrun`
-    /// is made of a `Lent` but by `eval`.
-    pub fn lose_running(&mut self, lent: Lent)
+    /// Ends a running entry as lost, with what it was lent, which nobody has tried.
+    pub(crate) fn lose_running(&mut self, lent: Lent)
         requires running { IsTrue (runs self.old lent.entry) }
         requires lent { lent ≡ loan_at self.old lent.entry }
         ensures { self.new ≡ change self.old (Loses lent.entry) }
@@ -614,9 +589,8 @@ impl Core {
         Ok(())
     }
 
-    /// Ends an entry as lost that may start, whether or not it was refused memory. It is for whoever follows a trail in
-    /// which the entry was lost. A worker cannot lose so what it never tried: no gate has this call.
-    pub fn lose_untried(&mut self, n: u32)
+    /// Ends an entry as lost that may start, whether or not it was refused memory.
+    pub(crate) fn lose_untried(&mut self, n: u32)
         requires { MayStart self.old n }
         ensures { self.new ≡ change self.old (Loses n) }
     {
@@ -770,6 +744,18 @@ impl Core {
             return None;
         }
         Some(self.places[n as usize].carried)
+    }
+
+    /// The subject that an entry speaks for: for a line its session's, and for a child its parent's. `None` where the
+    /// entry is not there.
+    pub fn subject(&self, n: u32) -> Option<SubjectId>
+        ensures value { IfSome result (λ subject. subject ≡ (past_at self.now n).subject) }
+        ensures some { IsSome result ↔ n < length self.now.order }
+    {
+        if n as usize >= self.places.len() {
+            return None;
+        }
+        Some(self.places[n as usize].subject)
     }
 
     /// The script of which an entry runs a behaviour, and the number of that behaviour; `None` for a rule.
