@@ -1,7 +1,7 @@
 //! Each kind of fault, with its line.
 use super::files::{BACK, BOB, FRONT, add_parts};
 use bl_setup::fault::{SetupFault, SetupFaultKind};
-use bl_setup::reader::read_setup;
+use bl_setup::reader::{read_setup, read_setup_within};
 use std::alloc::{AllocError, Global};
 use std::test::Fail;
 
@@ -318,5 +318,36 @@ fn reserved_documents_count(rt: HostRuntime) -> Result<(), Fail> {
         fault_of_many(rt.alloc(), b"reserve d0000 z\n")?,
         Some(fault)
     );
+    Ok(())
+}
+
+/// The first fault of a text of 16,777,235 bytes that may have `most`.
+fn fault_of_large_within(alloc: Global, most: usize) -> Result<Option<SetupFault>, AllocError> {
+    let comment = vec![in alloc; b'#'; 16_777_216]?;
+    let mut text = Vec::new(alloc);
+    add_parts(&mut text, &[b"ranks u\ncategories\n", &comment])?;
+    Ok(read_setup_within(alloc, text.as_slice(), most).err())
+}
+
+/// A text that has as many bytes as it may have is read, also where no setup file has so many; with one byte more it is
+/// too large.
+#[test]
+fn texts_within_a_bound(rt: HostRuntime) -> Result<(), Fail> {
+    let too_large = Some(SetupFault {
+        line: 0,
+        kind: SetupFaultKind::TooMany,
+    });
+    let text: &[u8] = b"ranks u\ncategories\n";
+    assert_eq!(rt; read_setup_within(rt.alloc(), text, 19).err(), None);
+    assert_eq!(rt; read_setup_within(rt.alloc(), text, 18).err(), too_large);
+    assert_eq!(rt;
+        read_setup_within(rt.alloc(), b"", 0).err(),
+        Some(SetupFault {
+            line: 1,
+            kind: SetupFaultKind::Syntax,
+        })
+    );
+    assert_eq!(rt; fault_of_large_within(rt.alloc(), 16_777_235)?, None);
+    assert_eq!(rt; fault_of_large_within(rt.alloc(), 16_777_234)?, too_large);
     Ok(())
 }
