@@ -8,6 +8,7 @@ use crate::walk::{label_of, places_above, write_label};
 use bl_core::foreign::{Foreign, ForeignUnrun};
 use bl_core::machine::{Core, Started};
 use bl_core::refusal::{Cause, NotReady, OpenRefused, Refused, StartFault, Starved};
+use bl_core::remaking::Remaking as Right;
 use bl_core::session::SessionNo;
 use bl_eval::lent::{Done, Lent, Unrun};
 use bl_order::laws::{headline, may_start_is_tested, the_order_has_room};
@@ -56,7 +57,7 @@ impl Hall {
     ghost use Rattle.bl_work.specs.Readable.{IsReadable};
     ghost use Rattle.bl_order.specs.Known.{KnowsAnswer};
     ghost use Rattle.bl_order.specs.Labels.{tag};
-    ghost use Rattle.bl_order.specs.Machine.{Opens, Admits, Starts, Ends, Loses, MayStart, Needs, has_ended, runs};
+    ghost use Rattle.bl_order.specs.Machine.{Opens, Admits, Starts, Ends, Loses, MayStart, Needs, has_ended, runs, start};
     ghost use Rattle.bl_order.specs.TheHeadline.{IsTheHeadlineThroughout};
     ghost use Rattle.bl_core.specs.Answers.{IsCause, IsLentBy, IsNotOpened, IsStarted, IsStarvedBy, loan_at};
     ghost use Rattle.bl_hall.specs.Chronicle.{Continues, HasTrail, kept_of, state_now, with_event};
@@ -70,7 +71,17 @@ impl Hall {
         ensures { IfOk result (λ hall. hall ≡ record { setup = setup; limit = limit; trail = [] }) }
     {
         let core = Core::new(alloc, setup, limit)?;
-        match Rooms::new(alloc, limit) {
+        Hall::over(alloc, core)
+    }
+
+    /// A hall in which nothing has happened, over a core of an empty order.
+    pub(crate) fn over(alloc: Global, core: Core) -> Result<Hall, AllocError>
+        requires empty { core ≡ start core.setup core.limit }
+        requires some { 1 ≤ core.limit }
+        requires most { core.limit ≤ 100000 }
+        ensures { IfOk result (λ hall. hall ≡ record { setup = core.setup; limit = core.limit; trail = [] }) }
+    {
+        match Rooms::new(alloc, core.limit()) {
             Ok(rooms) => Ok(Hall {
                 alloc,
                 core,
@@ -255,10 +266,8 @@ impl Hall {
         Ok(())
     }
 
-    /// Ends a running entry as lost, with what it was lent, which nobody has tried. It is for whoever follows a trail
-    /// in which the entry was lost. A worker cannot lose so what it never tried: no gate has this call, and no `Unrun`
-    /// is made of a `Lent` but by `eval`.
-    pub fn lose_running(&mut self, lent: Lent)
+    /// Ends a running entry as lost, with what it was lent, which nobody has tried.
+    pub(crate) fn lose_running(&mut self, right: &Right, lent: Lent)
         requires running { IsTrue (runs (state_now self.old) lent.entry) }
         requires lent { lent ≡ loan_at (state_now self.old) lent.entry }
         ensures change { self.new ≡ with_event self.old (Loses lent.entry) }
@@ -266,20 +275,19 @@ impl Hall {
     {
         the_order_has_room();
         let n = lent.entry();
-        self.core.lose_running(lent);
+        right.lose_running(&mut self.core, lent);
         count_end(&self.links, &mut self.tallies, n);
         self.events.push_reserved(Event::Lost(n));
     }
 
-    /// Ends an entry as lost that may start, whether or not it was refused memory. It is for whoever follows a trail in
-    /// which the entry was lost. A worker cannot lose so what it never tried: no gate has this call.
-    pub fn lose_untried(&mut self, n: u32)
+    /// Ends an entry as lost that may start, whether or not it was refused memory.
+    pub(crate) fn lose_untried(&mut self, right: &Right, n: u32)
         requires { MayStart (state_now self.old) n }
         ensures change { self.new ≡ with_event self.old (Loses n) }
         ensures continues { Continues self.old self.new }
     {
         the_order_has_room();
-        self.core.lose_untried(n);
+        right.lose_untried(&mut self.core, n);
         count_end(&self.links, &mut self.tallies, n);
         self.events.push_reserved(Event::Lost(n));
     }
@@ -291,10 +299,11 @@ impl Hall {
         ensures ready { IsOk result ↔ MayStart (state_now self.old) starved }
         ensures continues { Continues self.old self.new }
     {
-        if !self.core.is_ready(starved.entry()) {
-            return Err(NotReady);
-        }
-        self.lose_untried(starved.entry());
+        the_order_has_room();
+        let n = starved.entry();
+        self.core.lose_ready(starved)?;
+        count_end(&self.links, &mut self.tallies, n);
+        self.events.push_reserved(Event::Lost(n));
         Ok(())
     }
 

@@ -2,6 +2,7 @@
 //! function; each call that succeeds and changes it adds one event.
 //!
 //!     hall         the hall and its calls
+//!     remaking     a hall in which what nobody tried may be lost
 //!     event        the events as they are kept
 //!     reply        what is told to a session
 //!     link         how the places of a session hang together
@@ -16,6 +17,7 @@ pub mod hall;
 pub mod laws;
 mod link;
 mod maybe_place;
+pub mod remaking;
 pub mod reply;
 mod rooms;
 mod walk;

@@ -28,7 +28,7 @@ push_reserved-requires c =
 pub invariant_of-self : goal.invariant_of-self
 invariant_of-self c =
     let needs : Needs c.self.inside.core (Loses c.args.lent.entry) = inl (subst (λ (y : State). IsTrue (runs y c.args.lent.entry)) (sym (core-is c.self.inside c.self.invariant c.args.self.now c.self.view_is)) c.requires.running) in
-    let d : Inside = record { alloc = c.self.inside.alloc; core = c.lose_running.new.self; events = c.push_reserved.new.self; links = c.self.inside.links; tallies = c.count_end.new.tallies } in
+    let d : Inside = record { alloc = c.self.inside.alloc; core = c.lose_running.new.core; events = c.push_reserved.new.self; links = c.self.inside.links; tallies = c.count_end.new.tallies } in
     let next : Next c.self.inside d (Loses c.args.lent.entry) = record {
       core = c.lose_running.ensures;
       events = c.push_reserved.ensures.items ∙ ap (λ j. c.self.inside.events.items ++ kept_as.Lost j ∷ []) c.entry-n.ensures;
@@ -40,7 +40,7 @@ invariant_of-self c =
 
 pub returns-clause-change : goal.returns-clause-change
 returns-clause-change c =
-    let d : Inside = record { alloc = c.self.inside.alloc; core = c.lose_running.new.self; events = c.push_reserved.new.self; links = c.self.inside.links; tallies = c.count_end.new.tallies } in
+    let d : Inside = record { alloc = c.self.inside.alloc; core = c.lose_running.new.core; events = c.push_reserved.new.self; links = c.self.inside.links; tallies = c.count_end.new.tallies } in
     let next : Next c.self.inside d (Loses c.args.lent.entry) = record {
       core = c.lose_running.ensures;
       events = c.push_reserved.ensures.items ∙ ap (λ j. c.self.inside.events.items ++ kept_as.Lost j ∷ []) c.entry-n.ensures;
@@ -53,7 +53,7 @@ returns-clause-change c =
 pub returns-clause-continues : goal.returns-clause-continues
 returns-clause-continues c =
     let needs : Needs c.self.inside.core (Loses c.args.lent.entry) = inl (subst (λ (y : State). IsTrue (runs y c.args.lent.entry)) (sym (core-is c.self.inside c.self.invariant c.args.self.now c.self.view_is)) c.requires.running) in
-    let d : Inside = record { alloc = c.self.inside.alloc; core = c.lose_running.new.self; events = c.push_reserved.new.self; links = c.self.inside.links; tallies = c.count_end.new.tallies } in
+    let d : Inside = record { alloc = c.self.inside.alloc; core = c.lose_running.new.core; events = c.push_reserved.new.self; links = c.self.inside.links; tallies = c.count_end.new.tallies } in
     let next : Next c.self.inside d (Loses c.args.lent.entry) = record {
       core = c.lose_running.ensures;
       events = c.push_reserved.ensures.items ∙ ap (λ j. c.self.inside.events.items ++ kept_as.Lost j ∷ []) c.entry-n.ensures;

@@ -23,7 +23,7 @@ push_reserved-requires c =
 pub invariant_of-self : goal.invariant_of-self
 invariant_of-self c =
     let needs : Needs c.self.inside.core (Loses c.args.n) = inr (subst (λ (y : State). MayStart y c.args.n) (sym (core-is c.self.inside c.self.invariant c.args.self.now c.self.view_is)) c.requires) in
-    let d : Inside = record { alloc = c.self.inside.alloc; core = c.lose_untried.new.self; events = c.push_reserved.new.self; links = c.self.inside.links; tallies = c.count_end.new.tallies } in
+    let d : Inside = record { alloc = c.self.inside.alloc; core = c.lose_untried.new.core; events = c.push_reserved.new.self; links = c.self.inside.links; tallies = c.count_end.new.tallies } in
     let next : Next c.self.inside d (Loses c.args.n) = record {
       core = c.lose_untried.ensures;
       events = c.push_reserved.ensures.items;
@@ -35,7 +35,7 @@ invariant_of-self c =
 
 pub returns-clause-change : goal.returns-clause-change
 returns-clause-change c =
-    let d : Inside = record { alloc = c.self.inside.alloc; core = c.lose_untried.new.self; events = c.push_reserved.new.self; links = c.self.inside.links; tallies = c.count_end.new.tallies } in
+    let d : Inside = record { alloc = c.self.inside.alloc; core = c.lose_untried.new.core; events = c.push_reserved.new.self; links = c.self.inside.links; tallies = c.count_end.new.tallies } in
     let next : Next c.self.inside d (Loses c.args.n) = record {
       core = c.lose_untried.ensures;
       events = c.push_reserved.ensures.items;
@@ -48,7 +48,7 @@ returns-clause-change c =
 pub returns-clause-continues : goal.returns-clause-continues
 returns-clause-continues c =
     let needs : Needs c.self.inside.core (Loses c.args.n) = inr (subst (λ (y : State). MayStart y c.args.n) (sym (core-is c.self.inside c.self.invariant c.args.self.now c.self.view_is)) c.requires) in
-    let d : Inside = record { alloc = c.self.inside.alloc; core = c.lose_untried.new.self; events = c.push_reserved.new.self; links = c.self.inside.links; tallies = c.count_end.new.tallies } in
+    let d : Inside = record { alloc = c.self.inside.alloc; core = c.lose_untried.new.core; events = c.push_reserved.new.self; links = c.self.inside.links; tallies = c.count_end.new.tallies } in
     let next : Next c.self.inside d (Loses c.args.n) = record {
       core = c.lose_untried.ensures;
       events = c.push_reserved.ensures.items;
