@@ -19,7 +19,7 @@ pub enum SetupFaultKind {
     Repeated,
     /// The greatest level of a subject does not dominate its current one.
     CurrentAboveGreatest,
-    /// There are more names than there may be, a content has more than 65,536 bytes, or the file more than 16,777,216.
+    /// There are more names than there may be, a content has more than 65,536 bytes, or the text more than its bound.
     TooMany,
     /// A growth was refused.
     Memory,
