@@ -140,7 +140,7 @@ pub(super) fn base_core<R: AllocGlobal + Abort>(rt: &R) -> Core {
 }
 
 /// Opens a session for each subject.
-fn open_for_all(core: &mut Core) {
+pub(super) fn open_for_all(core: &mut Core) {
     let subjects = core.setup().policy().subjects() as u16;
     for subject in 0..subjects {
         let _session = core.open(SubjectId::new(subject));

@@ -5,6 +5,7 @@ use super::base::{
 use bl_core::machine::Core;
 use bl_policy::access::Mode;
 use bl_policy::denial::Clause;
+use bl_policy::id::SubjectId;
 use std::alloc::AllocGlobal;
 use std::process::Abort;
 
@@ -63,13 +64,16 @@ fn run_each<R: AllocGlobal + Abort>(rt: &R, core: &mut Core, entries: &[Entry]) 
     }
 }
 
-/// Whether an entry has its answer.
+/// Whether an entry speaks for its subject, and has its answer.
 fn is_answered(core: &Core, n: u32, entry: &Entry) -> bool {
     let (subject, answered) = match entry {
         Entry::Line(subject, _, answered) | Entry::Child(subject, answered) => (
             *subject, *answered,
         ),
     };
+    if core.subject(n) != Some(SubjectId::new(subject)) {
+        return false;
+    }
     match answered {
         Answered::Shows(texts) => is_done(core, n, texts),
         Answered::Rules => is_made(core, n),
@@ -100,7 +104,7 @@ fn holds(core: &Core, fact: &Fact) -> bool {
         Fact::Present(doc, present) => is_there(core, doc) == present,
         Fact::Modes(subject, doc, modes) => has_modes(core, subject, doc, modes),
         Fact::Carries(n, rank, categories) => carries(core, n, rank, categories),
-        Fact::NoEntry(n) => core.carried(n).is_none(),
+        Fact::NoEntry(n) => core.carried(n).is_none() && core.subject(n).is_none(),
     }
 }
 

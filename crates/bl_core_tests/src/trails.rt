@@ -1,10 +1,11 @@
 //! Which events a hall keeps.
-use super::base::{ADD_AND_SPAWN, ANN, BOB, SHOW_MEMO, work_of};
+use super::base::{ADD_AND_SPAWN, ANN, BOB, SHOW_MEMO, base, right, work_of};
 use super::halls::{admit, base_hall, run_all};
 use bl_core::refusal::StartFault;
 use bl_core::session::SessionNo;
 use bl_hall::event::Event;
 use bl_hall::hall::Hall;
+use bl_hall::remaking::Remaking;
 use bl_policy::id::SubjectId;
 use std::process::Abort;
 
@@ -57,11 +58,14 @@ fn refusals_leave_the_trail(rt: HostRuntime) {
 /// An entry that may start is lost though nobody tried it.
 #[test]
 fn lost_before_it_starts(rt: HostRuntime) {
-    let mut hall = base_hall(&rt);
-    admit(&rt, &mut hall, 0, 1, SHOW_MEMO);
-    if let Some(n) = hall.ready() {
-        hall.lose_untried(n);
+    let mut remaking = right(&rt, Remaking::new(rt.alloc(), base(&rt), 100));
+    right(&rt, remaking.open(SubjectId::new(ANN)));
+    let work = work_of(&rt, remaking.hall().core().setup(), SHOW_MEMO.as_bytes());
+    right(&rt, remaking.line(SessionNo::new(0), 1, work));
+    if let Some(n) = remaking.hall().ready() {
+        remaking.lose_untried(n);
     }
+    let hall = remaking.into_hall();
     assert!(rt; hall.trail().last() == Some(&Event::Lost(0)));
     assert!(rt; hall.ready().is_none());
     drop(hall);

@@ -1,5 +1,5 @@
 -- What was followed is what is recovered.
-use Rattle.std.proofs.Common.{◌≡◌, ℕ, ◌+◌, List, [], ◌++◌, length, sym, ◌∙◌, ap, subst, arith, length-append}
+use Rattle.std.proofs.Common.{◌≡◌, ℕ, ◌+◌, List, ◌++◌, length, sym, ◌∙◌, ap, subst, arith, length-append}
 use Rattle.std.specs.List.{AllByRecursion}
 use Rattle.bl_setup.specs.Setup.{Setup, by_version}
 use Rattle.bl_setup.specs.declared.version.Version.TheVariants.{Two}
@@ -11,9 +11,8 @@ use Rattle.bl_trail.proofs.Following.{two-has-all}
 use Rattle.bl_journal.specs.Journals.{GoesNoFurther, IsRecovered, Journal, journal_text}
 use Rattle.bl_journal.proofs.Heading.{split}
 use Rattle.bl_hall.specs.Chronicle.{Chronicle, state_now}
-use Rattle.bl_rebuild.specs.Following.{with_events}
+use Rattle.bl_rebuild.specs.Following.{Course, IsBegun, with_events}
 use Rattle.bl_rebuild.specs.Rebuilds.{IsFollowedBy, IsRebuilt, journal_of}
-use Rattle.bl_rebuild.specs.declared.follower.Follower.{Follower}
 use Rattle.bl_rebuild.specs.declared.rebuild.Rebuilt.{Rebuilt}
 
 -- a setup of version 2 is judged by version 2
@@ -57,28 +56,28 @@ module _ (setup : Setup) (two : setup.version ≡ Two) (limit : ℕ) (is_limit :
   counted = ap length whole ∙ length-append (journal_text setup journal) rest
 
 -- what was followed on from no event is rebuilt
-pub rebuilt-by : (setup : Setup) → setup.version ≡ Two → (limit : ℕ) → IsLimit limit → (file text : List ℕ) → file ≡ joined (head_lines Two limit) ++ text
-    → (before : Follower) → before.remade.hall ≡ record { setup = setup; limit = limit; trail = [] } → (front : ℕ) → front + length text ≡ length file
-    → (r : Rebuilt) → IsFollowedBy before front text r → IsRebuilt setup file r
-rebuilt-by setup two limit is_limit file text head before none front fits r f = record {
+pub rebuilt-by : (setup : Setup) → setup.version ≡ Two → (file : List ℕ) (course : Course) → IsBegun setup file course
+    → (r : Rebuilt) → IsFollowedBy course r → IsRebuilt setup file r
+rebuilt-by setup two file course begun r f = record {
   setup_is = ap (λ (h : Chronicle). h.setup) hall;
   recovered = subst (λ (h : Chronicle). IsRecovered setup file (journal_of h)) (sym hall)
-      (recovered setup two limit is_limit file text f.rest f.events head followed no_further);
+      (recovered setup two begun.limit begun.is_limit file course.rest f.rest f.events begun.head followed no_further);
   right = right ∙ ap (λ (h : Chronicle). length (journal_text setup (journal_of h))) (sym hall);
   running = f.running;
 }
   where
-    hall : r.hall ≡ record { setup = setup; limit = limit; trail = f.events }
-    hall = f.hall ∙ ap (λ (h : Chronicle). with_events h f.events) none
+    hall : r.hall ≡ record { setup = setup; limit = begun.limit; trail = f.events }
+    hall = f.hall ∙ ap (λ (h : Chronicle). with_events h f.events) begun.hall
 
-    followed : Followed (start setup limit) text f.rest f.events
-    followed = subst (λ x. Followed x text f.rest f.events) (ap state_now none) f.followed
+    followed : Followed (start setup begun.limit) course.rest f.rest f.events
+    followed = subst (λ x. Followed x course.rest f.rest f.events) (ap state_now begun.hall) f.followed
 
-    no_further : GoesNoFurther (state_after (start setup limit) f.events) f.rest
+    no_further : GoesNoFurther (state_after (start setup begun.limit) f.events) f.rest
     no_further = subst (λ x. GoesNoFurther x f.rest) (ap state_now hall) f.no_further
 
-    right : r.right ≡ length (journal_text setup (record { version = Two; limit = limit; events = f.events }))
+    right : r.right ≡ length (journal_text setup (record { version = Two; limit = begun.limit; events = f.events }))
     right =
-        let whole : length file ≡ length (journal_text setup (record { version = Two; limit = limit; events = f.events })) + length f.rest =
-        counted setup two limit is_limit file text f.rest f.events head followed no_further in
-        omega (arith, whole, fits, f.counted)
+        let whole : length file ≡ length (journal_text setup (record { version = Two; limit = begun.limit; events = f.events })) + length f.rest =
+        counted setup two begun.limit begun.is_limit file course.rest f.rest f.events begun.head followed no_further in
+        let same : length course.text ≡ length file = ap length begun.text_is in
+        omega (arith, whole, same, f.counted)

@@ -7,7 +7,9 @@ use Rattle.bl_trail.specs.EventText.{event_text}
 use Rattle.bl_trail.specs.Follow.{IsLine, IsNoEvent}
 use Rattle.bl_journal.specs.Journals.{GoesNoFurther}
 use Rattle.bl_journal.proofs.Heading.{same_line}
-use Rattle.bl_rebuild.specs.Following.{with_events}
+use Rattle.bl_rebuild.specs.Following.{HasTaken, with_events}
+use Rattle.bl_rebuild.specs.Stepping.{HasStepped}
+use Rattle.bl_rebuild.specs.declared.stepper.Stepper.{Stepper}
 
 -- where events lead that come after others
 leads : (x : State) (es fs : List Event) → state_after x (es ++ fs) ≡ state_after (state_after x es) fs
@@ -33,3 +35,16 @@ torn-no-further x text none event more needs has plain is = has-lf (event_text x
 pub wrong-no-further : (x : State) (text line rest : List ℕ) → IsLine text line rest → IsNoEvent x line → GoesNoFurther x text
 wrong-no-further x text line rest cut wrong event more needs has plain is =
     wrong event needs has (same_line line (event_text x event) rest more cut.plain plain (sym cut.split ∙ is)).0
+
+-- a follower whose stepper has taken the next line has taken it
+pub taken : (before after : Stepper) (text rest line behind : List ℕ) → IsLine rest line behind → HasStepped before line behind after
+    → HasTaken (record { hall = before.remade.hall; text = text; rest = rest }) (record { hall = after.remade.hall; text = text; rest = behind })
+taken before after text rest line behind cut step = record {
+  event = step.event;
+  needs = step.needs;
+  has = step.has;
+  plain = subst (HasNo 10) step.text cut.plain;
+  line = cut.split ∙ ap (λ l. l ++ 10 ∷ behind) step.text;
+  hall = step.made.hall;
+  text = refl;
+}

@@ -1,4 +1,5 @@
 pub mod Unfinished
 pub mod Remaking
 pub mod Following
+pub mod Stepping
 pub mod Rebuilds

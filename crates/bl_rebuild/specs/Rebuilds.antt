@@ -8,11 +8,10 @@ use Rattle.bl_trail.specs.TrueText.{FirstWrong, IsLimit, head_lines, joined}
 use Rattle.bl_trail.specs.Versions.{HasSetup}
 use Rattle.bl_hall.specs.Chronicle.{Chronicle, state_now}
 use Rattle.bl_journal.specs.Journals.{GoesNoFurther, IsRecovered, Journal, journal_text}
-use Rattle.bl_rebuild.specs.Following.{with_events}
+use Rattle.bl_rebuild.specs.Following.{Course, with_events}
 use Rattle.bl_rebuild.specs.Unfinished.{loans_now}
 use Rattle.bl_rebuild.specs.declared.fault.RebuildFault.{RebuildFault}
 use Rattle.bl_rebuild.specs.declared.fault.RebuildFault.TheVariants.{Head, OldVersion, Memory}
-use Rattle.bl_rebuild.specs.declared.follower.Follower.{Follower}
 use Rattle.bl_rebuild.specs.declared.rebuild.Rebuilt.{Rebuilt}
 
 -- the journal of a hall, which is of version 2
@@ -27,15 +26,15 @@ pub record IsRebuilt (setup : Setup) (text : List ℕ) (rebuilt : Rebuilt) : Typ
   pub right : rebuilt.right ≡ length (journal_text setup (journal_of rebuilt.hall))
   pub running : rebuilt.running.items ≡ loans_now (state_now rebuilt.hall)
 
--- The events of the lines in front were made on a follower's hall, and what stands after so many bytes goes no further;
--- and what runs in the hall was lent just this.
-pub record IsFollowedBy (before : Follower) (head : ℕ) (text : List ℕ) (rebuilt : Rebuilt) : Type 0 where
+-- The events of the lines in front have happened in the hall, and what stands after so many bytes goes no further; and
+-- what runs in the hall was lent just this.
+pub record IsFollowedBy (before : Course) (rebuilt : Rebuilt) : Type 0 where
   pub events : List Event
   pub rest : List ℕ
-  pub followed : Followed (state_now before.remade.hall) text rest events
-  pub hall : rebuilt.hall ≡ with_events before.remade.hall events
+  pub followed : Followed (state_now before.hall) before.rest rest events
+  pub hall : rebuilt.hall ≡ with_events before.hall events
   pub no_further : GoesNoFurther (state_now rebuilt.hall) rest
-  pub counted : rebuilt.right + length rest ≡ head + length text
+  pub counted : rebuilt.right + length rest ≡ length before.text
   pub running : rebuilt.running.items ≡ loans_now (state_now rebuilt.hall)
 
 -- the head is that of a trail of version 1

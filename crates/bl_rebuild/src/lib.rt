@@ -4,14 +4,16 @@
 //!     unfinished   an entry that runs where the text ends
 //!     slots        what runs, by place
 //!     remade       a hall on which the events of a text are made
-//!     follower     a replayer and a hall, in step
+//!     stepper      a replayer and a hall, in step
+//!     follower     what follows a text, event by event, on a hall that can be looked at
 //!     fault        why no hall is rebuilt
 //!     rebuild      the hall of a text
 #![tactic(auto)]
 
 pub mod fault;
-mod follower;
+pub mod follower;
 pub mod rebuild;
 mod remade;
 mod slots;
+mod stepper;
 pub mod unfinished;

@@ -1,21 +1,20 @@
 //! The hall of a text.
-ghost use Rattle.std.specs.Prelude.{◌≡◌, ◌+◌, ◌^◌, ◌<◌, ◌++◌, [], length, IfErr, IfOk};
+ghost use Rattle.std.specs.Prelude.{◌≡◌, ◌++◌, IfErr, IfOk, OnOk};
 ghost use Rattle.bl_setup.specs.declared.version.Version.TheVariants.{Two};
 ghost use Rattle.bl_hall.specs.Chronicle.{state_now};
 ghost use Rattle.bl_trail.specs.TrueText.{IsLimit, head_lines, joined};
-ghost use Rattle.bl_rebuild.specs.Following.{IsInStep};
+ghost use Rattle.bl_rebuild.specs.Following.{HasFollowed};
 ghost use Rattle.bl_rebuild.specs.Rebuilds.{IsFollowedBy, IsNotRebuilt, IsRebuilt};
 ghost use Rattle.bl_rebuild.specs.Remaking.{IsWhole};
 ghost use Rattle.bl_rebuild.specs.Unfinished.{loans_now};
 
 use crate::fault::RebuildFault;
-use crate::follower::{Follower, follow_far};
+use crate::follower::Follower;
 use crate::remade::Remade;
+use crate::stepper::Stepper;
 use crate::unfinished::Unfinished;
 use bl_hall::hall::Hall;
 use bl_order::laws::each_place_has_a_phase;
-use bl_replay::mark::foretell;
-use bl_replay::replay::begin;
 use bl_setup::setup::Setup;
 use bl_setup::version::Version;
 use bl_trail::head::{Head, head_of};
@@ -33,7 +32,11 @@ pub struct Rebuilt {
 }
 
 /// The limit that stands at the head of a text of version 2, and what stands after the head.
-fn head<'a>(alloc: Global, setup: &Setup, text: &'a [u8]) -> Result<(u32, &'a [u8]), RebuildFault>
+pub(crate) fn head<'a>(
+    alloc: Global,
+    setup: &Setup,
+    text: &'a [u8],
+) -> Result<(u32, &'a [u8]), RebuildFault>
     ensures ok { IfOk result (λ head. IsLimit head.0 × (text.now ≡ joined (head_lines Two head.0) ++ head.1.now)) }
     ensures err { IfErr result (IsNotRebuilt setup.now text.now) }
 {
@@ -50,48 +53,20 @@ fn head<'a>(alloc: Global, setup: &Setup, text: &'a [u8]) -> Result<(u32, &'a [u
     }
 }
 
-/// A hall of no event over an equal setup.
-fn remade_over(alloc: Global, setup: &Setup, limit: u32) -> Result<Remade, AllocError>
-    requires { IsLimit limit }
-    ensures hall { IfOk result (λ remade. remade.hall ≡ record { setup = setup.now; limit = limit; trail = [] }) }
-    ensures whole { IfOk result IsWhole }
-{
-    Remade::new(alloc, setup.copy()?, limit)
-}
-
-/// A replayer and a hall of no event, for lines that say this text.
-fn set_out(alloc: Global, setup: &Setup, limit: u32, text: &[u8]) -> Result<Follower, AllocError>
-    requires { IsLimit limit }
-    ensures step { IfOk result (λ follower. IsInStep follower text.now) }
-    ensures hall { IfOk result (λ follower. follower.remade.hall ≡ record { setup = setup.now; limit = limit; trail = [] }) }
-{
-    // asked for the proof alone: a setup is of version 2
-    let _version = setup.version();
-    let marks = foretell(alloc, text)?;
-    let replayer = begin(alloc, setup, Version::Two, limit, marks)?;
-    match remade_over(alloc, setup, limit) {
-        Ok(remade) => Ok(Follower { replayer, remade }),
-        Err(refused) => {
-            drop(replayer);
-            Err(refused)
-        }
-    }
-}
-
-/// The hall that was made again, with what runs in it.
-fn close(follower: Follower, right: usize) -> Result<Rebuilt, AllocError>
-    requires { IsWhole follower.remade }
-    ensures hall { IfOk result (λ rebuilt. rebuilt.hall ≡ follower.remade.hall) }
+/// The hall that was made again, with what runs in it, at so many bytes.
+pub(crate) fn close_at(stepper: Stepper, right: usize) -> Result<Rebuilt, AllocError>
+    requires { IsWhole stepper.remade }
+    ensures hall { IfOk result (λ rebuilt. rebuilt.hall ≡ stepper.remade.hall) }
     ensures right { IfOk result (λ rebuilt. rebuilt.right ≡ right) }
-    ensures running { IfOk result (λ rebuilt. rebuilt.running.items ≡ loans_now (state_now follower.remade.hall)) }
+    ensures running { IfOk result (λ rebuilt. rebuilt.running.items ≡ loans_now (state_now stepper.remade.hall)) }
 {
     each_place_has_a_phase();
-    let Follower { replayer, remade } = follower;
+    let Stepper { replayer, remade } = stepper;
     drop(replayer);
     let Remade { alloc, hall, slots } = remade;
     match slots.into_running(alloc) {
         Ok(running) => Ok(Rebuilt {
-            hall,
+            hall: hall.into_hall(),
             running,
             right,
         }),
@@ -102,15 +77,24 @@ fn close(follower: Follower, right: usize) -> Result<Rebuilt, AllocError>
     }
 }
 
-/// Follows a text after its head, of so many bytes, as far as it is right.
-fn follow_on(follower: Follower, head: usize, text: &[u8]) -> Result<Rebuilt, AllocError>
-    requires step { IsInStep follower text.now }
-    requires fits { head + length text.now < 2 ^ 64 }
-    ensures { IfOk result (IsFollowedBy follower head text.now) }
+/// Follows a text as far as it is right. It looks at each byte once, the replayer's and the hall's own time apart.
+fn follow_far(follower: &mut Follower<'_>) -> Result<(), AllocError>
+    ensures { OnOk result (HasFollowed follower.old follower.new) }
+{
+    'lines: loop {
+        if !follower.take()? {
+            return Ok(());
+        }
+    }
+}
+
+/// Follows a text as far as it is right, and gives the hall that it leads to.
+fn follow_on(follower: Follower<'_>) -> Result<Rebuilt, AllocError>
+    ensures { IfOk result (IsFollowedBy follower.entry) }
 {
     let mut follower = follower;
-    match follow_far(&mut follower, text) {
-        Ok(right) => close(follower, head + right),
+    match follow_far(&mut follower) {
+        Ok(()) => follower.close(),
         Err(refused) => {
             drop(follower);
             Err(refused)
@@ -129,8 +113,7 @@ pub fn rebuild(alloc: Global, setup: &Setup, text: &[u8]) -> Result<Rebuilt, Reb
 {
     // asked for the proof alone: a setup is of version 2
     let _version = setup.version();
-    let (limit, rest) = head(alloc, setup, text)?;
-    let follower = set_out(alloc, setup, limit, rest)?;
-    let rebuilt = follow_on(follower, text.len() - rest.len(), rest)?;
+    let follower = Follower::begin(alloc, setup, text)?;
+    let rebuilt = follow_on(follower)?;
     Ok(rebuilt)
 }

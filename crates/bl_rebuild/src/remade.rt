@@ -13,7 +13,7 @@ use bl_core::machine::Started;
 use bl_core::refusal::StartFault;
 use bl_core::session::SessionNo;
 use bl_eval::evaluate::eval;
-use bl_hall::hall::Hall;
+use bl_hall::remaking::Remaking;
 use bl_setup::setup::Setup;
 use bl_trail::ask::{Ask, ask_of};
 use bl_trail::work::work_of;
@@ -23,7 +23,7 @@ use std::alloc::{AllocError, Global};
 #[derive(Drop)]
 pub(crate) struct Remade {
     pub(crate) alloc: Global,
-    pub(crate) hall: Hall,
+    pub(crate) hall: Remaking,
     pub(crate) slots: Slots,
 }
 
@@ -35,7 +35,7 @@ impl Remade {
         ensures hall { IfOk result (λ remade. remade.hall ≡ record { setup = setup; limit = limit; trail = [] }) }
         ensures whole { IfOk result IsWhole }
     {
-        let hall = Hall::new(alloc, setup, limit)?;
+        let hall = Remaking::new(alloc, setup, limit)?;
         Ok(Remade {
             alloc,
             hall,
@@ -50,7 +50,7 @@ impl Remade {
         ensures { (subject : ℕ) → MayOpen (state_now self.old.hall) name.now subject
             → IsMade self.old (Opens subject) self.new }
     {
-        let names = self.hall.core().setup().names();
+        let names = self.hall.hall().core().setup().names();
         // asked for the proof alone: no name stands twice
         let _scheme = names.scheme();
         let Some(subject) = names.subject(name) else {
@@ -69,7 +69,7 @@ impl Remade {
         ensures { OnOk result ((work : AnyWork) → MayAdmit (state_now self.old.hall) session ordinal text.now work
             → IsMade self.old (Admits session ordinal work) self.new) }
     {
-        let Some(work) = work_of(self.alloc, self.hall.core().names(), text)? else {
+        let Some(work) = work_of(self.alloc, self.hall.hall().core().names(), text)? else {
             unreachable!()
         };
         match self.hall.line(SessionNo::new(session), ordinal, work) {

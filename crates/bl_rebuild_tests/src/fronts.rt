@@ -2,6 +2,7 @@
 use crate::base::{assert_rebuilt, assert_trail, base, right};
 use crate::halls::{finish, start};
 use bl_hall::hall::Hall;
+use bl_rebuild::follower::Follower;
 use bl_rebuild::rebuild::{Rebuilt, rebuild};
 use bl_rebuild::unfinished::Unfinished;
 use bl_setup::setup::Setup;
@@ -70,6 +71,47 @@ fn each_front(rt: HostRuntime) -> Result<(), Fail> {
     let setup = base(rt.alloc())?;
     let passed = assert_fronts(&rt, &setup, EVENTS.as_slice());
     drop(setup);
+    passed
+}
+
+/// The closed whole.
+fn whole<R: AllocGlobal + Abort>(rt: &R) -> Result<Vec<u8>, Fail> {
+    let mut text = Vec::new(rt.alloc());
+    text.extend_from_slice(HEAD.as_bytes())?;
+    for (line, _) in EVENTS {
+        text.extend_from_slice(line.as_bytes())?;
+    }
+    text.extend_from_slice(b"stop\n")?;
+    Ok(text)
+}
+
+/// Takes the events, and asserts after each that the hall has it, and that the text goes on behind its line.
+fn assert_taken<R: AllocGlobal + Abort>(rt: &R, follower: &mut Follower<'_>) {
+    let mut left = follower.rest().len();
+    for (n, (line, _)) in EVENTS.iter().enumerate() {
+        assert!(rt; right(rt, follower.take()));
+        assert_eq!(rt; follower.hall().trail().len(), n.saturating_add(1));
+        left = left.saturating_sub(line.len());
+        assert_eq!(rt; follower.rest().len(), left);
+    }
+}
+
+/// Each event is made by one call, and its hall can be looked at; what follows no further stays as it is.
+#[test]
+fn event_by_event(rt: HostRuntime) -> Result<(), Fail> {
+    let setup = base(rt.alloc())?;
+    let text = whole(&rt)?;
+    let mut follower = right(&rt, Follower::begin(rt.alloc(), &setup, &text));
+    drop(setup);
+    assert_taken(&rt, &mut follower);
+    assert!(rt; !right(&rt, follower.take()));
+    assert!(rt; !right(&rt, follower.take()));
+    assert!(rt; follower.rest() == b"stop\n".as_slice());
+    let rebuilt = right(&rt, follower.close());
+    assert!(rt; rebuilt.right.saturating_add(5) == text.len());
+    assert!(rt; rebuilt.running.is_empty());
+    let passed = assert_trail(&rt, &rebuilt.hall, &text[..rebuilt.right]);
+    drop(rebuilt);
     passed
 }
 

@@ -17,7 +17,7 @@ returns c work may =
     let r = c.args.self.now in
     let whole = c.requires.whole in
     let x : State = state_now r.hall in
-    let names : c.names.result.now ≡ x.setup.names = c.names.ensures ∙ ap (λ (y : State). y.setup.names) c.core.ensures.value in
+    let names : c.names.result.now ≡ x.setup.names = c.names.ensures ∙ ap (λ (y : State). y.setup.names) (c.core.ensures.value ∙ ap state_now c.hall.ensures) in
     let said : IsWorkText c.names.result.now c.args.text.now work =
     record {
       readable = subst (λ (k : KnownNames). IsReadable k work) (sym names) may.0.1;

@@ -15,7 +15,7 @@ returns c subject may =
     let r = c.args.self.now in
     let whole = c.requires.whole in
     let x : State = state_now r.hall in
-    let setup : c.setup.result.now ≡ x.setup = c.setup.ensures ∙ ap (λ (y : State). y.setup) c.core.ensures.value in
+    let setup : c.setup.result.now ≡ x.setup = c.setup.ensures ∙ ap (λ (y : State). y.setup) (c.core.ensures.value ∙ ap state_now c.hall.ensures) in
     let names : c.names-names.result.now ≡ x.setup.names = c.names-names.ensures.value ∙ ap (λ (s : Setup). s.names) setup in
     let same : c.in-Some.subject ≡ subject =
     same-subject x.setup (subst Agree setup c.names-names.ensures.agree) (subst AreNames names c.scheme-scheme.ensures.names) c.args.name.now subject c.in-Some.subject may.0.0 may.1

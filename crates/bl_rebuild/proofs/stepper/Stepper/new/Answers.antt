@@ -4,7 +4,7 @@ use Rattle.bl_hall.specs.Chronicle.{state_now}
 use Rattle.bl_replay.specs.Keeps.{Replays}
 use Rattle.bl_replay.specs.Marks.{lost_later}
 use Rattle.bl_rebuild.proofs.Recovering.{by-two}
-use Rattle.bl_rebuild.proofs.rebuild.set_out.Goals as goal
+use Rattle.bl_rebuild.proofs.stepper.Stepper.new.Goals as goal
 
 pub returns-in-Ok-clause-step : goal.returns-in-Ok-clause-step
 returns-in-Ok-clause-step c = record {
