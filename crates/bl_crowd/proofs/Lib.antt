@@ -7,4 +7,3 @@ pub mod Crowding
 pub mod Rounding
 pub mod Fitting
 pub mod Opening
-pub mod Settling

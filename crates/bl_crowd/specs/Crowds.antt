@@ -69,15 +69,6 @@ abbrev pub HaveHeardOn : {S : Type 0} → ℕ → (old new : List (Member S)) �
 HaveHeardOn {S} most old new count = (i : ℕ) (d : Member S) → i < count
     → HasHeardOn most (get_or old i d) (get_or new i d)
 
--- The member stays as it is; or its block was answered, so that it asks nothing and tells that; or memory was refused
--- for it. It was received as before.
-abbrev pub HasSettledOn : {S : Type 0} → (was now : Member S) → Type 0
-HasSettledOn was now = (now.reception ≡ was.reception)
-    × ((now ≡ was) ⊎ (((now.asked ≡ None) × (state_of now.connection ≡ Tells)) ⊎ (now.fault ≡ Some Memory)))
-
-abbrev pub HaveSettledOn : {S : Type 0} → (old new : List (Member S)) → ℕ → Type 0
-HaveSettledOn {S} old new count = (i : ℕ) (d : Member S) → i < count → HasSettledOn (get_or old i d) (get_or new i d)
-
 -- the pass as a turn finds it: it has seen what others did, and has made no event
 pub record IsFound (before found : PassView) : Type 0 where
   pub follows : Follows before found

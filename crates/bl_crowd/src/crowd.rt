@@ -26,7 +26,6 @@ use bl_quota::asks::Asks;
 use bl_wire::fault::SessionFault;
 use bl_worker::batch::Batch;
 use bl_worker::count::{EndToRing, Looked, Seen};
-use bl_worker::short::run_short;
 use std::alloc::{AllocError, Global};
 use std::snapshot::Snapshot;
 use std::sync::Wait;
@@ -73,58 +72,12 @@ fn meet_on_all<S: Stream, Q: Asks>(
     }
 }
 
-/// Has the block of each member answered that waits for that alone.
-fn settle_all<S: Stream>(turn: &AtGate<'_>, members: &mut Vec<Member<'_, S>>)
-    requires members { (names : KnownNames) × (first : PassView)
-        × AreMembers S.remaining S.contents names first turn.now members.old.items }
-    ensures members { (names : KnownNames) (first : PassView)
-        → AreMembers S.remaining S.contents names first turn.now members.old.items
-        → AreMembers S.remaining S.contents names first turn.now members.new.items }
-    ensures len { vec_len members.new ≡ vec_len members.old }
-    ensures done { HaveSettledOn members.old.items members.new.items (vec_len members.new) }
-{
-    for i in 0..members.len() {
-        members[i].settle_on(turn);
-    }
-}
-
-/// Runs what is ready and short to run in the turn, if that is wished, and has the block of each member answered that
-/// waits for that alone. Where something was run, that is to be rung.
-fn run_at_once<S: Stream>(
-    alloc: Global,
-    turn: &mut AtGate<'_>,
-    members: &mut Vec<Member<'_, S>>,
-    at_once: bool,
-) -> Option<EndToRing>
-    requires trail { HasTrail (hall_seen turn.old) }
-    requires members { (names : KnownNames) × (first : PassView)
-        × AreMembers S.remaining S.contents names first turn.old members.old.items }
-    ensures follows { Follows turn.old turn.new }
-    ensures trail { HasTrail (hall_seen turn.new) }
-    ensures adds { AddsTurnsAlone turn.old turn.new }
-    ensures batch { (first : PassView) → IsBatch first turn.old [] → IsBatch first turn.new [] }
-    ensures members { (names : KnownNames) (first : PassView)
-        → AreMembers S.remaining S.contents names first turn.old members.old.items
-        → AreMembers S.remaining S.contents names first turn.new members.new.items }
-    ensures len { vec_len members.new ≡ vec_len members.old }
-    ensures done { HaveSettledOn members.old.items members.new.items (vec_len members.new) }
-    ensures none { IsNone result → (turn.new ≡ turn.old) × (members.new ≡ members.old) }
-{
-    if !at_once {
-        return None;
-    }
-    let ended = run_short(alloc, turn)?;
-    settle_all(turn, members);
-    Some(ended)
-}
-
-/// What a round does at most: how many lines more of each member it does, how many entries it begins though they are
-/// long to run, and whether it runs those that are short in the turn.
+/// What a round does at most: how many lines more of each member it does, and how many entries it begins though they
+/// are long to run.
 #[derive(Clone, Copy, Debug, PartialEq, Eq)]
 pub struct Portion {
     pub lines: usize,
     pub long: usize,
-    pub at_once: bool,
 }
 
 /// What a round came to. What has ended is to be rung.
@@ -133,8 +86,6 @@ pub struct Round {
     pub begun: usize,
     /// That an entry has ended that was run before, if one has.
     pub ended: Option<EndToRing>,
-    /// That an entry has ended that it has run in the turn after the members met, if one has.
-    pub ran: Option<EndToRing>,
     /// That an entry has ended that it has begun, if one has.
     pub over: Option<EndToRing>,
     /// Whether an entry is ready that it has left to others.
@@ -254,12 +205,11 @@ impl<'a, S: Stream> Crowd<'a, S> {
     }
 
     /// One turn at the gate with what is in hand, once the count of ends was read. It ends what was run. It does what
-    /// each member asks, and what it asks at the next lines of what was read, so many at most. If the portion says so,
-    /// it runs what is ready then and short to run, in the turn, and has the blocks answered that members wait for. It
-    /// begins what is ready, until the batch is full, as many were begun as it may have in hand, or nothing is ready.
-    /// It begins no more where an entry is ready that is long to run, once as many were begun as the portion says. What
-    /// was begun is to be run with the gate free, by `Batch::run`, and ends in the next round. No session is opened and
-    /// no line admitted but for members; a line only where the quota says that it fits.
+    /// each member asks, and what it asks at the next lines of what was read, so many at most. It begins what is ready,
+    /// until the batch is full, as many were begun as it may have in hand, or nothing is ready. It begins no more where
+    /// an entry is ready that is long to run, once as many were begun as the portion says. What was begun is to be run
+    /// with the gate free, by `Batch::run`, and ends in the next turn. No session is opened and no line admitted but for
+    /// members; a line only where the quota says that it fits.
     pub fn round<R: Wait, Q: Asks>(
         &mut self,
         rt: &R,
@@ -302,7 +252,6 @@ impl<'a, S: Stream> Crowd<'a, S> {
         let ended = batch.end_all(&mut turn);
         let looked = seen.look(&turn).and(&ended);
         meet_on_all(&mut turn, quota, &mut self.members, portion.lines);
-        let ran = run_at_once(self.alloc, &mut turn, &mut self.members, portion.at_once);
         let (begun, over) = batch.begin_ready(&mut turn, portion.long);
         let left = turn.ready().is_some();
         let events = turn.hall().trail().len();
@@ -310,12 +259,37 @@ impl<'a, S: Stream> Crowd<'a, S> {
         Round {
             begun,
             ended,
-            ran,
             over,
             left,
             events,
             looked,
         }
+    }
+
+    /// One turn at the gate with what is in hand, in which no member is met: it ends what was run, and begins what is
+    /// ready and short to run, until the batch is full, as many were begun as it may have in hand, or nothing more is.
+    /// What was begun is to be run with the gate free, by `Batch::run`. Where an entry has ended, that is to be rung.
+    pub fn end_and_begin<R: Wait>(&mut self, rt: &R, batch: &mut Batch) -> Option<EndToRing>
+        requires crowd { IsCrowd S.remaining S.contents self.old }
+        requires ran { AllRan batch.old }
+        requires room { HasRoom batch.old }
+        requires batch { (since : PassView) × IsBatch since self.old.pass (loans_in batch.old) }
+        ensures crowd { IsCrowd S.remaining S.contents self.new }
+        ensures goes { GoesOnTo self.old.pass self.new.pass }
+        ensures batch { (since : PassView) → IsBatch since self.old.pass (loans_in batch.old)
+            → IsBatch since self.new.pass (loans_in batch.new) }
+        ensures adds { AddsTurnsAlone self.old.pass self.new.pass }
+        ensures ran { NoneRan batch.new }
+        ensures room { HasRoom batch.new × (batch.new.most ≡ batch.old.most) }
+        ensures ended { 0 < vec_len batch.old.ran → IsSome result }
+        ensures same { (self.new.members ≡ self.old.members) × (self.new.first ≡ self.old.first)
+            × (self.new.gate ≡ self.old.gate) }
+    {
+        let mut turn = self.gate.turn(rt, self.pass.take());
+        let ended = batch.end_all(&mut turn);
+        let (_begun, over) = batch.begin_ready(&mut turn, 0);
+        self.pass = turn.leave();
+        EndToRing::either(ended, over)
     }
 
     /// Ends what was run, in one turn at the gate in which nothing is begun; where there was any, that is to be rung.

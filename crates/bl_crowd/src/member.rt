@@ -189,7 +189,7 @@ impl<'a, S: Stream> Member<'a, S> {
     ghost use Rattle.bl_crowd.specs.Openings.{AddsItsOwn};
     ghost use Rattle.bl_crowd.specs.Steps.{greeted_as};
     ghost use Rattle.bl_crowd.specs.Ways.{HasFailed, IsHome, IsMember, IsToRead, IsUnderWay};
-    ghost use Rattle.bl_crowd.specs.Crowds.{HasHeardOn, HasSettledOn, IsMetOn};
+    ghost use Rattle.bl_crowd.specs.Crowds.{HasHeardOn, IsMetOn};
     ghost use Rattle.bl_crowd.specs.Departures.{Departs, IsServedAmong};
     ghost use Rattle.bl_crowd.specs.declared.member.Met.TheVariants as mets;
     ghost use Rattle.bl_crowd.specs.declared.member.Next.TheVariants as nexts;
@@ -435,26 +435,6 @@ impl<'a, S: Stream> Member<'a, S> {
         self.last = ordinal;
         self.connection.answered();
         Ok(true)
-    }
-
-    /// Has its block answered, if it waits for that and no entry of its session is left that has not ended. Where
-    /// memory was refused it has failed, and asks that still.
-    pub fn settle_on(&mut self, turn: &AtGate<'_>)
-        requires way { (names : KnownNames) × (first : PassView) × IsHome names turn.now
-            × IsMember S.remaining S.contents names first turn.now self.old }
-        ensures way { (names : KnownNames) (first : PassView) → IsHome names turn.now
-            → IsMember S.remaining S.contents names first turn.now self.old
-            → IsMember S.remaining S.contents names first turn.now self.new }
-        ensures done { HasSettledOn self.old self.new }
-    {
-        if self.fault.is_some() || !matches!(self.asked, Some(Request::Settles)) {
-            return;
-        }
-        match self.settle(turn) {
-            Ok(true) => self.asked = None,
-            Ok(false) => {}
-            Err(_) => self.fault = Some(SessionFault::Memory),
-        }
     }
 
     /// Puts off what is asked: it waits, or is to leave since that will never fit in the trail.

@@ -45,10 +45,10 @@ pub struct Parted {
     ended: Option<Ended>,
 }
 
-/// A session thread: whether it is there, how many connections it has, and those of them that it has yet to take up.
+/// A session thread: whether it comes, how many connections it has, and those of them that it has yet to take up.
 #[derive(Drop)]
 struct Place<'a> {
-    there: bool,
+    comes: bool,
     open: u32,
     all_accepted: Vec<Accepted<'a>>,
 }
@@ -78,7 +78,8 @@ impl<'a> Floor<'a> {
         self.closed || self.taken >= self.most
     }
 
-    /// The thread with the fewest connections, of those that are there; among equals the first, or this one.
+    /// The thread with the fewest connections, of those that are there or come later; among equals the first, or this
+    /// one.
     fn least(&self, thread: usize) -> usize {
         let mut least = thread;
         for (i, place) in self.places.iter().enumerate() {
@@ -86,7 +87,7 @@ impl<'a> Floor<'a> {
                 Some(best) => best.open,
                 None => u32::MAX,
             };
-            if place.there && place.open < fewest {
+            if place.comes && place.open < fewest {
                 least = i;
             }
         }
@@ -137,8 +138,9 @@ impl<'a> Floor<'a> {
 /// An entrance at which one thread at a time takes the next connection, until so many were taken or it is closed; the
 /// channel over which it is told how sessions ended; the log, if there is one; and how long a connection may be idle.
 ///
-/// Who takes a connection gives it to the thread that has the fewest. At most so many are open at once; who comes then
-/// waits there until one has left, and whoever sees that off looks there again.
+/// Who takes a connection gives it to the thread that has the fewest, also where that comes later and takes it up then.
+/// At most so many are open at once; who comes then waits there until one has left, and whoever sees that off looks
+/// there again.
 #[derive(Drop)]
 pub struct Acceptor<'a, F: Write + Drop> {
     entrance: &'a Entrance,
@@ -164,7 +166,7 @@ impl<'a, F: Write + Drop> Acceptor<'a, F> {
         let mut places = Vec::new(alloc);
         for _ in 0..options.session_threads {
             places.push(Place {
-                there: false,
+                comes: true,
                 open: 0,
                 all_accepted: Vec::new(alloc),
             })?;
@@ -190,10 +192,26 @@ impl<'a, F: Write + Drop> Acceptor<'a, F> {
         ))
     }
 
-    /// A thread is there: from now on it is given connections.
-    pub fn come<R: Wait>(&self, rt: &R, thread: usize) {
+    /// The threads from `first` up to the one before `behind` are there, and no other comes. What another was given is
+    /// let go, and told as ended for want of memory.
+    pub fn have_come<R: Wait>(&self, rt: &R, alloc: Global, first: usize, behind: usize) {
+        let places = self.floor.lock(rt).places.len();
+        for thread in 0..places {
+            if thread < first || thread >= behind {
+                self.strike(rt, alloc, thread);
+            }
+        }
+    }
+
+    /// A thread does not come: what it was given is let go, and told as ended for want of memory.
+    fn strike<R: Wait>(&self, rt: &R, alloc: Global, thread: usize) {
         if let Some(place) = self.floor.lock(rt).places.get_mut(thread) {
-            place.there = true;
+            place.comes = false;
+        }
+        for accepted in self.all_accepted(rt, alloc, thread) {
+            self.leave(rt, thread);
+            let why = Why::Session(SessionFault::Memory);
+            self.tell(rt, Ending::new(accepted.number, why));
         }
     }
 

@@ -41,10 +41,6 @@ impl Pause for HoldFirst {
             thread::yield_now();
         }
     }
-
-    fn is_for_each(&self) -> bool {
-        true
-    }
 }
 
 /// A worker with a pass of its own, which it gives back.

@@ -52,10 +52,6 @@ impl<R: Clock> Pause for HoldFirst<R> {
             self.held.store(1, Ordering::SeqCst);
         }
     }
-
-    fn is_for_each(&self) -> bool {
-        true
-    }
 }
 
 /// A session with a pass of its own, which it gives back, and whether it ended well and was told what it should.

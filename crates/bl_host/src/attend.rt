@@ -22,6 +22,7 @@ use bl_record::fault::JournalFault;
 use bl_rounds::rounds::{Gone, Rounds};
 use bl_wire::fault::SessionFault;
 use bl_worker::pause::Pause;
+use std::alloc::Global;
 use std::io::Write;
 use std::sync::Wait;
 use std::time::{Clock, Duration};
@@ -371,7 +372,6 @@ impl<'a, P: Pause, K: Keep, T: Wait + Clock> ThreadContext<'a, P, K, T> {
             called: true,
         };
         let (round_context, mut quota) = (self.round_context(thread), self.asked_quota());
-        acceptor.come(self.rt, thread);
         for _ in self.rt.forever() {
             attendant.look(self, acceptor);
             if attendant.called {
@@ -416,6 +416,9 @@ pub(crate) trait SessionAcceptor {
     ) -> Pass
         requires { pass.gate ≡ context.now.gate.now }
         ensures { Follows pass result };
+
+    /// Says which threads have come, as `Acceptor::have_come` does.
+    fn have_come<R: Wait>(&self, rt: &R, alloc: Global, first: usize, behind: usize);
 }
 
 impl<F: Write + Drop> SessionAcceptor for Acceptor<'_, F> {
@@ -427,5 +430,9 @@ impl<F: Write + Drop> SessionAcceptor for Acceptor<'_, F> {
         watch: Watch,
     ) -> Pass {
         context.attend(pass, self, thread, watch)
+    }
+
+    fn have_come<R: Wait>(&self, rt: &R, alloc: Global, first: usize, behind: usize) {
+        Acceptor::have_come(self, rt, alloc, first, behind);
     }
 }

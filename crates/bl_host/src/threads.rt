@@ -168,15 +168,19 @@ pub(crate) fn start_sessions<
     ensures all { result ≡ true → vec_len threads.new ≡ vec_len threads.old + vec_len watches }
     ensures threads { All (λ running. IsPart context.now.gate.now running.promise.0.value) threads.new.items }
 {
+    let (rt, alloc, behind) = (context.rt, context.alloc, watches.len());
     while let Some(watch) = watches.pop() {
         let thread = watches.len();
         let Some(running) = start_session(scope, context, pass, acceptor, thread, watch) else {
+            acceptor.have_come(rt, alloc, thread + 1, behind);
             return false;
         };
         if threads.push(running).is_err() {
+            acceptor.have_come(rt, alloc, thread, behind);
             return false;
         }
     }
+    acceptor.have_come(rt, alloc, 0, behind);
     true
 }
 

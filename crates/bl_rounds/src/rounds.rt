@@ -35,8 +35,11 @@ use std::sync::atomic::{AtomicU64, Ordering};
 /// How many steps a connection takes at most before the others have their turn.
 const MOST_STEPS: u32 = 64;
 
-/// How many turns at the gate a round has at most.
+/// How many turns at the gate a round has at most in which connections are met.
 const MOST_TURNS: u32 = 8;
+
+/// How many turns at the gate that only end and begin entries come before one of those at most.
+const MOST_SHORT_TURNS: u32 = 63;
 
 /// How many entries a thread has in hand at most.
 const MOST_ENTRIES: usize = 64;
@@ -327,7 +330,6 @@ fn tell_of<R: Wait>(rt: &R, calls: Calls<'_>, round: Round, waits: bool, marks: 
     let Round {
         begun,
         ended,
-        ran,
         over,
         left,
         events,
@@ -335,7 +337,6 @@ fn tell_of<R: Wait>(rt: &R, calls: Calls<'_>, round: Round, waits: bool, marks: 
     } = round;
     marks.looked = Some(looked);
     ring_if(calls.alarms, ended);
-    ring_if(calls.alarms, ran);
     ring_if(calls.alarms, over);
     marks.left = left;
     marks.uncalled = left;
@@ -362,8 +363,35 @@ fn call_workers<R: Wait>(rt: &R, bell: &Bell, marks: &mut Marks)
     }
 }
 
-/// A turn at the gate for all; then what it has begun is run with the gate free. Of entries that are long to run it
-/// begins one, and only where somebody waits.
+/// Turns at the gate that only end what was run and begin what is ready and short, as long as something is in hand, but
+/// not for ever; what was begun is run with the gate free. Where an entry has ended, that is to be rung: once for all.
+fn end_and_begin<S: Stream, P: Pause, R: Wait>(
+    context: &RoundContext<'_, P, R>,
+    crowd: &mut Crowd<'_, S>,
+    hand: &mut Hand,
+) -> Option<EndToRing>
+    requires crowd { IsCrowd S.remaining S.contents crowd.old }
+    requires run { HasRun crowd.old.first.value crowd.old.pass hand.old }
+    ensures crowd { IsCrowd S.remaining S.contents crowd.new }
+    ensures same { (crowd.new.members ≡ crowd.old.members) × (crowd.new.first ≡ crowd.old.first)
+        × (crowd.new.gate ≡ crowd.old.gate) }
+    ensures run { HasRun crowd.old.first.value crowd.new.pass hand.new }
+    ensures marks { hand.new.marks ≡ hand.old.marks }
+{
+    let mut ended = None;
+    for _ in 0..MOST_SHORT_TURNS {
+        if hand.batch.is_idle() {
+            return ended;
+        }
+        let more = crowd.end_and_begin(context.rt, &mut hand.batch);
+        ended = EndToRing::either(ended, more);
+        hand.batch.run(hand.alloc, context.pause);
+    }
+    ended
+}
+
+/// A turn at the gate for all, in which each connection is met, after those that only end and begin; then what it has
+/// begun is run with the gate free. Of entries that are long to run it begins one, and only where somebody waits.
 fn take_turn<S: Stream, P: Pause, R: Wait, Q: Asks>(
     context: &RoundContext<'_, P, R>,
     quota: &mut Q,
@@ -381,11 +409,12 @@ fn take_turn<S: Stream, P: Pause, R: Wait, Q: Asks>(
     ensures asks { AskNothing (length seats.new.items) seats.new.items }
     ensures time { hand.new.marks.time ≡ hand.old.marks.time }
 {
+    let ended = end_and_begin(context, crowd, hand);
+    ring_if(context.calls.alarms, ended);
     let waits = has(seats, Stage::Waits);
     let portion = Portion {
         lines: MOST_LINES,
         long: usize::from(waits),
-        at_once: !context.pause.is_for_each(),
     };
     let seen = context.calls.alarms.ends();
     let round = crowd.round(context.rt, quota, &mut hand.batch, portion, seen);

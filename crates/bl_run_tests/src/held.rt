@@ -66,10 +66,6 @@ impl Pause for Marks {
             self.gone_on.store(1, Ordering::SeqCst);
         }
     }
-
-    fn is_for_each(&self) -> bool {
-        true
-    }
 }
 
 /// A file in memory, of whose syncs one may be held.

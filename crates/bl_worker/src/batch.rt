@@ -12,7 +12,7 @@ ghost use Rattle.bl_worker.specs.Turns.{AddsTurnsAlone, Settles};
 
 use crate::count::EndToRing;
 use crate::pause::Pause;
-use crate::short::is_long;
+use crate::reach::is_long;
 use crate::turn::{Begun, Turn, begin};
 use bl_eval::evaluate::eval;
 use bl_eval::lent::{Done, Lent, Unrun};
@@ -28,7 +28,7 @@ pub struct Batch {
 }
 
 /// Ends an entry that was run, or could not be.
-pub(crate) fn end(turn: &mut AtGate<'_>, run: Result<Done, Unrun>)
+fn end(turn: &mut AtGate<'_>, run: Result<Done, Unrun>)
     requires { HasLoanInHand turn.old (loan_of run) }
     ensures follows { Follows turn.old turn.new }
     ensures trail { HasTrail (hall_seen turn.new) }

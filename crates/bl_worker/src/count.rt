@@ -5,7 +5,7 @@
 //! something was counted since; if nothing was, it may sleep (`Quiet`). Who has something new counts it (`Counted`),
 //! and sees then whose flag is raised, whom it wakes (`Woken`). So one of the two sees the other. Which count it is,
 //! whom it wakes, and when who is woken goes on, is not proved.
-ghost use Rattle.std.specs.Prelude.{◌↔◌, IsSome, IsTrue};
+ghost use Rattle.std.specs.Prelude.{◌↔◌, ◌⊎◌, IsSome, IsTrue};
 
 use bl_gate::turn::Turn as AtGate;
 use std::sync::atomic::{AtomicBool, AtomicU64, Ordering};
@@ -26,6 +26,27 @@ impl EndToRing {
         ensures { IsSome result ↔ IsTrue any }
     {
         if any { Some(EndToRing::new()) } else { None }
+    }
+
+    /// One end for two, if there was any: who is woken for one looks for both.
+    pub fn either(one: Option<EndToRing>, other: Option<EndToRing>) -> Option<EndToRing>
+        ensures { IsSome result ↔ (IsSome one ⊎ IsSome other) }
+    {
+        match one {
+            Some(end) => Some(end.with(other)),
+            None => other,
+        }
+    }
+
+    /// This end for both.
+    fn with(self, other: Option<EndToRing>) -> EndToRing {
+        match other {
+            Some(end) => {
+                let EndToRing { _ended } = end;
+            }
+            None => {}
+        }
+        self
     }
 }
 

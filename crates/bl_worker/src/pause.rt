@@ -2,12 +2,8 @@
 
 /// What a turn does after the start of an entry that runs and before its end, while the gate is free.
 pub trait Pause {
-    /// Called in the turn of the entry `n`.
+    /// Called in the turn of the entry `n`, for each entry that runs.
     fn between(&self, n: u32);
-
-    /// Whether it is to be called for each entry: then no entry is run in a turn at the gate, in which the gate is not
-    /// free.
-    fn is_for_each(&self) -> bool;
 }
 
 /// Goes on at once.
@@ -17,9 +13,5 @@ pub struct NoPause;
 impl Pause for NoPause {
     fn between(&self, n: u32) {
         let _ = n;
-    }
-
-    fn is_for_each(&self) -> bool {
-        false
     }
 }
