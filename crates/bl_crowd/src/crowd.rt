@@ -10,7 +10,7 @@ ghost use Rattle.bl_serve.specs.Courses.{SpeaksForItsOwn};
 ghost use Rattle.bl_serve.specs.Together.{GoesOnTo};
 ghost use Rattle.bl_worker.specs.Batches.{AllRan, HasRoom, IsBatch, IsIdle, NoneRan, loans_in};
 ghost use Rattle.bl_worker.specs.Turns.{AddsTurnsAlone};
-ghost use Rattle.bl_crowd.specs.Crowds.{AreMetOn, HasBegunLast, HaveHeardOn, HaveSettledOn, IsCrowd, IsFound};
+ghost use Rattle.bl_crowd.specs.Crowds.{AreMetOn, HasBegunLast, HaveHeardOn, IsCrowd, IsFound};
 ghost use Rattle.bl_crowd.specs.Fitting.{AdmitsWhatFits};
 ghost use Rattle.bl_crowd.specs.Openings.{AddsTheirOwn};
 ghost use Rattle.bl_crowd.specs.Steps.{KeepsHand};

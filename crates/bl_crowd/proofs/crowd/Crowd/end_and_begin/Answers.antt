@@ -28,21 +28,21 @@ returns-clause-crowd g c =
     let p = c.take.result in
     let t = c.turn-turn.result in
     let e = c.end_all-ended.ensures in
-    let b = c.begin_ready.ensures in
+    let b = c.begin_ready-begun.ensures in
     let here = subst (λ (v : PassView). AreMembers R W names self.first.value v items) (sym c.take.ensures.taken) c.requires.crowd.members in
     let begins = crowd_goes R W names self.first.value p t items here (record { follows = c.turn-turn.ensures.follows; trail = c.turn-turn.ensures.trail }) (adds_itself (λ _. IsNoLine) p t c.turn-turn.ensures.own) in
     record {
       gate_is = ap (λ (v : PassView). v.gate) c.leave.ensures ∙ (b.follows.gate ∙ (e.follows.gate ∙ (c.turn-turn.ensures.follows.gate ∙ (ap (λ (v : PassView). v.gate) c.take.ensures.taken ∙ c.requires.crowd.gate_is))));
       members = subst (λ (v : PassView). AreMembers R W names self.first.value v items) (sym c.leave.ensures)
-          (crowd_turns R W names self.first.value c.end_all-ended.new.turn c.begin_ready.new.turn items
+          (crowd_turns R W names self.first.value c.end_all-ended.new.turn c.begin_ready-begun.new.turn items
           (crowd_turns R W names self.first.value t c.end_all-ended.new.turn items begins e.follows e.trail e.adds) b.follows b.trail b.adds);
     }
 
 pub returns-clause-batch : goal.returns-clause-batch
 returns-clause-batch g c since b =
     let loans = loans_in c.args.batch.now in
-    subst (λ (v : PassView). IsBatch since v (loans_in c.begin_ready.new.self)) (sym c.leave.ensures)
-    (c.begin_ready.ensures.batch since
+    subst (λ (v : PassView). IsBatch since v (loans_in c.begin_ready-begun.new.self)) (sym c.leave.ensures)
+    (c.begin_ready-begun.ensures.batch since
     (c.end_all-ended.ensures.batch since
     (batch_enters since c.take.result c.turn-turn.result loans (subst (λ (v : PassView). IsBatch since v loans) (sym c.take.ensures.taken) b) c.turn-turn.ensures.follows c.turn-turn.ensures.trail
     c.turn-turn.ensures.own c.turn-turn.ensures.in_hand)))
@@ -53,7 +53,7 @@ returns-clause-adds g c =
     let t = c.turn-turn.result in
     let u = c.end_all-ended.new.turn in
     let e = c.end_all-ended.ensures in
-    let b = c.begin_ready.ensures in
+    let b = c.begin_ready-begun.ensures in
     let own : t.own ≡ p.own = c.turn-turn.ensures.own ∙ ap (λ (v : PassView). v.own) c.take.ensures.taken in
     let ended = adds_then (λ _. IsEventOf (λ n. Unit {0})) p t u (adds_itself (λ _. IsEventOf (λ n. Unit {0})) p t own) e.adds e.follows in
-    subst (AddsTurnsAlone p) (sym c.leave.ensures) (adds_then (λ _. IsEventOf (λ n. Unit {0})) p u c.begin_ready.new.turn ended b.adds b.follows)
+    subst (AddsTurnsAlone p) (sym c.leave.ensures) (adds_then (λ _. IsEventOf (λ n. Unit {0})) p u c.begin_ready-begun.new.turn ended b.adds b.follows)
