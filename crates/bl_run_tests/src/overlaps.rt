@@ -146,7 +146,7 @@ fn overlaps(trail: &[u8]) -> bool {
     let mut running = 0u32;
     for line in trail.split(|byte| *byte == b'\n') {
         if line.starts_with(b"start ") {
-            running += 1;
+            running = running.saturating_add(1);
         } else if line.starts_with(b"end ") {
             running = running.saturating_sub(1);
         }
