@@ -435,15 +435,8 @@ fn is_called(seats: &[Seat], hand: &Hand, alarms: &Alarms) -> bool
         || (has(seats, Stage::Waits) && hand.marks.is_called(alarms))
 }
 
-/// Ends what was run. Then nothing is in hand. What has become ready by that is for the next round, where one of these
-/// connections waits; else workers are to be called for it.
-fn put_down<S: Stream, R: Wait>(
-    rt: &R,
-    alarms: &Alarms,
-    crowd: &mut Crowd<'_, S>,
-    seats: &[Seat],
-    hand: &mut Hand,
-)
+/// Ends what was run. Then nothing is in hand.
+fn put_down<S: Stream, R: Wait>(rt: &R, alarms: &Alarms, crowd: &mut Crowd<'_, S>, hand: &mut Hand)
     requires crowd { IsCrowd S.remaining S.contents crowd.old }
     requires run { HasRun crowd.old.first.value crowd.old.pass hand.old }
     ensures crowd { IsCrowd S.remaining S.contents crowd.new }
@@ -457,7 +450,7 @@ fn put_down<S: Stream, R: Wait>(
     ring_if(alarms, ended);
     // others may have waited for it, and nobody was called for those
     hand.marks.left |= some;
-    hand.marks.uncalled |= some && !has(seats, Stage::Waits);
+    hand.marks.uncalled |= some;
 }
 
 /// Each connection goes on as far as it can, and what they ask is done at the gate, again and again, but not for ever.
@@ -485,7 +478,7 @@ fn go_round<S: Stream, P: Pause, R: Wait, Q: Asks>(
         }
         take_turn(context, quota, crowd, seats, hand);
     }
-    put_down(context.rt, context.calls.alarms, crowd, seats, hand);
+    put_down(context.rt, context.calls.alarms, crowd, hand);
 }
 
 /// Has a member leave, at any moment.
