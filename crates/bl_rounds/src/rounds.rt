@@ -101,13 +101,14 @@ impl WorkerBell for Calls<'_> {
 }
 
 /// What a thread keeps in mind from one turn at the gate to the next: the count of ends as it has looked, if it has,
-/// whether it may have left entries that are ready, whether nobody was called for those, how many events the trail had,
-/// and what time it is.
+/// whether it may have left entries that are ready, whether nobody was called for those, whether it goes on with those
+/// itself, how many events the trail had, and what time it is.
 #[derive(Default, Drop)]
 pub(crate) struct Marks {
     looked: Option<Looked>,
     left: bool,
     uncalled: bool,
+    goes_on: bool,
     events: usize,
     time: u64,
 }
@@ -340,6 +341,7 @@ fn tell_of<R: Wait>(rt: &R, calls: Calls<'_>, round: Round, waits: bool, marks: 
     ring_if(calls.alarms, over);
     marks.left = left;
     marks.uncalled = left;
+    marks.goes_on = false;
     marks.events = events;
     if waits && begun < MOST_ENTRIES {
         call_workers(rt, calls.bell, marks);
@@ -431,6 +433,7 @@ fn is_called(seats: &[Seat], hand: &Hand, alarms: &Alarms) -> bool
     ensures asks { result ≡ false → AskNothing (length seats.now) seats.now }
 {
     !hand.batch.is_idle()
+        || hand.marks.goes_on
         || has(seats, Stage::Asks)
         || (has(seats, Stage::Waits) && hand.marks.is_called(alarms))
 }
@@ -448,9 +451,9 @@ fn put_down<S: Stream, R: Wait>(rt: &R, alarms: &Alarms, crowd: &mut Crowd<'_, S
     let ended = crowd.put_down(rt, &mut hand.batch);
     let some = ended.is_some();
     ring_if(alarms, ended);
-    // others may have waited for it, and nobody was called for those
+    // others may have waited for it: this thread goes on with those itself, since a worker rings for each that it ends
     hand.marks.left |= some;
-    hand.marks.uncalled |= some;
+    hand.marks.goes_on |= some;
 }
 
 /// Each connection goes on as far as it can, and what they ask is done at the gate, again and again, but not for ever.
@@ -723,6 +726,7 @@ impl<'a, S: Stream> Rounds<'a, S> {
             return false;
         }
         match &self.hand {
+            Some(hand) if hand.marks.goes_on => false,
             Some(hand) if has(&self.seats, Stage::Waits) => hand.marks.arm(alarms, thread),
             Some(_) | None => true,
         }
