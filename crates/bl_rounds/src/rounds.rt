@@ -717,8 +717,8 @@ impl<'a, S: Stream> Rounds<'a, S> {
         go_in(context, quota, crowd, seats, hand);
     }
 
-    /// Whether the thread may sleep: each connection waits, for its stream or for entries to end. Where somebody waits
-    /// for an entry, the next end wakes the thread with this number.
+    /// Whether the thread may sleep: each connection waits, for its stream or for entries to end, and the thread has not
+    /// put down what others waited for. Where somebody waits for an entry, the next end wakes the thread with this number.
     pub fn may_sleep(&self, alarms: &Alarms, thread: usize) -> bool
         ensures { result ≡ true → All (λ (seat : Seat). waits seat.stage ≡ true) self.now.seats }
     {
