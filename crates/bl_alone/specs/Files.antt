@@ -1,6 +1,5 @@
 -- How the file of a trail is left that was kept as its run went.
 use Rattle.std.specs.Prelude.{Bool, true, false, Option, Some, None, Result, Ok, Err}
-use Rattle.bl_disk.specs.File.{File}
 use Rattle.bl_alone.specs.declared.run.RecordedFile.{RecordedFile}
 use Rattle.bl_alone.specs.declared.run.RecordedFile.TheVariants.{Whole, Left}
 
@@ -9,10 +8,10 @@ abbrev pub is_whole : {D : Type 0} → RecordedFile D → Bool
 is_whole (Whole closed) = true
 is_whole (Left device) = false
 
--- how the file stands
-abbrev pub file_in : {D : Type 0} → (D → File) → RecordedFile D → File
-file_in now (Whole closed) = now closed
-file_in now (Left device) = now device
+-- what this says of the file
+abbrev pub file_in : {D A : Type 0} → (D → A) → RecordedFile D → A
+file_in what (Whole closed) = what closed
+file_in what (Left device) = what device
 
 -- the file of a journal that was closed, or is left with a fault
 abbrev pub file_after : {D Fault : Type 0} → Result D (Fault × D) → RecordedFile D

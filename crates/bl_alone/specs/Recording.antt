@@ -1,6 +1,8 @@
 -- What a journal has kept of a session, and what is left of it.
-use Rattle.std.specs.Prelude.{◌≡◌, ◌⊎◌, ℕ, Bool, false, [], ◌++◌, codes, length, Option, Some, None, IfSome}
+use Rattle.std.specs.Prelude.{◌≡◌, ◌≢◌, ◌⊎◌, ℕ, Bool, false, true, [], ◌++◌, codes, length, Option, Some, None, IfSome}
 use Rattle.bl_disk.specs.File.{File, all_kept, seen}
+use Rattle.bl_disk.specs.declared.device.DeviceError.{DeviceError}
+use Rattle.bl_disk.specs.declared.device.DeviceError.TheVariants.{Memory as NoRoom}
 use Rattle.bl_hall.specs.Chronicle.{Chronicle}
 use Rattle.bl_journal.specs.Journals.{journal_text}
 use Rattle.bl_rebuild.specs.Rebuilds.{journal_of}
@@ -23,9 +25,23 @@ HasRecorded now has_failed journal hall =
     (journal.fault ≡ None) × (has_failed journal.log.device ≡ false) × IsKept hall journal.bookmark (now
     journal.log.device)
 
+-- the journal has failed by an error of its device, which has failed then, or has refused a growth
+abbrev pub HasFailed : {D : Type 0} → (D → Bool) → Journal D → Type 0
+HasFailed has_failed journal =
+    (error : DeviceError) × (journal.fault ≡ Some error) × (error ≢ NoRoom → has_failed journal.log.device ≡ true)
+
+-- where the journal has failed, its device has, or has refused a growth
+abbrev pub IsCausedIn : {D : Type 0} → (D → Bool) → Journal D → Type 0
+IsCausedIn has_failed journal =
+    IfSome journal.fault (λ error. error ≢ NoRoom → has_failed journal.log.device ≡ true)
+
 -- whatever a crash leaves of the file, what is recovered goes on from the hall's trail
 abbrev pub IsSafe : Chronicle → File → Type 0
 IsSafe hall file = LosesNothing hall.setup (journal_of hall) file
+
+-- so it is with the journal's file, also of one that has failed
+abbrev pub HasHeld : {D : Type 0} → (D → File) → (D → Bool) → Journal D → Chronicle → Type 0
+HasHeld now has_failed journal hall = IsSafe hall (now journal.log.device) × IsCausedIn has_failed journal
 
 -- the file has the hall's trail, whole, and all of it is on the disk
 pub record IsWhole (hall : Chronicle) (file : File) : Type 0 where

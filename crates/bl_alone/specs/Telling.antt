@@ -1,10 +1,15 @@
 -- What a run whose trail is kept as it goes says on standard error, and its status.
 use Rattle.std.specs.Prelude.{◌≡◌, ℕ, List, [], ◌∷◌, codes, Option, Some, None, Result, Ok, Err}
 use Rattle.std.specs.List.{flat_map}
+use Rattle.bl_disk.specs.declared.device.DeviceError.{DeviceError}
+use Rattle.bl_disk.specs.declared.device.DeviceError.TheVariants as devices
+use Rattle.bl_record.specs.declared.fault.JournalFault.{JournalFault}
+use Rattle.bl_record.specs.declared.fault.JournalFault.TheVariants as keeping
 use Rattle.bl_status.specs.Failure.{IsOfSession}
 use Rattle.bl_status.specs.Message.{fault_line}
 use Rattle.bl_status.specs.Status.{status_of}
 use Rattle.bl_status.specs.declared.fault.ProgramFault.{ProgramFault}
+use Rattle.bl_status.specs.declared.fault.ProgramFault.TheVariants.{CannotWriteTrail, NoMemory}
 use Rattle.bl_session.specs.declared.keep.Stop.{Stop}
 use Rattle.bl_session.specs.declared.keep.Stop.TheVariants as stops
 use Rattle.bl_alone.specs.declared.fault.AloneFault.{AloneFault}
@@ -40,3 +45,23 @@ IsOfSessionEnd (Ok done) None = Unit {0}
 IsOfSessionEnd (Ok done) (Some fault) = ⊥
 IsOfSessionEnd (Err stop) None = ⊥
 IsOfSessionEnd (Err stop) (Some fault) = IsOfStop stop fault
+
+-- what it is to the run that no journal could be begun
+abbrev pub begin_fault : JournalFault → ProgramFault
+begin_fault keeping.Memory = NoMemory
+begin_fault (keeping.Device devices.Memory) = NoMemory
+begin_fault (keeping.Device devices.Full) = CannotWriteTrail
+begin_fault (keeping.Device devices.Failed) = CannotWriteTrail
+
+-- what it is to the run that the journal did not keep what happened last
+abbrev pub end_fault : JournalFault → AloneFault
+end_fault keeping.Memory = Program NoMemory
+end_fault (keeping.Device devices.Memory) = Program NoMemory
+end_fault (keeping.Device devices.Full) = CutShort
+end_fault (keeping.Device devices.Failed) = CutShort
+
+-- what it is to the run that its session ended since the journal was not kept, which has failed by this error; one that
+-- has none has not failed
+abbrev pub unkept_fault : Option DeviceError → AloneFault
+unkept_fault None = Program NoMemory
+unkept_fault (Some error) = end_fault (keeping.Device error)

@@ -6,8 +6,11 @@ ghost use Rattle.bl_wire.specs.declared.fault.SessionFault.TheVariants.{Clash};
 ghost use Rattle.bl_session.specs.declared.keep.Stop.TheVariants.{Fault as SessionStop};
 ghost use Rattle.bl_session.specs.Keeping.{MayStop};
 ghost use Rattle.bl_status.specs.Status.{IsEnd};
-ghost use Rattle.bl_alone.specs.Telling.{IsOfSessionEnd, IsOfStop, status_by, status_of_all, text_of_all, words_by};
+ghost use Rattle.bl_alone.specs.Telling.{IsOfSessionEnd, IsOfStop, begin_fault, end_fault, status_by, status_of_all};
+ghost use Rattle.bl_alone.specs.Telling.{text_of_all, unkept_fault, words_by};
 
+use bl_disk::device::DeviceError;
+use bl_record::fault::JournalFault;
 use bl_session::keep::Stop;
 use bl_status::fault::{ProgramFault, of_session};
 use bl_status::told::tell;
@@ -34,6 +37,42 @@ fn of_stop(stop: Stop) -> AloneFault
     match stop {
         Stop::Fault(fault) => AloneFault::Program(of_session(fault)),
         Stop::NotKept => AloneFault::NotKept,
+    }
+}
+
+/// What a fault at the beginning of a journal is to the run: a growth was refused, or its file cannot be written.
+pub(crate) fn of_begin(fault: JournalFault) -> ProgramFault
+    ensures fault { result ≡ begin_fault fault }
+    ensures kind { (result ≡ ProgramFault.CannotWriteTrail) ⊎ (result ≡ ProgramFault.NoMemory) }
+{
+    match fault {
+        JournalFault::Memory | JournalFault::Device(DeviceError::Memory) => ProgramFault::NoMemory,
+        JournalFault::Device(DeviceError::Full | DeviceError::Failed) => {
+            ProgramFault::CannotWriteTrail
+        }
+    }
+}
+
+/// What a fault at the end of a journal is to the run.
+pub(crate) fn of_end(fault: JournalFault) -> AloneFault
+    ensures { result ≡ end_fault fault }
+{
+    match fault {
+        JournalFault::Memory | JournalFault::Device(DeviceError::Memory) => {
+            AloneFault::Program(ProgramFault::NoMemory)
+        }
+        JournalFault::Device(DeviceError::Full | DeviceError::Failed) => AloneFault::CutShort,
+    }
+}
+
+/// What it is to the run that its session ended since the journal was not kept, which has failed by this error. For one that
+/// has not failed no session ends so.
+pub(crate) fn of_unkept(error: Option<DeviceError>) -> AloneFault
+    ensures { result ≡ unkept_fault error }
+{
+    match error {
+        Some(error) => of_end(JournalFault::Device(error)),
+        None => AloneFault::Program(ProgramFault::NoMemory),
     }
 }
 

@@ -1,9 +1,11 @@
 //! The run.
 ghost use Rattle.std.specs.Prelude.{◌≡◌, ◌≤◌, ◌↔◌, ◌⊎◌, ◌++◌, ℕ, List, Option, IfErr, IsOk, None, false, true};
 ghost use Rattle.std.specs.Option.{option_to_list};
+ghost use Rattle.bl_disk.specs.File.{seen};
+ghost use Rattle.bl_record.specs.Torn.{IsTornHead};
 ghost use Rattle.bl_setup.specs.Grammar.{IsSetup};
 ghost use Rattle.bl_wire.specs.Watch.{Puts, end_state, used};
-ghost use Rattle.bl_status.specs.Runs.{HasTold};
+ghost use Rattle.bl_status.specs.Runs.{HasToldAt};
 ghost use Rattle.bl_status.specs.Status.{IsEnd};
 ghost use Rattle.bl_session.specs.Keeping.{MayStop};
 ghost use Rattle.bl_alone.specs.Files.{fault_in, file_after, file_in, is_whole};
@@ -13,17 +15,17 @@ ghost use Rattle.bl_alone.specs.declared.fault.AloneFault.{AloneFault as AnyFaul
 ghost use Rattle.bl_alone.specs.Telling.{IsOfSessionEnd, status_of_all, text_of_all};
 
 use crate::close::close_after;
-use crate::fault::{AloneFault, fault_of_session, tell_any};
+use crate::fault::{AloneFault, fault_of_session, of_begin, tell_any};
 use crate::recorder::Recorder;
-use bl_disk::device::{Device, DeviceError};
-use bl_record::fault::JournalFault;
+use bl_disk::device::Device;
+use bl_file::named::FileName;
 use bl_record::journal::{Closed, Journal, begin};
 use bl_session::alone::serve_keeping;
 use bl_session::keep::Stop;
 use bl_setup::reader::read_setup;
 use bl_setup::setup::Setup;
 use bl_status::fault::{ProgramFault, of_setup};
-use bl_status::told::tell;
+use bl_status::told::tell_at;
 use bl_wire::watched::Watched;
 use std::alloc::Global;
 use std::io::{BufRead, Write};
@@ -39,7 +41,7 @@ pub struct RecordedRun {
 }
 
 /// The file of a run.
-pub enum RecordedFile<D: Device> {
+pub enum RecordedFile<D> {
     /// The trail in it is whole.
     Whole(Closed<D>),
     /// The trail in it is not whole, and it is left as it is.
@@ -47,34 +49,22 @@ pub enum RecordedFile<D: Device> {
 }
 
 /// How a run ended: its status, and its file. It may not be dropped, as a trail that is whole may not.
-pub struct Recorded<D: Device> {
+pub struct Recorded<D> {
     pub status: u8,
     pub file: RecordedFile<D>,
 }
 
-/// What a fault at the beginning of a journal is to the run: a growth was refused, or its file cannot be written.
-fn of_begin(fault: JournalFault) -> ProgramFault
-    ensures { (result ≡ ProgramFault.CannotWriteTrail) ⊎ (result ≡ ProgramFault.NoMemory) }
-{
-    match fault {
-        JournalFault::Memory | JournalFault::Device(DeviceError::Memory) => ProgramFault::NoMemory,
-        JournalFault::Device(DeviceError::Full | DeviceError::Failed) => {
-            ProgramFault::CannotWriteTrail
-        }
-    }
-}
-
-/// Ends a run that has no session with this fault, which is told.
-fn end_with<D: Device, E: Write>(
+/// Ends a run that has no session with this fault, which is told, and of which file it is.
+fn end_with<D: Device + FileName, E: Write>(
     errors: &mut Watched<E>,
     fault: ProgramFault,
     device: D,
 ) -> Recorded<D>
-    ensures told { HasTold fault result.status (used E.contents errors.old errors.new) }
+    ensures told { HasToldAt (file_in D.name result.file) fault result.status (used E.contents errors.old errors.new) }
     ensures status { (result.status ≡ 3) ⊎ (result.status ≡ 4) }
     ensures part { result.file ≡ RecordedFile.Left device }
 {
-    let status = tell(errors, &fault);
+    let status = tell_at(errors, &fault, device.name());
     Recorded {
         status,
         file: RecordedFile::Left(device),
@@ -142,7 +132,8 @@ fn sit<D: Device, R: BufRead, W: Write, E: Write>(
     requires reader { reader.old.failed ≡ false }
     requires writer { writer.old.failed ≡ false }
     ensures run { (text : List ℕ) → IsSetup text setup
-        → HasSat text run.now.limit (is_whole result.file) (file_in D.now result.file) (record {
+        → HasSat text run.now.limit (is_whole result.file) (file_in D.has_failed result.file)
+        (file_in D.now result.file) (record {
           status = result.status;
           input = used R.remaining reader.old reader.new;
           output = used W.contents writer.old writer.new;
@@ -173,14 +164,14 @@ fn sit<D: Device, R: BufRead, W: Write, E: Write>(
 }
 
 /// One session over a reader and a writer, after the setup of these bytes, whose trail is kept in a file before any
-/// of it is told: the command `alone` with `--trail` and `--keep`. What stands in the file is cut off.
+/// of it is told: the command `alone` with `--trail` and `--keep`. The file has nothing, or a torn head, which is cut off.
 ///
 /// The result is the status of the run: 0 where the session was served and the trail is whole, 3 for a fault of the
 /// setup, of the session or of the trail, and 4 when out of memory. The words of each fault go to `errors`, first
 /// that of the session, and the first gives the status. Where the bytes are no setup or the file cannot be written,
-/// nothing is read or written. Where the trail was not kept the session ends, and nothing more is told; the file has
-/// all by which what was told was told. It is handed back.
-pub fn alone_recorded_on<D: Device, R: BufRead, W: Write, E: Write>(
+/// nothing is read or written; which file that is stands behind the words. Where the trail was not kept the session
+/// ends, and nothing more is told; the file has all by which what was told was told. It is handed back.
+pub fn alone_recorded_on<D: Device + FileName, R: BufRead, W: Write, E: Write>(
     run: &RecordedRun,
     setup: &[u8],
     device: D,
@@ -189,14 +180,16 @@ pub fn alone_recorded_on<D: Device, R: BufRead, W: Write, E: Write>(
     errors: &mut Watched<E>,
 ) -> Recorded<D>
     requires sound { D.has_failed device ≡ false }
+    requires fresh { IsTornHead (seen (D.now device)) }
     requires reader { reader.old.failed ≡ false }
     requires writer { writer.old.failed ≡ false }
-    ensures run { IsRecorded setup.now run.now.limit (is_whole result.file) (file_in D.now result.file) (record {
-      status = result.status;
-      input = used R.remaining reader.old reader.new;
-      output = used W.contents writer.old writer.new;
-      errors = used E.contents errors.old errors.new;
-    }) }
+    ensures run { IsRecorded setup.now run.now.limit (file_in D.name result.file) (is_whole result.file)
+        (file_in D.has_failed result.file) (file_in D.now result.file) (record {
+          status = result.status;
+          input = used R.remaining reader.old reader.new;
+          output = used W.contents writer.old writer.new;
+          errors = used E.contents errors.old errors.new;
+        }) }
     ensures whole { result.status ≡ 0 → is_whole result.file ≡ true }
     ensures handed_on { result.status ≡ 0 → writer.new.unflushed ≡ false }
     ensures status { IsEnd result.status }

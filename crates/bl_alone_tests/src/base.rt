@@ -1,4 +1,7 @@
 //! A run over the base setup, and its trail.
+ghost use Rattle.bl_record.specs.Torn.{IsTornHead};
+
+use crate::titled::Titled;
 use bl_alone::run::{Recorded, RecordedFile, RecordedRun, alone_recorded_on};
 use bl_disk_tests::torn::Torn;
 use bl_resume::run::alone_resumed_on;
@@ -56,11 +59,13 @@ pub(crate) struct Ran {
 }
 
 /// Whether the trail in the file of a run is whole, and the file.
-fn parts_of(file: RecordedFile<Torn>) -> (bool, Torn) {
-    match file {
+fn parts_of(file: RecordedFile<Titled<Torn>>) -> (bool, Torn) {
+    let (is_whole, titled) = match file {
         RecordedFile::Whole(closed) => (true, closed.end()),
-        RecordedFile::Left(torn) => (false, torn),
-    }
+        RecordedFile::Left(titled) => (false, titled),
+    };
+    let Titled { device } = titled;
+    (is_whole, device)
 }
 
 /// A run over a file with these bytes, which has room for so many more, and of which so many syncs succeed.
@@ -70,12 +75,16 @@ pub(crate) fn run_over(
     bytes: &[u8],
     room: usize,
     syncs: usize,
-) -> Result<Ran, AllocError> {
+) -> Result<Ran, AllocError>
+    requires { IsTornHead bytes.now }
+{
     let run = RecordedRun {
         alloc,
         limit: 10_000,
     };
-    let torn = Torn::new(alloc, bytes, room, syncs)?;
+    let torn = Titled {
+        device: Torn::new(alloc, bytes, room, syncs)?,
+    };
     let mut reader = Watched::new(LINES);
     let mut writer = Watched::new(Vec::new(alloc));
     let mut errors = Watched::new(Vec::new(alloc));
@@ -103,14 +112,19 @@ pub(crate) fn run_base(alloc: Global, room: usize, syncs: usize) -> Result<Ran, 
     run_over(alloc, BASE, b"", room, syncs)
 }
 
-/// A run over the base setup and a file with these bytes.
-pub(crate) fn run_after(alloc: Global, bytes: &[u8]) -> Result<Ran, AllocError> {
+/// A run over the base setup and a file with these bytes, which are a torn head.
+pub(crate) fn run_after(alloc: Global, bytes: &[u8]) -> Result<Ran, AllocError>
+    requires { IsTornHead bytes.now }
+{
     run_over(alloc, BASE, bytes, AMPLE, AMPLE)
 }
 
-/// A session over the base setup that goes on from the run that left a file with these bytes.
-pub(crate) fn resume_after(alloc: Global, bytes: &[u8]) -> Result<Ran, AllocError> {
-    let torn = Torn::new(alloc, bytes, AMPLE, AMPLE)?;
+/// A session over the base setup that goes on from the run that left a file with these bytes, of which so many syncs
+/// succeed.
+pub(crate) fn resume_after(alloc: Global, bytes: &[u8], syncs: usize) -> Result<Ran, AllocError> {
+    let torn = Titled {
+        device: Torn::new(alloc, bytes, AMPLE, syncs)?,
+    };
     let mut reader = Watched::new(LINES);
     let mut writer = Watched::new(Vec::new(alloc));
     let mut errors = Watched::new(Vec::new(alloc));

@@ -25,7 +25,7 @@ fn assert_said(rt: &impl Abort, ran: &Ran) {
     let said: &[u8] = if ran.told.len() == OUTPUT.len() {
         b"trail cut short\n"
     } else if ran.kept.len() < b"trail 2\nlimit 10000\n".len() {
-        b"cannot write trail\n"
+        b"cannot write trail\nfile: day.part\n"
     } else {
         b"session 1: not kept\ntrail cut short\n"
     };

@@ -1,6 +1,7 @@
 //! The tests of `bl_alone` and `bl_resume`: what a run tells and leaves in its file, which is full or fails at each
 //! place.
 //!
+//!     titled    a device that is the file of a name
 //!     base      a run over the base setup, and its trail
 //!     whole     a trail that is whole
 //!     failing   files that are full, and syncs that fail
@@ -13,5 +14,7 @@ mod base;
 mod failing;
 #[cfg(test)]
 mod resumed;
+#[cfg(test)]
+mod titled;
 #[cfg(test)]
 mod whole;

@@ -1,5 +1,5 @@
 //! Sessions that go on from a run that was cut off.
-use crate::base::{OUTPUT, Ran, TRAIL, resume_after};
+use crate::base::{AMPLE, OUTPUT, Ran, TRAIL, resume_after};
 use std::alloc::{AllocError, Global};
 use std::process::Abort;
 use std::test::Fail;
@@ -40,7 +40,7 @@ fn a_run_is_gone_on_with(rt: HostRuntime) -> Result<(), Fail> {
     ];
     for (bytes, said) in torn {
         let left = half_and(rt.alloc(), bytes)?;
-        let ran = resume_after(rt.alloc(), left.as_slice())?;
+        let ran = resume_after(rt.alloc(), left.as_slice(), AMPLE)?;
         assert_eq!(rt; ran.status, 0);
         assert!(rt; ran.is_whole);
         assert_eq!(rt; ran.told.as_slice(), OUTPUT);
@@ -58,11 +58,19 @@ fn what_is_not_gone_on_with_is_told(rt: HostRuntime) -> Result<(), Fail> {
         (b"trail 1\nlimit 9\n", b"trail of version 1\n"),
     ];
     for (bytes, said) in given {
-        let ran = resume_after(rt.alloc(), bytes)?;
+        let ran = resume_after(rt.alloc(), bytes, AMPLE)?;
         assert_refused(&rt, &ran, said, bytes);
     }
     let left = half_and(rt.alloc(), b"one\ntwo\n")?;
-    let ran = resume_after(rt.alloc(), left.as_slice())?;
+    let ran = resume_after(rt.alloc(), left.as_slice(), AMPLE)?;
     assert_refused(&rt, &ran, b"trail wrong at line 6\n", left.as_slice());
+    Ok(())
+}
+
+/// A file that cannot be synced is told by its name.
+#[test]
+fn a_file_that_is_not_synced_is_named(rt: HostRuntime) -> Result<(), Fail> {
+    let ran = resume_after(rt.alloc(), HALF, 0)?;
+    assert_refused(&rt, &ran, b"cannot write trail\nfile: day.part\n", HALF);
     Ok(())
 }

@@ -29,11 +29,11 @@ fn a_file_is_begun_anew(rt: HostRuntime) -> Result<(), Fail> {
 
 #[test]
 fn bytes_that_are_no_setup_are_told(rt: HostRuntime) -> Result<(), Fail> {
-    let ran = run_over(rt.alloc(), b"ranks u\nhat\n", b"as it was", AMPLE, AMPLE)?;
+    let ran = run_over(rt.alloc(), b"ranks u\nhat\n", b"trail 2\nl", AMPLE, AMPLE)?;
     assert_eq!(&rt; ran.status, 3);
     assert!(&rt; !ran.is_whole);
     assert!(&rt; ran.told.is_empty());
     assert_eq!(&rt; ran.said.as_slice(), b"setup 2: syntax\n".as_slice());
-    assert_eq!(&rt; ran.kept.as_slice(), b"as it was".as_slice());
+    assert_eq!(&rt; ran.kept.as_slice(), b"trail 2\nl".as_slice());
     Ok(())
 }

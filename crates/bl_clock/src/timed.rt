@@ -1,14 +1,20 @@
 //! A device that has it noted when it has kept more.
-ghost use Rattle.std.specs.Prelude.{◌≡◌, ◌≤◌, length};
+ghost use Rattle.std.specs.Prelude.{◌≡◌, ◌≤◌, ◌↔◌, false, length, IsTrue};
 ghost use Rattle.bl_disk.specs.Moments.{Passes};
+ghost use Rattle.bl_clock.specs.Noting.{IsClosing, events_in, lines_within};
 
+use crate::clock::ClockFaults;
 use bl_disk::device::{Device, DeviceError};
+use bl_file::named::FileName;
 use std::alloc::{AllocError, Global};
 
 /// Notes how many events a journal has kept.
 pub trait Note {
     /// So many events are kept now. What cannot be noted is left out.
     fn note(&mut self, events: usize);
+
+    /// Nothing more is kept: what is held is written, and the result says what went wrong and was not told yet.
+    fn end(&mut self) -> ClockFaults;
 }
 
 /// How many lines stand before the events: the version and the limit.
@@ -17,9 +23,12 @@ const HEAD_LINES: usize = 2;
 /// The line that closes a trail, and that is no event.
 const STOP: &[u8] = b"stop\n";
 
+/// How a text ends that has it behind another line.
+const LAST_STOP: &[u8] = b"\nstop\n";
+
 /// The file of a journal, which has it noted how many events are kept whenever more were.
 #[derive(Drop)]
-pub struct Timed<D: Device, N: Note> {
+pub struct Timed<D, N> {
     /// The file.
     pub device: D,
     /// What notes it.
@@ -58,6 +67,16 @@ fn lines_in(text: &[u8]) -> usize
     lines.min(text.len())
 }
 
+/// Whether the last line of a text closes a trail.
+fn is_closing(text: &[u8]) -> bool
+    ensures { IsTrue result ↔ IsClosing text.now }
+{
+    if text == STOP {
+        return true;
+    }
+    text.ends_with(LAST_STOP)
+}
+
 /// Where the lines of a text end.
 fn line_ends(alloc: Global, text: &[u8]) -> Result<Vec<usize>, AllocError> {
     let mut ends = Vec::new(alloc);
@@ -87,32 +106,45 @@ impl<D: Device, N: Note> Timed<D, N> {
     fn added(&mut self, text: &[u8])
         ensures { self.new.device ≡ self.old.device }
     {
-        if text != STOP {
-            self.lines = self.lines.saturating_add(lines_in(text));
+        let lines = lines_in(text).saturating_sub(usize::from(is_closing(text)));
+        if lines > 0 {
+            self.lines = self.lines.saturating_add(lines);
             self.is_behind = true;
         }
     }
 
     /// The file has so many bytes of those that were read.
     fn cut_to(&mut self, len: usize)
-        ensures { self.new.device ≡ self.old.device }
+        ensures device { self.new.device ≡ self.old.device }
+        ensures lines { self.new.lines ≡ lines_within len self.old.ends.items }
     {
         self.lines = self.ends.iter().filter(|at| **at < len).count();
         self.ends.clear();
     }
 
+    /// How many events the file has.
+    fn events(&self) -> usize
+        ensures { result ≡ events_in self.now.lines }
+    {
+        self.lines.saturating_sub(HEAD_LINES)
+    }
+
     /// All is kept that was added.
     fn kept(&mut self)
-        ensures { self.new.device ≡ self.old.device }
+        ensures device { self.new.device ≡ self.old.device }
+        ensures noted { self.new.is_behind ≡ false }
     {
         if self.is_behind {
             self.is_behind = false;
-            self.notes.note(self.lines.saturating_sub(HEAD_LINES));
+            let events = self.events();
+            self.notes.note(events);
         }
     }
 }
 
 impl<D: Device, N: Note> Device for Timed<D, N> {
+    type Synced = D::Synced;
+
     ghost now = { λ timed. D.now timed.device };
 
     ghost past = { λ timed. D.past timed.device };
@@ -137,9 +169,17 @@ impl<D: Device, N: Note> Device for Timed<D, N> {
         Ok(())
     }
 
-    fn sync(&mut self) -> Result<(), DeviceError> {
-        self.device.sync()?;
+    fn sync(&mut self) -> Result<D::Synced, DeviceError> {
+        let synced = self.device.sync()?;
         self.kept();
-        Ok(())
+        Ok(synced)
+    }
+}
+
+impl<D: Device + FileName, N: Note> FileName for Timed<D, N> {
+    ghost name = { λ timed. D.name timed.device };
+
+    fn name(&self) -> &str {
+        self.device.name()
     }
 }

@@ -1,6 +1,7 @@
 //! When it is noted how many events are kept.
 ghost use Rattle.std.specs.Prelude.{◌≡◌, false, IfOk};
 
+use bl_clock::clock::ClockFaults;
 use bl_clock::timed::{Note, Timed};
 use bl_disk::device::{Device, DeviceError};
 use bl_disk::log::{Log, reopen};
@@ -19,6 +20,13 @@ impl Note for Last {
     fn note(&mut self, events: usize) {
         self.times = self.times.saturating_add(1);
         self.events = events;
+    }
+
+    fn end(&mut self) -> ClockFaults {
+        ClockFaults {
+            is_cut: false,
+            went_back: false,
+        }
     }
 }
 
@@ -54,6 +62,20 @@ fn events_are_noted_once_they_are_kept(rt: HostRuntime) -> Result<(), Fail> {
     assert_eq!(rt; noted(&log), (2, 2));
     assert!(rt; log.keep().is_ok());
     assert!(rt; log.add(b"stop\n").is_ok());
+    assert_eq!(rt; noted(&log), (2, 2));
+    drop(log);
+    Ok(())
+}
+
+/// A line that closes the trail is no event, also behind others; one that only ends so is one.
+#[test]
+fn a_closing_line_is_no_event(rt: HostRuntime) -> Result<(), Fail> {
+    let mut log = Log {
+        device: timed(rt.alloc(), b"", 9)?,
+    };
+    assert!(rt; log.add(b"trail 2\nlimit 9\nopen stop\n").is_ok());
+    assert_eq!(rt; noted(&log), (1, 1));
+    assert!(rt; log.add(b"open ann\nstop\n").is_ok());
     assert_eq!(rt; noted(&log), (2, 2));
     drop(log);
     Ok(())

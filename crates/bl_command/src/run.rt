@@ -1,16 +1,17 @@
 //! A run of the program over the ends that it is given: its input, its output and standard error.
-ghost use Rattle.std.specs.Prelude.{◌≡◌, ◌≢◌, false, IfOk, IfErr};
+ghost use Rattle.std.specs.Prelude.{◌≡◌, ◌≢◌, ◌⊎◌, false, IfOk, IfErr};
 ghost use Rattle.std.specs.IoError.{error_kind};
 ghost use Rattle.clap.specs.Words.{kind_of};
-ghost use Rattle.bl_wire.specs.Watch.{used};
+ghost use Rattle.bl_wire.specs.Watch.{Use, used};
 ghost use Rattle.bl_status.specs.Status.{IsStatus};
-ghost use Rattle.bl_command.specs.Runs.{IsRefused, IsRunAfter, IsRunOf};
+ghost use Rattle.bl_command.specs.Runs.{EndsReplay, HasToldUnread, IsRefused, IsRunAfter, IsRunOf};
 ghost use Rattle.bl_words.specs.Words.{IsInRange};
 
 use bl_run::alone::alone_on;
+use bl_run::open::replay_open_on;
 use bl_run::replay::replay_on;
 use bl_status::fault::ProgramFault;
-use bl_status::told::tell;
+use bl_status::told::{tell, tell_at};
 use bl_wire::put::put_out;
 use bl_wire::watched::Watched;
 use bl_words::command::{Command, status_of};
@@ -25,6 +26,32 @@ pub struct Files {
     pub setup: Vec<u8>,
     /// The trail that the command reads; empty for a command that reads none.
     pub trail: Vec<u8>,
+}
+
+/// A replay of a trail over a setup, of these bytes, which may be open where that is asked for.
+fn replay_over<W: Write, E: Write>(
+    alloc: Global,
+    setup: &[u8],
+    trail: &[u8],
+    opens: bool,
+    writer: &mut Watched<W>,
+    errors: &mut Watched<E>,
+) -> u8
+    requires writer { writer.old.failed ≡ false }
+    requires errors { errors.old.failed ≡ false }
+    ensures status { IsStatus result }
+    ensures run { (input : Use) → EndsReplay opens setup.now trail.now (record {
+      status = result;
+      input = input;
+      output = used W.contents writer.old writer.new;
+      errors = used E.contents errors.old errors.new;
+    }) }
+{
+    if opens {
+        replay_open_on(alloc, setup, trail, writer, errors)
+    } else {
+        replay_on(alloc, setup, trail, writer, errors)
+    }
 }
 
 /// A run of a command over its files. The result is the status of the run. There is no listener here, so `serve` cannot
@@ -57,8 +84,21 @@ fn run_over<R: BufRead, W: Write, E: Write>(
         } => alone_on(alloc, &files.setup, *limit, reader, writer, errors),
         Command::Alone { trail: Some(_), .. } => tell(errors, &ProgramFault::CannotWriteTrail),
         Command::Serve { .. } => tell(errors, &ProgramFault::CannotListen),
-        Command::Replay { .. } => replay_on(alloc, &files.setup, &files.trail, writer, errors),
+        Command::Replay { opens, .. } => {
+            replay_over(alloc, &files.setup, &files.trail, *opens, writer, errors)
+        }
         Command::Recover { .. } => tell(errors, &ProgramFault::CannotReadTrail),
+    }
+}
+
+/// Tells why the files of a command could not be read, and of a trail which file that is, and gives the status.
+fn tell_unread<E: Write>(command: &Command<'_>, fault: &ProgramFault, errors: &mut Watched<E>) -> u8
+    ensures told { HasToldUnread command.now fault.now result (used E.contents errors.old errors.new) }
+    ensures status { (result ≡ 3) ⊎ (result ≡ 4) }
+{
+    match command.read_trail() {
+        Some(trail) => tell_at(errors, fault, trail),
+        None => tell(errors, fault),
     }
 }
 
@@ -86,7 +126,7 @@ pub fn run_command<R: BufRead, W: Write, E: Write>(
 {
     match files {
         Ok(files) => run_over(alloc, command, &files, reader, writer, errors),
-        Err(fault) => tell(errors, &fault),
+        Err(fault) => tell_unread(command, &fault, errors),
     }
 }
 

@@ -10,6 +10,7 @@ ghost use Rattle.bl_system.specs.Entering.{HasToldEntrance};
 ghost use Rattle.bl_words.specs.Words.{IsHostingInRange, IsInRange};
 
 use crate::files::read_files;
+use crate::hints::{tell_hint, tell_signals};
 use crate::recorded::{RecordedAlone, outlives, serve_recorded, sit_recorded};
 use crate::run::{Files, run_asked, run_unread};
 use bl_alone::run::RecordedRun;
@@ -25,7 +26,6 @@ use bl_status::fault::ProgramFault;
 use bl_status::told::tell;
 use bl_system::enter::{Entered, EntranceFault, enter, tell_entrance};
 use bl_system::files::read_setup_file;
-use bl_wire::put::put_out;
 use bl_wire::watched::Watched;
 use bl_words::command::{Command, Hosting, TrailKeeping, read_words};
 use bl_worker::pause::NoPause;
@@ -109,12 +109,13 @@ fn run_of<'a>(hosting: &Hosting<'a>) -> ServeRun<'a>
 
 /// A run of what is hosted, with what it has taken from the system.
 fn serve_found<
+    'a,
     R: AllocGlobal + OpensFiles + Clock + Threads + Wait + Net + Sync,
     W: Write,
     E: Write,
 >(
-    rt: &R,
-    entered: &Entered<R::File>,
+    rt: &'a R,
+    entered: &'a Entered<R::File>,
     hosting: &Hosting<'_>,
     writer: &mut Watched<W>,
     errors: &mut Watched<E>,
@@ -122,7 +123,7 @@ fn serve_found<
 where
     R::File: Send,
     requires { IsHostingInRange hosting.now }
-    ensures run { IsServe entered.now.setup.items hosting.now.trail.claims result
+    ensures run { IsServe entered.now.setup.items hosting.now.trail.name.now result
         (used W.contents writer.old writer.new) (used E.contents errors.old errors.new) }
     ensures kept { result.status ≡ 0 → IsSome result.kept }
     ensures status { IsEnd result.status }
@@ -132,6 +133,7 @@ where
         alloc: rt.alloc(),
         pause: &NoPause,
         log: entered.log.as_ref(),
+        clock: None,
     };
     let run = run_of(hosting);
     let setup = entered.setup.as_slice();
@@ -162,6 +164,7 @@ where
         Some(keeping) => serve_recorded(rt, &entered, hosting, keeping, writer, errors).status,
         None => serve_found(rt, &entered, hosting, writer, errors).status,
     };
+    entered.note_end(rt, status);
     entered.leave(rt, errors);
     status
 }
@@ -193,13 +196,12 @@ where
 }
 
 /// A run of the command `serve`. The result is the status of the run.
-fn run_serve<R: AllocGlobal + OpensFiles + Clock + Print + Threads + Wait + Net + Sync, E: Write>(
-    rt: &R,
-    path: &str,
-    hosting: &Hosting<'_>,
-    errors: &mut Watched<E>,
-) -> u8
+fn run_serve<
+    R: AllocGlobal + OpensFiles + Clock + Print + Input + Threads + Wait + Net + Sync,
+    E: Write,
+>(rt: &R, path: &str, hosting: &Hosting<'_>, errors: &mut Watched<E>) -> u8
 where
+    R::Reader: IsTerminal,
     R::File: Lock + Send,
     requires { IsHostingInRange hosting.now }
     ensures { IsStatus result }
@@ -209,6 +211,9 @@ where
     };
     let mut writer = Watched::new(writer);
     let found = enter(rt, path, hosting);
+    if found.is_ok() && hosting.keeping == TrailKeeping::AtEnd && rt.reader().is_terminal() {
+        tell_signals(errors);
+    }
     let status = serve_or_tell(rt, found, hosting, &mut writer, errors);
     let _ = hand_on_rest(writer);
     status
@@ -238,11 +243,12 @@ fn sit_found<T: OpensFiles, R: BufRead, W: Write, E: Write>(
     }
 }
 
-/// A session that `alone` is asked for with a trail: the weight of its lines at most, where its trail is kept and how,
-/// and whether it goes on from a run that was cut off.
+/// A session that `alone` is asked for with a trail: the weight of its lines at most, whether that was said, where its
+/// trail is kept and how, and whether it goes on from a run that was cut off.
 #[derive(Drop)]
 struct KeptAlone<'a> {
     limit: u32,
+    says_limit: bool,
     trail: TrailFile<'a>,
     keeping: TrailKeeping,
     resumes: bool,
@@ -271,6 +277,7 @@ where
         Some(keeping) => {
             let asked = RecordedAlone {
                 run: RecordedRun { alloc, limit },
+                says_limit: asked.says_limit,
                 trail,
                 keeping,
                 resumes: asked.resumes,
@@ -286,16 +293,6 @@ where
             sit_found(rt, setup, &run, reader, writer, errors).status
         }
     }
-}
-
-/// What is said to who begins a session at a terminal.
-const HINT: &[u8] =
-    b"Say `hello SUBJECT`, and then a line for each request. `wait` brings the answers, and the end of input
-        (Ctrl-D) ends the session.\n";
-
-/// Says at a terminal how a session goes.
-fn tell_hint<R: Eprint>(rt: &R) {
-    put_out(&mut Watched::new(StandardError { rt }), HINT);
 }
 
 /// A recovery, once its setup file was read, or a fault was found, which is told. The result is the status of the run.
@@ -347,6 +344,7 @@ where
         Command::Alone {
             setup,
             limit,
+            says_limit,
             trail: Some(trail),
             keeping,
             resumes,
@@ -355,6 +353,7 @@ where
     {
         let asked = KeptAlone {
             limit: *limit,
+            says_limit: *says_limit,
             trail: *trail,
             keeping: *keeping,
             resumes: *resumes,
@@ -389,7 +388,7 @@ where
     let alloc = rt.alloc();
     let input = rt.reader();
     if matches!(&asked, Ok(Command::Alone { .. })) && input.is_terminal() {
-        tell_hint(rt);
+        tell_hint(&mut Watched::new(StandardError { rt }));
     }
     let Ok(reader) = BufReader::new(alloc, input) else {
         return tell(errors, &ProgramFault::NoMemory);

@@ -339,7 +339,11 @@ fn tells_the_setups_fault_and_no_verdict(rt: HostRuntime) -> Result<(), Fail> {
 #[test]
 fn tells_a_trail_that_cannot_be_read(rt: HostRuntime) -> Result<(), Fail> {
     let given = [
-        (io::ErrorKind::NotFound, 3, "cannot read trail\n"),
+        (
+            io::ErrorKind::NotFound,
+            3,
+            "cannot read trail\nfile: trail.txt\n",
+        ),
         (io::ErrorKind::OutOfMemory, 4, "no memory\n"),
     ];
     for (kind, status, said) in given {

@@ -9,7 +9,11 @@ use std::test::Fail;
 
 /// A replay over these files.
 fn replay<'a>(setup: &'a str, trail: &'a str) -> Command<'a> {
-    Command::Replay { setup, trail }
+    Command::Replay {
+        setup,
+        trail,
+        opens: false,
+    }
 }
 
 /// A trail may have more bytes than a setup may, and a setup more than a megabyte; all of both are read.
@@ -45,6 +49,7 @@ fn reads_one_byte_past_a_setup(rt: HostRuntime) -> Result<(), Fail> {
         &Command::Alone {
             setup,
             limit,
+            says_limit: false,
             trail,
             keeping: TrailKeeping::AtEnd,
             resumes: false,

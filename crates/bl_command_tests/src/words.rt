@@ -21,11 +21,12 @@ fn name_alone(alloc: Global, text: &str, most: u32) -> Result<bool, Fail> {
             Command::Alone {
                 setup,
                 limit,
+                says_limit,
                 trail: None,
                 keeping: TrailKeeping::AtEnd,
                 resumes: false,
             },
-        ) => setup == "base.txt" && limit == most,
+        ) => setup == "base.txt" && limit == most && says_limit == text.contains("--limit"),
         Ok(_) | Err(_) => false,
     })
 }
@@ -65,6 +66,7 @@ fn is_same(one: &Hosting<'_>, other: &Hosting<'_>) -> bool {
         && one.clients == other.clients;
     let choices = one.trail.replaces == other.trail.replaces
         && one.trail.claims == other.trail.claims
+        && one.says_limit == other.says_limit
         && one.resumes == other.resumes;
     entrance && idle && log && name && keeping && numbers && choices
 }
@@ -72,6 +74,7 @@ fn is_same(one: &Hosting<'_>, other: &Hosting<'_>) -> bool {
 /// What is hosted at port 7654 with the trail `run.trail`, where nothing else is said.
 const PLAIN: Hosting<'static> = Hosting {
     limit: 10_000,
+    says_limit: false,
     entrance: NamedEntrance::Port(7654),
     trail: TrailFile {
         name: "run.trail",
@@ -99,6 +102,7 @@ fn reads_serve(rt: HostRuntime) -> Result<(), Fail> {
         --trail-limit 70000";
     let wanted = Hosting {
         limit: 7,
+        says_limit: true,
         entrance: NamedEntrance::Port(65_535),
         trail: TrailFile {
             name: "other.trail",
@@ -288,6 +292,30 @@ fn reads_how_a_trail_is_kept(rt: HostRuntime) -> Result<(), Fail> {
             Ok(_) | Err(_) => None,
         };
         assert!(rt; read == wanted, "at {text}");
+    }
+    Ok(())
+}
+
+/// A trail that is replayed may be open where `--open` says so.
+#[test]
+fn reads_replay_of_an_open_trail(rt: HostRuntime) -> Result<(), Fail> {
+    let given = [("", false), ("--open", true)];
+    for (more, wanted) in given {
+        let text = format!(in rt.alloc();
+            "bl_server replay --setup base.txt --trail run.trail {more}"
+        )?;
+        let given = words(rt.alloc(), text.as_str())?;
+        let read = match read_words(rt.alloc(), given.as_slice()) {
+            Ok(
+                Command::Replay {
+                    setup,
+                    trail,
+                    opens,
+                },
+            ) => setup == "base.txt" && trail == "run.trail" && opens == wanted,
+            Ok(_) | Err(_) => false,
+        };
+        assert!(rt; read, "at {text}");
     }
     Ok(())
 }

@@ -16,7 +16,7 @@ use Rattle.bl_engine.specs.declared.conversation.Stage.{Stage}
 use Rattle.bl_engine.specs.declared.conversation.Stage.TheVariants as stages
 use Rattle.bl_engine.proofs.Endings.{so_far_at}
 use Rattle.bl_engine.proofs.Hearings.{no_input}
-use Rattle.bl_connection.specs.Connections.{Answers, HasHeardMore, IsConnected, to_hear, unheard, unwritten, with_said}
+use Rattle.bl_connection.specs.Connections.{Answers, HasBegun, HasHeardMore, IsConnected, IsKnownOf, to_hear, unheard, unwritten, with_said}
 use Rattle.bl_connection.specs.declared.connection.Connection.{Connection}
 use Rattle.bl_connection.proofs.Passing.{at_end, begins_on, consumes_heard, keeps_read, keeps_unread, on_some, stream_end_stays, end_stays}
 
@@ -32,15 +32,16 @@ free_at ended stages.Over quiet given left other talk turns asked said at = at
 
 module _ {S : Type 0} (remaining contents : S → Option (List ℕ)) where
   -- nothing was read or said yet
-  pub connected_new : (stream : S) (conn : Connection S) → conn.stream ≡ stream → conn.first.value ≡ stream → unheard conn ≡ [] → unwritten conn ≡ [] → conn.ended ≡ false
+  pub connected_new : (stream : S) (conn : Connection S) → conn.stream ≡ stream → IsKnownOf remaining contents stream conn.first → unheard conn ≡ [] → unwritten conn ≡ [] → conn.ended ≡ false
       → need_of conn.conv ≡ needs.Input → ((names : KnownNames) (given : Given) (left : ℕ → List ℕ) → Spoke names given left conn.conv [] [] [] [])
       → (names : KnownNames) (opening : Opening) (replies : ℕ → List ℕ) (upto : ℕ) (left : ℕ → List ℕ)
       → IsConnected remaining contents names (Answers opening replies upto) left conn nothing_yet
   connected_new stream conn here first none quiet open_end need spoke names opening replies upto left = record {
     written = [];
     passed = record {
-      took = subst (λ a. Consumes (remaining conn.first.value) a []) (ap remaining (first ∙ sym here) ∙ same_known (remaining conn.stream) (unheard conn) none) (Consumes-nil (remaining conn.first.value));
-      put = subst (λ s. Appends (contents conn.first.value) (contents s) []) (first ∙ sym here) (Appends-nil (contents conn.first.value));
+      begun = (stream, first);
+      took = subst (λ a. Consumes conn.first.remaining a []) (first.0 ∙ ap remaining (sym here) ∙ same_known (remaining conn.stream) (unheard conn) none) (Consumes-nil conn.first.remaining);
+      put = subst (λ a. Appends conn.first.contents a []) (first.1 ∙ ap contents (sym here)) (Appends-nil conn.first.contents);
       said = sym quiet;
       read_end = λ is. absurd (clash conn.ended is open_end);
       heard_end = λ is. absurd (no_input conn.conv.ended conn.conv.stage is need);
@@ -56,6 +57,10 @@ module _ {S : Type 0} (remaining contents : S → Option (List ℕ)) where
       same_known None u is = refl
       same_known (Some x) u is = ap (λ l. Some (l ++ x)) (sym is)
 
+  -- it began so, whatever came since
+  pub begun_still : (old new : Connection S) → new.first ≡ old.first → HasBegun remaining contents old → HasBegun remaining contents new
+  begun_still old new first begun = (begun.0, subst (IsKnownOf remaining contents begun.0) (sym first) begun.1)
+
   -- the stream was read or written, and nothing was heard or told meanwhile
   pub connected_moved : (names : KnownNames) (M : Given → Type 0) (left : ℕ → List ℕ) (old new : Connection S) (x : Exchange) (more : List ℕ)
       → new.first ≡ old.first → new.conv ≡ old.conv
@@ -65,14 +70,15 @@ module _ {S : Type 0} (remaining contents : S → Option (List ℕ)) where
       → IsConnected remaining contents names M left old x → IsConnected remaining contents names M left new x
   connected_moved names M left old new x more first conv rest put output read_end was =
       let p = was.passed in
-      let start = remaining old.first.value in
-      let from : start ≡ remaining new.first.value = ap (λ f. remaining f.value) (sym first) in
+      let start = old.first.remaining in
+      let from : start ≡ new.first.remaining = ap (λ f. f.remaining) (sym first) in
       record {
         written = was.written ++ more;
         passed = record {
+          begun = begun_still old new first p.begun;
           took = subst (λ a. Consumes a (to_hear remaining new) x.heard) from (Consumes-kept start (to_hear remaining old) (to_hear remaining new) x.heard p.took rest);
-          put = subst (λ a. Appends a (contents new.stream) (was.written ++ more)) (ap (λ f. contents f.value) (sym first))
-              (Appends-trans (contents old.first.value) (contents old.stream) (contents new.stream) was.written more p.put put);
+          put = subst (λ a. Appends a (contents new.stream) (was.written ++ more)) (ap (λ f. f.contents) (sym first))
+              (Appends-trans old.first.contents (contents old.stream) (contents new.stream) was.written more p.put put);
           said = p.said ∙ ap (λ l. was.written ++ l) output ∙ sym (append_assoc was.written more (unwritten new));
           read_end = λ is. subst (λ a. OnSome a (IsAtEnd (remaining new.stream))) from (read_end start x.heard p.took p.read_end is);
           heard_end = λ is. subst (λ a. OnSome a (IsAtEnd (to_hear remaining new))) from
@@ -91,8 +97,8 @@ module _ {S : Type 0} (remaining contents : S → Option (List ℕ)) where
   connected_heard names M left old new x bytes request first stream ended quiet before split end cut hears was =
       let p = was.passed in
       let h = hears x.turns x.heard cut in
-      let start = remaining old.first.value in
-      let from : start ≡ remaining new.first.value = ap (λ f. remaining f.value) (sym first) in
+      let start = old.first.remaining in
+      let from : start ≡ new.first.remaining = ap (λ f. f.remaining) (sym first) in
       let all : x.said ≡ was.written = p.said ∙ ap (λ l. was.written ++ l) before ∙ append-nil was.written in
       let one : Consumes (to_hear remaining old) (prepend_known (unheard new) (remaining old.stream)) bytes = consumes_heard (remaining old.stream) (unheard old) bytes (unheard new) split in
       let read_end : new.ended ≡ true → OnSome start (IsAtEnd (remaining old.stream)) = λ is. p.read_end (sym ended ∙ is) in
@@ -101,11 +107,12 @@ module _ {S : Type 0} (remaining contents : S → Option (List ℕ)) where
       record {
         written = was.written;
         passed = record {
+          begun = begun_still old new first p.begun;
           took = subst (λ a. Consumes a (to_hear remaining new) (x.heard ++ bytes)) from
               (subst (λ s. Consumes start (prepend_known (unheard new) (remaining s)) (x.heard ++ bytes)) (sym stream)
               (Consumes-trans start (to_hear remaining old) (prepend_known (unheard new) (remaining old.stream)) x.heard bytes p.took one));
-          put = subst (λ a. Appends a (contents new.stream) was.written) (ap (λ f. contents f.value) (sym first))
-              (subst (λ s. Appends (contents old.first.value) (contents s) was.written) (sym stream) p.put);
+          put = subst (λ a. Appends a (contents new.stream) was.written) (ap (λ f. f.contents) (sym first))
+              (subst (λ s. Appends old.first.contents (contents s) was.written) (sym stream) p.put);
           said = all ∙ sym (append-nil was.written) ∙ ap (λ l. was.written ++ l) (sym quiet);
           read_end = λ is. subst (λ a. OnSome a (IsAtEnd (remaining new.stream))) from (subst (λ s. OnSome start (IsAtEnd (remaining s))) (sym stream) (read_end is));
           heard_end = λ is. subst (λ a. OnSome a (IsAtEnd (to_hear remaining new))) from (elim (end is) [
@@ -139,15 +146,16 @@ module _ {S : Type 0} (remaining contents : S → Option (List ℕ)) where
       → IsConnected remaining contents names M was old x → IsConnected remaining contents names M left new (with_said x more)
   connected_on names M was left old new x more first stream ended input talks output spoke on =
       let p = on.passed in
-      let start = remaining old.first.value in
-      let from : start ≡ remaining new.first.value = ap (λ f. remaining f.value) (sym first) in
+      let start = old.first.remaining in
+      let from : start ≡ new.first.remaining = ap (λ f. f.remaining) (sym first) in
       let same : to_hear remaining old ≡ to_hear remaining new = ap (λ l. prepend_known l (remaining old.stream)) (sym input) ∙ ap (λ s. prepend_known (unheard new) (remaining s)) (sym stream) in
       record {
         written = on.written;
         passed = record {
+          begun = begun_still old new first p.begun;
           took = subst (λ a. Consumes a (to_hear remaining new) x.heard) from (subst (λ b. Consumes start b x.heard) same p.took);
-          put = subst (λ a. Appends a (contents new.stream) on.written) (ap (λ f. contents f.value) (sym first))
-              (subst (λ s. Appends (contents old.first.value) (contents s) on.written) (sym stream) p.put);
+          put = subst (λ a. Appends a (contents new.stream) on.written) (ap (λ f. f.contents) (sym first))
+              (subst (λ s. Appends old.first.contents (contents s) on.written) (sym stream) p.put);
           said = ap (λ l. l ++ more) p.said ∙ append_assoc on.written (unwritten old) more ∙ ap (λ l. on.written ++ l) (sym output);
           read_end = λ is. subst (λ a. OnSome a (IsAtEnd (remaining new.stream))) from (subst (λ s. OnSome start (IsAtEnd (remaining s))) (sym stream) (p.read_end (sym ended ∙ is)));
           heard_end = λ is. subst (λ a. OnSome a (IsAtEnd (to_hear remaining new))) from (subst (λ b. OnSome start (IsAtEnd b)) same (p.heard_end (sym talks ∙ is)));

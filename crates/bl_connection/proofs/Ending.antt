@@ -44,7 +44,7 @@ module _ {S : Type 0} (remaining contents : S → Option (List ℕ)) (names : Kn
       let p = was.passed in
       record {
         took = p.took;
-        put = subst (Appends (contents conn.first.value) (contents conn.stream)) (sym (p.said ∙ ap (λ l. was.written ++ l) none ∙ append-nil was.written)) p.put;
+        put = subst (Appends conn.first.contents (contents conn.stream)) (sym (p.said ∙ ap (λ l. was.written ++ l) none ∙ append-nil was.written)) p.put;
         end = p.heard_end;
         cut = (was.spoke some may).cut;
         point = λ given other ok. ((connected_free remaining contents names M left other conn x quiet was).spoke given ok).point;
@@ -57,18 +57,18 @@ module _ {S : Type 0} (remaining contents : S → Option (List ℕ)) (names : Kn
     quiet_driven need = driven_of (Answers Open replies upto) left old x (given_by replies) (may_later Open replies upto replies (same_refl upto replies)) none (other_need (need_of old.conv) need) was
 
     pub stops_read : need_of old.conv ≡ needs.Input
-        → Stopped Read names (ends (remaining old.first.value) r' (contents old.first.value) w') true false (view_of replies upto x.asked)
-    stops_read need = broken_listening names (remaining old.first.value) (to_hear remaining old) (contents old.first.value) (contents old.stream) (Answers Open replies upto) replies (λ n. n ≡ upto) (λ told. told ≡ x.asked) upto refl
+        → Stopped Read names (ends old.first.remaining r' old.first.contents w') true false (view_of replies upto x.asked)
+    stops_read need = broken_listening names old.first.remaining (to_hear remaining old) old.first.contents (contents old.stream) (Answers Open replies upto) replies (λ n. n ≡ upto) (λ told. told ≡ x.asked) upto refl
         (may_later Open replies upto) old.conv x (quiet_driven (inl need)) refl Read r' w' true false need rest kept (refl, refl)
 
     pub stops_long : need_of old.conv ≡ needs.Input → old.conv.left ≡ 0 → OnSome (to_hear remaining old) (HasMore r')
-        → Stopped TooLong names (ends (remaining old.first.value) r' (contents old.first.value) w') false false (view_of replies upto x.asked)
-    stops_long need full more = broken_listening names (remaining old.first.value) (to_hear remaining old) (contents old.first.value) (contents old.stream) (Answers Open replies upto) replies (λ n. n ≡ upto) (λ told. told ≡ x.asked) upto refl
+        → Stopped TooLong names (ends old.first.remaining r' old.first.contents w') false false (view_of replies upto x.asked)
+    stops_long need full more = broken_listening names old.first.remaining (to_hear remaining old) old.first.contents (contents old.stream) (Answers Open replies upto) replies (λ n. n ≡ upto) (λ told. told ≡ x.asked) upto refl
         (may_later Open replies upto) old.conv x (quiet_driven (inl need)) refl TooLong r' w' false false need rest kept (refl, refl, full, more)
 
     pub stops_memory : (need_of old.conv ≡ needs.Input) ⊎ (need_of old.conv ≡ needs.End)
-        → Stopped Memory names (ends (remaining old.first.value) r' (contents old.first.value) w') false false (view_of replies upto x.asked)
-    stops_memory need = broken_quiet names (remaining old.first.value) (to_hear remaining old) (contents old.first.value) (contents old.stream) (Answers Open replies upto) replies (λ n. n ≡ upto) (λ told. told ≡ x.asked) upto refl
+        → Stopped Memory names (ends old.first.remaining r' old.first.contents w') false false (view_of replies upto x.asked)
+    stops_memory need = broken_quiet names old.first.remaining (to_hear remaining old) old.first.contents (contents old.stream) (Answers Open replies upto) replies (λ n. n ≡ upto) (λ told. told ≡ x.asked) upto refl
         (may_later Open replies upto) old.conv x (quiet_driven need) refl Memory r' w' false false rest kept refl (λ is. refl) need (refl, refl)
 
 -- there is more to hear where something was read and not heard
@@ -142,29 +142,29 @@ module _ {S : Type 0} (remaining contents : S → Option (List ℕ)) where
   pub stops_write : (names : KnownNames) (replies : ℕ → List ℕ) (upto : ℕ) (left : ℕ → List ℕ) (conn : Connection S) (x : Exchange)
       → IsConnected remaining contents names (Answers Open replies upto) left conn x → Stopped Write names (ends_of remaining contents conn) false true (view_of replies upto x.asked)
   stops_write names replies upto left conn x was =
-      stopped_short names (remaining conn.first.value) (to_hear remaining conn) (contents conn.first.value) (contents conn.stream) replies upto left conn.conv x was.written (unwritten conn)
+      stopped_short names conn.first.remaining (to_hear remaining conn) conn.first.contents (contents conn.stream) replies upto left conn.conv x was.written (unwritten conn)
       was.passed.said was.passed.took was.passed.put was.passed.heard_end was.spoke was.whole
 
   -- the stream took nothing, and is as it was but for that
   pub stops_stuck : (names : KnownNames) (replies : ℕ → List ℕ) (upto : ℕ) (left : ℕ → List ℕ) (old : Connection S) (x : Exchange) (stream : S)
       → Keeps (remaining old.stream) (remaining stream) → Appends (contents old.stream) (contents stream) []
       → IsConnected remaining contents names (Answers Open replies upto) left old x
-      → Stopped Write names (ends (remaining old.first.value) (prepend_known (unheard old) (remaining stream)) (contents old.first.value) (contents stream)) false true (view_of replies upto x.asked)
+      → Stopped Write names (ends old.first.remaining (prepend_known (unheard old) (remaining stream)) old.first.contents (contents stream)) false true (view_of replies upto x.asked)
   stops_stuck names replies upto left old x stream rest put was =
       let p = was.passed in
-      let start = remaining old.first.value in
+      let start = old.first.remaining in
       let kept = keeps_unread (remaining old.stream) (remaining stream) (unheard old) rest in
-      stopped_short names start (prepend_known (unheard old) (remaining stream)) (contents old.first.value) (contents stream) replies upto left old.conv x was.written (unwritten old) p.said
+      stopped_short names start (prepend_known (unheard old) (remaining stream)) old.first.contents (contents stream) replies upto left old.conv x was.written (unwritten old) p.said
       (Consumes-kept start (to_hear remaining old) (prepend_known (unheard old) (remaining stream)) x.heard p.took kept)
-      (subst (Appends (contents old.first.value) (contents stream)) (append-nil was.written)
-      (Appends-trans (contents old.first.value) (contents old.stream) (contents stream) was.written [] p.put put))
+      (subst (Appends old.first.contents (contents stream)) (append-nil was.written)
+      (Appends-trans old.first.contents (contents old.stream) (contents stream) was.written [] p.put put))
       (λ is. end_stays start (to_hear remaining old) (prepend_known (unheard old) (remaining stream)) x.heard p.took kept (p.heard_end is)) was.spoke was.whole
 
   -- there was no memory for a part of what was told
   pub stops_told : (names : KnownNames) (replies : ℕ → List ℕ) (upto : ℕ) (was left : ℕ → List ℕ) (old : Connection S) (conv : Conversation) (x : Exchange) (more : List ℕ) → conv.ended ≡ old.conv.ended
       → Says was left old.conv conv more → IsConnected remaining contents names (Answers Open replies upto) was old x → Stopped Write names (ends_of remaining contents old) false true (view_of replies upto x.asked)
   stops_told names replies upto was left old conv x more ended says on =
-      stopped_short names (remaining old.first.value) (to_hear remaining old) (contents old.first.value) (contents old.stream) replies upto left conv (with_said x more) on.written (unwritten old ++ more)
+      stopped_short names old.first.remaining (to_hear remaining old) old.first.contents (contents old.stream) replies upto left conv (with_said x more) on.written (unwritten old ++ more)
       (ap (λ l. l ++ more) on.passed.said ∙ append_assoc on.written (unwritten old) more) on.passed.took on.passed.put (λ is. on.passed.heard_end (sym ended ∙ is))
       (λ given may. says names given x.turns x.asked x.heard x.said (on.spoke given may)) on.whole
 
@@ -178,7 +178,7 @@ module _ {S : Type 0} (remaining contents : S → Option (List ℕ)) where
       let all = all_said names given left conn.conv x.turns x.asked x.heard x.said (was.spoke given may) over in
       let said : was.written ≡ whole_text opening replies x.turns = sym (append-nil was.written) ∙ ap (λ l. was.written ++ l) (sym none) ∙ sym was.passed.said ∙ all.said_is in
       record {
-        put = subst (Appends (contents conn.first.value) (contents conn.stream)) said was.passed.put;
+        put = subst (Appends conn.first.contents (contents conn.stream)) said was.passed.put;
         asked_is = all.asked_is;
         finished = λ is. opened (subst (λ o. IsConnected remaining contents names (Answers o replies upto) left conn x) is was);
       }
@@ -187,7 +187,7 @@ module _ {S : Type 0} (remaining contents : S → Option (List ℕ)) where
       quiet is = cc
 
       opened : IsConnected remaining contents names (Answers Open replies upto) left conn x → Finished names (ends_of remaining contents conn) (view_of replies upto x.asked)
-      opened on = driven_finished names (remaining conn.first.value) (to_hear remaining conn) (contents conn.first.value) (contents conn.stream) (Answers Open replies upto) replies (λ n. n ≡ upto) (λ told. told ≡ x.asked) upto refl
+      opened on = driven_finished names conn.first.remaining (to_hear remaining conn) conn.first.contents (contents conn.stream) (Answers Open replies upto) replies (λ n. n ≡ upto) (λ told. told ≡ x.asked) upto refl
           (may_later Open replies upto) conn.conv x
           (driven_of remaining contents names (Answers Open replies upto) left conn x (given_by replies) (may_later Open replies upto replies (same_refl upto replies)) none quiet on) refl over
 

@@ -20,6 +20,7 @@ use Rattle.bl_engine.specs.declared.conversation.Need.TheVariants as needs
 use Rattle.bl_engine.specs.declared.conversation.Opening.{Opening}
 use Rattle.bl_engine.specs.declared.conversation.Opening.TheVariants.{Open}
 use Rattle.bl_connection.specs.declared.connection.Connection.{Connection}
+use Rattle.bl_connection.specs.declared.known.Known.{Known}
 use Rattle.bl_connection.specs.declared.connection.State.{State}
 use Rattle.bl_connection.specs.declared.connection.State.TheVariants.{Reads, Hears, Opens, Settles, Tells, Writes, Over}
 
@@ -37,15 +38,24 @@ unwritten conn = drop conn.written conn.output.items
 abbrev pub to_hear : {S : Type 0} → (S → Option (List ℕ)) → Connection S → Option (List ℕ)
 to_hear remaining conn = prepend_known (unheard conn) (remaining conn.stream)
 
+-- this is what is known of the bytes of a stream
+abbrev pub IsKnownOf : {S : Type 0} → (remaining contents : S → Option (List ℕ)) → S → Known → Type 0
+IsKnownOf remaining contents stream known = (known.remaining ≡ remaining stream) × (known.contents ≡ contents stream)
+
+-- it began over a stream of this kind, as that was then
+abbrev pub HasBegun : {S : Type 0} → (remaining contents : S → Option (List ℕ)) → Connection S → Type 0
+HasBegun {S} remaining contents conn = (stream : S) × IsKnownOf remaining contents stream conn.first
+
 -- What this stream gave since the connection was made is what was heard, and what was read and not heard yet. What it
 -- took, and what was told and not written yet, are what was said.
 pub record HasPassed {S : Type 0} (remaining contents : S → Option (List ℕ)) (conn : Connection S) (x : Exchange)
     (written : List ℕ) : Type 0 where
-  pub took : Consumes (remaining conn.first.value) (to_hear remaining conn) x.heard
-  pub put : Appends (contents conn.first.value) (contents conn.stream) written
+  pub begun : HasBegun remaining contents conn
+  pub took : Consumes conn.first.remaining (to_hear remaining conn) x.heard
+  pub put : Appends conn.first.contents (contents conn.stream) written
   pub said : x.said ≡ written ++ unwritten conn
-  pub read_end : conn.ended ≡ true → OnSome (remaining conn.first.value) (IsAtEnd (remaining conn.stream))
-  pub heard_end : conn.conv.ended ≡ true → OnSome (remaining conn.first.value) (IsAtEnd (to_hear remaining conn))
+  pub read_end : conn.ended ≡ true → OnSome conn.first.remaining (IsAtEnd (remaining conn.stream))
+  pub heard_end : conn.conv.ended ≡ true → OnSome conn.first.remaining (IsAtEnd (to_hear remaining conn))
 
 -- all is as it was, but for room that is no more needed
 pub record SameBytes {S : Type 0} (old new : Connection S) : Type 0 where
@@ -96,7 +106,7 @@ state_of conn =
 pub record IsNew {S : Type 0} (remaining contents : S → Option (List ℕ)) (stream : S)
     (conn : Connection S) : Type 0 where
   pub stream_is : conn.stream ≡ stream
-  pub first_is : conn.first.value ≡ stream
+  pub first_is : IsKnownOf remaining contents stream conn.first
   pub connected : (names : KnownNames) (opening : Opening) (replies : ℕ → List ℕ) (upto : ℕ) (left : ℕ → List ℕ)
       → IsConnected remaining contents names (Answers opening replies upto) left conn nothing_yet
 
@@ -177,23 +187,24 @@ view_of replies upto asked = record { replies = replies; settled = λ n. n ≡ u
 
 -- the stream as it was at first and as it is now: what is still to be heard of it, and what it took
 abbrev pub ends_of : {S : Type 0} → (remaining contents : S → Option (List ℕ)) → Connection S → Ends
-ends_of remaining contents conn = ends (remaining conn.first.value) (to_hear remaining conn) (contents conn.first.value)
+ends_of remaining contents conn = ends conn.first.remaining (to_hear remaining conn) conn.first.contents
     (contents conn.stream)
 
 -- a fault ended it, and what was written begins the text of its lines
 abbrev pub StopsAs : {S : Type 0} → (remaining contents : S → Option (List ℕ)) → SessionFault → (left : ℕ → List ℕ)
     → (old new : Connection S) → Type 0
 StopsAs remaining contents fault left old new =
-    (names : KnownNames) (replies : ℕ → List ℕ) (upto : ℕ) (x : Exchange)
+    (new.first ≡ old.first)
+    × ((names : KnownNames) (replies : ℕ → List ℕ) (upto : ℕ) (x : Exchange)
     → IsConnected remaining contents names (Answers Open replies upto) left old x
     → Stopped fault names (ends_of remaining contents new) (is_read fault) (is_write fault)
-    (view_of replies upto x.asked)
+    (view_of replies upto x.asked))
 
 -- The whole text of its lines is written, and all was asked that they ask. Where the machine opened the session, the
 -- input was read to its end, or to the end of a first line that was refused.
 pub record HasFinished {S : Type 0} (remaining contents : S → Option (List ℕ)) (names : KnownNames) (opening : Opening)
     (replies : ℕ → List ℕ) (upto : ℕ) (conn : Connection S) (x : Exchange) : Type 0 where
-  pub put : Appends (contents conn.first.value) (contents conn.stream) (whole_text opening replies x.turns)
+  pub put : Appends conn.first.contents (contents conn.stream) (whole_text opening replies x.turns)
   pub asked_is : x.asked ≡ whole_asked opening x.turns
   pub finished : opening ≡ Open → Finished names (ends_of remaining contents conn) (view_of replies upto x.asked)
 
@@ -208,5 +219,5 @@ abbrev pub BeginsText : {S : Type 0} → (remaining contents : S → Option (Lis
 BeginsText remaining contents conn =
     (names : KnownNames) (opening : Opening) (replies : ℕ → List ℕ) (upto : ℕ) (left : ℕ → List ℕ) (x : Exchange)
     → IsConnected remaining contents names (Answers opening replies upto) left conn x
-    → (written : List ℕ) × Appends (contents conn.first.value) (contents conn.stream) written
+    → (written : List ℕ) × Appends conn.first.contents (contents conn.stream) written
     × ((later : ℕ → List ℕ) → SameUpTo upto replies later → Begins written (whole_text opening later x.turns))

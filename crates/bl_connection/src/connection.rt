@@ -8,6 +8,7 @@
 //! reading all that was told is written.
 ghost use Rattle.std.specs.Prelude.{◌≡◌, ◌<◌, ◌≤◌, length};
 
+use crate::known::Known;
 use crate::stream::{Answer, Stream};
 use crate::telling::tell_parts;
 use bl_engine::block::Replies;
@@ -16,7 +17,6 @@ use bl_engine::request::Request;
 use bl_wire::fault::SessionFault;
 use bl_work::names::Names;
 use std::alloc::{AllocError, Global};
-use std::snapshot::Snapshot;
 
 /// How many bytes a read takes at most.
 const MOST_READ: usize = 16_384;
@@ -58,13 +58,14 @@ pub enum Progress {
     Blocked,
 }
 
-/// A session over a stream: the stream, and what it was at first; the conversation; the bytes that were read last, how
-/// many of them were heard, whether they filled their room, how many came with those that did before without a pause,
-/// and whether the stream's input is at its end; the bytes that were told last, and how many of them were written.
+/// A session over a stream: the stream, and what was known of its bytes at first; the conversation; the bytes that were
+/// read last, how many of them were heard, whether they filled their room, how many came with those that did before
+/// without a pause, and whether the stream's input is at its end; the bytes that were told last, and how many of them
+/// were written.
 #[derive(Drop)]
 pub struct Connection<S> {
     stream: S,
-    first: Snapshot<S>,
+    first: Known,
     alloc: Global,
     conv: Conversation,
     input: Vec<u8>,
@@ -124,7 +125,7 @@ impl<S: Stream> Connection<S> {
     {
         let conv = Conversation::new(alloc)?;
         Ok(Connection {
-            first: Snapshot::of(&stream),
+            first: Known::of(&stream),
             stream,
             alloc,
             conv,

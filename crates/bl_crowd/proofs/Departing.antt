@@ -249,23 +249,23 @@ module _ {S : Type 0} (remaining contents : S → Option (List ℕ)) (names : Kn
 
     -- where it was turned away
     away : (ended : Bool) → member.connection.conv.ended ≡ ended
-        → (again : Bool) × Cutting again names (remaining member.connection.first.value) (to_hear remaining member.connection) member.connection.conv.left w.x.turns
+        → (again : Bool) × Cutting again names member.connection.first.remaining (to_hear remaining member.connection) member.connection.conv.left w.x.turns
     away ended is = go ended is heard.cut
       where
         heard : HasHeard names member.connection.conv w.x.turns w.x.heard
         heard = heard_of remaining contents names first pass member.connection member.told ending member.reception w.x w.joined
 
-        end : member.connection.conv.ended ≡ true → OnSome (remaining member.connection.first.value) (IsAtEnd (to_hear remaining member.connection))
+        end : member.connection.conv.ended ≡ true → OnSome member.connection.first.remaining (IsAtEnd (to_hear remaining member.connection))
         end = (let some = some_answered names w.replies member.upto member.reception in (w.joined some.0 some.1 some.2 some.3).passed.heard_end)
 
-        took : Consumes (remaining member.connection.first.value) (to_hear remaining member.connection) w.x.heard
+        took : Consumes member.connection.first.remaining (to_hear remaining member.connection) w.x.heard
         took = (let some = some_answered names w.replies member.upto member.reception in (w.joined some.0 some.1 some.2 some.3).passed.took)
 
         all : w.x.heard ≡ heard.whole
         all = heard.split ∙ ap (λ l. heard.whole ++ l) (heard.none (λ input. (let end = (over_at member.connection over).1 in cc))) ∙ append-nil heard.whole
 
         go : (ended : Bool) → member.connection.conv.ended ≡ ended → AreSo member.connection.conv.ended heard.whole heard.lines
-            → (again : Bool) × Cutting again names (remaining member.connection.first.value) (to_hear remaining member.connection) member.connection.conv.left w.x.turns
+            → (again : Bool) × Cutting again names member.connection.first.remaining (to_hear remaining member.connection) member.connection.conv.left w.x.turns
         go true is cut = (
           false,
           record {
@@ -321,7 +321,7 @@ module _ {S : Type 0} (remaining contents : S → Option (List ℕ)) (names : Kn
               again = cut.0;
               left = member.connection.conv.left;
               read = cut.1;
-              put = subst (Appends (contents member.connection.first.value) (contents member.connection.stream)) (full_is c.subject w.x.turns c.opened) (finished openings.Full (λ _. []) 0 fits).put;
+              put = subst (Appends member.connection.first.contents (contents member.connection.stream)) (full_is c.subject w.x.turns c.opened) (finished openings.Full (λ _. []) 0 fits).put;
               came = tt;
             },
             turned_away pass c.subject w.x.turns c.crowded.trail c.crowded.full c.opened,

@@ -101,6 +101,7 @@ module _ (names : KnownNames) (first p q : PassView) (on : GoesOnTo p q) where
 
     failed_goes : (fault : SessionFault) → HasFailed remaining contents names first p member fault → HasFailed remaining contents names first q member fault
     failed_goes fault f = record {
+      begun = f.begun;
       x = f.x;
       replies = f.replies;
       course = course_goes (account_of member f.replies f.x.asked) f.x.turns None member.reception none f.course;

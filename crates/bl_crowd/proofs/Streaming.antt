@@ -18,12 +18,12 @@ use Rattle.bl_engine.specs.declared.conversation.Opening.TheVariants as openings
 use Rattle.bl_engine.specs.declared.request.Request.{Request}
 use Rattle.bl_engine.specs.declared.request.Request.TheVariants.{Opens, Admits, Settles}
 use Rattle.bl_engine.proofs.Endings.{so_far_at}
-use Rattle.bl_connection.specs.Connections.{Answers, HasHeardMore, HearsMore, IsNew, StaysConnected, StopsAs, TellsMore, ends_of, state_of, unwritten, view_of, with_said}
+use Rattle.bl_connection.specs.Connections.{Answers, HasBegun, HasHeardMore, HearsMore, IsNew, StaysConnected, StopsAs, TellsMore, ends_of, state_of, unwritten, view_of, with_said}
 use Rattle.bl_connection.specs.declared.connection.Connection.{Connection}
 use Rattle.bl_connection.specs.declared.connection.State.TheVariants as states
 use Rattle.bl_connection.specs.declared.stream.Answer.{Answer}
 use Rattle.bl_connection.specs.declared.stream.Answer.TheVariants as answers
-use Rattle.bl_connection.proofs.Connecting.{connected_free}
+use Rattle.bl_connection.proofs.Connecting.{begun_still, connected_free}
 use Rattle.bl_connection.proofs.States.{hears_at}
 use Rattle.bl_serve.specs.Telling.{Stands, left_of}
 use Rattle.bl_serve.specs.Told.{IsTold, told_text}
@@ -32,6 +32,7 @@ use Rattle.bl_crowd.specs.Members.{Account, AwaitsNothing, BeginsAt, HasAnswered
 use Rattle.bl_crowd.specs.Steps.{IsFaultOf}
 use Rattle.bl_crowd.specs.Ways.{HasFailed, IsEndOf, IsMember, IsReceived, IsUnderWay, StandsSo, account_of}
 use Rattle.bl_crowd.specs.declared.member.Member.{Member}
+use Rattle.bl_crowd.specs.declared.tally.Tally.{Tally}
 use Rattle.bl_crowd.specs.declared.member.Reception.{Reception}
 use Rattle.bl_crowd.specs.declared.member.Reception.TheVariants.{Awaited, Open, Full}
 use Rattle.bl_crowd.proofs.Stages.{alone_needs, full_hears, hears_no_room, stands_none, told_needs}
@@ -63,6 +64,12 @@ module _ {S : Type 0} (remaining contents : S → Option (List ℕ)) (names : Kn
   heard_of conn told account reception x joined =
       let some = some_answered names account.replies account.upto reception in
       ((joined some.0 some.1 some.2 some.3).spoke (record { opening = some.0; replies = some.1 }) (answers_itself some.0 some.1 some.2)).cut
+
+  -- its stream was of this kind at first
+  begun_of : (conn : Connection S) (told : Told) (account : Account) (reception : Reception) (x : Exchange) → IsJoined remaining contents names conn told account reception x
+      → HasBegun remaining contents conn
+  begun_of conn told account reception x joined =
+      let some = some_answered names account.replies account.upto reception in (joined some.0 some.1 some.2 some.3).passed.begun
 
   -- what was said begins what is told to them
   pub begins_of : (conn : Connection S) (told : Told) (account : Account) (reception : Reception) (x : Exchange) → IsJoined remaining contents names conn told account reception x
@@ -128,9 +135,25 @@ module _ {S : Type 0} (remaining contents : S → Option (List ℕ)) (names : Kn
     names_are = w.names_are;
   }
 
+  -- by how its lines were taken
+  pub way_tally : (member : Member S) (tally : Tally) (asked : Option Request)
+      → IsUnderWay remaining contents names first pass member asked → IsUnderWay remaining contents names first pass (record member { tally = tally }) asked
+  way_tally member tally asked w = record {
+    x = w.x;
+    replies = w.replies;
+    done = w.done;
+    joined = w.joined;
+    course = w.course;
+    asks = w.asks;
+    told = w.told;
+    block = w.block;
+    names_are = w.names_are;
+  }
+
   pub failed_but : (member : Member S) (noted : Option SessionFault) (fault : SessionFault)
       → HasFailed remaining contents names first pass member fault → HasFailed remaining contents names first pass (record member { fault = noted }) fault
   failed_but member noted fault f = record {
+    begun = f.begun;
     x = f.x;
     replies = f.replies;
     course = f.course;
@@ -271,6 +294,7 @@ module _ {S : Type 0} (remaining contents : S → Option (List ℕ)) (names : Kn
       → new.reception ≡ old.reception → new.last ≡ old.last → new.upto ≡ old.upto
       → IsUnderWay remaining contents names first pass old None → HasFailed remaining contents names first pass new fault
   way_failed old new fault kind kind_is stops reception last upto w = record {
+    begun = begun_still remaining contents old.connection new.connection stops.0 (begun_of old.connection old.told (account_of old w.replies w.done) old.reception w.x w.joined);
     x = w.x;
     replies = w.replies;
     course = subst (HasCourse names first pass (account_of new w.replies w.x.asked) w.x.turns None) (sym reception)
@@ -280,7 +304,7 @@ module _ {S : Type 0} (remaining contents : S → Option (List ℕ)) (names : Kn
     kind_is = kind_is;
     stopped = λ received.
         subst (λ n. Stopped kind names (ends_of remaining contents new.connection) (is_read kind) (is_write kind) (view_of (told_text names w.replies) n w.x.asked)) (sym upto)
-        (stops names (told_text names w.replies) old.upto w.x (w.joined openings.Open (told_text names w.replies) old.upto (open_answered names w.replies old.upto old.reception (subst IsReceived reception received))));
+        (stops.1 names (told_text names w.replies) old.upto w.x (w.joined openings.Open (told_text names w.replies) old.upto (open_answered names w.replies old.upto old.reception (subst IsReceived reception received))));
   }
     where
       accounts : ◌≡◌ {A = Account} (account_of old w.replies w.done) (account_of new w.replies w.x.asked)

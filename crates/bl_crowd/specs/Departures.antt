@@ -53,12 +53,12 @@ pub record HasLeft {S : Type 0} (remaining contents : S → Option (List ℕ)) (
     (first pass : PassView) (conn : Connection S) : Type 0 where
   pub heard : List ℕ
   pub turns : List Turn
-  pub took : Consumes (remaining conn.first.value) (to_hear remaining conn) heard
+  pub took : Consumes conn.first.remaining (to_hear remaining conn) heard
   pub cut : HasHeard names conn.conv turns heard
   pub front : List Turn
   pub lacks : LacksTheLast front turns
   pub written : List ℕ
-  pub put : Appends (contents conn.first.value) (contents conn.stream) written
+  pub put : Appends conn.first.contents (contents conn.stream) written
   pub transcribed : BeginsAmong first pass front written
 
 -- A fault ended the session, and what the stream took begins the text of a session that was told these replies, and a

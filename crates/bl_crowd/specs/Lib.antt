@@ -6,3 +6,4 @@ pub mod Departures
 pub mod Openings
 pub mod Fitting
 pub mod Crowds
+pub mod Tallies

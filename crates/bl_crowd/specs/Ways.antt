@@ -10,7 +10,7 @@ use Rattle.bl_wire.specs.declared.fault.SessionFault.TheVariants.{Memory, Write}
 use Rattle.bl_engine.specs.Driving.{Exchange}
 use Rattle.bl_engine.specs.Outcome.{Stopped}
 use Rattle.bl_engine.specs.declared.request.Request.{Request}
-use Rattle.bl_connection.specs.Connections.{ends_of, state_of, view_of}
+use Rattle.bl_connection.specs.Connections.{HasBegun, ends_of, state_of, view_of}
 use Rattle.bl_connection.specs.declared.connection.State.TheVariants as states
 use Rattle.bl_serve.specs.Told.{IsTold, told_text}
 use Rattle.bl_serve.specs.Courses.{SpeaksForItsOwn}
@@ -58,6 +58,7 @@ IsReceived Full = ⊥
 -- writing failed.
 pub record HasFailed {S : Type 0} (remaining contents : S → Option (List ℕ)) (names : KnownNames)
     (first pass : PassView) (member : Member S) (fault : SessionFault) : Type 0 where
+  pub begun : HasBegun remaining contents member.connection
   pub x : Exchange
   pub replies : List Reply
   pub course : HasCourse names first pass (account_of member replies x.asked) x.turns None member.reception

@@ -1,7 +1,7 @@
 //! Many connections of one thread over one gate.
-ghost use Rattle.std.specs.Prelude.{◌≡◌, ◌≢◌, ◌<◌, ◌≤◌, ◌⊎◌, ◌↔◌, ◌++◌, ◌∷◌, [], ℕ, Some, None, IsNone, IsSome, IsTrue};
-ghost use Rattle.std.specs.Prelude.{MatchBool, OnOk, OnErr, length, get_or, vec_len, true};
-ghost use Rattle.std.specs.List.{remove};
+ghost use Rattle.std.specs.Prelude.{◌≡◌, ◌≢◌, ◌<◌, ◌≤◌, ◌⊎◌, ◌↔◌, ◌-◌, ◌++◌, ◌∷◌, [], ℕ, Some, None, IsNone, IsSome};
+ghost use Rattle.std.specs.Prelude.{IsTrue, MatchBool, OnOk, OnErr, length, get_or, vec_len, true};
+ghost use Rattle.std.specs.List.{list_any, remove};
 ghost use Rattle.bl_hall.specs.Chronicle.{HasTrail};
 ghost use Rattle.bl_order.specs.Machine.{MayStart};
 ghost use Rattle.bl_gate.specs.Gates.{Follows, PassView, hall_seen, state_seen};
@@ -21,6 +21,7 @@ use bl_connection::stream::Stream;
 use bl_gate::gate::Gate;
 use bl_gate::pass::Pass;
 use bl_gate::turn::Turn as AtGate;
+use bl_horizon::horizon::TurnEvents;
 use bl_policy::id::SubjectId;
 use bl_quota::asks::Asks;
 use bl_wire::fault::SessionFault;
@@ -80,7 +81,7 @@ pub struct Portion {
     pub long: usize,
 }
 
-/// What a round came to. What has ended is to be rung.
+/// What a round came to. What has ended is to be rung, and how many events there were is to be noted.
 pub struct Round {
     /// How many entries it has begun.
     pub begun: usize,
@@ -91,13 +92,13 @@ pub struct Round {
     /// Whether an entry is ready that it has left to others.
     pub left: bool,
     /// How many events the trail had then.
-    pub events: usize,
+    pub events: TurnEvents,
     /// The count of ends, with the end of what was run before, as it was before the members' asks were met.
     pub looked: Looked,
 }
 
 impl<'a, S: Stream> Crowd<'a, S> {
-    ghost use Rattle.bl_connection.specs.Connections.{state_of};
+    ghost use Rattle.bl_connection.specs.Connections.{IsKnownOf, state_of};
     ghost use Rattle.bl_connection.specs.declared.connection.State.TheVariants as states;
     ghost use Rattle.bl_crowd.specs.Departures.{Departs, IsServedAmong};
     ghost use Rattle.bl_engine.specs.Conversations.{last_ordinal};
@@ -138,7 +139,8 @@ impl<'a, S: Stream> Crowd<'a, S> {
         ensures crowd { IsCrowd S.remaining S.contents self.new }
         ensures ok { OnOk result ((member : Member S)
             × (self.new.members.items ≡ self.old.members.items ++ member ∷ [])
-            × (member.connection.first.value ≡ stream) × (member.connection.stream ≡ stream)) }
+            × IsKnownOf S.remaining S.contents stream member.connection.first
+            × (member.connection.stream ≡ stream)) }
         ensures err { OnErr result (self.new.members.items ≡ self.old.members.items) }
         ensures same { (self.new.pass ≡ self.old.pass) × (self.new.first ≡ self.old.first)
             × (self.new.gate ≡ self.old.gate) }
@@ -196,6 +198,22 @@ impl<'a, S: Stream> Crowd<'a, S> {
         self.members[i].lines()
     }
 
+    /// How many of the lines that a member has heard were not admitted.
+    pub fn refused(&self, i: usize) -> u32
+        requires { i < vec_len self.now.members }
+        ensures { (d : Member S) → result ≡ last_ordinal (get_or self.now.members.items i d).connection.conv
+            - (get_or self.now.members.items i d).tally.admitted }
+    {
+        self.members[i].refused()
+    }
+
+    /// Whether a line of some member was refused since the lines' weights would have exceeded the limit.
+    pub fn is_overweight(&self) -> bool
+        ensures { result ≡ list_any (λ (member : Member S). member.tally.overweight) self.now.members.items }
+    {
+        self.members.iter().any(|member| member.is_overweight())
+    }
+
     /// The session of a member, once that is open, and the subject for whom.
     pub fn greeted(&self, i: usize) -> Option<(u32, SubjectId)>
         requires { i < vec_len self.now.members }
@@ -208,8 +226,8 @@ impl<'a, S: Stream> Crowd<'a, S> {
     /// each member asks, and what it asks at the next lines of what was read, so many at most. It begins what is ready,
     /// until the batch is full, as many were begun as it may have in hand, or nothing is ready. It begins no more where
     /// an entry is ready that is long to run, once as many were begun as the portion says. What was begun is to be run
-    /// with the gate free, by `Batch::run`, and ends in the next turn. No session is opened and no line admitted but for
-    /// members; a line only where the quota says that it fits.
+    /// with the gate free, by `Batch::run`, and ends in the next turn. No session is opened and no line admitted but
+    /// for members; a line only where the quota says that it fits.
     pub fn round<R: Wait, Q: Asks>(
         &mut self,
         rt: &R,
@@ -254,7 +272,7 @@ impl<'a, S: Stream> Crowd<'a, S> {
         meet_on_all(&mut turn, quota, &mut self.members, portion.lines);
         let (begun, over) = batch.begin_ready(&mut turn, portion.long);
         let left = turn.ready().is_some();
-        let events = turn.hall().trail().len();
+        let events = TurnEvents::of(&turn);
         self.pass = turn.leave();
         Round {
             begun,

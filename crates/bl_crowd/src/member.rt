@@ -1,20 +1,24 @@
 //! A connection of a crowd, with its session.
-ghost use Rattle.std.specs.Prelude.{◌≡◌, ◌≢◌, ◌<◌, ◌⊎◌, ◌↔◌, [], ℕ, length, Option, Some, None, Ok, Err, IsSome};
+ghost use Rattle.std.specs.Prelude.{◌≡◌, ◌≢◌, ◌<◌, ◌-◌, ◌⊎◌, ◌↔◌, [], ℕ, length, Option, Some, None, Ok, Err, IsSome};
 ghost use Rattle.std.specs.Prelude.{IsTrue, IfOk, IfErr, OnOk, OnErr, true, false};
 ghost use Rattle.bl_work.specs.Names.{KnownNames};
 ghost use Rattle.bl_work.specs.Readable.{IsReadable};
 ghost use Rattle.bl_hall.specs.Chronicle.{HasTrail};
-ghost use Rattle.bl_gate.specs.Gates.{OwnsAllSince, PassView, hall_seen, state_seen};
+ghost use Rattle.bl_gate.specs.Gates.{Calls, OwnsAllSince, PassView, hall_seen, state_seen};
 ghost use Rattle.bl_quota.specs.Quotas.{IsAllowed};
 ghost use Rattle.bl_quota.specs.declared.quota.Fit.TheVariants.{Now, Later, Never};
 ghost use Rattle.bl_wire.specs.declared.fault.SessionFault.TheVariants as faults;
 ghost use Rattle.bl_engine.specs.declared.request.Request.TheVariants as requests;
 ghost use Rattle.bl_serve.specs.Courses.{SpeaksForItsOwn};
 ghost use Rattle.bl_serve.specs.Together.{GoesOnTo, SpeaksForNoOther};
+ghost use Rattle.bl_core.specs.Answers.{IsCause};
+ghost use Rattle.bl_core.specs.declared.refusal.Cause.TheVariants as causes;
+ghost use Rattle.bl_order.specs.Machine.{Admits};
 ghost use Rattle.bl_worker.specs.Turns.{AdmitsNoLine};
 ghost use Rattle.bl_crowd.specs.Receptions.{HasEntered, HasReceived, IsRefused};
 ghost use Rattle.bl_crowd.specs.Steps.{KeepsHand};
 
+use crate::tally::Tally;
 use bl_connection::connection::{Connection, Progress, State};
 use bl_connection::stream::Stream;
 use bl_core::refusal::{Cause, OpenRefused, Refused};
@@ -91,7 +95,7 @@ pub enum Met {
 
 /// A connection of a crowd: the replies that it tells, what is asked and still to be done, its subject and how that was
 /// received, an ordinal up to which all lies that was asked, the one up to which it was answered, why it is to leave,
-/// and whether it is to leave since its line will never fit in the trail.
+/// whether it is to leave since its line will never fit in the trail, and how its lines were taken.
 #[derive(Drop)]
 pub struct Member<'a, S> {
     pub(crate) alloc: Global,
@@ -105,6 +109,7 @@ pub struct Member<'a, S> {
     pub(crate) upto: u32,
     pub(crate) fault: Option<SessionFault>,
     pub(crate) full: bool,
+    pub(crate) tally: Tally,
 }
 
 /// The stream of a member that has left, and why it had to: a fault, or that its line would never have fitted in the
@@ -146,25 +151,28 @@ fn receive(turn: &mut AtGate<'_>, subject: SubjectId) -> Reception
     }
 }
 
-/// Admits a work that some text reads as, or finds no room for it. The work comes back for any other cause, and then
-/// nothing was admitted.
+/// Admits a work that some text reads as, or finds no room for it, and says whether it was admitted. The work comes
+/// back for any other cause, and then nothing was admitted.
 #[tactic(auto, using(crate::proofs::Rounding::hand_admitted, crate::proofs::Rounding::hand_same))]
-fn enter(turn: &mut AtGate<'_>, session: u32, ordinal: u32, work: Work) -> Result<(), Work>
+fn enter(turn: &mut AtGate<'_>, session: u32, ordinal: u32, work: Work) -> Result<bool, Work>
     requires { IsReadable (state_seen turn.old).setup.names work }
     ensures goes { GoesOnTo turn.old turn.new }
     ensures own { SpeaksForNoOther session turn.old turn.new }
     ensures alone { OwnsAllSince turn.old turn.new }
     ensures hand { KeepsHand turn.old turn.new }
     ensures ok { OnOk result (HasEntered turn.old turn.new session ordinal work) }
+    ensures admitted { result ≡ Ok true → Calls turn.old (Admits session ordinal work) (λ x. Unit {0}) turn.new }
+    ensures heavy { result ≡ Ok false
+        → (turn.new ≡ turn.old) × IsCause (state_seen turn.old) session ordinal work causes.Full }
     ensures err { IfErr result (λ back. (turn.new ≡ turn.old) × (back ≡ work)
         × IsRefused turn.old session ordinal work) }
 {
     let Refused { cause, work } = match turn.readable_line(SessionNo::new(session), ordinal, work) {
-        Ok(_) => return Ok(()),
+        Ok(_) => return Ok(true),
         Err(refused) => refused,
     };
     match cause {
-        Cause::Full => Ok(()),
+        Cause::Full => Ok(false),
         Cause::Stranger | Cause::Session | Cause::Ordinal => Err(work),
     }
 }
@@ -182,7 +190,7 @@ fn next_after(progress: Progress) -> Next
 
 impl<'a, S: Stream> Member<'a, S> {
     ghost use Rattle.bl_engine.specs.Conversations.{last_ordinal, waits_left};
-    ghost use Rattle.bl_connection.specs.Connections.{state_of};
+    ghost use Rattle.bl_connection.specs.Connections.{IsKnownOf, state_of};
     ghost use Rattle.bl_connection.specs.declared.connection.State.TheVariants as states;
     ghost use Rattle.bl_crowd.specs.Steps.{IsBlocked, IsClash, IsFaultOf, IsGone, IsNewSession, IsOfStream, IsWaiting};
     ghost use Rattle.bl_crowd.specs.Fitting.{AdmitsWhatFits, IsHeldBack};
@@ -202,7 +210,7 @@ impl<'a, S: Stream> Member<'a, S> {
         ensures member { IfOk result (λ member. (first pass : PassView)
             → IsMember S.remaining S.contents names.now first pass member) }
         ensures stream { IfOk result (λ member. (member.connection.stream ≡ stream)
-            × (member.connection.first.value ≡ stream)) }
+            × IsKnownOf S.remaining S.contents stream member.connection.first) }
         ensures awaited { IfOk result (λ member. member.reception ≡ receptions.Awaited) }
     {
         let connection = Connection::new(alloc, stream)?;
@@ -218,6 +226,7 @@ impl<'a, S: Stream> Member<'a, S> {
             upto: 0,
             fault: None,
             full: false,
+            tally: Tally::default(),
         })
     }
 
@@ -330,6 +339,20 @@ impl<'a, S: Stream> Member<'a, S> {
         self.connection.ordinal()
     }
 
+    /// How many of the lines that it has heard were not admitted.
+    pub fn refused(&self) -> u32
+        ensures { result ≡ last_ordinal self.now.connection.conv - self.now.tally.admitted }
+    {
+        self.tally.refused(self.connection.ordinal())
+    }
+
+    /// Whether a line of it was refused since the lines' weights would have exceeded the limit.
+    pub fn is_overweight(&self) -> bool
+        ensures { result ≡ self.now.tally.overweight }
+    {
+        self.tally.overweight
+    }
+
     /// Its session, once that is open, and the subject for whom.
     pub fn greeted(&self) -> Option<(u32, SubjectId)>
         ensures { result ≡ greeted_as self.now }
@@ -390,7 +413,7 @@ impl<'a, S: Stream> Member<'a, S> {
             unreachable!()
         };
         match enter(turn, session, ordinal, work) {
-            Ok(()) => {}
+            Ok(admitted) => self.tally.note(admitted),
             Err(back) => return Err(back),
         }
         self.last = ordinal;

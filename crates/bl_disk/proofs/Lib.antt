@@ -1,4 +1,4 @@
 pub mod Fronts
 pub mod Passing
 pub mod Living
-pub mod InMemoryLemmas
+pub mod Moving

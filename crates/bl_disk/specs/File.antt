@@ -6,7 +6,7 @@ pub record File : Type 0 where
   pub kept : List ℕ
   pub loose : List ℕ
 
--- what a read returns, and what the end of the program alone leaves
+-- what a read returns
 abbrev pub seen : File → List ℕ
 seen file = file.kept ++ file.loose
 

@@ -1,4 +1,3 @@
 pub mod File
 pub mod Moments
 pub mod FileLives
-pub mod InMemory

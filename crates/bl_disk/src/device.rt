@@ -38,6 +38,9 @@ impl<T: Drop> From<AllocFailed<T>> for DeviceError {
 /// call is believed: after a sync that failed the system may forget what it had not written, and call the next one done. Who
 /// goes on opens the file again.
 pub trait Device {
+    /// What shows that a sync was done. A device gives one in answer to that call alone.
+    type Synced: Drop;
+
     /// How the file stands now.
     ghost now: { Self → File };
 
@@ -73,8 +76,8 @@ pub trait Device {
         ensures fault { IfErr result (λ error. error ≢ Memory → has_failed self.new ≡ true) }
         ensures sound { OnOk result (has_failed self.new ≡ false) };
 
-    /// Keeps all that a read returns. At each moment what was kept stays kept.
-    fn sync(&mut self) -> Result<(), DeviceError>
+    /// Keeps all that a read returns, and shows that it was done. At each moment what was kept stays kept.
+    fn sync(&mut self) -> Result<Self::Synced, DeviceError>
         requires { has_failed self.old ≡ false }
         ensures kept { OnOk result (now self.new ≡ synced (now self.old)) }
         ensures moments { Passes now past self.old self.new (IsSyncing (now self.old)) }

@@ -2,7 +2,6 @@
 //!
 //!     device    a file: what its calls do, and at which moments it stands how
 //!     log       texts one after another, each kept once it is added; opened again after a crash
-//!     memory    a file in memory
 //!     laws      what is there after any number of crashes
 //!
 //! The definitions stand in specs/: File says what a crash leaves, Moments what stands at any moment of a call, FileLives what
@@ -12,4 +11,3 @@
 pub mod device;
 pub mod laws;
 pub mod log;
-pub mod memory;

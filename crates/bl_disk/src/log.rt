@@ -9,15 +9,15 @@ use crate::device::{Device, DeviceError};
 
 /// A file that grows at its end. After a call that failed no further one may be made: the file is opened again (`reopen`).
 #[derive(Drop)]
-pub struct Log<D: Device> {
+pub struct Log<D> {
     /// The file.
     pub device: D,
 }
 
 impl<D: Device> Log<D> {
-    /// Puts a text after what is there: from then on a read returns it, and it outlives the program. It is kept, and outlives the
-    /// machine too, only after `keep`. Whenever the program ends, what is there is what was there before and a first part of the
-    /// text; whenever the machine ends, what was kept is there. An error is the device's, and leaves just that.
+    /// Puts a text after what is there: from then on a read returns it. It is kept only after `keep`. At each moment what is
+    /// there is what was there before and a first part of the text; after a crash what was kept is there. An error is the
+    /// device's, and leaves just that.
     pub fn put(&mut self, text: &[u8]) -> Result<(), DeviceError>
         requires { D.has_failed self.old.device ≡ false }
         ensures there { OnOk result (seen (D.now self.new.device) ≡ seen (D.now self.old.device) ++ text.now) }
@@ -28,8 +28,8 @@ impl<D: Device> Log<D> {
         self.device.append(text)
     }
 
-    /// Keeps all that was put there. An error is the device's; what was kept before is still kept.
-    pub fn keep(&mut self) -> Result<(), DeviceError>
+    /// Keeps all that was put there, and gives what shows that. An error is the device's; what was kept before is still kept.
+    pub fn keep(&mut self) -> Result<D::Synced, DeviceError>
         requires { D.has_failed self.old.device ≡ false }
         ensures kept { OnOk result (D.now self.new.device ≡ synced (D.now self.old.device)) }
         ensures any_moment { Passes D.now D.past self.old.device self.new.device (IsSyncing (D.now self.old.device)) }
@@ -39,9 +39,9 @@ impl<D: Device> Log<D> {
         self.device.sync()
     }
 
-    /// Adds a text after what is there, and keeps all. Whenever the machine ends, in the call or after it, what was kept before is
-    /// there; once the call has answered `Ok`, so is the text. An error is the device's.
-    pub fn add(&mut self, text: &[u8]) -> Result<(), DeviceError>
+    /// Adds a text after what is there, keeps all, and gives what shows that. Whenever the machine ends, in the call or after it,
+    /// what was kept before is there; once the call has answered `Ok`, so is the text. An error is the device's.
+    pub fn add(&mut self, text: &[u8]) -> Result<D::Synced, DeviceError>
         requires { D.has_failed self.old.device ≡ false }
         ensures kept { OnOk result (D.now self.new.device ≡ all_kept (seen (D.now self.old.device) ++ text.now)) }
         ensures any_moment { Passes D.now D.past self.old.device self.new.device (Keeps (D.now self.old.device).kept) }
@@ -66,7 +66,7 @@ pub fn reopen<D: Device>(mut device: D, right: usize) -> Result<Log<D>, (DeviceE
 {
     match device.cut(right) {
         Ok(()) => match device.sync() {
-            Ok(()) => Ok(Log { device }),
+            Ok(_synced) => Ok(Log { device }),
             Err(error) => Err((error, device)),
         },
         Err(error) => Err((error, device)),

@@ -2,11 +2,11 @@
 use Rattle.std.proofs.Common.{◌≡◌, ℕ, suc, ◌+◌, ◌<◌, List, [], ◌∷◌, ◌++◌, length, take, drop, get_or, refl, sym, ◌∙◌, ap, subst, append_assoc, append-nil, take-append-drop, arith}
 use Rattle.std.proofs.Math.Seq.{drop-cons, take-suc}
 use Rattle.bl_disk.specs.File.{File, seen}
-use Rattle.bl_disk.specs.InMemory.{memory_now, memory_past}
+use Rattle.bl_disk_tests.specs.InMemory.{memory_now, memory_past}
 use Rattle.bl_disk.specs.Moments.{IsAdding, Passes}
-use Rattle.bl_disk.specs.declared.memory.Memory.{Memory}
+use Rattle.bl_disk_tests.specs.declared.memory.Memory.{Memory}
 use Rattle.bl_disk.proofs.Fronts.{through}
-use Rattle.bl_disk.proofs.InMemoryLemmas.{none-added}
+use Rattle.bl_disk.proofs.Moving.{none-added}
 use Rattle.bl_disk.proofs.Passing.{goes-on, stays, weaker}
 
 -- what holds of the file in memory holds of who has it

@@ -1,1 +1,2 @@
+pub mod InMemoryLemmas
 pub mod Bytewise

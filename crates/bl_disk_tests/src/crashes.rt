@@ -2,9 +2,9 @@
 ghost use Rattle.std.specs.Prelude.{◌≤◌, length};
 
 use crate::base::opened;
+use crate::memory::{Memory, Moment};
 use crate::torn::Torn;
 use bl_disk::log::{Log, reopen};
-use bl_disk::memory::{Memory, Moment};
 use std::alloc::{AllocError, Global};
 use std::process::Abort;
 use std::test::Fail;

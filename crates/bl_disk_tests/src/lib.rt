@@ -1,5 +1,6 @@
 //! The tests of `bl_disk`: a crash at each moment of each call, files that are full or fail, and files that are opened again.
 //!
+//!     memory     a file in memory
 //!     torn       a file that takes each text byte by byte, has room for so many, and whose syncs may fail
 //!     base       a file that is opened again
 //!     crashes    a crash at each moment of each call
@@ -12,4 +13,5 @@ mod base;
 mod crashes;
 #[cfg(test)]
 mod faults;
+pub mod memory;
 pub mod torn;

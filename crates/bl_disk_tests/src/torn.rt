@@ -1,7 +1,7 @@
 //! A file that takes each text byte by byte, so that a crash may come behind each of them; it has room for so many bytes, and so many
 //! of its syncs succeed.
+use crate::memory::{Memory, Moment};
 use bl_disk::device::{Device, DeviceError};
-use bl_disk::memory::{Memory, Moment};
 use std::alloc::{AllocError, Global};
 
 /// A file that takes each text byte by byte.
@@ -19,12 +19,13 @@ pub struct Torn {
 
 impl Torn {
     ghost use Rattle.std.specs.Prelude.{◌≡◌, false, length, IfOk};
-    ghost use Rattle.bl_disk.specs.File.{seen};
+    ghost use Rattle.bl_disk.specs.File.{all_kept, seen};
     ghost use Rattle.bl_disk_tests.specs.OfTorn.{torn_now};
 
     /// A file with these bytes, all of them kept, with room for so many more, of which so many syncs succeed.
     pub fn new(alloc: Global, bytes: &[u8], room: usize, syncs: usize) -> Result<Torn, AllocError>
-        ensures { IfOk result (λ torn. torn.failed ≡ false) }
+        ensures sound { IfOk result (λ torn. torn.failed ≡ false) }
+        ensures now { IfOk result (λ torn. torn_now torn ≡ all_kept bytes.now) }
     {
         let bytes = bytes.to_vec(alloc)?;
         Ok(Torn {
@@ -76,6 +77,8 @@ impl Torn {
 
 impl Device for Torn {
     ghost use Rattle.bl_disk_tests.specs.OfTorn.{torn_now, torn_past};
+
+    type Synced = ();
 
     ghost now = { torn_now };
 

@@ -34,5 +34,5 @@ abbrev pub IsPlaceFault : KnownNames → List (List ℕ) → DoorFault → Type 
 IsPlaceFault names found NoDoor = found ≡ []
 IsPlaceFault names found (NoSuchDoor name) =
     Contains found (string_bytes name) × (Contains names.subjects (string_bytes name) → ⊥)
-IsPlaceFault names found CannotListen = ⊥
+IsPlaceFault names found (CannotListen name) = ⊥
 IsPlaceFault names found Memory = Unit {0}

@@ -3,11 +3,11 @@ use Rattle.std.specs.Prelude.{ℕ, List, [], ◌∷◌, ◌++◌, codes, string_
 use Rattle.bl_doors.specs.declared.fault.DoorFault.{DoorFault}
 use Rattle.bl_doors.specs.declared.fault.DoorFault.TheVariants.{NoDoor, NoSuchDoor, CannotListen, Memory}
 
--- own choice: the words for a fault
+-- own choice: the words for a fault; of a door that cannot be listened at its name, on the next line
 abbrev pub words_of : DoorFault → List ℕ
 words_of NoDoor = codes "no door"
 words_of (NoSuchDoor name) = codes "no such door " ++ string_bytes name
-words_of CannotListen = codes "cannot listen"
+words_of (CannotListen name) = codes "cannot listen\ndoor: " ++ string_bytes name
 words_of Memory = codes "no memory"
 
 -- on a line of their own
@@ -18,7 +18,7 @@ fault_line fault = words_of fault ++ 10 ∷ []
 abbrev pub status_of : DoorFault → ℕ
 status_of NoDoor = 3
 status_of (NoSuchDoor name) = 3
-status_of CannotListen = 3
+status_of (CannotListen name) = 3
 status_of Memory = 4
 
 -- own choice: what is said of the door of this name where everybody may enter its folder

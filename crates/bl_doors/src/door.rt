@@ -1,5 +1,6 @@
 //! A door.
-ghost use Rattle.std.specs.Prelude.{◌≡◌, ◌↔◌, IfOk, IsTrue, bit_and};
+ghost use Rattle.std.specs.Prelude.{◌≡◌, ◌↔◌, IfErr, IfOk, IsTrue, bit_and};
+ghost use Rattle.std.specs.IoError.{error_kind};
 
 use crate::fault::{DoorFault, of_system};
 use crate::incoming::Incoming;
@@ -35,18 +36,24 @@ fn is_wide(mode: u32) -> bool
     mode & ALL_ENTER == ALL_ENTER
 }
 
+/// Whether nobody listens at a socket, by what came of a connection to it: that was refused. Where it failed for
+/// anything else, as where too many wait there already or no descriptor is left, somebody may listen.
+fn is_dead(outcome: io::Result<UnixStream>) -> bool
+    ensures { IsTrue result ↔ (IfErr outcome (λ error. error_kind error ≡ ErrorKind.ConnectionRefused)
+        × IfOk outcome (λ _. ⊥)) }
+{
+    match outcome {
+        Ok(_) => false,
+        Err(error) => error.kind() == ErrorKind::ConnectionRefused,
+    }
+}
+
 /// Whether a socket stands under this name at which nobody listens: a run that was killed left it.
 fn is_left_over<R: Files + Net>(rt: &R, path: &str) -> bool {
     let Ok(found) = fs::symlink_metadata(rt, path) else {
         return false;
     };
-    if !found.file_type().is_socket() {
-        return false;
-    }
-    match UnixStream::connect(rt, path) {
-        Ok(_) => false,
-        Err(error) => error.kind() == ErrorKind::ConnectionRefused,
-    }
+    found.file_type().is_socket() && is_dead(UnixStream::connect(rt, path))
 }
 
 /// Listens at a socket of this name, in place of one that a run left, and lets everybody write to it who comes there.
@@ -75,6 +82,18 @@ fn folder_mode<R: Files>(rt: &R, path: &str) -> io::Result<u32> {
 }
 
 impl Door {
+    /// A door at a place, whose folder has this mode.
+    fn new(place: Place, mode: u32, listener: UnixListener) -> Door
+        ensures place { result.place ≡ place }
+        ensures wide { IsTrue result.wide ↔ (bit_and mode 1 ≡ 1) }
+    {
+        Door {
+            place,
+            wide: is_wide(mode),
+            listener,
+        }
+    }
+
     /// Opens a door where it is to stand. `CannotListen` comes where the system refuses that or somebody listens
     /// there, and `Memory` where memory was refused; then there is no door.
     pub(crate) fn open<R: Files + Net>(rt: &R, place: Place) -> Result<Door, DoorFault>
@@ -82,15 +101,11 @@ impl Door {
     {
         let mode = match folder_mode(rt, place.path.as_str()) {
             Ok(mode) => mode,
-            Err(error) => return Err(of_system(&error)),
+            Err(error) => return Err(of_system(&error, place.path)),
         };
         match listen(rt, place.path.as_str()) {
-            Ok(listener) => Ok(Door {
-                place,
-                wide: is_wide(mode),
-                listener,
-            }),
-            Err(error) => Err(of_system(&error)),
+            Ok(listener) => Ok(Door::new(place, mode, listener)),
+            Err(error) => Err(of_system(&error, place.path)),
         }
     }
 

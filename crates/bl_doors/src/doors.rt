@@ -57,7 +57,7 @@ impl Doors {
     {
         let found = match folders_in(rt, alloc, folder) {
             Ok(found) => found,
-            Err(error) => return Err(of_system(&error)),
+            Err(error) => return Err(of_system(&error, String::from_str(alloc, folder)?)),
         };
         let places = places_of(alloc, names, folder, found.as_slice())?;
         Doors::open_at(rt, alloc, places)

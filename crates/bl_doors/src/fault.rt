@@ -13,8 +13,8 @@ pub enum DoorFault {
     NoDoor,
     /// A folder has this name, and no subject has it.
     NoSuchDoor(String),
-    /// The system refused a folder or a socket, or somebody listens there.
-    CannotListen,
+    /// The system refused the folder or the socket of this name, or somebody listens there.
+    CannotListen(String),
     /// Memory was refused.
     Memory,
 }
@@ -30,14 +30,15 @@ impl From<AllocError> for DoorFault {
     }
 }
 
-/// What a failure of the system is to who opens doors: out of memory, or that it cannot be listened there.
-pub(crate) fn of_system(error: &io::Error) -> DoorFault
+/// What a failure of the system is to who opens the door of this name: out of memory, or that it cannot be listened
+/// there.
+pub(crate) fn of_system(error: &io::Error, name: String) -> DoorFault
     ensures memory { error_kind error.now ≡ ErrorKind.OutOfMemory → result ≡ DoorFault.Memory }
-    ensures other { error_kind error.now ≢ ErrorKind.OutOfMemory → result ≡ DoorFault.CannotListen }
+    ensures other { error_kind error.now ≢ ErrorKind.OutOfMemory → result ≡ DoorFault.CannotListen name }
 {
     if error.kind() == ErrorKind::OutOfMemory {
         DoorFault::Memory
     } else {
-        DoorFault::CannotListen
+        DoorFault::CannotListen(name)
     }
 }

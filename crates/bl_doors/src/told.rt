@@ -9,7 +9,8 @@ use bl_wire::put::{put, put_out};
 use bl_wire::watched::Watched;
 use std::io::Write;
 
-/// Tells a fault, on a line of its own, and gives the status of a run that it ends.
+/// Tells a fault, on a line of its own, and of a door that cannot be listened at which it is, on the next; and gives
+/// the status of a run that it ends.
 pub fn tell_fault<E: Write>(errors: &mut Watched<E>, fault: &DoorFault) -> u8
     ensures puts { Puts (fault_line fault.now) (end_state E.contents errors.old) (end_state E.contents errors.new) }
     ensures status { result ≡ status_of fault.now }
@@ -26,8 +27,10 @@ pub fn tell_fault<E: Write>(errors: &mut Watched<E>, fault: &DoorFault) -> u8
             put_out(errors, b"\n");
             3
         }
-        DoorFault::CannotListen => {
-            put_out(errors, b"cannot listen\n");
+        DoorFault::CannotListen(name) => {
+            put(errors, b"cannot listen\ndoor: ");
+            put(errors, name.as_bytes());
+            put_out(errors, b"\n");
             3
         }
         DoorFault::Memory => {

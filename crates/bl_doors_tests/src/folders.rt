@@ -3,9 +3,13 @@ use super::base::{clear, hold, is_there, make_file, make_folders, open, opened};
 use bl_doors::door::Door;
 use bl_doors::doors::Doors;
 use bl_doors::fault::DoorFault;
+use libc::net::listen;
+use mio::net::UnixStream as Caller;
 use std::fs;
 use std::fs::Permissions;
+use std::io::ErrorKind;
 use std::net::Net;
+use std::os::fd::AsRawFd;
 use std::os::unix::fs::{MetadataExt, PermissionsExt};
 use std::os::unix::net::{UnixListener, UnixStream};
 use std::process::Abort;
@@ -31,6 +35,14 @@ fn is_refused(rt: &HostRuntime, folder: &str, wanted: DoorFault) -> bool {
 fn is_strange(rt: &HostRuntime, folder: &str, name: &str) -> bool {
     match fault_of(rt, folder) {
         Some(DoorFault::NoSuchDoor(found)) => found.as_str() == name,
+        _ => false,
+    }
+}
+
+/// Whether the doors of a folder are not opened since it cannot be listened at the door of this name.
+fn is_unheard(rt: &HostRuntime, folder: &str, name: &str) -> bool {
+    match fault_of(rt, folder) {
+        Some(DoorFault::CannotListen(found)) => found.as_str() == name,
         _ => false,
     }
 }
@@ -99,7 +111,7 @@ fn folders_without_doors(rt: HostRuntime) {
     make_folders(&rt, "no.doors", &[]);
     assert!(rt; is_refused(&rt, "no.doors", DoorFault::NoDoor));
     clear(&rt, "no.doors");
-    assert!(rt; is_refused(&rt, "no.doors", DoorFault::CannotListen));
+    assert!(rt; is_unheard(&rt, "no.doors", "no.doors"));
 }
 
 /// Leaves a socket at which nobody listens.
@@ -124,7 +136,7 @@ fn a_socket_that_was_left_is_replaced(rt: HostRuntime) {
 fn is_kept(rt: &HostRuntime, folder: &str, door: &str) -> bool {
     match UnixListener::bind(rt, door) {
         Ok(listener) => {
-            let refused = is_refused(rt, folder, DoorFault::CannotListen);
+            let refused = is_unheard(rt, folder, door);
             let reached = UnixStream::connect(rt, door).is_ok();
             drop(listener);
             refused && reached
@@ -142,12 +154,43 @@ fn a_socket_in_use_stays(rt: HostRuntime) {
     clear(&rt, "used.doors");
 }
 
+/// Whether nobody more may wait at this door: the system has who comes try again.
+fn is_crowded(rt: &HostRuntime, door: &str) -> bool {
+    match Caller::connect(rt, door) {
+        Ok(_) => false,
+        Err(error) => error.kind() == ErrorKind::WouldBlock,
+    }
+}
+
+/// Whether no door is opened while somebody listens at this one, where one client waits and nobody more may.
+fn is_kept_crowded(rt: &HostRuntime, folder: &str, door: &str) -> bool {
+    let Ok(listener) = UnixListener::bind(rt, door) else {
+        return false;
+    };
+    let is_short = listen(listener.as_raw_fd(), 0) == 0;
+    let client = UnixStream::connect(rt, door);
+    let crowded = is_short && client.is_ok() && is_crowded(rt, door);
+    let refused = is_unheard(rt, folder, door);
+    let let_in = listener.accept().is_ok();
+    drop((client, listener));
+    crowded && refused && let_in && is_there(rt, door)
+}
+
+/// A socket stays where somebody listens whom nobody more can reach for the moment, and no door is opened.
+#[test]
+fn a_socket_where_too_many_wait_stays(rt: HostRuntime) {
+    make_folders(&rt, "crowded.doors", &["ann", "bob"]);
+    assert!(rt; is_kept_crowded(&rt, "crowded.doors", "crowded.doors/bob/door"));
+    assert!(rt; !is_there(&rt, "crowded.doors/ann/door"));
+    clear(&rt, "crowded.doors");
+}
+
 /// A file that is no socket stays, and no door is opened.
 #[test]
 fn a_file_that_is_no_socket_stays(rt: HostRuntime) {
     make_folders(&rt, "file.doors", &["ann"]);
     make_file(&rt, "file.doors/ann/door", "no socket");
-    assert!(rt; is_refused(&rt, "file.doors", DoorFault::CannotListen));
+    assert!(rt; is_unheard(&rt, "file.doors", "file.doors/ann/door"));
     assert!(rt; fs::metadata(&rt, "file.doors/ann/door").map_or(0, |found| found.len()) == 9);
     clear(&rt, "file.doors");
 }

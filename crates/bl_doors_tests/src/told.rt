@@ -19,6 +19,14 @@ fn no_such_door(alloc: Global, name: &str) -> DoorFault {
     }
 }
 
+/// The fault that the door of this name cannot be listened at.
+fn cannot_listen(alloc: Global, name: &str) -> DoorFault {
+    match String::from_str(alloc, name) {
+        Ok(name) => DoorFault::CannotListen(name),
+        Err(_) => DoorFault::Memory,
+    }
+}
+
 /// The words of each fault, and its status.
 #[test]
 fn faults_are_told(rt: HostRuntime) {
@@ -31,7 +39,7 @@ fn faults_are_told(rt: HostRuntime) {
             ("no such door", has_status(&mut errors, carl, 3)),
             (
                 "cannot listen",
-                has_status(&mut errors, DoorFault::CannotListen, 3),
+                has_status(&mut errors, cannot_listen(rt.alloc(), "who/ann/door"), 3),
             ),
             ("no memory", has_status(&mut errors, DoorFault::Memory, 4)),
         ],
@@ -40,7 +48,7 @@ fn faults_are_told(rt: HostRuntime) {
     let told = errors.into_inner();
     assert!(rt;
         told.as_slice()
-            == b"no door\nno such door carl\ncannot listen\nno memory\ndoor ann: open to all\n".as_slice()
+            == b"no door\nno such door carl\ncannot listen\ndoor: who/ann/door\nno memory\ndoor ann: open to all\n".as_slice()
     );
     drop(told);
 }

@@ -1,1 +1,3 @@
 mod Admitting
+mod Callings
+mod FirstLines

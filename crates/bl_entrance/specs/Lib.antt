@@ -1,2 +1,4 @@
 pub mod Ends
 pub mod Arrivals
+pub mod Firsts
+pub mod Calling

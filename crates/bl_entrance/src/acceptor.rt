@@ -6,19 +6,31 @@ use crate::entrance::{Arrival, Entrance};
 use crate::looks::Looks;
 use crate::options::Options;
 use bl_log::log::Log;
-use bl_log::note::{Event, Note};
+use bl_log::note::{Bound, Event, Note, ServerEvent, ServerNote};
 use bl_log::time::now;
 use bl_rounds::alarm::Alarms;
 use bl_wire::fault::SessionFault;
 use crossbeam_channel::{Receiver, Sender, unbounded};
 use std::alloc::{AllocError, Global};
 use std::io::{BufWriter, ErrorKind, Write};
+use std::sync::atomic::{AtomicBool, Ordering};
 use std::sync::{Mutex, Wait};
 use std::time::Clock;
 use std::{io, mem};
 
 /// A log in a file, which threads share.
 pub type SharedLog<F> = Mutex<Log<BufWriter<F>>>;
+
+/// Notes in a log what has become of the server.
+pub fn note_server<R: Wait + Clock, F: Write + Drop>(
+    rt: &R,
+    log: &SharedLog<F>,
+    event: ServerEvent<'_>,
+) {
+    let mut log = log.lock(rt);
+    let time = now(rt);
+    log.note_server(&ServerNote { time, event });
+}
 
 /// A connection that was taken: its number, from 1, and how it came in.
 #[derive(Drop)]
@@ -54,7 +66,8 @@ struct Place<'a> {
 }
 
 /// How many connections were taken and how many may be, how many are open and how many may be, whether no more are
-/// taken, whether a session that ended early could not be told of, and the threads that have the connections.
+/// taken, whether a session that ended early could not be told of, how many threads are there or come later, and the
+/// threads that have the connections.
 #[derive(Drop)]
 struct Floor<'a> {
     taken: u32,
@@ -63,6 +76,7 @@ struct Floor<'a> {
     clients: u32,
     closed: bool,
     untold: bool,
+    here: u32,
     places: Vec<Place<'a>>,
 }
 
@@ -136,7 +150,8 @@ impl<'a> Floor<'a> {
 }
 
 /// An entrance at which one thread at a time takes the next connection, until so many were taken or it is closed; the
-/// channel over which it is told how sessions ended; the log, if there is one; and how long a connection may be idle.
+/// channel over which it is told how sessions ended, which ends with the last thread; whether nothing more is kept; the
+/// log, if there is one; and how long a connection may be idle.
 ///
 /// Who takes a connection gives it to the thread that has the fewest, also where that comes later and takes it up then.
 /// At most so many are open at once; who comes then waits there until one has left, and whoever sees that off looks
@@ -147,7 +162,10 @@ pub struct Acceptor<'a, F: Write + Drop> {
     log: Option<&'a SharedLog<F>>,
     idle: Option<u32>,
     floor: Mutex<Floor<'a>>,
-    faults: Sender<Ended, Global>,
+    limit_noted: AtomicBool,
+    trail_noted: AtomicBool,
+    unkept: AtomicBool,
+    faults: Mutex<Option<Sender<Ended, Global>>>,
 }
 
 impl<'a, F: Write + Drop> Acceptor<'a, F> {
@@ -178,6 +196,7 @@ impl<'a, F: Write + Drop> Acceptor<'a, F> {
             clients: options.clients,
             closed: false,
             untold: false,
+            here: options.session_threads,
             places,
         });
         Ok((
@@ -186,7 +205,10 @@ impl<'a, F: Write + Drop> Acceptor<'a, F> {
                 log,
                 idle: options.idle,
                 floor,
-                faults,
+                limit_noted: AtomicBool::new(false),
+                trail_noted: AtomicBool::new(false),
+                unkept: AtomicBool::new(false),
+                faults: Mutex::new(Some(faults)),
             },
             told,
         ))
@@ -213,12 +235,38 @@ impl<'a, F: Write + Drop> Acceptor<'a, F> {
             let why = Why::Session(SessionFault::Memory);
             self.tell(rt, Ending::new(accepted.number, why));
         }
+        self.thread_leaves(rt);
+    }
+
+    /// A thread leaves, or does not come, and tells nothing more. Once all have left, who hears what is told here hears
+    /// that.
+    pub fn thread_leaves<R: Wait>(&self, rt: &R) {
+        let mut guard = self.floor.lock(rt);
+        let floor = &mut *guard;
+        floor.here = floor.here.saturating_sub(1);
+        if floor.here == 0 {
+            let none = mem::replace(&mut *self.faults.lock(rt), None);
+            drop(none);
+        }
     }
 
     /// Takes no further connection, and wakes all threads.
     pub fn close<R: Wait>(&self, rt: &R, alarms: &Alarms) {
         self.floor.lock(rt).closed = true;
         alarms.wake_all();
+    }
+
+    /// Nothing more is kept: takes no further connection, notes that in the log, once, and wakes all threads.
+    pub fn stop_keeping<R: Wait + Clock>(&self, rt: &R, alarms: &Alarms) {
+        if !self.unkept.swap(true, Ordering::SeqCst) {
+            self.note_itself(rt, ServerEvent::CutShort);
+        }
+        self.close(rt, alarms);
+    }
+
+    /// Whether nothing more is kept.
+    pub fn keeps_nothing(&self) -> bool {
+        self.unkept.load(Ordering::SeqCst)
     }
 
     /// Takes the next connection, if one waits and may be taken, and gives it to a thread, which is woken if it is not
@@ -297,7 +345,11 @@ impl<'a, F: Write + Drop> Acceptor<'a, F> {
     /// Tells of a session that ended early. Where memory is refused for that it is noted that one was not told of.
     pub fn tell<R: Wait>(&self, rt: &R, ending: Ending) {
         let Ending { ended } = ending;
-        if self.faults.send(rt, ended).is_err() {
+        let sent = match &*self.faults.lock(rt) {
+            Some(faults) => faults.send(rt, ended).is_ok(),
+            None => false,
+        };
+        if !sent {
             self.floor.lock(rt).untold = true;
         }
     }
@@ -315,6 +367,30 @@ impl<'a, F: Write + Drop> Acceptor<'a, F> {
     /// Whether there is a log.
     pub fn has_log(&self) -> bool {
         self.log.is_some()
+    }
+
+    /// Whether it is to be looked for lines that are refused as `full`: there is a log, and that was not noted there
+    /// yet.
+    pub fn looks_for_full(&self) -> bool {
+        self.has_log() && !self.limit_noted.load(Ordering::SeqCst)
+    }
+
+    /// Notes in the log, if there is one, that a bound of the run is reached; each once.
+    pub fn note_full<R: Wait + Clock>(&self, rt: &R, bound: Bound) {
+        let noted = match bound {
+            Bound::Limit => &self.limit_noted,
+            Bound::Trail => &self.trail_noted,
+        };
+        if !noted.swap(true, Ordering::SeqCst) {
+            self.note_itself(rt, ServerEvent::Full(bound));
+        }
+    }
+
+    /// Notes in the log, if there is one, what has become of the server.
+    fn note_itself<R: Wait + Clock>(&self, rt: &R, event: ServerEvent<'_>) {
+        if let Some(log) = self.log {
+            note_server(rt, log, event);
+        }
     }
 
     /// Notes in the log, if there is one, what has become of a connection that came from there.

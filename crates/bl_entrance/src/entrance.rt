@@ -1,7 +1,8 @@
 //! Where clients come in.
-ghost use Rattle.std.specs.Prelude.{◌≡◌, ◌<◌, IfOk};
+ghost use Rattle.std.specs.Prelude.{◌≡◌, ◌<◌, IfOk, string_bytes};
 ghost use Rattle.bl_doors.specs.Greetings.{ungiven};
 ghost use Rattle.bl_entrance.specs.Arrivals.{greeting_at};
+ghost use Rattle.bl_entrance.specs.Calling.{IsAddress};
 
 use crate::ended::Why;
 use crate::socket::Socket;
@@ -50,7 +51,9 @@ fn watched(socket: io::Result<Socket>, watch: &Watch, number: u32) -> Result<Soc
 
 impl Arrival<'_> {
     /// Where it came from: the address, or the name of the door's subject. An error comes where memory was refused.
-    pub fn address(&self, alloc: Global) -> Result<String, AllocError> {
+    pub fn address(&self, alloc: Global) -> Result<String, AllocError>
+        ensures { IfOk result (λ text. IsAddress self.now (string_bytes text)) }
+    {
         match self {
             Arrival::Port(_, from) => format!(in alloc; "{from}"),
             Arrival::Door(incoming) => String::from_str(alloc, incoming.place().name.as_str()),

@@ -7,6 +7,7 @@
 //!     watch       where a thread waits until a socket is ready or its alarm is rung
 //!     entrance    where clients come in: a port, or doors
 //!     callers     where the connections of a thread came from
+//!     first       what a connection sent first
 //!     looks       when a thread looks for connections that are idle
 //!     acceptor    where threads take connections, and tell what became of them
 #![tactic(auto)]
@@ -15,6 +16,7 @@ pub mod acceptor;
 pub mod callers;
 pub mod ended;
 pub mod entrance;
+pub mod first;
 pub mod looks;
 pub mod options;
 pub mod socket;

@@ -1,6 +1,7 @@
 //! A connection that does not wait.
 ghost use Rattle.std.specs.Prelude.{◌<◌};
 
+use crate::first::FirstBytes;
 use crate::wait_counts::WaitCounts;
 use crate::watch::Watch;
 use bl_connection::stream::{Answer, Stream, answer_of};
@@ -81,6 +82,20 @@ impl Input {
 pub struct Socket {
     link: Link,
     input: Option<Input>,
+    first: FirstBytes,
+}
+
+/// Keeps what was read, as long as that is of what was sent first.
+fn note_first(first: &mut FirstBytes, answer: Answer, room: &[u8]) {
+    let Answer::Moved(count) = answer else {
+        return;
+    };
+    if first.is_whole() {
+        return;
+    }
+    if let Some(bytes) = room.get(..count) {
+        first.hear(bytes);
+    }
 }
 
 impl Socket {
@@ -92,7 +107,18 @@ impl Socket {
         Ok(Socket {
             link: Link::Port(TcpStream::from_std(stream)),
             input: None,
+            first: FirstBytes::new(),
         })
+    }
+
+    /// What was sent first to a connection over TCP, as far as it is kept; nothing of one that came in by a door.
+    pub fn first_bytes(&self) -> &[u8] {
+        self.first.bytes()
+    }
+
+    /// Whether it came in by a door.
+    pub fn is_by_door(&self) -> bool {
+        matches!(self.link, Link::Door(_))
     }
 
     /// Ends its output: the peer reads what was written, and then the end.
@@ -131,6 +157,7 @@ impl From<UnixStream> for Socket {
         Socket {
             link: Link::Door(stream),
             input: None,
+            first: FirstBytes::new(),
         }
     }
 }
@@ -154,6 +181,7 @@ impl Stream for Socket {
                 }
                 let answer = self.link.read(room);
                 input.note(answer, room.len());
+                note_first(&mut self.first, answer, room);
                 answer
             }
             None => self.link.read(room),

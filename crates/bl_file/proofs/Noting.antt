@@ -1,30 +1,22 @@
 -- What is noted of a file of the system.
-use Rattle.std.proofs.Common.{◌≡◌, ◌≤◌, ◌<◌, ◌-◌, ℕ, List, ◌++◌, length, take, drop, refl, sym, ap, ◌∙◌, arith, ⊎_elim, append_assoc, append-nil, take-append-drop}
+use Rattle.std.proofs.Common.{◌≡◌, ◌≤◌, ◌<◌, ◌-◌, ℕ, List, ◌++◌, length, take, drop, refl, sym, ap, ◌∙◌, arith, ⊎_elim, append_assoc, append-nil}
 use Rattle.std.proofs.Math.Nat.{sub-eq-zero_of_le}
 use Rattle.std.proofs.Math.Seq.{take-append-add}
 use Rattle.std.proofs.lemmas.Bool.{cases_lt}
 use Rattle.std.proofs.lemmas.List.{take_all, take-append-le}
-use Rattle.bl_disk.specs.File.{File, seen}
+use Rattle.bl_disk.specs.File.{Begins, File, seen}
 use Rattle.bl_disk.specs.Moments.{IsAdding, IsCutting}
 use Rattle.bl_disk.proofs.Fronts.{itself}
-use Rattle.bl_disk.proofs.InMemoryLemmas.{all-added, all-cut}
+use Rattle.bl_disk.proofs.Moving.{all-cut}
 use Rattle.bl_file.specs.Stands.{added, cut_to}
 
 -- a text that was added is read after what was there
 pub added-seen : (file : File) (text : List ℕ) → seen (added file text) ≡ seen file ++ text
 added-seen file text = sym (append_assoc file.kept file.loose text)
 
-pub adds : (before : File) (text : List ℕ) → IsAdding before text (added before text)
-adds before text = all-added before (added before text) text refl refl
-
--- a first part of it was added
-pub adds-part : (before : File) (text : List ℕ) (n : ℕ) → IsAdding before text (added before (take n text))
-adds-part before text n = record {
-  kept = itself before.kept;
-  part = take n text;
-  is_part = (drop n text, sym (take-append-drop n text));
-  there = added-seen before (take n text);
-}
+-- a first part of it was added, or all
+pub adds : (before : File) (text part : List ℕ) → Begins part text → IsAdding before text (added before part)
+adds before text part is = record { kept = itself before.kept; part = part; is_part = is; there = added-seen before part }
 
 -- the first bytes of two lists, one after the other
 both : (n : ℕ) (a b : List ℕ) → take n a ++ take (n - length a) b ≡ take n (a ++ b)

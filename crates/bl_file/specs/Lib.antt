@@ -1,3 +1,5 @@
 pub mod Stands
 pub mod Standing
 pub mod Files
+pub mod Folders
+pub mod Outlived

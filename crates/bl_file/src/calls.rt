@@ -1,5 +1,8 @@
 //! The calls of a file of the system: each asks the system, and notes what it answered.
-use crate::device::{Keeping, SystemFile, of_file};
+use crate::answered::{add, shorten};
+use crate::device::{SystemFile, of_file};
+use crate::kept::{Keeping, Kept};
+use crate::named::FileName;
 use bl_disk::device::{Device, DeviceError};
 use std::alloc::Global;
 use std::fs::OpenFile;
@@ -7,6 +10,8 @@ use std::io::Write;
 
 impl<F: Write + OpenFile + Drop> Device for SystemFile<F> {
     ghost use Rattle.bl_file.specs.Files.{file_now, file_past};
+
+    type Synced = Kept;
 
     ghost now = { file_now };
 
@@ -23,14 +28,14 @@ impl<F: Write + OpenFile + Drop> Device for SystemFile<F> {
 
     fn append(&mut self, text: &[u8]) -> Result<(), DeviceError> {
         self.unread = None;
-        match self.file.write(text) {
-            Ok(len) if len == text.len() => {
-                self.stand.added(text);
-                Ok(())
-            }
-            Ok(len) => {
-                self.stand.added(&text[..len]);
-                Err(self.fail(DeviceError::Full))
+        match add(&mut self.held.file, text) {
+            Ok(addition) => {
+                self.stand.took(&addition);
+                if addition.bytes().len() == text.len() {
+                    Ok(())
+                } else {
+                    Err(self.fail(DeviceError::Full))
+                }
             }
             Err(error) => Err(self.fail(of_file(&error))),
         }
@@ -38,23 +43,45 @@ impl<F: Write + OpenFile + Drop> Device for SystemFile<F> {
 
     fn cut(&mut self, len: usize) -> Result<(), DeviceError> {
         self.unread = None;
-        match self.file.set_len(len as u64) {
-            Ok(()) => {
-                self.stand.cut(len);
+        match shorten(&self.held.file, len) {
+            Ok(shortened) => {
+                self.stand.was_cut(&shortened);
                 Ok(())
             }
             Err(error) => Err(self.fail(of_file(&error))),
         }
     }
 
-    fn sync(&mut self) -> Result<(), DeviceError> {
+    fn sync(&mut self) -> Result<Kept, DeviceError> {
         self.unread = None;
-        if self.keeping == Keeping::Synced {
-            if let Err(error) = self.file.sync_data() {
-                return Err(self.fail(of_file(&error)));
+        match self.held.keep() {
+            Ok(kept) => {
+                self.stand.kept(&kept, &self.held);
+                Ok(kept)
             }
+            Err(error) => Err(self.fail(of_file(&error))),
         }
-        self.stand.synced();
-        Ok(())
+    }
+}
+
+impl<F> SystemFile<F> {
+    ghost use Rattle.std.specs.Prelude.{◌≡◌};
+    ghost use Rattle.bl_file.specs.Files.{keeping_of};
+
+    /// What its bytes are to outlive.
+    pub fn keeping(&self) -> Keeping
+        ensures { result ≡ keeping_of self.now }
+    {
+        self.held.keeping()
+    }
+}
+
+impl<F> FileName for SystemFile<F> {
+    ghost use Rattle.bl_file.specs.Files.{name_of};
+
+    ghost name = { name_of };
+
+    fn name(&self) -> &str {
+        self.name.as_str()
     }
 }

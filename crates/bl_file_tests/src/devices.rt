@@ -1,7 +1,7 @@
 //! A file of the system as a device.
 use bl_disk::device::{Device, DeviceError};
-use bl_file::device::Keeping;
-use bl_file::open::{OpenFault, make, open};
+use bl_file::kept::Keeping;
+use bl_file::open::{OpenFault, make, open, open_to_add, open_to_read};
 use std::fs;
 use std::os::unix::fs::MetadataExt;
 use std::rt::Files;
@@ -91,5 +91,28 @@ fn files_that_are_not_opened(rt: HostRuntime) -> Result<(), Fail> {
     drop(device);
     assert!(rt; open(&rt, rt.alloc(), "there.file", Keeping::Written).is_ok());
     clear(&rt, &["there.file"]);
+    Ok(())
+}
+
+/// A link or a folder is no file that is opened, and what stands behind a link stays; a new file is its owner's alone.
+#[test]
+fn no_link_is_followed(rt: HostRuntime) -> Result<(), Fail> {
+    clear(&rt, &["behind.file", "link.file", "added.file"]);
+    fs::write(&rt, "behind.file", "mine")?;
+    rt.symlink("behind.file", "link.file")?;
+    assert!(rt; matches!(open_to_add(&rt, "link.file"), Err(OpenFault::Missing)));
+    assert!(rt; matches!(open_to_read(&rt, "link.file"), Err(OpenFault::Missing)));
+    assert!(rt; matches!(open_to_add(&rt, "."), Err(OpenFault::Missing)));
+    assert!(rt;
+        matches!(
+            open(&rt, rt.alloc(), "link.file", Keeping::Written),
+            Err(OpenFault::Missing)
+        )
+    );
+    assert!(rt; has(&rt, "behind.file", b"mine"));
+    assert!(rt; open_to_add(&rt, "added.file").is_ok());
+    assert!(rt; fs::metadata(&rt, "added.file")?.mode() % 512 == 0o600);
+    assert!(rt; open_to_add(&rt, "added.file").is_ok());
+    clear(&rt, &["behind.file", "link.file", "added.file"]);
     Ok(())
 }

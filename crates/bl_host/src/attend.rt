@@ -1,7 +1,8 @@
 //! A session thread: it takes connections, and goes round with them.
-ghost use Rattle.std.specs.Prelude.{◌≡◌, false};
+ghost use Rattle.std.specs.Prelude.{◌≡◌, ◌↔◌, ◌⊎◌, IsTrue, false};
 ghost use Rattle.std.specs.List.{All};
 ghost use Rattle.bl_gate.specs.Gates.{Follows};
+ghost use Rattle.bl_host.specs.Closing.{CanKeepNoMore};
 ghost use Rattle.bl_rounds.specs.Seats.{IsSame, leaves};
 
 use crate::context::ThreadContext;
@@ -10,14 +11,15 @@ use bl_doors::greeted::Greeted;
 use bl_entrance::acceptor::{Accepted, Acceptor, Parted, Taken};
 use bl_entrance::callers::{Callers, name_of};
 use bl_entrance::ended::{Ending, Why, ended_words, ending_of};
+use bl_entrance::first::{first_line, name_in};
 use bl_entrance::looks::{Looks, now};
 use bl_entrance::socket::Socket;
 use bl_entrance::watch::{Found, Watch, found_by};
 use bl_gate::pass::Pass;
-use bl_keeper::desk::Place;
 use bl_keeper::keep::Keep;
+use bl_keeper::lines::ThreadLines;
 use bl_keeper::stream::KeptStream;
-use bl_log::note::Event;
+use bl_log::note::{Bound, Event};
 use bl_record::fault::JournalFault;
 use bl_rounds::rounds::{Gone, Rounds};
 use bl_wire::fault::SessionFault;
@@ -26,6 +28,13 @@ use std::alloc::Global;
 use std::io::Write;
 use std::sync::Wait;
 use std::time::{Clock, Duration};
+
+/// How many lines of a connection were numbered, and how many of these were refused.
+#[derive(Clone, Copy, Default)]
+struct Counts {
+    lines: u32,
+    refused: u32,
+}
 
 /// How many connections a thread takes before it looks after those that it has.
 const MOST_TAKEN: u32 = 64;
@@ -36,11 +45,11 @@ const MOST_SERVED: u32 = 1_024;
 /// The stream of a connection: all is kept before it is written to.
 type Line<'a, K, T> = KeptStream<'a, Greeted<Socket>, K, T>;
 
-/// A session thread: its number, where it waits, its connections and where they came from, how many events the trail
-/// had when it was told that last, when it looks for idle connections, and whether somebody may wait for it at the
-/// acceptor.
+/// A session thread: its lines, which know its number, where it waits, its connections and where they came from, how
+/// many events the trail had when it was told that last, when it looks for idle connections, and whether somebody may
+/// wait for it at the acceptor.
 struct Attendant<'a, K: Keep, T: Wait> {
-    thread: usize,
+    lines: &'a ThreadLines<'a, K, T>,
     watch: Watch,
     rounds: Rounds<'a, Line<'a, K, T>>,
     callers: Callers,
@@ -63,6 +72,28 @@ fn stir_found<S: Stream>(rounds: &mut Rounds<'_, S>, watch: &Watch) -> bool
     called
 }
 
+/// The name that a greeting gave over this socket, `-` where it gave none that is one; where nothing was said, that of
+/// the door by which it came, if it came by one.
+fn name_given<'a>(socket: &'a Socket, from: &'a str) -> Option<&'a str> {
+    match first_line(socket.first_bytes()) {
+        Some(line) => Some(name_in(line).unwrap_or("-")),
+        None if socket.is_by_door() => Some(from),
+        None => None,
+    }
+}
+
+/// Whether no further connection is taken, by why the last write of one that leaves was refused, whether it leaves
+/// since its line would never fit, and whether the trail was found to be full: nothing more is kept, or no line will
+/// ever fit.
+fn takes_no_more(refused: Option<JournalFault>, full: bool, is_full: bool) -> bool
+    ensures { IsTrue result ↔ (CanKeepNoMore refused ⊎ (IsTrue full × IsTrue is_full)) }
+{
+    match refused {
+        Some(JournalFault::Device(_)) => true,
+        Some(JournalFault::Memory) | None => full && is_full,
+    }
+}
+
 impl<'a, K: Keep, T: Wait + Clock> Attendant<'a, K, T> {
     ghost use Rattle.std.specs.Prelude.{IfErr, OnOk};
     ghost use Rattle.bl_entrance.specs.Ends.{early_end, end_by, ended_of};
@@ -71,16 +102,16 @@ impl<'a, K: Keep, T: Wait + Clock> Attendant<'a, K, T> {
     /// Notes that a connection has come.
     fn note_arrival<P, F: Write + Drop>(
         &mut self,
-        context: &ThreadContext<'a, P, K, T>,
+        context: &ThreadContext<'_, P, K, T>,
         acceptor: &Acceptor<'_, F>,
         accepted: &Accepted<'_>,
     )
         ensures { self.new.rounds ≡ self.old.rounds }
     {
         if acceptor.has_log() {
-            let _ = self
-                .callers
-                .add(context.alloc, accepted.number, &accepted.arrival);
+            if let Ok(from) = accepted.arrival.address(context.alloc) {
+                let _ = self.callers.add(accepted.number, from);
+            }
             let from = self.callers.from(accepted.number);
             acceptor.note(context.rt, accepted.number, from, Event::Came);
         }
@@ -89,7 +120,7 @@ impl<'a, K: Keep, T: Wait + Clock> Attendant<'a, K, T> {
     /// Notes which sessions were opened since it was last asked.
     fn note_greetings<P, F: Write + Drop>(
         &mut self,
-        context: &ThreadContext<'a, P, K, T>,
+        context: &ThreadContext<'_, P, K, T>,
         acceptor: &Acceptor<'_, F>,
     )
         ensures { self.new.rounds.first ≡ self.old.rounds.first }
@@ -105,8 +136,37 @@ impl<'a, K: Keep, T: Wait + Clock> Attendant<'a, K, T> {
                 subject: name_of(context.gate.names(), greeting.subject),
                 session: greeting.session,
             };
+            self.callers.greet(greeting.number);
             let from = self.callers.from(greeting.number);
             acceptor.note(context.rt, greeting.number, from, event);
+        }
+    }
+
+    /// Notes, once, that lines are refused since the lines' weights would exceed the limit.
+    fn note_full<P, F: Write + Drop>(
+        &self,
+        context: &ThreadContext<'_, P, K, T>,
+        acceptor: &Acceptor<'_, F>,
+    ) {
+        if acceptor.looks_for_full() && self.rounds.is_overweight() {
+            acceptor.note_full(context.rt, Bound::Limit);
+        }
+    }
+
+    /// Notes which name a greeting gave that was refused. Who has said nothing has not greeted.
+    fn note_refusal<P, F: Write + Drop>(
+        &self,
+        context: &ThreadContext<'_, P, K, T>,
+        acceptor: &Acceptor<'_, F>,
+        number: u32,
+        socket: &Socket,
+    ) {
+        if !acceptor.has_log() || self.callers.is_greeted(number) {
+            return;
+        }
+        let from = self.callers.from(number);
+        if let Some(name) = name_given(socket, from) {
+            acceptor.note(context.rt, number, from, Event::Refused { name });
         }
     }
 
@@ -114,10 +174,10 @@ impl<'a, K: Keep, T: Wait + Clock> Attendant<'a, K, T> {
     /// notes how it ended after so many lines, and tells of it, if that was early.
     fn part<P, F: Write + Drop>(
         &mut self,
-        context: &ThreadContext<'a, P, K, T>,
+        context: &ThreadContext<'_, P, K, T>,
         acceptor: &Acceptor<'_, F>,
         number: u32,
-        lines: u32,
+        counts: Counts,
         ending: Option<Ending>,
     ) -> Parted
         ensures rounds { self.new.rounds ≡ self.old.rounds }
@@ -125,7 +185,8 @@ impl<'a, K: Keep, T: Wait + Clock> Attendant<'a, K, T> {
     {
         if acceptor.has_log() {
             let event = Event::Ended {
-                lines: u64::from(lines),
+                lines: u64::from(counts.lines),
+                refused: u64::from(counts.refused),
                 events: self.events as u64,
                 how: ending
                     .as_ref()
@@ -135,19 +196,19 @@ impl<'a, K: Keep, T: Wait + Clock> Attendant<'a, K, T> {
             self.callers.remove(number);
         }
         self.called = true;
-        acceptor.part(context.rt, self.thread, ending)
+        acceptor.part(context.rt, self.lines.thread(), ending)
     }
 
     /// Takes connections that have come in, some at a time.
     fn take<P, F: Write + Drop>(
         &mut self,
-        context: &ThreadContext<'a, P, K, T>,
+        context: &ThreadContext<'_, P, K, T>,
         acceptor: &Acceptor<'_, F>,
     )
         ensures { self.new.rounds ≡ self.old.rounds }
     {
         for _ in 0..MOST_TAKEN {
-            match acceptor.take(context.rt, context.alarms, self.thread) {
+            match acceptor.take(context.rt, context.alarms, self.lines.thread()) {
                 Taken::Accepted => {}
                 Taken::Lost(ending) => acceptor.tell(context.rt, ending),
                 Taken::Nobody => {
@@ -161,7 +222,7 @@ impl<'a, K: Keep, T: Wait + Clock> Attendant<'a, K, T> {
     /// Takes up a connection that it was given, under its number, or says why its session has ended.
     fn seat<P>(
         &mut self,
-        context: &ThreadContext<'a, P, K, T>,
+        context: &ThreadContext<'_, P, K, T>,
         accepted: Accepted<'_>,
     ) -> Result<(), Ending>
         ensures first { self.new.rounds.first ≡ self.old.rounds.first }
@@ -173,11 +234,7 @@ impl<'a, K: Keep, T: Wait + Clock> Attendant<'a, K, T> {
             Ok(stream) => stream,
             Err(why) => return Err(Ending::new(number, why)),
         };
-        let place = Place {
-            thread: self.thread,
-            connection: number,
-        };
-        let line = KeptStream::new(context.rt, context.alloc, context.keep, place, stream);
+        let line = self.lines.line(number, stream);
         match self.rounds.join(line, number) {
             Ok(()) => Ok(()),
             Err(_) => Err(Ending::new(number, Why::Session(SessionFault::Memory))),
@@ -187,16 +244,17 @@ impl<'a, K: Keep, T: Wait + Clock> Attendant<'a, K, T> {
     /// Takes up the connections that it was given.
     fn welcome<P, F: Write + Drop>(
         &mut self,
-        context: &ThreadContext<'a, P, K, T>,
+        context: &ThreadContext<'_, P, K, T>,
         acceptor: &Acceptor<'_, F>,
     )
         ensures { self.new.rounds.first ≡ self.old.rounds.first }
     {
-        for accepted in acceptor.all_accepted(context.rt, context.alloc, self.thread) {
+        let thread = self.lines.thread();
+        for accepted in acceptor.all_accepted(context.rt, context.alloc, thread) {
             let number = accepted.number;
             self.note_arrival(context, acceptor, &accepted);
             if let Err(ending) = self.seat(context, accepted) {
-                self.part(context, acceptor, number, 0, Some(ending));
+                self.part(context, acceptor, number, Counts::default(), Some(ending));
             }
         }
     }
@@ -206,7 +264,7 @@ impl<'a, K: Keep, T: Wait + Clock> Attendant<'a, K, T> {
     /// further connection is taken.
     fn see_off<P, F: Write + Drop>(
         &mut self,
-        context: &ThreadContext<'a, P, K, T>,
+        context: &ThreadContext<'_, P, K, T>,
         acceptor: &Acceptor<'_, F>,
         gone: Gone<Line<'a, K, T>>,
         idle: bool,
@@ -222,25 +280,37 @@ impl<'a, K: Keep, T: Wait + Clock> Attendant<'a, K, T> {
             fault,
             full,
             lines,
+            refused: refused_lines,
             events,
         } = gone;
         self.events = events;
         let (greeted, refused) = stream.into_parts();
-        if matches!(refused, Some(JournalFault::Device(_))) || (full && context.quota.is_full()) {
+        if matches!(refused, Some(JournalFault::Device(_))) {
+            acceptor.stop_keeping(context.rt, context.alarms);
+        }
+        if takes_no_more(refused, full, context.quota.is_full()) {
             acceptor.close(context.rt, context.alarms);
+        }
+        if full && context.quota.is_full() {
+            acceptor.note_full(context.rt, Bound::Trail);
         }
         let ending = ending_of(number, idle, full, fault, refused);
         if ending.is_none() {
             greeted.inner().end_output();
+            self.note_refusal(context, acceptor, number, greeted.inner());
         }
         drop(greeted);
-        self.part(context, acceptor, number, lines, ending)
+        let counts = Counts {
+            lines,
+            refused: refused_lines,
+        };
+        self.part(context, acceptor, number, counts, ending)
     }
 
     /// Sees off all that leave.
     fn see_all_off<P, F: Write + Drop>(
         &mut self,
-        context: &ThreadContext<'a, P, K, T>,
+        context: &ThreadContext<'_, P, K, T>,
         acceptor: &Acceptor<'_, F>,
     )
         ensures pass { self.new.rounds.first ≡ self.old.rounds.first }
@@ -256,11 +326,46 @@ impl<'a, K: Keep, T: Wait + Clock> Attendant<'a, K, T> {
         }
     }
 
+    /// Sees off all that wait for their clients, since nothing more is kept.
+    fn see_unkept_off<P, F: Write + Drop>(
+        &mut self,
+        context: &ThreadContext<'_, P, K, T>,
+        acceptor: &Acceptor<'_, F>,
+    )
+        ensures { self.new.rounds.first ≡ self.old.rounds.first }
+    {
+        for _ in 0..self.rounds.len() {
+            let Some(gone) = self.rounds.leave_idle(0) else {
+                return;
+            };
+            let Gone {
+                number,
+                stream,
+                lines,
+                refused,
+                events,
+                fault: _,
+                full: _,
+            } = gone;
+            self.events = events;
+            let (greeted, _) = stream.into_parts();
+            drop(greeted);
+            let ending = Ending::new(number, Why::NotKept);
+            self.part(
+                context,
+                acceptor,
+                number,
+                Counts { lines, refused },
+                Some(ending),
+            );
+        }
+    }
+
     /// Has each connection go on that waits at the desk: it is not idle.
-    fn stir_desk<P>(&mut self, context: &ThreadContext<'a, P, K, T>)
+    fn stir_desk<P>(&mut self, context: &ThreadContext<'_, P, K, T>)
         ensures { IsSame self.old.rounds self.new.rounds }
     {
-        let Some(desk) = context.keep.desk(self.thread) else {
+        let Some(desk) = self.lines.desk() else {
             return;
         };
         for before in 0..MOST_SERVED as usize {
@@ -274,7 +379,7 @@ impl<'a, K: Keep, T: Wait + Clock> Attendant<'a, K, T> {
     /// Says what time it is, and sees off all that were idle for too long, if a look is due.
     fn look<P, F: Write + Drop>(
         &mut self,
-        context: &ThreadContext<'a, P, K, T>,
+        context: &ThreadContext<'_, P, K, T>,
         acceptor: &Acceptor<'_, F>,
     )
         ensures { self.new.rounds.first ≡ self.old.rounds.first }
@@ -303,10 +408,10 @@ impl<'a, K: Keep, T: Wait + Clock> Attendant<'a, K, T> {
 
     /// Has each connection go on that has waited at the desk for all to be kept, and waits no more. The desk is told
     /// whether one connection is all that it has to look after.
-    fn look_at_desk<P>(&mut self, context: &ThreadContext<'a, P, K, T>)
+    fn look_at_desk<P>(&mut self, context: &ThreadContext<'_, P, K, T>)
         ensures { IsSame self.old.rounds self.new.rounds }
     {
-        let Some(desk) = context.keep.desk(self.thread) else {
+        let Some(desk) = self.lines.desk() else {
             return;
         };
         desk.set_alone(self.rounds.len() <= 1);
@@ -329,11 +434,38 @@ impl<'a, K: Keep, T: Wait + Clock> Attendant<'a, K, T> {
         self.looks.map(|looks| looks.apart())
     }
 
-    /// Waits until a socket is ready or the alarm is rung, if nobody can go on before, and notes who can go on.
-    fn wait<P>(&mut self, context: &ThreadContext<'a, P, K, T>)
+    /// Goes round once: who was idle for too long leaves, those that have come are taken up, each goes on that can, and
+    /// those that leave are seen off.
+    fn go_round<P: Pause, F: Write + Drop>(
+        &mut self,
+        context: &ThreadContext<'_, P, K, T>,
+        acceptor: &Acceptor<'_, F>,
+    )
         ensures { self.new.rounds.first ≡ self.old.rounds.first }
     {
-        let sleeps = !self.called && self.rounds.may_sleep(context.alarms, self.thread);
+        self.look(context, acceptor);
+        if self.called {
+            self.take(context, acceptor);
+            self.welcome(context, acceptor);
+        }
+        self.look_at_desk(context);
+        let round_context = context.round_context(self.lines.horizon());
+        let mut quota = context.asked_quota();
+        self.rounds.round(&round_context, &mut quota);
+        self.note_greetings(context, acceptor);
+        self.note_full(context, acceptor);
+        self.see_all_off(context, acceptor);
+        if acceptor.keeps_nothing() {
+            self.see_unkept_off(context, acceptor);
+        }
+    }
+
+    /// Waits until a socket is ready or the alarm is rung, if nobody can go on before, and notes who can go on.
+    fn wait<P>(&mut self, context: &ThreadContext<'_, P, K, T>)
+        ensures { self.new.rounds.first ≡ self.old.rounds.first }
+    {
+        let thread = self.lines.thread();
+        let sleeps = !self.called && self.rounds.may_sleep(context.alarms, thread);
         let most = if sleeps {
             self.sleep()
         } else {
@@ -362,8 +494,9 @@ impl<'a, P: Pause, K: Keep, T: Wait + Clock> ThreadContext<'a, P, K, T> {
         requires { pass.gate ≡ self.now.gate.now }
         ensures { Follows pass result }
     {
+        let lines = ThreadLines::new(self.rt, self.alloc, self.keep, thread);
         let mut attendant = Attendant {
-            thread,
+            lines: &lines,
             watch,
             rounds: Rounds::new(self.alloc, self.gate, pass),
             callers: Callers::new(self.alloc),
@@ -371,24 +504,15 @@ impl<'a, P: Pause, K: Keep, T: Wait + Clock> ThreadContext<'a, P, K, T> {
             looks: acceptor.looks(),
             called: true,
         };
-        let (round_context, mut quota) = (self.round_context(thread), self.asked_quota());
         for _ in self.rt.forever() {
-            attendant.look(self, acceptor);
-            if attendant.called {
-                attendant.take(self, acceptor);
-                attendant.welcome(self, acceptor);
-            }
-            attendant.look_at_desk(self);
-            attendant.rounds.round(&round_context, &mut quota);
-            attendant.note_greetings(self, acceptor);
-            attendant.see_all_off(self, acceptor);
-            if attendant.rounds.len() == 0 && acceptor.is_over(self.rt, thread) {
+            attendant.go_round(self, acceptor);
+            if attendant.rounds.len() == 0 && acceptor.is_over(self.rt, lines.thread()) {
                 break;
             }
             attendant.wait(self);
         }
         let Attendant {
-            thread: _,
+            lines: _,
             watch,
             rounds,
             callers,
@@ -397,7 +521,9 @@ impl<'a, P: Pause, K: Keep, T: Wait + Clock> ThreadContext<'a, P, K, T> {
             called: _,
         } = attendant;
         drop((watch, callers));
-        rounds.close()
+        let pass = rounds.close();
+        acceptor.thread_leaves(self.rt);
+        pass
     }
 }
 

@@ -5,6 +5,7 @@ ghost use Rattle.bl_gate.specs.Gates.{Follows};
 use crate::shared::{AskedQuota, SharedQuota};
 use bl_gate::gate::Gate;
 use bl_gate::pass::Pass;
+use bl_horizon::horizon::Horizon;
 use bl_keeper::keep::Keep;
 use bl_rounds::alarm::Alarms;
 use bl_rounds::rounds::{Calls, RoundContext};
@@ -38,13 +39,13 @@ impl<'a, P: Pause, K: Keep, T: Wait> ThreadContext<'a, P, K, T> {
         }
     }
 
-    /// What a session thread does its rounds with.
-    pub(crate) fn round_context(&self, thread: usize) -> RoundContext<'a, P, T> {
+    /// What a session thread does its rounds with, which notes there how many events the trail has.
+    pub(crate) fn round_context<'h>(&'h self, horizon: &'h Horizon) -> RoundContext<'h, P, T> {
         RoundContext {
             rt: self.rt,
             pause: self.pause,
             calls: self.calls(),
-            events: self.keep.events(thread),
+            horizon,
         }
     }
 

@@ -1,14 +1,18 @@
 //! Sessions over sockets in threads, round one gate.
-ghost use Rattle.std.specs.Prelude.{◌≡◌, ◌⊎◌, ◌↔◌, ◌<◌, ◌≤◌, IsTrue, false, true, vec_len};
+ghost use Rattle.std.specs.Prelude.{◌≡◌, ◌⊎◌, ◌↔◌, ◌<◌, ◌≤◌, ◌++◌, IsTrue, false, true, vec_len};
 ghost use Rattle.std.specs.Iterator.{Drains, IsFinite};
 ghost use Rattle.bl_gate.specs.Gates.{Follows};
 ghost use Rattle.bl_host.specs.Gathering.{GivesMore};
+ghost use Rattle.bl_live.specs.Telling.{ToldLive};
+ghost use Rattle.bl_wire.specs.Watch.{end_state};
 
 use crate::attend::SessionAcceptor;
 use crate::context::ThreadContext;
+use crate::oversee::{Overseer, Oversees};
 use crate::shared::{SharedQuota, count_trail};
 use crate::threads::{join_threads, join_workers, start_sessions, start_workers};
 use crate::upkeep::Upkeep;
+use bl_clock::clock::SharedClock;
 use bl_entrance::acceptor::{Acceptor, SharedLog};
 use bl_entrance::ended::Ended;
 use bl_entrance::entrance::Entrance;
@@ -17,7 +21,9 @@ use bl_entrance::watch::Watch;
 use bl_gate::gate::Gate;
 use bl_gate::pass::Pass;
 use bl_keeper::keep::Keep;
+use bl_live::live::{Live, Untold};
 use bl_rounds::alarm::Alarms;
+use bl_wire::watched::Watched;
 use bl_worker::bell::Bell;
 use bl_worker::pause::Pause;
 use std::alloc::Global;
@@ -28,7 +34,8 @@ use std::thread::{self, Scope, Threads};
 use std::time::Clock;
 
 /// What sessions are hosted with: the runtime, where memory comes from, the gate, what each turn does between a start
-/// and an end, what keeps all that has happened before a session is told, and the log of connections, if there is one.
+/// and an end, what keeps all that has happened before a session is told, the log of connections, if there is one, and
+/// the lines of the journal's clock, if there is one.
 #[derive(Drop)]
 pub struct HostContext<'a, P, K, T, F: Write + Drop> {
     pub rt: &'a T,
@@ -37,6 +44,7 @@ pub struct HostContext<'a, P, K, T, F: Write + Drop> {
     pub pause: &'a P,
     pub keep: &'a K,
     pub log: Option<&'a SharedLog<F>>,
+    pub clock: Option<&'a SharedClock<F>>,
 }
 
 /// What is left after all sessions: the pass; those that ended early, in the order in which that was told; whether each
@@ -56,29 +64,51 @@ struct Joined {
     whole: bool,
 }
 
+/// Takes back what a call was lent and gives back beside other things. Its lender is known to have what stands there
+/// only where it is used once more.
+fn take_back<T>(lent: &mut T)
+    ensures { lent.new ≡ lent.old }
+{}
+
+/// What threads are started with: the connections, where they wait for those, and how many there are.
+#[derive(Drop)]
+struct Plan<'s, D> {
+    acceptor: &'s D,
+    watches: Vec<Watch>,
+    options: Options,
+}
+
 /// Starts who has all kept, where others are not to wait for that, the workers and then the session threads, and waits
-/// for them: for the sessions first, whom the others serve.
+/// for them: for the sessions first, whom the others serve. What these tell is told when it happens.
 fn run_threads<
     's,
-    E,
+    V,
     P: Pause + Sync,
     K: Keep + Sync,
     T: Threads + Wait + Clock + Sync,
     D: SessionAcceptor + Sync,
+    O: Oversees,
+    E: Write,
 >(
-    scope: &Scope<'s, E>,
+    scope: &Scope<'s, V>,
     context: &ThreadContext<'s, P, K, T>,
     mut pass: Pass,
-    acceptor: &'s D,
-    watches: Vec<Watch>,
-    options: Options,
+    plan: Plan<'s, D>,
+    overseer: &mut O,
+    errors: &mut Watched<E>,
 ) -> Joined
     requires gate { pass.gate ≡ context.now.gate.now }
     requires parts { 32 < pass.parts }
-    requires watches { vec_len watches ≤ options.session_threads }
+    requires watches { vec_len plan.watches ≤ plan.options.session_threads }
     ensures gate { result.pass.gate ≡ pass.gate }
     ensures whole { result.whole ≡ true → Follows pass result.pass }
+    ensures told { ToldLive (end_state E.contents errors.old) (end_state E.contents errors.new) }
 {
+    let Plan {
+        acceptor,
+        watches,
+        options,
+    } = plan;
     let mut workers = Vec::new(context.alloc);
     let mut sessions = Vec::new(context.alloc);
     let all = watches.len() == options.session_threads as usize;
@@ -87,6 +117,7 @@ fn run_threads<
         && start_workers(scope, context, &mut pass, options.workers, &mut workers)
         && start_sessions(scope, context, &mut pass, watches, acceptor, &mut sessions)
         && all;
+    overseer.oversee(context.rt, sessions.len(), errors);
     join_threads(context.rt, context.gate, &mut pass, sessions);
     upkeep.end(context.rt, context.keep);
     let closed = context.bell.close(context.rt);
@@ -135,32 +166,38 @@ fn run_scope<
     T: Threads + Wait + Clock + Sync,
     F: Write + Drop,
     D: SessionAcceptor + Sync,
+    O: Oversees + Drop,
+    E: Write,
 >(
     host_context: &HostContext<'_, P, K, T, F>,
-    acceptor: &D,
-    waiting: Waiting,
+    plan: Plan<'_, D>,
+    alarms: Alarms,
     mut pass: Pass,
-    options: Options,
-) -> Joined
+    mut overseer: O,
+    errors: &mut Watched<E>,
+) -> (Joined, O)
     requires gate { pass.gate ≡ host_context.now.gate.now }
     requires parts { 32 < pass.parts }
-    requires watches { vec_len waiting.watches ≤ options.session_threads }
-    ensures gate { result.pass.gate ≡ pass.gate }
-    ensures whole { result.whole ≡ true → Follows pass result.pass }
+    requires watches { vec_len plan.watches ≤ plan.options.session_threads }
+    ensures gate { result.0.pass.gate ≡ pass.gate }
+    ensures whole { result.0.whole ≡ true → Follows pass result.0.pass }
+    ensures told { ToldLive (end_state E.contents errors.old) (end_state E.contents errors.new) }
 {
     let (rt, alloc, gate) = (host_context.rt, host_context.alloc, host_context.gate);
     let (pause, keep) = (host_context.pause, host_context.keep);
-    let Waiting { watches, alarms } = waiting;
-    let counted = count_trail(rt, gate, &mut pass, options.trail_limit);
+    let counted = count_trail(rt, gate, &mut pass, plan.options.trail_limit);
     let quota = &SharedQuota::new(counted);
     let bell = &Bell::new();
     let alarms = &alarms;
-    thread::scope(
+    let (joined, overseer, errors) = thread::scope(
         thread::scope_env(),
         rt,
-        |scope| -> Joined
-            requires { (pass.gate ≡ gate.now) × (32 < pass.parts) × (vec_len watches ≤ options.session_threads) }
-            ensures { (result.pass.gate ≡ pass.gate) × (result.whole ≡ true → Follows pass result.pass) }
+        move |scope| -> (Joined, O, &mut Watched<E>)
+            requires { (pass.gate ≡ gate.now) × (32 < pass.parts)
+                × (vec_len plan.watches ≤ plan.options.session_threads) }
+            ensures { (result.0.pass.gate ≡ pass.gate) × (result.0.whole ≡ true → Follows pass result.0.pass)
+                × (result.2.ghost_name ≡ errors.entry.ghost_name)
+                × ToldLive (end_state E.contents errors.entry.now) (end_state E.contents result.2.now) }
         {
             let context = ThreadContext {
                 rt,
@@ -172,9 +209,12 @@ fn run_scope<
                 keep,
                 quota,
             };
-            run_threads(scope, &context, pass, acceptor, watches, options)
+            let joined = run_threads(scope, &context, pass, plan, &mut overseer, errors);
+            (joined, overseer, errors)
         },
-    )
+    );
+    take_back(errors);
+    (joined, overseer)
 }
 
 /// The sessions that were told of, as long as there is memory, and whether there was memory for all.
@@ -200,6 +240,23 @@ fn gather<I: Iterator<Item = Ended> + Drop>(alloc: Global, told: I) -> Gathered
     Gathered { ended, all: true }
 }
 
+/// What was not told while others ran, and behind it what was told since.
+fn behind(untold: Untold, since: Gathered) -> Gathered
+    ensures all { result.all ≡ true → (result.ended.items ≡ untold.ended.items ++ since.ended.items)
+        × (untold.all ≡ true) × (since.all ≡ true) }
+{
+    let Untold { mut ended, all } = untold;
+    let Gathered {
+        ended: later,
+        all: all_later,
+    } = since;
+    let room = ended.extend_from_slice(later.as_slice()).is_ok();
+    Gathered {
+        ended,
+        all: all && all_later && room,
+    }
+}
+
 /// What is left after all sessions, by what is left after the threads and what was told. It says that memory was
 /// refused where not all that was told was gathered, or something was not told.
 fn hosted_of(joined: Joined, gathered: Gathered, untold: bool) -> Hosted
@@ -222,24 +279,28 @@ fn hosted_of(joined: Joined, gathered: Gathered, untold: bool) -> Hosted
 ///
 /// The pass has at least 33 parts of the right to close the gate, one for each thread and one that stays, and has as
 /// many again where each thread could be started. Where one could not, no further one is, and those that were started
-/// run to their end. Once nothing more is kept, no further connection is taken.
+/// run to their end. Once nothing more is kept, no further connection is taken, and those that wait for their clients
+/// are over. What happens meanwhile is told on `errors` then; what was not told so is in the result.
 pub fn host<
     P: Pause + Sync,
     K: Keep + Sync,
     T: Threads + Net + Wait + Clock + Sync,
     F: Write + Drop + Send,
+    E: Write,
 >(
     host_context: &HostContext<'_, P, K, T, F>,
     entrance: &Entrance,
     pass: Pass,
     options: Options,
+    errors: &mut Watched<E>,
 ) -> Hosted
     requires gate { pass.gate ≡ host_context.now.gate.now }
     requires parts { 32 < pass.parts }
     ensures gate { result.pass.gate ≡ pass.gate }
     ensures whole { result.whole ≡ true → Follows pass result.pass }
+    ensures told { ToldLive (end_state E.contents errors.old) (end_state E.contents errors.new) }
 {
-    let waiting = make_watches(
+    let Waiting { watches, alarms } = make_watches(
         host_context.rt,
         host_context.alloc,
         entrance,
@@ -259,7 +320,19 @@ pub fn host<
             memory: false,
         };
     };
-    let joined = run_scope(host_context, &acceptor, waiting, pass, options);
+    let plan = Plan {
+        acceptor: &acceptor,
+        watches,
+        options,
+    };
+    let live = Live::new(host_context.alloc, host_context.log, host_context.clock);
+    let overseer = Overseer { told, live };
+    let (joined, overseer) = run_scope(host_context, plan, alarms, pass, overseer, errors);
+    let Overseer { told, live } = overseer;
     let gathered = gather(host_context.alloc, told.try_iter(host_context.rt));
-    hosted_of(joined, gathered, acceptor.has_untold(host_context.rt))
+    hosted_of(
+        joined,
+        behind(live.end(), gathered),
+        acceptor.has_untold(host_context.rt),
+    )
 }

@@ -2,16 +2,20 @@
 //! end is passed on from below.
 //!
 //!     context    what a thread works with, and what a worker does
+//!     full       that no line will ever fit in the trail any more
 //!     shared     the quota of the trail, which session threads share
 //!     attend     what a session thread does
 //!     threads    threads that are started and joined
 //!     upkeep     the thread that has all kept for those that wait at desks
+//!     oversee    what the main thread does while the others run
 //!     host       all of them, round one gate
 #![tactic(auto)]
 
 mod attend;
 mod context;
+mod full;
 pub mod host;
+mod oversee;
 mod shared;
 mod threads;
 mod upkeep;

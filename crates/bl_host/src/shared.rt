@@ -3,13 +3,13 @@ ghost use Rattle.std.specs.Prelude.{◌≡◌};
 ghost use Rattle.bl_gate.specs.Gates.{Follows, state_seen};
 ghost use Rattle.bl_quota.specs.Quotas.{IsQuota, limit_of};
 
+use crate::full::{FullMark, TrailIsFull};
 use bl_core::machine::Core;
 use bl_gate::gate::Gate;
 use bl_gate::pass::Pass;
 use bl_quota::asks::Asks;
 use bl_quota::quota::{Fit, Quota};
 use bl_work::work::Work;
-use std::sync::atomic::{AtomicBool, Ordering};
 use std::sync::{Mutex, Wait};
 
 /// The count of what the trail of a gate may come to, of all that has happened there, with so many bytes at most.
@@ -30,7 +30,7 @@ pub(crate) fn count_trail<T: Wait>(rt: &T, gate: &Gate, pass: &mut Pass, most: u
 #[derive(Drop)]
 pub(crate) struct SharedQuota {
     quota: Mutex<Quota>,
-    full: AtomicBool,
+    full: FullMark,
 }
 
 impl SharedQuota {
@@ -38,13 +38,13 @@ impl SharedQuota {
     pub(crate) fn new(quota: Quota) -> SharedQuota {
         SharedQuota {
             quota: Mutex::new(quota),
-            full: AtomicBool::new(false),
+            full: FullMark::new(),
         }
     }
 
     /// Whether no line will ever fit in the trail any more, as was found where one did not.
     pub(crate) fn is_full(&self) -> bool {
-        self.full.load(Ordering::SeqCst)
+        self.full.is_noted()
     }
 }
 
@@ -68,8 +68,10 @@ impl<T: Wait> Asks for AskedQuota<'_, T> {
     fn asks(&mut self, core: &Core, work: &Work) -> Fit {
         let mut quota = self.shared.quota.lock(self.rt);
         let fit = quota.asks(core, work);
-        if fit == Fit::Never && quota.is_full(core) {
-            self.shared.full.store(true, Ordering::SeqCst);
+        if fit == Fit::Never {
+            if let Some(full) = TrailIsFull::find(&mut quota, core) {
+                self.shared.full.note(full);
+            }
         }
         fit
     }

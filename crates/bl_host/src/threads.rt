@@ -132,6 +132,10 @@ pub(crate) fn start_workers<'s, E, P: Pause + Sync, K: Keep + Sync, T: Threads +
     ensures all { result ≡ true → vec_len threads.new ≡ vec_len threads.old + count }
     ensures threads { All (λ running. IsPart context.now.gate.now running.promise.0.value) threads.new.items }
 {
+    // a thread that nobody could join would be left to itself
+    if threads.reserve(count as usize).is_err() {
+        return false;
+    }
     for _ in 0..count {
         let Some(running) = start_worker(scope, context, pass) else {
             return false;
@@ -169,6 +173,11 @@ pub(crate) fn start_sessions<
     ensures threads { All (λ running. IsPart context.now.gate.now running.promise.0.value) threads.new.items }
 {
     let (rt, alloc, behind) = (context.rt, context.alloc, watches.len());
+    // a thread that nobody could join would be left to itself
+    if threads.reserve(behind).is_err() {
+        acceptor.have_come(rt, alloc, behind, behind);
+        return false;
+    }
     while let Some(watch) = watches.pop() {
         let thread = watches.len();
         let Some(running) = start_session(scope, context, pass, acceptor, thread, watch) else {

@@ -11,3 +11,11 @@ make_fault opening.InUse = InUse
 make_fault opening.Memory = Program NoMemory
 make_fault opening.Missing = Program CannotWriteTrail
 make_fault opening.Refused = Program CannotWriteTrail
+
+-- and of one that stands under its name, and that no journal is begun in
+abbrev pub torn_fault : OpenFault → RecoveryFault
+torn_fault opening.InUse = InUse
+torn_fault opening.Memory = Program NoMemory
+torn_fault opening.Taken = TrailIsThere
+torn_fault opening.Missing = TrailIsThere
+torn_fault opening.Refused = TrailIsThere

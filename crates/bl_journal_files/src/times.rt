@@ -1,12 +1,14 @@
 //! The file of the times at which a journal was written.
 ghost use Rattle.std.specs.Prelude.{◌≡◌};
 
-use bl_clock::clock::{TimeFile, open_clock};
+use bl_clock::clock::{SharedClock, SharedTimes, TimeFile, TimeLines, open_clock, open_lines};
 use bl_clock::timed::Timed;
 use bl_disk::device::Device;
 use bl_recover::places::places_of;
 use std::alloc::Global;
+use std::io::Write;
 use std::rt::Files;
+use std::sync::Wait;
 use std::time::Clock;
 
 /// The journal in this file, with the times at which it is written noted beside the name of its trail. Where they
@@ -24,4 +26,25 @@ pub fn timed<'a, R: Files + Clock, D: Device>(
         Err(_) => TimeFile::missing(rt, alloc),
     };
     Timed::new(alloc, device, clock)
+}
+
+/// The lines of the clock of a journal, beside the name of its trail. Where they cannot be, the clock has its fault.
+pub fn times_of<R: Files>(rt: &R, alloc: Global, trail: &str) -> TimeLines<R::File> {
+    match places_of(alloc, trail) {
+        Ok(places) => open_lines(rt, alloc, places.clock.as_str()),
+        Err(_) => TimeLines::over(alloc, None),
+    }
+}
+
+/// The journal in this file, with the times at which it is written noted among these lines, which another thread looks
+/// after, too.
+pub fn timed_with<'a, R: Wait + Clock, F: Write + Drop, D: Device>(
+    rt: &'a R,
+    alloc: Global,
+    lines: &'a SharedClock<F>,
+    device: D,
+) -> Timed<D, SharedTimes<'a, R, F>>
+    ensures { result.device ≡ device }
+{
+    Timed::new(alloc, device, SharedTimes::new(rt, lines))
 }

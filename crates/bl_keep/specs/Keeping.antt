@@ -1,8 +1,12 @@
 -- The file that a trail is written to before it takes its name.
 use Rattle.std.specs.Prelude.{◌≡◌, ◌⊎◌, ◌≤◌, ◌<◌, ◌+◌, ℕ, zero, suc, List, [], ◌∷◌, ◌++◌, ⊤, codes, decimal, length}
-use Rattle.std.specs.Prelude.{string_bytes, take, Option, Some, None}
+use Rattle.std.specs.Prelude.{string_bytes, take, Option, Some, None, Result, Ok, Err}
 use Rattle.std.specs.Path.{HasNoSlash, slash}
 use Rattle.std.specs.Str.{IsCharBoundary}
+use Rattle.bl_audit.specs.declared.event.TrailFault.{TrailFault}
+use Rattle.bl_audit.specs.declared.event.TrailFault.TheVariants as writing
+use Rattle.bl_keep.specs.declared.fault.KeepFault.{KeepFault}
+use Rattle.bl_keep.specs.declared.fault.KeepFault.TheVariants.{Unwritable, Memory}
 use Rattle.bl_keep.specs.declared.part.PartFile.{PartFile}
 use Rattle.bl_keep.specs.declared.whole.Left.{Left}
 
@@ -55,3 +59,10 @@ IsLeftIn name (Some part) None = ⊥
 IsLeftIn name (Some part) (Some left) = left.name ≡ part.name
 IsLeftIn name None None = ⊤
 IsLeftIn name None (Some left) = IsBeside name (string_bytes left.name)
+
+-- Why a trail is not whole in its file that was written so: a growth was refused; or the file did not take all, of the
+-- text, or of its end that was held back.
+abbrev pub writing_fault : Result (Unit {0}) TrailFault → KeepFault
+writing_fault (Ok done) = Unwritable
+writing_fault (Err writing.Write) = Unwritable
+writing_fault (Err writing.Memory) = Memory

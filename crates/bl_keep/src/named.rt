@@ -2,26 +2,56 @@
 ghost use Rattle.std.specs.Prelude.{◌≡◌, IfErr, Some, true};
 
 use crate::fault::of_file;
-use crate::part::{TrailFile, is_trail};
+use crate::part::{OldTrail, TrailFile, old_trail};
 use crate::whole::{Unkept, Whole};
 use std::alloc::Global;
-use std::fs;
 use std::rt::Files;
+use std::{fs, io};
+
+/// The system answered that the file of a trail has the trail's name. Only `link` and `replace` make one.
+#[derive(Debug, Drop)]
+struct HasName {
+    _answered: (),
+}
 
 /// A trail that was written whole and has its name. Only `take_name` makes one, of a trail that is whole.
 #[derive(Debug, Drop)]
 pub struct Kept {
-    _has_name: (),
+    _has_name: HasName,
 }
 
-/// Gives a whole trail its name in place of what stands there.
-fn take_place<F: Drop, R: Files>(rt: &R, whole: Whole<F>, name: &str) -> Result<Kept, Unkept>
+/// Links the file of a whole trail to the trail's name, which replaces nothing.
+fn link<F: Drop, R: Files>(rt: &R, whole: &Whole<F>, trail: &TrailFile<'_>) -> io::Result<HasName> {
+    fs::hard_link(rt, whole.name(), trail.name)?;
+    Ok(HasName { _answered: () })
+}
+
+/// Gives the file of a whole trail the trail's name in place of the one that stands there.
+fn replace<F: Drop, R: Files>(
+    rt: &R,
+    whole: &Whole<F>,
+    trail: &TrailFile<'_>,
+    _old: OldTrail,
+) -> io::Result<HasName> {
+    fs::rename(rt, whole.name(), trail.name)?;
+    Ok(HasName { _answered: () })
+}
+
+/// Gives a whole trail its name in place of the trail that stands there.
+fn take_place<F: Drop, R: Files>(
+    rt: &R,
+    whole: Whole<F>,
+    trail: &TrailFile<'_>,
+    old: OldTrail,
+) -> Result<Kept, Unkept>
     ensures { IfErr result (λ unkept. unkept.left ≡ Some (record { name = whole.name; whole = true })) }
 {
-    match fs::rename(rt, whole.name(), name) {
-        Ok(()) => {
+    match replace(rt, &whole, trail, old) {
+        Ok(has_name) => {
             whole.end();
-            Ok(Kept { _has_name: () })
+            Ok(Kept {
+                _has_name: has_name,
+            })
         }
         Err(error) => Err(whole.leave(of_file(&error))),
     }
@@ -38,15 +68,18 @@ pub(crate) fn take_name<F: Drop, R: Files>(
 ) -> Result<Kept, Unkept>
     ensures { IfErr result (λ unkept. unkept.left ≡ Some (record { name = whole.name; whole = true })) }
 {
-    match fs::hard_link(rt, whole.name(), trail.name) {
-        Ok(()) => {
+    let error = match link(rt, &whole, trail) {
+        Ok(has_name) => {
             let _removed = fs::remove_file(rt, whole.name());
             whole.end();
-            Ok(Kept { _has_name: () })
+            return Ok(Kept {
+                _has_name: has_name,
+            });
         }
-        Err(_) if trail.replaces && is_trail(rt, alloc, trail.name) => {
-            take_place(rt, whole, trail.name)
-        }
-        Err(error) => Err(whole.leave(of_file(&error))),
+        Err(error) => error,
+    };
+    match old_trail(rt, alloc, trail) {
+        Some(old) => take_place(rt, whole, trail, old),
+        None => Err(whole.leave(of_file(&error))),
     }
 }

@@ -1,15 +1,13 @@
 //! The file that a trail is written to before it has its name: a new one, beside that name.
-ghost use Rattle.std.specs.Prelude.{◌≡◌, ◌≤◌, ◌↔◌, ◌⊎◌, IsTrue, IfErr, IfOk, IfSome, codes, drop, is_some};
+ghost use Rattle.std.specs.Prelude.{◌≡◌, ◌≤◌, ◌↔◌, ◌⊎◌, IsSome, IsTrue, IfErr, IfOk, IfSome, codes, drop, is_some};
 ghost use Rattle.std.specs.Prelude.{string_bytes, take, true};
-ghost use Rattle.std.specs.Fs.{asks_create_new, asks_write};
 ghost use Rattle.std.specs.Str.{IsCharBoundary};
 ghost use Rattle.bl_keep.specs.Keeping.{HasRoom, IsBeside, IsPartName, IsPath, part_suffix};
 
 use crate::fault::{KeepFault, of_file};
+use bl_file::open::new_file;
 use std::alloc::{AllocError, Global};
-use std::fs::OpenOptions;
 use std::io::{ErrorKind, Read};
-use std::os::unix::fs::OpenOptionsExt;
 use std::rt::Files;
 use std::{fs, io};
 
@@ -88,18 +86,6 @@ fn part_name(alloc: Global, name: &str, number: u32) -> Result<String, AllocErro
     format!(in alloc; "{front}{suffix}")
 }
 
-/// How the file is opened: it is written and made new, which follows no link and takes no name that is there, and
-/// nobody but its owner may read or write it.
-fn part_options() -> OpenOptions
-    ensures new { IsTrue (asks_create_new result) }
-    ensures write { IsTrue (asks_write result) }
-{
-    let mut options = OpenOptions::new();
-    options.mode(0o600);
-    options.write(true).create_new(true);
-    options
-}
-
 /// Makes a new file beside this name, under the first of its names that is free.
 pub(crate) fn make_part<R: Files>(
     rt: &R,
@@ -112,7 +98,7 @@ pub(crate) fn make_part<R: Files>(
         let Ok(part) = part_name(alloc, name, number) else {
             return Err(KeepFault::Memory);
         };
-        match part_options().open(rt, part.as_str()) {
+        match new_file(rt, part.as_str()) {
             Ok(file) => return Ok(PartFile { name: part, file }),
             Err(error) if error.kind() == ErrorKind::AlreadyExists => {}
             Err(error) => return Err(of_file(&error)),
@@ -133,7 +119,7 @@ fn begins_as_trail<F: Read + Drop>(alloc: Global, file: F) -> io::Result<bool>
 }
 
 /// Whether a plain file stands under this name that begins as a trail does. No link is followed.
-pub fn is_trail<R: Files>(rt: &R, alloc: Global, name: &str) -> bool {
+fn is_trail<R: Files>(rt: &R, alloc: Global, name: &str) -> bool {
     let Ok(found) = fs::symlink_metadata(rt, name) else {
         return false;
     };
@@ -146,10 +132,27 @@ pub fn is_trail<R: Files>(rt: &R, alloc: Global, name: &str) -> bool {
     }
 }
 
+/// A trail stands under a name, and may be replaced there. Only `old_trail` gives one.
+#[derive(Debug, Drop)]
+pub struct OldTrail {
+    _stands: (),
+}
+
+/// The trail that stands under the name of this one, where it may be replaced.
+pub fn old_trail<R: Files>(rt: &R, alloc: Global, trail: &TrailFile<'_>) -> Option<OldTrail>
+    ensures { IsSome result → trail.now.replaces ≡ true }
+{
+    if trail.replaces && is_trail(rt, alloc, trail.name) {
+        Some(OldTrail { _stands: () })
+    } else {
+        None
+    }
+}
+
 /// Whether a trail can take this name as things stand: nothing is there, or a trail that may be replaced.
 pub fn is_free<R: Files>(rt: &R, alloc: Global, trail: &TrailFile<'_>) -> bool {
     match fs::symlink_metadata(rt, trail.name) {
-        Ok(_) => trail.replaces && is_trail(rt, alloc, trail.name),
+        Ok(_) => old_trail(rt, alloc, trail).is_some(),
         Err(error) => error.kind() == ErrorKind::NotFound && !trail.name.is_empty(),
     }
 }
@@ -178,6 +181,33 @@ pub fn claim<R: Files>(
         Ok(part) => Ok(Some(part)),
         Err(fault) => Err(fault),
     }
+}
+
+/// Sees that a file can be made beside this name as things stand: one is made, and removed.
+fn try_part<R: Files>(rt: &R, alloc: Global, name: &str) -> Result<(), KeepFault> {
+    let part = make_part(rt, alloc, name)?;
+    let _removed = fs::remove_file(rt, part.name.as_str());
+    Ok(())
+}
+
+/// Makes the file of a trail that claims its name; of another it is seen that one can be made beside the name.
+///
+/// The faults are as `claim` has them; where the name is not claimed, `Unwritable` comes where no file can be made beside
+/// it, as in a folder that is not there or may not be written.
+pub fn claim_or_try<R: Files>(
+    rt: &R,
+    alloc: Global,
+    trail: &TrailFile<'_>,
+) -> Result<Option<PartFile<R::File>>, KeepFault>
+    ensures made { IfOk result (λ claimed. IsTrue (is_some claimed) ↔ (trail.now.claims ≡ true)) }
+    ensures name { IfOk result
+        (λ claimed. IfSome claimed (λ part. IsBeside trail.now.name.now (string_bytes part.name))) }
+{
+    let claimed = claim(rt, alloc, trail)?;
+    if claimed.is_none() {
+        try_part(rt, alloc, trail.name)?;
+    }
+    Ok(claimed)
 }
 
 /// Removes a file that was claimed, and in which nothing was written. Where it cannot be removed, it stays.

@@ -2,8 +2,9 @@
 ghost use Rattle.std.specs.Prelude.{◌≡◌, IfErr, IfOk, Some, false, string_bytes, true};
 ghost use Rattle.std.specs.Io.KnownBytes.{Appends};
 ghost use Rattle.bl_audit.specs.Written.{trail_text};
+ghost use Rattle.bl_keep.specs.Keeping.{writing_fault};
 
-use crate::fault::KeepFault;
+use crate::fault::{KeepFault, of_file};
 use crate::part::PartFile;
 use crate::rest::hand_on_rest;
 use bl_audit::trail::{TrailFault, write_trail};
@@ -74,14 +75,13 @@ fn cut_short(name: String, fault: KeepFault) -> Unkept
     }
 }
 
-/// What a fault of the trail's writer is to the trail that is kept.
-fn of_trail(fault: TrailFault) -> KeepFault
-    ensures write { fault ≡ TrailFault.Write → result ≡ KeepFault.Unwritable }
-    ensures memory { fault ≡ TrailFault.Memory → result ≡ KeepFault.Memory }
+/// Why a trail is not whole in its file that was written so.
+fn fault_of(written: Result<(), TrailFault>) -> KeepFault
+    ensures { result ≡ writing_fault written }
 {
-    match fault {
-        TrailFault::Write => KeepFault::Unwritable,
-        TrailFault::Memory => KeepFault::Memory,
+    match written {
+        Ok(()) | Err(TrailFault::Write) => KeepFault::Unwritable,
+        Err(TrailFault::Memory) => KeepFault::Memory,
     }
 }
 
@@ -98,15 +98,15 @@ pub(crate) fn write_whole<F: Write + Drop>(
     ensures left { IfErr result (λ unkept. unkept.left ≡ Some (record { name = part.name; whole = false })) }
 {
     let PartFile { name, file } = part;
-    let Ok(writer) = BufWriter::new(alloc, file) else {
-        return Err(cut_short(name, KeepFault::Memory));
+    let writer = match BufWriter::new(alloc, file) {
+        Ok(writer) => writer,
+        Err(error) => return Err(cut_short(name, of_file(&error))),
     };
     let mut writer = Watched::new(writer);
     let written = write_trail(alloc, hall, &mut writer);
     let rest = hand_on_rest(writer);
     match (written, rest) {
         (Ok(()), Some(file)) => Ok(Whole { name, file }),
-        (Ok(()), None) => Err(cut_short(name, KeepFault::Unwritable)),
-        (Err(fault), _) => Err(cut_short(name, of_trail(fault))),
+        (written, _) => Err(cut_short(name, fault_of(written))),
     }
 }

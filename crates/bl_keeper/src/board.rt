@@ -1,5 +1,7 @@
 //! What came of having a journal keep up, for those who have asked.
-ghost use Rattle.std.specs.Prelude.{◌≡◌, Err, IfErr, IfOk, IfSome, IsOk};
+ghost use Rattle.std.specs.Prelude.{◌≡◌, ◌<◌, ◌≤◌, ◌↔◌, Err, IfErr, IfOk, IfSome, IsOk, IsSome, IsTrue};
+ghost use Rattle.std.specs.Prelude.{Some, false, max, true};
+ghost use Rattle.bl_keeper.specs.Boards.{HasToKeep, HasToTell, decided_of, next_of, refusal_by, served_below};
 ghost use Rattle.bl_keeper.specs.Keeping.{ShowsEvents, ShowsKept};
 
 use crate::receipt::Receipt;
@@ -45,7 +47,10 @@ pub(crate) struct Board<D: Device> {
 
 impl<D: Device> Board<D> {
     /// Nobody has asked.
-    pub(crate) fn new() -> Board<D> {
+    pub(crate) fn new() -> Board<D>
+        ensures decided { decided_of result ≡ 0 }
+        ensures none { (result.busy ≡ false) × (result.closed ≡ false) × (result.told ≡ 0) × (result.wanted ≡ 0) }
+    {
         Board {
             last: None,
             refusal: None,
@@ -58,7 +63,8 @@ impl<D: Device> Board<D> {
 
     /// A receipt for who has asked with this number, of what was kept last; none where that does not serve it.
     pub(crate) fn receipt_for(&self, number: u64) -> Option<Receipt>
-        ensures { IfSome result (ShowsKept D.now) }
+        ensures shows { IfSome result (ShowsKept D.now) }
+        ensures served { IsSome result ↔ (number < served_below self.now.last) }
     {
         match &self.last {
             Some(served) => served.receipt_for(number),
@@ -78,7 +84,8 @@ impl<D: Device> Board<D> {
 
     /// A receipt for who asks, of what was kept last; none where that does not serve it.
     pub(crate) fn receipt(&self, asker: Asker) -> Option<Receipt>
-        ensures { IfSome result (ShowsKept D.now) }
+        ensures shows { IfSome result (ShowsKept D.now) }
+        ensures served { asker.number < served_below self.now.last → IsSome result }
     {
         match self.receipt_of(asker.events) {
             Some(receipt) => Some(receipt),
@@ -87,12 +94,17 @@ impl<D: Device> Board<D> {
     }
 
     /// Whether who asks has to wait: somebody has the journal keep up, and what was kept last does not serve that one.
-    pub(crate) fn has_to_wait(&self, asker: Asker) -> bool {
+    pub(crate) fn has_to_wait(&self, asker: Asker) -> bool
+        ensures busy { result ≡ true → self.now.busy ≡ true }
+        ensures served { result ≡ true → served_below self.now.last ≤ asker.number }
+    {
         self.busy && self.receipt(asker).is_none()
     }
 
     /// Somebody has the journal keep up now.
-    pub(crate) fn begin(&mut self) {
+    pub(crate) fn begin(&mut self)
+        ensures { self.new ≡ record self.old { busy = true } }
+    {
         self.busy = true;
     }
 
@@ -104,6 +116,8 @@ impl<D: Device> Board<D> {
         ensures shows { IfOk result (ShowsKept D.now) }
         ensures given { IsOk outcome → IsOk result }
         ensures fault { IfErr outcome (λ fault. result ≡ Err fault) }
+        ensures ok { IfOk outcome (λ served. self.new ≡ record self.old { busy = false; last = Some served }) }
+        ensures err { IfErr outcome (λ _. self.new ≡ record self.old { busy = false }) }
     {
         self.busy = false;
         let served = outcome?;
@@ -115,7 +129,11 @@ impl<D: Device> Board<D> {
     /// What came of it for who has asked with this number: a receipt, or why that one was refused. None comes as long
     /// as that is not decided.
     pub(crate) fn outcome_for(&self, number: u64) -> Option<Result<Receipt, JournalFault>>
-        ensures { IfSome result (λ outcome. IfOk outcome (ShowsKept D.now)) }
+        ensures shows { IfSome result (λ outcome. IfOk outcome (ShowsKept D.now)) }
+        ensures decided { IsSome result ↔ (number < decided_of self.now) }
+        ensures served { number < served_below self.now.last → IfSome result IsOk }
+        ensures fault { IfSome result (λ outcome. IfErr outcome (λ fault.
+            IfSome self.now.refusal (λ refusal. fault ≡ refusal.fault))) }
     {
         if let Some(receipt) = self.receipt_for(number) {
             return Some(Ok(receipt));
@@ -127,7 +145,9 @@ impl<D: Device> Board<D> {
     }
 
     /// The number below which it is decided for all.
-    pub(crate) fn decided(&self) -> u64 {
+    pub(crate) fn decided(&self) -> u64
+        ensures { result ≡ decided_of self.now }
+    {
         let served = match &self.last {
             Some(served) => served.below(),
             None => 0,
@@ -139,13 +159,18 @@ impl<D: Device> Board<D> {
     }
 
     /// Notes that who has asked with this number waits at a desk, and says whether nobody has the journal keep up now.
-    pub(crate) fn want(&mut self, number: u64) -> bool {
+    pub(crate) fn want(&mut self, number: u64) -> bool
+        ensures wanted { self.new ≡ record self.old { wanted = max self.old.wanted (next_of number) } }
+        ensures free { IsTrue result ↔ (self.old.busy ≡ false) }
+    {
         self.wanted = self.wanted.max(number.saturating_add(1));
         !self.busy
     }
 
     /// Refuses for a fault: all, where nothing more is kept, else the next for whom it is not decided.
-    fn refuse(&mut self, fault: JournalFault) {
+    fn refuse(&mut self, fault: JournalFault)
+        ensures { self.new ≡ record self.old { refusal = Some (refusal_by fault (decided_of self.old)) } }
+    {
         let below = match fault {
             JournalFault::Device(_) => u64::MAX,
             JournalFault::Memory => self.decided().saturating_add(1),
@@ -154,7 +179,11 @@ impl<D: Device> Board<D> {
     }
 
     /// Notes what came of having the journal keep up for those that wait at desks.
-    pub(crate) fn note_for_desks(&mut self, outcome: Result<Served<D>, JournalFault>) {
+    pub(crate) fn note_for_desks(&mut self, outcome: Result<Served<D>, JournalFault>)
+        ensures ok { IfOk outcome (λ served. self.new ≡ record self.old { busy = false; last = Some served }) }
+        ensures err { IfErr outcome (λ fault. self.new
+            ≡ record self.old { busy = false; refusal = Some (refusal_by fault (decided_of self.old)) }) }
+    {
         match self.note(outcome) {
             Ok(receipt) => drop(receipt),
             Err(fault) => self.refuse(fault),
@@ -162,13 +191,20 @@ impl<D: Device> Board<D> {
     }
 
     /// Whether there are threads to be told, or of whom somebody waits for the journal.
-    pub(crate) fn is_wanted(&self) -> bool {
+    pub(crate) fn is_wanted(&self) -> bool
+        ensures { IsTrue result ↔ (self.now.told < self.now.wanted) }
+    {
         self.told < self.wanted
     }
 
     /// What is to be done for those that wait at desks; none where nobody waits, or somebody else has the journal keep
     /// up.
-    pub(crate) fn errand(&mut self) -> Option<Errand> {
+    pub(crate) fn errand(&mut self) -> Option<Errand>
+        ensures keep { (result ≡ Some Errand.Keep) ↔ HasToKeep self.old }
+        ensures tell { (result ≡ Some Errand.Tell) ↔ HasToTell self.old }
+        ensures busy { result ≡ Some Errand.Keep → self.new ≡ record self.old { busy = true } }
+        ensures same { (result ≡ Some Errand.Keep → ⊥) → self.new ≡ self.old }
+    {
         if self.busy || !self.is_wanted() {
             return None;
         }
@@ -180,18 +216,24 @@ impl<D: Device> Board<D> {
     }
 
     /// The number below which it is decided for all, of which the threads at the desks are told now.
-    pub(crate) fn tell(&mut self) -> u64 {
+    pub(crate) fn tell(&mut self) -> u64
+        ensures { (result ≡ decided_of self.old) × (self.new ≡ record self.old { told = decided_of self.old }) }
+    {
         self.told = self.decided();
         self.told
     }
 
     /// Nobody will wait at a desk any more.
-    pub(crate) fn close(&mut self) {
+    pub(crate) fn close(&mut self)
+        ensures { self.new ≡ record self.old { closed = true } }
+    {
         self.closed = true;
     }
 
     /// Whether nobody will wait at a desk any more.
-    pub(crate) fn is_closed(&self) -> bool {
+    pub(crate) fn is_closed(&self) -> bool
+        ensures { result ≡ self.now.closed }
+    {
         self.closed
     }
 }

@@ -1,7 +1,10 @@
 //! Where the connections of a thread wait for a journal.
+ghost use Rattle.std.specs.Prelude.{◌≡◌, ◌+◌, IfSome, OnOk, vec_len};
+ghost use Rattle.bl_keeper.specs.Desks.{AreNumbered};
+
 use std::alloc::{AllocError, Global};
 use std::collections::VecDeque;
-use std::sync::atomic::{AtomicBool, AtomicU64, Ordering};
+use std::sync::atomic::{AtomicBool, Ordering};
 use std::sync::{Mutex, Wait};
 
 /// A connection that waits, and the number with which it has asked.
@@ -11,23 +14,24 @@ struct Waiting {
     connection: u32,
 }
 
-/// The connections of one thread that wait for a journal, by the numbers with which they have asked, which rise;
-/// whether the thread has no other connection, so that it may wait itself; and how many events the trail had at its
-/// last turn at the gate: the most that there may be, as long as it has noted none.
+/// The number of a thread, which is there for proofs alone; its connections that wait for a journal, by the numbers with
+/// which they have asked, which rise; and whether the thread has no other connection, so that it may wait itself.
 #[derive(Drop)]
 pub struct Desk {
+    thread: usize,
     waiting: Mutex<VecDeque<Waiting>>,
     alone: AtomicBool,
-    events: AtomicU64,
 }
 
 impl Desk {
-    /// A desk at which nobody waits.
-    fn new(alloc: Global) -> Desk {
+    /// A desk of this thread, at which nobody waits.
+    fn new(alloc: Global, thread: usize) -> Desk
+        ensures { result.thread ≡ thread }
+    {
         Desk {
+            thread,
             waiting: Mutex::new(VecDeque::new(alloc)),
             alone: AtomicBool::new(false),
-            events: AtomicU64::new(u64::MAX),
         }
     }
 
@@ -88,34 +92,46 @@ impl Desk {
 pub struct Desks {
     desks: Vec<Desk>,
     go_on: bool,
+    ghost numbered: { AreNumbered desks.items },
 }
 
 impl Desks {
     /// Desks for so many threads, or for the first of them where memory was refused. The threads go on while their
     /// connections wait there, or wait themselves.
     pub fn new(alloc: Global, threads: u32, go_on: bool) -> Desks {
-        let mut desks = Vec::new(alloc);
+        let mut desks = Desks {
+            desks: Vec::new(alloc),
+            go_on,
+        };
         for _ in 0..threads {
-            if desks.push(Desk::new(alloc)).is_err() {
+            if desks.add(alloc).is_err() {
                 break;
             }
         }
-        Desks { desks, go_on }
+        desks
+    }
+
+    /// One desk more, of the thread with the next number. An error comes where memory was refused, and leaves the
+    /// others as they were.
+    #[tactic(auto, using(crate::proofs::Desks::numbered_more))]
+    fn add(&mut self, alloc: Global) -> Result<(), AllocError>
+        ensures { OnOk result (vec_len self.new.desks ≡ vec_len self.old.desks + 1) }
+    {
+        self.desks.reserve(1)?;
+        let thread = self.desks.len();
+        self.desks.push_reserved(Desk::new(alloc, thread));
+        Ok(())
     }
 
     /// The desk of a thread, if its connections wait at one.
-    pub fn get(&self, thread: usize) -> Option<&Desk> {
+    pub fn get(&self, thread: usize) -> Option<&Desk>
+        ensures { IfSome result (λ desk. desk.now.thread ≡ thread) }
+    {
         if self.go_on {
             self.desks.get(thread)
         } else {
             None
         }
-    }
-
-    /// Where a thread notes how many events the trail had at its last turn at the gate, if it has a desk.
-    pub fn events(&self, thread: usize) -> Option<&AtomicU64> {
-        let desk = self.desks.get(thread)?;
-        Some(&desk.events)
     }
 }
 

@@ -1,14 +1,14 @@
 //! What is asked to keep up, before bytes are written.
 use crate::desk::Desk;
 use crate::receipt::Receipt;
+use bl_horizon::horizon::Extent;
 use bl_record::fault::JournalFault;
 use std::alloc::Global;
 use std::sync::Wait;
-use std::sync::atomic::AtomicU64;
 
 /// Has the events of a run kept before anybody is told of them.
 pub trait Keep {
-    ghost use Rattle.std.specs.Prelude.{ℕ, IfOk, IfSome};
+    ghost use Rattle.std.specs.Prelude.{◌≡◌, ℕ, IfOk, IfSome};
     ghost use Rattle.bl_keeper.specs.declared.receipt.Receipt.{Receipt};
 
     /// What a receipt shows that was given here.
@@ -20,21 +20,23 @@ pub trait Keep {
     /// Has all kept that has happened, waits for that, and gives a receipt for it; what was kept before serves who
     /// tells of so many events at most as that has. `Memory` comes where a growth was refused, and the next call goes
     /// on; `Device` where nothing more is kept.
-    fn keep_up<R: Wait>(&self, rt: &R, alloc: Global, events: u64) -> Result<Receipt, JournalFault>
+    fn keep_up<R: Wait>(
+        &self,
+        rt: &R,
+        alloc: Global,
+        extent: &Extent,
+    ) -> Result<Receipt, JournalFault>
         ensures { IfOk result shows };
 
     /// A receipt for the first so many events of the trail, if those were kept; none where they may not have been.
-    fn receipt_of<R: Wait>(&self, rt: &R, events: u64) -> Option<Receipt>
+    fn receipt_of<R: Wait>(&self, rt: &R, extent: &Extent) -> Option<Receipt>
         ensures shows { IfSome result shows }
-        ensures events { IfSome result (shows_events events) };
+        ensures events { IfSome result (shows_events extent.now) };
 
-    /// Where a thread notes how many events the trail had at its last turn at the gate: its connections tell of no
-    /// others. None where nobody asks for that.
-    fn events(&self, thread: usize) -> Option<&AtomicU64>;
-
-    /// Where connections of a thread wait for that, so that the thread need not; none where to have all kept takes no
-    /// time for which that is worth it.
-    fn desk(&self, thread: usize) -> Option<&Desk>;
+    /// Where connections of a thread wait for that, so that the thread need not: a desk of its own. None where to have
+    /// all kept takes no time for which that is worth it.
+    fn desk(&self, thread: usize) -> Option<&Desk>
+        ensures { IfSome result (λ desk. desk.now.thread ≡ thread) };
 
     /// Asks to have all kept that has happened, for who waits at a desk, and answers the asker's number.
     fn ask(&self) -> u64;
@@ -76,23 +78,18 @@ impl Keep for NoKeep {
         &self,
         rt: &R,
         alloc: Global,
-        events: u64,
+        extent: &Extent,
     ) -> Result<Receipt, JournalFault> {
         let _ = rt;
         let _ = alloc;
-        let _ = events;
+        let _ = extent;
         Ok(Receipt::Nothing)
     }
 
-    fn receipt_of<R: Wait>(&self, rt: &R, events: u64) -> Option<Receipt> {
+    fn receipt_of<R: Wait>(&self, rt: &R, extent: &Extent) -> Option<Receipt> {
         let _ = rt;
-        let _ = events;
+        let _ = extent;
         Some(Receipt::Nothing)
-    }
-
-    fn events(&self, thread: usize) -> Option<&AtomicU64> {
-        let _ = thread;
-        None
     }
 
     fn desk(&self, thread: usize) -> Option<&Desk> {

@@ -10,11 +10,11 @@ use crate::which::Which;
 use bl_disk::device::Device;
 use bl_gate::gate::Gate;
 use bl_gate::pass::Pass;
+use bl_horizon::horizon::Extent;
 use bl_record::fault::JournalFault;
 use bl_record::journal::Journal;
 use std::alloc::Global;
 use std::marker::Model;
-use std::sync::atomic::AtomicU64;
 use std::sync::{Mutex, Wait};
 
 /// The journal of a gate. Many threads have it keep up, one at a time: those that ask while another's lines are
@@ -109,20 +109,16 @@ impl<G: Which, D: Device> Keep for Keeper<'_, G, D> {
         &self,
         rt: &R,
         alloc: Global,
-        events: u64,
+        extent: &Extent,
     ) -> Result<Receipt, JournalFault> {
-        match self.askers.wait_for(rt, events) {
+        match self.askers.wait_for(rt, extent.events()) {
             Some(receipt) => Ok(receipt),
             None => self.keep_up_for_all(rt, alloc),
         }
     }
 
-    fn receipt_of<R: Wait>(&self, rt: &R, events: u64) -> Option<Receipt> {
-        self.askers.receipt_of(rt, events)
-    }
-
-    fn events(&self, thread: usize) -> Option<&AtomicU64> {
-        self.desks.events(thread)
+    fn receipt_of<R: Wait>(&self, rt: &R, extent: &Extent) -> Option<Receipt> {
+        self.askers.receipt_of(rt, extent.events())
     }
 
     fn desk(&self, thread: usize) -> Option<&Desk> {

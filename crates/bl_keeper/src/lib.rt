@@ -13,6 +13,7 @@
 //!     keeper    the journal of a gate, under a lock
 //!     sealed    a stream that takes bytes for a receipt alone
 //!     stream    a stream that has all kept before it is written to
+//!     lines     what makes those streams for one thread
 #![tactic(auto)]
 
 mod askers;
@@ -22,6 +23,7 @@ pub mod desk;
 mod held;
 pub mod keep;
 pub mod keeper;
+pub mod lines;
 pub mod receipt;
 mod sealed;
 mod served;

@@ -6,20 +6,22 @@ use crate::keep::Keep;
 use crate::receipt::Receipt;
 use crate::sealed::Sealed;
 use bl_connection::stream::{Answer, Stream};
+use bl_horizon::horizon::{Extent, Horizon};
 use bl_record::fault::JournalFault;
 use std::alloc::Global;
 use std::sync::Wait;
-use std::sync::atomic::Ordering;
 
-/// A stream over another. Before it writes, it has all events kept of which that may tell: those that the trail had at
-/// the last turn of its thread at the gate. Where that is refused, nothing is written, and the write has failed. Where
-/// its thread has a desk and other connections, it waits there: till it is decided each write would block. What is
-/// written then has to be what was to be written when it asked, or a front of that.
+/// A stream over another, of a connection of a session thread. Before it writes, it has all events kept of which that
+/// may tell: those that the trail had at the last turn of its thread at the gate. Where that is refused, nothing is
+/// written, and the write has failed. Where its thread has a desk and other connections, it waits there: till it is
+/// decided each write would block. What is written then has to be what was to be written when it asked, or a front of
+/// that.
 #[derive(Drop)]
 pub struct KeptStream<'a, S, K, T> {
     rt: &'a T,
     alloc: Global,
     keep: &'a K,
+    horizon: &'a Horizon,
     place: Place,
     asked: Option<u64>,
     end: Sealed<S>,
@@ -28,14 +30,17 @@ pub struct KeptStream<'a, S, K, T> {
 }
 
 impl<'a, S: Stream, K: Keep, T: Wait> KeptStream<'a, S, K, T> {
-    /// A stream over this one, which nobody else has.
-    pub fn new(
+    /// A stream over this one, which nobody else has, of the connection at this place, whose thread notes there how
+    /// many events the trail had.
+    pub(crate) fn new(
         rt: &'a T,
         alloc: Global,
         keep: &'a K,
+        horizon: &'a Horizon,
         place: Place,
         end: S,
     ) -> KeptStream<'a, S, K, T>
+        ensures place { result.place ≡ place }
         ensures end { result.end.inner ≡ end }
         ensures fine { result.refused ≡ None }
     {
@@ -43,6 +48,7 @@ impl<'a, S: Stream, K: Keep, T: Wait> KeptStream<'a, S, K, T> {
             rt,
             alloc,
             keep,
+            horizon,
             place,
             asked: None,
             end: Sealed::new(end),
@@ -58,6 +64,7 @@ impl<'a, S: Stream, K: Keep, T: Wait> KeptStream<'a, S, K, T> {
             rt: _,
             alloc: _,
             keep: _,
+            horizon: _,
             place: _,
             asked: _,
             end,
@@ -80,28 +87,20 @@ impl<'a, S: Stream, K: Keep, T: Wait> KeptStream<'a, S, K, T> {
         outcome
     }
 
-    /// Of how many events it may tell at most: of those that the trail had at the last turn of its thread.
-    fn events(&self) -> u64 {
-        match self.keep.events(self.place.thread) {
-            Some(noted) => noted.load(Ordering::SeqCst),
-            None => u64::MAX,
-        }
-    }
-
-    /// Asks to have so many events kept, and waits at a desk as long as it is not decided what came of it. Where memory
+    /// Asks to have these events kept, and waits at a desk as long as it is not decided what came of it. Where memory
     /// is refused for that the thread waits.
-    fn ask_at(&mut self, desk: &Desk, events: u64) -> Option<Result<Receipt, JournalFault>>
+    fn ask_at(&mut self, desk: &Desk, extent: &Extent) -> Option<Result<Receipt, JournalFault>>
         ensures shows { IfSome result (λ outcome. IfOk outcome K.shows) }
         ensures end { self.new.end ≡ self.old.end }
     {
-        if let Some(receipt) = self.keep.receipt_of(self.rt, events) {
+        if let Some(receipt) = self.keep.receipt_of(self.rt, extent) {
             return Some(Ok(receipt));
         }
         let number = self.keep.ask();
         // who is to be told stands there before it is wanted, so no thread is left asleep
         match desk.add(self.rt, number, self.place.connection) {
             Ok(()) => self.look(number),
-            Err(_refused) => Some(self.keep.keep_up(self.rt, self.alloc, events)),
+            Err(_refused) => Some(self.keep.keep_up(self.rt, self.alloc, extent)),
         }
     }
 
@@ -113,10 +112,10 @@ impl<'a, S: Stream, K: Keep, T: Wait> KeptStream<'a, S, K, T> {
         if let Some(number) = self.asked {
             return self.look(number);
         }
-        let events = self.events();
+        let extent = self.horizon.extent();
         match self.keep.desk(self.place.thread) {
-            Some(desk) if !desk.is_alone() => self.ask_at(desk, events),
-            Some(_) | None => Some(self.keep.keep_up(self.rt, self.alloc, events)),
+            Some(desk) if !desk.is_alone() => self.ask_at(desk, &extent),
+            Some(_) | None => Some(self.keep.keep_up(self.rt, self.alloc, &extent)),
         }
     }
 }

@@ -1,5 +1,7 @@
 //! A gate, a journal of it, and what the tests ask of both.
 ghost use Rattle.std.specs.Prelude.{◌≡◌, [], false, Ok};
+ghost use Rattle.bl_disk.specs.File.{seen};
+ghost use Rattle.bl_disk_tests.specs.OfTorn.{torn_now};
 ghost use Rattle.bl_gate.specs.Gates.{Follows, hall_seen};
 ghost use Rattle.bl_keeper.specs.Keeping.{HasKept};
 ghost use Rattle.bl_setup.specs.declared.version.Version.TheVariants.{Two};
@@ -11,7 +13,9 @@ use bl_disk_tests::torn::Torn;
 use bl_gate::gate::Gate;
 use bl_gate::pass::Pass;
 use bl_hall::hall::Hall;
-use bl_keeper::desk::{Desks, Place};
+use bl_keeper::desk::Desks;
+use bl_keeper::keep::Keep;
+use bl_keeper::lines::ThreadLines;
 use bl_policy::id::SubjectId;
 use bl_record::journal::{Journal, begin};
 use bl_setup::reader::read_setup;
@@ -47,7 +51,7 @@ pub(super) fn right<T, E>(rt: &impl Abort, outcome: Result<T, E>) -> T
 
 /// A gate, the pass with all its parts, and a journal that keeps up with it.
 #[derive(Drop)]
-pub(super) struct Begun<D: Device> {
+pub(super) struct Begun<D> {
     pub(super) gate: Gate,
     pub(super) pass: Pass,
     pub(super) journal: Journal<D>,
@@ -70,7 +74,8 @@ fn base_gate<R: AllocGlobal + Abort>(rt: &R) -> (Gate, Pass)
 
 /// A gate over the base setup, in whose hall nothing has happened, and its journal in this file.
 pub(super) fn begin_in<D: Device + Drop, R: AllocGlobal + Abort>(rt: &R, device: D) -> Begun<D>
-    requires { D.has_failed device ≡ false }
+    requires sound { D.has_failed device ≡ false }
+    requires empty { seen (D.now device) ≡ [] }
     ensures gate { result.pass.gate ≡ result.gate }
     ensures parts { result.pass.parts ≡ 64 }
     ensures sound { D.has_failed result.journal.log.device ≡ false }
@@ -105,7 +110,8 @@ fn text_of<R: AllocGlobal + Abort>(rt: &R, sessions: usize) -> Vec<u8> {
 
 /// A file in memory with room for so many bytes, of which so many syncs succeed.
 pub(super) fn torn<R: AllocGlobal + Abort>(rt: &R, room: usize, syncs: usize) -> Torn
-    ensures { result.failed ≡ false }
+    ensures sound { result.failed ≡ false }
+    ensures empty { seen (torn_now result) ≡ [] }
 {
     right(rt, Torn::new(rt.alloc(), b"", room, syncs))
 }
@@ -149,8 +155,11 @@ pub(super) fn no_desks<R: AllocGlobal>(rt: &R) -> Desks {
     Desks::new(rt.alloc(), 0, false)
 }
 
-/// The place of the first connection of the first thread.
-pub(super) const FIRST: Place = Place {
-    thread: 0,
-    connection: 1,
-};
+/// The lines of a thread.
+pub(super) fn lines_of<'a, K: Keep, R: AllocGlobal + Wait>(
+    rt: &'a R,
+    keep: &'a K,
+    thread: usize,
+) -> ThreadLines<'a, K, R> {
+    ThreadLines::new(rt, rt.alloc(), keep, thread)
+}

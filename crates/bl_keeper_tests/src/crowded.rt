@@ -2,7 +2,7 @@
 use super::base::{HEAD, OPENED};
 use bl_core::session::SessionNo;
 use bl_disk::device::{Device, DeviceError};
-use bl_disk::memory::Memory;
+use bl_disk_tests::memory::Memory;
 use std::alloc::Global;
 use std::rt::Clock;
 use std::sync::atomic::{AtomicU64, Ordering};
@@ -104,8 +104,14 @@ pub(super) struct Crowded<'a, R> {
 }
 
 impl<'a, R> Crowded<'a, R> {
+    ghost use Rattle.std.specs.Prelude.{◌≡◌, []};
+    ghost use Rattle.bl_disk.specs.File.{seen};
+    ghost use Rattle.bl_disk_tests.specs.InMemory.{memory_now};
+
     /// A file with nothing in it.
-    pub(super) fn new(rt: &'a R, alloc: Global, meeting: &'a Meeting) -> Crowded<'a, R> {
+    pub(super) fn new(rt: &'a R, alloc: Global, meeting: &'a Meeting) -> Crowded<'a, R>
+        ensures { seen (memory_now result.memory) ≡ [] }
+    {
         Crowded {
             rt,
             memory: Memory::new(alloc, Vec::new(alloc)),
@@ -116,7 +122,9 @@ impl<'a, R> Crowded<'a, R> {
 
 impl<R: Clock> Device for Crowded<'_, R> {
     ghost use Rattle.std.specs.Prelude.{false};
-    ghost use Rattle.bl_disk.specs.InMemory.{memory_now, memory_past};
+    ghost use Rattle.bl_disk_tests.specs.InMemory.{memory_now, memory_past};
+
+    type Synced = ();
 
     ghost now = { λ crowded. memory_now crowded.memory };
 

@@ -4,16 +4,19 @@ ghost use Rattle.bl_gate.specs.Gates.{hall_seen};
 ghost use Rattle.bl_keeper.specs.Keeping.{HasKept};
 
 use super::base::{
-    Begun, assert_failed, assert_lines, assert_sound, assert_write, begin_in, open, to_list, torn,
+    Begun, assert_failed, assert_lines, assert_sound, assert_write, begin_in, lines_of, open,
+    to_list, torn,
 };
 use bl_connection::stream::{Answer, Ends};
 use bl_disk::device::{Device, DeviceError};
 use bl_disk_tests::torn::Torn;
 use bl_gate::gate::Gate;
 use bl_gate::pass::Pass;
-use bl_keeper::desk::{Desk, Desks, Place};
+use bl_horizon::horizon::TurnEvents;
+use bl_keeper::desk::{Desk, Desks};
 use bl_keeper::keep::Keep;
 use bl_keeper::keeper::Keeper;
+use bl_keeper::lines::ThreadLines;
 use bl_keeper::stream::KeptStream;
 use bl_keeper::which::Which;
 use bl_record::fault::JournalFault;
@@ -22,21 +25,9 @@ use std::alloc::AllocGlobal;
 use std::marker::Brand;
 use std::process::Abort;
 use std::sync::Wait;
-use std::sync::atomic::Ordering;
 
 /// A stream to a list.
 type ToList<'a, K, R> = KeptStream<'a, Ends<&'static [u8], Vec<u8>>, K, R>;
-
-/// A stream of a thread, with this number.
-fn stream_of<'a, K: Keep, R: AllocGlobal + Wait>(
-    rt: &'a R,
-    keep: &'a K,
-    thread: usize,
-    connection: u32,
-) -> ToList<'a, K, R> {
-    let place = Place { thread, connection };
-    KeptStream::new(rt, rt.alloc(), keep, place, to_list(rt))
-}
 
 /// A text is written to a stream, and refused with this fault.
 fn assert_refused<K: Keep, R: Abort + Wait>(
@@ -55,20 +46,29 @@ fn assert_told<K: Keep, R: Abort + Wait>(rt: &R, stream: ToList<'_, K, R>, text:
     assert!(rt; ends.writer.as_slice() == text);
 }
 
-/// The desk of the first thread.
-fn first_desk<'a, K: Keep>(rt: &impl Abort, keep: &'a K) -> &'a Desk {
-    match keep.desk(0) {
+/// The desk of a thread.
+fn desk_of<'a, K: Keep, R: Abort + Wait>(rt: &R, lines: &'a ThreadLines<'_, K, R>) -> &'a Desk {
+    match lines.desk() {
         Some(desk) => desk,
         None => panic!(rt; "no desk"),
     }
 }
 
-/// Notes that the trail had so many events at the last turn of the first thread.
-fn note_events<K: Keep>(rt: &impl Abort, keep: &K, events: u64) {
-    match keep.events(0) {
-        Some(seen) => seen.store(events, Ordering::SeqCst),
-        None => panic!(rt; "nothing is noted"),
-    }
+/// The thread of these lines has a turn at the gate, and notes how many events the trail has: so many.
+fn take_turn<K: Keep, R: Abort + Wait>(
+    rt: &R,
+    gate: &Gate,
+    pass: &mut Pass,
+    lines: &ThreadLines<'_, K, R>,
+    events: usize,
+)
+    requires { pass.old.gate ≡ gate.now }
+    ensures { pass.new.gate ≡ pass.old.gate }
+{
+    let turn = gate.turn(rt, pass.take());
+    let noted = lines.horizon().note(TurnEvents::of(&turn));
+    *pass = turn.leave();
+    assert!(rt; noted.events() == events);
 }
 
 /// Serves all that wait at a desk: for all that have asked with a smaller number than this it is decided what came of
@@ -103,11 +103,16 @@ fn close<K: Keep, R: AllocGlobal + Abort + Wait>(rt: &R, keep: &K) {
 }
 
 /// Two connections write once each, and wait; then they are served at once, and each writes. What tells of no later
-/// event is written at once, and what does waits again. Then nobody will wait any more.
-fn wait_both<K: Keep, R: AllocGlobal + Abort + Wait>(rt: &R, keep: &K) {
-    let desk = first_desk(rt, keep);
-    let mut one = stream_of(rt, keep, 0, 7);
-    let mut two = stream_of(rt, keep, 0, 9);
+/// event is written at once, whatever another thread has seen, and what does waits again. Then nobody will wait any
+/// more.
+fn wait_both<K: Keep, R: AllocGlobal + Abort + Wait>(rt: &R, gate: &Gate, keep: &K, pass: &mut Pass)
+    requires { pass.old.gate ≡ gate.now }
+    ensures { pass.new.gate ≡ pass.old.gate }
+{
+    let (lines, others) = (lines_of(rt, keep, 0), lines_of(rt, keep, 1));
+    let desk = desk_of(rt, &lines);
+    let mut one = lines.line(7, to_list(rt));
+    let mut two = lines.line(9, to_list(rt));
     assert_write(rt, &mut one, b"one\n", Answer::WouldBlock);
     assert_write(rt, &mut one, b"one\n", Answer::WouldBlock);
     assert_write(rt, &mut two, b"two\n", Answer::WouldBlock);
@@ -115,9 +120,11 @@ fn wait_both<K: Keep, R: AllocGlobal + Abort + Wait>(rt: &R, keep: &K) {
     assert_write(rt, &mut one, b"one\n", Answer::Moved(4));
     assert_write(rt, &mut two, b"two\n", Answer::Moved(4));
     assert_write(rt, &mut one, b"more\n", Answer::WouldBlock);
-    note_events(rt, keep, 1);
+    take_turn(rt, gate, pass, &lines, 1);
+    open(rt, gate, pass);
+    take_turn(rt, gate, pass, &others, 2);
     assert_write(rt, &mut two, b"no more\n", Answer::Moved(8));
-    note_events(rt, keep, 2);
+    take_turn(rt, gate, pass, &lines, 2);
     assert_write(rt, &mut two, b"later\n", Answer::WouldBlock);
     close(rt, keep);
     assert_told(rt, one, b"one\n");
@@ -126,9 +133,10 @@ fn wait_both<K: Keep, R: AllocGlobal + Abort + Wait>(rt: &R, keep: &K) {
 
 /// Two connections wait, and both are refused with this fault, and all that ask later.
 fn refuse_both<K: Keep, R: AllocGlobal + Abort + Wait>(rt: &R, keep: &K, fault: JournalFault) {
-    let desk = first_desk(rt, keep);
-    let mut one = stream_of(rt, keep, 0, 7);
-    let mut two = stream_of(rt, keep, 0, 9);
+    let lines = lines_of(rt, keep, 0);
+    let desk = desk_of(rt, &lines);
+    let mut one = lines.line(7, to_list(rt));
+    let mut two = lines.line(9, to_list(rt));
     assert_write(rt, &mut one, b"one\n", Answer::WouldBlock);
     assert_write(rt, &mut two, b"two\n", Answer::WouldBlock);
     assert_both_next(rt, desk, serve(rt, keep));
@@ -145,24 +153,14 @@ fn assert_one_next<R: Abort + Wait>(rt: &R, desk: &Desk, other: &Desk, decided: 
     assert!(rt; other.next(rt, decided).is_none());
 }
 
-/// The desk of the second thread, which has no other connection.
-fn alone_desk<'a, K: Keep>(rt: &impl Abort, keep: &'a K) -> &'a Desk {
-    match keep.desk(1) {
-        Some(other) => {
-            other.set_alone(true);
-            other
-        }
-        None => panic!(rt; "no desk"),
-    }
-}
-
 /// Who is all that its thread has to look after has the journal keep up itself, and serves who waits at another desk,
 /// whose thread is told.
 fn wait_alone<K: Keep, R: AllocGlobal + Abort + Wait>(rt: &R, keep: &K) {
-    let desk = first_desk(rt, keep);
-    let other = alone_desk(rt, keep);
-    let mut one = stream_of(rt, keep, 0, 7);
-    let mut two = stream_of(rt, keep, 1, 9);
+    let (lines, others) = (lines_of(rt, keep, 0), lines_of(rt, keep, 1));
+    let (desk, other) = (desk_of(rt, &lines), desk_of(rt, &others));
+    other.set_alone(true);
+    let mut one = lines.line(7, to_list(rt));
+    let mut two = others.line(9, to_list(rt));
     assert_write(rt, &mut one, b"one\n", Answer::WouldBlock);
     assert_write(rt, &mut two, b"two\n", Answer::Moved(4));
     assert_one_next(rt, desk, other, serve(rt, keep));
@@ -177,9 +175,18 @@ enum Trial {
 }
 
 /// Tries so with a keeper.
-fn try_so<K: Keep, R: AllocGlobal + Abort + Wait>(rt: &R, keep: &K, trial: Trial) {
+fn try_so<K: Keep, R: AllocGlobal + Abort + Wait>(
+    rt: &R,
+    gate: &Gate,
+    keep: &K,
+    pass: &mut Pass,
+    trial: Trial,
+)
+    requires { pass.old.gate ≡ gate.now }
+    ensures { pass.new.gate ≡ pass.old.gate }
+{
     match trial {
-        Trial::Waits => wait_both(rt, keep),
+        Trial::Waits => wait_both(rt, gate, keep, pass),
         Trial::IsRefused(fault) => refuse_both(rt, keep, fault),
         Trial::IsAlone => wait_alone(rt, keep),
     }
@@ -201,7 +208,7 @@ fn try_with<G: Which, D: Device, R: AllocGlobal + Abort + Wait>(
     let part = gate.split_pass(&mut pass);
     let keeper = Keeper::<G, D>::new(gate, part, journal, Desks::new(rt.alloc(), 2, true));
     open(rt, gate, &mut pass);
-    try_so(rt, &keeper, trial);
+    try_so(rt, gate, &keeper, &mut pass, trial);
     let (journal, part) = keeper.finish();
     gate.meet(&mut pass, part);
     drop(pass);

@@ -4,14 +4,15 @@ ghost use Rattle.bl_gate.specs.Gates.{hall_seen};
 ghost use Rattle.bl_keeper.specs.Keeping.{HasKept};
 
 use super::base::{
-    Begun, FIRST, HEAD, OPENED, assert_failed, assert_lines, assert_sound, assert_write, begin_in,
-    no_desks, open, right, to_list, torn,
+    Begun, HEAD, OPENED, assert_failed, assert_lines, assert_sound, assert_write, begin_in,
+    lines_of, no_desks, open, right, to_list, torn,
 };
 use bl_connection::stream::{Answer, Stream};
 use bl_disk::device::{Device, DeviceError};
 use bl_disk_tests::torn::Torn;
 use bl_gate::gate::Gate;
 use bl_gate::pass::Pass;
+use bl_horizon::horizon::Horizon;
 use bl_keeper::keep::{Keep, NoKeep};
 use bl_keeper::keeper::Keeper;
 use bl_keeper::receipt::Receipt;
@@ -27,7 +28,7 @@ use std::sync::Wait;
 /// What came of three writes, each after a session was opened: the journal, what was written, and how often that was
 /// refused.
 #[derive(Drop)]
-struct Written<D: Device> {
+struct Written<D> {
     journal: Journal<D>,
     told: Vec<u8>,
     refused: u32,
@@ -58,7 +59,8 @@ fn write_each<K: Keep, R: AllocGlobal + Abort + Wait>(
     requires { pass.old.gate ≡ gate.now }
     ensures { pass.new.gate ≡ pass.old.gate }
 {
-    let mut stream = KeptStream::new(rt, rt.alloc(), keep, FIRST, to_list(rt));
+    let lines = lines_of(rt, keep, 0);
+    let mut stream = lines.line(1, to_list(rt));
     let mut refused = 0;
     for _ in 0..3u32 {
         open(rt, gate, pass);
@@ -162,7 +164,7 @@ fn keep_twice<G: Which, D: Device, R: AllocGlobal + Abort + Wait>(
     let keeper = Keeper::<G, D>::new(gate, part, journal, no_desks(rt));
     open(rt, gate, &mut pass);
     for _ in 0..2u32 {
-        drop(right(rt, keeper.keep_up(rt, rt.alloc(), u64::MAX)));
+        drop(right(rt, keeper.keep_up(rt, rt.alloc(), &Horizon::new().extent())));
     }
     let (journal, part) = keeper.finish();
     gate.meet(&mut pass, part);
@@ -184,7 +186,12 @@ fn keep_twice_in<R: AllocGlobal + Abort + Wait>(rt: &R, syncs: usize) -> Journal
 
 /// What is kept by nobody gets a receipt for nothing.
 fn assert_nothing_kept<R: AllocGlobal + Abort + Wait>(rt: &R) {
-    assert!(rt; matches!(NoKeep.keep_up(rt, rt.alloc(), 0), Ok(Receipt::Nothing)));
+    assert!(rt;
+        matches!(
+            NoKeep.keep_up(rt, rt.alloc(), &Horizon::new().extent()),
+            Ok(Receipt::Nothing)
+        )
+    );
 }
 
 /// All was written, and nothing refused.
@@ -197,7 +204,8 @@ fn assert_all_written(rt: &impl Abort, told: &[u8], refused: Option<JournalFault
 #[test]
 fn all_is_written_where_nothing_is_to_be_kept(rt: HostRuntime) {
     assert_nothing_kept(&rt);
-    let mut stream = KeptStream::new(&rt, rt.alloc(), &NoKeep, FIRST, to_list(&rt));
+    let lines = lines_of(&rt, &NoKeep, 0);
+    let mut stream = lines.line(1, to_list(&rt));
     assert_write(&rt, &mut stream, b"ok\n", Answer::Moved(3));
     let (ends, refused) = stream.into_parts();
     assert_all_written(&rt, ends.writer.as_slice(), refused);

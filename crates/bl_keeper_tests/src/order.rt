@@ -1,10 +1,10 @@
 //! Nothing is written before it was kept.
-use super::base::{FIRST, assert_write};
+use super::base::{assert_write, lines_of};
 use bl_connection::stream::{Answer, Stream};
+use bl_horizon::horizon::{Extent, Horizon};
 use bl_keeper::desk::Desk;
 use bl_keeper::keep::Keep;
 use bl_keeper::receipt::Receipt;
-use bl_keeper::stream::KeptStream;
 use bl_record::fault::JournalFault;
 use std::alloc::Global;
 use std::process::Abort;
@@ -29,23 +29,18 @@ impl Keep for Counts {
         &self,
         rt: &R,
         alloc: Global,
-        events: u64,
+        extent: &Extent,
     ) -> Result<Receipt, JournalFault> {
-        let _ = events;
+        let _ = extent;
         let _ = rt;
         let _ = alloc;
         self.kept.fetch_add(1, Ordering::SeqCst);
         Ok(Receipt::Nothing)
     }
 
-    fn receipt_of<R: Wait>(&self, rt: &R, events: u64) -> Option<Receipt> {
+    fn receipt_of<R: Wait>(&self, rt: &R, extent: &Extent) -> Option<Receipt> {
         let _ = rt;
-        let _ = events;
-        None
-    }
-
-    fn events(&self, thread: usize) -> Option<&AtomicU64> {
-        let _ = thread;
+        let _ = extent;
         None
     }
 
@@ -64,7 +59,8 @@ impl Keep for Counts {
         alloc: Global,
         number: u64,
     ) -> Option<Result<Receipt, JournalFault>> {
-        Some(self.keep_up(rt, alloc, number))
+        let _ = number;
+        Some(self.keep_up(rt, alloc, &Horizon::new().extent()))
     }
 
     fn decided<R: Wait>(&self, rt: &R) -> u64 {
@@ -130,7 +126,8 @@ fn each_write_comes_after_a_keep_of_its_own(rt: HostRuntime) {
         writes: 0,
         in_order: true,
     };
-    let mut stream = KeptStream::new(&rt, rt.alloc(), &counts, FIRST, notes);
+    let lines = lines_of(&rt, &counts, 0);
+    let mut stream = lines.line(1, notes);
     for _ in 0..3u32 {
         assert_write(&rt, &mut stream, b"ok\n", Answer::Moved(3));
     }

@@ -8,6 +8,7 @@ use super::crowded::{Crowded, Meeting};
 use bl_disk::device::Device;
 use bl_gate::gate::Gate;
 use bl_gate::pass::Pass;
+use bl_horizon::horizon::Horizon;
 use bl_keeper::keep::Keep;
 use bl_keeper::keeper::Keeper;
 use bl_keeper::which::Which;
@@ -36,7 +37,7 @@ fn open_and_keep<K: Keep, R: AllocGlobal + Abort + Wait>(
     for _ in 0..TIMES {
         let session = open(rt, gate, &mut pass);
         meeting.ask();
-        drop(right(rt, keep.keep_up(rt, rt.alloc(), u64::MAX)));
+        drop(right(rt, keep.keep_up(rt, rt.alloc(), &Horizon::new().extent())));
         meeting.answer();
         assert!(rt; meeting.has_kept(session));
     }
@@ -112,6 +113,8 @@ fn keep_all<
     D: Device + Send + Drop,
     R: AllocGlobal + Abort + Threads + Wait + Sync,
 >(rt: &R, gate: &Gate, mut pass: Pass, journal: Journal<D>, meeting: &Meeting)
+where
+    D::Synced: Send,
     requires gate { (gate.now ≡ G.gate) × (pass.gate ≡ G.gate) }
     requires parts { pass.parts ≡ 64 }
     requires sound { D.has_failed journal.log.device ≡ false }

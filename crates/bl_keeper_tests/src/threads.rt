@@ -5,10 +5,11 @@ ghost use Rattle.bl_keeper.specs.Keeping.{HasKept};
 
 use super::base::{Begun, assert_lines, assert_sound, begin_in, no_desks, open, right};
 use bl_disk::device::Device;
-use bl_disk::memory::{Memory, Moment};
+use bl_disk_tests::memory::{Memory, Moment};
 use bl_gate::gate::Gate;
 use bl_gate::pass::Pass;
 use bl_hall::hall::Hall;
+use bl_horizon::horizon::Horizon;
 use bl_keeper::keep::Keep;
 use bl_keeper::keeper::Keeper;
 use bl_keeper::which::Which;
@@ -36,7 +37,7 @@ fn open_and_keep<K: Keep, R: AllocGlobal + Abort + Wait>(
 {
     for _ in 0..times {
         open(rt, gate, &mut pass);
-        drop(right(rt, keep.keep_up(rt, rt.alloc(), u64::MAX)));
+        drop(right(rt, keep.keep_up(rt, rt.alloc(), &Horizon::new().extent())));
     }
     pass
 }
@@ -73,6 +74,8 @@ fn keep_both<
     D: Device + Send,
     R: AllocGlobal + Abort + Threads + Wait + Sync,
 >(rt: &R, gate: &Gate, mut pass: Pass, journal: Journal<D>) -> (Journal<D>, Pass)
+where
+    D::Synced: Send,
     requires gate { (gate.now ≡ G.gate) × (pass.gate ≡ G.gate) }
     requires parts { pass.parts ≡ 64 }
     requires sound { D.has_failed journal.log.device ≡ false }

@@ -1,20 +1,21 @@
 //! Writes notes as lines.
-ghost use Rattle.std.specs.Prelude.{◌≡◌, ◌++◌, ◌&&◌, false, not, codes, decimal};
+ghost use Rattle.std.specs.Prelude.{◌≡◌, ◌++◌, ◌&&◌, ◌||◌, false, not, codes, decimal};
 ghost use Rattle.bl_wire.specs.Watch.{Puts, end_state};
-ghost use Rattle.bl_log.specs.Lines.{event_text, note_text};
-ghost use Rattle.bl_log.specs.Logs.{HasNoted};
+ghost use Rattle.bl_log.specs.Lines.{bound_word, event_text, note_text, server_text};
+ghost use Rattle.bl_log.specs.Logs.{HasNoted, HasNotedServer};
 
-use crate::note::{Event, Note};
+use crate::note::{Bound, Event, Note, ServerEvent, ServerNote};
 use crate::time::time_text;
 use bl_wire::put::{put, put_number, put_out};
 use bl_wire::watched::Watched;
 use itoa::Buffer;
 use std::io::Write;
 
-/// A log. Once its writer has failed nothing more is written.
+/// A log, and whether it was told that its writer has failed. Once that has nothing more is written.
 #[derive(Drop)]
 pub struct Log<W> {
     end: Watched<W>,
+    told: bool,
 }
 
 /// Writes a count in decimal.
@@ -37,16 +38,26 @@ fn put_greeting<W: Write>(end: &mut Watched<W>, subject: &str, session: u32)
 }
 
 /// Writes what is said of an end.
-fn put_end<W: Write>(end: &mut Watched<W>, lines: u64, events: u64, how: &str)
-    ensures { Puts (codes "ended lines " ++ decimal lines ++ codes " events " ++ decimal events ++ codes " " ++ how.now)
-        (end_state W.contents end.old) (end_state W.contents end.new) }
+fn put_end<W: Write>(end: &mut Watched<W>, lines: u64, refused: u64, events: u64, how: &str)
+    ensures { Puts (codes "ended lines " ++ decimal lines ++ codes " refused " ++ decimal refused ++ codes " events "
+        ++ decimal events ++ codes " " ++ how.now) (end_state W.contents end.old) (end_state W.contents end.new) }
 {
     put(end, b"ended lines ");
     put_count(end, lines);
+    put(end, b" refused ");
+    put_count(end, refused);
     put(end, b" events ");
     put_count(end, events);
     put(end, b" ");
     put(end, how.as_bytes());
+}
+
+/// Writes what is said of a greeting that was refused.
+fn put_refusal<W: Write>(end: &mut Watched<W>, name: &str)
+    ensures { Puts (codes "refused " ++ name.now) (end_state W.contents end.old) (end_state W.contents end.new) }
+{
+    put(end, b"refused ");
+    put(end, name.as_bytes());
 }
 
 /// Writes what is said of an event.
@@ -58,7 +69,13 @@ fn put_event<W: Write>(end: &mut Watched<W>, event: &Event<'_>)
             put(end, b"came");
         }
         Event::Greeted { subject, session } => put_greeting(end, subject, *session),
-        Event::Ended { lines, events, how } => put_end(end, *lines, *events, how),
+        Event::Refused { name } => put_refusal(end, name),
+        Event::Ended {
+            lines,
+            refused,
+            events,
+            how,
+        } => put_end(end, *lines, *refused, *events, how),
     }
 }
 
@@ -73,6 +90,73 @@ fn put_note<W: Write>(end: &mut Watched<W>, note: &Note<'_>)
     put_event(end, &note.event);
 }
 
+/// Writes a word and a count.
+fn put_counted<W: Write>(end: &mut Watched<W>, word: &[u8], count: u64)
+    ensures { Puts (word.now ++ decimal count) (end_state W.contents end.old) (end_state W.contents end.new) }
+{
+    put(end, word);
+    put_count(end, count);
+}
+
+/// Writes what is said of an event of the server.
+fn put_server_event<W: Write>(end: &mut Watched<W>, event: &ServerEvent<'_>)
+    ensures { Puts (server_text event.now) (end_state W.contents end.old) (end_state W.contents end.new) }
+{
+    match event {
+        ServerEvent::Started {
+            version,
+            limit,
+            sessions,
+            clients,
+            trail_limit,
+        } => {
+            put(end, b"started ");
+            put(end, version.as_bytes());
+            put_counted(end, b" limit ", u64::from(*limit));
+            put_counted(end, b" sessions ", u64::from(*sessions));
+            put_counted(end, b" clients ", u64::from(*clients));
+            put_counted(end, b" trail-limit ", u64::from(*trail_limit));
+        }
+        ServerEvent::Resumed { events, cut } => {
+            put_counted(end, b"resumed events ", *events);
+            put_counted(end, b" cut ", *cut);
+        }
+        ServerEvent::Full(bound) => {
+            put(end, b"full ");
+            put(end, bound.word());
+        }
+        ServerEvent::CutShort => {
+            put(end, b"trail cut short");
+        }
+        ServerEvent::Ended { why } => {
+            put(end, b"ended ");
+            put(end, why.as_bytes());
+        }
+    }
+}
+
+/// Writes the line of a note of the server, and hands it on.
+fn put_server_line<W: Write>(end: &mut Watched<W>, note: &ServerNote<'_>)
+    ensures { HasNotedServer note.now (end_state W.contents end.old) (end_state W.contents end.new) }
+{
+    put(end, time_text(note.time).as_bytes());
+    put(end, b" server ");
+    put_server_event(end, &note.event);
+    put_out(end, b"\n");
+}
+
+impl Bound {
+    /// The word for it.
+    fn word(self) -> &'static [u8]
+        ensures { result.now ≡ bound_word self }
+    {
+        match self {
+            Bound::Limit => b"limit",
+            Bound::Trail => b"trail",
+        }
+    }
+}
+
 impl<W: Write> Log<W> {
     /// A log over a writer, of which no call has failed.
     pub fn new(writer: W) -> Log<W>
@@ -81,6 +165,7 @@ impl<W: Write> Log<W> {
     {
         Log {
             end: Watched::new(writer),
+            told: false,
         }
     }
 
@@ -96,6 +181,23 @@ impl<W: Write> Log<W> {
         put_note(&mut self.end, note);
         put_out(&mut self.end, b"\n");
         !failed && self.end.failed()
+    }
+
+    /// Writes the line of a note of the server, and hands it on. A writer that failed before is not called.
+    pub fn note_server(&mut self, note: &ServerNote<'_>)
+        ensures { HasNotedServer note.now (end_state W.contents self.old.end) (end_state W.contents self.new.end) }
+    {
+        put_server_line(&mut self.end, note);
+    }
+
+    /// Whether its writer has failed, so that it lacks lines, and that was not asked since: it is to be told once.
+    pub fn take_cut(&mut self) -> bool
+        ensures is { result ≡ (self.old.end.failed && not self.old.told) }
+        ensures told { self.new ≡ record self.old { told = self.old.told || self.old.end.failed } }
+    {
+        let is_cut = self.end.failed() && !self.told;
+        self.told |= is_cut;
+        is_cut
     }
 
     /// Whether its writer has failed, so that it lacks lines.

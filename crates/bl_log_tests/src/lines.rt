@@ -33,6 +33,7 @@ fn a_connection_is_logged(rt: HostRuntime) -> Result<(), Fail> {
     assert!(rt;
         !log.note(&note(Event::Ended {
             lines: 4,
+            refused: 1,
             events: 17,
             how: "bye"
         }))
@@ -41,7 +42,7 @@ fn a_connection_is_logged(rt: HostRuntime) -> Result<(), Fail> {
         log.into_inner().as_slice()
             == b"2024-06-10T06:13:20.005Z 3 127.0.0.1:40112 came\n\
         2024-06-10T06:13:20.005Z 3 127.0.0.1:40112 hello ann session 2\n\
-        2024-06-10T06:13:20.005Z 3 127.0.0.1:40112 ended lines 4 events 17 bye\n"
+        2024-06-10T06:13:20.005Z 3 127.0.0.1:40112 ended lines 4 refused 1 events 17 bye\n"
                 .as_slice()
     );
     Ok(())

@@ -45,11 +45,11 @@ pub record IsOld (setup : Setup) (text : List ℕ) : Type 0 where
   pub rest : List ℕ
   pub split : text ≡ joined (head_lines One limit) ++ rest
 
--- a line is the first of the text that is not right; where it is one of the head, of which there are two, no journal is
--- recovered
+-- a line of the head, of which there are two, is the first of the text that is not right; so no journal is recovered
 pub record IsHeadless (setup : Setup) (text : List ℕ) (line : ℕ) : Type 0 where
   pub wrong : FirstWrong setup text line
-  pub none : line ≤ 2 → (journal : Journal) → IsRecovered setup text journal → ⊥
+  pub of_head : line ≤ 2
+  pub none : (journal : Journal) → IsRecovered setup text journal → ⊥
 
 -- why there is no hall of the text
 abbrev pub IsNotRebuilt : Setup → List ℕ → RebuildFault → Type 0

@@ -4,8 +4,8 @@ use std::alloc::AllocError;
 /// Why no hall is rebuilt of a text.
 #[derive(Clone, Copy, Debug, PartialEq, Eq)]
 pub enum RebuildFault {
-    /// The head is torn or wrong: this line of the text, counted from 1, is the first that is not right. Where it is 1
-    /// or 2, no journal is recovered of the text; that it is, no clause says.
+    /// The head is torn or wrong: this line of the text, counted from 1, is the first that is not right. It is 1 or 2,
+    /// and no journal is recovered of the text.
     Head(u64),
     /// The head is right, and the trail is of version 1: no hall is of that version.
     OldVersion,

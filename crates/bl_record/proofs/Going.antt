@@ -1,5 +1,6 @@
 -- A hall goes on event by event, and comes nearer to its end.
-use Rattle.std.proofs.Common.{◌≡◌, ℕ, suc, ◌+◌, ◌*◌, ◌≤◌, Bool, true, false, List, [], ◌∷◌, ◌++◌, length, refl, sym, ◌∙◌, ap, subst, arith, append_assoc, length-append, length-set, inl, inr, ◌⊎◌}
+use Rattle.std.proofs.Common.{◌≡◌, ℕ, suc, ◌+◌, ◌*◌, ◌≤◌, Bool, true, false, List, [], ◌∷◌, ◌++◌, length, refl, sym, ◌∙◌, ap, subst, arith, append_assoc, append-nil, length-append, length-set, inl, inr, ◌⊎◌}
+use Rattle.std.specs.List.{AllByRecursion}
 use Rattle.std.specs.Prelude.{IsTrue}
 use Rattle.bl_audit.proofs.Trails.{limit-now}
 use Rattle.bl_hall.proofs.Happening.{happened-next, most-happened}
@@ -9,17 +10,30 @@ use Rattle.bl_hall.specs.Chronicle.{Chronicle, HasTrail, state_now, with_event}
 use Rattle.bl_order.specs.Headline.{Holds, IsReached}
 use Rattle.bl_order.specs.Machine.{State, Event, Opens, Admits, Starts, Ends, Loses, IsTrail, MayStart, Needs, Session, change, has_ended, most_sessions, runs, session_at, start, state_after}
 use Rattle.bl_order.specs.Standing.{HaveAllEnded}
-use Rattle.bl_record.specs.Ending.{HasGoneOn}
+use Rattle.bl_record.specs.Ending.{HasGoneOn, IsOfRun}
 use Rattle.bl_record.specs.Nearing.{IsIdle, IsNearer}
 
-pub one-more : (a b : Chronicle) (e : Event) → b ≡ with_event a e → HasTrail b → HasGoneOn a b
-one-more a b e is trail = record {
+-- nothing has happened
+pub none-more : (a : Chronicle) → HasTrail a → HasGoneOn a a
+none-more a trail = record {
+  grown = record { setup = refl; limit = refl; more = []; trail = sym (append-nil a.trail) };
+  only = tt;
+  trail = trail;
+}
+
+all-both : (a b : List Event) → AllByRecursion IsOfRun a → AllByRecursion IsOfRun b → AllByRecursion IsOfRun (a ++ b)
+all-both [] b first second = second
+all-both (e ∷ a) b first second = (first.0, all-both a b first.1 second)
+
+pub one-more : (a b : Chronicle) (e : Event) → b ≡ with_event a e → HasTrail b → IsOfRun e → HasGoneOn a b
+one-more a b e is trail runs = record {
   grown = record {
     setup = ap (λ (h : Chronicle). h.setup) is;
     limit = ap (λ (h : Chronicle). h.limit) is;
     more = e ∷ [];
     trail = ap (λ (h : Chronicle). h.trail) is;
   };
+  only = (runs, tt);
   trail = trail;
 }
 
@@ -31,6 +45,7 @@ and-on a b c first second = record {
     more = first.grown.more ++ second.grown.more;
     trail = second.grown.trail ∙ ap (λ l. l ++ second.grown.more) first.grown.trail ∙ append_assoc a.trail first.grown.more second.grown.more;
   };
+  only = all-both first.grown.more second.grown.more first.only second.only;
   trail = second.trail;
 }
 

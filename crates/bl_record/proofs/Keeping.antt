@@ -1,5 +1,5 @@
 -- What a journal keeps.
-use Rattle.std.proofs.Common.{◌≡◌, ℕ, List, [], ◌++◌, length, sym, ◌∙◌, ap, subst, append-nil}
+use Rattle.std.proofs.Common.{◌≡◌, ℕ, List, [], ◌++◌, length, refl, sym, ◌∙◌, ap, subst, append_assoc, append-nil}
 use Rattle.std.specs.Prelude.{codes}
 use Rattle.std.specs.List.{AllByRecursion}
 use Rattle.bl_audit.specs.Bookmarks.{HasGrown, IsBookmark, texts_after}
@@ -121,6 +121,30 @@ module _ (h : Chronicle) (b : Bookmark) (file later : File) (kept : IsKept h b f
   pub closed-true : IsTrueText h.setup (journal_text h.setup (journal_of h) ++ codes "stop\n") (length h.trail) → IsTrueText h.setup (seen later) (length h.trail)
   closed-true true_text =
       subst (λ t. IsTrueText h.setup t (length h.trail)) (sym (append-nil (journal_text h.setup (journal_of h) ++ codes "stop\n")) ∙ ap seen (sym closed-text)) true_text
+
+-- what happened last was written, and then the line that closes it: as if one were after the other
+module _ (before hall : Chronicle) (from : Bookmark) (lines : Lines) (file later : File) (grown : HasGrown before hall) (kept : IsKept before from file)
+    (are : AreLines hall from lines) (is : later ≡ all_kept (seen file ++ (lines.text.items ++ codes "stop\n"))) where
+  mid : File
+  mid = all_kept (seen file ++ lines.text.items)
+
+  kept-mid : IsKept hall lines.bookmark mid
+  unfolding mid
+  kept-mid = written before hall from lines file mid grown kept are refl
+
+  as-after : later ≡ all_kept (seen mid ++ codes "stop\n")
+  unfolding mid
+  as-after =
+      is
+      ∙ ap all_kept (sym (append_assoc (seen file) lines.text.items (codes "stop\n")))
+      ∙ ap (λ t. all_kept (t ++ codes "stop\n")) (sym (append-nil (seen file ++ lines.text.items)))
+
+  pub last-text : later ≡ all_kept (journal_text hall.setup (journal_of hall) ++ codes "stop\n")
+  last-text = closed-text hall lines.bookmark mid later kept-mid as-after
+
+  pub last-true : (IsHistory hall.setup (journal_of hall) → IsTrueText hall.setup (journal_text hall.setup (journal_of hall) ++ codes "stop\n") (length hall.trail))
+      → IsTrueText hall.setup (seen later) (length hall.trail)
+  last-true law = closed-true hall lines.bookmark mid later kept-mid as-after (law kept-mid.history)
 
 -- the setup of a hall's core is the hall's
 pub setup-of : (h : Chronicle) (core : State) (s : Setup) → s ≡ core.setup → core ≡ state_now h → s ≡ h.setup

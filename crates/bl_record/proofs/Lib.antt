@@ -5,3 +5,4 @@ pub mod Idle
 pub mod Going
 pub mod Histories
 pub mod Resuming
+pub mod Causing

@@ -1,5 +1,5 @@
 -- What a journal has kept of a hall, and what a crash leaves of it.
-use Rattle.std.specs.Prelude.{◌≡◌, List, ℕ, length, Option, Some, None}
+use Rattle.std.specs.Prelude.{◌≡◌, List, ℕ, ◌++◌, codes, length, Option, Some, None}
 use Rattle.std.specs.List.{AllByRecursion}
 use Rattle.bl_audit.specs.Bookmarks.{IsBookmark, texts_after}
 use Rattle.bl_audit.specs.declared.bookmark.Bookmark.{Bookmark}
@@ -32,6 +32,10 @@ pub record AreLines (hall : Chronicle) (from : Bookmark) (lines : Lines) : Type 
   pub plain : AllByRecursion HasNoLf (texts_after hall from.written)
   pub bookmark : IsBookmark hall lines.bookmark
   pub all : lines.bookmark.written ≡ length hall.trail
+
+-- such lines, and then the one that closes a trail
+abbrev pub AreLastLines : Chronicle → Bookmark → List ℕ → Type 0
+AreLastLines hall from text = (lines : Lines) × AreLines hall from lines × (text ≡ lines.text.items ++ codes "stop\n")
 
 -- whatever a crash leaves of the file, the journal that is recovered of it goes on from this one
 abbrev pub LosesNothing : Setup → Journal → File → Type 0

@@ -1,4 +1,5 @@
 pub mod Kept
+pub mod Torn
 pub mod Ending
 pub mod Nearing
 pub mod Faults

@@ -1,5 +1,5 @@
 //! What the text of a journal's file leads to: its hall, in which all that was admitted has ended since.
-ghost use Rattle.std.specs.Prelude.{◌≡◌, false, IfErr, IfOk, OnOk};
+ghost use Rattle.std.specs.Prelude.{◌≡◌, Bool, false, IfErr, IfOk, OnOk};
 ghost use Rattle.bl_disk.specs.File.{seen};
 ghost use Rattle.bl_disk.specs.Moments.{Passes};
 ghost use Rattle.bl_hall.specs.Chronicle.{HasTrail, state_now};
@@ -7,6 +7,7 @@ ghost use Rattle.bl_order.specs.Standing.{HaveAllEnded};
 ghost use Rattle.bl_rebuild.specs.Unfinished.{loans_now};
 ghost use Rattle.bl_record.specs.Completing.{IsCompleted};
 ghost use Rattle.bl_record.specs.Ending.{HasGoneOn};
+ghost use Rattle.bl_record.specs.Faults.{IsRecoverCaused};
 ghost use Rattle.bl_record.specs.Recovering.{IsNotRecovered};
 
 use crate::ending::end_all;
@@ -54,6 +55,7 @@ fn finish(alloc: Global, hall: Hall, running: Vec<Unfinished>) -> Result<Hall, A
 fn complete(alloc: Global, setup: &Setup, text: &[u8]) -> Result<Completed, RecoverFault>
     ensures ok { IfOk result (IsCompleted setup.now text.now) }
     ensures err { IfErr result (IsNotRecovered setup.now text.now) }
+    ensures cause { IfErr result (λ fault. (has_failed : Bool) → IsRecoverCaused fault has_failed) }
 {
     // asked for the proof alone: the setup is of version 2
     let _version = setup.version();
@@ -84,6 +86,7 @@ pub(crate) fn look<D: Device>(
     ensures sound { OnOk result (D.has_failed device.new ≡ false) }
     ensures same { Passes D.now D.past device.old device.new (λ file. file ≡ D.now device.old) }
     ensures err { IfErr result (IsNotRecovered setup.now (seen (D.now device.old))) }
+    ensures cause { IfErr result (λ fault. IsRecoverCaused fault (D.has_failed device.new)) }
 {
     match device.read(alloc) {
         Ok(text) => complete(alloc, setup, &text),

@@ -9,7 +9,9 @@ ghost use Rattle.bl_hall.specs.Chronicle.{Chronicle};
 ghost use Rattle.bl_journal.specs.Journals.{journal_text};
 ghost use Rattle.bl_rebuild.specs.Rebuilds.{journal_of};
 ghost use Rattle.bl_record.specs.declared.fault.JournalFault.TheVariants.{Device as DeviceFault, Memory};
-ghost use Rattle.bl_record.specs.Kept.{AreLines, HasFailedBy, IsKept, LosesNothing};
+ghost use Rattle.bl_record.specs.Faults.{IsCaused};
+ghost use Rattle.bl_record.specs.Torn.{IsTornHead};
+ghost use Rattle.bl_record.specs.Kept.{AreLastLines, AreLines, HasFailedBy, IsKept, LosesNothing};
 ghost use Rattle.bl_setup.specs.Setup.{Setup};
 ghost use Rattle.bl_setup.specs.declared.version.Version.TheVariants.{Two};
 ghost use Rattle.bl_trail.specs.TrueText.{IsLimit, IsTrueText, head_lines, joined};
@@ -29,7 +31,7 @@ use std::marker::Model;
 
 /// A journal. Its file has the text of the trail of a hall, as far as it has kept up with that, and no `stop`.
 #[derive(Drop)]
-pub struct Journal<D: Device> {
+pub struct Journal<D> {
     /// The file.
     pub log: Log<D>,
     /// How far the trail was kept.
@@ -48,19 +50,33 @@ pub struct Lines {
     pub bookmark: Bookmark,
 }
 
-/// The file of a journal that is closed, so that the trail in it is whole. Only `Journal::close` makes one, and it may
-/// not be dropped: the trail gets its name, or is told.
-pub struct Closed<D: Device> {
+/// The file of a journal that is closed and synced, so that the trail in it is whole. Only `Journal::close` and
+/// `close_with` make one, and it may not be dropped: the trail gets its name, or is told.
+pub struct Closed<D> {
     device: D,
 }
 
-impl<D: Device> Model for Closed<D> {
+/// The file of a journal to which `stop` was added, and which was synced then, as this shows.
+fn close_synced<D: Device>(device: D, _synced: D::Synced) -> Closed<D>
+    ensures { result ≡ device }
+{
+    Closed { device }
+}
+
+impl<D> Model for Closed<D> {
     ghost Value = { D };
 
     ghost view = { λ closed. closed.device };
 }
 
 impl<D: Device> Closed<D> {
+    /// The file.
+    pub fn device(&self) -> &D
+        ensures { result.now ≡ self.now }
+    {
+        &self.device
+    }
+
     /// The file, of which no more is said.
     pub fn end(self) -> D
         ensures { result ≡ self }
@@ -105,9 +121,9 @@ fn lines_after(alloc: Global, hall: &Hall, reached: Bookmark) -> Result<Lines, A
     }
 }
 
-/// Begins a journal under a limit, which is 1 to 100,000: its file has the head of a trail, on the disk. What was there
-/// is cut off, as a head that a crash has torn. `Memory` comes where a growth is refused, and then the file is as it
-/// was; the device is given back with each fault.
+/// Begins a journal under a limit, which is 1 to 100,000, in a file that has nothing, or a head that a crash has torn,
+/// which is cut off: then it has the head of a trail, on the disk. `Memory` comes where a growth is refused, and then the
+/// file is as it was, and `Device` where the device failed; the device is given back with each fault.
 pub fn begin<D: Device>(
     alloc: Global,
     limit: u32,
@@ -115,11 +131,13 @@ pub fn begin<D: Device>(
 ) -> Result<Journal<D>, (JournalFault, D)>
     requires limit { IsLimit limit }
     requires sound { D.has_failed device ≡ false }
+    requires fresh { IsTornHead (seen (D.now device)) }
     ensures kept { IfOk result (λ journal. (setup : Setup) → setup.version ≡ Two
         → IsKept (record { setup = setup; limit = limit; trail = [] }) journal.bookmark (D.now journal.log.device)) }
     ensures fine { IfOk result (λ journal. journal.fault ≡ None) }
     ensures sound { IfOk result (λ journal. D.has_failed journal.log.device ≡ false) }
     ensures memory { IfErr result (λ failed. failed.0 ≡ Memory → failed.1 ≡ device) }
+    ensures cause { IfErr result (λ failed. IsCaused failed.0 (D.has_failed failed.1)) }
 {
     let Ok(text) = head_text(alloc, limit) else {
         return Err((JournalFault::Memory, device));
@@ -129,7 +147,7 @@ pub fn begin<D: Device>(
         Err((error, device)) => return Err((JournalFault::Device(error), device)),
     };
     match log.add(&text) {
-        Ok(()) => Ok(Journal {
+        Ok(_synced) => Ok(Journal {
             log,
             bookmark: Bookmark::first(),
             fault: None,
@@ -187,7 +205,7 @@ impl<D: Device> Journal<D> {
         }
         let Lines { text, bookmark } = lines;
         match self.log.add(&text) {
-            Ok(()) => {
+            Ok(_synced) => {
                 self.bookmark = bookmark;
                 Ok(())
             }
@@ -214,6 +232,7 @@ impl<D: Device> Journal<D> {
         ensures fine { OnOk result (self.new.fault ≡ None) }
         ensures sound { self.new.fault ≡ None → D.has_failed self.new.log.device ≡ false }
         ensures fault { IfErr result (HasFailedBy self.new.fault) }
+        ensures cause { IfErr result (λ fault. self.old.fault ≡ None → IsCaused fault (D.has_failed self.new.log.device)) }
         ensures memory { result ≡ Err Memory → self.new ≡ self.old }
         ensures failed { IfSome self.old.fault (λ error. (result ≡ Err (DeviceFault error)) × (self.new ≡ self.old)) }
     {
@@ -243,6 +262,7 @@ impl<D: Device> Journal<D> {
             (Keeps (D.now self.log.device).kept)) }
         ensures any_moment_failed { IfErr result
             (λ failed. Passes D.now D.past self.log.device failed.1 (Keeps (D.now self.log.device).kept)) }
+        ensures cause { IfErr result (λ failed. self.fault ≡ None → failed.0 ≢ NoRoom → D.has_failed failed.1 ≡ true) }
         ensures failed { IfSome self.fault (λ error. result ≡ Err (error, self.log.device)) }
     {
         closed_journals_are_true();
@@ -259,8 +279,62 @@ impl<D: Device> Journal<D> {
         let added = log.add(b"stop\n");
         let Log { device } = log;
         match added {
-            Ok(()) => Ok(Closed { device }),
+            Ok(synced) => Ok(close_synced(device, synced)),
             Err(error) => Err((error, device)),
         }
+    }
+
+    /// Closes the journal of a hall: adds the lines of all that has happened there since the journal kept up with it, and
+    /// `stop`, and has them on the disk. What is there then is the true text of the hall's trail, so who replays it accepts
+    /// it. Whenever the machine ends, all that was kept is recovered.
+    ///
+    /// `Memory` comes where a growth is refused, and then the file is as it was; `Device` where the device failed, in this
+    /// call or before. The device is given back with each fault.
+    pub fn close_with(self, alloc: Global, hall: &Hall) -> Result<Closed<D>, (JournalFault, D)>
+        requires sound { self.fault ≡ None → D.has_failed self.log.device ≡ false }
+        requires goes_on { self.fault ≡ None → (before : Chronicle) × IsKept before self.bookmark
+            (D.now self.log.device) × HasGrown before hall.now }
+        ensures closed { IfOk result (λ closed. D.now closed
+            ≡ all_kept (journal_text hall.now.setup (journal_of hall.now) ++ codes "stop\n")) }
+        ensures true_text { IfOk result (λ closed. IsTrueText hall.now.setup (seen (D.now closed)) (length hall.now.trail)) }
+        ensures any_moment { IfOk result (λ closed. Passes D.now D.past self.log.device closed
+            (Keeps (D.now self.log.device).kept)) }
+        ensures any_moment_failed { IfErr result
+            (λ failed. Passes D.now D.past self.log.device failed.1 (Keeps (D.now self.log.device).kept)) }
+        ensures cause { IfErr result (λ failed. self.fault ≡ None → IsCaused failed.0 (D.has_failed failed.1)) }
+        ensures failed { IfSome self.fault (λ error. result ≡ Err (DeviceFault error, self.log.device)) }
+    {
+        closed_journals_are_true();
+        // asked for the proof alone: the names are those of the setup
+        let setup = hall.core().setup();
+        let _scheme = setup.names().scheme();
+        let text = self.last_text(alloc, hall);
+        let Journal { log, .. } = self;
+        let mut log = log;
+        let text = match text {
+            Ok(text) => text,
+            Err(fault) => {
+                let Log { device } = log;
+                return Err((fault, device));
+            }
+        };
+        let added = log.add(&text);
+        let Log { device } = log;
+        match added {
+            Ok(synced) => Ok(close_synced(device, synced)),
+            Err(error) => Err((JournalFault::Device(error), device)),
+        }
+    }
+
+    /// The lines that close the journal of a hall: those of all that has happened there since, and `stop`.
+    fn last_text(&self, alloc: Global, hall: &Hall) -> Result<Vec<u8>, JournalFault>
+        requires { self.now.fault ≡ None → IsBookmark hall.now self.now.bookmark }
+        ensures text { IfOk result (λ text. AreLastLines hall.now self.now.bookmark text.items) }
+        ensures fine { OnOk result (self.now.fault ≡ None) }
+        ensures fault { IfErr result (HasFailedBy self.now.fault) }
+    {
+        let Lines { mut text, .. } = self.lines(alloc, hall)?;
+        text.extend_from_slice(b"stop\n")?;
+        Ok(text)
     }
 }

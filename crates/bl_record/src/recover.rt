@@ -3,6 +3,7 @@ ghost use Rattle.std.specs.Prelude.{◌≡◌, ◌<◌, ◌≤◌, ℕ, List, fa
 ghost use Rattle.bl_disk.specs.File.{seen};
 ghost use Rattle.bl_disk.specs.Moments.{Passes};
 ghost use Rattle.bl_record.specs.Completing.{IsCompleted, IsRefused, MayGoOn};
+ghost use Rattle.bl_record.specs.Faults.{IsRecoverCaused, IsResumeCaused};
 ghost use Rattle.bl_record.specs.Kept.{IsKept};
 ghost use Rattle.bl_record.specs.Recovering.{IsClosed, IsNotRecovered, IsNotResumed, IsResumed, LosesNoHistory};
 
@@ -19,7 +20,7 @@ use std::alloc::Global;
 
 /// What a run goes on from.
 #[derive(Drop)]
-pub struct Resumed<D: Device> {
+pub struct Resumed<D> {
     /// The hall, in which all that was admitted has ended.
     pub hall: Hall,
     /// The journal, which has kept up with the hall.
@@ -29,7 +30,7 @@ pub struct Resumed<D: Device> {
 }
 
 /// What was recovered of a file, and the file, closed. It may not be dropped, as that may not.
-pub struct Recovered<D: Device> {
+pub struct Recovered<D> {
     /// How many events the trail has.
     pub events: usize,
     /// How many bytes were cut off; a closing `stop` that stood there is not counted.
@@ -64,6 +65,7 @@ fn look_on<D: Device>(
     ensures sound { OnOk result (D.has_failed device.new ≡ false) }
     ensures same { Passes D.now D.past device.old device.new (λ file. file ≡ D.now device.old) }
     ensures err { IfErr result (IsNotResumed setup.now (seen (D.now device.old))) }
+    ensures cause { IfErr result (λ fault. IsResumeCaused fault (D.has_failed device.new)) }
 {
     let completed = look(alloc, setup, device)?;
     match refusal(completed.rest) {
@@ -90,6 +92,7 @@ fn write_on<D: Device>(
     ensures any_moment { IfOk result (λ journal. LosesNoHistory D.now D.past setup.now device journal.log.device) }
     ensures any_moment_failed { IfErr result (λ failed. LosesNoHistory D.now D.past setup.now device failed.1) }
     ensures err { IfErr result (λ failed. (text : List ℕ) → IsNotRecovered setup.now text failed.0) }
+    ensures cause { IfErr result (λ failed. IsRecoverCaused failed.0 (D.has_failed failed.1)) }
 {
     a_crash_loses_nothing_that_was_kept();
     // asked for the proof alone: the names are those of the setup, which is of version 2
@@ -132,6 +135,7 @@ fn go_on<D: Device>(
     ensures any_moment { IfOk result (λ resumed. LosesNoHistory D.now D.past setup.now device resumed.journal.log.device) }
     ensures any_moment_failed { IfErr result (λ failed. LosesNoHistory D.now D.past setup.now device failed.1) }
     ensures err { IfErr result (λ failed. (text : List ℕ) → IsNotResumed setup.now text failed.0) }
+    ensures cause { IfErr result (λ failed. IsResumeCaused failed.0 (D.has_failed failed.1)) }
 {
     match write_on(alloc, setup, &completed, device) {
         Ok(journal) => {
@@ -177,6 +181,7 @@ pub fn resume<D: Device>(
     ensures any_moment { IfOk result (λ resumed. LosesNoHistory D.now D.past setup.now device resumed.journal.log.device) }
     ensures any_moment_failed { IfErr result (λ failed. LosesNoHistory D.now D.past setup.now device failed.1) }
     ensures err { IfErr result (λ failed. IsNotResumed setup.now (seen (D.now device)) failed.0) }
+    ensures cause { IfErr result (λ failed. IsResumeCaused failed.0 (D.has_failed failed.1)) }
 {
     a_crash_loses_nothing_that_was_kept();
     // asked for the proof alone: the names are those of the setup
@@ -202,6 +207,7 @@ fn close_up<D: Device>(
     ensures any_moment { IfOk result (λ recovered. LosesNoHistory D.now D.past setup.now device recovered.closed) }
     ensures any_moment_failed { IfErr result (λ failed. LosesNoHistory D.now D.past setup.now device failed.1) }
     ensures err { IfErr result (λ failed. (text : List ℕ) → IsNotRecovered setup.now text failed.0) }
+    ensures cause { IfErr result (λ failed. IsRecoverCaused failed.0 (D.has_failed failed.1)) }
 {
     a_crash_loses_nothing_that_was_kept();
     // asked for the proof alone: the names are those of the setup
@@ -246,6 +252,7 @@ pub fn recover<D: Device>(
     ensures any_moment { IfOk result (λ recovered. LosesNoHistory D.now D.past setup.now device recovered.closed) }
     ensures any_moment_failed { IfErr result (λ failed. LosesNoHistory D.now D.past setup.now device failed.1) }
     ensures fault { IfErr result (λ failed. IsNotRecovered setup.now (seen (D.now device)) failed.0) }
+    ensures cause { IfErr result (λ failed. IsRecoverCaused failed.0 (D.has_failed failed.1)) }
 {
     a_crash_loses_nothing_that_was_kept();
     // asked for the proof alone: the names are those of the setup

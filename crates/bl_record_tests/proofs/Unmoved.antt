@@ -1,9 +1,9 @@
 -- A file that a failed call leaves as it was.
 use Rattle.std.proofs.Common.{◌≡◌, [], ◌∙◌, ap, append-nil, subst, sym}
 use Rattle.bl_disk.specs.File.{File}
-use Rattle.bl_disk.specs.InMemory.{memory_now, memory_past}
+use Rattle.bl_disk_tests.specs.InMemory.{memory_now, memory_past}
 use Rattle.bl_disk.specs.Moments.{Passes}
-use Rattle.bl_disk.specs.declared.memory.Memory.{Memory}
+use Rattle.bl_disk_tests.specs.declared.memory.Memory.{Memory}
 use Rattle.bl_record_tests.specs.OfFaulty.{faulty_now, faulty_past}
 use Rattle.bl_record_tests.specs.declared.faulty.Faulty.{Faulty}
 

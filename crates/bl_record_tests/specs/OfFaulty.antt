@@ -1,7 +1,7 @@
 -- How a faulty file stands: as the file in memory in it.
 use Rattle.std.specs.Prelude.{List}
 use Rattle.bl_disk.specs.File.{File}
-use Rattle.bl_disk.specs.InMemory.{memory_now, memory_past}
+use Rattle.bl_disk_tests.specs.InMemory.{memory_now, memory_past}
 use Rattle.bl_record_tests.specs.declared.faulty.Faulty.{Faulty}
 
 abbrev pub faulty_now : Faulty → File

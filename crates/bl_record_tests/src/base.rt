@@ -2,7 +2,7 @@
 ghost use Rattle.std.specs.Prelude.{◌≡◌, Ok};
 
 use bl_disk::device::Device;
-use bl_disk::memory::Moment;
+use bl_disk_tests::memory::Moment;
 use bl_disk_tests::torn::Torn;
 use bl_record::recover::{Recovered, recover};
 use bl_replay::replay::replay;

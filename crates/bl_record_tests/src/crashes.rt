@@ -1,7 +1,7 @@
 //! A crash at each moment of a recovery, and of a journal that keeps up.
 use crate::base::{AMPLE, EVENTS, base, file_of, front, joined, recovered, right};
 use crate::grown::open_bob;
-use bl_disk::memory::{Memory, Moment};
+use bl_disk_tests::memory::{Memory, Moment};
 use bl_disk_tests::torn::Torn;
 use bl_record::recover::{Resumed, recover, resume};
 use bl_setup::setup::Setup;

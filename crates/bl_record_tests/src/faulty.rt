@@ -1,6 +1,6 @@
 //! A file of which one call fails, and does nothing.
 use bl_disk::device::{Device, DeviceError};
-use bl_disk::memory::Memory;
+use bl_disk_tests::memory::Memory;
 use std::alloc::Global;
 
 /// A file of which one call fails, and does nothing.
@@ -51,6 +51,8 @@ impl Faulty {
 
 impl Device for Faulty {
     ghost use Rattle.bl_record_tests.specs.OfFaulty.{faulty_now, faulty_past};
+
+    type Synced = ();
 
     ghost now = { faulty_now };
 

@@ -1,6 +1,6 @@
 //! Each front of the run's trail, with what may stand after it.
 use crate::base::{EVENTS, HEAD, assert_recovered, base, front, joined};
-use bl_disk::memory::Memory;
+use bl_disk_tests::memory::Memory;
 use bl_record::fault::RecoverFault;
 use bl_record::recover::recover;
 use bl_setup::setup::Setup;

@@ -2,7 +2,7 @@
 //! whatever single growth is refused too: `bench/growths` refuses each in turn, and tells so by a file.
 use crate::base::{base_or_none, file_of, right};
 use bl_disk::device::DeviceError;
-use bl_disk::memory::Memory;
+use bl_disk_tests::memory::Memory;
 use bl_record::fault::RecoverFault;
 use bl_record::recover::recover;
 use std::alloc::AllocGlobal;

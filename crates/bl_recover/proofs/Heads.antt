@@ -7,7 +7,7 @@ use Rattle.std.proofs.lemmas.List.{append_cancel_left}
 use Rattle.std.proofs.lemmas.Slice.Eq.{starts_is}
 use Rattle.bl_setup.specs.declared.version.Version.TheVariants.{Two}
 use Rattle.bl_trail.specs.TrueText.{IsLimit, head_lines, joined}
-use Rattle.bl_recover.specs.Torn.{IsFrontOfHead, IsTornHead, head_front}
+use Rattle.bl_record.specs.Torn.{IsFrontOfHead, IsTornHead, head_front}
 
 ends_some : (a : List ℕ) (x : ℕ) → a ++ x ∷ [] ≢ []
 ends_some [] x e = absurd (cc)

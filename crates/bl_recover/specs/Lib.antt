@@ -1,4 +1,4 @@
 pub mod Telling
-pub mod Torn
+pub mod Finding
 pub mod Recoveries
 pub mod Finishing

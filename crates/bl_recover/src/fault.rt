@@ -1,6 +1,6 @@
 //! Why a journal in a file is not gone on with.
 ghost use Rattle.std.specs.Prelude.{◌≡◌};
-ghost use Rattle.bl_recover.specs.Telling.{recover_fault, resume_fault, words_by};
+ghost use Rattle.bl_recover.specs.Telling.{fault_at, recover_fault, resume_fault, words_by};
 
 use bl_disk::device::DeviceError;
 use bl_file::open::OpenFault;
@@ -18,6 +18,8 @@ pub enum RecoveryFault {
     InUse,
     /// The run began with another setup, or it does not stand beside the file with which it began.
     OtherSetup,
+    /// What stands beside the file with which the run began is a first part of its setup, and ends within a line.
+    TornSetup,
     /// The trail is of version 1.
     OldVersion,
     /// The head of the trail is torn or wrong: the number of its first line that is not right.
@@ -28,6 +30,15 @@ pub enum RecoveryFault {
     Over,
     /// The trail has 1,000 sessions, and a run that opens another one was to go on from it.
     NoMoreSessions,
+    /// No run left a file beside this one, which is itself the journal of the trail of this name.
+    OfPart(String),
+    /// The file of this name cannot be read or written.
+    AtFile {
+        /// The fault of the run.
+        fault: ProgramFault,
+        /// The name of the file.
+        name: String,
+    },
     /// Any other fault of the run.
     Program(ProgramFault),
 }
@@ -49,16 +60,30 @@ impl RecoveryFault {
         ensures { result.now ≡ words_by self.now }
     {
         match self {
-            RecoveryFault::NoTrail => "no trail to resume",
+            RecoveryFault::NoTrail | RecoveryFault::OfPart(_) => "no trail to resume",
             RecoveryFault::TrailIsThere => "trail is there",
             RecoveryFault::InUse => "trail is in use",
             RecoveryFault::OtherSetup => "not this setup's trail",
+            RecoveryFault::TornSetup => "trail's setup is torn",
             RecoveryFault::OldVersion => "trail of version 1",
             RecoveryFault::WrongAt(_) => "trail wrong",
             RecoveryFault::NotBegun => "trail not begun",
             RecoveryFault::Over => "trail is over",
             RecoveryFault::NoMoreSessions => "no more sessions",
+            RecoveryFault::AtFile { fault, .. } => fault.words(),
             RecoveryFault::Program(fault) => fault.words(),
+        }
+    }
+
+    /// The fault at the file of this name, where that cannot be read or written; any other as it is.
+    pub fn at(self, name: String) -> RecoveryFault
+        ensures { result ≡ fault_at self name }
+    {
+        match self {
+            RecoveryFault::Program(
+                fault @ (ProgramFault::CannotReadTrail | ProgramFault::CannotWriteTrail),
+            ) => RecoveryFault::AtFile { fault, name },
+            fault => fault,
         }
     }
 }

@@ -1,6 +1,8 @@
 //! A recovery that ended between the two names of its file: it is gone on with from there.
 ghost use Rattle.std.specs.Prelude.{◌≡◌, List, ℕ, false, string_bytes, IfErr, IfOk};
 ghost use Rattle.bl_disk.specs.File.{seen};
+ghost use Rattle.bl_file.specs.Outlived.{names_outlive};
+ghost use Rattle.bl_file.specs.declared.kept.Keeping.TheVariants.{Synced};
 ghost use Rattle.bl_disk.specs.Moments.{Passes};
 ghost use Rattle.bl_trail.specs.TrueText.{IsTrueText};
 ghost use Rattle.bl_wire.specs.Watch.{Puts, end_state, used};
@@ -14,6 +16,7 @@ use crate::name::keep_name;
 use crate::recover::{ClosedTrail, Recovery, RecoveryEnd, tell_closed};
 use crate::told::tell_fault;
 use bl_disk::device::{Device, DeviceError};
+use bl_file::named::FileName;
 use bl_replay::replay::replay;
 use bl_setup::setup::Setup;
 use bl_status::fault::ProgramFault;
@@ -47,7 +50,7 @@ fn events_of<D: Device>(alloc: Global, setup: &Setup, device: &mut D) -> Result<
 ///
 /// `TrailIsThere` comes where the trail is not closed, so that it is no recovery's. The status is as `recover_found`
 /// has it.
-pub fn finish_found<R: Files, D: Device, W: Write, E: Write>(
+pub fn finish_found<R: Files, D: Device + FileName, W: Write, E: Write>(
     rt: &R,
     alloc: Global,
     setup: &Setup,
@@ -56,6 +59,7 @@ pub fn finish_found<R: Files, D: Device, W: Write, E: Write>(
     errors: &mut Watched<E>,
 ) -> Recovery<D>
     requires sound { D.has_failed found.device ≡ false }
+    requires on_disk { names_outlive found.names ≡ Synced }
     requires writer { writer.old.failed ≡ false }
     ensures ended { HasFinished setup.now (seen (D.now found.entry.device)) result.end }
     ensures same { Passes D.now D.past found.entry.device result.device (λ file. file ≡ D.now found.entry.device) }
@@ -76,7 +80,7 @@ pub fn finish_found<R: Files, D: Device, W: Write, E: Write>(
         Ok(events) => {
             let part = part.as_str();
             let events = events as usize;
-            let named = keep_name(rt, part, trail);
+            let named = keep_name(rt, device.name(), trail);
             let closed = ClosedTrail {
                 events,
                 cut: 0,
@@ -90,6 +94,7 @@ pub fn finish_found<R: Files, D: Device, W: Write, E: Write>(
             }
         }
         Err(fault) => {
+            let fault = fault.at(part);
             let status = tell_fault(errors, &fault);
             let end = RecoveryEnd::Refused(fault);
             Recovery {

@@ -1,20 +1,25 @@
 //! The run of the command `recover`.
-ghost use Rattle.std.specs.Prelude.{◌≡◌, ◌++◌, List, ℕ, codes, false, string_bytes, IfOk};
+ghost use Rattle.std.specs.Prelude.{◌≡◌, ◌⊎◌, ◌++◌, List, ℕ, codes, false, string_bytes, IfOk};
 ghost use Rattle.bl_disk.specs.File.{seen};
+ghost use Rattle.bl_file.specs.Outlived.{names_outlive};
+ghost use Rattle.bl_file.specs.declared.kept.Keeping.TheVariants.{Synced};
 ghost use Rattle.bl_record.specs.Recovering.{LosesNoHistory};
 ghost use Rattle.bl_wire.specs.Watch.{Puts, end_state, used};
 ghost use Rattle.bl_status.specs.Status.{IsEnd};
+ghost use Rattle.bl_recover.specs.Finishing.{IsEndOf};
+ghost use Rattle.bl_recover.specs.Telling.{fault_text, status_by};
 ghost use Rattle.bl_recover.specs.Recoveries.{HasEnded, HasWritten, IsOfClosed, IsRecoverRun};
 ghost use Rattle.bl_recover.specs.Recoveries.{after_cut, said_of, status_of_end};
 
 use crate::fault::{RecoveryFault, of_recover};
 use crate::find::{Found, find};
 use crate::finish::finish_found;
-use crate::name::give_name;
+use crate::name::{Named, give_name};
 use crate::told::{tell_cut, tell_fault, tell_left, tell_recovered};
 use bl_disk::device::Device;
-use bl_file::device::Keeping;
+use bl_file::kept::Keeping;
 use bl_file::lock::Lock;
+use bl_file::named::FileName;
 use bl_keep::fault::KeepFault;
 use bl_record::recover::{Recovered, recover};
 use bl_setup::reader::read_setup;
@@ -35,6 +40,8 @@ pub enum RecoveryEnd {
         events: usize,
         /// How many bytes were cut off.
         cut: usize,
+        /// What shows that it has its name.
+        named: Named,
     },
     /// The trail is closed and has its name, and the output failed before all of that was told.
     Untold {
@@ -42,6 +49,8 @@ pub enum RecoveryEnd {
         events: usize,
         /// How many bytes were cut off.
         cut: usize,
+        /// What shows that it has its name.
+        named: Named,
     },
     /// The trail is closed, and stays in its file, since it could not have its name.
     Unnamed {
@@ -58,7 +67,7 @@ pub enum RecoveryEnd {
 
 /// How a recovery ended, its status, and the file.
 #[derive(Drop)]
-pub struct Recovery<D: Device> {
+pub struct Recovery<D> {
     pub end: RecoveryEnd,
     pub status: u8,
     pub device: D,
@@ -76,6 +85,7 @@ pub(crate) struct ClosedTrail<'a> {
 fn tell_named<W: Write, E: Write>(
     events: usize,
     cut: usize,
+    named: Named,
     writer: &mut Watched<W>,
     errors: &mut Watched<E>,
 ) -> (RecoveryEnd, u8)
@@ -88,17 +98,17 @@ fn tell_named<W: Write, E: Write>(
     ensures status { result.1 ≡ status_of_end result.0 }
 {
     if tell_recovered(writer, events) {
-        (RecoveryEnd::Recovered { events, cut }, 0)
+        (RecoveryEnd::Recovered { events, cut, named }, 0)
     } else {
         let status = tell(errors, &ProgramFault::Write);
-        (RecoveryEnd::Untold { events, cut }, status)
+        (RecoveryEnd::Untold { events, cut, named }, status)
     }
 }
 
 /// Tells what came of a trail that is closed in the file of this name.
 pub(crate) fn tell_closed<W: Write, E: Write>(
     closed: &ClosedTrail<'_>,
-    named: Result<(), KeepFault>,
+    named: Result<Named, KeepFault>,
     writer: &mut Watched<W>,
     errors: &mut Watched<E>,
 ) -> (RecoveryEnd, u8)
@@ -113,7 +123,7 @@ pub(crate) fn tell_closed<W: Write, E: Write>(
     let ClosedTrail { events, cut, part } = *closed;
     tell_cut(errors, cut);
     match named {
-        Ok(()) => tell_named(events, cut, writer, errors),
+        Ok(named) => tell_named(events, cut, named, writer, errors),
         Err(fault) => {
             let status = tell(errors, &of_keep(fault));
             tell_left(errors, part);
@@ -128,7 +138,7 @@ pub(crate) fn tell_closed<W: Write, E: Write>(
 /// The status is 0 where that was done and told, 3 where the trail could not have its name, and stays in its file,
 /// where the output failed, or where nothing was recovered, and 4 where a growth was refused. Whenever the machine ends
 /// on the way, what was kept before is recovered again.
-pub fn recover_found<R: Files, D: Device, W: Write, E: Write>(
+pub fn recover_found<R: Files, D: Device + FileName, W: Write, E: Write>(
     rt: &R,
     alloc: Global,
     setup: &Setup,
@@ -137,8 +147,9 @@ pub fn recover_found<R: Files, D: Device, W: Write, E: Write>(
     errors: &mut Watched<E>,
 ) -> Recovery<D>
     requires sound { D.has_failed found.device ≡ false }
+    requires on_disk { names_outlive found.names ≡ Synced }
     requires writer { writer.old.failed ≡ false }
-    ensures ended { HasEnded setup.now (seen (D.now found.entry.device)) result.end (D.now result.device) }
+    ensures ended { HasEnded setup.now (seen (D.now found.entry.device)) found.entry.part result.end (D.now result.device) }
     ensures any_moment { LosesNoHistory D.now D.past setup.now found.entry.device result.device }
     ensures written { HasWritten result.end (used W.contents writer.old writer.new) }
     ensures said { Puts (said_of (string_bytes found.entry.part) result.end) (end_state E.contents errors.old)
@@ -162,7 +173,7 @@ pub fn recover_found<R: Files, D: Device, W: Write, E: Write>(
             },
         ) => {
             let part = part.as_str();
-            let named = give_name(rt, &closed, part, trail);
+            let named = give_name(rt, &closed, trail);
             let device = closed.end();
             let closed = ClosedTrail { events, cut, part };
             let (end, status) = tell_closed(&closed, named, writer, errors);
@@ -173,7 +184,7 @@ pub fn recover_found<R: Files, D: Device, W: Write, E: Write>(
             }
         }
         Err((fault, device)) => {
-            let fault = of_recover(fault);
+            let fault = of_recover(fault).at(part);
             let status = tell_fault(errors, &fault);
             let end = RecoveryEnd::Refused(fault);
             Recovery {
@@ -185,35 +196,69 @@ pub fn recover_found<R: Files, D: Device, W: Write, E: Write>(
     }
 }
 
-/// Goes on with a journal that was found, or tells why none is gone on with. The result is the status of the run.
-fn go_on<R: Files, D: Device + Drop, W: Write, E: Write>(
+/// How a run of `recover` ended, and its status.
+#[derive(Drop)]
+struct Ended {
+    end: RecoveryEnd,
+    status: u8,
+}
+
+/// Ends a run that recovers nothing with this fault, which is told.
+fn refuse<E: Write>(errors: &mut Watched<E>, fault: RecoveryFault) -> Ended
+    ensures end { result.end ≡ RecoveryEnd.Refused fault }
+    ensures status { result.status ≡ status_by fault }
+    ensures said { Puts (fault_text fault) (end_state E.contents errors.old) (end_state E.contents errors.new) }
+    ensures range { (result.status ≡ 3) ⊎ (result.status ≡ 4) }
+{
+    let status = tell_fault(errors, &fault);
+    let end = RecoveryEnd::Refused(fault);
+    Ended { end, status }
+}
+
+/// How it ended, without its file.
+fn without_file<D: Device + Drop>(recovery: Recovery<D>) -> Ended
+    ensures { (result.end ≡ recovery.end) × (result.status ≡ recovery.status) }
+{
+    let Recovery {
+        end,
+        status,
+        device: _,
+    } = recovery;
+    Ended { end, status }
+}
+
+/// Goes on with a journal that was found, or tells why none is gone on with.
+fn go_on<R: Files, D: Device + FileName + Drop, W: Write, E: Write>(
     rt: &R,
     alloc: Global,
     setup: &Setup,
     found: Result<Found<'_, D>, RecoveryFault>,
     writer: &mut Watched<W>,
     errors: &mut Watched<E>,
-) -> u8
+) -> Ended
     requires sound { IfOk found (λ found. D.has_failed found.device ≡ false) }
+    requires on_disk { IfOk found (λ found. names_outlive found.names ≡ Synced) }
     requires writer { writer.old.failed ≡ false }
+    ensures ended { IfOk found.entry
+        (λ found. IsEndOf setup.now found.is_torn found.is_named (seen (D.now found.device)) found.part result.end) }
     ensures run { (trail : List ℕ) → IfOk found.entry (λ found. string_bytes found.part ≡ trail ++ codes ".part")
-        → IsRecoverRun trail result (used W.contents writer.old writer.new) (end_state E.contents errors.old)
+        → IsRecoverRun trail result.status (used W.contents writer.old writer.new) (end_state E.contents errors.old)
         (end_state E.contents errors.new) }
-    ensures handed_on { result ≡ 0 → writer.new.unflushed ≡ false }
-    ensures status { IsEnd result }
+    ensures handed_on { result.status ≡ 0 → writer.new.unflushed ≡ false }
+    ensures status { IsEnd result.status }
 {
     let found = match found {
         Ok(found) => found,
-        Err(fault) => return tell_fault(errors, &fault),
+        Err(fault) => return refuse(errors, fault),
     };
     if found.is_torn {
         drop(found);
-        return tell_fault(errors, &RecoveryFault::NotBegun);
+        return refuse(errors, RecoveryFault::NotBegun);
     }
     if found.is_named {
-        finish_found(rt, alloc, setup, found, writer, errors).status
+        without_file(finish_found(rt, alloc, setup, found, writer, errors))
     } else {
-        recover_found(rt, alloc, setup, found, writer, errors).status
+        without_file(recover_found(rt, alloc, setup, found, writer, errors))
     }
 }
 
@@ -243,7 +288,7 @@ where
         Err(fault) => return tell(errors, &of_setup(fault)),
     };
     let found = find(rt, alloc, setup, trail, Keeping::Synced);
-    let status = go_on(rt, alloc, &begun, found, writer, errors);
+    let ended = go_on(rt, alloc, &begun, found, writer, errors);
     drop(begun);
-    status
+    ended.status
 }

@@ -1,10 +1,12 @@
 //! What a recovery says. Nothing of it needs memory, and once an end has failed nothing more is said there.
 ghost use Rattle.std.specs.Prelude.{◌≡◌, ◌⊎◌, ◌++◌, [], ◌∷◌, codes, decimal, false, true};
 ghost use Rattle.bl_wire.specs.Watch.{Puts, end_state};
-ghost use Rattle.bl_recover.specs.Telling.{cut_line, fault_text, left_text, recovered_line, status_by};
+ghost use Rattle.bl_recover.specs.Telling.{cut_line, fault_text, fault_text_at, left_text, recovered_line, status_by};
+ghost use Rattle.bl_recover.specs.Telling.{wanted_text};
 
 use crate::fault::RecoveryFault;
-use bl_status::told::tell;
+use bl_status::place::tell_file;
+use bl_status::told::{tell, tell_at};
 use bl_wire::put::{put, put_out};
 use bl_wire::watched::Watched;
 use itoa::Buffer;
@@ -36,7 +38,18 @@ fn tell_wrong<E: Write>(errors: &mut Watched<E>, line: u64)
     put_out(errors, b"\n");
 }
 
-/// Tells a fault that ends a recovery, on a line of its own, and gives the status.
+/// Tells that no trail is to be resumed under the name of a journal, and which name its trail has, each on a line of its
+/// own.
+fn tell_wanted<E: Write>(errors: &mut Watched<E>, name: &str)
+    ensures puts { Puts (wanted_text name.now) (end_state E.contents errors.old) (end_state E.contents errors.new) }
+{
+    put(errors, b"no trail to resume\nsay --trail ");
+    put(errors, name.as_bytes());
+    put_out(errors, b"\n");
+}
+
+/// Tells a fault that ends a recovery, on a line of its own, and on the next the file or the name that it is about, where
+/// it is about one; and gives the status.
 pub fn tell_fault<E: Write>(errors: &mut Watched<E>, fault: &RecoveryFault) -> u8
     ensures puts { Puts (fault_text fault.now) (end_state E.contents errors.old) (end_state E.contents errors.new) }
     ensures status { result ≡ status_by fault.now }
@@ -44,6 +57,15 @@ pub fn tell_fault<E: Write>(errors: &mut Watched<E>, fault: &RecoveryFault) -> u
 {
     match fault {
         RecoveryFault::Program(fault) => tell(errors, fault),
+        RecoveryFault::AtFile { fault, name } => {
+            let status = tell(errors, fault);
+            tell_file(errors, name.as_str());
+            status
+        }
+        RecoveryFault::OfPart(name) => {
+            tell_wanted(errors, name.as_str());
+            3
+        }
         RecoveryFault::WrongAt(line) => {
             tell_wrong(errors, *line);
             3
@@ -52,6 +74,7 @@ pub fn tell_fault<E: Write>(errors: &mut Watched<E>, fault: &RecoveryFault) -> u
         | RecoveryFault::TrailIsThere
         | RecoveryFault::InUse
         | RecoveryFault::OtherSetup
+        | RecoveryFault::TornSetup
         | RecoveryFault::OldVersion
         | RecoveryFault::NotBegun
         | RecoveryFault::Over
@@ -59,6 +82,31 @@ pub fn tell_fault<E: Write>(errors: &mut Watched<E>, fault: &RecoveryFault) -> u
             tell_words(errors, fault.words());
             3
         }
+    }
+}
+
+/// Tells a fault that ends a run over the journal in the file of this name, as `tell_fault` does; where the trail cannot be
+/// read or written and no file is named yet, that it is this one stands on the next line. Gives the status.
+pub fn tell_fault_at<E: Write>(errors: &mut Watched<E>, fault: &RecoveryFault, name: &str) -> u8
+    ensures puts { Puts (fault_text_at name.now fault.now) (end_state E.contents errors.old)
+        (end_state E.contents errors.new) }
+    ensures status { result ≡ status_by fault.now }
+    ensures range { (result ≡ 3) ⊎ (result ≡ 4) }
+{
+    match fault {
+        RecoveryFault::Program(program) => tell_at(errors, program, name),
+        RecoveryFault::NoTrail
+        | RecoveryFault::TrailIsThere
+        | RecoveryFault::InUse
+        | RecoveryFault::OtherSetup
+        | RecoveryFault::TornSetup
+        | RecoveryFault::OldVersion
+        | RecoveryFault::WrongAt(_)
+        | RecoveryFault::NotBegun
+        | RecoveryFault::Over
+        | RecoveryFault::NoMoreSessions
+        | RecoveryFault::OfPart(_)
+        | RecoveryFault::AtFile { .. } => tell_fault(errors, fault),
     }
 }
 

@@ -1,7 +1,7 @@
 //! A journal whose head is torn: the run that began it was cut off while it wrote that, so no event was kept, and
 //! nothing was told.
 ghost use Rattle.std.specs.Prelude.{◌≡◌, ◌↔◌, ℕ, decimal, IsTrue};
-ghost use Rattle.bl_recover.specs.Torn.{IsFrontOfHead, IsTornHead};
+ghost use Rattle.bl_record.specs.Torn.{IsFrontOfHead, IsTornHead};
 ghost use Rattle.bl_trail.specs.TrueText.{IsLimit};
 
 use bl_trail::ask::number;

@@ -4,6 +4,8 @@
 //!     closed     journals that are closed
 //!     refused    journals that are not gone on with, each by its words
 //!     failing    a file system whose files fail
+//!     syncs      a file system of which one file cannot be synced
+//!     unsynced   what cannot be synced is told
 #![tactic(auto)]
 
 #[cfg(test)]
@@ -14,3 +16,7 @@ mod closed;
 mod failing;
 #[cfg(test)]
 mod refused;
+#[cfg(test)]
+mod syncs;
+#[cfg(test)]
+mod unsynced;

@@ -113,7 +113,7 @@ fn the_disk_is_full(rt: HostRuntime) -> Result<(), Fail> {
     let room = 3;
     let files = FailingFiles { rt: &rt, room };
     let ended = recover(&files, rt.alloc(), BASE, "full");
-    assert!(rt; is_refused(&ended, 3, b"cannot write trail\n"));
+    assert!(rt; is_refused(&ended, 3, b"cannot write trail\nfile: full.part\n"));
     let again = recover(&rt, rt.alloc(), BASE, "full");
     assert!(rt; again.said.as_slice() == b"cut 3 bytes\n".as_slice());
     assert!(rt; has(&rt, "full", TRAIL));

@@ -5,7 +5,7 @@ ghost use Rattle.bl_alone.specs.Recording.{HasRecorded};
 ghost use Rattle.bl_disk.specs.File.{seen};
 ghost use Rattle.bl_hall.specs.Chronicle.{state_now};
 ghost use Rattle.bl_order.specs.Machine.{has_ended};
-ghost use Rattle.bl_recover.specs.Telling.{fault_text, status_by};
+ghost use Rattle.bl_recover.specs.Telling.{fault_text_at, status_by};
 ghost use Rattle.bl_resume.specs.Resumes.{HasGoneOn, HasSatAfter, IsResuming};
 ghost use Rattle.bl_session.specs.Pages.{MayBegin};
 ghost use Rattle.bl_status.specs.Status.{IsEnd};
@@ -15,9 +15,10 @@ use bl_alone::close::{close_after, file_of};
 use bl_alone::recorder::Recorder;
 use bl_alone::run::{Recorded, RecordedFile, tell_recorded};
 use bl_disk::device::Device;
+use bl_file::named::FileName;
 use bl_record::recover::{Resumed, resume};
 use bl_recover::fault::{RecoveryFault, of_resume};
-use bl_recover::told::{tell_cut, tell_fault};
+use bl_recover::told::{tell_cut, tell_fault_at};
 use bl_session::alone::{serve_after, sessions_in};
 use bl_setup::reader::read_setup;
 use bl_setup::setup::Setup;
@@ -30,18 +31,19 @@ use std::mem;
 /// How many sessions are opened in a hall at most.
 const MOST_SESSIONS: u32 = 1000;
 
-/// Ends a run that has no session with this fault, which is told.
-fn end_with<D: Device, E: Write>(
+/// Ends a run that has no session with this fault, which is told, and of which file it is.
+fn end_with<D: Device + FileName, E: Write>(
     errors: &mut Watched<E>,
     fault: &RecoveryFault,
     device: D,
 ) -> Recorded<D>
-    ensures puts { Puts (fault_text fault.now) (end_state E.contents errors.old) (end_state E.contents errors.new) }
+    ensures puts { Puts (fault_text_at (file_in D.name result.file) fault.now) (end_state E.contents errors.old)
+        (end_state E.contents errors.new) }
     ensures status { result.status ≡ status_by fault.now }
     ensures range { (result.status ≡ 3) ⊎ (result.status ≡ 4) }
     ensures part { result.file ≡ RecordedFile.Left device }
 {
-    let status = tell_fault(errors, fault);
+    let status = tell_fault_at(errors, fault, device.name());
     Recorded {
         status,
         file: RecordedFile::Left(device),
@@ -61,12 +63,13 @@ fn sit<D: Device, R: BufRead, W: Write, E: Write>(
     requires journal { HasRecorded D.now D.has_failed resumed.journal resumed.hall }
     requires reader { reader.old.failed ≡ false }
     requires writer { writer.old.failed ≡ false }
-    ensures run { HasSatAfter resumed.hall resumed.cut (is_whole result.file) (file_in D.now result.file) (record {
-      status = result.status;
-      input = used R.remaining reader.old reader.new;
-      output = used W.contents writer.old writer.new;
-      errors = used E.contents errors.old errors.new;
-    }) }
+    ensures run { HasSatAfter resumed.hall resumed.cut (is_whole result.file) (file_in D.has_failed result.file)
+        (file_in D.now result.file) (record {
+          status = result.status;
+          input = used R.remaining reader.old reader.new;
+          output = used W.contents writer.old writer.new;
+          errors = used E.contents errors.old errors.new;
+        }) }
     ensures whole { result.status ≡ 0 → is_whole result.file ≡ true }
     ensures handed_on { result.status ≡ 0 → writer.new.unflushed ≡ false }
     ensures status { IsEnd result.status }
@@ -85,7 +88,7 @@ fn sit<D: Device, R: BufRead, W: Write, E: Write>(
 }
 
 /// A session in the hall of a run that was cut off, where more may be opened there.
-fn go_on<D: Device, R: BufRead, W: Write, E: Write>(
+fn go_on<D: Device + FileName, R: BufRead, W: Write, E: Write>(
     alloc: Global,
     setup: Setup,
     resumed: Resumed<D>,
@@ -99,12 +102,13 @@ fn go_on<D: Device, R: BufRead, W: Write, E: Write>(
     requires journal { HasRecorded D.now D.has_failed resumed.journal resumed.hall }
     requires reader { reader.old.failed ≡ false }
     requires writer { writer.old.failed ≡ false }
-    ensures run { HasGoneOn resumed.hall resumed.cut (is_whole result.file) (file_in D.now result.file) (record {
-      status = result.status;
-      input = used R.remaining reader.old reader.new;
-      output = used W.contents writer.old writer.new;
-      errors = used E.contents errors.old errors.new;
-    }) }
+    ensures run { HasGoneOn resumed.hall resumed.cut (is_whole result.file) (file_in D.has_failed result.file)
+        (file_in D.now result.file) (record {
+          status = result.status;
+          input = used R.remaining reader.old reader.new;
+          output = used W.contents writer.old writer.new;
+          errors = used E.contents errors.old errors.new;
+        }) }
     ensures whole { result.status ≡ 0 → is_whole result.file ≡ true }
     ensures handed_on { result.status ≡ 0 → writer.new.unflushed ≡ false }
     ensures status { IsEnd result.status }
@@ -125,8 +129,8 @@ fn go_on<D: Device, R: BufRead, W: Write, E: Write>(
 /// next one of that hall, under its limit.
 ///
 /// The result is as `alone_recorded_on` has it. Where the file is not gone on with, that is told, and nothing is read
-/// or written.
-pub fn alone_resumed_on<D: Device, R: BufRead, W: Write, E: Write>(
+/// or written; where it cannot be read or written, its name stands behind the words.
+pub fn alone_resumed_on<D: Device + FileName, R: BufRead, W: Write, E: Write>(
     alloc: Global,
     setup: &[u8],
     device: D,
@@ -137,8 +141,8 @@ pub fn alone_resumed_on<D: Device, R: BufRead, W: Write, E: Write>(
     requires sound { D.has_failed device ≡ false }
     requires reader { reader.old.failed ≡ false }
     requires writer { writer.old.failed ≡ false }
-    ensures run { IsResuming setup.now (seen (D.now device)) (is_whole result.file)
-        (file_in D.now result.file) (record {
+    ensures run { IsResuming setup.now (seen (D.now device)) (file_in D.name result.file) (is_whole result.file)
+        (file_in D.has_failed result.file) (file_in D.now result.file) (record {
           status = result.status;
           input = used R.remaining reader.old reader.new;
           output = used W.contents writer.old writer.new;

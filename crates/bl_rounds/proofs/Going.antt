@@ -1,5 +1,5 @@
 -- How a member of a crowd that leaves has gone, and how one round follows another.
-use Rattle.std.proofs.Common.{◌≡◌, ◌<◌, ◌⊎◌, ◌∙◌, ℕ, Bool, true, false, List, [], length, vec_len, get_or, refl, sym, ap, subst, Option, Some, None, inl, inr}
+use Rattle.std.proofs.Common.{◌≡◌, ◌<◌, ◌⊎◌, ◌∙◌, ◌-◌, ℕ, Bool, true, false, List, [], length, vec_len, get_or, refl, sym, ap, subst, Option, Some, None, inl, inr}
 use Rattle.std.specs.Prelude.{All}
 use Rattle.std.proofs.lemmas.List.Elements.{All-get_or}
 use Rattle.bl_work.specs.Names.{KnownNames}
@@ -50,9 +50,10 @@ module _ {S : Type 0} (remaining contents : S → Option (List ℕ)) (crowd : Cr
   pub gone_over : (gone : Gone S) → IsCrowd remaining contents crowd → Follows crowd.first.value crowd.pass → i < length crowd.members.items → gone.fault ≡ None → gone.full ≡ false
       → ((d : Member S) → (get_or crowd.members.items i d).fault ≡ None) → ((d : Member S) → gone.stream ≡ (get_or crowd.members.items i d).connection.stream)
       → ((d : Member S) → gone.lines ≡ last_ordinal (get_or crowd.members.items i d).connection.conv)
+      → ((d : Member S) → gone.refused ≡ last_ordinal (get_or crowd.members.items i d).connection.conv - (get_or crowd.members.items i d).tally.admitted)
       → ((d : Member S) → IsServedAmong remaining contents crowd.gate.now.base.setup.names crowd.first.value crowd.pass (get_or crowd.members.items i d).connection)
       → HasGone remaining contents crowd.first.value gone
-  gone_over gone is follows lt none room fine stream lines served =
+  gone_over gone is follows lt none room fine stream lines refused served =
       let there = at_index crowd.members.items i lt in
       let Left : KnownNames → Member S → Type 0 = λ names m. IsServedAmong remaining contents names crowd.first.value crowd.pass m.connection in
       record {
@@ -63,6 +64,7 @@ module _ {S : Type 0} (remaining contents : S → Option (List ℕ)) (crowd : Cr
         stream_is = stream there.0 ∙ ap (λ (m : Member S). m.connection.stream) (there.1 there.0);
         fault_is = none ∙ sym (sym (ap (λ (m : Member S). m.fault) (there.1 there.0)) ∙ fine there.0);
         lines_is = lines there.0 ∙ ap (λ (m : Member S). last_ordinal m.connection.conv) (there.1 there.0);
+        refused_is = refused there.0 ∙ ap (λ (m : Member S). last_ordinal m.connection.conv - m.tally.admitted) (there.1 there.0);
         leaves = subst (λ full. LeavesAs remaining contents crowd.first.value crowd.pass there.0 full gone.fault) (sym room)
             (subst (LeavesAs remaining contents crowd.first.value crowd.pass there.0 false) (sym none)
             (subst (λ names. Left names there.0) (names_are is) (subst (Left crowd.gate.now.base.setup.names) (there.1 there.0) (served there.0))));
@@ -74,10 +76,11 @@ module _ {S : Type 0} (remaining contents : S → Option (List ℕ)) (crowd : Cr
       → ((d : Member S) → gone.fault ≡ (get_or crowd.members.items i d).fault)
       → ((d : Member S) → gone.full ≡ (get_or crowd.members.items i d).full)
       → ((d : Member S) → gone.lines ≡ last_ordinal (get_or crowd.members.items i d).connection.conv)
+      → ((d : Member S) → gone.refused ≡ last_ordinal (get_or crowd.members.items i d).connection.conv - (get_or crowd.members.items i d).tally.admitted)
       → ((d : Member S) → Departs remaining contents crowd.gate.now.base.setup.names crowd.first.value crowd.pass (get_or crowd.members.items i d).connection
       (get_or crowd.members.items i d).reception gone.fault)
       → HasParted remaining contents crowd.first.value gone
-  gone_out gone is follows lt stream same room lines departs =
+  gone_out gone is follows lt stream same room lines refused departs =
       let there = at_index crowd.members.items i lt in
       let Left : KnownNames → Member S → Type 0 = λ names m. Departs remaining contents names crowd.first.value crowd.pass m.connection m.reception gone.fault in
       record {
@@ -88,6 +91,7 @@ module _ {S : Type 0} (remaining contents : S → Option (List ℕ)) (crowd : Cr
         stream_is = stream there.0 ∙ ap (λ (m : Member S). m.connection.stream) (there.1 there.0);
         fault_is = same there.0 ∙ ap (λ (m : Member S). m.fault) (there.1 there.0);
         lines_is = lines there.0 ∙ ap (λ (m : Member S). last_ordinal m.connection.conv) (there.1 there.0);
+        refused_is = refused there.0 ∙ ap (λ (m : Member S). last_ordinal m.connection.conv - m.tally.admitted) (there.1 there.0);
         full_is = room there.0 ∙ ap (λ (m : Member S). m.full) (there.1 there.0);
         departs = subst (λ names. Left names there.0) (names_are is) (subst (Left crowd.gate.now.base.setup.names) (there.1 there.0) (departs there.0));
       }
@@ -115,6 +119,7 @@ module _ {S : Type 0} (remaining contents : S → Option (List ℕ)) (first : Pa
     stream_is = p.stream_is;
     fault_is = p.fault_is;
     lines_is = p.lines_is;
+    refused_is = p.refused_is;
     leaves = leaves_so p.pass p.member gone.full gone.fault p.full_is why p.departs;
   }
 

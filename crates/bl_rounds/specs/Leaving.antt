@@ -1,5 +1,5 @@
 -- How a connection leaves its thread.
-use Rattle.std.specs.Prelude.{◌≡◌, ℕ, Bool, true, false, List, Option, Some, None}
+use Rattle.std.specs.Prelude.{◌≡◌, ◌-◌, ℕ, Bool, true, false, List, Option, Some, None}
 use Rattle.bl_gate.specs.Gates.{Follows, PassView}
 use Rattle.bl_engine.specs.Conversations.{last_ordinal}
 use Rattle.bl_wire.specs.declared.fault.SessionFault.{SessionFault}
@@ -29,6 +29,7 @@ pub record HasGone {S : Type 0} (remaining contents : S → Option (List ℕ)) (
   pub stream_is : gone.stream ≡ member.connection.stream
   pub fault_is : gone.fault ≡ member.fault
   pub lines_is : gone.lines ≡ last_ordinal member.connection.conv
+  pub refused_is : gone.refused ≡ last_ordinal member.connection.conv - member.tally.admitted
   pub leaves : LeavesAs remaining contents first pass member gone.full gone.fault
 
 -- the same, of one that has left at any moment
@@ -41,6 +42,7 @@ pub record HasParted {S : Type 0} (remaining contents : S → Option (List ℕ))
   pub stream_is : gone.stream ≡ member.connection.stream
   pub fault_is : gone.fault ≡ member.fault
   pub lines_is : gone.lines ≡ last_ordinal member.connection.conv
+  pub refused_is : gone.refused ≡ last_ordinal member.connection.conv - member.tally.admitted
   pub full_is : gone.full ≡ member.full
   pub departs : Departs remaining contents pass.gate.base.setup.names first pass member.connection member.reception
       gone.fault

@@ -20,6 +20,7 @@ use bl_crowd::crowd::{Crowd, Portion, Round};
 use bl_crowd::member::Next;
 use bl_gate::gate::Gate;
 use bl_gate::pass::Pass;
+use bl_horizon::horizon::{Horizon, Noted};
 use bl_policy::id::SubjectId;
 use bl_quota::asks::Asks;
 use bl_wire::fault::SessionFault;
@@ -30,7 +31,6 @@ use bl_worker::pause::Pause;
 use std::alloc::{AllocError, Global};
 use std::marker::Model;
 use std::sync::Wait;
-use std::sync::atomic::{AtomicU64, Ordering};
 
 /// How many steps a connection takes at most before the others have their turn.
 const MOST_STEPS: u32 = 64;
@@ -48,14 +48,15 @@ const MOST_ENTRIES: usize = 64;
 const MOST_LINES: usize = 128;
 
 /// A connection that has left: its number and stream, the fault for which it had to, whether it had to since its line
-/// would never fit, the ordinal of the last line heard, and how many events the trail had at the thread's last turn. It
-/// cannot be let go: it has to be taken apart.
+/// would never fit, the ordinal of the last line heard, how many lines were not admitted, and how many events the trail
+/// had at the thread's last turn. It cannot be let go: it has to be taken apart.
 pub struct Gone<S> {
     pub number: u32,
     pub stream: S,
     pub fault: Option<SessionFault>,
     pub full: bool,
     pub lines: u32,
+    pub refused: u32,
     pub events: usize,
 }
 
@@ -75,14 +76,14 @@ pub struct Calls<'a> {
 }
 
 /// What a round works with: the runtime, what its turns do between a start and an end, what calls those who sleep, and
-/// where it notes how many events the trail had at its last turn at the gate, if somebody asks for that: its streams
+/// where it notes how many events the trail had at its last turn at the gate, before a connection goes on: its streams
 /// are written of no others.
 #[derive(Drop)]
 pub struct RoundContext<'a, P, R> {
     pub rt: &'a R,
     pub pause: &'a P,
     pub calls: Calls<'a>,
-    pub events: Option<&'a AtomicU64>,
+    pub horizon: &'a Horizon,
 }
 
 impl WorkerBell for Calls<'_> {
@@ -287,8 +288,9 @@ fn go_each<S: Stream>(crowd: &mut Crowd<'_, S>, seats: &mut Vec<Seat>, time: u64
     }
 }
 
-/// Each connection that has asked something, or waits, goes on a step as far as that was met.
-fn go_on_each<S: Stream>(crowd: &mut Crowd<'_, S>, seats: &mut Vec<Seat>, time: u64)
+/// Each connection that has asked something, or waits, goes on a step as far as that was met in a turn whose events
+/// were noted.
+fn go_on_each<S: Stream>(crowd: &mut Crowd<'_, S>, seats: &mut Vec<Seat>, time: u64, noted: Noted)
     requires crowd { IsCrowd S.remaining S.contents crowd.old }
     requires seated { vec_len seats.old ≡ vec_len crowd.old.members }
     ensures goes { GoesOn S.remaining S.contents crowd.old crowd.new seats.old.items seats.new.items }
@@ -297,6 +299,7 @@ fn go_on_each<S: Stream>(crowd: &mut Crowd<'_, S>, seats: &mut Vec<Seat>, time: 
         → HaveGoneOn time (length seats.new.items) seats.new.items }
     ensures asks { AskNothing (length seats.new.items) seats.new.items }
 {
+    drop(noted);
     for i in 0..seats.len() {
         go_one_on(crowd, seats, i, time);
     }
@@ -323,10 +326,17 @@ fn ring_if(alarms: &Alarms, ended: Option<EndToRing>) {
     }
 }
 
-/// Calls who is to know of a turn at the gate. An end that came after the members met calls for another turn. Workers
-/// are called at once where somebody waits and entries were left that are long to run.
-fn tell_of<R: Wait>(rt: &R, calls: Calls<'_>, round: Round, waits: bool, marks: &mut Marks)
-    ensures { marks.new.time ≡ marks.old.time }
+/// Notes how many events the trail had at a turn at the gate, and calls who is to know of it. An end that came after
+/// the members met calls for another turn. Workers are called at once where somebody waits and entries were left that
+/// are long to run.
+fn tell_of<P: Pause, R: Wait>(
+    context: &RoundContext<'_, P, R>,
+    round: Round,
+    waits: bool,
+    marks: &mut Marks,
+) -> Noted
+    ensures time { marks.new.time ≡ marks.old.time }
+    ensures events { (result ≡ round.events) × (marks.new.events ≡ round.events) }
 {
     let Round {
         begun,
@@ -336,23 +346,18 @@ fn tell_of<R: Wait>(rt: &R, calls: Calls<'_>, round: Round, waits: bool, marks: 
         events,
         looked,
     } = round;
+    let noted = context.horizon.note(events);
     marks.looked = Some(looked);
-    ring_if(calls.alarms, ended);
-    ring_if(calls.alarms, over);
+    ring_if(context.calls.alarms, ended);
+    ring_if(context.calls.alarms, over);
     marks.left = left;
     marks.uncalled = left;
     marks.goes_on = false;
-    marks.events = events;
     if waits && begun < MOST_ENTRIES {
-        call_workers(rt, calls.bell, marks);
+        call_workers(context.rt, context.calls.bell, marks);
     }
-}
-
-/// Notes how many events the trail had at a turn, if somebody asks for that.
-fn note_events(noted: Option<&AtomicU64>, events: usize) {
-    if let Some(noted) = noted {
-        noted.store(events as u64, Ordering::SeqCst);
-    }
+    marks.events = noted.events();
+    noted
 }
 
 /// Calls workers, if entries are ready that nobody was called for.
@@ -420,9 +425,8 @@ fn take_turn<S: Stream, P: Pause, R: Wait, Q: Asks>(
     };
     let seen = context.calls.alarms.ends();
     let round = crowd.round(context.rt, quota, &mut hand.batch, portion, seen);
-    tell_of(context.rt, context.calls, round, waits, &mut hand.marks);
-    note_events(context.events, hand.marks.events);
-    go_on_each(crowd, seats, hand.marks.time);
+    let noted = tell_of(context, round, waits, &mut hand.marks);
+    go_on_each(crowd, seats, hand.marks.time, noted);
     hand.batch.run(hand.alloc, context.pause);
 }
 
@@ -495,7 +499,7 @@ fn put_out<S: Stream>(crowd: &mut Crowd<'_, S>, i: usize, number: u32, events: u
     ensures fault { (d : Member S) → result.fault ≡ (get_or crowd.old.members.items i d).fault }
     ensures full { (d : Member S) → result.full ≡ (get_or crowd.old.members.items i d).full }
 {
-    let lines = crowd.lines(i);
+    let (lines, refused) = (crowd.lines(i), crowd.refused(i));
     let departed = crowd.leave(i);
     Gone {
         number,
@@ -503,6 +507,7 @@ fn put_out<S: Stream>(crowd: &mut Crowd<'_, S>, i: usize, number: u32, events: u
         fault: departed.fault,
         full: departed.full,
         lines,
+        refused,
         events,
     }
 }
@@ -524,6 +529,7 @@ fn part_with<S: Stream>(crowd: &mut Crowd<'_, S>, i: usize, seat: Seat, events: 
             fault: None,
             full: false,
             lines: crowd.lines(i),
+            refused: crowd.refused(i),
             events,
             stream: crowd.finish(i),
         },
@@ -717,8 +723,9 @@ impl<'a, S: Stream> Rounds<'a, S> {
         go_in(context, quota, crowd, seats, hand);
     }
 
-    /// Whether the thread may sleep: each connection waits, for its stream or for entries to end, and the thread has not
-    /// put down what others waited for. Where somebody waits for an entry, the next end wakes the thread with this number.
+    /// Whether the thread may sleep: each connection waits, for its stream or for entries to end, and the thread has
+    /// not put down what others waited for. Where somebody waits for an entry, the next end wakes the thread with this
+    /// number.
     pub fn may_sleep(&self, alarms: &Alarms, thread: usize) -> bool
         ensures { result ≡ true → All (λ (seat : Seat). waits seat.stage ≡ true) self.now.seats }
     {
@@ -773,6 +780,11 @@ impl<'a, S: Stream> Rounds<'a, S> {
         let (i, greeting) = next_greeted(&self.crowd, &self.seats)?;
         put_told(&mut self.seats, i);
         Some(greeting)
+    }
+
+    /// Whether a line of a connection was refused since the lines' weights would have exceeded the limit.
+    pub fn is_overweight(&self) -> bool {
+        self.crowd.is_overweight()
     }
 
     /// Gives the pass back. All that it has started has ended. Streams of connections that have not left are dropped.

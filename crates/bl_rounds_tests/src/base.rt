@@ -6,6 +6,7 @@ use bl_connection::stream::Ends;
 use bl_gate::gate::Gate;
 use bl_gate::pass::Pass;
 use bl_hall::hall::Hall;
+use bl_horizon::horizon::Horizon;
 use bl_quota::asks::{Asks, NoQuota};
 use bl_rounds::alarm::Alarms;
 use bl_rounds::rounds::{Calls, Gone, RoundContext, Rounds};
@@ -136,11 +137,12 @@ fn go_round<'a, R: Wait, Q: Asks>(
     calls: Calls<'a>,
     quota: &mut Q,
 ) {
+    let horizon = Horizon::new();
     let context = RoundContext {
         rt,
         pause: &NoPause,
         calls,
-        events: None,
+        horizon: &horizon,
     };
     thread.round(&context, quota);
 }
@@ -169,6 +171,7 @@ pub(super) fn put_away<S: Drop>(gone: Gone<S>) {
         fault: _,
         full: _,
         lines: _,
+        refused: _,
         events: _,
     } = gone;
     drop(stream);

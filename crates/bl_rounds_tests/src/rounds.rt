@@ -1,6 +1,7 @@
 //! Greetings, idle clients, and work that is left to others.
 use super::base::{READER, ROUNDS, base_gate, go_rounds, go_rounds_within, join, put_away};
 use super::streams::{Manner, ends_of};
+use bl_horizon::horizon::Horizon;
 use bl_quota::asks::NoQuota;
 use bl_quota::quota::Quota;
 use bl_rounds::alarm::Alarms;
@@ -107,11 +108,12 @@ fn what_is_left_is_told_to_workers(rt: HostRuntime) {
     }
     let long = b"when read memo do if memo has \"y\" then end; end\n";
     assert!(rt; says.extend_from_slice(long).is_ok());
+    let horizon = Horizon::new();
     let context = RoundContext {
         rt: &rt,
         pause: &NoPause,
         calls,
-        events: None,
+        horizon: &horizon,
     };
     let mut thread = Rounds::new(alloc, &gate, pass);
     // four reads take all of it

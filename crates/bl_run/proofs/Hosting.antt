@@ -1,19 +1,19 @@
 -- What a run of `serve` tells, and its status.
-use Rattle.std.proofs.Common.{◌≡◌, ◌<◌, ◌++◌, ◌∷◌, ◌∙◌, [], ℕ, zero, suc, ◌+◌, Bool, true, false, List, length, take, get_or, refl, sym, ap, add-one, append-nil}
-use Rattle.std.specs.Prelude.{None, Some, not}
+use Rattle.std.proofs.Common.{◌≡◌, ◌<◌, ◌++◌, ◌∷◌, ◌∙◌, [], ℕ, zero, suc, ◌+◌, Bool, true, false, List, length, take, get_or, refl, ap, add-one, append-nil, arith}
+use Rattle.std.specs.Prelude.{None, Some, not, if◌then◌else◌, ◌==◌}
 use Rattle.std.specs.List.{flat_map}
 use Rattle.std.proofs.Math.Seq.{take-suc}
+use Rattle.std.proofs.lemmas.Bool.Decides.{nat_tests}
 use Rattle.std.proofs.lemmas.Grind.{flat_map-append}
 use Rattle.bl_entrance.specs.declared.ended.Ended.{Ended}
 use Rattle.bl_wire.specs.Watch.{EndState, Puts}
-use Rattle.bl_wire.proofs.PutLaws.{puts-all, puts-append, puts-nil, puts-two}
+use Rattle.bl_wire.proofs.PutLaws.{puts-all, puts-append, puts-nil}
 use Rattle.bl_status.specs.declared.fault.ProgramFault.{ProgramFault}
 use Rattle.bl_status.specs.declared.fault.ProgramFault.TheVariants.{CannotReadSetup, Setup, CannotReadTrail, CannotWriteTrail, CannotListen, Read, Write, TooLong, NoMemory}
-use Rattle.bl_status.specs.Message.{fault_line}
-use Rattle.bl_run.specs.Serving.{ended_line}
+use Rattle.bl_live.specs.Telling.{ToldLive, ended_line}
 use Rattle.bl_run.specs.declared.serve.Finished.{Finished}
 use Rattle.bl_keep.specs.declared.whole.Unkept.{Unkept}
-use Rattle.bl_status.specs.Unkept.{left_line, unkept_fault, unkept_faults, unkept_text}
+use Rattle.bl_status.specs.Unkept.{unkept_fault, unkept_faults, unkept_text}
 use Rattle.bl_run.specs.Unkept.{TellsTrail}
 use Rattle.bl_run.specs.Serving.{HasHosted, faults_found, found, hosted_text}
 use Rattle.bl_status.specs.Status.{status_after, status_of}
@@ -61,8 +61,8 @@ some_is_some : (unkept : Unkept) → Some unkept ≡ None → ⊥
 some_is_some unkept e = cc
 
 -- where there is no trail to keep nothing is told of one
-pub untold : (has_one : Bool) (s : ℕ) (finished : Finished) (x y : EndState) → has_one ≡ false → finished.status ≡ s → y ≡ x → TellsTrail has_one s finished x y
-untold has_one s finished x y none' is same = record {
+pub untold : (name : List ℕ) (has_one : Bool) (s : ℕ) (finished : Finished) (x y : EndState) → has_one ≡ false → finished.status ≡ s → y ≡ x → TellsTrail name has_one s finished x y
+untold name has_one s finished x y none' is same = record {
   trail = None;
   unwritten = λ _. refl;
   kept = λ yes' _. absurd (clash has_one yes' none');
@@ -70,31 +70,39 @@ untold has_one s finished x y none' is same = record {
   puts = puts-nil x y same;
 }
 
+-- one fault more gives the status where there was none before
+pub status-one : (s own : ℕ) (fault : ProgramFault) → own ≡ status_of fault → (if s == 0 then own else s) ≡ status_after s (fault ∷ [])
+status-one zero own fault is = is
+status-one (suc n) own fault is = grind (arith, nat_tests)
+
 -- a trail that was not kept is told
-pub told_trail : (unkept : Unkept) (s : ℕ) (finished : Finished) (x y z : EndState)
-    → finished.status ≡ status_after s (found true (unkept_fault unkept.fault))
-    → Puts (flat_map fault_line (found true (unkept_fault unkept.fault))) x y → Puts (left_line unkept.left) y z → TellsTrail true s finished x z
-told_trail unkept s finished x y z is fault left = record {
+pub told_trail : (name : List ℕ) (unkept : Unkept) (s own : ℕ) (finished : Finished) (x z : EndState)
+    → own ≡ status_of (unkept_fault unkept.fault) → finished.status ≡ (if s == 0 then own else s) → Puts (unkept_text name (Some unkept)) x z
+    → TellsTrail name true s finished x z
+told_trail name unkept s own finished x z by is puts = record {
   trail = Some unkept;
   unwritten = λ off. absurd (clash true refl off);
   kept = λ _ none'. absurd (some_is_some unkept none');
-  status_is = is;
-  puts = puts-two (unkept_text (Some unkept)) (flat_map fault_line (found true (unkept_fault unkept.fault))) (left_line unkept.left) x y z
-      (ap (λ l. l ++ left_line unkept.left) (sym (append-nil (fault_line (unkept_fault unkept.fault))))) fault left;
+  status_is = is ∙ status-one s own (unkept_fault unkept.fault) by;
+  puts = puts;
 }
 
--- what was found by the end of the threads is told, and then what became of the trail
-pub hosted : (whole : Bool) (es : List Ended) (memory : Bool) (r : ℕ) (finished : Finished) (x y z : EndState)
-    → r ≡ status_after 0 (faults_found whole memory) → Puts (hosted_text whole es memory) x y
-    → TellsTrail whole r finished y z → HasHosted finished (record { before = x.bytes; after = z.bytes; failed = z.failed })
-hosted whole es memory r finished x y z status puts then = record {
+-- what was met while others ran was told then, what was found by the end of the threads is told, and then what became of
+-- the trail
+pub hosted : (name : List ℕ) (whole : Bool) (es : List Ended) (memory : Bool) (r : ℕ) (finished : Finished) (x l y z : EndState)
+    → ToldLive x l → r ≡ status_after 0 (faults_found whole memory) → Puts (hosted_text whole es memory) l y
+    → TellsTrail name whole r finished y z → HasHosted name finished (record { before = x.bytes; after = z.bytes; failed = z.failed })
+hosted name whole es memory r finished x l y z (live, during, told) status puts later = record {
   whole = whole;
   ended = es;
   memory = memory;
-  trail = then.trail;
-  unwritten = then.unwritten;
-  kept = then.kept;
-  status_is = then.status_is ∙ ap (λ q. status_after q (unkept_faults then.trail)) status ∙ status-append 0 (faults_found whole memory) (unkept_faults then.trail);
-  said = λ fine. puts-all (hosted_text whole es memory ++ unkept_text then.trail) x z
-      (puts-append (hosted_text whole es memory) (unkept_text then.trail) x y z puts then.puts) fine;
+  live = live;
+  during = during;
+  trail = later.trail;
+  unwritten = later.unwritten;
+  kept = later.kept;
+  status_is = later.status_is ∙ ap (λ q. status_after q (unkept_faults later.trail)) status ∙ status-append 0 (faults_found whole memory) (unkept_faults later.trail);
+  said = λ fine. puts-all (live ++ (hosted_text whole es memory ++ unkept_text name later.trail)) x z
+      (puts-append live (hosted_text whole es memory ++ unkept_text name later.trail) x l z told
+      (puts-append (hosted_text whole es memory) (unkept_text name later.trail) l y z puts later.puts)) fine;
 }

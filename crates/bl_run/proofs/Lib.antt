@@ -1,2 +1,5 @@
 pub mod Hosting
 pub mod Sitting
+pub mod Splits
+pub mod Opening
+pub mod Leaving

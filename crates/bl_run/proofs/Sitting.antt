@@ -9,6 +9,7 @@ use Rattle.bl_setup.specs.Grammar.{IsSetup}
 use Rattle.bl_wire.specs.Watch.{EndState, Puts, Use}
 use Rattle.bl_wire.proofs.PutLaws.{puts-all, puts-append}
 use Rattle.bl_status.specs.declared.fault.ProgramFault.{ProgramFault}
+use Rattle.bl_run.specs.declared.alone_run.AloneRun.{AloneRun}
 use Rattle.bl_run.specs.declared.serve.Finished.{Finished}
 use Rattle.bl_run.specs.AloneKept.{HasEnded, HasSat}
 use Rattle.bl_status.specs.Unkept.{unkept_faults, unkept_text}
@@ -23,11 +24,11 @@ begins (Ok done) kept has none' = has
 begins (Err fault) kept has none' = cc
 
 -- the session's fault is told, and then what became of the trail
-pub sat : (setup : List ℕ) (limit : ℕ) (begun : setups.Setup) → IsSetup setup begun → (fault : Option ProgramFault) (input output : Use)
-    → HasEnded begun limit fault input output → (has_one : Bool) → (fault ≡ None → has_one ≡ true) → (r : ℕ) (finished : Finished) (x y z : EndState)
-    → r ≡ status_after 0 (option_to_list fault) → Puts (flat_map fault_line (option_to_list fault)) x y → TellsTrail has_one r finished y z
-    → HasSat setup limit finished input output (record { before = x.bytes; after = z.bytes; failed = z.failed })
-sat setup limit begun is fault input output ended has_one begins' r finished x y z status puts then = record {
+pub sat : (setup : List ℕ) (run : AloneRun) (begun : setups.Setup) → IsSetup setup begun → (fault : Option ProgramFault) (input output : Use)
+    → HasEnded begun run.limit fault input output → (has_one : Bool) → (fault ≡ None → has_one ≡ true) → (r : ℕ) (finished : Finished) (x y z : EndState)
+    → r ≡ status_after 0 (option_to_list fault) → Puts (flat_map fault_line (option_to_list fault)) x y → TellsTrail run.trail.name.now has_one r finished y z
+    → HasSat setup run finished input output (record { before = x.bytes; after = z.bytes; failed = z.failed })
+sat setup run begun is fault input output ended has_one begins' r finished x y z status puts then = record {
   begun = begun;
   is = is;
   fault = fault;
@@ -35,6 +36,6 @@ sat setup limit begun is fault input output ended has_one begins' r finished x y
   trail = then.trail;
   kept = λ none' untold. then.kept (begins' none') untold;
   status_is = then.status_is ∙ ap (λ q. status_after q (unkept_faults then.trail)) status ∙ status-append 0 (option_to_list fault) (unkept_faults then.trail);
-  said = λ fine. puts-all (flat_map fault_line (option_to_list fault) ++ unkept_text then.trail) x z
-      (puts-append (flat_map fault_line (option_to_list fault)) (unkept_text then.trail) x y z puts then.puts) fine;
+  said = λ fine. puts-all (flat_map fault_line (option_to_list fault) ++ unkept_text run.trail.name.now then.trail) x z
+      (puts-append (flat_map fault_line (option_to_list fault)) (unkept_text run.trail.name.now then.trail) x y z puts then.puts) fine;
 }

@@ -1,13 +1,13 @@
 -- What a run of the command `serve` tells, and how it ends.
-use Rattle.std.specs.Prelude.{◌≡◌, ◌⊎◌, ℕ, Bool, true, false, not, List, [], ◌∷◌, ◌++◌, Option, None, IsSome, codes}
-use Rattle.std.specs.Prelude.{decimal, take}
+use Rattle.std.specs.Prelude.{◌≡◌, ◌⊎◌, ℕ, Bool, true, false, not, List, [], ◌∷◌, ◌++◌, Option, None, IsSome}
+use Rattle.std.specs.Prelude.{codes, take}
 use Rattle.std.specs.List.{flat_map}
 use Rattle.std.specs.Io.KnownBytes.{Appends, Keeps}
 use Rattle.bl_setup.specs.Setup as setups
 use Rattle.bl_setup.specs.Grammar.{IsSetup}
 use Rattle.bl_gate.specs.Gates.{GateId, PassView}
-use Rattle.bl_entrance.specs.Ends.{ended_words}
 use Rattle.bl_entrance.specs.declared.ended.Ended.{Ended}
+use Rattle.bl_live.specs.Telling.{AreNotices, ended_line}
 use Rattle.bl_wire.specs.Watch.{Use}
 use Rattle.bl_status.specs.declared.fault.ProgramFault.{ProgramFault}
 use Rattle.bl_status.specs.declared.fault.ProgramFault.TheVariants.{Write, NoMemory}
@@ -16,7 +16,7 @@ use Rattle.bl_keep.specs.declared.whole.Unkept.{Unkept}
 use Rattle.bl_status.specs.Failure.{IsNotRead}
 use Rattle.bl_status.specs.Unkept.{IsUnkept, unkept_faults, unkept_text}
 use Rattle.bl_status.specs.Message.{fault_line}
-use Rattle.bl_status.specs.Runs.{HasTold}
+use Rattle.bl_status.specs.Runs.{HasToldAt}
 use Rattle.bl_status.specs.Status.{status_after}
 
 -- a gate round a hall of this setup and limit in which nothing has happened, and the pass with all parts
@@ -36,24 +36,20 @@ pub record IsPrepared (setup : List ℕ) (limit : ℕ) (gate : GateId) (pass : P
   pub made : IsNewGate begun limit gate pass
   pub told : Appends output.before output.after listening
 
--- The trail's file could not be claimed, where that was asked for, and nothing was told; or the output failed.
-abbrev pub IsUnannounced : Bool → ProgramFault → Use → Type 0
-IsUnannounced claims fault output = ((claims ≡ true) × IsUnkept fault × Keeps output.before output.after)
+-- No file could be made for the trail, and nothing was told; or the output failed.
+abbrev pub IsUnannounced : ProgramFault → Use → Type 0
+IsUnannounced fault output = (IsUnkept fault × Keeps output.before output.after)
     ⊎ ((fault ≡ Write) × (output.failed ≡ true) × ((n : ℕ) × Appends output.before output.after (take n listening)))
 
 -- the setup is one, and a growth was refused before anything was told, or `listening` was not told
-pub record IsUntold (setup : List ℕ) (claims : Bool) (fault : ProgramFault) (output : Use) : Type 0 where
+pub record IsUntold (setup : List ℕ) (fault : ProgramFault) (output : Use) : Type 0 where
   pub begun : setups.Setup
   pub is : IsSetup setup begun
-  pub why : ((fault ≡ NoMemory) × Keeps output.before output.after) ⊎ IsUnannounced claims fault output
+  pub why : ((fault ≡ NoMemory) × Keeps output.before output.after) ⊎ IsUnannounced fault output
 
 -- no session was served: the setup is none, or `listening` was not told whole
-abbrev pub IsUnprepared : List ℕ → Bool → ProgramFault → Use → Type 0
-IsUnprepared setup claims fault output = IsNotRead setup fault output ⊎ IsUntold setup claims fault output
-
--- what is said of a session of `serve` that ended early, on a line of its own
-abbrev pub ended_line : Ended → List ℕ
-ended_line ended = codes "session " ++ decimal ended.session ++ codes ": " ++ ended_words ended.why ++ 10 ∷ []
+abbrev pub IsUnprepared : List ℕ → ProgramFault → Use → Type 0
+IsUnprepared setup fault output = IsNotRead setup fault output ⊎ IsUntold setup fault output
 
 -- a fault, where it was found
 abbrev pub found : Bool → ProgramFault → List ProgramFault
@@ -71,27 +67,30 @@ hosted_text whole ended memory =
     flat_map fault_line (found (not whole) NoMemory) ++
     (flat_map ended_line ended ++ flat_map fault_line (found memory NoMemory))
 
--- A run that listened. What was found is told in its order, the trail's fault last, and the first fault gives the
+-- A run that listened, for a trail of this name. What was met while others ran was told then; what was found by the end
+-- is told in its order, the trail's fault last, and the first fault gives the
 -- status. No trail is written where a thread was not started; else it is kept, or that it is not is told.
-pub record HasHosted (finished : Finished) (errors : Use) : Type 0 where
+pub record HasHosted (name : List ℕ) (finished : Finished) (errors : Use) : Type 0 where
   pub whole : Bool
   pub ended : List Ended
   pub memory : Bool
+  pub live : List ℕ
+  pub during : AreNotices live
   pub trail : Option Unkept
   pub unwritten : whole ≡ false → trail ≡ None
   pub kept : whole ≡ true → trail ≡ None → IsSome finished.kept
   pub status_is : finished.status ≡ status_after 0 (faults_found whole memory ++ unkept_faults trail)
   pub said : errors.failed ≡ false
-      → Appends errors.before errors.after (hosted_text whole ended memory ++ unkept_text trail)
+      → Appends errors.before errors.after (live ++ (hosted_text whole ended memory ++ unkept_text name trail))
 
 -- the setup is one, `listening` was told, and then sessions were served
-pub record HasListened (setup : List ℕ) (finished : Finished) (output errors : Use) : Type 0 where
+pub record HasListened (setup name : List ℕ) (finished : Finished) (output errors : Use) : Type 0 where
   pub begun : setups.Setup
   pub is : IsSetup setup begun
   pub told : Appends output.before output.after listening
-  pub hosted : HasHosted finished errors
+  pub hosted : HasHosted name finished errors
 
--- sessions were served after `listening` was told; or none was, and the fault was told
-abbrev pub IsServe : List ℕ → Bool → Finished → Use → Use → Type 0
-IsServe setup claims finished output errors = HasListened setup finished output errors
-    ⊎ ((fault : ProgramFault) × HasTold fault finished.status errors × IsUnprepared setup claims fault output)
+-- sessions were served after `listening` was told, for a trail of this name; or none was, and the fault was told
+abbrev pub IsServe : (setup name : List ℕ) → Finished → Use → Use → Type 0
+IsServe setup name finished output errors = HasListened setup name finished output errors
+    ⊎ ((fault : ProgramFault) × HasToldAt name fault finished.status errors × IsUnprepared setup fault output)

@@ -15,9 +15,9 @@ ghost use Rattle.bl_run.specs.Runs.{IsRun};
 ghost use Rattle.bl_status.specs.Status.{IsEnd, status_after};
 
 use crate::alone_run::AloneRun;
-use crate::serve::{Finished, end_with, tell_trail};
+use crate::serve::{Finished, end_before, tell_trail};
 use bl_keep::keep::keep;
-use bl_keep::part::{PartFile, claim, give_back};
+use bl_keep::part::{PartFile, claim_or_try, give_back};
 use bl_session::alone::{Kept, serve_and_keep};
 use bl_setup::reader::read_setup;
 use bl_setup::setup::Setup;
@@ -151,7 +151,7 @@ fn keep_session<T: Files, E: Write>(
     status: u8,
     errors: &mut Watched<E>,
 ) -> Finished
-    ensures trail { TellsTrail (is_some session) status result (end_state E.contents errors.old)
+    ensures trail { TellsTrail run.now.trail.name.now (is_some session) status result (end_state E.contents errors.old)
         (end_state E.contents errors.new) }
     ensures done { IsSome session → result.status ≡ 0 → IsSome result.kept }
     ensures range { IsEnd status → IsEnd result.status }
@@ -163,7 +163,7 @@ fn keep_session<T: Files, E: Write>(
     let kept = keep(rt, run.alloc, session.hall(), claimed, &run.trail);
     // the process ends next, and what the session kept goes with its memory
     mem::forget(session);
-    tell_trail(errors, status, kept)
+    tell_trail(errors, status, &run.trail, kept)
 }
 
 /// One session over a reader and a writer, whose trail is kept when it has ended, well or not.
@@ -177,7 +177,7 @@ fn sit_and_keep<T: Files, R: BufRead, W: Write, E: Write>(
 ) -> Finished
     requires reader { reader.old.failed ≡ false }
     requires writer { writer.old.failed ≡ false }
-    ensures run { (setup : List ℕ) → IsSetup setup begun.setup → HasSat setup run.now.limit result
+    ensures run { (setup : List ℕ) → IsSetup setup begun.setup → HasSat setup run.now result
         (used R.remaining reader.old reader.new) (used W.contents writer.old writer.new)
         (used E.contents errors.old errors.new) }
     ensures kept { result.status ≡ 0 → IsSome result.kept }
@@ -216,16 +216,16 @@ pub fn alone_kept_on<T: Files, R: BufRead, W: Write, E: Write>(
 {
     let setup = match read_setup(run.alloc, setup) {
         Ok(setup) => setup,
-        Err(fault) => return end_with(errors, of_setup(fault)),
+        Err(fault) => return end_before(errors, of_setup(fault), &run.trail),
     };
-    match claim(rt, run.alloc, &run.trail) {
+    match claim_or_try(rt, run.alloc, &run.trail) {
         Ok(claimed) => {
             let begun = Begun { setup, claimed };
             sit_and_keep(rt, begun, run, reader, writer, errors)
         }
         Err(fault) => {
             drop(setup);
-            end_with(errors, of_keep(fault))
+            end_before(errors, of_keep(fault), &run.trail)
         }
     }
 }

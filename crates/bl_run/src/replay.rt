@@ -1,8 +1,10 @@
 //! The run of the command `replay`.
 ghost use Rattle.std.specs.Prelude.{◌≡◌, ◌⊎◌, ◌++◌, ℕ, List, true, false, OnOk, IfOk, IfErr, decimal, take};
+ghost use Rattle.bl_run.specs.Open.{IsUnstopped, unstopped_text};
 ghost use Rattle.std.specs.Io.KnownBytes.{Appends};
 ghost use Rattle.bl_setup.specs.Grammar.{IsSetup};
-ghost use Rattle.bl_wire.specs.Watch.{used};
+ghost use Rattle.bl_setup.specs.Setup.{Setup as AnySetup};
+ghost use Rattle.bl_wire.specs.Watch.{Puts, end_state, used};
 ghost use Rattle.bl_run.specs.Replays.{HasReplayed, IsCut, verdict_line, verdict_text};
 ghost use Rattle.bl_run.specs.Runs.{HasNoVerdict, IsReplayOn};
 ghost use Rattle.bl_status.specs.Status.{IsStatus};
@@ -17,7 +19,7 @@ use bl_trail::verdict::Verdict;
 use bl_wire::put::{put, put_out};
 use bl_wire::watched::Watched;
 use itoa::Buffer;
-use std::alloc::Global;
+use std::alloc::{AllocError, Global};
 use std::io::Write;
 
 /// What a verdict is told as, and the status that it ends a run with: its word, its number, and 0 or 1.
@@ -32,7 +34,10 @@ fn told_as(verdict: Verdict) -> (&'static str, u64, u8)
 }
 
 /// Tells a verdict on a line of its own, and gives the status.
-fn tell_verdict<W: Write>(writer: &mut Watched<W>, verdict: Verdict) -> Result<u8, ProgramFault>
+pub(crate) fn tell_verdict<W: Write>(
+    writer: &mut Watched<W>,
+    verdict: Verdict,
+) -> Result<u8, ProgramFault>
     requires { writer.old.failed ≡ false }
     ensures told { IfOk result
         (λ status. Appends (W.contents writer.old.inner) (W.contents writer.new.inner) (verdict_line verdict)
@@ -53,38 +58,84 @@ fn tell_verdict<W: Write>(writer: &mut Watched<W>, verdict: Verdict) -> Result<u
     }
 }
 
-/// The verdict on the trail of these bytes over a setup, told on a line of its own. The result is the status by the
+/// How many events a text has that is a true trail but for its closing `stop`; `None` where it is not so.
+pub(crate) fn events_before_stop(
+    alloc: Global,
+    setup: &Setup,
+    text: &[u8],
+) -> Result<Option<u64>, AllocError>
+    ensures { IfOk result (IsUnstopped setup.now text.now) }
+{
+    let mut stopped = Vec::new(alloc);
+    stopped.extend_from_slice(text)?;
+    stopped.extend_from_slice(b"stop\n")?;
+    match replay(alloc, setup, stopped.as_slice())? {
+        Verdict::Accepted(events) => Ok(Some(events)),
+        Verdict::Rejected(_) => Ok(None),
+    }
+}
+
+/// What was told of a trail: the status by its verdict, and how many events it has, if it lacks its closing `stop`
+/// alone.
+#[derive(Drop)]
+struct Judged {
+    status: u8,
+    unstopped: Option<u64>,
+}
+
+/// The verdict on the trail of these bytes over a setup, told on a line of its own. The result has the status by the
 /// verdict.
 fn tell_judged<W: Write>(
     alloc: Global,
     setup: &Setup,
     trail: &[u8],
     writer: &mut Watched<W>,
-) -> Result<u8, ProgramFault>
+) -> Result<Judged, ProgramFault>
     requires { writer.old.failed ≡ false }
     ensures told { (text : List ℕ) → IsSetup text setup.now
-        → IfOk result (λ status. HasReplayed text trail.now status (used W.contents writer.old writer.new)) }
+        → IfOk result (λ judged. HasReplayed text trail.now judged.status (used W.contents writer.old writer.new)) }
+    ensures unstopped { IfOk result (λ judged. IsUnstopped setup.now trail.now judged.unstopped) }
     ensures failed { (text : List ℕ) → IsSetup text setup.now
         → IfErr result (λ fault. IsCut text trail.now fault (used W.contents writer.old writer.new)) }
     ensures handed_on { OnOk result (writer.new.unflushed ≡ false) }
 {
-    match replay(alloc, setup, trail) {
-        Ok(verdict) => tell_verdict(writer, verdict),
-        Err(_) => Err(ProgramFault::NoMemory),
-    }
+    let Ok(verdict) = replay(alloc, setup, trail) else {
+        return Err(ProgramFault::NoMemory);
+    };
+    let Ok(unstopped) = events_before_stop(alloc, setup, trail) else {
+        return Err(ProgramFault::NoMemory);
+    };
+    let status = tell_verdict(writer, verdict)?;
+    Ok(Judged { status, unstopped })
 }
 
-/// The verdict on the trail of these bytes over the setup of these bytes, told on a line of its own. The result is the
+/// Tells that a trail of so many events lacks its closing `stop`, and nothing else, on a line of its own; nothing where
+/// it is not so.
+fn tell_unstopped<E: Write>(errors: &mut Watched<E>, unstopped: Option<u64>)
+    ensures puts { Puts (unstopped_text unstopped) (end_state E.contents errors.old) (end_state E.contents errors.new) }
+{
+    let Some(events) = unstopped else {
+        return;
+    };
+    let mut digits = Buffer::new();
+    put(errors, b"no stop: all ");
+    put(errors, digits.format(events).as_bytes());
+    put_out(errors, b" events before are right\n");
+}
+
+/// The verdict on the trail of these bytes over the setup of these bytes, told on a line of its own. The result has the
 /// status by the verdict.
 fn judge<W: Write>(
     alloc: Global,
     setup: &[u8],
     trail: &[u8],
     writer: &mut Watched<W>,
-) -> Result<u8, ProgramFault>
+) -> Result<Judged, ProgramFault>
     requires { writer.old.failed ≡ false }
     ensures told { IfOk result
-        (λ status. HasReplayed setup.now trail.now status (used W.contents writer.old writer.new)) }
+        (λ judged. HasReplayed setup.now trail.now judged.status (used W.contents writer.old writer.new)) }
+    ensures unstopped { IfOk result
+        (λ judged. (begun : AnySetup) × IsSetup setup.now begun × IsUnstopped begun trail.now judged.unstopped) }
     ensures failed { IfErr result
         (λ fault. HasNoVerdict setup.now trail.now fault (used W.contents writer.old writer.new)) }
     ensures handed_on { OnOk result (writer.new.unflushed ≡ false) }
@@ -102,9 +153,9 @@ fn judge<W: Write>(
 /// A replay of the trail of these bytes over the setup of these bytes: the command `replay`.
 ///
 /// The verdict is told on `writer`, as `accepted N` with the number of events or `rejected N` with the number of the
-/// first line that is not right. The result is the status of the run: 0 where the trail is accepted, 1 where it is
-/// rejected, 3 for a fault of the setup or of the output, and 4 when out of memory. The words of a fault go to `errors`
-/// and nothing else does.
+/// first line that is not right. Of a trail that lacks its closing `stop` alone that is said on `errors`. The result is
+/// the status of the run: 0 where the trail is accepted, 1 where it is rejected, 3 for a fault of the setup or of the
+/// output, and 4 when out of memory. The words of a fault go to `errors` too, and nothing else does.
 pub fn replay_on<W: Write, E: Write>(
     alloc: Global,
     setup: &[u8],
@@ -120,7 +171,10 @@ pub fn replay_on<W: Write, E: Write>(
     ensures status { IsStatus result }
 {
     match judge(alloc, setup, trail, writer) {
-        Ok(status) => status,
+        Ok(Judged { status, unstopped }) => {
+            tell_unstopped(errors, unstopped);
+            status
+        }
         Err(fault) => tell(errors, &fault),
     }
 }

@@ -1,17 +1,20 @@
 //! The run of the command `serve`.
-ghost use Rattle.std.specs.Prelude.{◌≡◌, ◌<◌, ◌≤◌, ◌⊎◌, false, true, not, IfErr, IfOk, IsSome, OnOk};
+ghost use Rattle.std.specs.Prelude.{◌≡◌, ◌==◌, ◌<◌, ◌≤◌, ◌⊎◌, if◌then◌else◌, false, true, not};
+ghost use Rattle.std.specs.Prelude.{IfErr, IfOk, IsSome, OnOk, Some};
 ghost use Rattle.std.specs.Io.KnownBytes.{Appends};
 ghost use Rattle.std.specs.List.{flat_map};
 ghost use Rattle.bl_wire.specs.Watch.{Puts, end_state, used};
 ghost use Rattle.bl_run.specs.Unkept.{TellsTrail};
 ghost use Rattle.bl_status.specs.Message.{fault_line};
-ghost use Rattle.bl_run.specs.Serving.{ended_line};
-ghost use Rattle.bl_status.specs.Runs.{HasTold};
+ghost use Rattle.bl_live.specs.Telling.{ended_line};
+ghost use Rattle.bl_status.specs.Runs.{HasTold, HasToldAt};
 ghost use Rattle.bl_run.specs.Serving.{HasHosted, IsNewGate, IsPrepared, IsServe, IsUnannounced, IsUnprepared};
 ghost use Rattle.bl_run.specs.Serving.{faults_found, found, hosted_text, listening};
-ghost use Rattle.bl_status.specs.Status.{IsEnd, status_after};
+ghost use Rattle.bl_status.specs.Status.{IsEnd, status_after, status_of};
+ghost use Rattle.bl_status.specs.Unkept.{unkept_fault, unkept_text};
 
-use crate::told::tell_ended;
+use crate::noted::note_started;
+use bl_clock::clock::SharedClock;
 use bl_entrance::acceptor::SharedLog;
 use bl_entrance::ended::Ended;
 use bl_entrance::entrance::Entrance;
@@ -22,13 +25,14 @@ use bl_hall::hall::Hall;
 use bl_host::host::{HostContext, Hosted, host};
 use bl_keep::keep::keep;
 use bl_keep::named::Kept;
-use bl_keep::part::{PartFile, TrailFile, claim, give_back};
+use bl_keep::part::{PartFile, TrailFile, claim_or_try, give_back};
 use bl_keep::whole::Unkept;
 use bl_keeper::keep::NoKeep;
+use bl_live::told::tell_ended;
 use bl_setup::reader::read_setup;
 use bl_setup::setup::Setup;
 use bl_status::fault::{ProgramFault, of_keep, of_setup};
-use bl_status::told::{tell, tell_left};
+use bl_status::told::{tell, tell_at, tell_left};
 use bl_wire::put::put_out;
 use bl_wire::watched::Watched;
 use bl_worker::pause::Pause;
@@ -41,13 +45,14 @@ use std::thread::Threads;
 use std::time::Clock;
 
 /// What a run of `serve` stands on: the runtime, where memory comes from, what each turn does between a start and an
-/// end, and the log of connections, if there is one.
+/// end, the log of connections, if there is one, and the lines of the journal's clock, if there is one.
 #[derive(Drop)]
 pub struct RunContext<'a, P, T: Files> {
     pub rt: &'a T,
     pub alloc: Global,
     pub pause: &'a P,
     pub log: Option<&'a SharedLog<T::File>>,
+    pub clock: Option<&'a SharedClock<T::File>>,
 }
 
 /// What a run of `serve` was asked for: the weight of the lines that are admitted at most, 1 to 100,000, how many
@@ -87,7 +92,7 @@ struct Prepared<F> {
     claimed: Option<PartFile<F>>,
 }
 
-/// Claims the trail's file, if that is asked for, and tells `listening`.
+/// Claims the trail's file, if that is asked for, else sees that one can be made, and tells `listening`.
 fn announce<T: Files, W: Write>(
     rt: &T,
     alloc: Global,
@@ -96,9 +101,9 @@ fn announce<T: Files, W: Write>(
 ) -> Result<Option<PartFile<T::File>>, ProgramFault>
     ensures ok { OnOk result (Appends (W.contents writer.old.inner) (W.contents writer.new.inner) listening) }
     ensures handed_on { OnOk result (writer.new.unflushed ≡ false) }
-    ensures err { IfErr result (λ fault. IsUnannounced trail.now.claims fault (used W.contents writer.old writer.new)) }
+    ensures err { IfErr result (λ fault. IsUnannounced fault (used W.contents writer.old writer.new)) }
 {
-    let claimed = match claim(rt, alloc, trail) {
+    let claimed = match claim_or_try(rt, alloc, trail) {
         Ok(claimed) => claimed,
         Err(fault) => return Err(of_keep(fault)),
     };
@@ -111,7 +116,7 @@ fn announce<T: Files, W: Write>(
 }
 
 /// All before the first session: the setup of these bytes is read, the gate is made, the trail's file is claimed if
-/// that is asked for, and `listening` is told.
+/// that is asked for, or seen to be one that can be made, and `listening` is told.
 fn prepare<T: Files, W: Write>(
     rt: &T,
     alloc: Global,
@@ -123,7 +128,7 @@ fn prepare<T: Files, W: Write>(
         (λ made. IsPrepared setup.now run.now.limit made.gate made.pass (used W.contents writer.old writer.new)) }
     ensures handed_on { OnOk result (writer.new.unflushed ≡ false) }
     ensures err { IfErr result
-        (λ fault. IsUnprepared setup.now run.now.trail.claims fault (used W.contents writer.old writer.new)) }
+        (λ fault. IsUnprepared setup.now fault (used W.contents writer.old writer.new)) }
 {
     let setup = match read_setup(alloc, setup) {
         Ok(setup) => setup,
@@ -223,6 +228,19 @@ pub struct Finished {
     pub kept: Option<Kept>,
 }
 
+/// A run ends with this fault, which is told, before its trail was to be kept under this name.
+pub(crate) fn end_before<E: Write>(
+    errors: &mut Watched<E>,
+    fault: ProgramFault,
+    trail: &TrailFile<'_>,
+) -> Finished
+    ensures told { HasToldAt trail.now.name.now fault result.status (used E.contents errors.old errors.new) }
+    ensures status { (result.status ≡ 3) ⊎ (result.status ≡ 4) }
+{
+    let status = tell_at(errors, &fault, trail.name);
+    Finished { status, kept: None }
+}
+
 /// A run ends with this fault, which is told, before a trail was to be kept.
 pub fn end_with<E: Write>(errors: &mut Watched<E>, fault: ProgramFault) -> Finished
     ensures told { HasTold fault result.status (used E.contents errors.old errors.new) }
@@ -232,13 +250,39 @@ pub fn end_with<E: Write>(errors: &mut Watched<E>, fault: ProgramFault) -> Finis
     Finished { status, kept: None }
 }
 
-/// Tells that a trail was not kept, and where what is left of it is. The status is that after this fault.
+/// Tells why a trail of this name was not kept, and where what is left of it is, or which file it was to be; and gives
+/// the status by that.
+fn tell_unkept<E: Write>(errors: &mut Watched<E>, unkept: &Unkept, name: &str) -> u8
+    ensures puts { Puts (unkept_text name.now (Some unkept.now)) (end_state E.contents errors.old)
+        (end_state E.contents errors.new) }
+    ensures status { result ≡ status_of (unkept_fault unkept.now.fault) }
+    ensures range { (result ≡ 3) ⊎ (result ≡ 4) }
+{
+    let fault = of_keep(unkept.fault);
+    if unkept.left.is_none() {
+        return tell_at(errors, &fault, name);
+    }
+    let status = tell(errors, &fault);
+    tell_left(errors, &unkept.left);
+    status
+}
+
+/// The status of a run with this status so far, after a fault more that has its own: the first gives it.
+fn status_behind(status: u8, own: u8) -> u8
+    ensures { result ≡ (if status == 0 then own else status) }
+{
+    if status == 0 { own } else { status }
+}
+
+/// Tells that a trail of this name was not kept, and where what is left of it is. The status is that after this fault.
 pub(crate) fn tell_trail<E: Write>(
     errors: &mut Watched<E>,
     status: u8,
+    trail: &TrailFile<'_>,
     kept: Result<Kept, Unkept>,
 ) -> Finished
-    ensures trail { TellsTrail true status result (end_state E.contents errors.old) (end_state E.contents errors.new) }
+    ensures trail { TellsTrail trail.now.name.now true status result (end_state E.contents errors.old)
+        (end_state E.contents errors.new) }
     ensures done { result.status ≡ 0 → IsSome result.kept }
     ensures range { IsEnd status → IsEnd result.status }
 {
@@ -248,8 +292,8 @@ pub(crate) fn tell_trail<E: Write>(
             kept: Some(kept),
         },
         Err(unkept) => {
-            let status = tell_found(errors, status, true, &of_keep(unkept.fault));
-            tell_left(errors, &unkept.left);
+            let own = tell_unkept(errors, &unkept, trail.name);
+            let status = status_behind(status, own);
             Finished { status, kept: None }
         }
     }
@@ -268,7 +312,7 @@ where
     T::File: Send,
     requires gate { prepared.pass.gate ≡ prepared.gate }
     requires parts { prepared.pass.parts ≡ 64 }
-    ensures run { HasHosted result (used E.contents errors.old errors.new) }
+    ensures run { HasHosted run.now.trail.name.now result (used E.contents errors.old errors.new) }
     ensures kept { result.status ≡ 0 → IsSome result.kept }
     ensures range { IsEnd result.status }
 {
@@ -277,6 +321,7 @@ where
         pass,
         claimed,
     } = prepared;
+    note_started(run_context, run.limit, run.options);
     let host_context = HostContext {
         rt: run_context.rt,
         alloc: run_context.alloc,
@@ -284,13 +329,14 @@ where
         pause: run_context.pause,
         keep: &NoKeep,
         log: run_context.log,
+        clock: run_context.clock,
     };
     let Hosted {
         pass,
         ended,
         whole,
         memory,
-    } = host(&host_context, entrance, pass, run.options);
+    } = host(&host_context, entrance, pass, run.options, errors);
     let status = tell_hosted(errors, whole, ended.as_slice(), memory);
     drop(ended);
     if !whole {
@@ -307,7 +353,7 @@ where
         claimed,
         &run.trail,
     );
-    tell_trail(errors, status, kept)
+    tell_trail(errors, status, &run.trail, kept)
 }
 
 /// Sessions of who comes in at an entrance, after the setup of these bytes: the command `serve`.
@@ -331,7 +377,7 @@ pub fn serve_on<
 ) -> Finished
 where
     T::File: Send,
-    ensures run { IsServe setup.now run.now.trail.claims result (used W.contents writer.old writer.new)
+    ensures run { IsServe setup.now run.now.trail.name.now result (used W.contents writer.old writer.new)
         (used E.contents errors.old errors.new) }
     ensures handed_on { result.status ≡ 0 → writer.new.unflushed ≡ false }
     ensures kept { result.status ≡ 0 → IsSome result.kept }
@@ -339,6 +385,6 @@ where
 {
     match prepare(run_context.rt, run_context.alloc, setup, run, writer) {
         Ok(prepared) => host_on(run_context, entrance, prepared, run, errors),
-        Err(fault) => end_with(errors, fault),
+        Err(fault) => end_before(errors, fault, &run.trail),
     }
 }

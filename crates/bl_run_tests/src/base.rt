@@ -146,6 +146,7 @@ where
         alloc,
         pause,
         log: None,
+        clock: None,
     };
     let mut writer = Watched::new(Vec::new(alloc));
     let mut errors = Watched::new(Vec::new(alloc));

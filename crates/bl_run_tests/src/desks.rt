@@ -1,5 +1,7 @@
 //! Sessions of one thread, of which one waits for the journal.
-ghost use Rattle.std.specs.Prelude.{◌≡◌, false};
+ghost use Rattle.std.specs.Prelude.{◌≡◌, [], false};
+ghost use Rattle.bl_disk.specs.File.{seen};
+ghost use Rattle.bl_disk_tests.specs.OfTorn.{torn_now};
 
 use super::base::{BASE, Served, assert_ended, connect, greet, hear, listen, right, say};
 use super::held::{Held, Marks};
@@ -109,14 +111,16 @@ fn visit<R: AllocGlobal + Abort + Net<Listener = TcpListener, Stream = TcpStream
 
 /// A file of which so many syncs succeed.
 fn file<'a, R: AllocGlobal + Abort>(rt: &R, syncs: usize, marks: &'a Marks) -> Held<'a>
-    ensures { result.torn.failed ≡ false }
+    ensures sound { result.torn.failed ≡ false }
+    ensures empty { seen (torn_now result.torn) ≡ [] }
 {
     Held::new(right(rt, Torn::new(rt.alloc(), b"", 100_000, syncs)), marks)
 }
 
 /// What a run over the base setup starts from, with a file of which so many syncs succeed.
 fn begin<'a, R: AllocGlobal + Abort>(rt: &R, syncs: usize, marks: &'a Marks) -> Start<Held<'a>>
-    ensures { result.device.torn.failed ≡ false }
+    ensures sound { result.device.torn.failed ≡ false }
+    ensures empty { seen (torn_now result.device.torn) ≡ [] }
 {
     let setup = right(rt, read_setup(rt.alloc(), BASE));
     Start {
@@ -151,6 +155,7 @@ where
         alloc: rt.alloc(),
         pause: marks,
         log: None,
+        clock: None,
     };
     let entrance = Entrance::Port(listener);
     let mut writer = Watched::new(Vec::new(rt.alloc()));
@@ -229,6 +234,17 @@ fn all_learn_that_wait_where_a_file_fails(rt: HostRuntime) {
     assert_heard(&rt, &marks, &came, b"", b"");
     assert!(rt; came.served.ended(3, in_order) || came.served.ended(3, in_turn));
     drop(came);
+}
+
+/// The head of the journal is not kept: that is told, and of which file, and nobody is served.
+#[test]
+fn a_head_that_is_not_kept_names_its_file(rt: HostRuntime) {
+    let marks = Marks::new(rt);
+    let (listener, _) = right(&rt, listen(&rt));
+    let served = serve_with(&rt, listener, &marks, 0);
+    assert_ended(&rt, &served, 3, "cannot write trail\nfile: day.part\n");
+    assert!(rt; served.told.is_empty());
+    drop(served);
 }
 
 /// The client of the session that waits has gone: the other is answered, and the run ends.

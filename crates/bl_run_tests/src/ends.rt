@@ -99,11 +99,6 @@ where
     came
 }
 
-/// Asserts that a run told that it listens, and nothing else.
-fn assert_told(rt: &impl Abort, served: &Served) {
-    assert!(rt; served.told.as_slice() == b"listening\n".as_slice());
-}
-
 /// A session with no first line is served to its end, and is no fault of the run.
 #[test]
 fn a_session_without_a_line_is_no_fault(rt: HostRuntime) {
@@ -113,13 +108,19 @@ fn a_session_without_a_line_is_no_fault(rt: HostRuntime) {
     drop(served);
 }
 
-/// A trail file in a folder that is not there: all sessions are served, and then the fault is told.
+/// A trail file in a folder that is not there: that is told, and nobody is served.
 #[test]
 fn a_trail_that_cannot_be_kept_is_told(rt: HostRuntime) {
-    let (heard, served) = serve_one(&rt, "nowhere/silent.trail", Visit::Says(b"hello ann\n"));
-    assert_ended(&rt, &served, 3, "cannot write trail\n");
-    assert_told(&rt, &served);
-    drop(heard);
+    let (listener, _) = right(&rt, listen(&rt));
+    let run = two_of_each(1, "nowhere/silent.trail");
+    let served = serve(&rt, rt.alloc(), listener, &run, &NoPause);
+    assert_ended(
+        &rt,
+        &served,
+        3,
+        "cannot write trail\nfile: nowhere/silent.trail\n",
+    );
+    assert!(rt; served.told.is_empty());
     drop(served);
 }
 

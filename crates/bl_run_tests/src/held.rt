@@ -2,6 +2,7 @@
 use super::base::comes;
 use bl_disk::device::{Device, DeviceError};
 use bl_disk_tests::torn::Torn;
+use bl_file::named::FileName;
 use bl_worker::pause::Pause;
 use std::alloc::Global;
 use std::sync::atomic::{AtomicU64, Ordering};
@@ -89,6 +90,8 @@ impl<'a> Held<'a> {
 impl Device for Held<'_> {
     ghost use Rattle.bl_disk_tests.specs.OfTorn.{torn_now, torn_past};
 
+    type Synced = ();
+
     ghost now = { λ held. torn_now held.torn };
 
     ghost past = { λ held. torn_past held.torn };
@@ -110,5 +113,15 @@ impl Device for Held<'_> {
     fn sync(&mut self) -> Result<(), DeviceError> {
         self.marks.hold_up();
         self.torn.sync()
+    }
+}
+
+impl FileName for Held<'_> {
+    ghost use Rattle.std.specs.Prelude.{codes};
+
+    ghost name = { λ _. codes "day.part" };
+
+    fn name(&self) -> &str {
+        "day.part"
     }
 }

@@ -5,6 +5,7 @@
 //!     ends        sessions that end early, and trails that cannot be kept
 //!     trails      trail files
 //!     failing     a file system whose files fail
+//!     live        what a server tells while it runs
 //!     unkept      a server that can keep no more
 //!     held        a file whose next sync is held until a session has gone on
 //!     desks       sessions of one thread, of which one waits for the journal
@@ -20,6 +21,8 @@ mod ends;
 mod failing;
 #[cfg(test)]
 mod held;
+#[cfg(test)]
+mod live;
 #[cfg(test)]
 mod overlaps;
 #[cfg(test)]

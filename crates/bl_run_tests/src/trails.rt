@@ -155,7 +155,9 @@ fn assert_refused<R: Files + AllocGlobal + Abort>(rt: &R, trail: TrailFile<'_>) 
     let name = trail.name;
     let sat = sit(rt, rt.alloc(), trail);
     assert_written(rt, &sat, b"");
-    assert_sat(rt, name, &sat, 3, "cannot write trail\n");
+    let said = joined(rt, &["cannot write trail\nfile: ", name, "\n"]);
+    assert_sat(rt, name, &sat, 3, said.as_str());
+    drop(said);
     drop(sat);
 }
 

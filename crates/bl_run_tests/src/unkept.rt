@@ -7,7 +7,8 @@ use bl_entrance::acceptor::SharedLog;
 use bl_gate::gate::Gate;
 use bl_gate::pass::Pass;
 use bl_hall::hall::Hall;
-use bl_host::ended::{Ended, Why};
+use bl_horizon::horizon::{Extent, Horizon};
+use bl_host::ended::Ended;
 use bl_host::entrance::Entrance;
 use bl_host::host::{HostContext, host};
 use bl_host::options::Options;
@@ -16,6 +17,7 @@ use bl_keeper::keep::Keep;
 use bl_keeper::receipt::Receipt;
 use bl_record::fault::JournalFault;
 use bl_setup::reader::read_setup;
+use bl_wire::watched::Watched;
 use bl_worker::pause::NoPause;
 use std::alloc::{AllocGlobal, Global};
 use std::net::{Net, SocketAddr, TcpListener, TcpStream};
@@ -45,9 +47,9 @@ impl Keep for Once {
         &self,
         rt: &R,
         alloc: Global,
-        events: u64,
+        extent: &Extent,
     ) -> Result<Receipt, JournalFault> {
-        let _ = events;
+        let _ = extent;
         let _ = rt;
         let _ = alloc;
         if self.asked.fetch_add(1, Ordering::SeqCst) == 0 {
@@ -57,14 +59,9 @@ impl Keep for Once {
         }
     }
 
-    fn receipt_of<R: Wait>(&self, rt: &R, events: u64) -> Option<Receipt> {
+    fn receipt_of<R: Wait>(&self, rt: &R, extent: &Extent) -> Option<Receipt> {
         let _ = rt;
-        let _ = events;
-        None
-    }
-
-    fn events(&self, thread: usize) -> Option<&AtomicU64> {
-        let _ = thread;
+        let _ = extent;
         None
     }
 
@@ -83,7 +80,8 @@ impl Keep for Once {
         alloc: Global,
         number: u64,
     ) -> Option<Result<Receipt, JournalFault>> {
-        Some(self.keep_up(rt, alloc, number))
+        let _ = number;
+        Some(self.keep_up(rt, alloc, &Horizon::new().extent()))
     }
 
     fn decided<R: Wait>(&self, rt: &R) -> u64 {
@@ -102,12 +100,14 @@ impl Keep for Once {
     }
 }
 
-/// What came of a server: whether each thread was started, the parts that came back, and the sessions that ended early.
+/// What came of a server: whether each thread was started, the parts that came back, the sessions that ended early and
+/// were not told of, and what was said meanwhile.
 #[derive(Drop)]
 struct Left {
     whole: bool,
     parts: u32,
     ended: Vec<Ended>,
+    said: Vec<u8>,
 }
 
 /// Hosts three connections with two session threads at this gate, as long as something is kept.
@@ -131,7 +131,9 @@ where
         pause: &NoPause,
         keep,
         log,
+        clock: None,
     };
+    let mut errors = Watched::new(Vec::new(rt.alloc()));
     let options = Options {
         workers: 1,
         session_threads: 2,
@@ -140,11 +142,18 @@ where
         idle: None,
         trail_limit: 1_073_741_824,
     };
-    let hosted = host(&host_context, &Entrance::Port(listener), pass, options);
+    let hosted = host(
+        &host_context,
+        &Entrance::Port(listener),
+        pass,
+        options,
+        &mut errors,
+    );
     Left {
         whole: hosted.whole,
         parts: hosted.pass.parts(),
         ended: hosted.ended,
+        said: errors.into_inner(),
     }
 }
 
@@ -184,13 +193,12 @@ fn ask<R: Net<Listener = TcpListener, Stream = TcpStream>>(
 }
 
 /// Asserts that all threads were started, that all parts came back, and that the first session alone ended early, since
-/// it was not kept.
+/// it was not kept, which was told at once.
 fn assert_left(rt: &impl Abort, left: &Left) {
     assert!(rt; left.whole);
     assert_eq!(rt; left.parts, 64);
-    assert_eq!(rt; left.ended.len(), 1);
-    assert!(rt; left.ended[0].session == 1);
-    assert!(rt; left.ended[0].why == Why::NotKept);
+    assert!(rt; left.ended.is_empty());
+    assert!(rt; left.said.as_slice() == b"session 1: not kept\n".as_slice());
 }
 
 /// Asserts that nothing was heard.

@@ -308,7 +308,7 @@ module _ (names : KnownNames) (first q : PassView) (course : Course) (told : Lis
 -- where a pass has gained something since `first`, which stands within what it has seen
 module _ (names : KnownNames) (first p q : PassView) (g : List ℕ) (since : p.own ≡ first.own ++ g) (inside : (i : ℕ) → 1 ≤ times i g → i < length p.seen)
     (session u : ℕ) (replies : ℕ → List ℕ) (legal : HasTrail (hall_seen q)) (base : q.gate.base ≡ p.gate.base)
-    (call : Calls p (Opens u) (λ x. session ≡ length x.sessions) q) (quiet : replies 0 ≡ line_or_full names 0 []) where
+    (call : Calls p (Opens u) (λ x. session ≡ length x.sessions) q) (from : ℕ) (quiet : (k : ℕ) → k ≤ from → replies k ≡ line_or_full names k []) where
   abbrev before : State
   before = state_now (hall_with p.gate.base call.trail)
 
@@ -333,8 +333,8 @@ module _ (names : KnownNames) (first p q : PassView) (g : List ℕ) (since : p.o
       ap (replies_to (change before (Opens u)) session k) (sym e)
       ∙ replies_other (change before (Opens u)) session k 0 (length before.order) (λ p low high own at. not_mine p (omega (arith, high)) own)
 
-  pub course_opened : IsCourse names first q (record { session = session; last = 0; upto = 0; replies = replies }) (request.Opens u ∷ [])
-  course_opened = record {
+  pub course_opened_at : IsCourse names first q (record { session = session; last = from; upto = from; replies = replies }) (request.Opens u ∷ [])
+  course_opened_at = record {
     gained = g ++ length call.trail ∷ [];
     own = call.own ∙ (ap (λ l. l ++ length call.trail ∷ []) since ∙ append_assoc first.own g (length call.trail ∷ []));
     within = λ i some. within i (either i g (length call.trail ∷ []) some);
@@ -355,13 +355,13 @@ module _ (names : KnownNames) (first p q : PassView) (g : List ℕ) (since : p.o
         ∙ ap (λ s. s.subject) (get_or-append_seam before.sessions (record { subject = u; last = 0 }) [] no_session));
     works = [];
     mine = λ i k w some at. mine i k w (either i g (length call.trail ∷ []) some) at;
-    admits = admitted_none (state_seen q) 0;
-    covers = record { done = []; rest = request.Opens u ∷ []; split = refl; unsettled = tt; low = All-nil (λ (a : ℕ × Work). a.0 ≤ 0) };
+    admits = admitted_none (state_seen q) from;
+    covers = record { done = []; rest = request.Opens u ∷ []; split = refl; unsettled = tt; low = All-nil (λ (a : ℕ × Work). a.0 ≤ from) };
     answered = λ is alone. record {
       lines = ap (admitted session) call.seen ∙ (admitted-append session call.trail (Opens u ∷ []) ∙ (append-nil (admitted session call.trail)
           ∙ none_unopened (start p.gate.base.setup p.gate.base.limit) call.trail session trail_before (omega (arith, call.answered))));
-      over = subst (λ y. IsOverUpTo y session 0) (sym state_then) (λ p lt own low. absurd (not_mine p lt own));
-      answers = λ k le. zero_only k le;
+      over = subst (λ y. IsOverUpTo y session from) (sym state_then) (λ p lt own low. absurd (not_mine p lt own));
+      answers = λ k le. none_yet k le;
     };
   }
     where
@@ -381,11 +381,18 @@ module _ (names : KnownNames) (first p q : PassView) (g : List ℕ) (since : p.o
       mine i k w (inr new) at =
           absurd (no_line u session k w (sym (call_there p q (Opens u) (λ y. session ≡ length y.sessions) call) ∙ (ap (slice_get q.seen) (sym (one_place i (length call.trail) new)) ∙ at)))
 
-      zero_only : (k : ℕ) → k ≤ 0 → line_text (state_seen q) session k ≡ replies k
-      zero_only k le =
-          let e : k ≡ 0 = omega (arith, le) in
-          ap (line_text (state_seen q) session) e
-          ∙ (ap (λ y. line_text y session 0) state_then ∙ (ap (λ l. line_or_full before.setup.names 0 l) (no_replies 0) ∙ (sym quiet ∙ ap replies (sym e))))
+      none_yet : (k : ℕ) → k ≤ from → line_text (state_seen q) session k ≡ replies k
+      none_yet k le =
+          ap (λ y. line_text y session k) state_then ∙ (ap (λ l. line_or_full before.setup.names k l) (no_replies k) ∙ sym (quiet k le))
+
+-- a session that begins with its run
+pub course_opened : (names : KnownNames) (first p q : PassView) (g : List ℕ) → p.own ≡ first.own ++ g → ((i : ℕ) → 1 ≤ times i g → i < length p.seen)
+    → (session u : ℕ) (replies : ℕ → List ℕ) → HasTrail (hall_seen q) → q.gate.base ≡ p.gate.base
+    → Calls p (Opens u) (λ x. session ≡ length x.sessions) q → replies 0 ≡ line_or_full names 0 []
+    → IsCourse names first q (record { session = session; last = 0; upto = 0; replies = replies }) (request.Opens u ∷ [])
+course_opened names first p q g since inside session u replies legal base call quiet =
+    course_opened_at names first p q g since inside session u replies legal base call 0
+    (λ k le. let e : k ≡ 0 = omega (arith, le) in ap replies e ∙ (quiet ∙ ap (λ j. line_or_full names j []) (sym e)))
 
 -- ---- the replies of a block
 

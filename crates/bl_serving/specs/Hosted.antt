@@ -8,13 +8,14 @@ use Rattle.bl_hall.specs.Chronicle.{Chronicle}
 use Rattle.bl_entrance.specs.declared.ended.Ended.{Ended}
 use Rattle.bl_recover.specs.Telling.{cut_line}
 use Rattle.bl_recover.specs.declared.fault.RecoveryFault.TheVariants.{Program}
+use Rattle.bl_live.specs.Telling.{AreNotices}
 use Rattle.bl_run.specs.Serving.{faults_found, hosted_text, listening}
 use Rattle.bl_status.specs.Status.{status_after}
 use Rattle.bl_status.specs.declared.fault.ProgramFault.TheVariants.{NoMemory, Write}
 use Rattle.bl_setup.specs.Setup.{Setup}
 use Rattle.bl_wire.specs.Watch.{EndState, Puts, Use}
 use Rattle.bl_serving.specs.Beginning.{Begins, IsUnbegun}
-use Rattle.bl_serving.specs.Telling.{status_by, trail_text, words_by}
+use Rattle.bl_serving.specs.Telling.{status_by, trail_text, words_at}
 use Rattle.bl_serving.specs.declared.fault.ServingFault.{ServingFault}
 use Rattle.bl_serving.specs.declared.fault.ServingFault.TheVariants.{Recovery}
 
@@ -30,20 +31,22 @@ status_with status None = status
 status_with zero (Some fault) = status_by fault
 status_with (suc n) (Some fault) = suc n
 
--- Sessions were served in the hall that the run began with. What was found is told in its order, the trail's fault
--- last, and the first fault gives the status. Where each thread was started the trail is whole, or has a fault; where
--- one was not, it is left as it is.
+-- Sessions were served in the hall that the run began with. What was met while others ran was told then; what was found
+-- by the end is told in its order, the trail's fault last, and the first fault gives the status. Where each thread was
+-- started the trail is whole, or has a fault; where one was not, it is left as it is.
 pub record HasHosted (begun : Chronicle) (status : ℕ) (is_whole : Bool) (file : File)
     (before after : EndState) : Type 0 where
   pub threads : Bool
   pub ended : List Ended
   pub memory : Bool
+  pub live : List ℕ
+  pub during : AreNotices live
   pub trail : Option ServingFault
   pub left : threads ≡ true → IsLeft begun trail file
   pub unclosed : threads ≡ false → trail ≡ None
   pub whole : (is_whole ≡ true) ↔ ((threads ≡ true) × (trail ≡ None))
   pub status_is : status ≡ status_with (status_after 0 (faults_found threads memory)) trail
-  pub said : Puts (hosted_text threads ended memory ++ trail_text trail) before after
+  pub said : Puts (live ++ (hosted_text threads ended memory ++ trail_text trail)) before after
 
 -- Sessions were served: after what was cut off was told, and `listening`.
 pub record HasServed (resumes : Bool) (setup : Setup) (limit : ℕ) (text : List ℕ) (status : ℕ) (is_whole : Bool)
@@ -57,19 +60,21 @@ pub record HasServed (resumes : Bool) (setup : Setup) (limit : ℕ) (text : List
   pub hosted : HasHosted begun status is_whole file between after
 
 -- No session was served, since nothing was begun; or a growth was refused for the gate; or `listening` could not be
--- told. The fault is told.
-abbrev pub IsUnserved : Bool → Setup → ℕ → List ℕ → ServingFault → ℕ → Use → EndState → EndState → Type 0
-IsUnserved resumes setup limit text fault status output before after = (status ≡ status_by fault)
-    × ((Keeps output.before output.after × Puts (words_by fault) before after
+-- told. The fault is told, and of a file that cannot be written its name.
+abbrev pub IsUnserved : (name : List ℕ) → Bool → Setup → ℕ → List ℕ → ServingFault → ℕ → Use → EndState → EndState
+    → Type 0
+IsUnserved name resumes setup limit text fault status output before after = (status ≡ status_by fault)
+    × ((Keeps output.before output.after × Puts (words_at name fault) before after
     × (IsUnbegun resumes setup text fault ⊎ (fault ≡ Recovery (Program NoMemory))))
     ⊎ ((fault ≡ Recovery (Program Write)) × (output.failed ≡ true)
     × ((n : ℕ) × Appends output.before output.after (take n listening))
     × ((begun : Chronicle) × (cut : ℕ) × Begins resumes setup limit text begun cut
-    × Puts (cut_line cut ++ words_by fault) before after)))
+    × Puts (cut_line cut ++ words_at name fault) before after)))
 
--- sessions were served, or none was
-abbrev pub IsServing : Bool → Setup → ℕ → List ℕ → ℕ → Bool → File → Use → EndState → EndState → Type 0
-IsServing resumes setup limit text status is_whole file output before after =
+-- sessions were served, or none was, over the file of this name
+abbrev pub IsServing : (name : List ℕ) → Bool → Setup → ℕ → List ℕ → ℕ → Bool → File → Use → EndState → EndState
+    → Type 0
+IsServing name resumes setup limit text status is_whole file output before after =
     HasServed resumes setup limit text status is_whole file output before after
     ⊎ ((fault : ServingFault) × (is_whole ≡ false)
-    × IsUnserved resumes setup limit text fault status output before after)
+    × IsUnserved name resumes setup limit text fault status output before after)

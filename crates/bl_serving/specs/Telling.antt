@@ -5,7 +5,7 @@ use Rattle.bl_disk.specs.declared.device.DeviceError.TheVariants as devices
 use Rattle.bl_record.specs.declared.fault.JournalFault.{JournalFault}
 use Rattle.bl_record.specs.declared.fault.JournalFault.TheVariants as keeping
 use Rattle.bl_recover.specs.Telling as recoveries
-use Rattle.bl_recover.specs.Telling.{fault_text}
+use Rattle.bl_recover.specs.Telling.{fault_text, fault_text_at}
 use Rattle.bl_recover.specs.declared.fault.RecoveryFault.TheVariants.{Program}
 use Rattle.bl_status.specs.declared.fault.ProgramFault.TheVariants.{CannotWriteTrail, NoMemory}
 use Rattle.bl_serving.specs.declared.fault.ServingFault.{ServingFault}
@@ -15,6 +15,12 @@ use Rattle.bl_serving.specs.declared.fault.ServingFault.TheVariants.{Recovery, C
 abbrev pub words_by : ServingFault → List ℕ
 words_by (Recovery fault) = fault_text fault
 words_by CutShort = codes "trail cut short\n"
+
+-- what is said of a fault of a run over the journal in the file of this name: behind the words for a trail that cannot be
+-- read or written also that it is this file
+abbrev pub words_at : List ℕ → ServingFault → List ℕ
+words_at name (Recovery fault) = fault_text_at name fault
+words_at name CutShort = words_by CutShort
 
 -- 4 where the run is out of memory, and 3 for anything else
 abbrev pub status_by : ServingFault → ℕ

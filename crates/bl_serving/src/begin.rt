@@ -2,6 +2,7 @@
 ghost use Rattle.std.specs.Prelude.{◌≡◌, ◌≤◌, false, true, IfErr, IfOk};
 ghost use Rattle.bl_disk.specs.File.{seen};
 ghost use Rattle.bl_alone.specs.Recording.{HasRecorded};
+ghost use Rattle.bl_record.specs.Torn.{IsTornHead};
 ghost use Rattle.bl_serving.specs.Beginning.{Begins, IsUnbegun};
 
 use crate::fault::{ServingFault, of_begin};
@@ -17,16 +18,16 @@ use std::alloc::Global;
 /// What a run begins with: its hall, the journal that has kept all that happened there, and how many bytes were cut off
 /// the file.
 #[derive(Drop)]
-pub(crate) struct Begun<D: Device> {
+pub(crate) struct Begun<D> {
     pub(crate) hall: Hall,
     pub(crate) journal: Journal<D>,
     pub(crate) cut: usize,
 }
 
-/// What a run starts from: its setup, its file, and whether it goes on from what that has; else what is there is cut
-/// off.
+/// What a run starts from: its setup, its file, and whether it goes on from what that has; else the file has nothing,
+/// or a torn head, which is cut off.
 #[derive(Drop)]
-pub struct Start<D: Device> {
+pub struct Start<D> {
     pub setup: Setup,
     pub device: D,
     pub resumes: bool,
@@ -41,6 +42,7 @@ fn begin_anew<D: Device>(
 ) -> Result<Begun<D>, (ServingFault, D)>
     requires limited { (1 ≤ limit) × (limit ≤ 100000) }
     requires sound { D.has_failed device ≡ false }
+    requires fresh { IsTornHead (seen (D.now device)) }
     ensures begins { IfOk result (λ begun. Begins false setup limit (seen (D.now device)) begun.hall begun.cut) }
     ensures recorded { IfOk result (λ begun. HasRecorded D.now D.has_failed begun.journal begun.hall) }
     ensures err { IfErr result (λ failed. IsUnbegun false setup (seen (D.now device)) failed.0) }
@@ -89,6 +91,7 @@ pub(crate) fn begin_in<D: Device>(
 ) -> Result<Begun<D>, (ServingFault, D)>
     requires limited { (1 ≤ limit) × (limit ≤ 100000) }
     requires sound { D.has_failed start.device ≡ false }
+    requires fresh { start.resumes ≡ false → IsTornHead (seen (D.now start.device)) }
     ensures begins { IfOk result
         (λ begun. Begins start.resumes start.setup limit (seen (D.now start.device)) begun.hall begun.cut) }
     ensures recorded { IfOk result (λ begun. HasRecorded D.now D.has_failed begun.journal begun.hall) }

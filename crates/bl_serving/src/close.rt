@@ -5,7 +5,6 @@ ghost use Rattle.bl_audit.specs.Bookmarks.{HasGrown};
 ghost use Rattle.bl_hall.specs.Chronicle.{Chronicle};
 ghost use Rattle.bl_keeper.specs.Keeping.{HasKept};
 ghost use Rattle.bl_alone.specs.Files.{fault_in, file_after, file_in};
-ghost use Rattle.bl_alone.specs.Recording.{HasRecorded};
 ghost use Rattle.bl_serving.specs.Hosted.{IsLeft};
 
 use crate::fault::{ServingFault, of_end};
@@ -25,18 +24,6 @@ pub(crate) fn file_of<D: Device>(journal: Journal<D>) -> D
     device
 }
 
-/// Closes a journal that has kept all.
-fn close<D: Device>(journal: Journal<D>) -> Result<Closed<D>, (ServingFault, D)>
-    requires { (hall : Chronicle) × HasRecorded D.now D.has_failed journal hall }
-    ensures left { (hall begun : Chronicle) → HasRecorded D.now D.has_failed journal hall → HasGrown begun hall
-        → IsLeft begun (fault_in result) (file_in D.now (file_after result)) }
-{
-    match journal.close() {
-        Ok(closed) => Ok(closed),
-        Err((_, device)) => Err((ServingFault::CutShort, device)),
-    }
-}
-
 /// Closes the gate, has the journal keep what happened last, and closes it. The file is handed back, closed or with the
 /// fault.
 pub(crate) fn close_after<D: Device>(
@@ -53,16 +40,10 @@ pub(crate) fn close_after<D: Device>(
         → IsLeft begun (fault_in result) (file_in D.now (file_after result)) }
 {
     let hall = gate.close(pass);
-    let mut journal = journal;
-    let kept = journal.keep_up(alloc, &hall);
-    match kept {
-        Ok(()) => {
-            drop(hall);
-            close(journal)
-        }
-        Err(fault) => {
-            drop(hall);
-            Err((of_end(fault), file_of(journal)))
-        }
+    let closed = journal.close_with(alloc, &hall);
+    drop(hall);
+    match closed {
+        Ok(closed) => Ok(closed),
+        Err((fault, device)) => Err((of_end(fault), device)),
     }
 }

@@ -1,12 +1,12 @@
 //! What a run of `serve` whose trail is kept as it goes tells on standard error, beside what any run of `serve` tells.
 ghost use Rattle.std.specs.Prelude.{◌≡◌, ◌⊎◌};
 ghost use Rattle.bl_wire.specs.Watch.{Puts, end_state};
-ghost use Rattle.bl_serving.specs.Telling.{begin_fault, end_fault, status_by, words_by};
+ghost use Rattle.bl_serving.specs.Telling.{begin_fault, end_fault, status_by, words_at, words_by};
 
 use bl_disk::device::DeviceError;
 use bl_record::fault::JournalFault;
 use bl_recover::fault::RecoveryFault;
-use bl_recover::told::tell_fault;
+use bl_recover::told::{tell_fault, tell_fault_at};
 use bl_status::fault::ProgramFault;
 use bl_wire::put::put_out;
 use bl_wire::watched::Watched;
@@ -59,5 +59,23 @@ pub fn tell_serving<E: Write>(errors: &mut Watched<E>, fault: &ServingFault) -> 
             put_out(errors, b"trail cut short\n");
             3
         }
+    }
+}
+
+/// Tells a fault of a run over the journal in the file of this name, as `tell_serving` does; where the trail cannot be
+/// read or written, that it is this file stands on the next line. Gives the status.
+pub(crate) fn tell_serving_at<E: Write>(
+    errors: &mut Watched<E>,
+    fault: &ServingFault,
+    name: &str,
+) -> u8
+    ensures puts { Puts (words_at name.now fault.now) (end_state E.contents errors.old)
+        (end_state E.contents errors.new) }
+    ensures status { result ≡ status_by fault.now }
+    ensures range { (result ≡ 3) ⊎ (result ≡ 4) }
+{
+    match fault {
+        ServingFault::Recovery(fault) => tell_fault_at(errors, fault, name),
+        ServingFault::CutShort => tell_serving(errors, fault),
     }
 }

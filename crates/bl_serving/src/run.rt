@@ -5,20 +5,23 @@ ghost use Rattle.bl_disk.specs.File.{seen};
 ghost use Rattle.bl_gate.specs.Gates.{hall_seen};
 ghost use Rattle.bl_hall.specs.Chronicle.{Chronicle};
 ghost use Rattle.bl_keeper.specs.Keeping.{HasKept};
+ghost use Rattle.bl_live.specs.Telling.{ToldLive};
+ghost use Rattle.bl_record.specs.Torn.{IsTornHead};
 ghost use Rattle.bl_status.specs.Status.{IsEnd};
 ghost use Rattle.bl_wire.specs.Watch.{Puts, end_state, used};
 ghost use Rattle.bl_alone.specs.Files.{fault_in, file_after, file_in, is_whole};
 ghost use Rattle.bl_alone.specs.Recording.{HasRecorded};
 ghost use Rattle.bl_serving.specs.Hosted.{HasHosted, IsServing, status_with};
-ghost use Rattle.bl_serving.specs.Telling.{status_by, trail_text, words_by};
+ghost use Rattle.bl_serving.specs.Telling.{status_by, trail_text, words_at};
 
 use crate::begin::{Begun, Start, begin_in};
 use crate::close::{close_after, file_of};
-use crate::fault::{ServingFault, tell_serving};
+use crate::fault::{ServingFault, tell_serving, tell_serving_at};
 use bl_alone::run::{Recorded, RecordedFile};
 use bl_disk::device::Device;
 use bl_entrance::entrance::Entrance;
 use bl_entrance::options::Options;
+use bl_file::named::FileName;
 use bl_gate::gate::Gate;
 use bl_gate::pass::Pass;
 use bl_host::host::{HostContext, Hosted, host};
@@ -28,6 +31,7 @@ use bl_keeper::which::Which;
 use bl_record::journal::{Closed, Journal};
 use bl_recover::fault::RecoveryFault;
 use bl_recover::told::tell_cut;
+use bl_run::noted::{note_resumed, note_started};
 use bl_run::serve::{RunContext, tell_hosted};
 use bl_status::fault::ProgramFault;
 use bl_wire::put::put_out;
@@ -53,18 +57,19 @@ pub struct ServingRun {
     pub ghost limited: { (1 ≤ limit) × (limit ≤ 100000) },
 }
 
-/// Ends a run that has served nobody with this fault, which is told.
-fn end_with<D: Device, E: Write>(
+/// Ends a run that has served nobody with this fault, which is told, and of which file it is.
+fn end_with<D: Device + FileName, E: Write>(
     errors: &mut Watched<E>,
     fault: &ServingFault,
     device: D,
 ) -> Recorded<D>
-    ensures puts { Puts (words_by fault.now) (end_state E.contents errors.old) (end_state E.contents errors.new) }
+    ensures puts { Puts (words_at (file_in D.name result.file) fault.now) (end_state E.contents errors.old)
+        (end_state E.contents errors.new) }
     ensures status { result.status ≡ status_by fault.now }
     ensures range { IsEnd result.status }
     ensures part { result.file ≡ RecordedFile.Left device }
 {
-    let status = tell_serving(errors, fault);
+    let status = tell_serving_at(errors, fault, device.name());
     Recorded {
         status,
         file: RecordedFile::Left(device),
@@ -73,9 +78,17 @@ fn end_with<D: Device, E: Write>(
 
 /// What is left after the sessions: what the host says, and the journal.
 #[derive(Drop)]
-struct Hosting<D: Device> {
+struct Hosting<D> {
     hosted: Hosted,
     journal: Journal<D>,
+}
+
+/// What the sessions of a run are hosted with: what it stands on, where clients come in, and what it was asked for.
+#[derive(Drop)]
+struct Hosts<'a, P, T: Files> {
+    run_context: &'a RunContext<'a, P, T>,
+    entrance: &'a Entrance,
+    run: &'a ServingRun,
 }
 
 /// Hosts the sessions of a gate whose trail is kept in this journal.
@@ -84,16 +97,17 @@ fn host_kept<
     D: Device + Send,
     P: Pause + Sync,
     T: Threads + Wait + Files + Net + Clock + Sync,
+    E: Write,
 >(
-    run_context: &RunContext<'_, P, T>,
-    entrance: &Entrance,
+    hosts: &Hosts<'_, P, T>,
     gate: &Gate,
     pass: Pass,
     journal: Journal<D>,
-    run: &ServingRun,
+    errors: &mut Watched<E>,
 ) -> Hosting<D>
 where
     T::File: Send,
+    D::Synced: Send,
     requires gate { (gate.now ≡ G.gate) × (pass.gate ≡ G.gate) }
     requires parts { pass.parts ≡ 64 }
     requires recorded { HasRecorded D.now D.has_failed journal (hall_seen pass) }
@@ -103,7 +117,9 @@ where
     ensures sound { result.journal.fault ≡ None → D.has_failed result.journal.log.device ≡ false }
     ensures kept { result.journal.fault ≡ None
         → HasKept (hall_seen result.hosted.pass) result.journal.bookmark (D.now result.journal.log.device) }
+    ensures told { ToldLive (end_state E.contents errors.old) (end_state E.contents errors.new) }
 {
+    let (run_context, entrance, run) = (hosts.run_context, hosts.entrance, hosts.run);
     let mut pass = pass;
     let part = gate.split_pass(&mut pass);
     let desks = Desks::new(run_context.alloc, run.options.session_threads, run.goes_on);
@@ -115,8 +131,9 @@ where
         pause: run_context.pause,
         keep: &keeper,
         log: run_context.log,
+        clock: run_context.clock,
     };
-    let mut hosted = host(&host_context, entrance, pass, run.options);
+    let mut hosted = host(&host_context, entrance, pass, run.options, errors);
     let (journal, part) = keeper.finish();
     gate.meet(&mut hosted.pass, part);
     Hosting { hosted, journal }
@@ -169,6 +186,7 @@ fn host_on<
 ) -> Recorded<D>
 where
     T::File: Send,
+    D::Synced: Send,
     requires gate { made.1.gate ≡ made.0 }
     requires parts { made.1.parts ≡ 64 }
     requires recorded { HasRecorded D.now D.has_failed journal (hall_seen made.1) }
@@ -178,13 +196,13 @@ where
     ensures range { IsEnd result.status }
 {
     let (gate, pass) = made;
-    let Hosting { hosted, journal } = host_kept::<Brand, D, P, T>(
+    let hosts = Hosts {
         run_context,
         entrance,
-        &gate,
-        pass,
-        journal,
         run,
+    };
+    let Hosting { hosted, journal } = host_kept::<Brand, D, P, T, E>(
+        &hosts, &gate, pass, journal, errors,
     );
     let Hosted {
         pass,
@@ -210,11 +228,12 @@ where
 /// command `serve` with `--keep`.
 ///
 /// `listening` is told on `writer` before the first session is served; before that the file has the head of the trail,
-/// or, where the run goes on from another, all that this had admitted has ended. The status is 0 where all was done and
-/// the trail is whole, 3 for a fault of the setup, of the output or of the trail, and 4 when out of memory. A session
-/// that ends early is told and changes no status. The file is handed back.
+/// or, where the run goes on from another, all that this had admitted has ended. Where the file cannot be written then,
+/// its name stands behind the words. The status is 0 where all was done and the trail is whole, 3 for a fault of the
+/// setup, of the output or of the trail, and 4 when out of memory. A session that ends early is told and changes no
+/// status. The file is handed back.
 pub fn serve_recorded_on<
-    D: Device + Send,
+    D: Device + FileName + Send,
     P: Pause + Sync,
     T: Threads + Wait + Files + Net + Clock + Sync,
     W: Write,
@@ -229,20 +248,24 @@ pub fn serve_recorded_on<
 ) -> Recorded<D>
 where
     T::File: Send,
+    D::Synced: Send,
     requires sound { D.has_failed start.device ≡ false }
+    requires fresh { start.resumes ≡ false → IsTornHead (seen (D.now start.device)) }
     requires writer { writer.old.failed ≡ false }
-    ensures run { IsServing start.resumes start.setup run.now.limit (seen (D.now start.device)) result.status
-        (is_whole result.file) (file_in D.now result.file)
+    ensures run { IsServing (file_in D.name result.file) start.resumes start.setup run.now.limit
+        (seen (D.now start.device)) result.status (is_whole result.file) (file_in D.now result.file)
         (used W.contents writer.old writer.new) (end_state E.contents errors.old) (end_state E.contents errors.new) }
     ensures whole { result.status ≡ 0 → is_whole result.file ≡ true }
     ensures handed_on { result.status ≡ 0 → writer.new.unflushed ≡ false }
     ensures status { IsEnd result.status }
 {
+    let resumes = start.resumes;
     let begun = match begin_in(run_context.alloc, run.limit, start) {
         Ok(begun) => begun,
         Err((fault, device)) => return end_with(errors, &fault, device),
     };
     let Begun { hall, journal, cut } = begun;
+    let (limit, events) = (hall.core().limit(), hall.trail().len());
     let made = match Gate::new(hall) {
         Ok(made) => made,
         Err(refused) => {
@@ -256,6 +279,10 @@ where
         drop(made);
         let fault = ServingFault::Recovery(RecoveryFault::Program(ProgramFault::Write));
         return end_with(errors, &fault, file_of(journal));
+    }
+    note_started(run_context, limit, run.options);
+    if resumes {
+        note_resumed(run_context, events, cut);
     }
     host_on(run_context, entrance, made, journal, run, errors)
 }

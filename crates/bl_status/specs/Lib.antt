@@ -1,5 +1,6 @@
 pub mod Status
 pub mod Failure
 pub mod Message
+pub mod Places
 pub mod Unkept
 pub mod Runs

@@ -8,6 +8,7 @@ use Rattle.bl_keep.specs.declared.whole.Unkept.{Unkept}
 use Rattle.bl_status.specs.declared.fault.ProgramFault.{ProgramFault}
 use Rattle.bl_status.specs.declared.fault.ProgramFault.TheVariants.{CannotWriteTrail, NoMemory}
 use Rattle.bl_status.specs.Message.{fault_line}
+use Rattle.bl_status.specs.Places.{trail_line}
 
 -- what a fault of a trail that is not kept is told as
 abbrev pub unkept_fault : KeepFault → ProgramFault
@@ -33,7 +34,13 @@ abbrev pub unkept_faults : Option Unkept → List ProgramFault
 unkept_faults None = []
 unkept_faults (Some unkept) = unkept_fault unkept.fault ∷ []
 
--- what is said of it: the fault, and where what is left of the trail is
-abbrev pub unkept_text : Option Unkept → List ℕ
-unkept_text None = []
-unkept_text (Some unkept) = fault_line (unkept_fault unkept.fault) ++ left_line unkept.left
+-- behind the fault of a trail of this name: where what is left of it is, or where nothing is, which file it was to be
+abbrev pub rest_line : List ℕ → ProgramFault → Option Left → List ℕ
+rest_line name fault None = trail_line name fault
+rest_line name fault (Some left) = left_line (Some left)
+
+-- what is said of a trail of this name that was not kept
+abbrev pub unkept_text : List ℕ → Option Unkept → List ℕ
+unkept_text name None = []
+unkept_text name (Some unkept) =
+    fault_line (unkept_fault unkept.fault) ++ rest_line name (unkept_fault unkept.fault) unkept.left

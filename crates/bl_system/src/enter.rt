@@ -2,7 +2,7 @@
 //! and the log of these.
 ghost use Rattle.std.specs.Prelude.{◌⊎◌, ◌≡◌, IfOk, is_some};
 ghost use Rattle.bl_wire.specs.Watch.{used};
-ghost use Rattle.bl_system.specs.Entering.{HasToldEntrance};
+ghost use Rattle.bl_system.specs.Entering.{HasToldEntrance, end_words, fault_at_port};
 ghost use Rattle.bl_words.specs.Words.{IsEntranceInRange, IsHostingInRange};
 
 use crate::files::read_setup_file;
@@ -10,14 +10,16 @@ use crate::listen::listen;
 use bl_doors::doors::Doors;
 use bl_doors::fault::DoorFault;
 use bl_doors::told::{tell_fault as tell_doors, tell_wide};
-use bl_entrance::acceptor::SharedLog;
+use bl_entrance::acceptor::{SharedLog, note_server};
 use bl_entrance::entrance::Entrance;
 use bl_log::fault::LogFault;
+use bl_log::note::ServerEvent;
 use bl_log::open::open;
 use bl_log::told::{tell_cut, tell_fault as tell_log};
 use bl_setup::reader::read_setup;
 use bl_setup::setup::Setup;
 use bl_status::fault::{ProgramFault, of_setup};
+use bl_status::place::tell_port;
 use bl_status::told::tell;
 use bl_wire::watched::Watched;
 use bl_words::command::{Hosting, NamedEntrance};
@@ -25,13 +27,16 @@ use std::alloc::Global;
 use std::io::Write;
 use std::net::Net;
 use std::rt::Files as OpensFiles;
-use std::sync::Mutex;
+use std::sync::{Mutex, Wait};
+use std::time::Clock;
 
 /// Why a run of `serve` serves nobody.
 #[derive(Debug, PartialEq, Eq, Drop)]
 pub enum EntranceFault {
     /// A fault that any run may have.
     Program(ProgramFault),
+    /// The port of this number cannot be listened on.
+    Port(u32),
     /// No doors are opened.
     Doors(DoorFault),
     /// The log is not opened.
@@ -62,15 +67,35 @@ impl<F: Write + Drop> Entered<F> {
         }
     }
 
-    /// Closes where clients came in, and tells where the log lacks lines.
+    /// Notes in the log, if there is one, how the run ended that has this status.
+    pub fn note_end<R: Wait + Clock>(&self, rt: &R, status: u8) {
+        if let Some(log) = &self.log {
+            let why = why_of(status);
+            note_server(rt, log, ServerEvent::Ended { why });
+        }
+    }
+
+    /// Closes where clients came in, and tells where the log lacks lines, unless that was told.
     pub fn leave<R: OpensFiles, E: Write>(self, rt: &R, errors: &mut Watched<E>) {
         let Entered { entrance, log, .. } = self;
         entrance.close(rt);
         if let Some(log) = log {
-            if log.into_inner().is_cut() {
+            let mut log = log.into_inner();
+            if log.take_cut() {
                 tell_cut(errors);
             }
         }
+    }
+}
+
+/// The words for why a run ended that has this status.
+fn why_of(status: u8) -> &'static str
+    ensures { result.now ≡ end_words status }
+{
+    match status {
+        0 => "done",
+        4 => "no memory",
+        _ => "fault",
     }
 }
 
@@ -79,6 +104,16 @@ fn setup_of(alloc: Global, bytes: &[u8]) -> Result<Setup, EntranceFault> {
     match read_setup(alloc, bytes) {
         Ok(setup) => Ok(setup),
         Err(fault) => Err(EntranceFault::Program(of_setup(fault))),
+    }
+}
+
+/// The fault at this port, where that cannot be listened on; any other as it is.
+fn at_port(fault: ProgramFault, port: u32) -> EntranceFault
+    ensures { result ≡ fault_at_port fault port }
+{
+    match fault {
+        ProgramFault::CannotListen => EntranceFault::Port(port),
+        fault => EntranceFault::Program(fault),
     }
 }
 
@@ -93,7 +128,7 @@ fn open_entrance<R: AllocGlobal + OpensFiles + Net>(
     match named {
         NamedEntrance::Port(port) => match listen(rt, port) {
             Ok(listener) => Ok(Entrance::Port(listener)),
-            Err(fault) => Err(EntranceFault::Program(fault)),
+            Err(fault) => Err(at_port(fault, port)),
         },
         NamedEntrance::Doors(folder) => {
             let setup = setup_of(rt.alloc(), setup)?;
@@ -152,13 +187,18 @@ pub fn enter<R: AllocGlobal + OpensFiles + Net>(
     }
 }
 
-/// Tells why a run serves nobody, on a line of its own, and gives the status.
+/// Tells why a run serves nobody, on a line of its own, and behind it which port or door that is; and gives the status.
 pub fn tell_entrance<E: Write>(errors: &mut Watched<E>, fault: &EntranceFault) -> u8
     ensures told { HasToldEntrance fault.now result (used E.contents errors.old errors.new) }
     ensures status { (result ≡ 3) ⊎ (result ≡ 4) }
 {
     match fault {
         EntranceFault::Program(fault) => tell(errors, fault),
+        EntranceFault::Port(port) => {
+            let status = tell(errors, &ProgramFault::CannotListen);
+            tell_port(errors, *port);
+            status
+        }
         EntranceFault::Doors(fault) => tell_doors(errors, fault),
         EntranceFault::Log(fault) => tell_log(errors, *fault),
     }

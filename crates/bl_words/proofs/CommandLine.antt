@@ -1,23 +1,28 @@
 -- The matches of the program's command line are those of its words.
 use Rattle.std.proofs.Common.{◌≡◌, ◌≤◌, ◌∙◌, [], ◌∷◌, List, ℕ, Bool, true, false, Option, Some, None, arith, codes, get_or, refl, sym, ap, subst}
-use Rattle.std.specs.Prelude.{Box, IfNone, option_map, ◌↔◌}
-use Rattle.std.specs.Option.{is_some}
+use Rattle.std.specs.Prelude.{Box, IfNone, option_and_then, option_map, ◌↔◌}
+use Rattle.std.specs.Option.{is_some, option_map_or}
 use Rattle.std.specs.Box.{box_value}
 use Rattle.std.specs.Str.Parse.{digits_value, without_leading_plus}
+use Rattle.clap.specs.Facts.{explicit_source}
 use Rattle.clap.specs.Faults.{fault_of, is_simple_and_free}
 use Rattle.clap.specs.Kinds.{HasKind}
 use Rattle.clap.specs.declared.error.Error.{Error}
 use Rattle.clap.specs.Simple.{App, HasMatchesOf, is_simple, subcommand_of, subcommand_rows, subcommand_rows_of}
+use Rattle.clap.specs.declared.parser.matches.MatchedArg.{MatchedArg}
+use Rattle.clap.specs.declared.parser.matches.ValueSource.{ValueSource}
 use Rattle.clap.specs.declared.parser.matches.ArgMatches.{ArgMatches}
 use Rattle.clap.specs.declared.parser.matches.ArgMatches.TheViews.{out-ArgMatches, out-SubCommand}
 use Rattle.clap.specs.declared.parser.matches.SubCommand.{SubCommand}
 use Rattle.clap.proofs.OnLiterals.{clap_on_literals}
+use Rattle.clap.proofs.TakesLemmas.{present_row}
 use Rattle.clap.proofs.WalkLemmas.{first_value-rows, one_text-rows}
+use Rattle.clap.specs.Takes.{is_given}
 use Rattle.clap.specs.Matches.{first_value, found_of, one_text, subcommand_name_of}
 use Rattle.clap.specs.Walk.{Row, first_of, one_of, rows_of}
 use Rattle.bl_keep.specs.declared.part.TrailFile.{TrailFile}
 use Rattle.bl_words.specs.CommandLine.{server_app}
-use Rattle.bl_words.specs.Words.{HasCount, HasEntrance, HasFlag, HasHosting, HasKeeping, HasNoCommand, HasNumber, HasOptions, HasResume, HasTrail, IsHostingInRange, IsInRange, IsOf, MayKeep, entered_by, faults_of, keeping_word, word_of}
+use Rattle.bl_words.specs.Words.{HasCount, HasEntrance, HasFlag, HasHosting, HasKeeping, HasNoCommand, HasNumber, HasOptions, HasResume, HasTrail, IsHostingInRange, IsInRange, IsOf, IsSaid, MayKeep, entered_by, faults_of, keeping_word, word_of}
 use Rattle.bl_words.specs.declared.command.Command.{Command}
 use Rattle.bl_words.specs.declared.command.NamedEntrance.{NamedEntrance}
 use Rattle.bl_words.specs.declared.command.NamedEntrance.TheVariants.{Port, Doors}
@@ -91,6 +96,9 @@ module _ (a b : ArgMatches) (same : rows_of (found_of a) ≡ rows_of (found_of b
   resume_same : (given : Bool) → HasResume a given → HasResume b given
   resume_same given has = (λ e. first_same (codes "resume") ∙ has.0 e, λ e. has.1 (sym (first_same (codes "resume")) ∙ e))
 
+  said_same : (id : List ℕ) (said : Bool) → IsSaid a id said → IsSaid b id said
+  said_same id said has = has ∙ present_row (found_of a) id ∙ ap (is_given id) same ∙ sym (present_row (found_of b) id)
+
   trail_same : (trail : Option TrailFile) → HasTrail a trail → HasTrail b trail
   trail_same None has = first_same (codes "trail") ∙ has
   trail_same (Some file) has = (
@@ -105,12 +113,13 @@ module _ (a b : ArgMatches) (same : rows_of (found_of a) ≡ rows_of (found_of b
 
   -- and are those of the same commands
   pub options_same : (command : Command) → HasOptions a command → HasOptions b command
-  options_same (Alone setup limit trail keeping resumes) has = (
+  options_same (Alone setup limit says_limit trail keeping resumes) has = (
     first_same (codes "setup") ∙ has.0,
     number_same (codes "limit") limit has.1,
     trail_same trail has.2,
     first_same (codes "keep") ∙ has.3,
     resume_same resumes has.4,
+    said_same (codes "limit") says_limit has.5,
   )
   options_same (Serve setup hosting) has = (
     first_same (codes "setup") ∙ has.0,
@@ -127,10 +136,23 @@ module _ (a b : ArgMatches) (same : rows_of (found_of a) ≡ rows_of (found_of b
       log = has.1.log ∙ sym (first_same (codes "log"));
       keeping = first_same (codes "keep") ∙ has.1.keeping;
       resumes = resume_same hosting.resumes has.1.resumes;
+      says_limit = said_same (codes "limit") hosting.says_limit has.1.says_limit;
     },
   )
-  options_same (Replay setup trail) has = (first_same (codes "setup") ∙ has.0, first_same (codes "trail") ∙ has.1)
+  options_same (Replay setup trail opens) has =
+      (first_same (codes "setup") ∙ has.0, first_same (codes "trail") ∙ has.1, flag_same (codes "open") opens has.2)
   options_same (Recover setup trail) has = (first_same (codes "setup") ∙ has.0, first_same (codes "trail") ∙ has.1)
+
+-- an option that has a source was said by that
+pub said_by : (m : Option MatchedArg) (source : ValueSource) → Some source ≡ option_and_then (λ a. a.source) m
+    → explicit_source (Some source) ≡ option_map_or (λ a. explicit_source a.source) m false
+said_by None source is = absurd (cc)
+said_by (Some a) source is = ap explicit_source is
+
+-- and one that has none, where it is there
+pub said_there : (m : Option MatchedArg) → None ≡ option_and_then (λ a. a.source) m → is_some m ≡ option_map_or (λ a. explicit_source a.source) m false
+said_there None is = refl
+said_there (Some a) is = ap explicit_source is
 
 -- what was given was not left out
 pub given_not_left_out : {T : Type 0} (a : T) (o : Option T) → Some a ≡ o → o ≡ None → ⊥
@@ -151,15 +173,15 @@ words_differ a b as' bs differ same = differ (ap (λ (l : List ℕ). get_or l 0 
 
 -- without a limit in its range there is no command `alone`, and without what is hosted no `serve`
 pub alone_none : (options : ArgMatches) → ((n : ℕ) → HasNumber options (codes "limit") n → 1 ≤ n → n ≤ 100000 → ⊥) → HasNoCommand (codes "alone") options
-alone_none options none' (Alone setup limit trail keeping resumes) is range = none' limit is.has.1 range.0.0 range.0.1
+alone_none options none' (Alone setup limit says_limit trail keeping resumes) is range = none' limit is.has.1 range.0.0 range.0.1
 alone_none options none' (Serve setup hosting) is range = words_differ 115 97 _ _ (λ e. omega arith) is.word_is
-alone_none options none' (Replay setup trail) is range = words_differ 114 97 _ _ (λ e. omega arith) is.word_is
+alone_none options none' (Replay setup trail opens) is range = words_differ 114 97 _ _ (λ e. omega arith) is.word_is
 alone_none options none' (Recover setup trail) is range = words_differ 114 97 _ _ (λ e. omega arith) is.word_is
 
 pub serve_none : (options : ArgMatches) → ((hosting : Hosting) → HasHosting options hosting → IsHostingInRange hosting → ⊥) → HasNoCommand (codes "serve") options
-serve_none options none' (Alone setup limit trail keeping resumes) is range = words_differ 97 115 _ _ (λ e. omega arith) is.word_is
+serve_none options none' (Alone setup limit says_limit trail keeping resumes) is range = words_differ 97 115 _ _ (λ e. omega arith) is.word_is
 serve_none options none' (Serve setup hosting) is range = none' hosting is.has.1 range
-serve_none options none' (Replay setup trail) is range = words_differ 114 115 _ _ (λ e. omega arith) is.word_is
+serve_none options none' (Replay setup trail opens) is range = words_differ 114 115 _ _ (λ e. omega arith) is.word_is
 serve_none options none' (Recover setup trail) is range = words_differ 114 115 _ _ (λ e. omega arith) is.word_is
 
 some_same : {T : Type 0} (a b : T) → Some a ≡ Some b → a ≡ b
@@ -173,9 +195,9 @@ one_number options name m n one other =
 
 -- with no word for how a trail is kept there is no command `alone`
 pub unkept_none : (options : ArgMatches) → ((keeping : TrailKeeping) → HasKeeping options keeping → ⊥) → HasNoCommand (codes "alone") options
-unkept_none options none' (Alone setup limit trail keeping resumes) is range = none' keeping is.has.3
+unkept_none options none' (Alone setup limit says_limit trail keeping resumes) is range = none' keeping is.has.3
 unkept_none options none' (Serve setup hosting) is range = words_differ 115 97 _ _ (λ e. omega arith) is.word_is
-unkept_none options none' (Replay setup trail) is range = words_differ 114 97 _ _ (λ e. omega arith) is.word_is
+unkept_none options none' (Replay setup trail opens) is range = words_differ 114 97 _ _ (λ e. omega arith) is.word_is
 unkept_none options none' (Recover setup trail) is range = words_differ 114 97 _ _ (λ e. omega arith) is.word_is
 
 -- options say one thing of a trail, and of how it is kept
@@ -205,13 +227,13 @@ same_bool false false P one other = refl
 -- where a trail may not be kept so there is no command `alone`
 pub kept_none : (options : ArgMatches) (trail : Option TrailFile) (keeping : TrailKeeping) (resumes : Bool) → HasTrail options trail → HasKeeping options keeping → HasResume options resumes
     → (MayKeep (is_some trail) keeping resumes → ⊥) → HasNoCommand (codes "alone") options
-kept_none options trail keeping resumes has_trail has_keeping has_resume none' (Alone setup limit t k r) is range =
+kept_none options trail keeping resumes has_trail has_keeping has_resume none' (Alone setup limit says_limit t k r) is range =
     let trails : is_some t ≡ is_some trail = same_trail options t trail is.has.2 has_trail in
     let keepings : k ≡ keeping = same_word k keeping (some_same (keeping_word k) (keeping_word keeping) (sym is.has.3 ∙ has_keeping)) in
     let resume : r ≡ resumes = same_bool r resumes _ is.has.4 has_resume in
     none' (subst (λ b. MayKeep b keeping resumes) trails (subst (λ q. MayKeep (is_some t) q resumes) keepings (subst (λ b. MayKeep (is_some t) k b) resume range.1)))
 kept_none options trail keeping resumes has_trail has_keeping has_resume none' (Serve setup hosting) is range = words_differ 115 97 _ _ (λ e. omega arith) is.word_is
-kept_none options trail keeping resumes has_trail has_keeping has_resume none' (Replay setup name) is range = words_differ 114 97 _ _ (λ e. omega arith) is.word_is
+kept_none options trail keeping resumes has_trail has_keeping has_resume none' (Replay setup name opens) is range = words_differ 114 97 _ _ (λ e. omega arith) is.word_is
 kept_none options trail keeping resumes has_trail has_keeping has_resume none' (Recover setup name) is range = words_differ 114 97 _ _ (λ e. omega arith) is.word_is
 
 module _ {Z : Type 0} where

@@ -55,6 +55,10 @@ keep_rule = record (text_rule (codes "keep")) { defaults = codes "end" ∷ [] }
 abbrev pub resume_rule : Rule
 resume_rule = flag_rule (codes "resume")
 
+-- own choice: `--open` may be given, and takes nothing
+abbrev pub open_rule : Rule
+open_rule = flag_rule (codes "open")
+
 -- `--port` takes a number from 1 to 65,535
 abbrev pub port_rule : Rule
 port_rule = number_rule (codes "port") 1 65535
@@ -104,11 +108,11 @@ serve_app = app_with (codes "serve")
     (setup_rule ∷ port_rule ∷ doors_rule ∷ trail_rule ∷ workers_rule ∷ threads_rule ∷ sessions_rule ∷ limit_rule
     ∷ clients_rule ∷ idle_rule ∷ log_rule ∷ trail_limit_rule ∷ replace_rule ∷ claim_rule ∷ keep_rule ∷ resume_rule ∷ [])
 
--- the command `replay` has a setup and a trail
+-- the command `replay` has a setup and a trail, and whether that may be open
 abbrev pub replay_app : App
-replay_app = app_with (codes "replay") (setup_rule ∷ trail_rule ∷ [])
+replay_app = app_with (codes "replay") (setup_rule ∷ trail_rule ∷ open_rule ∷ [])
 
--- the command `recover` has both too
+-- the command `recover` has the first two
 abbrev pub recover_app : App
 recover_app = app_with (codes "recover") (setup_rule ∷ trail_rule ∷ [])
 

@@ -3,6 +3,7 @@ use Rattle.std.specs.Prelude.{◌≡◌, ◌≢◌, ◌≤◌, ◌↔◌, ℕ, B
 use Rattle.std.specs.Option.{is_some}
 use Rattle.std.specs.Str.Parse.{IsNumeral, digits_value, without_leading_plus}
 use Rattle.clap.specs.Matches.{found_of, first_value, one_text}
+use Rattle.clap.specs.Facts.{is_present}
 use Rattle.clap.specs.Faults.{fault_of}
 use Rattle.clap.specs.Kinds.{Kinds}
 use Rattle.clap.specs.Simple.{subcommand_of, subcommand_rows_of}
@@ -53,10 +54,10 @@ MayKeep there Synced resumes = there ≡ true
 
 -- each number is in its range, and a trail is kept so as it may be
 abbrev pub IsInRange : Command → Type 0
-IsInRange (Alone setup limit trail keeping resumes) = ((1 ≤ limit) × (limit ≤ 100000))
+IsInRange (Alone setup limit says_limit trail keeping resumes) = ((1 ≤ limit) × (limit ≤ 100000))
     × MayKeep (is_some trail) keeping resumes
 IsInRange (Serve setup hosting) = IsHostingInRange hosting
-IsInRange (Replay setup trail) = Unit {0}
+IsInRange (Replay setup trail opens) = Unit {0}
 IsInRange (Recover setup trail) = Unit {0}
 
 -- the text is a decimal numeral, before which a plus may stand, and this is the number that it writes
@@ -74,23 +75,23 @@ HasCount options name (Some n) = HasNumber options name n
 
 -- the name of a command's setup file
 abbrev pub setup_of : Command → List ℕ
-setup_of (Alone setup limit trail keeping resumes) = setup.now
+setup_of (Alone setup limit says_limit trail keeping resumes) = setup.now
 setup_of (Serve setup hosting) = setup.now
-setup_of (Replay setup trail) = setup.now
+setup_of (Replay setup trail opens) = setup.now
 setup_of (Recover setup trail) = setup.now
 
 -- the name of the trail file that a command reads
 abbrev pub read_trail_of : Command → Option (List ℕ)
-read_trail_of (Alone setup limit trail keeping resumes) = None
+read_trail_of (Alone setup limit says_limit trail keeping resumes) = None
 read_trail_of (Serve setup hosting) = None
-read_trail_of (Replay setup trail) = Some trail.now
+read_trail_of (Replay setup trail opens) = Some trail.now
 read_trail_of (Recover setup trail) = None
 
 -- the word for a command
 abbrev pub word_of : Command → List ℕ
-word_of (Alone setup limit trail keeping resumes) = codes "alone"
+word_of (Alone setup limit says_limit trail keeping resumes) = codes "alone"
 word_of (Serve setup hosting) = codes "serve"
-word_of (Replay setup trail) = codes "replay"
+word_of (Replay setup trail opens) = codes "replay"
 word_of (Recover setup trail) = codes "recover"
 
 -- the flag of this name was given, or was not
@@ -125,6 +126,10 @@ HasKeeping options keeping = first_value (found_of options) (codes "keep") ≡ S
 abbrev pub HasResume : ArgMatches → Bool → Type 0
 HasResume options resumes = (resumes ≡ true) ↔ (first_value (found_of options) (codes "resume") ≡ Some (codes "true"))
 
+-- the option of this name was said, and has not its default
+abbrev pub IsSaid : ArgMatches → List ℕ → Bool → Type 0
+IsSaid options name said = said ≡ is_present (found_of options) name
+
 -- the options name a port, or the folder of doors, and not both
 abbrev pub HasEntrance : ArgMatches → NamedEntrance → Type 0
 HasEntrance options (Port port) = HasNumber options (codes "port") port
@@ -147,17 +152,19 @@ pub record HasHosting (options : ArgMatches) (hosting : Hosting) : Type 0 where
   pub log : option_copied hosting.log ≡ first_value (found_of options) (codes "log")
   pub keeping : HasKeeping options hosting.keeping
   pub resumes : HasResume options hosting.resumes
+  pub says_limit : IsSaid options (codes "limit") hosting.says_limit
 
 -- the options of a command are these
 abbrev pub HasOptions : ArgMatches → Command → Type 0
-HasOptions options (Alone setup limit trail keeping resumes) =
+HasOptions options (Alone setup limit says_limit trail keeping resumes) =
     (first_value (found_of options) (codes "setup") ≡ Some setup.now) × HasNumber options (codes "limit") limit
     × HasTrail options trail × HasKeeping options keeping × HasResume options resumes
+    × IsSaid options (codes "limit") says_limit
 HasOptions options (Serve setup hosting) =
     (first_value (found_of options) (codes "setup") ≡ Some setup.now) × HasHosting options hosting
-HasOptions options (Replay setup trail) =
+HasOptions options (Replay setup trail opens) =
     (first_value (found_of options) (codes "setup") ≡ Some setup.now)
-    × (first_value (found_of options) (codes "trail") ≡ Some trail.now)
+    × (first_value (found_of options) (codes "trail") ≡ Some trail.now) × HasFlag options (codes "open") opens
 HasOptions options (Recover setup trail) =
     (first_value (found_of options) (codes "setup") ≡ Some setup.now)
     × (first_value (found_of options) (codes "trail") ≡ Some trail.now)

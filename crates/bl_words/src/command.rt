@@ -5,14 +5,14 @@ ghost use Rattle.clap.specs.Kinds.{HasKind};
 ghost use Rattle.clap.specs.Words.{App, app_of, kind_of, rule_of, with_subcommand};
 ghost use Rattle.bl_words.specs.CommandLine.{setup_rule, limit_rule, trail_limit_rule, trail_rule, kept_trail_rule};
 ghost use Rattle.bl_words.specs.CommandLine.{replace_rule, claim_rule, keep_rule, resume_rule, port_rule, doors_rule};
-ghost use Rattle.bl_words.specs.CommandLine.{workers_rule, threads_rule, sessions_rule, clients_rule, idle_rule};
+ghost use Rattle.bl_words.specs.CommandLine.{open_rule, workers_rule, threads_rule, sessions_rule, clients_rule, idle_rule};
 ghost use Rattle.bl_words.specs.CommandLine.{log_rule, text_rule, number_rule, flag_rule, alone_app, serve_app};
 ghost use Rattle.bl_words.specs.CommandLine.{replay_app, recover_app, server_app, IsLocal};
 ghost use Rattle.bl_status.specs.Status.{IsStatus};
 ghost use Rattle.bl_words.specs.Status.{status_for};
 ghost use Rattle.bl_words.specs.Words.{HasCount, HasEntrance, HasHosting, HasKeeping, HasNoCommand, HasNumber};
 ghost use Rattle.bl_words.specs.Words.{HasResume, HasTrail, HasTrailFile, IsEntranceInRange, IsHostingInRange};
-ghost use Rattle.bl_words.specs.Words.{IsIdleInRange, IsInRange, IsOf, IsOfOptions, IsTrailLimit, MayKeep, Name};
+ghost use Rattle.bl_words.specs.Words.{IsIdleInRange, IsInRange, IsOf, IsOfOptions, IsSaid, IsTrailLimit, MayKeep, Name};
 ghost use Rattle.bl_words.specs.Words.{NameNone, faults_of, setup_of, read_trail_of};
 ghost use Rattle.bl_words.specs.declared.command.Command.{Command as AnyCommand};
 ghost use Rattle.bl_words.specs.declared.command.NamedEntrance.{NamedEntrance as AnyEntrance};
@@ -20,7 +20,9 @@ ghost use Rattle.bl_words.specs.declared.command.Hosting.{Hosting as AnyHosting}
 ghost use Rattle.bl_words.specs.declared.command.TrailKeeping.{TrailKeeping as AnyKeeping};
 
 use bl_keep::part::TrailFile;
+use bl_status::version::VERSION;
 use clap::error::ErrorKind;
+use clap::parser::ValueSource;
 use clap::{Arg, ArgAction, ArgMatches, Command as Parser, Error, value_parser};
 use std::alloc::{AllocError, Global};
 
@@ -49,6 +51,8 @@ pub enum NamedEntrance<'a> {
 pub struct Hosting<'a> {
     /// The weight of the lines that are admitted at most, 1 to 100,000.
     pub limit: u32,
+    /// Whether that was said; else it is the default.
+    pub says_limit: bool,
     /// Where clients come in.
     pub entrance: NamedEntrance<'a>,
     /// Where the trail is kept.
@@ -82,6 +86,8 @@ pub enum Command<'a> {
         setup: &'a str,
         /// The weight of the lines that are admitted at most, 1 to 100,000.
         limit: u32,
+        /// Whether that was said; else it is the default.
+        says_limit: bool,
         /// Where the trail is kept; `None` where it is not.
         trail: Option<TrailFile<'a>>,
         /// How it is kept; where it is not, at the end.
@@ -102,6 +108,8 @@ pub enum Command<'a> {
         setup: &'a str,
         /// The name of the trail file.
         trail: &'a str,
+        /// Whether the trail may be open: without its `stop`, and with a torn line behind the others.
+        opens: bool,
     },
     /// A recovery of the trail of a run that was cut off, over the setup that the run began with.
     Recover {
@@ -275,6 +283,16 @@ fn resume_option<'a>(alloc: Global) -> Arg<'a>
     )
 }
 
+fn open_option<'a>(alloc: Global) -> Arg<'a>
+    ensures { rule_of result ≡ open_rule }
+{
+    flag_option(
+        alloc,
+        "open",
+        "Takes a trail that is not closed, as that of a run that goes on",
+    )
+}
+
 fn port_option<'a>(alloc: Global) -> Arg<'a>
     ensures { rule_of result ≡ port_rule }
 {
@@ -429,7 +447,11 @@ fn serve_parser<'a>(alloc: Global) -> Result<Parser<'a>, AllocError>
 fn replay_parser<'a>(alloc: Global) -> Result<Parser<'a>, AllocError>
     ensures { IfOk result (IsLocal replay_app) }
 {
-    let options = vec![in alloc; setup_option(alloc), trail_option(alloc)]?;
+    let options = vec![in alloc;
+        setup_option(alloc),
+        trail_option(alloc),
+        open_option(alloc),
+    ]?;
     Parser::new(alloc, "replay")
         .about("The verdict on a trail")
         .after_help(MORE)
@@ -462,7 +484,7 @@ fn parser<'a>(alloc: Global) -> Result<Parser<'a>, AllocError>
     ensures { IfOk result (λ parser. app_of parser ≡ server_app) }
 {
     let parser = Parser::new(alloc, "bl_server")
-        .version("0.1.0")
+        .version(VERSION)
         .about("A document server that enforces Bell and La Padula")
         .after_help(MORE)
         .subcommand_required(true);
@@ -539,6 +561,17 @@ fn resumes(options: &ArgMatches<'_>) -> bool
     options.get_str("resume") == Some("true")
 }
 
+/// Whether the option of this name was said, so that it has not its default.
+fn is_said(options: &ArgMatches<'_>, name: &str) -> bool
+    ensures { IsSaid options.now name.now result }
+{
+    match options.value_source(name) {
+        Some(ValueSource::CommandLine) => true,
+        Some(ValueSource::DefaultValue) => false,
+        None => options.contains_id(name),
+    }
+}
+
 /// Where the options say that clients come in; `None` where they name no port in its range and no doors, or both.
 fn entrance_of<'a>(options: &ArgMatches<'a>) -> Option<NamedEntrance<'a>>
     ensures range { IfSome result IsEntranceInRange }
@@ -599,6 +632,7 @@ fn hosting_of<'a>(options: &ArgMatches<'a>) -> Option<Hosting<'a>>
     }
     Some(Hosting {
         limit,
+        says_limit: is_said(options, "limit"),
         entrance,
         trail,
         trail_limit,
@@ -641,6 +675,7 @@ fn alone_of<'a>(options: &ArgMatches<'a>) -> Option<Command<'a>>
     Some(Command::Alone {
         setup,
         limit,
+        says_limit: is_said(options, "limit"),
         trail,
         keeping,
         resumes,
@@ -666,7 +701,11 @@ fn replay_of<'a>(options: &ArgMatches<'a>) -> Option<Command<'a>>
 {
     let setup = options.get_str("setup")?;
     let trail = options.get_str("trail")?;
-    Some(Command::Replay { setup, trail })
+    Some(Command::Replay {
+        setup,
+        trail,
+        opens: options.get_flag("open"),
+    })
 }
 
 /// The command `recover` with these options.

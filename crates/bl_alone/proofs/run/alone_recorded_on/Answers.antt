@@ -1,6 +1,7 @@
-use Rattle.std.proofs.Common.{ap, inl, inr}
+use Rattle.std.proofs.Common.{◌∙◌, ap, inl, inr, sym}
 use Rattle.std.proofs.KnownBytes.{Keeps-refl}
-use Rattle.bl_alone.specs.Files.{is_whole}
+use Rattle.bl_alone.specs.Files.{file_in, is_whole}
+use Rattle.bl_alone.proofs.Causes.{begin_caused}
 use Rattle.bl_alone.proofs.run.alone_recorded_on.Goals as goal
 
 -- the bytes are no setup
@@ -33,7 +34,10 @@ returns-in-Err-begin-clause-run g c =
       why = inr (record {
         begun = c.in-Ok.setup;
         is = c.in-Ok.ensures.setup;
-        why = c.of_begin.ensures;
+        why = c.of_begin.ensures.kind;
+        cause = λ told.
+            ap (file_in g.D.Device.has_failed) c.end_with-in-Err-begin.ensures.part
+            ∙ begin_caused c.in-Err-begin.fault _ c.in-Err-begin.ensures.cause (sym c.of_begin.ensures.fault ∙ told);
         unread = Keeps-refl _;
         unwritten = Keeps-refl _;
       });

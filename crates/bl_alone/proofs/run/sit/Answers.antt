@@ -1,4 +1,4 @@
-use Rattle.std.proofs.Common.{sym, subst}
+use Rattle.std.proofs.Common.{◌∙◌, ap, sym, subst}
 use Rattle.bl_setup.specs.Agreement.{Agree}
 use Rattle.bl_setup.specs.Setup.{Setup}
 use Rattle.bl_wire.proofs.PutLaws.{puts-all}
@@ -6,6 +6,7 @@ use Rattle.bl_work.specs.Names.{AreNames}
 use Rattle.bl_alone.specs.Files.{fault_in, file_in}
 use Rattle.bl_alone.specs.Recording.{IsLeft}
 use Rattle.bl_session.specs.Ended.{hall_of}
+use Rattle.bl_alone.proofs.Causes.{given_not_none}
 use Rattle.bl_alone.proofs.run.sit.Goals as goal
 
 -- how the session ended, what is left of its trail, and what was told of both
@@ -29,7 +30,8 @@ returns-clause-run g c text is =
       left = subst (λ file. IsLeft kept.kept session (fault_in left) (file_in g.D.Device.now file)) (sym c.tell_recorded.ensures.file)
           (c.close_after-left.ensures.left kept.kept kept.held kept.front (subst Agree (sym kept.told.setup_is) c.names.ensures.agree)
           (subst (λ (s : Setup). AreNames s.names) (sym kept.told.setup_is) (subst AreNames c.names.ensures.value c.scheme-scheme.ensures.names)));
-      cut = c.close_after-left.ensures.cut;
+      cut = λ stop none'. given_not_none _ (fault_in left) (c.close_after-left.ensures.unkept stop) none';
+      cause = λ short. ap (file_in g.D.Device.has_failed) c.tell_recorded.ensures.file ∙ c.close_after-left.ensures.cause short;
       whole = c.tell_recorded.ensures.whole;
       stopped = told.0;
       stopped_is = told.1;

@@ -1,4 +1,5 @@
-use Rattle.std.proofs.Common.{ℕ, rules, ap, subst}
+use Rattle.std.proofs.Common.{◌≡◌, ℕ, Bool, true, false, Result, Ok, Err, rules, ap, subst}
+use Rattle.bl_work.specs.declared.work.Work.{Work}
 use Rattle.bl_order.specs.Machine.{Admits}
 use Rattle.bl_core.specs.Answers.{IsCause}
 use Rattle.bl_gate.specs.Gates.{PassView, state_seen}
@@ -6,6 +7,9 @@ use Rattle.bl_serve.specs.Together.{IsNoLineBut}
 use Rattle.bl_worker.proofs.Adding.{adds_call, adds_itself}
 use Rattle.bl_crowd.proofs.Rounding.{hand_same}
 use Rattle.bl_crowd.proofs.member.enter.Goals as goal
+
+none_back : (work : Work) (admitted : Bool) → ◌≡◌ {A = Result Bool Work} (Err work) (Ok admitted) → ⊥
+none_back work admitted is = cc
 
 pub returns-in-Stranger : goal.returns-in-Stranger
 returns-in-Stranger c =
@@ -18,6 +22,8 @@ returns-in-Stranger c =
       alone = c.readable_line.ensures.own;
       hand = hand_same p q same;
       ok = tt;
+      admitted = λ is. absurd (none_back c.in-Err.refused.work true is);
+      heavy = λ is. absurd (none_back c.in-Err.refused.work false is);
       err = (
         same,
         c.in-Err.ensures.back,

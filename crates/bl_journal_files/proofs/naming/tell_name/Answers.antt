@@ -1,12 +1,11 @@
 use Rattle.std.proofs.Common.{◌++◌, List, ℕ, subst, sym, Result, Err}
-use Rattle.bl_keep.specs.declared.fault.KeepFault.{KeepFault}
 use Rattle.bl_wire.specs.Watch.{Puts, end_state}
 use Rattle.bl_wire.proofs.PutLaws.{puts-append}
 use Rattle.bl_status.specs.Message.{fault_line}
-use Rattle.bl_status.specs.Unkept.{unkept_fault}
 use Rattle.bl_recover.specs.Telling.{left_text}
-use Rattle.bl_journal_files.specs.Naming.{naming_text}
-use Rattle.bl_journal_files.specs.declared.naming.Named.{Named}
+use Rattle.bl_journal_files.specs.Naming.{left_under, name_fault, naming_text}
+use Rattle.bl_recover.specs.declared.name.NameFault.{NameFault}
+use Rattle.bl_recover.specs.declared.name.Named.{Named}
 use Rattle.bl_journal_files.proofs.naming.tell_name.Goals as goal
 
 -- the fault is told, and then where the trail is
@@ -16,10 +15,11 @@ returns-then-status-eq0-clause-puts g c =
     let told = end_state g.E.Write.contents c.tell-own.new.errors in
     let new = end_state g.E.Write.contents c.tell_left.new.errors in
     let fault = c.in-Err.fault in
-    let part = c.args.part.now in
-    subst (λ (named : Result Named KeepFault). Puts (naming_text part named) old new) (sym c.in-Err.is)
-    (puts-append (fault_line (unkept_fault fault)) (left_text part) old told new
-    (subst (λ f. Puts (fault_line f) old told) c.of_keep.ensures c.tell-own.ensures.puts) c.tell_left.ensures.puts)
+    let at = left_under c.args.part.now c.args.trail.now fault in
+    subst (λ (named : Result Named NameFault). Puts (naming_text c.args.part.now c.args.trail.now named) old new) (sym c.in-Err.is)
+    (puts-append (fault_line (name_fault fault)) (left_text at) old told new
+    (subst (λ f. Puts (fault_line f) old told) c.of_name.ensures c.tell-own.ensures.puts)
+    (subst (λ (name : List ℕ). Puts (left_text name) told new) c.left_in.ensures c.tell_left.ensures.puts))
 
 pub returns-else-status-eq0-clause-puts : goal.returns-else-status-eq0-clause-puts
 returns-else-status-eq0-clause-puts g c =
@@ -27,7 +27,8 @@ returns-else-status-eq0-clause-puts g c =
     let told = end_state g.E.Write.contents c.tell-own.new.errors in
     let new = end_state g.E.Write.contents c.tell_left.new.errors in
     let fault = c.in-Err.fault in
-    let part = c.args.part.now in
-    subst (λ (named : Result Named KeepFault). Puts (naming_text part named) old new) (sym c.in-Err.is)
-    (puts-append (fault_line (unkept_fault fault)) (left_text part) old told new
-    (subst (λ f. Puts (fault_line f) old told) c.of_keep.ensures c.tell-own.ensures.puts) c.tell_left.ensures.puts)
+    let at = left_under c.args.part.now c.args.trail.now fault in
+    subst (λ (named : Result Named NameFault). Puts (naming_text c.args.part.now c.args.trail.now named) old new) (sym c.in-Err.is)
+    (puts-append (fault_line (name_fault fault)) (left_text at) old told new
+    (subst (λ f. Puts (fault_line f) old told) c.of_name.ensures c.tell-own.ensures.puts)
+    (subst (λ (name : List ℕ). Puts (left_text name) told new) c.left_in.ensures c.tell_left.ensures.puts))

@@ -1,4 +1,4 @@
-use Rattle.std.proofs.Common.{◌≡◌, [], subst, sym}
+use Rattle.std.proofs.Common.{◌≡◌, [], inl, refl, subst, sym}
 use Rattle.std.specs.Prelude.{IfOk, Ok, Result}
 use Rattle.bl_disk.specs.File.{File}
 use Rattle.bl_gate.specs.Gates.{hall_seen}
@@ -6,6 +6,7 @@ use Rattle.bl_hall.specs.Chronicle.{Chronicle}
 use Rattle.bl_keeper.proofs.Keeping.{kept_now}
 use Rattle.bl_keeper.specs.Keeping.{HasKept}
 use Rattle.bl_record.specs.Kept.{IsKept}
+use Rattle.bl_record.specs.Torn.{IsTornHead, head_front}
 use Rattle.bl_record.specs.declared.journal.Journal.{Journal}
 use Rattle.bl_setup.specs.Setup.{Setup}
 use Rattle.bl_setup.specs.declared.version.Version.TheVariants.{Two}
@@ -19,6 +20,10 @@ KeepsFirst now journal = (setup : Setup) → setup.version ≡ Two
 keeps_first : {D E : Type 0} (now : D → File) (made : Result (Journal D) E) (journal : Journal D) → made ≡ Ok journal
     → IfOk made (KeepsFirst now) → KeepsFirst now journal
 keeps_first now made journal is kept = subst (λ outcome. IfOk outcome (KeepsFirst now)) is kept
+
+-- a file that has nothing has a torn head
+pub begin-requires-clause-fresh : goal.begin-requires-clause-fresh
+begin-requires-clause-fresh g c = subst IsTornHead (sym c.requires.empty) (inl (head_front, refl))
 
 pub returns-clause-kept : goal.returns-clause-kept
 returns-clause-kept g c =

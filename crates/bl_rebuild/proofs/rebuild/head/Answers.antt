@@ -1,4 +1,4 @@
-use Rattle.std.proofs.Common.{◌≡◌, ◌++◌, ap, subst, ◌∙◌}
+use Rattle.std.proofs.Common.{◌≡◌, ◌≤◌, ◌++◌, ap, subst, ◌∙◌}
 use Rattle.bl_setup.specs.declared.version.Version.{Version}
 use Rattle.bl_trail.specs.Heads.{IsHead}
 use Rattle.bl_trail.specs.TrueText.{FirstWrong, IsLimit, head_lines, joined}
@@ -8,8 +8,8 @@ use Rattle.bl_rebuild.proofs.rebuild.head.Goals as goal
 
 pub returns-in-Wrong-clause-err : goal.returns-in-Wrong-clause-err
 returns-in-Wrong-clause-err c =
-    let wrong : FirstWrong c.args.setup.now c.args.text.now c.in-Wrong.line = subst (IsHead c.args.setup.now c.args.text.now) c.in-Wrong.is c.in_ok-line.ensures in
-    record { wrong = wrong; none = no-journal c.args.setup.now c.args.text.now c.in-Wrong.line wrong }
+    let wrong : FirstWrong c.args.setup.now c.args.text.now c.in-Wrong.line × (c.in-Wrong.line ≤ 2) = subst (IsHead c.args.setup.now c.args.text.now) c.in-Wrong.is c.in_ok-line.ensures in
+    record { wrong = wrong.0; of_head = wrong.1; none = no-journal c.args.setup.now c.args.text.now c.in-Wrong.line wrong.0 wrong.1 }
 
 pub returns-in-One-clause-err : goal.returns-in-One-clause-err
 returns-in-One-clause-err c =

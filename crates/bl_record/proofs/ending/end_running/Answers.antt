@@ -1,4 +1,4 @@
-use Rattle.std.proofs.Common.{◌≡◌, List, [], ◌∷◌, true, length, refl, sym, ◌∙◌, ap, subst, arith}
+use Rattle.std.proofs.Common.{rules, ◌≡◌, List, [], ◌∷◌, true, length, refl, sym, ◌∙◌, ap, subst, arith}
 use Rattle.std.specs.Vec.Iter.{into_iter_items}
 use Rattle.bl_core.specs.Answers.{loan_at}
 use Rattle.bl_eval.specs.Loan.{Loan}
@@ -6,7 +6,7 @@ use Rattle.bl_hall.proofs.Trails.{reached-now}
 use Rattle.bl_hall.specs.Chronicle.{state_now}
 use Rattle.bl_order.specs.Machine.{Ends, change, runs}
 use Rattle.bl_rebuild.specs.Unfinished.{loans_now}
-use Rattle.bl_record.proofs.Going.{and-on, one-more, state-on}
+use Rattle.bl_record.proofs.Going.{and-on, none-more, one-more, state-on}
 use Rattle.bl_record.proofs.Loans.{first-lent, first-runs, none-lent, rest-lent}
 use Rattle.bl_record.proofs.ending.end_running.Goals as goal
 
@@ -24,6 +24,9 @@ end_lent-requires-clause-lent c =
     subst (λ (l : Loan). l ≡ loan_at (state_now at.hall) l.entry) (sym c.into_lent.ensures)
     (first-lent (state_now at.hall) (reached-now at.hall at.invariant.0.trail) c.in-Some.unfinished (into_iter_items c.next.new.self) steps)
 
+pub loop-unfinished-init : goal.loop-unfinished-init
+loop-unfinished-init c = (none-more c.args.hall.now c.requires.trail, search rules, search rules)
+
 pub loop-unfinished-preserved : goal.loop-unfinished-preserved
 loop-unfinished-preserved c =
     let at = c.loop-unfinished in
@@ -32,7 +35,7 @@ loop-unfinished-preserved c =
     let short = ap length c.in-Some.ensures.steps.0 in
     let was = at.invariant.1 in (
       and-on c.args.hall.now at.hall c.end_lent.new.hall at.invariant.0
-          (one-more at.hall c.end_lent.new.hall (Ends c.into_lent.result.entry) c.in_ok-end_lent.ensures.change c.in_ok-end_lent.ensures.trail),
+          (one-more at.hall c.end_lent.new.hall (Ends c.into_lent.result.entry) c.in_ok-end_lent.ensures.change c.in_ok-end_lent.ensures.trail tt),
       omega arith,
       sym (
           ap loans_now (state-on at.hall c.end_lent.new.hall (Ends c.into_lent.result.entry) c.in_ok-end_lent.ensures.change)

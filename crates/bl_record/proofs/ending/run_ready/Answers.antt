@@ -63,8 +63,8 @@ pub returns-in-Ok-Run-clause-on : goal.returns-in-Ok-Run-clause-on
 returns-in-Ok-Run-clause-on c =
     on-ok c.end_lent.result _ _ _ c.end_lent.ensures.change c.end_lent.ensures.trail
     (λ ends after. and-on c.args.hall.now c.start.new.self c.end_lent.new.hall
-    (one-more c.args.hall.now c.start.new.self (Starts c.args.n) c.in-Ok-Run.ensures.ok.1 c.start.ensures.continues.trail)
-    (one-more c.start.new.self c.end_lent.new.hall (Ends c.in-Ok-Run.lent.entry) ends after))
+    (one-more c.args.hall.now c.start.new.self (Starts c.args.n) c.in-Ok-Run.ensures.ok.1 c.start.ensures.continues.trail tt)
+    (one-more c.start.new.self c.end_lent.new.hall (Ends c.in-Ok-Run.lent.entry) ends after tt))
 
 pub returns-in-Ok-Run-clause-nearer : goal.returns-in-Ok-Run-clause-nearer
 returns-in-Ok-Run-clause-nearer c =
@@ -74,6 +74,14 @@ returns-in-Ok-Run-clause-nearer c =
     (nearer c.the_order_has_room.ensures.order c.args.hall.now c.start.new.self (Starts c.args.n) c.requires.trail c.start.ensures.continues.trail c.in-Ok-Run.ensures.ok.1 c.requires.may)
     (nearer c.the_order_has_room.ensures.order c.start.new.self c.end_lent.new.hall (Ends c.in-Ok-Run.lent.entry) c.start.ensures.continues.trail after ends
     (started-runs c.args.hall.now c.start.new.self c.args.n c.in-Ok-Run.lent c.requires.trail c.requires.may c.in-Ok-Run.ensures.ok.1 begun.0 begun.1)))
+
+pub returns-in-Ok-Denied-clause-on : goal.returns-in-Ok-Denied-clause-on
+returns-in-Ok-Denied-clause-on c =
+    one-more c.args.hall.now c.start.new.self (Starts c.args.n) c.in-Ok-Denied.ensures.ok.1 c.start.ensures.continues.trail tt
+
+pub returns-in-Ok-RuleDone-clause-on : goal.returns-in-Ok-RuleDone-clause-on
+returns-in-Ok-RuleDone-clause-on c =
+    one-more c.args.hall.now c.start.new.self (Starts c.args.n) c.in-Ok-RuleDone.ensures.ok.1 c.start.ensures.continues.trail tt
 
 pub returns-in-Ok-Denied-clause-idle : goal.returns-in-Ok-Denied-clause-idle
 returns-in-Ok-Denied-clause-idle c =

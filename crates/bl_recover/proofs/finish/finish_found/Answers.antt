@@ -6,14 +6,14 @@ use Rattle.bl_recover.proofs.finish.finish_found.Goals as goal
 -- the trail is closed
 pub returns-in-Ok-clause-ended : goal.returns-in-Ok-clause-ended
 returns-in-Ok-clause-ended g c =
-    has_finished c.args.setup.now _ c.in-Ok.events c.tell_closed-status.result.0 c.in-Ok.ensures.closed c.tell_closed-status.ensures.closed
+    has_finished c.args.setup.now _ c.in-Ok.events c.tell_closed-end.result.0 c.in-Ok.ensures.closed c.tell_closed-end.ensures.closed
 
 pub returns-in-Ok-clause-range : goal.returns-in-Ok-clause-range
-returns-in-Ok-clause-range g c = ends c.in-Ok.events 0 _ _ c.tell_closed-status.ensures.closed c.tell_closed-status.ensures.status
+returns-in-Ok-clause-range g c = ends c.in-Ok.events 0 _ _ c.tell_closed-end.ensures.closed c.tell_closed-end.ensures.status
 
 -- it is not
-pub returns-clause-written : goal.returns-clause-written
-returns-clause-written g c = Keeps-refl _
+pub returns-in-Err-clause-written : goal.returns-in-Err-clause-written
+returns-in-Err-clause-written g c = Keeps-refl _
 
-pub returns-clause-range : goal.returns-clause-range
-returns-clause-range g c = inr c.tell_fault-status.ensures.range
+pub returns-in-Err-clause-range : goal.returns-in-Err-clause-range
+returns-in-Err-clause-range g c = inr c.tell_fault-status.ensures.range

@@ -8,8 +8,8 @@ pub returns-in-Err-clause-run : goal.returns-in-Err-clause-run
 returns-in-Err-clause-run g c trail beside = record {
   end = Refused c.in-Err.fault;
   written = Keeps-refl _;
-  said = c.tell_fault.ensures.puts;
-  status_is = c.tell_fault.ensures.status;
+  said = c.refuse.ensures.said;
+  status_is = c.refuse.ensures.status;
 }
 
 -- the head is torn
@@ -17,6 +17,6 @@ pub returns-then-found-clause-run : goal.returns-then-found-clause-run
 returns-then-found-clause-run g c trail beside = record {
   end = Refused NotBegun;
   written = Keeps-refl _;
-  said = c.tell_fault-then-found.ensures.puts;
-  status_is = c.tell_fault-then-found.ensures.status;
+  said = c.refuse-then-found.ensures.said;
+  status_is = c.refuse-then-found.ensures.status;
 }

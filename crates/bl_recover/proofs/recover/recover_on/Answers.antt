@@ -13,4 +13,4 @@ returns-in-Err-clause-run g c = record {
 }
 
 pub returns-clause-run : goal.returns-clause-run
-returns-clause-run g c = c.go_on-status.ensures.run c.args.trail.now c.find-found.ensures.part
+returns-clause-run g c = c.go_on-ended.ensures.run c.args.trail.now c.find-found.ensures.part

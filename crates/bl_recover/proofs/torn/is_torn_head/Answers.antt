@@ -2,7 +2,7 @@ use Rattle.std.proofs.Common.{◌≡◌, ◌↔◌, ◌≢◌, ℕ, List, ◌++�
 use Rattle.std.specs.Prelude.{None, Some}
 use Rattle.std.proofs.lemmas.Bool.Decides.{Decides-eqb}
 use Rattle.std.proofs.lemmas.Slice.Eq.{strip_prefix_is}
-use Rattle.bl_recover.specs.Torn.{IsTornHead, head_front}
+use Rattle.bl_record.specs.Torn.{IsTornHead, head_front}
 use Rattle.bl_recover.proofs.Heads.{is_front, no_front, of_front, of_none, of_rest}
 use Rattle.bl_recover.proofs.torn.is_torn_head.Goals as goal
 

@@ -1,9 +1,9 @@
-use Rattle.std.proofs.Common.{◌≡◌, ◌++◌, ℕ, List, sym, ◌∙◌, ap, subst}
+use Rattle.std.proofs.Common.{◌≡◌, ◌≤◌, ◌++◌, ℕ, List, sym, ◌∙◌, ap, subst}
 use Rattle.bl_work.specs.Names.{AreNames}
 use Rattle.bl_setup.specs.Setup.{by_version}
 use Rattle.bl_order.specs.Machine.{start}
 use Rattle.bl_trail.specs.Follow.{IsVerdict}
-use Rattle.bl_trail.specs.TrueText.{IsLimit, head_lines, joined}
+use Rattle.bl_trail.specs.TrueText.{FirstWrong, IsLimit, head_lines, joined}
 use Rattle.bl_trail.specs.Heads.{IsHead}
 use Rattle.bl_trail.specs.Versions.{HasSetup}
 use Rattle.bl_replay.specs.Marks.{lost_later}
@@ -22,7 +22,9 @@ follow-verdict-requires c = (
 )
 
 pub returns-in-Wrong : goal.returns-in-Wrong
-returns-in-Wrong c = subst (IsHead c.args.setup.now c.args.text.now) c.in-Wrong.is c.in_ok-line.ensures
+returns-in-Wrong c =
+    let wrong : FirstWrong c.args.setup.now c.args.text.now c.in-Wrong.line × (c.in-Wrong.line ≤ 2) = subst (IsHead c.args.setup.now c.args.text.now) c.in-Wrong.is c.in_ok-line.ensures in
+    wrong.0
 
 pub returns-in_ok-replayer-in-Right : goal.returns-in_ok-replayer-in-Right
 returns-in_ok-replayer-in-Right c =

@@ -1,6 +1,7 @@
-use Rattle.std.proofs.Common.{ap, inl, inr, refl}
+use Rattle.std.proofs.Common.{ap, inl, inr, refl, subst, sym}
 use Rattle.std.proofs.KnownBytes.{Keeps-refl}
-use Rattle.bl_alone.specs.Files.{is_whole}
+use Rattle.bl_alone.specs.Files.{file_in, is_whole}
+use Rattle.bl_record.specs.Faults.{IsResumeCaused}
 use Rattle.bl_recover.specs.declared.fault.RecoveryFault.TheVariants.{Program}
 use Rattle.bl_wire.proofs.PutLaws.{puts-all}
 use Rattle.bl_resume.proofs.run.alone_resumed_on.Goals as goal
@@ -53,6 +54,7 @@ returns-in-Err-resume-clause-run g c =
         c.in-Ok.ensures.setup,
         c.of_resume.ensures,
         c.in-Err-resume.ensures.err,
+        subst (λ file. IsResumeCaused c.in-Err-resume.fault (file_in g.D.Device.has_failed file)) (sym c.end_with-in-Err-resume.ensures.part) c.in-Err-resume.ensures.cause,
         Keeps-refl _,
         Keeps-refl _,
       );

@@ -1,4 +1,4 @@
-use Rattle.std.proofs.Common.{◌∙◌, refl, sym, subst, Some, ◌++◌}
+use Rattle.std.proofs.Common.{◌∙◌, ap, refl, sym, subst, Some, ◌++◌}
 use Rattle.std.specs.Option.{option_to_list}
 use Rattle.bl_setup.specs.Agreement.{Agree}
 use Rattle.bl_setup.specs.Setup.{Setup}
@@ -8,6 +8,7 @@ use Rattle.bl_alone.specs.Files.{fault_in, file_in}
 use Rattle.bl_alone.specs.Recording.{IsLeft}
 use Rattle.bl_alone.specs.Telling.{text_of_all}
 use Rattle.bl_recover.specs.Telling.{cut_line}
+use Rattle.bl_alone.proofs.Causes.{given_not_none}
 use Rattle.bl_resume.proofs.Ending.{when_served}
 use Rattle.bl_resume.proofs.run.sit.Goals as goal
 
@@ -30,7 +31,8 @@ returns-clause-run g c =
       left = subst (λ file. IsLeft kept.kept (Some hall) (fault_in left) (file_in g.D.Device.now file)) (sym c.tell_recorded.ensures.file)
           (c.close_after-left.ensures.left kept.kept kept.held kept.front (subst Agree (sym same) c.names.ensures.agree)
           (subst (λ (s : Setup). AreNames s.names) (sym same) (subst AreNames c.names.ensures.value c.scheme-scheme.ensures.names)));
-      cut_short = c.close_after-left.ensures.cut;
+      cut_short = λ stop none'. given_not_none _ (fault_in left) (c.close_after-left.ensures.unkept stop) none';
+      cause = λ short. ap (file_in g.D.Device.has_failed) c.tell_recorded.ensures.file ∙ c.close_after-left.ensures.cause short;
       whole = c.tell_recorded.ensures.whole;
       stopped = told.0;
       stopped_is = told.1;

@@ -12,8 +12,8 @@ returns-in-Over-clause-gone g c =
     let lt = subst (λ n. c.args.i < n) crowd.members.ok.0 c.requires.within in
     let over = rw c.in-Over.is at c.requires.stands in
     gone_over g.S.Stream.remaining g.S.Stream.contents crowd c.args.i
-    (record { number = c.args.seat.number; stream = c.finish.result; fault = None; full = false; lines = c.lines.result; events = c.args.events })
-    c.requires.crowd c.requires.follows lt refl refl (λ d. (over d).1) c.finish.ensures.stream c.lines.ensures c.finish.ensures.served
+    (record { number = c.args.seat.number; stream = c.finish.result; fault = None; full = false; lines = c.lines.result; refused = c.refused.result; events = c.args.events })
+    c.requires.crowd c.requires.follows lt refl refl (λ d. (over d).1) c.finish.ensures.stream c.lines.ensures c.refused.ensures c.finish.ensures.served
 
 pub returns-in-Failed-clause-gone : goal.returns-in-Failed-clause-gone
 returns-in-Failed-clause-gone g c =

@@ -8,5 +8,5 @@ returns-clause-gone g c =
     let lt = subst (λ n. c.args.i < n) crowd.members.ok.0 c.requires.within in
     let left = c.leave-departed in
     gone_out g.S.Stream.remaining g.S.Stream.contents crowd c.args.i
-    (record { number = c.args.number; stream = left.result.stream; fault = left.result.fault; full = left.result.full; lines = c.lines-lines.result; events = c.args.events })
-    c.requires.crowd c.requires.follows lt (λ d. (left.ensures.stream d).0) (λ d. (left.ensures.stream d).1) left.ensures.full c.lines-lines.ensures left.ensures.departs
+    (record { number = c.args.number; stream = left.result.stream; fault = left.result.fault; full = left.result.full; lines = c.lines-lines.result; refused = c.refused-refused.result; events = c.args.events })
+    c.requires.crowd c.requires.follows lt (λ d. (left.ensures.stream d).0) (λ d. (left.ensures.stream d).1) left.ensures.full c.lines-lines.ensures c.refused-refused.ensures left.ensures.departs

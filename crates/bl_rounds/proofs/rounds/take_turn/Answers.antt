@@ -32,5 +32,5 @@ pub returns-clause-gone : goal.returns-clause-gone
 returns-clause-gone g c gone =
     let seats = c.args.seats.now.items in
     let after = c.go_on_each.new.seats.items in
-    let time = c.tell_of.ensures ∙ ap (λ (m : Marks). m.time) c.end_and_begin-ended.ensures.marks in
+    let time = c.tell_of-noted.ensures.time ∙ ap (λ (m : Marks). m.time) c.end_and_begin-ended.ensures.marks in
     subst (λ t. HaveGoneOn t (length after) after) time (c.go_on_each.ensures.gone (subst (λ t. HaveGoneOn t (length seats) seats) (sym time) gone))

@@ -8,7 +8,7 @@ pub returns-in-Err-clause-run : goal.returns-in-Err-clause-run
 returns-in-Err-clause-run g c =
     inr (
       c.of_setup.result,
-      c.end_with.ensures.told,
+      c.end_before.ensures.told,
       inl (record {
         unread = Keeps-refl _;
         unmet = record {
@@ -22,17 +22,16 @@ returns-in-Err-clause-run g c =
       }),
     )
 
--- the trail's file could not be claimed
-pub returns-in-Err-claim-clause-run : goal.returns-in-Err-claim-clause-run
-returns-in-Err-claim-clause-run g c =
+-- no file could be made for the trail
+pub returns-in-Err-claim_or_try-clause-run : goal.returns-in-Err-claim_or_try-clause-run
+returns-in-Err-claim_or_try-clause-run g c =
     inr (
       c.of_keep.result,
-      c.end_with-in-Err-claim.ensures.told,
+      c.end_before-in-Err-claim_or_try.ensures.told,
       inr (record {
         begun = c.in-Ok.setup;
         is = c.in-Ok.ensures.setup;
-        asked = c.in-Err-claim.ensures.claims;
-        why = is_unkept c.in-Err-claim.fault c.of_keep.result c.of_keep.ensures;
+        why = is_unkept c.in-Err-claim_or_try.fault c.of_keep.result c.of_keep.ensures;
         unread = Keeps-refl _;
         unwritten = Keeps-refl _;
       }),

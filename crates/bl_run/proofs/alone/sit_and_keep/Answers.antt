@@ -8,6 +8,6 @@ pub returns-clause-run : goal.returns-clause-run
 returns-clause-run g c setup is =
     let served = c.sit-session.result.0 in
     let kept = c.sit-session.result.1 in
-    sat setup c.args.run.now.limit c.args.begun.setup is (result_err served) _ _ c.sit-session.ensures.ended (is_some kept)
+    sat setup c.args.run.now c.args.begun.setup is (result_err served) _ _ c.sit-session.ensures.ended (is_some kept)
     (begins served kept c.sit-session.ensures.kept) c.tell_served-status.result c.keep_session.result _ _ _
     c.tell_served-status.ensures.status c.tell_served-status.ensures.puts c.keep_session.ensures.trail

@@ -4,7 +4,7 @@ use Rattle.std.specs.List.{flat_map}
 use Rattle.bl_wire.proofs.PutLaws.{puts-three}
 use Rattle.bl_status.specs.declared.fault.ProgramFault.TheVariants.{NoMemory}
 use Rattle.bl_status.specs.Message.{fault_line}
-use Rattle.bl_run.specs.Serving.{ended_line}
+use Rattle.bl_live.specs.Telling.{ended_line}
 use Rattle.bl_run.specs.Serving.{found}
 use Rattle.bl_run.proofs.Hosting.{status-two}
 use Rattle.bl_run.proofs.serve.tell_hosted.Goals as goal

@@ -1,7 +1,7 @@
 use Rattle.std.proofs.Common.{◌<◌, arith, length, take}
 use Rattle.std.specs.List.{flat_map}
 use Rattle.bl_wire.proofs.PutLaws.{puts-two}
-use Rattle.bl_run.specs.Serving.{ended_line}
+use Rattle.bl_live.specs.Telling.{ended_line}
 use Rattle.bl_run.proofs.Hosting.{lines-on}
 use Rattle.bl_run.proofs.serve.tell_sessions.Goals as goal
 

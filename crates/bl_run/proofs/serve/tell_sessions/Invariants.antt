@@ -1,7 +1,7 @@
 use Rattle.std.proofs.Common.{take}
 use Rattle.std.specs.List.{flat_map}
 use Rattle.bl_wire.specs.Watch.{Puts, end_state}
-use Rattle.bl_run.specs.Serving.{ended_line}
+use Rattle.bl_live.specs.Telling.{ended_line}
 use Rattle.bl_run.proofs.serve.tell_sessions.Given as goal
 
 abbrev pub invariant-loop-one : goal.invariant-loop-one

@@ -8,7 +8,7 @@ use Rattle.bl_alone.specs.Files.{file_in, is_whole}
 use Rattle.bl_alone.specs.Recording.{HasRecorded}
 use Rattle.bl_recover.specs.Telling.{cut_line}
 use Rattle.bl_serving.specs.Hosted.{HasHosted}
-use Rattle.bl_serving.specs.Telling.{words_by}
+use Rattle.bl_serving.specs.Telling.{words_at}
 use Rattle.bl_recover.specs.declared.fault.RecoveryFault.TheVariants.{Program}
 use Rattle.bl_status.specs.declared.fault.ProgramFault.TheVariants.{NoMemory, Write}
 use Rattle.bl_serving.specs.declared.fault.ServingFault.TheVariants.{Recovery}
@@ -40,7 +40,7 @@ returns-then-not-put_out-clause-run g c =
           refl,
           c.put_out.ensures.failed ∙ ap not untold,
           c.put_out.ensures.some,
-          (begun.hall, begun.cut, c.in-Ok.ensures.begins, puts-append (cut_line begun.cut) (words_by fault) _ _ _ c.tell_cut.ensures.puts c.end_with-then-not-put_out.ensures.puts),
+          (begun.hall, begun.cut, c.in-Ok.ensures.begins, puts-append (cut_line begun.cut) (words_at (file_in g.D.FileName.name c.end_with-then-not-put_out.result.file) fault) _ _ _ c.tell_cut.ensures.puts c.end_with-then-not-put_out.ensures.puts),
         ),
       ),
     )

@@ -21,7 +21,7 @@ returns-in_err-end-clause-err g c =
     let old = c.args.self.now in
     let need : (need_of old.conv ≡ needs.Input) ⊎ (need_of old.conv ≡ needs.End) = elim (c.is_heard.ensures.all c.if-is_heard.true) [ inl end ↦ inr end | inr all ↦ inl all.0 ] in
     memory_alone c.from_residual.result _ c.from_residual.ensures.1
-    (λ left names replies upto x was. stops_memory R W names replies upto left old x (to_hear R old) (W old.stream) (hears_at old c.requires).0 (Keeps-refl (to_hear R old)) (Keeps-refl (W old.stream)) was need)
+    (λ left. (refl, λ names replies upto x was. stops_memory R W names replies upto left old x (to_hear R old) (W old.stream) (hears_at old c.requires).0 (Keeps-refl (to_hear R old)) (Keeps-refl (W old.stream)) was need))
 
 pub returns-then-is_heard-clause-heard : goal.returns-then-is_heard-clause-heard
 returns-then-is_heard-clause-heard g c =
@@ -42,13 +42,16 @@ returns-in_err-heard-clause-err g c =
     let some = c.is_heard.ensures.some c.if-is_heard.false in
     let none = (hears_at old c.requires).0 in
     passes_on c.from_residual-in_err-heard.result fault _ c.from_residual-in_err-heard.ensures.1
-    (λ left names replies upto x was. elim c.in_err-heard.ensures.long [
-      | inl is ↦ subst (λ f. Stopped f names (ends (R old.first.value) (to_hear R old) (W old.first.value) (W old.stream)) (is_read f) (is_write f) (view_of replies upto x.asked)) (sym is)
-          (stops_memory R W names replies upto left old x (to_hear R old) (W old.stream) none (Keeps-refl (to_hear R old)) (Keeps-refl (W old.stream)) was (inl some.0))
-      | inr is ↦ subst (λ f. Stopped f names (ends (R old.first.value) (to_hear R old) (W old.first.value) (W old.stream)) (is_read f) (is_write f) (view_of replies upto x.asked)) (sym is.0)
-          (stops_long R W names replies upto left old x (to_hear R old) (W old.stream) none (Keeps-refl (to_hear R old)) (Keeps-refl (W old.stream)) was some.0 is.1
-          (has_more (R old.stream) (unheard old) (some_left old.heard old.input.items some.1)))
-    ])
+    (λ left. (
+      refl,
+      λ names replies upto x was. elim c.in_err-heard.ensures.long [
+        | inl is ↦ subst (λ f. Stopped f names (ends old.first.remaining (to_hear R old) old.first.contents (W old.stream)) (is_read f) (is_write f) (view_of replies upto x.asked)) (sym is)
+            (stops_memory R W names replies upto left old x (to_hear R old) (W old.stream) none (Keeps-refl (to_hear R old)) (Keeps-refl (W old.stream)) was (inl some.0))
+        | inr is ↦ subst (λ f. Stopped f names (ends old.first.remaining (to_hear R old) old.first.contents (W old.stream)) (is_read f) (is_write f) (view_of replies upto x.asked)) (sym is.0)
+            (stops_long R W names replies upto left old x (to_hear R old) (W old.stream) none (Keeps-refl (to_hear R old)) (Keeps-refl (W old.stream)) was some.0 is.1
+            (has_more (R old.stream) (unheard old) (some_left old.heard old.input.items some.1)))
+      ],
+    ))
 
 pub returns-clause-heard : goal.returns-clause-heard
 returns-clause-heard g c =

@@ -19,7 +19,7 @@ returns-in_err-room-clause-err g c =
     let old = c.args.self.now in
     let at = reads_at old c.requires in
     memory_alone c.from_residual.result _ c.from_residual.ensures.1
-    (λ left names replies upto x was. stops_memory R W names replies upto left old x (to_hear R old) (W old.stream) at.0 (Keeps-refl (to_hear R old)) (Keeps-refl (W old.stream)) was (inl at.1))
+    (λ left. (refl, λ names replies upto x was. stops_memory R W names replies upto left old x (to_hear R old) (W old.stream) at.0 (Keeps-refl (to_hear R old)) (Keeps-refl (W old.stream)) was (inl at.1)))
 
 pub returns-in-WouldBlock-clause-stays : goal.returns-in-WouldBlock-clause-stays
 returns-in-WouldBlock-clause-stays g c = (
@@ -36,11 +36,15 @@ returns-in-Failed-clause-stays g c = (
 )
 
 pub returns-in-Failed-clause-err : goal.returns-in-Failed-clause-err
-returns-in-Failed-clause-err g c = λ left names replies upto x was.
+returns-in-Failed-clause-err g c =
     let R = g.S.Stream.remaining in
     let old = c.args.self.now in
     let at = reads_at old c.requires in
-    stops_read R g.S.Stream.contents names replies upto left old x (prepend_known (unheard old) (R c.read.new.self)) (g.S.Stream.contents c.read.new.self) at.0 (keeps_unread (R old.stream) (R c.read.new.self) (unheard old) c.in-Failed.ensures.bytes) c.in-Failed.ensures.others was at.1
+    λ left. (
+      refl,
+      λ names replies upto x was.
+          stops_read R g.S.Stream.contents names replies upto left old x (prepend_known (unheard old) (R c.read.new.self)) (g.S.Stream.contents c.read.new.self) at.0 (keeps_unread (R old.stream) (R c.read.new.self) (unheard old) c.in-Failed.ensures.bytes) c.in-Failed.ensures.others was at.1,
+    )
 
 pub returns-clause-stays : goal.returns-clause-stays
 returns-clause-stays g c =

@@ -10,12 +10,12 @@ pub returns-in_err-tell_parts-clause-err : goal.returns-in_err-tell_parts-clause
 returns-in_err-tell_parts-clause-err g c =
     let told = c.in_err-tell_parts.ensures.err in
     if_err-any c.from_residual-in_err-tell_parts.result
-    (λ names replies upto x was. stops_told g.S.Stream.remaining g.S.Stream.contents names replies upto (g.B.Replies.left c.args.block.now) told.left c.args.self.now c.tell_parts.new.conv x told.more told.ended told.says was)
+    (refl, λ names replies upto x was. stops_told g.S.Stream.remaining g.S.Stream.contents names replies upto (g.B.Replies.left c.args.block.now) told.left c.args.self.now c.tell_parts.new.conv x told.more told.ended told.says was)
 
 pub returns-in_err-reserve-clause-err : goal.returns-in_err-reserve-clause-err
 returns-in_err-reserve-clause-err g c =
     if_err-any c.from_residual.result
-    (λ names replies upto x was. stops_write g.S.Stream.remaining g.S.Stream.contents names replies upto (g.B.Replies.left c.args.block.now) c.args.self.now x was)
+    (refl, λ names replies upto x was. stops_write g.S.Stream.remaining g.S.Stream.contents names replies upto (g.B.Replies.left c.args.block.now) c.args.self.now x was)
 
 pub returns-clause-told : goal.returns-clause-told
 returns-clause-told g c =

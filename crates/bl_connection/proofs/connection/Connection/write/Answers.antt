@@ -23,19 +23,25 @@ returns-in-Failed-clause-stays g c = (
 )
 
 pub returns-in-Failed-clause-err : goal.returns-in-Failed-clause-err
-returns-in-Failed-clause-err g c = λ left names replies upto x was.
+returns-in-Failed-clause-err g c =
     let W = g.S.Stream.contents in
     let old = c.args.self.now in
-    stops_stuck g.S.Stream.remaining W names replies upto left old x c.write.new.self c.in-Failed.ensures.others
-    (Appends-kept (W old.stream) (W old.stream) (W c.write.new.self) [] (Appends-nil (W old.stream)) c.in-Failed.ensures.bytes) was
+    λ left. (
+      refl,
+      λ names replies upto x was. stops_stuck g.S.Stream.remaining W names replies upto left old x c.write.new.self c.in-Failed.ensures.others
+          (Appends-kept (W old.stream) (W old.stream) (W c.write.new.self) [] (Appends-nil (W old.stream)) c.in-Failed.ensures.bytes) was,
+    )
 
 pub returns-then-count-eq0-clause-err : goal.returns-then-count-eq0-clause-err
-returns-then-count-eq0-clause-err g c = λ left names replies upto x was.
+returns-then-count-eq0-clause-err g c =
     let W = g.S.Stream.contents in
     let old = c.args.self.now in
     let none : c.in-Moved.count ≡ 0 = c.if-count-eq0.true in
-    stops_stuck g.S.Stream.remaining W names replies upto left old x c.write.new.self c.in-Moved.ensures.others
-    (subst (λ n. Appends (W old.stream) (W c.write.new.self) (take n (take (length c.deref.result.now - old.written) (drop old.written c.deref.result.now)))) none c.in-Moved.ensures.bytes.1) was
+    λ left. (
+      refl,
+      λ names replies upto x was. stops_stuck g.S.Stream.remaining W names replies upto left old x c.write.new.self c.in-Moved.ensures.others
+          (subst (λ n. Appends (W old.stream) (W c.write.new.self) (take n (take (length c.deref.result.now - old.written) (drop old.written c.deref.result.now)))) none c.in-Moved.ensures.bytes.1) was,
+    )
 
 pub returns-clause-stays : goal.returns-clause-stays
 returns-clause-stays g c =

@@ -1,4 +1,4 @@
-use Rattle.std.proofs.Common.{ap, refl, sym, subst}
+use Rattle.std.proofs.Common.{None, ap, refl, sym, subst}
 use Rattle.bl_work.specs.Readable.{IsReadable}
 use Rattle.bl_setup.specs.Setup.{Setup}
 use Rattle.bl_gate.specs.Gates.{PassView}
@@ -6,6 +6,7 @@ use Rattle.bl_crowd.specs.Steps.{IsClash}
 use Rattle.bl_crowd.proofs.Fitting.{fits_entered, fits_itself}
 use Rattle.bl_crowd.proofs.Meeting.{admits_open, readable, setup_is, way_clash, way_entered}
 use Rattle.bl_crowd.proofs.Opening.{own_entered, own_itself}
+use Rattle.bl_crowd.proofs.Streaming.{way_tally}
 use Rattle.bl_crowd.proofs.member.Member.admit.Goals as goal
 
 pub unreachable-requires : goal.unreachable-requires
@@ -39,7 +40,11 @@ returns-clause-own g c =
 
 pub returns-clause-ok : goal.returns-clause-ok
 returns-clause-ok g c names first home speaks w =
-    way_entered g.S.Stream.remaining g.S.Stream.contents names first c.args.turn.now c.args.self.now c.args.ordinal c.args.work w c.in-Open.session c.in-Open.is c.enter.new.turn c.enter.ensures.goes c.in-Ok.ensures.ok speaks
+    let R = g.S.Stream.remaining in
+    let W = g.S.Stream.contents in
+    let self = c.args.self.now in
+    let entered = way_entered R W names first c.args.turn.now self c.args.ordinal c.args.work w c.in-Open.session c.in-Open.is c.enter.new.turn c.enter.ensures.goes c.in-Ok.ensures.ok speaks in
+    (way_tally R W names first c.enter.new.turn (record self { last = c.args.ordinal }) c.note.new.self None entered.0, entered.1)
 
 pub returns-clause-fits : goal.returns-clause-fits
 returns-clause-fits g c bound fit =

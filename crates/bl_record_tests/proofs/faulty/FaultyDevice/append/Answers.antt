@@ -1,4 +1,4 @@
-use Rattle.bl_disk.proofs.InMemoryLemmas.{none-added}
+use Rattle.bl_disk.proofs.Moving.{none-added}
 use Rattle.bl_disk.specs.Moments.{IsAdding}
 use Rattle.bl_record_tests.proofs.Unmoved.{unmoved}
 use Rattle.bl_record_tests.specs.OfFaulty.{faulty_now}

@@ -1,4 +1,4 @@
-use Rattle.bl_disk.proofs.InMemoryLemmas.{none-cut}
+use Rattle.bl_disk.proofs.Moving.{none-cut}
 use Rattle.bl_disk.specs.Moments.{IsCutting}
 use Rattle.bl_record_tests.proofs.Unmoved.{unmoved}
 use Rattle.bl_record_tests.specs.OfFaulty.{faulty_now}
