@@ -1,0 +1,4 @@
+pub mod Over
+pub mod Behind
+pub mod TrueEnds
+pub mod Leaving

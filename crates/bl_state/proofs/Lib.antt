@@ -1,0 +1,16 @@
+pub mod Lines
+pub mod Leading
+pub mod Cells
+pub mod Whole
+pub mod Alike
+pub mod Kept
+pub mod Standing
+pub mod Read
+pub mod Short
+pub mod Telling
+pub mod Chaining
+pub mod Ending
+pub mod Following
+pub mod Counting
+pub mod Spelling
+pub mod Putting
