@@ -483,6 +483,11 @@ def carried_by(state, entry, found):
 
 def pasts(setup, state, upto):
     """What is said of each place below `upto`, where just those of the state are lost."""
+    return history(setup, state, upto)[0]
+
+
+def history(setup, state, upto):
+    """The same, with the policy and the contents behind these places."""
     policy = first_policy(setup)
     contents = [d.content for d in setup.documents]
     found = []
@@ -508,7 +513,7 @@ def pasts(setup, state, upto):
                     if mode != "read":
                         contents[document] = after(contents[document], effects, document)
         found.append(Past(answer, effects, level, carried))
-    return found
+    return found, policy, contents
 
 
 def denied_text(setup, answer):
@@ -667,6 +672,33 @@ def verdict(setup, text, known=None, done=0):
     return f"rejected {count + 1}"
 
 
+# ---- what a run leaves
+
+
+def setup_lines(setup, policy, contents):
+    """The lines of a setup with this policy and these contents, each in canonical text."""
+    yield ["ranks"] + setup.ranks
+    yield ["categories"] + setup.categories
+    for place, s in enumerate(setup.subjects):
+        levels = level_tokens(setup, s.greatest) + ["current"] + level_tokens(setup, policy.current[place])
+        yield ["subject", s.name, "greatest"] + levels + ["trusted"] * s.trusted + ["admin"] * s.admin
+    for place, d in enumerate(setup.documents):
+        is_there = place in policy.present
+        text = ['"' + contents[place] + '"'] if is_there else []
+        yield ["document" if is_there else "reserve", d.name] + level_tokens(setup, policy.levels[place]) + text
+    for who, s in enumerate(setup.subjects):
+        for place, d in enumerate(setup.documents):
+            letters = [mode[0] for mode in ("read", "append", "write") if (who, place, mode) in policy.matrix]
+            if letters:
+                yield ["allow", s.name, d.name] + letters
+
+
+def left(setup, state):
+    """The text of the setup that a run leaves in which all has ended."""
+    _, policy, contents = history(setup, state, len(state.order))
+    return "".join(spaced(parts) + "\n" for parts in setup_lines(setup, policy, contents))
+
+
 # ---- random true trails
 
 
@@ -751,6 +783,24 @@ def random_trail(rng, setup, events, version=2, limit=10000):
         line, state = random_event(rng, setup, state)
         lines.append(line)
     return lines + ["stop"]
+
+
+def random_end(rng, setup, state):
+    """The events by which all that a state has comes to its end, as lines, and the state then."""
+    lines = []
+    while len(state.ended) < len(state.order):
+        ready = [n for n in range(len(state.order)) if may_start(state, n)]
+        n = rng.choice(sorted(state.running) + ready)
+        if rng.random() < 0.1:
+            line, state = f"lost {n}", lost(setup, state, n)
+        elif n in state.running:
+            answer, state = ended(setup, state, n)
+            line = f"end {n} {end_text(answer)}"
+        else:
+            answer, state = started(setup, state, n)
+            line = f"start {n} {start_text(setup, answer)}"
+        lines.append(line)
+    return lines, state
 
 
 def random_event(rng, setup, state):

@@ -14,8 +14,9 @@ use Rattle.bl_status.specs.Places.{trail_line}
 use Rattle.bl_status.specs.Runs.{HasTold, Run}
 use Rattle.bl_status.specs.Status.{status_of}
 use Rattle.bl_run.specs.Runs.{IsOpenReplayOn, IsReplayOn, IsRun}
+use Rattle.bl_standing.specs.States.{IsStateRun}
 use Rattle.bl_words.specs.declared.command.Command.{Command}
-use Rattle.bl_words.specs.declared.command.Command.TheVariants.{Alone, Serve, Replay, Recover}
+use Rattle.bl_words.specs.declared.command.Command.TheVariants.{Alone, Serve, Replay, Recover, State}
 use Rattle.bl_command.specs.declared.run.Files.{Files}
 
 -- how a replay ends, of a trail that may be open or not
@@ -26,6 +27,11 @@ EndsReplay true setup trail run = IsOpenReplayOn setup trail run.status run.outp
 -- a replay reads nothing of its input
 pub record IsReplay (opens : Bool) (setup trail : List ℕ) (run : Run) : Type 0 where
   pub ends : EndsReplay opens setup trail run
+  pub unread : Keeps run.input.before run.input.after
+
+-- nor does a run of `state`
+pub record IsState (setup trail : List ℕ) (run : Run) : Type 0 where
+  pub ends : IsStateRun setup trail run.status run.output run.errors
   pub unread : Keeps run.input.before run.input.after
 
 -- the fault was told, and nothing was read or written
@@ -41,6 +47,7 @@ IsRunOf (Alone path limit says_limit (Some trail) keeping resumes) files run = H
 IsRunOf (Serve path hosting) files run = HasOnlyTold CannotListen run
 IsRunOf (Replay path name opens) files run = IsReplay opens files.setup.items files.trail.items run
 IsRunOf (Recover path name) files run = HasOnlyTold CannotReadTrail run
+IsRunOf (State path name) files run = IsState files.setup.items files.trail.items run
 
 -- own choice: behind the words for a trail that cannot be read which file that is
 abbrev pub unread_line : Option (List ℕ) → ProgramFault → List ℕ

@@ -10,6 +10,7 @@ ghost use Rattle.bl_words.specs.Words.{IsInRange};
 use bl_run::alone::alone_on;
 use bl_run::open::replay_open_on;
 use bl_run::replay::replay_on;
+use bl_standing::state::state_on;
 use bl_status::fault::ProgramFault;
 use bl_status::told::{tell, tell_at};
 use bl_wire::put::put_out;
@@ -88,6 +89,7 @@ fn run_over<R: BufRead, W: Write, E: Write>(
             replay_over(alloc, &files.setup, &files.trail, *opens, writer, errors)
         }
         Command::Recover { .. } => tell(errors, &ProgramFault::CannotReadTrail),
+        Command::State { .. } => state_on(alloc, &files.setup, &files.trail, writer, errors),
     }
 }
 

@@ -222,6 +222,8 @@ fn tells_bad_words(rt: HostRuntime) -> Result<(), Fail> {
         "bl_server replay --setup memo.txt",
         "bl_server replay --trail trail.txt",
         "bl_server replay --setup memo.txt --trail trail.txt --limit 7",
+        "bl_server state --setup memo.txt",
+        "bl_server state --setup memo.txt --trail trail.txt --open",
     ];
     for words in given {
         let files = files(rt.alloc(), ONE_MEMO, b"")?;
@@ -320,6 +322,35 @@ fn tells_verdicts(rt: HostRuntime) -> Result<(), Fail> {
         assert!(rt; ended.unread == INPUT);
         assert!(rt; ended.written.as_slice() == told.as_bytes(), "at {trail}");
         assert!(rt; ended.said.is_empty());
+    }
+    Ok(())
+}
+
+/// What a trail left is written alone, and nothing is read.
+#[test]
+fn writes_what_stands(rt: HostRuntime) -> Result<(), Fail> {
+    let given = [
+        (
+            "trail 2\nlimit 9\nstop\n",
+            0,
+            "ranks u\ncategories\nsubject ann greatest u current u\n\
+            document memo u\"m1\"\nallow ann memo r\n",
+            "",
+        ),
+        (ONE_READ, 3, "", "trail of version 1\n"),
+        ("", 1, "", "rejected 1\n"),
+    ];
+    for (trail, status, written, said) in given {
+        let files = files(rt.alloc(), ONE_MEMO, trail.as_bytes())?;
+        let words = "bl_server state --setup memo.txt --trail trail.txt";
+        let ended = run_words(rt.alloc(), words, Ok(files), INPUT)?;
+        assert_eq!(rt; ended.status, status, "at {trail}");
+        assert!(rt; ended.unread == INPUT);
+        assert!(rt;
+            ended.written.as_slice() == written.as_bytes(),
+            "at {trail}"
+        );
+        assert!(rt; ended.said.as_slice() == said.as_bytes(), "at {trail}");
     }
     Ok(())
 }

@@ -430,3 +430,17 @@ fn reads_recover(rt: HostRuntime) -> Result<(), Fail> {
     assert!(rt; read);
     Ok(())
 }
+
+#[test]
+fn reads_state(rt: HostRuntime) -> Result<(), Fail> {
+    let given = words(
+        rt.alloc(),
+        "bl_server state --trail day.trail --setup base.txt",
+    )?;
+    let read = match read_words(rt.alloc(), given.as_slice()) {
+        Ok(Command::State { setup, trail }) => setup == "base.txt" && trail == "day.trail",
+        Ok(_) | Err(_) => false,
+    };
+    assert!(rt; read);
+    Ok(())
+}

@@ -29,7 +29,7 @@ use Rattle.bl_words.specs.declared.command.NamedEntrance.TheVariants.{Port, Door
 use Rattle.bl_words.specs.declared.command.Hosting.{Hosting}
 use Rattle.bl_words.specs.declared.command.TrailKeeping.{TrailKeeping}
 use Rattle.bl_words.specs.declared.command.TrailKeeping.TheVariants.{AtEnd, Written, Synced}
-use Rattle.bl_words.specs.declared.command.Command.TheVariants.{Alone, Serve, Replay, Recover}
+use Rattle.bl_words.specs.declared.command.Command.TheVariants.{Alone, Serve, Replay, Recover, State}
 
 server_is_simple : is_simple server_app ≡ true
 unfolding clap_on_literals
@@ -142,6 +142,7 @@ module _ (a b : ArgMatches) (same : rows_of (found_of a) ≡ rows_of (found_of b
   options_same (Replay setup trail opens) has =
       (first_same (codes "setup") ∙ has.0, first_same (codes "trail") ∙ has.1, flag_same (codes "open") opens has.2)
   options_same (Recover setup trail) has = (first_same (codes "setup") ∙ has.0, first_same (codes "trail") ∙ has.1)
+  options_same (State setup trail) has = (first_same (codes "setup") ∙ has.0, first_same (codes "trail") ∙ has.1)
 
 -- an option that has a source was said by that
 pub said_by : (m : Option MatchedArg) (source : ValueSource) → Some source ≡ option_and_then (λ a. a.source) m
@@ -171,18 +172,24 @@ none_weaker None P Q f p = f p
 words_differ : (a b : ℕ) (as' bs : List ℕ) → (a ≡ b → ⊥) → a ∷ as' ≡ b ∷ bs → ⊥
 words_differ a b as' bs differ same = differ (ap (λ (l : List ℕ). get_or l 0 0) same)
 
+-- `state` and `serve` differ in their second letters
+later_differ : (a b c d : ℕ) (as' bs : List ℕ) → (c ≡ d → ⊥) → a ∷ c ∷ as' ≡ b ∷ d ∷ bs → ⊥
+later_differ a b c d as' bs differ same = differ (ap (λ (l : List ℕ). get_or l 1 0) same)
+
 -- without a limit in its range there is no command `alone`, and without what is hosted no `serve`
 pub alone_none : (options : ArgMatches) → ((n : ℕ) → HasNumber options (codes "limit") n → 1 ≤ n → n ≤ 100000 → ⊥) → HasNoCommand (codes "alone") options
 alone_none options none' (Alone setup limit says_limit trail keeping resumes) is range = none' limit is.has.1 range.0.0 range.0.1
 alone_none options none' (Serve setup hosting) is range = words_differ 115 97 _ _ (λ e. omega arith) is.word_is
 alone_none options none' (Replay setup trail opens) is range = words_differ 114 97 _ _ (λ e. omega arith) is.word_is
 alone_none options none' (Recover setup trail) is range = words_differ 114 97 _ _ (λ e. omega arith) is.word_is
+alone_none options none' (State setup trail) is range = words_differ 115 97 _ _ (λ e. omega arith) is.word_is
 
 pub serve_none : (options : ArgMatches) → ((hosting : Hosting) → HasHosting options hosting → IsHostingInRange hosting → ⊥) → HasNoCommand (codes "serve") options
 serve_none options none' (Alone setup limit says_limit trail keeping resumes) is range = words_differ 97 115 _ _ (λ e. omega arith) is.word_is
 serve_none options none' (Serve setup hosting) is range = none' hosting is.has.1 range
 serve_none options none' (Replay setup trail opens) is range = words_differ 114 115 _ _ (λ e. omega arith) is.word_is
 serve_none options none' (Recover setup trail) is range = words_differ 114 115 _ _ (λ e. omega arith) is.word_is
+serve_none options none' (State setup trail) is range = later_differ 115 115 116 101 _ _ (λ e. omega arith) is.word_is
 
 some_same : {T : Type 0} (a b : T) → Some a ≡ Some b → a ≡ b
 some_same a b e = cc
@@ -199,6 +206,7 @@ unkept_none options none' (Alone setup limit says_limit trail keeping resumes) i
 unkept_none options none' (Serve setup hosting) is range = words_differ 115 97 _ _ (λ e. omega arith) is.word_is
 unkept_none options none' (Replay setup trail opens) is range = words_differ 114 97 _ _ (λ e. omega arith) is.word_is
 unkept_none options none' (Recover setup trail) is range = words_differ 114 97 _ _ (λ e. omega arith) is.word_is
+unkept_none options none' (State setup trail) is range = words_differ 115 97 _ _ (λ e. omega arith) is.word_is
 
 -- options say one thing of a trail, and of how it is kept
 same_trail : (options : ArgMatches) (a b : Option TrailFile) → HasTrail options a → HasTrail options b → is_some a ≡ is_some b
@@ -235,6 +243,7 @@ kept_none options trail keeping resumes has_trail has_keeping has_resume none' (
 kept_none options trail keeping resumes has_trail has_keeping has_resume none' (Serve setup hosting) is range = words_differ 115 97 _ _ (λ e. omega arith) is.word_is
 kept_none options trail keeping resumes has_trail has_keeping has_resume none' (Replay setup name opens) is range = words_differ 114 97 _ _ (λ e. omega arith) is.word_is
 kept_none options trail keeping resumes has_trail has_keeping has_resume none' (Recover setup name) is range = words_differ 114 97 _ _ (λ e. omega arith) is.word_is
+kept_none options trail keeping resumes has_trail has_keeping has_resume none' (State setup name) is range = words_differ 115 97 _ _ (λ e. omega arith) is.word_is
 
 module _ {Z : Type 0} where
   -- the subcommand's name is that of its rows

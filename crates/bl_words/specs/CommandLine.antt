@@ -116,6 +116,10 @@ replay_app = app_with (codes "replay") (setup_rule ∷ trail_rule ∷ open_rule 
 abbrev pub recover_app : App
 recover_app = app_with (codes "recover") (setup_rule ∷ trail_rule ∷ [])
 
+-- the command `state` has the same
+abbrev pub state_app : App
+state_app = app_with (codes "state") (setup_rule ∷ trail_rule ∷ [])
+
 -- a parser of this command, and with no option that holds for the commands below it
 pub record IsLocal (app : App) (parser : Command) : Type 0 where
   pub app_is : app_of parser ≡ app
@@ -125,7 +129,7 @@ pub record IsLocal (app : App) (parser : Command) : Type 0 where
 abbrev pub root_app : App
 root_app = on_top (λ s. record s { has_version = true; subcommand_required = true }) (new_app (codes "bl_server"))
 
--- own choice: the commands are `alone`, `serve`, `replay` and `recover`
+-- own choice: the commands are `alone`, `serve`, `replay`, `recover` and `state`
 abbrev pub server_app : App
-server_app = with_subcommand (with_subcommand
-    (with_subcommand (with_subcommand root_app alone_app.top) serve_app.top) replay_app.top) recover_app.top
+server_app = with_subcommand (with_subcommand (with_subcommand
+    (with_subcommand (with_subcommand root_app alone_app.top) serve_app.top) replay_app.top) recover_app.top) state_app.top

@@ -17,7 +17,7 @@ use Rattle.bl_words.specs.declared.command.NamedEntrance.TheVariants.{Port, Door
 use Rattle.bl_words.specs.declared.command.Hosting.{Hosting}
 use Rattle.bl_words.specs.declared.command.TrailKeeping.{TrailKeeping}
 use Rattle.bl_words.specs.declared.command.TrailKeeping.TheVariants.{AtEnd, Written, Synced}
-use Rattle.bl_words.specs.declared.command.Command.TheVariants.{Alone, Serve, Replay, Recover}
+use Rattle.bl_words.specs.declared.command.Command.TheVariants.{Alone, Serve, Replay, Recover, State}
 
 -- a port is in its range
 abbrev pub IsEntranceInRange : NamedEntrance → Type 0
@@ -59,6 +59,7 @@ IsInRange (Alone setup limit says_limit trail keeping resumes) = ((1 ≤ limit) 
 IsInRange (Serve setup hosting) = IsHostingInRange hosting
 IsInRange (Replay setup trail opens) = Unit {0}
 IsInRange (Recover setup trail) = Unit {0}
+IsInRange (State setup trail) = Unit {0}
 
 -- the text is a decimal numeral, before which a plus may stand, and this is the number that it writes
 abbrev pub Writes : List ℕ → ℕ → Type 0
@@ -79,6 +80,7 @@ setup_of (Alone setup limit says_limit trail keeping resumes) = setup.now
 setup_of (Serve setup hosting) = setup.now
 setup_of (Replay setup trail opens) = setup.now
 setup_of (Recover setup trail) = setup.now
+setup_of (State setup trail) = setup.now
 
 -- the name of the trail file that a command reads
 abbrev pub read_trail_of : Command → Option (List ℕ)
@@ -86,6 +88,7 @@ read_trail_of (Alone setup limit says_limit trail keeping resumes) = None
 read_trail_of (Serve setup hosting) = None
 read_trail_of (Replay setup trail opens) = Some trail.now
 read_trail_of (Recover setup trail) = None
+read_trail_of (State setup trail) = Some trail.now
 
 -- the word for a command
 abbrev pub word_of : Command → List ℕ
@@ -93,6 +96,7 @@ word_of (Alone setup limit says_limit trail keeping resumes) = codes "alone"
 word_of (Serve setup hosting) = codes "serve"
 word_of (Replay setup trail opens) = codes "replay"
 word_of (Recover setup trail) = codes "recover"
+word_of (State setup trail) = codes "state"
 
 -- the flag of this name was given, or was not
 pub record HasFlag (options : ArgMatches) (name : List ℕ) (given : Bool) : Type 0 where
@@ -166,6 +170,9 @@ HasOptions options (Replay setup trail opens) =
     (first_value (found_of options) (codes "setup") ≡ Some setup.now)
     × (first_value (found_of options) (codes "trail") ≡ Some trail.now) × HasFlag options (codes "open") opens
 HasOptions options (Recover setup trail) =
+    (first_value (found_of options) (codes "setup") ≡ Some setup.now)
+    × (first_value (found_of options) (codes "trail") ≡ Some trail.now)
+HasOptions options (State setup trail) =
     (first_value (found_of options) (codes "setup") ≡ Some setup.now)
     × (first_value (found_of options) (codes "trail") ≡ Some trail.now)
 

@@ -7,7 +7,7 @@ ghost use Rattle.bl_words.specs.CommandLine.{setup_rule, limit_rule, trail_limit
 ghost use Rattle.bl_words.specs.CommandLine.{replace_rule, claim_rule, keep_rule, resume_rule, port_rule, doors_rule};
 ghost use Rattle.bl_words.specs.CommandLine.{open_rule, workers_rule, threads_rule, sessions_rule, clients_rule, idle_rule};
 ghost use Rattle.bl_words.specs.CommandLine.{log_rule, text_rule, number_rule, flag_rule, alone_app, serve_app};
-ghost use Rattle.bl_words.specs.CommandLine.{replay_app, recover_app, server_app, IsLocal};
+ghost use Rattle.bl_words.specs.CommandLine.{replay_app, recover_app, state_app, server_app, IsLocal};
 ghost use Rattle.bl_status.specs.Status.{IsStatus};
 ghost use Rattle.bl_words.specs.Status.{status_for};
 ghost use Rattle.bl_words.specs.Words.{HasCount, HasEntrance, HasHosting, HasKeeping, HasNoCommand, HasNumber};
@@ -116,6 +116,13 @@ pub enum Command<'a> {
         /// The name of the setup file.
         setup: &'a str,
         /// The name that the trail file is to have.
+        trail: &'a str,
+    },
+    /// The setup that stands at the end of the trail of a run, over the setup that the run began with.
+    State {
+        /// The name of the setup file.
+        setup: &'a str,
+        /// The name of the trail file.
         trail: &'a str,
     },
 }
@@ -468,6 +475,16 @@ fn recover_parser<'a>(alloc: Global) -> Result<Parser<'a>, AllocError>
         .args(options)
 }
 
+fn state_parser<'a>(alloc: Global) -> Result<Parser<'a>, AllocError>
+    ensures { IfOk result (IsLocal state_app) }
+{
+    let options = vec![in alloc; setup_option(alloc), trail_option(alloc)]?;
+    Parser::new(alloc, "state")
+        .about("The setup that a run left, for another one to begin with")
+        .after_help(MORE)
+        .args(options)
+}
+
 /// The program with one more command, which memory may have been too short for.
 fn with_command<'a>(
     parser: Parser<'a>,
@@ -491,7 +508,8 @@ fn parser<'a>(alloc: Global) -> Result<Parser<'a>, AllocError>
     let parser = with_command(parser, alone_parser(alloc))?;
     let parser = with_command(parser, serve_parser(alloc))?;
     let parser = with_command(parser, replay_parser(alloc))?;
-    with_command(parser, recover_parser(alloc))
+    let parser = with_command(parser, recover_parser(alloc))?;
+    with_command(parser, state_parser(alloc))
 }
 
 /// The number of an option, where it is 1 to `most`.
@@ -719,6 +737,17 @@ fn recover_of<'a>(options: &ArgMatches<'a>) -> Option<Command<'a>>
     Some(Command::Recover { setup, trail })
 }
 
+/// The command `state` with these options.
+fn state_of<'a>(options: &ArgMatches<'a>) -> Option<Command<'a>>
+    ensures range { IfSome result IsInRange }
+    ensures written { IfSome result (IsOfOptions (codes "state") options.now) }
+    ensures none { IfNone result (HasNoCommand (codes "state") options.now) }
+{
+    let setup = options.get_str("setup")?;
+    let trail = options.get_str("trail")?;
+    Some(Command::State { setup, trail })
+}
+
 /// The command that the matches name, where they are matches of `parser`.
 fn command_of<'a>(found: &ArgMatches<'a>) -> Option<Command<'a>>
     ensures range { IfSome result IsInRange }
@@ -731,6 +760,7 @@ fn command_of<'a>(found: &ArgMatches<'a>) -> Option<Command<'a>>
         "serve" => serve_of(options),
         "replay" => replay_of(options),
         "recover" => recover_of(options),
+        "state" => state_of(options),
         _ => None,
     }
 }
@@ -763,7 +793,8 @@ impl<'a> Command<'a> {
             Command::Alone { setup, .. }
             | Command::Serve { setup, .. }
             | Command::Replay { setup, .. }
-            | Command::Recover { setup, .. } => setup,
+            | Command::Recover { setup, .. }
+            | Command::State { setup, .. } => setup,
         }
     }
 
@@ -773,7 +804,7 @@ impl<'a> Command<'a> {
     {
         match self {
             Command::Alone { .. } | Command::Serve { .. } | Command::Recover { .. } => None,
-            Command::Replay { trail, .. } => Some(trail),
+            Command::Replay { trail, .. } | Command::State { trail, .. } => Some(trail),
         }
     }
 }

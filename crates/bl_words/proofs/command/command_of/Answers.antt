@@ -20,3 +20,8 @@ pub returns-in-recover-clause-none : goal.returns-in-recover-clause-none
 returns-in-recover-clause-none c =
     entered_none c.args.found.now c.in_ok-name.options.now c.in_ok-name.name.now _ c.in_ok-name.ensures.name c.in_ok-name.ensures.rows c.in-recover.is
     c.recover_of.result c.recover_of.ensures.none
+
+pub returns-in-state-clause-none : goal.returns-in-state-clause-none
+returns-in-state-clause-none c =
+    entered_none c.args.found.now c.in_ok-name.options.now c.in_ok-name.name.now _ c.in_ok-name.ensures.name c.in_ok-name.ensures.rows c.in-state.is
+    c.state_of.result c.state_of.ensures.none

@@ -1,7 +1,7 @@
 use Rattle.std.proofs.Common.{◌≡◌, ◌∙◌, ap, true}
 use Rattle.clap.specs.Words.{App, app_of, with_subcommand}
 use Rattle.clap.specs.Simple.{on_top}
-use Rattle.bl_words.specs.CommandLine.{alone_app, recover_app, replay_app, root_app, serve_app}
+use Rattle.bl_words.specs.CommandLine.{alone_app, recover_app, replay_app, root_app, serve_app, state_app}
 use Rattle.bl_words.proofs.Options.{added_last}
 use Rattle.bl_words.proofs.command.parser.Goals as goal
 
@@ -13,4 +13,5 @@ returns c =
     let alone = c.in_ok-parser.ensures alone_app c.alone_parser.ensures ∙ ap (λ (app : App). with_subcommand app alone_app.top) root in
     let serve = c.in_ok-parser-2.ensures serve_app c.serve_parser.ensures ∙ ap (λ (app : App). with_subcommand app serve_app.top) alone in
     let replay = c.in_ok-parser-3.ensures replay_app c.replay_parser.ensures ∙ ap (λ (app : App). with_subcommand app replay_app.top) serve in
-    added_last _ _ _ recover_app replay (c.with_command-4.ensures recover_app c.recover_parser.ensures)
+    let recover = c.in_ok-parser-4.ensures recover_app c.recover_parser.ensures ∙ ap (λ (app : App). with_subcommand app recover_app.top) replay in
+    added_last _ _ _ state_app recover (c.with_command-5.ensures state_app c.state_parser.ensures)
