@@ -6,11 +6,10 @@ use Rattle.bl_record.specs.Faults.{IsCaused}
 use Rattle.bl_record.specs.Kept.{HasFailedBy}
 use Rattle.bl_record.specs.declared.fault.JournalFault.{JournalFault}
 use Rattle.bl_record.specs.declared.fault.JournalFault.TheVariants.{Memory, Device}
-use Rattle.bl_status.specs.declared.fault.ProgramFault.TheVariants.{CannotWriteTrail}
-use Rattle.bl_alone.specs.Recording.{IsOfTrail}
-use Rattle.bl_alone.specs.Telling.{begin_fault, end_fault, unkept_fault}
-use Rattle.bl_alone.specs.declared.fault.AloneFault.{AloneFault}
-use Rattle.bl_alone.specs.declared.fault.AloneFault.TheVariants.{CutShort}
+use Rattle.bl_status.specs.declared.fault.ProgramFault.TheVariants.{CannotWriteTrail, CutShort}
+use Rattle.bl_trail_run.specs.Recording.{IsOfTrail}
+use Rattle.bl_alone.specs.Telling.{end_fault, unkept_fault}
+use Rattle.bl_trail_run.specs.Beginning.{begin_fault}
 
 -- a fault at the end is one of a trail
 pub of_trail : (fault : JournalFault) → IsOfTrail (end_fault fault)

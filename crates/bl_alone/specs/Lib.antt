@@ -1,4 +1,5 @@
-pub mod Recording
 pub mod Telling
-pub mod Sessions
-pub mod Files
+pub mod Runs
+pub mod Recorded
+pub mod AloneKept
+pub mod Plans

@@ -3,7 +3,7 @@ ghost use Rattle.std.specs.Prelude.{◌≡◌, Err, OnErr, OnOk};
 ghost use Rattle.bl_hall.specs.Chronicle.{Chronicle};
 ghost use Rattle.bl_session.specs.Keeping.{IsFrontOf};
 ghost use Rattle.bl_session.specs.declared.keep.Unreached.TheVariants.{Failed, Memory};
-ghost use Rattle.bl_alone.specs.Recording.{HasFailed};
+ghost use Rattle.bl_trail_run.specs.Recording.{HasFailed};
 
 use bl_disk::device::Device;
 use bl_hall::hall::Hall;
@@ -20,7 +20,7 @@ pub struct Recorder<D> {
 }
 
 impl<D: Device> Keep for Recorder<D> {
-    ghost use Rattle.bl_alone.specs.Recording.{HasHeld, HasRecorded};
+    ghost use Rattle.bl_trail_run.specs.Recording.{HasHeld, HasRecorded};
 
     ghost reached = { λ recorder hall. HasRecorded D.now D.has_failed recorder.journal hall };
 

@@ -1,10 +1,16 @@
 //! A run over the base setup, and its trail.
+ghost use Rattle.std.specs.Prelude.{◌≡◌, false};
+ghost use Rattle.bl_disk.specs.File.{seen};
+ghost use Rattle.bl_disk_tests.specs.OfTorn.{torn_now};
 ghost use Rattle.bl_record.specs.Torn.{IsTornHead};
 
 use crate::titled::Titled;
-use bl_alone::run::{Recorded, RecordedFile, RecordedRun, alone_recorded_on};
+use bl_alone::alone::alone_planned_on;
+use bl_alone::alone_run::AloneRun;
 use bl_disk_tests::torn::Torn;
-use bl_resume::run::alone_resumed_on;
+use bl_trail_run::begin::Start;
+use bl_trail_run::plan::{RunEnd, TrailEnd, TrailPlan};
+use bl_trail_run::recorded::RecordedFile;
 use bl_wire::watched::Watched;
 use std::alloc::{AllocError, Global};
 
@@ -58,14 +64,55 @@ pub(crate) struct Ran {
     pub(crate) kept: Vec<u8>,
 }
 
-/// Whether the trail in the file of a run is whole, and the file.
-fn parts_of(file: RecordedFile<Titled<Torn>>) -> (bool, Torn) {
-    let (is_whole, titled) = match file {
-        RecordedFile::Whole(closed) => (true, closed.end()),
-        RecordedFile::Left(titled) => (false, titled),
+/// Whether the trail in the file of a run is whole, and the file; none where it has no file.
+fn parts_of(trail: TrailEnd<Titled<Torn>>) -> (bool, Option<Torn>) {
+    let (is_whole, titled) = match trail {
+        TrailEnd::InFile(RecordedFile::Whole(closed)) => (true, closed.end()),
+        TrailEnd::InFile(RecordedFile::Left(titled)) => (false, titled),
+        TrailEnd::NotKept | TrailEnd::Kept(_) => return (false, None),
     };
     let Titled { device } = titled;
-    (is_whole, device)
+    (is_whole, Some(device))
+}
+
+/// The bytes that are kept in a file.
+fn kept_in(alloc: Global, torn: Option<Torn>) -> Result<Vec<u8>, AllocError> {
+    match torn {
+        Some(torn) => torn.now().kept.to_vec(alloc),
+        None => Ok(Vec::new(alloc)),
+    }
+}
+
+/// A run over a setup that starts from this.
+fn run_from(alloc: Global, setup: &[u8], start: Start<Titled<Torn>>) -> Result<Ran, AllocError>
+    requires sound { start.device.device.failed ≡ false }
+    requires fresh { start.resumes ≡ false → IsTornHead (seen (torn_now start.device.device)) }
+{
+    let run = AloneRun {
+        alloc,
+        limit: 10_000,
+    };
+    let plan: TrailPlan<'_, HostRuntime, Titled<Torn>> = TrailPlan::AsItGoes(start);
+    let mut reader = Watched::new(LINES);
+    let mut writer = Watched::new(Vec::new(alloc));
+    let mut errors = Watched::new(Vec::new(alloc));
+    let RunEnd { status, trail } = alone_planned_on(
+        &run,
+        setup,
+        plan,
+        &mut reader,
+        &mut writer,
+        &mut errors,
+    );
+    let (is_whole, torn) = parts_of(trail);
+    let kept = kept_in(alloc, torn)?;
+    Ok(Ran {
+        status,
+        is_whole,
+        told: writer.into_inner(),
+        said: errors.into_inner(),
+        kept,
+    })
 }
 
 /// A run over a file with these bytes, which has room for so many more, and of which so many syncs succeed.
@@ -78,33 +125,11 @@ pub(crate) fn run_over(
 ) -> Result<Ran, AllocError>
     requires { IsTornHead bytes.now }
 {
-    let run = RecordedRun {
-        alloc,
-        limit: 10_000,
-    };
-    let torn = Titled {
+    let device = Titled {
         device: Torn::new(alloc, bytes, room, syncs)?,
     };
-    let mut reader = Watched::new(LINES);
-    let mut writer = Watched::new(Vec::new(alloc));
-    let mut errors = Watched::new(Vec::new(alloc));
-    let Recorded { status, file } = alone_recorded_on(
-        &run,
-        setup,
-        torn,
-        &mut reader,
-        &mut writer,
-        &mut errors,
-    );
-    let (is_whole, torn) = parts_of(file);
-    let kept = torn.now().kept.to_vec(alloc)?;
-    Ok(Ran {
-        status,
-        is_whole,
-        told: writer.into_inner(),
-        said: errors.into_inner(),
-        kept,
-    })
+    let resumes = false;
+    run_from(alloc, setup, Start { device, resumes })
 }
 
 /// A run over the base setup and an empty file.
@@ -122,27 +147,9 @@ pub(crate) fn run_after(alloc: Global, bytes: &[u8]) -> Result<Ran, AllocError>
 /// A session over the base setup that goes on from the run that left a file with these bytes, of which so many syncs
 /// succeed.
 pub(crate) fn resume_after(alloc: Global, bytes: &[u8], syncs: usize) -> Result<Ran, AllocError> {
-    let torn = Titled {
+    let device = Titled {
         device: Torn::new(alloc, bytes, AMPLE, syncs)?,
     };
-    let mut reader = Watched::new(LINES);
-    let mut writer = Watched::new(Vec::new(alloc));
-    let mut errors = Watched::new(Vec::new(alloc));
-    let Recorded { status, file } = alone_resumed_on(
-        alloc,
-        BASE,
-        torn,
-        &mut reader,
-        &mut writer,
-        &mut errors,
-    );
-    let (is_whole, torn) = parts_of(file);
-    let kept = torn.now().kept.to_vec(alloc)?;
-    Ok(Ran {
-        status,
-        is_whole,
-        told: writer.into_inner(),
-        said: errors.into_inner(),
-        kept,
-    })
+    let resumes = true;
+    run_from(alloc, BASE, Start { device, resumes })
 }

@@ -1,4 +1,4 @@
-//! The tests of `bl_alone` and `bl_resume`: what a run tells and leaves in its file, which is full or fails at each
+//! The tests of `bl_alone`: what a run tells and leaves in its file, which is full or fails at each
 //! place.
 //!
 //!     titled    a device that is the file of a name

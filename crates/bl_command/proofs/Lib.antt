@@ -1,1 +1,3 @@
-pub mod Hosting
+pub mod Statuses
+pub mod Reading
+pub mod Sessions

@@ -1,19 +1,16 @@
-//! The files that a command reads.
+//! The files that `replay` and `state` read.
 use crate::run::Files;
 use bl_status::fault::ProgramFault;
 use bl_system::files::{read_setup_file, read_trail_file};
-use bl_words::command::Command;
 use std::rt::Files as OpensFiles;
 
-/// The files that a command reads, in the order in which their faults are told.
+/// The files of a replay or of `state`, in the order in which their faults are told.
 pub fn read_files<R: AllocGlobal + OpensFiles>(
     rt: &R,
-    command: &Command<'_>,
+    setup: &str,
+    trail: &str,
 ) -> Result<Files, ProgramFault> {
-    let setup = read_setup_file(rt, command.setup())?;
-    let trail = match command.read_trail() {
-        Some(path) => read_trail_file(rt, path)?,
-        None => Vec::new(rt.alloc()),
-    };
+    let setup = read_setup_file(rt, setup)?;
+    let trail = read_trail_file(rt, trail)?;
     Ok(Files { setup, trail })
 }

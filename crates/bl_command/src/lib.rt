@@ -1,17 +1,21 @@
 //! The program's commands: the runs of those that its words name, and what they take from the system over `bl_system`.
 //!
 //!     command    the command line, of `bl_words`
-//!     run        a run over the ends that it is given
-//!     files      the files that a command reads
+//!     run        runs over the ends that they are given, once files were read
+//!     files      the files that a replay reads
 //!     hints      what is said to who starts the program, beside faults
 //!     recorded   runs whose trail is written as they go
-//!     shell      what the program takes from the system
+//!     alone      the command `alone`
+//!     serve      the command `serve`
+//!     shell      what the program takes from the system, and the place that looks at the command
 #![tactic(auto)]
 
+mod alone;
 pub mod files;
 mod hints;
 mod recorded;
 pub mod run;
+mod serve;
 pub mod shell;
 
 pub use bl_words::command;

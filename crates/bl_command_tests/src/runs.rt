@@ -1,8 +1,8 @@
 //! What the program says, and the status that it ends with.
-use bl_command::command::read_words;
-use bl_command::run::{Files, run_asked, run_unread};
-use bl_run::alone::alone_on;
-use bl_run::replay::replay_on;
+use bl_alone::alone::alone_on;
+use bl_command::command::{Command, read_words};
+use bl_command::run::{AskedReplay, Files, refuse, run_alone, run_replay, run_state, run_unread};
+use bl_replaying::replay::replay_on;
 use bl_setup::fault::{SetupFault, SetupFaultKind};
 use bl_status::fault::{ProgramFault, of_file, of_setup};
 use bl_system::files::{read_most, read_within};
@@ -117,6 +117,10 @@ fn tells_each_fault(rt: HostRuntime) -> Result<(), Fail> {
         (ProgramFault::CannotReadSetup, "cannot read setup"),
         (ProgramFault::CannotReadTrail, "cannot read trail"),
         (ProgramFault::CannotWriteTrail, "cannot write trail"),
+        (ProgramFault::NoTrail, "no trail to resume"),
+        (ProgramFault::OtherSetup, "not this setup's trail"),
+        (ProgramFault::WrongAt(7), "trail wrong at line 7"),
+        (ProgramFault::CutShort, "trail cut short"),
         (ProgramFault::Read, "read fault"),
         (ProgramFault::Write, "write fault"),
         (ProgramFault::TooLong, "too long"),
@@ -156,6 +160,14 @@ fn files(alloc: Global, setup: &[u8], trail: &[u8]) -> Result<Files, Fail> {
     })
 }
 
+/// The setup among these files.
+fn setup_in(files: Result<Files, ProgramFault>) -> Result<Vec<u8>, ProgramFault> {
+    match files {
+        Ok(Files { setup, .. }) => Ok(setup),
+        Err(fault) => Err(fault),
+    }
+}
+
 /// A run of what these words ask, after this setup and a trail were read, or could not be read.
 fn run_words(
     alloc: Global,
@@ -167,11 +179,24 @@ fn run_words(
     for word in text.split_ascii_whitespace() {
         words.push(String::from_str(alloc, word)?)?;
     }
-    let asked = read_words(alloc, words.as_slice());
     let mut reader = Watched::new(input);
     let mut writer = Watched::new(Vec::new(alloc));
     let mut errors = Watched::new(Vec::new(alloc));
-    let status = run_asked(alloc, asked, files, &mut reader, &mut writer, &mut errors);
+    let status = match read_words(alloc, words.as_slice()) {
+        Ok(Command::Alone { limit, .. }) => {
+            let setup = setup_in(files);
+            run_alone(alloc, setup, limit, &mut reader, &mut writer, &mut errors)
+        }
+        Ok(Command::Replay { trail, opens, .. }) => {
+            let asked = AskedReplay { trail, opens };
+            run_replay(alloc, files, asked, &mut writer, &mut errors)
+        }
+        Ok(Command::State { trail, .. }) => {
+            run_state(alloc, files, trail, &mut writer, &mut errors)
+        }
+        Ok(_) => return Err(Fail::new("another command")),
+        Err(error) => refuse(alloc, &error, &mut writer, &mut errors),
+    };
     Ok(Ended {
         status,
         unread: reader.into_inner(),

@@ -1,20 +1,11 @@
 //! What the program takes from the system: its files and its port.
-use bl_command::command::{Command, TrailKeeping};
 use bl_command::files::read_files;
 use bl_status::fault::ProgramFault;
+use bl_system::files::read_setup_file;
 use bl_system::listen::listen;
 use std::fs;
 use std::net::{IpAddr, Ipv4Addr, TcpListener};
 use std::test::Fail;
-
-/// A replay over these files.
-fn replay<'a>(setup: &'a str, trail: &'a str) -> Command<'a> {
-    Command::Replay {
-        setup,
-        trail,
-        opens: false,
-    }
-}
 
 /// A trail may have more bytes than a setup may, and a setup more than a megabyte; all of both are read.
 #[test]
@@ -24,7 +15,7 @@ fn reads_whole_files(rt: HostRuntime) -> Result<(), Fail> {
     let trail = vec![in alloc; b'#'; 16_777_300]?;
     fs::write(&rt, "whole.setup", setup.as_slice())?;
     fs::write(&rt, "whole.trail", trail.as_slice())?;
-    let read = read_files(&rt, &replay("whole.setup", "whole.trail"));
+    let read = read_files(&rt, "whole.setup", "whole.trail");
     let _ = fs::remove_file(&rt, "whole.setup");
     let _ = fs::remove_file(&rt, "whole.trail");
     let Ok(files) = read else {
@@ -41,26 +32,12 @@ fn reads_one_byte_past_a_setup(rt: HostRuntime) -> Result<(), Fail> {
     let alloc = rt.alloc();
     let setup = vec![in alloc; b'#'; 16_777_300]?;
     fs::write(&rt, "large.setup", setup.as_slice())?;
-    let limit = 1;
-    let trail = None;
-    let setup = "large.setup";
-    let read = read_files(
-        &rt,
-        &Command::Alone {
-            setup,
-            limit,
-            says_limit: false,
-            trail,
-            keeping: TrailKeeping::AtEnd,
-            resumes: false,
-        },
-    );
+    let read = read_setup_file(&rt, "large.setup");
     let _ = fs::remove_file(&rt, "large.setup");
-    let Ok(files) = read else {
+    let Ok(bytes) = read else {
         return Err(Fail::new("not read"));
     };
-    assert_eq!(rt; files.setup.len(), 16_777_217);
-    assert!(rt; files.trail.is_empty());
+    assert_eq!(rt; bytes.len(), 16_777_217);
     Ok(())
 }
 
@@ -68,8 +45,8 @@ fn reads_one_byte_past_a_setup(rt: HostRuntime) -> Result<(), Fail> {
 #[test]
 fn tells_the_file_that_is_not_there(rt: HostRuntime) -> Result<(), Fail> {
     fs::write(&rt, "there.setup", "ranks u\n")?;
-    let both = read_files(&rt, &replay("nowhere.setup", "nowhere.trail"));
-    let one = read_files(&rt, &replay("there.setup", "nowhere.trail"));
+    let both = read_files(&rt, "nowhere.setup", "nowhere.trail");
+    let one = read_files(&rt, "there.setup", "nowhere.trail");
     let _ = fs::remove_file(&rt, "there.setup");
     assert!(rt; matches!(both, Err(ProgramFault::CannotReadSetup)));
     assert!(rt; matches!(one, Err(ProgramFault::CannotReadTrail)));
@@ -85,7 +62,7 @@ fn listens_on_this_machine_alone(rt: HostRuntime) -> Result<(), Fail> {
     assert!(rt; matches!(taken, Err(ProgramFault::CannotListen)));
     drop(any);
     let Ok(listener) = listen(&rt, u32::from(port)) else {
-        return Err(Fail::new("cannot listen"));
+        return Err(Fail::new("a free port is not listened on"));
     };
     let at = listener.local_addr()?;
     assert!(rt; at.ip() == IpAddr::V4(Ipv4Addr::LOCALHOST));

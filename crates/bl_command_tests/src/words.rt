@@ -1,6 +1,7 @@
 //! The words of a command line.
+use bl_asked::options::Options;
+use bl_asked::trail::TrailFile;
 use bl_command::command::{Command, Hosting, NamedEntrance, TrailKeeping, read_words, status_of};
-use bl_keep::part::TrailFile;
 use std::alloc::Global;
 use std::test::Fail;
 
@@ -54,16 +55,16 @@ fn name_serve(alloc: Global, text: &str, wanted: &Hosting<'_>) -> Result<bool, F
 /// Whether two hostings have equal numbers and the same trail file.
 fn is_same(one: &Hosting<'_>, other: &Hosting<'_>) -> bool {
     let entrance = one.entrance == other.entrance;
-    let idle = one.idle == other.idle;
+    let idle = one.options.idle == other.options.idle;
     let log = one.log == other.log;
     let name = one.trail.name == other.trail.name;
     let keeping = one.keeping == other.keeping;
     let numbers = one.limit == other.limit
-        && one.trail_limit == other.trail_limit
-        && one.workers == other.workers
-        && one.session_threads == other.session_threads
-        && one.sessions == other.sessions
-        && one.clients == other.clients;
+        && one.options.trail_limit == other.options.trail_limit
+        && one.options.workers == other.options.workers
+        && one.options.session_threads == other.options.session_threads
+        && one.options.sessions == other.options.sessions
+        && one.options.clients == other.options.clients;
     let choices = one.trail.replaces == other.trail.replaces
         && one.trail.claims == other.trail.claims
         && one.says_limit == other.says_limit
@@ -81,14 +82,16 @@ const PLAIN: Hosting<'static> = Hosting {
         replaces: false,
         claims: false,
     },
-    trail_limit: 1_073_741_824,
     keeping: TrailKeeping::AtEnd,
     resumes: false,
-    workers: 2,
-    session_threads: 2,
-    sessions: 1,
-    clients: 1000,
-    idle: None,
+    options: Options {
+        workers: 2,
+        session_threads: 2,
+        sessions: 1,
+        clients: 1000,
+        idle: None,
+        trail_limit: 1_073_741_824,
+    },
     log: None,
 };
 
@@ -109,14 +112,16 @@ fn reads_serve(rt: HostRuntime) -> Result<(), Fail> {
             replaces: true,
             claims: true,
         },
-        trail_limit: 70_000,
         keeping: TrailKeeping::Synced,
         resumes: true,
-        workers: 16,
-        session_threads: 3,
-        sessions: 1000,
-        clients: 200,
-        idle: Some(60),
+        options: Options {
+            workers: 16,
+            session_threads: 3,
+            sessions: 1000,
+            clients: 200,
+            idle: Some(60),
+            trail_limit: 70_000,
+        },
         log: Some("who.log"),
     };
     assert!(rt; name_serve(rt.alloc(), all, &wanted)?);

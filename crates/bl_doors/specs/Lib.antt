@@ -1,4 +1,3 @@
 pub mod Greetings
 pub mod Places
 pub mod Doors
-pub mod Telling

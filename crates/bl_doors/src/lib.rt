@@ -6,7 +6,6 @@
 //!     door       a door
 //!     incoming   who comes in by a door
 //!     doors      the doors of a folder, opened and taken away
-//!     told       what is said of doors on standard error
 //!     laws       what is heard of who comes by a door
 #![tactic(auto)]
 
@@ -17,4 +16,3 @@ pub mod greeted;
 pub mod incoming;
 pub mod laws;
 pub mod place;
-pub mod told;

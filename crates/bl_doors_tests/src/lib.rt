@@ -6,7 +6,6 @@
 //!     folders      the doors of a folder: opened, taken away, and why they are not opened
 //!     entrances    where clients come in, and what is heard first of them
 //!     looks        when a thread looks for connections that are idle
-//!     told         what is said of doors
 #![tactic(auto)]
 
 #[cfg(test)]
@@ -21,5 +20,3 @@ mod greetings;
 mod looks;
 #[cfg(test)]
 mod sessions;
-#[cfg(test)]
-mod told;

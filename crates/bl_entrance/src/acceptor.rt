@@ -4,7 +4,7 @@ ghost use Rattle.std.specs.Prelude.{◌<◌};
 use crate::ended::{Ended, Ending, Why};
 use crate::entrance::{Arrival, Entrance};
 use crate::looks::Looks;
-use crate::options::Options;
+use bl_asked::options::Options;
 use bl_log::log::Log;
 use bl_log::note::{Bound, Event, Note, ServerEvent, ServerNote};
 use bl_log::time::now;

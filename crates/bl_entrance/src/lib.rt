@@ -1,6 +1,5 @@
 //! Where session threads take connections and wait, and what they tell of them.
 //!
-//!     options     how many threads and connections there are
 //!     ended       how a session ended that was not served to its end
 //!     socket      a connection that does not wait
 //!     wait_counts what the sockets of a thread know of its waits
@@ -18,7 +17,6 @@ pub mod ended;
 pub mod entrance;
 pub mod first;
 pub mod looks;
-pub mod options;
 pub mod socket;
 mod wait_counts;
 pub mod watch;

@@ -20,4 +20,4 @@ mod shared;
 mod threads;
 mod upkeep;
 
-pub use bl_entrance::{ended, entrance, options};
+pub use bl_entrance::{ended, entrance};

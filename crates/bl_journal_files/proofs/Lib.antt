@@ -1,0 +1,4 @@
+pub mod Telling
+pub mod Reading
+mod Heads
+pub mod Copies

@@ -1,2 +1,4 @@
 pub mod Making
 pub mod Naming
+pub mod Finding
+pub mod Telling

@@ -5,55 +5,54 @@ ghost use Rattle.bl_disk.specs.File.{seen};
 ghost use Rattle.bl_file.specs.Files.{file_now, keeping_of, name_of};
 ghost use Rattle.bl_file.specs.Outlived.{names_outlive, outlives};
 ghost use Rattle.bl_record.specs.Torn.{IsTornHead};
-ghost use Rattle.bl_recover.specs.Finding.{IsSetupKept};
+ghost use Rattle.bl_journal_files.specs.Finding.{IsSetupKept};
 ghost use Rattle.bl_journal_files.specs.Making.{make_fault, torn_fault};
 
+use crate::find::{Found, is_torn_file, keep_places};
+use crate::setup::{SetupKept, link_setup, same_setup};
+use bl_asked::trail::TrailFile;
 use bl_file::device::SystemFile;
 use bl_file::kept::{Keeping, Kept, NamesKept, keep_bytes};
 use bl_file::lock::Lock;
 use bl_file::named::FileName;
 use bl_file::open::{OpenFault, make, new_file, open};
-use bl_keep::part::{TrailFile, is_free};
-use bl_recover::fault::RecoveryFault;
-use bl_recover::find::{Found, is_torn_file, keep_places};
-use bl_recover::name::is_there;
-use bl_recover::places::{Places, places_of};
-use bl_recover::setup::{SetupKept, link_setup, same_setup};
 use bl_status::fault::{ProgramFault, of_file};
+use bl_status::named::NamedFault;
+use bl_trail_file::link::remove;
+use bl_trail_file::places::{Places, places_of};
+use bl_trail_file::stands::{is_free, is_there};
 use std::alloc::Global;
 use std::fs::OpenFile;
+use std::io;
 use std::io::{ErrorKind, Write};
 use std::rt::Files;
-use std::{fs, io};
 
 /// What is told of a file that cannot be made.
-fn of_make(fault: OpenFault) -> RecoveryFault
+fn of_make(fault: OpenFault) -> ProgramFault
     ensures { result ≡ make_fault fault }
 {
     match fault {
-        OpenFault::Taken => RecoveryFault::TrailIsThere,
-        OpenFault::InUse => RecoveryFault::InUse,
-        OpenFault::Memory => RecoveryFault::Program(ProgramFault::NoMemory),
-        OpenFault::Missing | OpenFault::Refused => {
-            RecoveryFault::Program(ProgramFault::CannotWriteTrail)
-        }
+        OpenFault::Taken => ProgramFault::TrailIsThere,
+        OpenFault::InUse => ProgramFault::InUse,
+        OpenFault::Memory => ProgramFault::NoMemory,
+        OpenFault::Missing | OpenFault::Refused => ProgramFault::CannotWriteTrail,
     }
 }
 
 /// What is told of a file that stands under a new journal's name and cannot be begun in.
-fn of_torn(fault: OpenFault) -> RecoveryFault
+fn of_torn(fault: OpenFault) -> ProgramFault
     ensures { result ≡ torn_fault fault }
 {
     match fault {
-        OpenFault::InUse => RecoveryFault::InUse,
-        OpenFault::Memory => RecoveryFault::Program(ProgramFault::NoMemory),
-        OpenFault::Taken | OpenFault::Missing | OpenFault::Refused => RecoveryFault::TrailIsThere,
+        OpenFault::InUse => ProgramFault::InUse,
+        OpenFault::Memory => ProgramFault::NoMemory,
+        OpenFault::Taken | OpenFault::Missing | OpenFault::Refused => ProgramFault::TrailIsThere,
     }
 }
 
 /// What is told of a file of the setup that cannot be written.
-fn of_write(error: &io::Error) -> RecoveryFault {
-    RecoveryFault::Program(of_file(error, ProgramFault::CannotWriteTrail))
+fn of_write(error: &io::Error) -> ProgramFault {
+    of_file(error, ProgramFault::CannotWriteTrail)
 }
 
 /// Writes all bytes to a file, and has them outlive what is asked for.
@@ -75,7 +74,7 @@ fn write_beside<R: Files>(
     name: &str,
     setup: &[u8],
     keeping: Keeping,
-) -> Result<Kept, RecoveryFault>
+) -> Result<Kept, ProgramFault>
     ensures { IfOk result (λ kept. outlives kept ≡ keeping) }
 {
     let mut file = match new_file(rt, name) {
@@ -85,7 +84,7 @@ fn write_beside<R: Files>(
     match write_setup(&mut file, setup, keeping) {
         Ok(kept) => Ok(kept),
         Err(error) => {
-            let _removed = fs::remove_file(rt, name);
+            remove(rt, name);
             Err(of_write(&error))
         }
     }
@@ -100,18 +99,19 @@ fn keep_setup<R: Files>(
     places: &Places,
     setup: &[u8],
     keeping: Keeping,
-) -> Result<SetupKept, RecoveryFault>
+) -> Result<SetupKept, ProgramFault>
     ensures { IfOk result (λ setup. outlives setup.kept ≡ keeping) }
 {
     let name = places.setup.as_str();
     let beside = places.setup_part.as_str();
-    let _left_by_a_crash = fs::remove_file(rt, beside);
+    // what a crash left
+    remove(rt, beside);
     if is_there(rt, name) {
         return same_setup(rt, alloc, name, setup, keeping);
     }
     let kept = write_beside(rt, beside, setup, keeping)?;
     let linked = link_setup(rt, places, kept);
-    let _removed = fs::remove_file(rt, beside);
+    remove(rt, beside);
     match linked {
         Ok(setup) => Ok(setup),
         Err(error) if error.kind() == ErrorKind::AlreadyExists => {
@@ -135,7 +135,7 @@ fn torn_journal<R: Files>(
     alloc: Global,
     part: &str,
     keeping: Keeping,
-) -> Result<Fresh<R::File>, RecoveryFault>
+) -> Result<Fresh<R::File>, ProgramFault>
 where
     R::File: Lock,
     ensures torn { IfOk result (λ fresh. IsTornHead (seen (file_now fresh.device))) }
@@ -148,7 +148,7 @@ where
             device,
             is_made: false,
         }),
-        Ok(_) => Err(RecoveryFault::TrailIsThere),
+        Ok(_) => Err(ProgramFault::TrailIsThere),
         Err(fault) => Err(of_torn(fault)),
     }
 }
@@ -160,7 +160,7 @@ fn fresh_journal<R: Files>(
     alloc: Global,
     part: &str,
     keeping: Keeping,
-) -> Result<Fresh<R::File>, RecoveryFault>
+) -> Result<Fresh<R::File>, ProgramFault>
 where
     R::File: Lock,
     ensures torn { IfOk result (λ fresh. IsTornHead (seen (file_now fresh.device))) }
@@ -186,7 +186,7 @@ fn set_up<R: Files>(
     setup: &[u8],
     places: Places,
     keeping: Keeping,
-) -> Result<(SetupKept, NamesKept, String), RecoveryFault>
+) -> Result<(SetupKept, NamesKept, String), NamedFault>
     ensures setup { IfOk result (λ kept. outlives kept.0.kept ≡ keeping) }
     ensures names { IfOk result (λ kept. names_outlive kept.1 ≡ keeping) }
     ensures part { IfOk result (λ kept. kept.2 ≡ places.part) }
@@ -214,7 +214,7 @@ pub fn make_journal<'a, R: Files>(
     setup: &[u8],
     trail: &TrailFile<'a>,
     keeping: Keeping,
-) -> Result<Found<'a, SystemFile<R::File>>, RecoveryFault>
+) -> Result<Found<'a, SystemFile<R::File>>, NamedFault>
 where
     R::File: Lock,
     ensures torn { IfOk result (λ found. IsTrue found.is_torn × IsTornHead (seen (file_now found.device))) }
@@ -228,10 +228,10 @@ where
     ensures names { IfOk result (λ found. names_outlive found.names ≡ keeping) }
 {
     let Ok(places) = places_of(alloc, trail.name) else {
-        return Err(RecoveryFault::Program(ProgramFault::NoMemory));
+        return Err(NamedFault::from(ProgramFault::NoMemory));
     };
     if !is_free(rt, alloc, trail) {
-        return Err(RecoveryFault::TrailIsThere);
+        return Err(NamedFault::from(ProgramFault::TrailIsThere));
     }
     let Fresh { device, is_made } = match fresh_journal(rt, alloc, places.part.as_str(), keeping) {
         Ok(fresh) => fresh,
@@ -250,7 +250,7 @@ where
         }),
         Err(fault) => {
             if is_made {
-                let _removed = fs::remove_file(rt, device.name());
+                remove(rt, device.name());
             }
             Err(fault)
         }
@@ -265,7 +265,7 @@ pub fn begin_again<'a, R: Files>(
     alloc: Global,
     setup: &[u8],
     found: Found<'a, SystemFile<R::File>>,
-) -> Result<Found<'a, SystemFile<R::File>>, RecoveryFault>
+) -> Result<Found<'a, SystemFile<R::File>>, NamedFault>
     ensures device { IfOk result (λ again. again.device ≡ found.entry.device) }
     ensures torn { IfOk result (λ again. again.is_torn ≡ found.entry.is_torn) }
     ensures left { IfOk result (λ again. again.is_left ≡ found.entry.is_left) }
@@ -274,7 +274,7 @@ pub fn begin_again<'a, R: Files>(
 {
     let mut again = found;
     let Ok(places) = places_of(alloc, again.trail) else {
-        return Err(RecoveryFault::Program(ProgramFault::NoMemory));
+        return Err(NamedFault::from(ProgramFault::NoMemory));
     };
     let (setup, names, _part) = set_up(rt, alloc, setup, places, again.device.keeping())?;
     again.setup = Some(setup);

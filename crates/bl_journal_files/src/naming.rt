@@ -4,14 +4,16 @@ ghost use Rattle.bl_status.specs.Status.{IsEnd, status_after};
 ghost use Rattle.bl_wire.specs.Watch.{Puts, end_state};
 ghost use Rattle.bl_journal_files.specs.Naming.{left_under, name_fault, naming_faults, naming_text};
 
+use crate::name::{NameFault, Named, give_name, take_place};
+use bl_asked::trail::TrailFile;
 use bl_disk::device::Device;
 use bl_file::named::FileName;
-use bl_keep::part::{TrailFile, old_trail};
 use bl_record::journal::Closed;
-use bl_recover::name::{NameFault, Named, give_name, take_place};
-use bl_recover::told::tell_left;
-use bl_status::fault::{ProgramFault, of_keep};
+use bl_status::fault::ProgramFault;
 use bl_status::told::tell;
+use bl_trail_file::fault::of_keep;
+use bl_trail_file::stands::old_trail;
+use bl_trail_file::told::tell_rest;
 use bl_wire::watched::Watched;
 use std::alloc::Global;
 use std::io::Write;
@@ -104,7 +106,7 @@ pub fn tell_name<E: Write>(
         Err(fault) => fault,
     };
     let own = tell(errors, &of_name(fault));
-    tell_left(errors, left_in(fault, part, trail));
+    tell_rest(errors, true, left_in(fault, part, trail));
     if status == 0 {
         RecordedEnd::unnamed(own)
     } else {

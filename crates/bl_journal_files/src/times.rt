@@ -4,7 +4,7 @@ ghost use Rattle.std.specs.Prelude.{◌≡◌};
 use bl_clock::clock::{SharedClock, SharedTimes, TimeFile, TimeLines, open_clock, open_lines};
 use bl_clock::timed::Timed;
 use bl_disk::device::Device;
-use bl_recover::places::places_of;
+use bl_trail_file::places::places_of;
 use std::alloc::Global;
 use std::io::Write;
 use std::rt::Files;

@@ -1,2 +1,3 @@
 pub mod Keeping
-pub mod Paths
+pub mod Leaving
+pub mod Ending

@@ -3,9 +3,10 @@ ghost use Rattle.std.specs.Prelude.{IfErr};
 ghost use Rattle.bl_keep.specs.Keeping.{IsLeftIn};
 
 use crate::named::{Kept, take_name};
-use crate::part::{PartFile, TrailFile, make_part};
 use crate::whole::{Unkept, write_whole};
+use bl_asked::trail::TrailFile;
 use bl_hall::hall::Hall;
+use bl_trail_file::part::{PartFile, make_part};
 use std::alloc::Global;
 use std::rt::Files;
 

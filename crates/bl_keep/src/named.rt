@@ -1,40 +1,18 @@
 //! Gives a whole trail its name.
 ghost use Rattle.std.specs.Prelude.{◌≡◌, IfErr, Some, true};
 
-use crate::fault::of_file;
-use crate::part::{OldTrail, TrailFile, old_trail};
 use crate::whole::{Unkept, Whole};
+use bl_asked::trail::TrailFile;
+use bl_trail_file::fault::of_file;
+use bl_trail_file::link::{HasName, link, remove, replace};
+use bl_trail_file::stands::{OldTrail, old_trail};
 use std::alloc::Global;
 use std::rt::Files;
-use std::{fs, io};
-
-/// The system answered that the file of a trail has the trail's name. Only `link` and `replace` make one.
-#[derive(Debug, Drop)]
-struct HasName {
-    _answered: (),
-}
 
 /// A trail that was written whole and has its name. Only `take_name` makes one, of a trail that is whole.
 #[derive(Debug, Drop)]
 pub struct Kept {
     _has_name: HasName,
-}
-
-/// Links the file of a whole trail to the trail's name, which replaces nothing.
-fn link<F: Drop, R: Files>(rt: &R, whole: &Whole<F>, trail: &TrailFile<'_>) -> io::Result<HasName> {
-    fs::hard_link(rt, whole.name(), trail.name)?;
-    Ok(HasName { _answered: () })
-}
-
-/// Gives the file of a whole trail the trail's name in place of the one that stands there.
-fn replace<F: Drop, R: Files>(
-    rt: &R,
-    whole: &Whole<F>,
-    trail: &TrailFile<'_>,
-    _old: OldTrail,
-) -> io::Result<HasName> {
-    fs::rename(rt, whole.name(), trail.name)?;
-    Ok(HasName { _answered: () })
 }
 
 /// Gives a whole trail its name in place of the trail that stands there.
@@ -46,7 +24,7 @@ fn take_place<F: Drop, R: Files>(
 ) -> Result<Kept, Unkept>
     ensures { IfErr result (λ unkept. unkept.left ≡ Some (record { name = whole.name; whole = true })) }
 {
-    match replace(rt, &whole, trail, old) {
+    match replace(rt, whole.name(), trail.name, old) {
         Ok(has_name) => {
             whole.end();
             Ok(Kept {
@@ -68,9 +46,9 @@ pub(crate) fn take_name<F: Drop, R: Files>(
 ) -> Result<Kept, Unkept>
     ensures { IfErr result (λ unkept. unkept.left ≡ Some (record { name = whole.name; whole = true })) }
 {
-    let error = match link(rt, &whole, trail) {
+    let error = match link(rt, whole.name(), trail.name) {
         Ok(has_name) => {
-            let _removed = fs::remove_file(rt, whole.name());
+            remove(rt, whole.name());
             whole.end();
             return Ok(Kept {
                 _has_name: has_name,

@@ -3,12 +3,13 @@ ghost use Rattle.std.specs.Prelude.{◌≡◌, IfErr, IfOk, Some, false, string_
 ghost use Rattle.std.specs.Io.KnownBytes.{Appends};
 ghost use Rattle.bl_audit.specs.Written.{trail_text};
 ghost use Rattle.bl_keep.specs.Keeping.{writing_fault};
+ghost use Rattle.bl_trail_file.specs.Made.{file_of_part, name_of_part};
 
-use crate::fault::{KeepFault, of_file};
-use crate::part::PartFile;
 use crate::rest::hand_on_rest;
 use bl_audit::trail::{TrailFault, write_trail};
 use bl_hall::hall::Hall;
+use bl_trail_file::fault::{KeepFault, of_file};
+use bl_trail_file::part::PartFile;
 use bl_wire::watched::Watched;
 use std::alloc::Global;
 use std::io::{BufWriter, Write};
@@ -92,12 +93,12 @@ pub(crate) fn write_whole<F: Write + Drop>(
     part: PartFile<F>,
 ) -> Result<Whole<F>, Unkept>
     ensures text { IfOk result
-        (λ whole. Appends (F.contents part.file) (F.contents whole.file)
+        (λ whole. Appends (F.contents (file_of_part part)) (F.contents whole.file)
         (trail_text hall.now.setup hall.now.limit hall.now.trail)) }
-    ensures name { IfOk result (λ whole. whole.name ≡ part.name) }
-    ensures left { IfErr result (λ unkept. unkept.left ≡ Some (record { name = part.name; whole = false })) }
+    ensures name { IfOk result (λ whole. whole.name ≡ name_of_part part) }
+    ensures left { IfErr result (λ unkept. unkept.left ≡ Some (record { name = name_of_part part; whole = false })) }
 {
-    let PartFile { name, file } = part;
+    let (name, file) = part.into_parts();
     let writer = match BufWriter::new(alloc, file) {
         Ok(writer) => writer,
         Err(error) => return Err(cut_short(name, of_file(&error))),

@@ -1,5 +1,1 @@
-pub mod Telling
 pub mod Recoveries
-pub mod Reading
-mod Heads
-pub mod Copies

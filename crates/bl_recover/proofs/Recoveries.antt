@@ -5,7 +5,7 @@ use Rattle.std.specs.Global.{Global}
 use Rattle.bl_disk.specs.File.{File}
 use Rattle.bl_record.specs.Recovering.{IsClosed}
 use Rattle.bl_setup.specs.Setup.{Setup}
-use Rattle.bl_keep.specs.declared.fault.KeepFault.TheVariants.{Unwritable, Memory}
+use Rattle.bl_trail_file.specs.declared.fault.KeepFault.TheVariants.{Unwritable, Memory}
 use Rattle.bl_status.specs.Status.{IsEnd}
 use Rattle.bl_trail.specs.TrueText.{IsTrueText}
 use Rattle.bl_recover.specs.Finishing.{HasFinished}

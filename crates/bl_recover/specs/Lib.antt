@@ -1,4 +1,3 @@
 pub mod Telling
-pub mod Finding
 pub mod Recoveries
 pub mod Finishing

@@ -9,9 +9,12 @@ use Rattle.bl_setup.specs.Setup.{Setup}
 use Rattle.bl_wire.specs.Watch.{EndState, Puts, Use}
 use Rattle.bl_status.specs.Message.{fault_line}
 use Rattle.bl_status.specs.Status.{status_of}
-use Rattle.bl_status.specs.Unkept.{unkept_fault}
+use Rattle.bl_trail_file.specs.Telling.{left_text, unkept_fault}
 use Rattle.bl_status.specs.declared.fault.ProgramFault.TheVariants.{Write}
-use Rattle.bl_recover.specs.Telling.{cut_line, fault_at, fault_text, left_text, recover_fault, recovered_line, status_by}
+use Rattle.bl_status.specs.Named.{fault_at}
+use Rattle.bl_status.specs.Places.{named_text}
+use Rattle.bl_journal_files.specs.Telling.{cut_line, recover_fault}
+use Rattle.bl_recover.specs.Telling.{recovered_line}
 use Rattle.bl_recover.specs.declared.recover.RecoveryEnd.{RecoveryEnd}
 use Rattle.bl_recover.specs.declared.recover.RecoveryEnd.TheVariants.{Recovered, Untold, Unnamed, Refused}
 
@@ -21,8 +24,8 @@ abbrev pub HasEnded : Setup → List ℕ → String Global → RecoveryEnd → F
 HasEnded setup text part (Recovered events cut named) file = IsClosed setup text events cut file
 HasEnded setup text part (Untold events cut named) file = IsClosed setup text events cut file
 HasEnded setup text part (Unnamed events cut fault) file = IsClosed setup text events cut file
-HasEnded setup text part (Refused fault) file =
-    (of : RecoverFault) × (fault ≡ fault_at (recover_fault of) part) × IsNotRecovered setup text of
+HasEnded setup text part (Refused named) file =
+    (of : RecoverFault) × (named ≡ fault_at (recover_fault of) part) × IsNotRecovered setup text of
 
 -- a trail was closed with so many events, and so many bytes were cut off
 abbrev pub IsOfClosed : ℕ → ℕ → RecoveryEnd → Type 0
@@ -42,8 +45,8 @@ cut_of (Refused fault) = 0
 abbrev pub after_cut : List ℕ → RecoveryEnd → List ℕ
 after_cut part (Recovered events cut named) = []
 after_cut part (Untold events cut named) = fault_line Write
-after_cut part (Unnamed events cut fault) = fault_line (unkept_fault fault) ++ left_text part
-after_cut part (Refused fault) = fault_text fault
+after_cut part (Unnamed events cut fault) = fault_line (unkept_fault fault) ++ left_text true part
+after_cut part (Refused named) = named_text named
 
 -- what is said of it there
 abbrev pub said_of : List ℕ → RecoveryEnd → List ℕ
@@ -62,7 +65,7 @@ abbrev pub status_of_end : RecoveryEnd → ℕ
 status_of_end (Recovered events cut named) = 0
 status_of_end (Untold events cut named) = status_of Write
 status_of_end (Unnamed events cut fault) = status_of (unkept_fault fault)
-status_of_end (Refused fault) = status_by fault
+status_of_end (Refused named) = status_of named.fault
 
 -- A run of `recover` for a trail of this name writes what one end has, and says that on standard error and by its
 -- status.

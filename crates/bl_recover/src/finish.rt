@@ -10,16 +10,15 @@ ghost use Rattle.bl_status.specs.Status.{IsEnd};
 ghost use Rattle.bl_recover.specs.Finishing.{HasFinished, IsNotClosed};
 ghost use Rattle.bl_recover.specs.Recoveries.{HasWritten, said_of, status_of_end};
 
-use crate::fault::RecoveryFault;
-use crate::find::Found;
-use crate::name::keep_name;
 use crate::recover::{ClosedTrail, Recovery, RecoveryEnd, tell_closed};
-use crate::told::tell_fault;
 use bl_disk::device::{Device, DeviceError};
 use bl_file::named::FileName;
+use bl_journal_files::find::Found;
+use bl_journal_files::name::keep_name;
 use bl_replay::replay::replay;
 use bl_setup::setup::Setup;
 use bl_status::fault::ProgramFault;
+use bl_status::told::tell_named;
 use bl_trail::verdict::Verdict;
 use bl_wire::watched::Watched;
 use std::alloc::Global;
@@ -27,7 +26,7 @@ use std::io::Write;
 use std::rt::Files;
 
 /// How many events the trail in a file has, which is to be closed.
-fn events_of<D: Device>(alloc: Global, setup: &Setup, device: &mut D) -> Result<u64, RecoveryFault>
+fn events_of<D: Device>(alloc: Global, setup: &Setup, device: &mut D) -> Result<u64, ProgramFault>
     requires { D.has_failed device.old ≡ false }
     ensures closed { IfOk result (IsTrueText setup.now (seen (D.now device.old))) }
     ensures fault { IfErr result (IsNotClosed setup.now (seen (D.now device.old))) }
@@ -35,13 +34,13 @@ fn events_of<D: Device>(alloc: Global, setup: &Setup, device: &mut D) -> Result<
 {
     let text = match device.read(alloc) {
         Ok(text) => text,
-        Err(DeviceError::Memory) => return Err(RecoveryFault::Program(ProgramFault::NoMemory)),
-        Err(_) => return Err(RecoveryFault::Program(ProgramFault::CannotReadTrail)),
+        Err(DeviceError::Memory) => return Err(ProgramFault::NoMemory),
+        Err(_) => return Err(ProgramFault::CannotReadTrail),
     };
     match replay(alloc, setup, text.as_slice()) {
         Ok(Verdict::Accepted(events)) => Ok(events),
-        Ok(Verdict::Rejected(_)) => Err(RecoveryFault::TrailIsThere),
-        Err(_) => Err(RecoveryFault::Program(ProgramFault::NoMemory)),
+        Ok(Verdict::Rejected(_)) => Err(ProgramFault::TrailIsThere),
+        Err(_) => Err(ProgramFault::NoMemory),
     }
 }
 
@@ -95,7 +94,7 @@ pub fn finish_found<R: Files, D: Device + FileName, W: Write, E: Write>(
         }
         Err(fault) => {
             let fault = fault.at(part);
-            let status = tell_fault(errors, &fault);
+            let status = tell_named(errors, &fault);
             let end = RecoveryEnd::Refused(fault);
             Recovery {
                 end,

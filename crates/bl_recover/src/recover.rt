@@ -5,27 +5,31 @@ ghost use Rattle.bl_file.specs.Outlived.{names_outlive};
 ghost use Rattle.bl_file.specs.declared.kept.Keeping.TheVariants.{Synced};
 ghost use Rattle.bl_record.specs.Recovering.{LosesNoHistory};
 ghost use Rattle.bl_wire.specs.Watch.{Puts, end_state, used};
-ghost use Rattle.bl_status.specs.Status.{IsEnd};
 ghost use Rattle.bl_recover.specs.Finishing.{IsEndOf};
-ghost use Rattle.bl_recover.specs.Telling.{fault_text, status_by};
+ghost use Rattle.bl_status.specs.Places.{named_text};
+ghost use Rattle.bl_status.specs.Status.{IsEnd, status_of};
 ghost use Rattle.bl_recover.specs.Recoveries.{HasEnded, HasWritten, IsOfClosed, IsRecoverRun};
 ghost use Rattle.bl_recover.specs.Recoveries.{after_cut, said_of, status_of_end};
 
-use crate::fault::{RecoveryFault, of_recover};
-use crate::find::{Found, find};
 use crate::finish::finish_found;
-use crate::name::{Named, give_name};
-use crate::told::{tell_cut, tell_fault, tell_left, tell_recovered};
+use crate::told::tell_recovered;
 use bl_disk::device::Device;
 use bl_file::kept::Keeping;
 use bl_file::lock::Lock;
 use bl_file::named::FileName;
-use bl_keep::fault::KeepFault;
+use bl_journal_files::fault::of_recover;
+use bl_journal_files::find::{Found, find};
+use bl_journal_files::name::{NameOnDisk, give_name};
+use bl_journal_files::told::tell_cut;
+use bl_record::journal::Closed;
 use bl_record::recover::{Recovered, recover};
-use bl_setup::reader::read_setup;
 use bl_setup::setup::Setup;
-use bl_status::fault::{ProgramFault, of_keep, of_setup};
-use bl_status::told::tell;
+use bl_status::fault::ProgramFault;
+use bl_status::named::{About, NamedFault};
+use bl_status::setup::{GivenSetup, given_setup};
+use bl_status::told::{tell, tell_named};
+use bl_trail_file::fault::{KeepFault, of_keep};
+use bl_trail_file::told::tell_rest;
 use bl_wire::watched::Watched;
 use std::alloc::Global;
 use std::io::Write;
@@ -41,7 +45,7 @@ pub enum RecoveryEnd {
         /// How many bytes were cut off.
         cut: usize,
         /// What shows that it has its name.
-        named: Named,
+        named: NameOnDisk,
     },
     /// The trail is closed and has its name, and the output failed before all of that was told.
     Untold {
@@ -50,7 +54,7 @@ pub enum RecoveryEnd {
         /// How many bytes were cut off.
         cut: usize,
         /// What shows that it has its name.
-        named: Named,
+        named: NameOnDisk,
     },
     /// The trail is closed, and stays in its file, since it could not have its name.
     Unnamed {
@@ -62,7 +66,7 @@ pub enum RecoveryEnd {
         fault: KeepFault,
     },
     /// Nothing was closed.
-    Refused(RecoveryFault),
+    Refused(NamedFault),
 }
 
 /// How a recovery ended, its status, and the file.
@@ -82,10 +86,10 @@ pub(crate) struct ClosedTrail<'a> {
 }
 
 /// Tells what came of a trail that is closed and has its name: how many events it has.
-fn tell_named<W: Write, E: Write>(
+fn tell_with_name<W: Write, E: Write>(
     events: usize,
     cut: usize,
-    named: Named,
+    named: NameOnDisk,
     writer: &mut Watched<W>,
     errors: &mut Watched<E>,
 ) -> (RecoveryEnd, u8)
@@ -108,7 +112,7 @@ fn tell_named<W: Write, E: Write>(
 /// Tells what came of a trail that is closed in the file of this name.
 pub(crate) fn tell_closed<W: Write, E: Write>(
     closed: &ClosedTrail<'_>,
-    named: Result<Named, KeepFault>,
+    named: Result<NameOnDisk, KeepFault>,
     writer: &mut Watched<W>,
     errors: &mut Watched<E>,
 ) -> (RecoveryEnd, u8)
@@ -123,13 +127,23 @@ pub(crate) fn tell_closed<W: Write, E: Write>(
     let ClosedTrail { events, cut, part } = *closed;
     tell_cut(errors, cut);
     match named {
-        Ok(named) => tell_named(events, cut, named, writer, errors),
+        Ok(named) => tell_with_name(events, cut, named, writer, errors),
         Err(fault) => {
             let status = tell(errors, &of_keep(fault));
-            tell_left(errors, part);
+            tell_rest(errors, true, part);
             (RecoveryEnd::Unnamed { events, cut, fault }, status)
         }
     }
+}
+
+/// Gives the file of a closed trail its name, on the disk.
+fn name_closed<R: Files, D: Device + FileName>(
+    rt: &R,
+    closed: &Closed<D>,
+    trail: &str,
+) -> Result<NameOnDisk, KeepFault> {
+    let named = give_name(rt, closed, trail)?;
+    Ok(named.on_disk())
 }
 
 /// Closes the journal that a run left, and gives the trail its name, which is told: how many events it has, and on
@@ -173,7 +187,7 @@ pub fn recover_found<R: Files, D: Device + FileName, W: Write, E: Write>(
             },
         ) => {
             let part = part.as_str();
-            let named = give_name(rt, &closed, trail);
+            let named = name_closed(rt, &closed, trail);
             let device = closed.end();
             let closed = ClosedTrail { events, cut, part };
             let (end, status) = tell_closed(&closed, named, writer, errors);
@@ -185,7 +199,7 @@ pub fn recover_found<R: Files, D: Device + FileName, W: Write, E: Write>(
         }
         Err((fault, device)) => {
             let fault = of_recover(fault).at(part);
-            let status = tell_fault(errors, &fault);
+            let status = tell_named(errors, &fault);
             let end = RecoveryEnd::Refused(fault);
             Recovery {
                 end,
@@ -204,13 +218,13 @@ struct Ended {
 }
 
 /// Ends a run that recovers nothing with this fault, which is told.
-fn refuse<E: Write>(errors: &mut Watched<E>, fault: RecoveryFault) -> Ended
+fn refuse<E: Write>(errors: &mut Watched<E>, fault: NamedFault) -> Ended
     ensures end { result.end ≡ RecoveryEnd.Refused fault }
-    ensures status { result.status ≡ status_by fault }
-    ensures said { Puts (fault_text fault) (end_state E.contents errors.old) (end_state E.contents errors.new) }
+    ensures status { result.status ≡ status_of fault.fault }
+    ensures said { Puts (named_text fault) (end_state E.contents errors.old) (end_state E.contents errors.new) }
     ensures range { (result.status ≡ 3) ⊎ (result.status ≡ 4) }
 {
-    let status = tell_fault(errors, &fault);
+    let status = tell_named(errors, &fault);
     let end = RecoveryEnd::Refused(fault);
     Ended { end, status }
 }
@@ -232,7 +246,7 @@ fn go_on<R: Files, D: Device + FileName + Drop, W: Write, E: Write>(
     rt: &R,
     alloc: Global,
     setup: &Setup,
-    found: Result<Found<'_, D>, RecoveryFault>,
+    found: Result<Found<'_, D>, NamedFault>,
     writer: &mut Watched<W>,
     errors: &mut Watched<E>,
 ) -> Ended
@@ -253,7 +267,9 @@ fn go_on<R: Files, D: Device + FileName + Drop, W: Write, E: Write>(
     };
     if found.is_torn {
         drop(found);
-        return refuse(errors, RecoveryFault::NotBegun);
+        let fault = ProgramFault::NotBegun;
+        let about = About::Nothing;
+        return refuse(errors, NamedFault { fault, about });
     }
     if found.is_named {
         without_file(finish_found(rt, alloc, setup, found, writer, errors))
@@ -262,11 +278,33 @@ fn go_on<R: Files, D: Device + FileName + Drop, W: Write, E: Write>(
     }
 }
 
-/// Closes the journal that a run left under the name of this trail, which began with the setup of these bytes: the
+/// Closes the journal that a run left under the name of this trail, which began with this setup, which was read before: the
 /// command `recover`.
 ///
 /// Where there is none, or it is not gone on with, that is told, and nothing is changed. Else it goes as
 /// `recover_found` says, or, where the trail has its name already beside that of the journal, as `finish_found` does.
+pub fn recover_over<R: Files, W: Write, E: Write>(
+    rt: &R,
+    alloc: Global,
+    given: GivenSetup<'_>,
+    trail: &str,
+    writer: &mut Watched<W>,
+    errors: &mut Watched<E>,
+) -> u8
+where
+    R::File: Lock,
+    requires { writer.old.failed ≡ false }
+    ensures run { IsRecoverRun trail.now result (used W.contents writer.old writer.new)
+        (end_state E.contents errors.old) (end_state E.contents errors.new) }
+    ensures handed_on { result ≡ 0 → writer.new.unflushed ≡ false }
+    ensures status { IsEnd result }
+{
+    let found = find(rt, alloc, given.bytes, trail, Keeping::Synced);
+    let ended = go_on(rt, alloc, given.setup, found, writer, errors);
+    ended.status
+}
+
+/// The same over the setup of these bytes. Where they are no setup that is told, and nothing is changed.
 pub fn recover_on<R: Files, W: Write, E: Write>(
     rt: &R,
     alloc: Global,
@@ -283,12 +321,15 @@ where
     ensures handed_on { result ≡ 0 → writer.new.unflushed ≡ false }
     ensures status { IsEnd result }
 {
-    let begun = match read_setup(alloc, setup) {
+    let begun = match given_setup(alloc, setup) {
         Ok(begun) => begun,
-        Err(fault) => return tell(errors, &of_setup(fault)),
+        Err(fault) => return tell(errors, &fault),
     };
-    let found = find(rt, alloc, setup, trail, Keeping::Synced);
-    let ended = go_on(rt, alloc, &begun, found, writer, errors);
+    let given = GivenSetup {
+        setup: &begun,
+        bytes: setup,
+    };
+    let status = recover_over(rt, alloc, given, trail, writer, errors);
     drop(begun);
-    ended.status
+    status
 }

@@ -1,12 +1,12 @@
 //! What cannot be synced is told, and nothing empty is left: so each file and folder on which a promise rests is synced.
 use super::base::{BASE, WHOLE, clear, has, is_missing, leave, recover};
 use super::syncs::UnsyncedFiles;
+use bl_asked::trail::TrailFile;
 use bl_file::kept::Keeping;
 use bl_file::lock::Lock;
 use bl_journal_files::make::make_journal;
-use bl_keep::part::TrailFile;
-use bl_recover::fault::RecoveryFault;
 use bl_status::fault::ProgramFault;
+use bl_status::named::{About, NamedFault};
 use std::alloc::AllocGlobal;
 use std::fs;
 use std::process::Abort;
@@ -54,9 +54,9 @@ where
             assert!(rt;
                 matches!(
                     fault,
-                    RecoveryFault::AtFile {
+                    NamedFault {
                         fault: ProgramFault::CannotWriteTrail,
-                        ..
+                        about: About::File(_),
                     }
                 )
             );

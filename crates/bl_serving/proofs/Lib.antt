@@ -1,1 +1,2 @@
 pub mod Hosting
+pub mod Served

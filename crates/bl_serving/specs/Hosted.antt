@@ -1,34 +1,32 @@
 -- How a run of `serve` ends whose trail is kept as it goes.
 use Rattle.std.specs.Prelude.{◌≡◌, ◌⊎◌, ◌↔◌, ℕ, zero, suc, Bool, true, false, List, ◌++◌, Option, Some, None, take}
 use Rattle.std.specs.Io.KnownBytes.{Appends, Keeps}
-use Rattle.bl_alone.specs.Recording.{IsWhole}
+use Rattle.bl_trail_run.specs.Recording.{IsWhole}
 use Rattle.bl_audit.specs.Bookmarks.{HasGrown}
 use Rattle.bl_disk.specs.File.{File}
 use Rattle.bl_hall.specs.Chronicle.{Chronicle}
 use Rattle.bl_entrance.specs.declared.ended.Ended.{Ended}
-use Rattle.bl_recover.specs.Telling.{cut_line}
-use Rattle.bl_recover.specs.declared.fault.RecoveryFault.TheVariants.{Program}
+use Rattle.bl_journal_files.specs.Telling.{cut_line}
 use Rattle.bl_live.specs.Telling.{AreNotices}
-use Rattle.bl_run.specs.Serving.{faults_found, hosted_text, listening}
-use Rattle.bl_status.specs.Status.{status_after}
+use Rattle.bl_serving.specs.Serving.{faults_found, hosted_text, listening}
+use Rattle.bl_status.specs.Status.{status_after, status_of}
+use Rattle.bl_status.specs.declared.fault.ProgramFault.{ProgramFault}
 use Rattle.bl_status.specs.declared.fault.ProgramFault.TheVariants.{NoMemory, Write}
 use Rattle.bl_setup.specs.Setup.{Setup}
 use Rattle.bl_wire.specs.Watch.{EndState, Puts, Use}
-use Rattle.bl_serving.specs.Beginning.{Begins, IsUnbegun}
-use Rattle.bl_serving.specs.Telling.{status_by, trail_text, words_at}
-use Rattle.bl_serving.specs.declared.fault.ServingFault.{ServingFault}
-use Rattle.bl_serving.specs.declared.fault.ServingFault.TheVariants.{Recovery}
+use Rattle.bl_trail_run.specs.Beginning.{Begins, IsUnbegun}
+use Rattle.bl_serving.specs.Telling.{trail_text, words_at}
 
 -- what is left of the trail of a run that began in this hall: it is whole, and that of the hall later; or there is a
 -- fault
-abbrev pub IsLeft : Chronicle → Option ServingFault → File → Type 0
+abbrev pub IsLeft : Chronicle → Option ProgramFault → File → Type 0
 IsLeft begun None file = (hall : Chronicle) × HasGrown begun hall × IsWhole hall file
 IsLeft begun (Some fault) file = Unit {0}
 
 -- the status after the fault of the trail: the first fault gives it
-abbrev pub status_with : ℕ → Option ServingFault → ℕ
+abbrev pub status_with : ℕ → Option ProgramFault → ℕ
 status_with status None = status
-status_with zero (Some fault) = status_by fault
+status_with zero (Some fault) = status_of fault
 status_with (suc n) (Some fault) = suc n
 
 -- Sessions were served in the hall that the run began with. What was met while others ran was told then; what was found
@@ -41,7 +39,7 @@ pub record HasHosted (begun : Chronicle) (status : ℕ) (is_whole : Bool) (file 
   pub memory : Bool
   pub live : List ℕ
   pub during : AreNotices live
-  pub trail : Option ServingFault
+  pub trail : Option ProgramFault
   pub left : threads ≡ true → IsLeft begun trail file
   pub unclosed : threads ≡ false → trail ≡ None
   pub whole : (is_whole ≡ true) ↔ ((threads ≡ true) × (trail ≡ None))
@@ -61,20 +59,20 @@ pub record HasServed (resumes : Bool) (setup : Setup) (limit : ℕ) (text : List
 
 -- No session was served, since nothing was begun; or a growth was refused for the gate; or `listening` could not be
 -- told. The fault is told, and of a file that cannot be written its name.
-abbrev pub IsUnserved : (name : List ℕ) → Bool → Setup → ℕ → List ℕ → ServingFault → ℕ → Use → EndState → EndState
-    → Type 0
-IsUnserved name resumes setup limit text fault status output before after = (status ≡ status_by fault)
+abbrev pub IsUnserved : (name : List ℕ) → Bool → Setup → ℕ → List ℕ → Bool → ProgramFault → ℕ → Use → EndState
+    → EndState → Type 0
+IsUnserved name resumes setup limit text has_failed fault status output before after = (status ≡ status_of fault)
     × ((Keeps output.before output.after × Puts (words_at name fault) before after
-    × (IsUnbegun resumes setup text fault ⊎ (fault ≡ Recovery (Program NoMemory))))
-    ⊎ ((fault ≡ Recovery (Program Write)) × (output.failed ≡ true)
+    × (IsUnbegun resumes setup text has_failed fault ⊎ (fault ≡ NoMemory)))
+    ⊎ ((fault ≡ Write) × (output.failed ≡ true)
     × ((n : ℕ) × Appends output.before output.after (take n listening))
     × ((begun : Chronicle) × (cut : ℕ) × Begins resumes setup limit text begun cut
     × Puts (cut_line cut ++ words_at name fault) before after)))
 
 -- sessions were served, or none was, over the file of this name
-abbrev pub IsServing : (name : List ℕ) → Bool → Setup → ℕ → List ℕ → ℕ → Bool → File → Use → EndState → EndState
-    → Type 0
-IsServing name resumes setup limit text status is_whole file output before after =
+abbrev pub IsServing : (name : List ℕ) → Bool → Setup → ℕ → List ℕ → ℕ → (is_whole has_failed : Bool) → File → Use
+    → EndState → EndState → Type 0
+IsServing name resumes setup limit text status is_whole has_failed file output before after =
     HasServed resumes setup limit text status is_whole file output before after
-    ⊎ ((fault : ServingFault) × (is_whole ≡ false)
-    × IsUnserved name resumes setup limit text fault status output before after)
+    ⊎ ((fault : ProgramFault) × (is_whole ≡ false)
+    × IsUnserved name resumes setup limit text has_failed fault status output before after)

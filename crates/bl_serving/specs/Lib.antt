@@ -1,3 +1,4 @@
+pub mod Serving
 pub mod Telling
-pub mod Beginning
 pub mod Hosted
+pub mod Plans

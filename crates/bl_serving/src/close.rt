@@ -4,15 +4,16 @@ ghost use Rattle.bl_gate.specs.Gates.{hall_seen};
 ghost use Rattle.bl_audit.specs.Bookmarks.{HasGrown};
 ghost use Rattle.bl_hall.specs.Chronicle.{Chronicle};
 ghost use Rattle.bl_keeper.specs.Keeping.{HasKept};
-ghost use Rattle.bl_alone.specs.Files.{fault_in, file_after, file_in};
+ghost use Rattle.bl_trail_run.specs.Files.{fault_in, file_after, file_in};
 ghost use Rattle.bl_serving.specs.Hosted.{IsLeft};
 
-use crate::fault::{ServingFault, of_end};
+use crate::fault::of_end;
 use bl_disk::device::Device;
 use bl_disk::log::Log;
 use bl_gate::gate::Gate;
 use bl_gate::pass::Pass;
 use bl_record::journal::{Closed, Journal};
+use bl_status::fault::ProgramFault;
 use std::alloc::Global;
 
 /// The file of a journal that is left as it is.
@@ -31,7 +32,7 @@ pub(crate) fn close_after<D: Device>(
     gate: Gate,
     pass: Pass,
     journal: Journal<D>,
-) -> Result<Closed<D>, (ServingFault, D)>
+) -> Result<Closed<D>, (ProgramFault, D)>
     requires gate { pass.gate ≡ gate }
     requires all { pass.parts ≡ 64 }
     requires sound { journal.fault ≡ None → D.has_failed journal.log.device ≡ false }

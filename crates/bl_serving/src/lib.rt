@@ -1,12 +1,19 @@
-//! The run of the command `serve` whose trail is kept as it goes, in a journal over a device.
+//! The run of the command `serve`: sessions of who comes in at an entrance, whose trail is written at the end, or kept as
+//! it goes, in a journal over a device.
 //!
-//!     fault    what such a run tells beside what any run tells
-//!     begin    the hall and the journal that a run begins with: new, or those of a run that was cut off
-//!     close    closes the journal after the sessions
-//!     run      the run
+//!     serve     the run, however its trail is kept
+//!     at_end    the run whose trail is written at its end
+//!     recorded  the run with a journal
+//!     told      what is told of the sessions once they have ended
+//!     noted     what a run notes of itself in its log
+//!     fault     what ends a run with a journal beside what ends any run
+//!     close     closes the journal after the sessions
 #![tactic(auto)]
 
-pub mod begin;
+mod at_end;
 mod close;
 pub mod fault;
-pub mod run;
+pub mod noted;
+mod recorded;
+pub mod serve;
+mod told;

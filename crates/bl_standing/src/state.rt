@@ -10,11 +10,11 @@ ghost use Rattle.bl_wire.specs.Watch.{used};
 use crate::fault::StateFault;
 use crate::left::fitting_after;
 use crate::told::tell_fault;
-use bl_setup::reader::read_setup;
 use bl_setup::setup::Setup;
 use bl_state::laws::{read_setups_are_whole, written_setups_read_again};
 use bl_state::put::put_setup;
-use bl_status::fault::{ProgramFault, of_setup};
+use bl_status::fault::ProgramFault;
+use bl_status::setup::given_setup;
 use bl_wire::put::put_out;
 use bl_wire::watched::Watched;
 use std::alloc::Global;
@@ -61,9 +61,9 @@ fn write_state<W: Write>(
 {
     read_setups_are_whole();
     written_setups_read_again();
-    let setup = match read_setup(alloc, setup) {
+    let setup = match given_setup(alloc, setup) {
         Ok(setup) => setup,
-        Err(fault) => return Err(StateFault::Program(of_setup(fault))),
+        Err(fault) => return Err(StateFault::Program(fault)),
     };
     let found = fitting_after(alloc, &setup, trail);
     drop(setup);

@@ -1,1 +1,1 @@
-pub mod Unkept
+pub mod Statuses

@@ -12,9 +12,7 @@ use Rattle.bl_wire.specs.Watch.{Use}
 use Rattle.bl_wire.specs.declared.fault.SessionFault.{SessionFault}
 use Rattle.bl_wire.specs.declared.fault.SessionFault.TheVariants as failing
 use Rattle.bl_status.specs.declared.fault.ProgramFault.{ProgramFault}
-use Rattle.bl_status.specs.declared.fault.ProgramFault.TheVariants.{CannotReadSetup, Setup, CannotReadTrail}
-use Rattle.bl_status.specs.declared.fault.ProgramFault.TheVariants.{CannotWriteTrail, CannotListen, Read, Write}
-use Rattle.bl_status.specs.declared.fault.ProgramFault.TheVariants.{TooLong, NoMemory}
+use Rattle.bl_status.specs.declared.fault.ProgramFault.TheVariants.{Setup, Read, Write, TooLong, NoMemory}
 
 -- the words for a kind of fault; that of memory has none, and is told without a line
 abbrev pub kind_words : SetupFaultKind → List ℕ
@@ -27,15 +25,9 @@ kind_words kinds.Memory = []
 
 -- Out of memory is told as such, and any other fault of a setup with its line and the words for its kind.
 abbrev pub IsOfSetup : SetupFault → ProgramFault → Type 0
-IsOfSetup of CannotReadSetup = ⊥
 IsOfSetup of (Setup line kind) = (of.kind ≢ kinds.Memory) × (line ≡ of.line) × (kind.now ≡ kind_words of.kind)
-IsOfSetup of CannotReadTrail = ⊥
-IsOfSetup of CannotWriteTrail = ⊥
-IsOfSetup of CannotListen = ⊥
-IsOfSetup of Read = ⊥
-IsOfSetup of Write = ⊥
-IsOfSetup of TooLong = ⊥
 IsOfSetup of NoMemory = of.kind ≡ kinds.Memory
+IsOfSetup of _ = ⊥
 
 -- Each fault of a session is told as what it is; nobody else speaks for a session with one worker.
 abbrev pub IsOfSession : SessionFault → ProgramFault → Type 0
@@ -45,16 +37,19 @@ IsOfSession failing.TooLong fault = fault ≡ TooLong
 IsOfSession failing.Memory fault = fault ≡ NoMemory
 IsOfSession failing.Clash fault = ⊥
 
--- The text is no setup, unless memory was refused, and nothing was written. The fault that is told is the first of the
--- text, with its line and kind; where memory was refused, that was at a line that is read, with the lines before it
--- right.
-pub record IsNotRead (setup : List ℕ) (fault : ProgramFault) (output : Use) : Type 0 where
-  pub unwritten : Keeps output.before output.after
+-- The text is no setup, unless memory was refused. The fault that is told is the first of the text, with its line and
+-- kind; where memory was refused, that was at a line that is read, with the lines before it right.
+pub record IsNoSetup (setup : List ℕ) (fault : ProgramFault) : Type 0 where
   pub of : SetupFault
   pub named : IsOfSetup of fault
   pub why : UnlessMemory of.kind ((begun : setups.Setup) → IsSetup setup begun → ⊥)
   pub earliest : UnlessMemory of.kind (FirstSetupFault setup of)
   pub refused : of.kind ≡ kinds.Memory → IsReadAt setup of.line
+
+-- the same, and nothing was written
+pub record IsNotRead (setup : List ℕ) (fault : ProgramFault) (output : Use) : Type 0 where
+  pub unwritten : Keeps output.before output.after
+  pub none : IsNoSetup setup fault
 
 -- no session began, and nothing was read
 pub record IsNotBegun (setup : List ℕ) (fault : ProgramFault) (input output : Use) : Type 0 where

@@ -1,6 +1,6 @@
 pub mod Status
 pub mod Failure
 pub mod Message
+pub mod Named
 pub mod Places
-pub mod Unkept
 pub mod Runs

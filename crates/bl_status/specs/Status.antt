@@ -2,8 +2,10 @@
 use Rattle.std.specs.Prelude.{◌≡◌, ◌⊎◌, ℕ, zero, suc, List, [], ◌∷◌}
 use Rattle.bl_status.specs.declared.fault.ProgramFault.{ProgramFault}
 use Rattle.bl_status.specs.declared.fault.ProgramFault.TheVariants.{CannotReadSetup, Setup, CannotReadTrail}
-use Rattle.bl_status.specs.declared.fault.ProgramFault.TheVariants.{CannotWriteTrail, CannotListen, Read, Write}
-use Rattle.bl_status.specs.declared.fault.ProgramFault.TheVariants.{TooLong, NoMemory}
+use Rattle.bl_status.specs.declared.fault.ProgramFault.TheVariants.{CannotWriteTrail, NoTrail, TrailIsThere, InUse}
+use Rattle.bl_status.specs.declared.fault.ProgramFault.TheVariants.{OtherSetup, TornSetup, OldVersion, WrongAt, NotBegun}
+use Rattle.bl_status.specs.declared.fault.ProgramFault.TheVariants.{Over, NoMoreSessions, NotKept, CutShort}
+use Rattle.bl_status.specs.declared.fault.ProgramFault.TheVariants.{CannotListen, Read, Write, TooLong, NoMemory}
 
 -- 4 when out of memory, and 3 for anything else
 abbrev pub status_of : ProgramFault → ℕ
@@ -11,6 +13,18 @@ status_of CannotReadSetup = 3
 status_of (Setup line kind) = 3
 status_of CannotReadTrail = 3
 status_of CannotWriteTrail = 3
+status_of NoTrail = 3
+status_of TrailIsThere = 3
+status_of InUse = 3
+status_of OtherSetup = 3
+status_of TornSetup = 3
+status_of OldVersion = 3
+status_of (WrongAt line) = 3
+status_of NotBegun = 3
+status_of Over = 3
+status_of NoMoreSessions = 3
+status_of NotKept = 3
+status_of CutShort = 3
 status_of CannotListen = 3
 status_of Read = 3
 status_of Write = 3

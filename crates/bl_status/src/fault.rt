@@ -4,10 +4,8 @@ ghost use Rattle.std.specs.IoError.{error_kind};
 ghost use Rattle.bl_status.specs.Message.{words_of};
 ghost use Rattle.bl_status.specs.Failure.{IsOfSetup, IsOfSession};
 ghost use Rattle.bl_status.specs.Status.{status_of};
-ghost use Rattle.bl_status.specs.Unkept.{unkept_fault};
 ghost use Rattle.bl_wire.specs.declared.fault.SessionFault.TheVariants as failing;
 
-use bl_keep::fault::KeepFault;
 use bl_setup::fault::{SetupFault, SetupFaultKind};
 use bl_wire::fault::SessionFault;
 use std::io::ErrorKind;
@@ -15,7 +13,7 @@ use std::{fmt, io};
 use thiserror::Error;
 
 /// A fault that ends a run. Its display is what the run says of it on standard error.
-#[derive(Debug, PartialEq, Eq, Drop, Error)]
+#[derive(Clone, Copy, Debug, PartialEq, Eq, Drop, Error)]
 pub enum ProgramFault {
     /// The setup file cannot be opened or read.
     CannotReadSetup,
@@ -30,6 +28,30 @@ pub enum ProgramFault {
     CannotReadTrail,
     /// The trail file cannot be written, or cannot be moved to its name.
     CannotWriteTrail,
+    /// No file is there that a run left.
+    NoTrail,
+    /// Something stands under the name that the trail is to have.
+    TrailIsThere,
+    /// Another program has the trail's file.
+    InUse,
+    /// The run began with another setup, or it does not stand beside the file with which it began.
+    OtherSetup,
+    /// What stands beside the file with which the run began is a first part of its setup, and ends within a line.
+    TornSetup,
+    /// The trail is of version 1.
+    OldVersion,
+    /// The head of the trail is torn or wrong: the number of its first line that is not right.
+    WrongAt(u64),
+    /// The head of the trail is torn: the run that wrote it was cut off before it told anything.
+    NotBegun,
+    /// The trail that was to be gone on with is over: it ends by `stop`.
+    Over,
+    /// The trail has 1,000 sessions, and a run that opens another one was to go on from it.
+    NoMoreSessions,
+    /// The session ended since its trail was not kept.
+    NotKept,
+    /// The trail is not whole: its file took no more.
+    CutShort,
     /// The port cannot be listened on.
     CannotListen,
     /// The session's input failed.
@@ -51,9 +73,21 @@ impl fmt::Display for ProgramFault {
     fn fmt<W: fmt::Write>(&self, f: &mut fmt::Formatter<W>) -> fmt::Result {
         match self {
             ProgramFault::Setup { line, kind } => write!(f, "setup {line}: {kind}"),
+            ProgramFault::WrongAt(line) => write!(f, "trail wrong at line {line}"),
             ProgramFault::CannotReadSetup
             | ProgramFault::CannotReadTrail
             | ProgramFault::CannotWriteTrail
+            | ProgramFault::NoTrail
+            | ProgramFault::TrailIsThere
+            | ProgramFault::InUse
+            | ProgramFault::OtherSetup
+            | ProgramFault::TornSetup
+            | ProgramFault::OldVersion
+            | ProgramFault::NotBegun
+            | ProgramFault::Over
+            | ProgramFault::NoMoreSessions
+            | ProgramFault::NotKept
+            | ProgramFault::CutShort
             | ProgramFault::CannotListen
             | ProgramFault::Read
             | ProgramFault::Write
@@ -76,6 +110,18 @@ impl ProgramFault {
             ProgramFault::Setup { kind, .. } => kind,
             ProgramFault::CannotReadTrail => "cannot read trail",
             ProgramFault::CannotWriteTrail => "cannot write trail",
+            ProgramFault::NoTrail => "no trail to resume",
+            ProgramFault::TrailIsThere => "trail is there",
+            ProgramFault::InUse => "trail is in use",
+            ProgramFault::OtherSetup => "not this setup's trail",
+            ProgramFault::TornSetup => "trail's setup is torn",
+            ProgramFault::OldVersion => "trail of version 1",
+            ProgramFault::WrongAt(_) => "trail wrong",
+            ProgramFault::NotBegun => "trail not begun",
+            ProgramFault::Over => "trail is over",
+            ProgramFault::NoMoreSessions => "no more sessions",
+            ProgramFault::NotKept => "session 1: not kept",
+            ProgramFault::CutShort => "trail cut short",
             ProgramFault::CannotListen => "cannot listen",
             ProgramFault::Read => "read fault",
             ProgramFault::Write => "write fault",
@@ -95,6 +141,18 @@ impl ProgramFault {
             | ProgramFault::Setup { .. }
             | ProgramFault::CannotReadTrail
             | ProgramFault::CannotWriteTrail
+            | ProgramFault::NoTrail
+            | ProgramFault::TrailIsThere
+            | ProgramFault::InUse
+            | ProgramFault::OtherSetup
+            | ProgramFault::TornSetup
+            | ProgramFault::OldVersion
+            | ProgramFault::WrongAt(_)
+            | ProgramFault::NotBegun
+            | ProgramFault::Over
+            | ProgramFault::NoMoreSessions
+            | ProgramFault::NotKept
+            | ProgramFault::CutShort
             | ProgramFault::CannotListen
             | ProgramFault::Read
             | ProgramFault::Write
@@ -133,16 +191,6 @@ pub fn of_session(fault: SessionFault) -> ProgramFault
         SessionFault::TooLong => ProgramFault::TooLong,
         SessionFault::Memory => ProgramFault::NoMemory,
         SessionFault::Clash => unreachable!(),
-    }
-}
-
-/// What a fault of a trail that is not kept is to the program.
-pub fn of_keep(fault: KeepFault) -> ProgramFault
-    ensures { result ≡ unkept_fault fault }
-{
-    match fault {
-        KeepFault::Unwritable => ProgramFault::CannotWriteTrail,
-        KeepFault::Memory => ProgramFault::NoMemory,
     }
 }
 

@@ -1,20 +1,37 @@
 //! What a run says on standard error. Nothing of it needs memory, and once standard error has failed nothing more is
 //! said.
-ghost use Rattle.std.specs.Prelude.{◌≡◌, ◌⊎◌, ◌++◌};
+ghost use Rattle.std.specs.Prelude.{◌≡◌, ◌⊎◌, ◌++◌, codes, decimal};
 ghost use Rattle.bl_wire.specs.Watch.{Puts, end_state, used};
-ghost use Rattle.bl_status.specs.Unkept.{left_line, left_words as words_left};
 ghost use Rattle.bl_status.specs.Message.{fault_line, message_of};
-ghost use Rattle.bl_status.specs.Places.{trail_line};
-ghost use Rattle.bl_status.specs.Runs.{HasTold, HasToldAt};
+ghost use Rattle.bl_status.specs.Places.{about_line, named_text, trail_line};
+ghost use Rattle.bl_status.specs.Runs.{HasTold, HasToldAt, HasToldNamed};
 
 use crate::fault::ProgramFault;
-use crate::place::tell_file;
-use bl_keep::whole::Left;
+use crate::named::{About, NamedFault};
+use crate::place::{tell_file, tell_port, tell_wanted};
 use bl_wire::put::{put, put_number, put_out};
 use bl_wire::watched::Watched;
+use itoa::Buffer;
 use std::io::Write;
 
-/// Says the words of a fault, and of a setup's its line.
+/// Writes a count in decimal.
+pub fn put_count<E: Write>(errors: &mut Watched<E>, count: u64)
+    ensures puts { Puts (decimal count) (end_state E.contents errors.old) (end_state E.contents errors.new) }
+{
+    let mut digits = Buffer::new();
+    put(errors, digits.format(count).as_bytes());
+}
+
+/// Says at which line a trail is wrong.
+fn say_wrong<E: Write>(errors: &mut Watched<E>, line: u64)
+    ensures puts { Puts (codes "trail wrong at line " ++ decimal line) (end_state E.contents errors.old)
+        (end_state E.contents errors.new) }
+{
+    put(errors, b"trail wrong at line ");
+    put_count(errors, line);
+}
+
+/// Says the words of a fault, and of a setup's and of a trail that is wrong its line.
 fn say<E: Write>(errors: &mut Watched<E>, fault: &ProgramFault)
     ensures puts { Puts (message_of fault.now) (end_state E.contents errors.old) (end_state E.contents errors.new) }
 {
@@ -25,9 +42,21 @@ fn say<E: Write>(errors: &mut Watched<E>, fault: &ProgramFault)
             put(errors, b": ");
             put(errors, kind.as_bytes());
         }
+        ProgramFault::WrongAt(line) => say_wrong(errors, *line),
         ProgramFault::CannotReadSetup
         | ProgramFault::CannotReadTrail
         | ProgramFault::CannotWriteTrail
+        | ProgramFault::NoTrail
+        | ProgramFault::TrailIsThere
+        | ProgramFault::InUse
+        | ProgramFault::OtherSetup
+        | ProgramFault::TornSetup
+        | ProgramFault::OldVersion
+        | ProgramFault::NotBegun
+        | ProgramFault::Over
+        | ProgramFault::NoMoreSessions
+        | ProgramFault::NotKept
+        | ProgramFault::CutShort
         | ProgramFault::CannotListen
         | ProgramFault::Read
         | ProgramFault::Write
@@ -63,6 +92,18 @@ pub fn tell_at<E: Write>(errors: &mut Watched<E>, fault: &ProgramFault, name: &s
         ProgramFault::CannotReadTrail | ProgramFault::CannotWriteTrail => tell_file(errors, name),
         ProgramFault::CannotReadSetup
         | ProgramFault::Setup { .. }
+        | ProgramFault::NoTrail
+        | ProgramFault::TrailIsThere
+        | ProgramFault::InUse
+        | ProgramFault::OtherSetup
+        | ProgramFault::TornSetup
+        | ProgramFault::OldVersion
+        | ProgramFault::WrongAt(_)
+        | ProgramFault::NotBegun
+        | ProgramFault::Over
+        | ProgramFault::NoMoreSessions
+        | ProgramFault::NotKept
+        | ProgramFault::CutShort
         | ProgramFault::CannotListen
         | ProgramFault::Read
         | ProgramFault::Write
@@ -72,26 +113,26 @@ pub fn tell_at<E: Write>(errors: &mut Watched<E>, fault: &ProgramFault, name: &s
     status
 }
 
-/// Tells where what is left of a trail is that was not kept, on a line of its own; nothing where nothing is left. Where
-/// `errors` failed it is marked, and only a part was said.
-pub fn tell_left<E: Write>(errors: &mut Watched<E>, left: &Option<Left>)
-    ensures puts { Puts (left_line left.now) (end_state E.contents errors.old) (end_state E.contents errors.new) }
+/// Tells what a fault is about, on a line of its own; nothing where that has no name.
+fn tell_about<E: Write>(errors: &mut Watched<E>, about: &About)
+    ensures puts { Puts (about_line about.now) (end_state E.contents errors.old) (end_state E.contents errors.new) }
 {
-    let Some(left) = left else {
-        return;
-    };
-    put(errors, left_words(left.whole).as_bytes());
-    put(errors, left.name.as_str().as_bytes());
-    put_out(errors, b"\n");
+    match about {
+        About::Nothing => {}
+        About::File(name) => tell_file(errors, name.as_str()),
+        About::Port(port) => tell_port(errors, *port),
+        About::Trail(name) => tell_wanted(errors, name.as_str()),
+    }
 }
 
-/// The words for what is left of a trail, whole or not.
-fn left_words(whole: bool) -> &'static str
-    ensures { result.now ≡ words_left whole }
+/// Tells a fault that ends a run, on a line of its own, and what it is about, where that has a name, on the next; and
+/// gives the status. Where `errors` failed it is marked, and only a part was said.
+pub fn tell_named<E: Write>(errors: &mut Watched<E>, named: &NamedFault) -> u8
+    ensures told { HasToldNamed named.now result (used E.contents errors.old errors.new) }
+    ensures puts { Puts (named_text named.now) (end_state E.contents errors.old) (end_state E.contents errors.new) }
+    ensures status { (result ≡ 3) ⊎ (result ≡ 4) }
 {
-    if whole {
-        "the whole trail is in "
-    } else {
-        "the trail is cut short in "
-    }
+    let status = tell(errors, &named.fault);
+    tell_about(errors, &named.about);
+    status
 }

@@ -1,29 +1,26 @@
-//! What a run of `serve` takes from the system before its sessions: its setup file, the sockets where clients come in,
-//! and the log of these.
-ghost use Rattle.std.specs.Prelude.{◌⊎◌, ◌≡◌, IfOk, is_some};
+//! What a run of `serve` takes from the system before its sessions: the sockets where clients come in, and the log of
+//! these.
+ghost use Rattle.std.specs.Prelude.{◌⊎◌, ◌≡◌, Err, IfErr, IfOk, IsOk, IsSome, Ok, is_some};
 ghost use Rattle.bl_wire.specs.Watch.{used};
-ghost use Rattle.bl_system.specs.Entering.{HasToldEntrance, end_words, fault_at_port};
+ghost use Rattle.bl_system.specs.Entering.{HasToldEntrance, IsEntranceOf, IsOfNone, about_at_port, end_words, fault_at_port};
 ghost use Rattle.bl_words.specs.Words.{IsEntranceInRange, IsHostingInRange};
 
-use crate::files::read_setup_file;
+use crate::doors::{tell_doors, tell_wide};
 use crate::listen::listen;
 use bl_doors::doors::Doors;
 use bl_doors::fault::DoorFault;
-use bl_doors::told::{tell_fault as tell_doors, tell_wide};
 use bl_entrance::acceptor::{SharedLog, note_server};
 use bl_entrance::entrance::Entrance;
 use bl_log::fault::LogFault;
 use bl_log::note::ServerEvent;
 use bl_log::open::open;
 use bl_log::told::{tell_cut, tell_fault as tell_log};
-use bl_setup::reader::read_setup;
 use bl_setup::setup::Setup;
-use bl_status::fault::{ProgramFault, of_setup};
-use bl_status::place::tell_port;
-use bl_status::told::tell;
+use bl_status::fault::ProgramFault;
+use bl_status::named::{About, NamedFault};
+use bl_status::told::tell_named;
 use bl_wire::watched::Watched;
 use bl_words::command::{Hosting, NamedEntrance};
-use std::alloc::Global;
 use std::io::Write;
 use std::net::Net;
 use std::rt::Files as OpensFiles;
@@ -33,10 +30,8 @@ use std::time::Clock;
 /// Why a run of `serve` serves nobody.
 #[derive(Debug, PartialEq, Eq, Drop)]
 pub enum EntranceFault {
-    /// A fault that any run may have.
-    Program(ProgramFault),
-    /// The port of this number cannot be listened on.
-    Port(u32),
+    /// A fault that any run may have, and what it is about.
+    Program(NamedFault),
     /// No doors are opened.
     Doors(DoorFault),
     /// The log is not opened.
@@ -46,8 +41,6 @@ pub enum EntranceFault {
 /// What a run of `serve` has taken from the system before its sessions.
 #[derive(Drop)]
 pub struct Entered<F: Write + Drop> {
-    /// The bytes of the setup file.
-    pub setup: Vec<u8>,
     /// Where clients come in.
     pub entrance: Entrance,
     /// The log of connections; `None` where none is kept.
@@ -77,7 +70,7 @@ impl<F: Write + Drop> Entered<F> {
 
     /// Closes where clients came in, and tells where the log lacks lines, unless that was told.
     pub fn leave<R: OpensFiles, E: Write>(self, rt: &R, errors: &mut Watched<E>) {
-        let Entered { entrance, log, .. } = self;
+        let Entered { entrance, log } = self;
         entrance.close(rt);
         if let Some(log) = log {
             let mut log = log.into_inner();
@@ -99,31 +92,43 @@ fn why_of(status: u8) -> &'static str
     }
 }
 
-/// The setup of these bytes.
-fn setup_of(alloc: Global, bytes: &[u8]) -> Result<Setup, EntranceFault> {
-    match read_setup(alloc, bytes) {
+/// The setup that was read; or why it is none, as it is told to who opens doors or a log.
+fn setup_in<'a>(read: &'a Result<Setup, ProgramFault>) -> Result<&'a Setup, EntranceFault>
+    ensures setup { IfOk result (λ setup. read.now ≡ Ok setup.now) }
+    ensures none { IfErr result (IsOfNone read.now) }
+{
+    match read {
         Ok(setup) => Ok(setup),
-        Err(fault) => Err(EntranceFault::Program(of_setup(fault))),
+        Err(fault) => Err(EntranceFault::Program(NamedFault::from(*fault))),
     }
 }
 
-/// The fault at this port, where that cannot be listened on; any other as it is.
+/// What a fault at this port is about: the port, where that cannot be listened on, and else nothing.
+fn about_port(fault: &ProgramFault, port: u32) -> About
+    ensures { result ≡ about_at_port fault.now port }
+{
+    match fault {
+        ProgramFault::CannotListen => About::Port(port),
+        _ => About::Nothing,
+    }
+}
+
+/// The fault at this port, where that cannot be listened on; any other is about nothing.
 fn at_port(fault: ProgramFault, port: u32) -> EntranceFault
     ensures { result ≡ fault_at_port fault port }
 {
-    match fault {
-        ProgramFault::CannotListen => EntranceFault::Port(port),
-        fault => EntranceFault::Program(fault),
-    }
+    let about = about_port(&fault, port);
+    EntranceFault::Program(NamedFault { fault, about })
 }
 
-/// Listens at a port, or opens the doors of the subjects of a setup of these bytes.
+/// Listens at a port, or opens the doors of the subjects of a setup, if that is one.
 fn open_entrance<R: AllocGlobal + OpensFiles + Net>(
     rt: &R,
-    setup: &[u8],
+    read: &Result<Setup, ProgramFault>,
     named: NamedEntrance<'_>,
 ) -> Result<Entrance, EntranceFault>
     requires { IsEntranceInRange named }
+    ensures { IfOk result (λ entrance. IsEntranceOf named.entry read.now entrance) }
 {
     match named {
         NamedEntrance::Port(port) => match listen(rt, port) {
@@ -131,7 +136,7 @@ fn open_entrance<R: AllocGlobal + OpensFiles + Net>(
             Err(fault) => Err(at_port(fault, port)),
         },
         NamedEntrance::Doors(folder) => {
-            let setup = setup_of(rt.alloc(), setup)?;
+            let setup = setup_in(read)?;
             match Doors::open(rt, rt.alloc(), setup.names(), folder) {
                 Ok(doors) => Ok(Entrance::Doors(doors)),
                 Err(fault) => Err(EntranceFault::Doors(fault)),
@@ -143,43 +148,38 @@ fn open_entrance<R: AllocGlobal + OpensFiles + Net>(
 /// Opens the log of this name, where the setup is one; none where there is no name.
 fn open_log<R: AllocGlobal + OpensFiles>(
     rt: &R,
-    setup: &[u8],
+    read: &Result<Setup, ProgramFault>,
     name: Option<&str>,
 ) -> Result<Option<SharedLog<R::File>>, EntranceFault>
-    ensures { IfOk result (λ log. is_some log ≡ is_some name.entry) }
+    ensures kept { IfOk result (λ log. is_some log ≡ is_some name.entry) }
+    ensures asked { IfOk result (λ log. IsSome log → IsOk read.now) }
 {
     let Some(name) = name else {
         return Ok(None);
     };
     // asked before a file is made
-    drop(setup_of(rt.alloc(), setup)?);
+    let _setup = setup_in(read)?;
     match open(rt, rt.alloc(), name) {
         Ok(log) => Ok(Some(Mutex::new(log))),
         Err(fault) => Err(EntranceFault::Log(fault)),
     }
 }
 
-/// Takes from the system what a run of `serve` has to have before its sessions: the setup file of this name, where
-/// clients come in, and the log. Where one cannot be had nothing of it stays open.
+/// Takes from the system what a run of `serve` has to have before its sessions: where clients come in, and the log. Where
+/// one cannot be had nothing of it stays open. A setup that is none is told here only to who opens doors or a log.
 pub fn enter<R: AllocGlobal + OpensFiles + Net>(
     rt: &R,
-    path: &str,
+    read: &Result<Setup, ProgramFault>,
     hosting: &Hosting<'_>,
 ) -> Result<Entered<R::File>, EntranceFault>
     requires { IsHostingInRange hosting.now }
-    ensures { IfOk result (λ entered. is_some entered.log ≡ is_some hosting.now.log) }
+    ensures log { IfOk result (λ entered. is_some entered.log ≡ is_some hosting.now.log) }
+    ensures asked { IfOk result (λ entered. IsSome entered.log → IsOk read.now) }
+    ensures entrance { IfOk result (λ entered. IsEntranceOf hosting.now.entrance read.now entered.entrance) }
 {
-    let setup = match read_setup_file(rt, path) {
-        Ok(setup) => setup,
-        Err(fault) => return Err(EntranceFault::Program(fault)),
-    };
-    let entrance = open_entrance(rt, setup.as_slice(), hosting.entrance)?;
-    match open_log(rt, setup.as_slice(), hosting.log) {
-        Ok(log) => Ok(Entered {
-            setup,
-            entrance,
-            log,
-        }),
+    let entrance = open_entrance(rt, read, hosting.entrance)?;
+    match open_log(rt, read, hosting.log) {
+        Ok(log) => Ok(Entered { entrance, log }),
         Err(fault) => {
             entrance.close(rt);
             Err(fault)
@@ -193,12 +193,7 @@ pub fn tell_entrance<E: Write>(errors: &mut Watched<E>, fault: &EntranceFault) -
     ensures status { (result ≡ 3) ⊎ (result ≡ 4) }
 {
     match fault {
-        EntranceFault::Program(fault) => tell(errors, fault),
-        EntranceFault::Port(port) => {
-            let status = tell(errors, &ProgramFault::CannotListen);
-            tell_port(errors, *port);
-            status
-        }
+        EntranceFault::Program(fault) => tell_named(errors, fault),
         EntranceFault::Doors(fault) => tell_doors(errors, fault),
         EntranceFault::Log(fault) => tell_log(errors, *fault),
     }

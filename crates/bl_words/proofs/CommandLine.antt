@@ -20,7 +20,7 @@ use Rattle.clap.proofs.WalkLemmas.{first_value-rows, one_text-rows}
 use Rattle.clap.specs.Takes.{is_given}
 use Rattle.clap.specs.Matches.{first_value, found_of, one_text, subcommand_name_of}
 use Rattle.clap.specs.Walk.{Row, first_of, one_of, rows_of}
-use Rattle.bl_keep.specs.declared.part.TrailFile.{TrailFile}
+use Rattle.bl_asked.specs.declared.trail.TrailFile.{TrailFile}
 use Rattle.bl_words.specs.CommandLine.{server_app}
 use Rattle.bl_words.specs.Words.{HasCount, HasEntrance, HasFlag, HasHosting, HasKeeping, HasNoCommand, HasNumber, HasOptions, HasResume, HasTrail, IsHostingInRange, IsInRange, IsOf, IsSaid, MayKeep, entered_by, faults_of, keeping_word, word_of}
 use Rattle.bl_words.specs.declared.command.Command.{Command}
@@ -127,12 +127,12 @@ module _ (a b : ArgMatches) (same : rows_of (found_of a) ≡ rows_of (found_of b
       limit = number_same (codes "limit") hosting.limit has.1.limit;
       entrance = entrance_same hosting.entrance has.1.entrance;
       trail = trail_same (Some hosting.trail) has.1.trail;
-      trail_limit = number_same (codes "trail-limit") hosting.trail_limit has.1.trail_limit;
-      workers = number_same (codes "workers") hosting.workers has.1.workers;
-      threads = number_same (codes "session-threads") hosting.session_threads has.1.threads;
-      sessions = number_same (codes "sessions") hosting.sessions has.1.sessions;
-      clients = number_same (codes "clients") hosting.clients has.1.clients;
-      idle = count_same (codes "idle") hosting.idle has.1.idle;
+      trail_limit = number_same (codes "trail-limit") hosting.options.trail_limit has.1.trail_limit;
+      workers = number_same (codes "workers") hosting.options.workers has.1.workers;
+      threads = number_same (codes "session-threads") hosting.options.session_threads has.1.threads;
+      sessions = number_same (codes "sessions") hosting.options.sessions has.1.sessions;
+      clients = number_same (codes "clients") hosting.options.clients has.1.clients;
+      idle = count_same (codes "idle") hosting.options.idle has.1.idle;
       log = has.1.log ∙ sym (first_same (codes "log"));
       keeping = first_same (codes "keep") ∙ has.1.keeping;
       resumes = resume_same hosting.resumes has.1.resumes;

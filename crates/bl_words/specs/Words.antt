@@ -9,7 +9,7 @@ use Rattle.clap.specs.Kinds.{Kinds}
 use Rattle.clap.specs.Simple.{subcommand_of, subcommand_rows_of}
 use Rattle.clap.specs.Walk.{Row, rows_of}
 use Rattle.clap.specs.declared.parser.matches.ArgMatches.{ArgMatches}
-use Rattle.bl_keep.specs.declared.part.TrailFile.{TrailFile}
+use Rattle.bl_asked.specs.declared.trail.TrailFile.{TrailFile}
 use Rattle.bl_words.specs.CommandLine.{server_app}
 use Rattle.bl_words.specs.declared.command.Command.{Command}
 use Rattle.bl_words.specs.declared.command.NamedEntrance.{NamedEntrance}
@@ -38,12 +38,12 @@ IsTrailLimit bytes = (65536 ≤ bytes) × (bytes ≤ 1073741824)
 pub record IsHostingInRange (hosting : Hosting) : Type 0 where
   pub limit : (1 ≤ hosting.limit) × (hosting.limit ≤ 100000)
   pub entrance : IsEntranceInRange hosting.entrance
-  pub trail_limit : IsTrailLimit hosting.trail_limit
-  pub workers : (1 ≤ hosting.workers) × (hosting.workers ≤ 16)
-  pub threads : (1 ≤ hosting.session_threads) × (hosting.session_threads ≤ 16)
-  pub sessions : (1 ≤ hosting.sessions) × (hosting.sessions ≤ 1000)
-  pub clients : (1 ≤ hosting.clients) × (hosting.clients ≤ 1000)
-  pub idle : IsIdleInRange hosting.idle
+  pub trail_limit : IsTrailLimit hosting.options.trail_limit
+  pub workers : (1 ≤ hosting.options.workers) × (hosting.options.workers ≤ 16)
+  pub threads : (1 ≤ hosting.options.session_threads) × (hosting.options.session_threads ≤ 16)
+  pub sessions : (1 ≤ hosting.options.sessions) × (hosting.options.sessions ≤ 1000)
+  pub clients : (1 ≤ hosting.options.clients) × (hosting.options.clients ≤ 1000)
+  pub idle : IsIdleInRange hosting.options.idle
   pub resumes : hosting.resumes ≡ true → hosting.keeping ≢ AtEnd
 
 -- only a trail that is asked for is written while the run goes on, and only such a run goes on from another
@@ -147,12 +147,12 @@ pub record HasHosting (options : ArgMatches) (hosting : Hosting) : Type 0 where
   pub limit : HasNumber options (codes "limit") hosting.limit
   pub entrance : HasEntrance options hosting.entrance
   pub trail : HasTrail options (Some hosting.trail)
-  pub trail_limit : HasNumber options (codes "trail-limit") hosting.trail_limit
-  pub workers : HasNumber options (codes "workers") hosting.workers
-  pub threads : HasNumber options (codes "session-threads") hosting.session_threads
-  pub sessions : HasNumber options (codes "sessions") hosting.sessions
-  pub clients : HasNumber options (codes "clients") hosting.clients
-  pub idle : HasCount options (codes "idle") hosting.idle
+  pub trail_limit : HasNumber options (codes "trail-limit") hosting.options.trail_limit
+  pub workers : HasNumber options (codes "workers") hosting.options.workers
+  pub threads : HasNumber options (codes "session-threads") hosting.options.session_threads
+  pub sessions : HasNumber options (codes "sessions") hosting.options.sessions
+  pub clients : HasNumber options (codes "clients") hosting.options.clients
+  pub idle : HasCount options (codes "idle") hosting.options.idle
   pub log : option_copied hosting.log ≡ first_value (found_of options) (codes "log")
   pub keeping : HasKeeping options hosting.keeping
   pub resumes : HasResume options hosting.resumes

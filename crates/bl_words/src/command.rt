@@ -8,7 +8,6 @@ ghost use Rattle.bl_words.specs.CommandLine.{replace_rule, claim_rule, keep_rule
 ghost use Rattle.bl_words.specs.CommandLine.{open_rule, workers_rule, threads_rule, sessions_rule, clients_rule, idle_rule};
 ghost use Rattle.bl_words.specs.CommandLine.{log_rule, text_rule, number_rule, flag_rule, alone_app, serve_app};
 ghost use Rattle.bl_words.specs.CommandLine.{replay_app, recover_app, state_app, server_app, IsLocal};
-ghost use Rattle.bl_status.specs.Status.{IsStatus};
 ghost use Rattle.bl_words.specs.Status.{status_for};
 ghost use Rattle.bl_words.specs.Words.{HasCount, HasEntrance, HasHosting, HasKeeping, HasNoCommand, HasNumber};
 ghost use Rattle.bl_words.specs.Words.{HasResume, HasTrail, HasTrailFile, IsEntranceInRange, IsHostingInRange};
@@ -19,8 +18,9 @@ ghost use Rattle.bl_words.specs.declared.command.NamedEntrance.{NamedEntrance as
 ghost use Rattle.bl_words.specs.declared.command.Hosting.{Hosting as AnyHosting};
 ghost use Rattle.bl_words.specs.declared.command.TrailKeeping.{TrailKeeping as AnyKeeping};
 
-use bl_keep::part::TrailFile;
-use bl_status::version::VERSION;
+use bl_asked::options::Options;
+use bl_asked::trail::TrailFile;
+use bl_asked::version::VERSION;
 use clap::error::ErrorKind;
 use clap::parser::ValueSource;
 use clap::{Arg, ArgAction, ArgMatches, Command as Parser, Error, value_parser};
@@ -57,22 +57,12 @@ pub struct Hosting<'a> {
     pub entrance: NamedEntrance<'a>,
     /// Where the trail is kept.
     pub trail: TrailFile<'a>,
-    /// How many bytes it may have, 65,536 to 1,073,741,824.
-    pub trail_limit: u32,
     /// How it is kept.
     pub keeping: TrailKeeping,
     /// Whether the run goes on from the trail of one that was cut off; never where the trail is written at the end.
     pub resumes: bool,
-    /// How many workers there are, 1 to 16.
-    pub workers: u32,
-    /// How many session threads there are, 1 to 16.
-    pub session_threads: u32,
-    /// How many sessions are taken, 1 to 1,000.
-    pub sessions: u32,
-    /// How many connections are open at once at most, 1 to 1,000.
-    pub clients: u32,
-    /// For how many seconds a client may be idle, 1 to 86,400; for ever where none is said.
-    pub idle: Option<u32>,
+    /// How many threads, sessions and clients there are, how long one may be idle, how many bytes the trail may have.
+    pub options: Options,
     /// The name of the log of connections; `None` where none is kept.
     pub log: Option<&'a str>,
 }
@@ -626,6 +616,7 @@ fn idle_of(options: &ArgMatches<'_>) -> Result<Option<u32>, OutOfRange>
 }
 
 /// What the options of `serve` say of its sessions and its trail.
+#[tactic(auto, using(crate::proofs::Hosting::idle_is_in_range))]
 fn hosting_of<'a>(options: &ArgMatches<'a>) -> Option<Hosting<'a>>
     ensures range { IfSome result IsHostingInRange }
     ensures written { IfSome result (HasHosting options.now) }
@@ -653,14 +644,16 @@ fn hosting_of<'a>(options: &ArgMatches<'a>) -> Option<Hosting<'a>>
         says_limit: is_said(options, "limit"),
         entrance,
         trail,
-        trail_limit,
         keeping,
         resumes,
-        workers,
-        session_threads,
-        sessions,
-        clients,
-        idle,
+        options: Options {
+            workers,
+            session_threads,
+            sessions,
+            clients,
+            idle,
+            trail_limit,
+        },
         log: options.get_str("log"),
     })
 }
@@ -834,7 +827,7 @@ pub fn read_words<'a>(alloc: Global, words: &'a [String]) -> Result<Command<'a>,
 /// the version, and 2 for anything else.
 pub fn status_of(error: &Error) -> u8
     ensures status { result ≡ status_for (kind_of error.now) }
-    ensures range { IsStatus result }
+    ensures range { (result ≡ 0) ⊎ ((result ≡ 2) ⊎ (result ≡ 4)) }
 {
     match error.kind() {
         ErrorKind::OutOfMemory => 4,

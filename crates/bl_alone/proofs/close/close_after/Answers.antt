@@ -1,7 +1,7 @@
 use Rattle.std.proofs.Common.{subst, Result}
 use Rattle.bl_session.specs.Keeping.{IsHeld}
 use Rattle.bl_session.specs.declared.keep.Stop.{Stop}
-use Rattle.bl_alone.specs.Recording.{HasHeld, HasRecorded}
+use Rattle.bl_trail_run.specs.Recording.{HasHeld, HasRecorded}
 use Rattle.bl_alone.proofs.close.close_after.Goals as goal
 
 pub close_up-requires : goal.close_up-requires

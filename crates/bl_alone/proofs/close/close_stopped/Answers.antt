@@ -1,7 +1,7 @@
 use Rattle.std.proofs.Common.{◌∙◌, ap, sym, subst, Err, Some}
 use Rattle.bl_session.specs.Keeping.{IsHeld}
 use Rattle.bl_session.specs.declared.keep.Stop.{Stop}
-use Rattle.bl_alone.specs.Recording.{HasHeld, HasRecorded, IsOfTrail, IsSafe}
+use Rattle.bl_trail_run.specs.Recording.{HasHeld, HasRecorded, IsOfTrail, IsSafe}
 use Rattle.bl_alone.proofs.Causes.{unkept_caused, unkept_of_trail}
 use Rattle.bl_alone.proofs.close.close_stopped.Goals as goal
 

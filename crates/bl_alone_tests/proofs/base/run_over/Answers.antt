@@ -3,6 +3,6 @@ use Rattle.bl_disk.specs.File.{File, seen}
 use Rattle.bl_record.specs.Torn.{IsTornHead}
 use Rattle.bl_alone_tests.proofs.base.run_over.Goals as goal
 
-pub alone_recorded_on-status-requires-clause-fresh : goal.alone_recorded_on-status-requires-clause-fresh
-alone_recorded_on-status-requires-clause-fresh c =
+pub run_from-requires-clause-fresh : goal.run_from-requires-clause-fresh
+run_from-requires-clause-fresh c anew =
     subst (λ (file : File). IsTornHead (seen file)) (sym c.in_ok-new.ensures.now) (subst IsTornHead (sym (append-nil c.args.bytes.now)) c.requires)

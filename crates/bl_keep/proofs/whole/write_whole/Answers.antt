@@ -3,6 +3,7 @@ use Rattle.std.specs.Prelude.{IfSome, OnOk}
 use Rattle.std.specs.Io.Buffered.{writer_contents}
 use Rattle.std.specs.Io.KnownBytes.{Appends, Keeps}
 use Rattle.bl_audit.specs.Written.{trail_text}
+use Rattle.bl_trail_file.specs.Made.{file_of_part}
 use Rattle.bl_keep.proofs.Keeping.{wrote_file}
 use Rattle.bl_keep.proofs.whole.write_whole.Goals as goal
 
@@ -18,6 +19,6 @@ returns-in-Ok-Some-clause-text g c =
     subst (λ r. OnOk r (Appends (writer_contents F begun) (writer_contents F written) text)) c.in-Ok-Some.is-0 c.write_trail-written.ensures.text in
     let rest : Keeps (writer_contents F written) (F c.in-Ok-Some.file) =
     subst (λ r. IfSome r (λ end. Keeps (writer_contents F written) (F end))) c.in-Ok-Some.is-1 c.hand_on_rest-rest.ensures.all in
-    wrote_file (F c.args.part.file) (F begun.inner) _ _ (F c.in-Ok-Some.file) begun.buf.items text
-    ((λ i. F (c.new-writer.ensures i).inner.inner) ∙ ap F c.in-Ok.ensures.inner) ((λ i. (c.new-writer.ensures i).inner.buf.items) ∙ c.in-Ok.ensures.empty)
+    wrote_file (F (file_of_part c.args.part)) (F begun.inner) _ _ (F c.in-Ok-Some.file) begun.buf.items text
+    ((λ i. F (c.new-writer.ensures i).inner.inner) ∙ (ap F c.in-Ok.ensures.inner ∙ ap F c.into_parts-name.ensures.file)) ((λ i. (c.new-writer.ensures i).inner.buf.items) ∙ c.in-Ok.ensures.empty)
     wrote (λ i. writer_contents F written) rest

@@ -1,5 +1,6 @@
 use Rattle.std.proofs.KnownBytes.{Keeps-refl}
-use Rattle.bl_recover.specs.declared.fault.RecoveryFault.TheVariants.{NotBegun}
+use Rattle.bl_status.specs.Named.{unnamed}
+use Rattle.bl_status.specs.declared.fault.ProgramFault.TheVariants.{NotBegun}
 use Rattle.bl_recover.specs.declared.recover.RecoveryEnd.TheVariants.{Refused}
 use Rattle.bl_recover.proofs.recover.go_on.Goals as goal
 
@@ -15,7 +16,7 @@ returns-in-Err-clause-run g c trail beside = record {
 -- the head is torn
 pub returns-then-found-clause-run : goal.returns-then-found-clause-run
 returns-then-found-clause-run g c trail beside = record {
-  end = Refused NotBegun;
+  end = Refused (unnamed NotBegun);
   written = Keeps-refl _;
   said = c.refuse-then-found.ensures.said;
   status_is = c.refuse-then-found.ensures.status;

@@ -2,7 +2,7 @@ use Rattle.std.proofs.Common.{◌∙◌, ap, inr, subst, sym}
 use Rattle.std.proofs.KnownBytes.{Keeps-refl}
 use Rattle.bl_disk.specs.File.{seen}
 use Rattle.bl_recover.specs.Recoveries.{HasEnded}
-use Rattle.bl_recover.specs.Telling.{fault_at}
+use Rattle.bl_status.specs.Named.{fault_at}
 use Rattle.bl_recover.proofs.Recoveries.{ends, has_ended}
 use Rattle.bl_recover.proofs.recover.recover_found.Goals as goal
 
@@ -26,4 +26,4 @@ pub returns-in-Err-clause-written : goal.returns-in-Err-clause-written
 returns-in-Err-clause-written g c = Keeps-refl _
 
 pub returns-in-Err-clause-range : goal.returns-in-Err-clause-range
-returns-in-Err-clause-range g c = inr c.tell_fault-status.ensures.range
+returns-in-Err-clause-range g c = inr c.tell_named-status.ensures.status

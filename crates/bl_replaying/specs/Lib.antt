@@ -1,0 +1,4 @@
+pub mod Replays
+pub mod Open
+pub mod Finding
+pub mod Runs

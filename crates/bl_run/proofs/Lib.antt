@@ -1,5 +1,0 @@
-pub mod Hosting
-pub mod Sitting
-pub mod Splits
-pub mod Opening
-pub mod Leaving

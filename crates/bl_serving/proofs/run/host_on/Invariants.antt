@@ -1,4 +1,0 @@
-use Rattle.bl_serving.proofs.run.host_on.Given as goal
-
-abbrev pub ghosts-host_kept : goal.ghosts-host_kept
-ghosts-host_kept g a = record { gate = a.gate.now }

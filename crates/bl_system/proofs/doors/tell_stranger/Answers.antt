@@ -1,0 +1,11 @@
+use Rattle.std.proofs.Common.{rules, ◌≡◌, ◌++◌, ap, codes}
+use Rattle.bl_wire.proofs.PutLaws.{puts-three}
+use Rattle.bl_system.specs.Doors.{stranger_line}
+use Rattle.bl_system.proofs.doors.tell_stranger.Goals as goal
+
+pub returns : goal.returns
+returns g c =
+    let said = c.as_bytes.result.now in
+    let name : c.args.name.now ≡ said = search rules in
+    puts-three (stranger_line c.args.name.now) (codes "no such door ") said (codes "\n") _ _ _ _ (ap (λ l. codes "no such door " ++ (l ++ codes "\n")) name)
+    c.put.ensures.puts c.put-2.ensures.puts c.put_out.ensures.puts

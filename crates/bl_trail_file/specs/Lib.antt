@@ -1,0 +1,3 @@
+pub mod Parts
+pub mod Made
+pub mod Telling

@@ -1,0 +1,4 @@
+pub mod Files
+pub mod Recording
+pub mod Beginning
+pub mod Plans
