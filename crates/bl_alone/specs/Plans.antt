@@ -7,9 +7,10 @@ use Rattle.bl_status.specs.Failure.{IsNotBegun}
 use Rattle.bl_status.specs.Runs.{HasTold, Run}
 use Rattle.bl_status.specs.declared.fault.ProgramFault.{ProgramFault}
 use Rattle.bl_trail_run.specs.Files.{file_in, is_whole}
-use Rattle.bl_trail_run.specs.Plans.{IsKeptBy, is_kept, is_whole_in}
+use Rattle.bl_trail_run.specs.Plans.{IfAsItGoes, IsKeptBy, is_kept, is_whole_in}
 use Rattle.bl_trail_run.specs.declared.begin.Start.{Start}
 use Rattle.bl_trail_run.specs.declared.plan.TrailEnd.{TrailEnd}
+use Rattle.bl_trail_run.specs.declared.recorded.RecordedFile.TheVariants.{Left}
 use Rattle.bl_trail_run.specs.declared.plan.TrailEnd.TheVariants as ends
 use Rattle.bl_trail_run.specs.declared.plan.TrailPlan.{TrailPlan}
 use Rattle.bl_trail_run.specs.declared.plan.TrailPlan.TheVariants.{AtEnd, AsItGoes}
@@ -35,13 +36,15 @@ IsAloneOver now has_failed name (Some (AtEnd at_end)) setup limit trail run =
 IsAloneOver now has_failed name (Some (AsItGoes start)) setup limit trail run =
     IsRecordedIn now has_failed name start setup limit trail run
 
--- over the setup that this text is; where it is none that was told, nothing was read or written, and no trail is whole
+-- over the setup that this text is; where it is none that was told, nothing was read or written, no trail is whole, and a
+-- file is handed back as it was
 abbrev pub IsAlone : {T D : Type 0} → (D → File) → (D → Bool) → (D → List ℕ) → TrailPlan T D → List ℕ → ℕ → TrailEnd D
     → Run → Type 0
 IsAlone now has_failed name plan text limit trail run =
     ((begun : Setup) × IsSetup text begun × IsAloneOver now has_failed name (Some plan) begun limit trail run)
     ⊎ ((fault : ProgramFault) × HasTold fault run.status run.errors × IsNotBegun text fault run.input run.output
-    × (is_whole_in trail ≡ false) × (is_kept trail ≡ false))
+    × (is_whole_in trail ≡ false) × (is_kept trail ≡ false)
+    × IfAsItGoes plan (λ start. trail ≡ ends.InFile (Left start.device)))
 
 -- the trail is kept as was planned, or none was to be kept, and none is there
 abbrev pub IsKeptAs : {T D : Type 0} → Option (TrailPlan T D) → TrailEnd D → Type 0

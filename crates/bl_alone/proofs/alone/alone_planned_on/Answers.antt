@@ -15,4 +15,5 @@ returns-in-Err-clause-run g c =
       record { unread = Keeps-refl _; unmet = record { unwritten = Keeps-refl _; none = c.in-Err.ensures.fault } },
       c.left_of.ensures.whole,
       c.left_of.ensures.kept,
+      c.left_of.ensures.file,
     )
