@@ -1,5 +1,5 @@
 //! When a thread looks for connections that are idle.
-ghost use Rattle.std.specs.Prelude.{◌≡◌, ◌*◌};
+ghost use Rattle.std.specs.Prelude.{◌≡◌, ◌*◌, min};
 
 use std::time::{Clock, Duration};
 
@@ -24,6 +24,30 @@ impl Looks {
         Looks {
             most,
             apart: (most / 4).min(MOST_APART),
+            next: 0,
+        }
+    }
+
+    /// Looks at the time alone: a connection may be idle for ever.
+    pub fn for_none() -> Looks
+        ensures { result.most ≡ 18446744073709551615 }
+    {
+        Looks {
+            most: u64::MAX,
+            apart: MOST_APART,
+            next: 0,
+        }
+    }
+
+    /// Looks for connections that are idle for so many seconds, or for as many as before where those are fewer. The next
+    /// is due at once.
+    pub fn within(self, seconds: u32) -> Looks
+        ensures { result.most ≡ min self.most (seconds * 1000) }
+    {
+        let within = Looks::after(seconds);
+        Looks {
+            most: self.most.min(within.most),
+            apart: self.apart.min(within.apart),
             next: 0,
         }
     }

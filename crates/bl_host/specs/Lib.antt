@@ -3,3 +3,4 @@ pub use Rattle.bl_entrance.specs.Arrivals
 pub mod Threads
 pub mod Gathering
 pub mod Closing
+pub mod Early

@@ -6,6 +6,9 @@ ghost use Rattle.bl_host.specs.Closing.{CanKeepNoMore};
 ghost use Rattle.bl_rounds.specs.Seats.{IsSame, leaves};
 
 use crate::context::ThreadContext;
+use crate::leave::Leavers;
+use bl_allowance::allowance::Allowance;
+use bl_allowance::lines::LineStream;
 use bl_connection::stream::Stream;
 use bl_doors::greeted::Greeted;
 use bl_entrance::acceptor::{Accepted, Acceptor, Parted, Taken};
@@ -39,15 +42,23 @@ struct Counts {
 /// How many connections a thread takes before it looks after those that it has.
 const MOST_TAKEN: u32 = 64;
 
+/// How many milliseconds a thread sleeps at most that has connections whose clients still send.
+const LEAVING_APART: u64 = 100;
+
+/// How many seconds who is told its last may take nothing.
+const MOST_TAKING: u32 = 10;
+
 /// How many connections that waited at its desk go on before it looks after the others.
 const MOST_SERVED: u32 = 1_024;
 
-/// The stream of a connection: all is kept before it is written to.
-type Line<'a, K, T> = KeptStream<'a, Greeted<Socket>, K, T>;
+/// The stream of a connection: all is kept before it is written to, and where another run follows, whole lines alone are
+/// heard, as many as there is room for.
+type Line<'a, K, T> = KeptStream<'a, LineStream<'a, Greeted<Socket>>, K, T>;
 
 /// A session thread: its lines, which know its number, where it waits, its connections and where they came from, how
-/// many events the trail had when it was told that last, when it looks for idle connections, and whether somebody may
-/// wait for it at the acceptor.
+/// many events the trail had when it was told that last, when it looks for idle connections, whether somebody may wait
+/// for it at the acceptor, what is left of the run for lines, where another one follows, whether it has its
+/// connections end, since the run does, and those whose sessions are over and whose clients still send.
 struct Attendant<'a, K: Keep, T: Wait> {
     lines: &'a ThreadLines<'a, K, T>,
     watch: Watch,
@@ -56,6 +67,9 @@ struct Attendant<'a, K: Keep, T: Wait> {
     events: usize,
     looks: Option<Looks>,
     called: bool,
+    allowance: Option<&'a Allowance>,
+    ends: bool,
+    leavers: Leavers<Greeted<Socket>>,
 }
 
 /// Has each connection go on whose socket was found ready, and says whether the thread was called.
@@ -234,6 +248,7 @@ impl<'a, K: Keep, T: Wait + Clock> Attendant<'a, K, T> {
             Ok(stream) => stream,
             Err(why) => return Err(Ending::new(number, why)),
         };
+        let stream = LineStream::new(context.alloc, stream, self.allowance);
         let line = self.lines.line(number, stream);
         match self.rounds.join(line, number) {
             Ok(()) => Ok(()),
@@ -256,6 +271,16 @@ impl<'a, K: Keep, T: Wait + Clock> Attendant<'a, K, T> {
             if let Err(ending) = self.seat(context, accepted) {
                 self.part(context, acceptor, number, Counts::default(), Some(ending));
             }
+        }
+    }
+
+    /// Closes a connection whose session is over; where another run follows, once its client sends no more.
+    fn let_leave<P>(&mut self, context: &ThreadContext<'_, P, K, T>, stream: Greeted<Socket>)
+        ensures { self.new.rounds ≡ self.old.rounds }
+    {
+        match self.allowance {
+            Some(_) => self.leavers.add(stream, now(context.rt).unwrap_or(0)),
+            None => drop(stream),
         }
     }
 
@@ -284,7 +309,8 @@ impl<'a, K: Keep, T: Wait + Clock> Attendant<'a, K, T> {
             events,
         } = gone;
         self.events = events;
-        let (greeted, refused) = stream.into_parts();
+        let (lines_in, refused) = stream.into_parts();
+        let greeted = lines_in.into_inner();
         if matches!(refused, Some(JournalFault::Device(_))) {
             acceptor.stop_keeping(context.rt, context.alarms);
         }
@@ -299,7 +325,7 @@ impl<'a, K: Keep, T: Wait + Clock> Attendant<'a, K, T> {
             greeted.inner().end_output();
             self.note_refusal(context, acceptor, number, greeted.inner());
         }
-        drop(greeted);
+        self.let_leave(context, greeted);
         let counts = Counts {
             lines,
             refused: refused_lines,
@@ -348,8 +374,8 @@ impl<'a, K: Keep, T: Wait + Clock> Attendant<'a, K, T> {
                 full: _,
             } = gone;
             self.events = events;
-            let (greeted, _) = stream.into_parts();
-            drop(greeted);
+            let (lines_in, _) = stream.into_parts();
+            drop(lines_in.into_inner());
             let ending = Ending::new(number, Why::NotKept);
             self.part(
                 context,
@@ -426,12 +452,44 @@ impl<'a, K: Keep, T: Wait + Clock> Attendant<'a, K, T> {
         self.called = true;
     }
 
-    /// How long it may sleep: until it looks for idle connections, if it does and has one, else for ever.
+    /// How long it may sleep: shortly where a connection waits for its client's end; until it looks for idle connections,
+    /// if it does and has one; else for ever.
     fn sleep(&self) -> Option<Duration> {
+        if !self.leavers.is_empty() {
+            return Some(Duration::from_millis(LEAVING_APART));
+        }
         if self.rounds.len() == 0 {
             return None;
         }
         self.looks.map(|looks| looks.apart())
+    }
+
+    /// Where another run follows, and this one takes no more lines or no more connections: takes no further connection,
+    /// and has each go on that waits for its client, whose stream is at its end then. Who takes nothing for ten seconds is
+    /// cut off.
+    fn end_with_run<P, F: Write + Drop>(
+        &mut self,
+        context: &ThreadContext<'_, P, K, T>,
+        acceptor: &Acceptor<'_, F>,
+    )
+        ensures { self.new.rounds.first ≡ self.old.rounds.first }
+    {
+        let Some(allowance) = self.allowance else {
+            return;
+        };
+        if self.ends {
+            return;
+        }
+        if acceptor.is_over(context.rt, self.lines.thread()) {
+            allowance.end();
+        }
+        if !allowance.is_over() {
+            return;
+        }
+        self.ends = true;
+        acceptor.close(context.rt, context.alarms);
+        self.looks = self.looks.map(|looks| looks.within(MOST_TAKING));
+        self.rounds.stir_all();
     }
 
     /// Goes round once: who was idle for too long leaves, those that have come are taken up, each goes on that can, and
@@ -455,9 +513,18 @@ impl<'a, K: Keep, T: Wait + Clock> Attendant<'a, K, T> {
         self.note_greetings(context, acceptor);
         self.note_full(context, acceptor);
         self.see_all_off(context, acceptor);
+        self.end_with_run(context, acceptor);
+        if !self.leavers.is_empty() {
+            self.leavers.look(now(context.rt).unwrap_or(0));
+        }
         if acceptor.keeps_nothing() {
             self.see_unkept_off(context, acceptor);
         }
+    }
+
+    /// Whether all its connections are closed.
+    fn has_done(&self) -> bool {
+        self.rounds.len() == 0 && self.leavers.is_empty()
     }
 
     /// Waits until a socket is ready or the alarm is rung, if nobody can go on before, and notes who can go on.
@@ -482,6 +549,15 @@ impl<'a, K: Keep, T: Wait + Clock> Attendant<'a, K, T> {
 }
 
 impl<'a, P: Pause, K: Keep, T: Wait + Clock> ThreadContext<'a, P, K, T> {
+    /// When a session thread looks for connections that are idle. Where another run follows it looks at the time in any
+    /// case, so that it is known at the end of the run who takes nothing.
+    fn looks(&self, idle: Option<Looks>) -> Option<Looks> {
+        match (idle, self.quota.allowance()) {
+            (None, Some(_)) => Some(Looks::for_none()),
+            (looks, _) => looks,
+        }
+    }
+
     /// Serves the connections that it is given at the acceptor, all at once, until all were taken or no further one is,
     /// and those that it has are over.
     pub(crate) fn attend<F: Write + Drop>(
@@ -501,12 +577,15 @@ impl<'a, P: Pause, K: Keep, T: Wait + Clock> ThreadContext<'a, P, K, T> {
             rounds: Rounds::new(self.alloc, self.gate, pass),
             callers: Callers::new(self.alloc),
             events: 0,
-            looks: acceptor.looks(),
+            looks: self.looks(acceptor.looks()),
             called: true,
+            allowance: self.quota.allowance(),
+            ends: false,
+            leavers: Leavers::new(self.alloc),
         };
         for _ in self.rt.forever() {
             attendant.go_round(self, acceptor);
-            if attendant.rounds.len() == 0 && acceptor.is_over(self.rt, lines.thread()) {
+            if attendant.has_done() && acceptor.is_over(self.rt, lines.thread()) {
                 break;
             }
             attendant.wait(self);
@@ -519,7 +598,11 @@ impl<'a, P: Pause, K: Keep, T: Wait + Clock> ThreadContext<'a, P, K, T> {
             events: _,
             looks: _,
             called: _,
+            allowance: _,
+            ends: _,
+            leavers,
         } = attendant;
+        drop(leavers);
         drop((watch, callers));
         let pass = rounds.close();
         acceptor.thread_leaves(self.rt);

@@ -12,6 +12,7 @@ use crate::oversee::{Overseer, Oversees};
 use crate::shared::{SharedQuota, count_trail};
 use crate::threads::{join_threads, join_workers, start_sessions, start_workers};
 use crate::upkeep::Upkeep;
+use bl_allowance::allowance::Allowance;
 use bl_asked::options::Options;
 use bl_clock::clock::SharedClock;
 use bl_entrance::acceptor::{Acceptor, SharedLog};
@@ -34,8 +35,9 @@ use std::thread::{self, Scope, Threads};
 use std::time::Clock;
 
 /// What sessions are hosted with: the runtime, where memory comes from, the gate, what each turn does between a start
-/// and an end, what keeps all that has happened before a session is told, the log of connections, if there is one, and
-/// the lines of the journal's clock, if there is one.
+/// and an end, what keeps all that has happened before a session is told, the log of connections, if there is one, the
+/// lines of the journal's clock, if there is one, and the limit of the run, where another one follows, so that it ends by
+/// itself.
 #[derive(Drop)]
 pub struct HostContext<'a, P, K, T, F: Write + Drop> {
     pub rt: &'a T,
@@ -45,6 +47,7 @@ pub struct HostContext<'a, P, K, T, F: Write + Drop> {
     pub keep: &'a K,
     pub log: Option<&'a SharedLog<F>>,
     pub clock: Option<&'a SharedClock<F>>,
+    pub followed: Option<u32>,
 }
 
 /// What is left after all sessions: the pass; those that ended early, in the order in which that was told; whether each
@@ -185,8 +188,16 @@ fn run_scope<
 {
     let (rt, alloc, gate) = (host_context.rt, host_context.alloc, host_context.gate);
     let (pause, keep) = (host_context.pause, host_context.keep);
-    let counted = count_trail(rt, gate, &mut pass, plan.options.trail_limit);
-    let quota = &SharedQuota::new(counted);
+    let followed = host_context.followed;
+    let counted = count_trail(
+        rt,
+        gate,
+        &mut pass,
+        plan.options.trail_limit,
+        followed.is_some(),
+    );
+    let allowance = followed.map(|limit| Allowance::new(limit, 0));
+    let quota = &SharedQuota::new(counted, allowance);
     let bell = &Bell::new();
     let alarms = &alarms;
     let (joined, overseer, errors) = thread::scope(

@@ -2,6 +2,7 @@
 //! end is passed on from below.
 //!
 //!     context    what a thread works with, and what a worker does
+//!     leave      connections whose sessions are over, and whose clients still send
 //!     full       that no line will ever fit in the trail any more
 //!     shared     the quota of the trail, which session threads share
 //!     attend     what a session thread does
@@ -15,6 +16,7 @@ mod attend;
 mod context;
 mod full;
 pub mod host;
+mod leave;
 mod oversee;
 mod shared;
 mod threads;

@@ -1,5 +1,7 @@
 -- What a journal has kept of a gate's hall before and after its sessions.
-use Rattle.std.proofs.Common.{◌≡◌, ◌++◌, ◌∙◌, List, ap, append_assoc, append-nil, refl, sym, subst, []}
+use Rattle.std.proofs.Common.{◌≡◌, ◌++◌, ◌∙◌, List, ap, append_assoc, append-nil, refl, sym, subst, [], ℕ, Option, Some, None}
+use Rattle.std.proofs.KnownBytes.{Appends-nil}
+use Rattle.std.specs.Io.KnownBytes.{Appends}
 use Rattle.bl_audit.specs.Bookmarks.{HasGrown}
 use Rattle.bl_audit.specs.declared.bookmark.Bookmark.{Bookmark}
 use Rattle.bl_disk.specs.File.{File}
@@ -8,6 +10,9 @@ use Rattle.bl_gate.specs.Gates.{GateId, PassView, hall_seen, hall_with}
 use Rattle.bl_hall.specs.Chronicle.{Chronicle}
 use Rattle.bl_keeper.specs.Keeping.{HasKept}
 use Rattle.bl_record.specs.Kept.{IsKept}
+use Rattle.bl_serving.specs.Hosted.{IsLeft, IsLeftOf}
+use Rattle.bl_status.specs.declared.fault.ProgramFault.{ProgramFault}
+use Rattle.bl_trail_run.specs.Recording.{IsWhole}
 
 -- a hall has grown where another pass of its gate has seen more of it
 pub grown_on : (before : Chronicle) (p q : PassView) → HasGrown before (hall_seen p) → q.gate ≡ p.gate → StartsWith q.seen p.seen → HasGrown before (hall_seen q)
@@ -48,3 +53,17 @@ starts_on whole front first same w f is = (
 pub hall_of_new : (pass : PassView) (gate : GateId) (hall : Chronicle) → pass.gate ≡ gate → gate.base ≡ hall → pass.seen ≡ hall.trail → hall_seen pass ≡ hall
 hall_of_new pass gate hall of base seen =
     ap (λ (g : GateId). hall_with g.base pass.seen) of ∙ ap (hall_with gate.base) seen ∙ ap (λ (h : Chronicle). hall_with h hall.trail) base
+
+-- nothing was told
+pub nothing_appended : (a : Option (List ℕ)) → Appends a a []
+nothing_appended a = Appends-nil a
+
+-- what is left of the trail of a hall that has grown from the first one
+pub left_on : (begun hall : Chronicle) (fault : Option ProgramFault) (file : File) → HasGrown begun hall → IsLeftOf hall fault file → IsLeft begun fault file
+left_on begun hall None file grown whole = (hall, grown, whole)
+left_on begun hall (Some fault) file grown left = tt
+
+-- where there is no fault it is whole
+pub whole_of : (hall : Chronicle) (fault : Option ProgramFault) (file : File) → IsLeftOf hall fault file → fault ≡ None → IsWhole hall file
+whole_of hall None file left is = left
+whole_of hall (Some fault) file left is = cc

@@ -1,9 +1,14 @@
 -- How a run of `serve` ends whose trail is kept as it goes.
 use Rattle.std.specs.Prelude.{◌≡◌, ◌⊎◌, ◌↔◌, ℕ, zero, suc, Bool, true, false, List, ◌++◌, Option, Some, None, take}
 use Rattle.std.specs.Io.KnownBytes.{Appends, Keeps}
-use Rattle.bl_trail_run.specs.Recording.{IsWhole}
+use Rattle.bl_trail_run.specs.Files.{file_in, is_whole}
+use Rattle.bl_trail_run.specs.Recording.{HasRecorded, IsWhole}
+use Rattle.bl_trail_run.specs.declared.begin.Start.{Start}
+use Rattle.bl_trail_run.specs.declared.recorded.Recorded.{Recorded}
+use Rattle.bl_gate.specs.Gates.{hall_seen}
+use Rattle.bl_serving.specs.declared.recorded.BegunRun.{BegunRun}
 use Rattle.bl_audit.specs.Bookmarks.{HasGrown}
-use Rattle.bl_disk.specs.File.{File}
+use Rattle.bl_disk.specs.File.{File, seen}
 use Rattle.bl_hall.specs.Chronicle.{Chronicle}
 use Rattle.bl_entrance.specs.declared.ended.Ended.{Ended}
 use Rattle.bl_journal_files.specs.Telling.{cut_line}
@@ -16,6 +21,11 @@ use Rattle.bl_setup.specs.Setup.{Setup}
 use Rattle.bl_wire.specs.Watch.{EndState, Puts, Use}
 use Rattle.bl_trail_run.specs.Beginning.{Begins, IsUnbegun}
 use Rattle.bl_serving.specs.Telling.{trail_text, words_at}
+
+-- what is left of the trail of a hall: it is whole, and that of the hall; or there is a fault
+abbrev pub IsLeftOf : Chronicle → Option ProgramFault → File → Type 0
+IsLeftOf hall None file = IsWhole hall file
+IsLeftOf hall (Some fault) file = Unit {0}
 
 -- what is left of the trail of a run that began in this hall: it is whole, and that of the hall later; or there is a
 -- fault
@@ -45,6 +55,29 @@ pub record HasHosted (begun : Chronicle) (status : ℕ) (is_whole : Bool) (file 
   pub whole : (is_whole ≡ true) ↔ ((threads ≡ true) × (trail ≡ None))
   pub status_is : status ≡ status_with (status_after 0 (faults_found threads memory)) trail
   pub said : Puts (live ++ (hosted_text threads ended memory ++ trail_text trail)) before after
+
+-- the hall in which all happened, where each thread was started: it has grown from the one that the run began with, and
+-- the trail in the file is its own where it is whole
+abbrev pub IsHallOf : Chronicle → Bool → File → Option Chronicle → Type 0
+IsHallOf begun whole file None = whole ≡ false
+IsHallOf begun whole file (Some hall) = HasGrown begun hall × (whole ≡ true → IsWhole hall file)
+
+-- A gate stands round the hall that a run begins with, from such a start, and the journal has kept all of that.
+pub record HasBegun {D : Type 0} (now : D → File) (has_failed : D → Bool) (start : Start D) (setup : Setup) (limit : ℕ)
+    (run : BegunRun D) : Type 0 where
+  pub hall : Chronicle
+  pub begins : Begins start.resumes setup limit (seen (now start.device)) hall run.cut
+  pub made : run.made.1.gate ≡ run.made.0
+  pub parts : run.made.1.parts ≡ 64
+  pub sees : hall_seen run.made.1 ≡ hall
+  pub recorded : HasRecorded now has_failed run.journal hall
+
+-- Nothing was begun: why is told, and the file is left.
+abbrev pub IsUnbegunRun : {D : Type 0} → (name : D → List ℕ) → (D → File) → (D → Bool) → Start D → Setup → Recorded D
+    → EndState → EndState → Type 0
+IsUnbegunRun name now has_failed start setup ended before after = (fault : ProgramFault) × (is_whole ended.file ≡ false)
+    × (ended.status ≡ status_of fault) × Puts (words_at (file_in name ended.file) fault) before after
+    × (IsUnbegun start.resumes setup (seen (now start.device)) (file_in has_failed ended.file) fault ⊎ (fault ≡ NoMemory))
 
 -- Sessions were served: after what was cut off was told, and `listening`.
 pub record HasServed (resumes : Bool) (setup : Setup) (limit : ℕ) (text : List ℕ) (status : ℕ) (is_whole : Bool)

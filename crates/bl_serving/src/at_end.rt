@@ -169,6 +169,7 @@ where
         keep: &NoKeep,
         log: run_context.log,
         clock: run_context.clock,
+        followed: None,
     };
     let Hosted {
         pass,

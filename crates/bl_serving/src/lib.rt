@@ -4,6 +4,7 @@
 //!     serve     the run, however its trail is kept
 //!     at_end    the run whose trail is written at its end
 //!     recorded  the run with a journal
+//!     chained   a run of a chain, which another one follows
 //!     told      what is told of the sessions once they have ended
 //!     noted     what a run notes of itself in its log
 //!     fault     what ends a run with a journal beside what ends any run
@@ -11,6 +12,7 @@
 #![tactic(auto)]
 
 mod at_end;
+pub mod chained;
 mod close;
 pub mod fault;
 pub mod noted;

@@ -1,6 +1,6 @@
 //! The run of the command `serve` whose trail is kept as it goes, in a journal over a device: a new one, or that of a run
 //! that was cut off.
-ghost use Rattle.std.specs.Prelude.{◌≡◌, ◌↔◌, false, true, None};
+ghost use Rattle.std.specs.Prelude.{◌≡◌, ◌↔◌, ◌⊎◌, ◌≤◌, false, true, IfErr, IfOk, None, OnOk};
 ghost use Rattle.bl_audit.specs.Bookmarks.{HasGrown};
 ghost use Rattle.bl_disk.specs.File.{seen};
 ghost use Rattle.bl_gate.specs.Gates.{hall_seen};
@@ -12,7 +12,7 @@ ghost use Rattle.bl_status.specs.Status.{IsEnd};
 ghost use Rattle.bl_wire.specs.Watch.{Puts, end_state, used};
 ghost use Rattle.bl_trail_run.specs.Files.{fault_in, file_after, file_in, is_whole};
 ghost use Rattle.bl_trail_run.specs.Recording.{HasRecorded};
-ghost use Rattle.bl_serving.specs.Hosted.{HasHosted, IsServing, status_with};
+ghost use Rattle.bl_serving.specs.Hosted.{HasBegun, HasHosted, IsHallOf, IsServing, IsUnbegunRun, status_with};
 ghost use Rattle.bl_serving.specs.Telling.{trail_text};
 
 use crate::close::{close_after, file_of};
@@ -23,6 +23,7 @@ use bl_disk::device::Device;
 use bl_file::named::FileName;
 use bl_gate::gate::Gate;
 use bl_gate::pass::Pass;
+use bl_hall::hall::Hall;
 use bl_host::host::{HostContext, Hosted, host};
 use bl_journal_files::told::tell_cut;
 use bl_keeper::desk::Desks;
@@ -37,6 +38,7 @@ use bl_trail_run::recorded::{Recorded, RecordedFile, end_with};
 use bl_wire::put::put_out;
 use bl_wire::watched::Watched;
 use bl_worker::pause::Pause;
+use std::alloc::Global;
 use std::io::Write;
 use std::marker::Brand;
 use std::net::Net;
@@ -64,6 +66,7 @@ fn host_kept<
     gate: &Gate,
     pass: Pass,
     journal: Journal<D>,
+    followed: Option<u32>,
     errors: &mut Watched<E>,
 ) -> Hosting<D>
 where
@@ -93,6 +96,7 @@ where
         keep: &keeper,
         log: run_context.log,
         clock: run_context.clock,
+        followed,
     };
     let mut hosted = host(&host_context, entrance, pass, run.options, errors);
     let (journal, part) = keeper.finish();
@@ -130,9 +134,15 @@ fn tell_end<D: Device, E: Write>(
     }
 }
 
+/// How a run has ended whose trail is kept as it goes, and the hall in which all happened, where each thread was started.
+pub(crate) struct HostedRun<D> {
+    pub(crate) recorded: Recorded<D>,
+    pub(crate) hall: Option<Hall>,
+}
+
 /// All after `listening`: the sessions are served, what was found is told, and the journal is closed where each thread
 /// was started.
-fn host_on<
+pub(crate) fn host_on<
     D: Device + Send,
     P: Pause + Sync,
     T: Threads + Wait + Files + Net + Clock + Sync,
@@ -141,22 +151,25 @@ fn host_on<
     hosts: &Hosts<'_, P, T>,
     made: (Gate, Pass),
     journal: Journal<D>,
+    followed: Option<u32>,
     errors: &mut Watched<E>,
-) -> Recorded<D>
+) -> HostedRun<D>
 where
     T::File: Send,
     D::Synced: Send,
     requires gate { made.1.gate ≡ made.0 }
     requires parts { made.1.parts ≡ 64 }
     requires recorded { HasRecorded D.now D.has_failed journal (hall_seen made.1) }
-    ensures run { HasHosted (hall_seen made.1) result.status (is_whole result.file) (file_in D.now result.file)
-        (end_state E.contents errors.old) (end_state E.contents errors.new) }
-    ensures whole { result.status ≡ 0 → is_whole result.file ≡ true }
-    ensures range { IsEnd result.status }
+    ensures run { HasHosted (hall_seen made.1) result.recorded.status (is_whole result.recorded.file)
+        (file_in D.now result.recorded.file) (end_state E.contents errors.old) (end_state E.contents errors.new) }
+    ensures hall { IsHallOf (hall_seen made.1) (is_whole result.recorded.file) (file_in D.now result.recorded.file)
+        result.hall }
+    ensures whole { result.recorded.status ≡ 0 → is_whole result.recorded.file ≡ true }
+    ensures range { IsEnd result.recorded.status }
 {
     let (gate, pass) = made;
     let Hosting { hosted, journal } = host_kept::<Brand, D, P, T, E>(
-        hosts, &gate, pass, journal, errors,
+        hosts, &gate, pass, journal, followed, errors,
     );
     let Hosted {
         pass,
@@ -169,13 +182,75 @@ where
     if !whole {
         drop(pass);
         drop(gate);
-        return Recorded {
-            status,
-            file: RecordedFile::Left(file_of(journal)),
+        return HostedRun {
+            recorded: Recorded {
+                status,
+                file: RecordedFile::Left(file_of(journal)),
+            },
+            hall: None,
         };
     }
-    let left = close_after(hosts.run_context.alloc, gate, pass, journal);
-    tell_end(errors, status, left)
+    let hall = gate.close(pass);
+    let left = close_after(hosts.run_context.alloc, &hall, journal);
+    let recorded = tell_end(errors, status, left);
+    HostedRun {
+        recorded,
+        hall: Some(hall),
+    }
+}
+
+/// A gate round the hall that a run begins with, and the pass with all parts; its journal; the hall's limit, how many
+/// events it has, and how many bytes were cut off the file.
+#[derive(Drop)]
+pub(crate) struct BegunRun<D> {
+    pub(crate) made: (Gate, Pass),
+    pub(crate) journal: Journal<D>,
+    pub(crate) limit: u32,
+    pub(crate) events: usize,
+    pub(crate) cut: usize,
+}
+
+/// Begins a run over a setup, in its file: the gate is made, and the journal is begun, or gone on with. Where it is not
+/// begun, that is told, and the file is handed back.
+pub(crate) fn begin_run<D: Device + FileName, E: Write>(
+    alloc: Global,
+    setup: Setup,
+    limit: u32,
+    start: Start<D>,
+    errors: &mut Watched<E>,
+) -> Result<BegunRun<D>, Recorded<D>>
+    requires limited { (1 ≤ limit) × (limit ≤ 100000) }
+    requires sound { D.has_failed start.device ≡ false }
+    requires fresh { start.resumes ≡ false → IsTornHead (seen (D.now start.device)) }
+    ensures ok { IfOk result (λ begun. HasBegun D.now D.has_failed start setup limit begun) }
+    ensures quiet { OnOk result (errors.new ≡ errors.old) }
+    ensures err { IfErr result (λ ended. IsUnbegunRun D.name D.now D.has_failed start setup ended
+        (end_state E.contents errors.old) (end_state E.contents errors.new)) }
+    ensures status { IfErr result (λ ended. (ended.status ≡ 3) ⊎ (ended.status ≡ 4)) }
+{
+    let begun = match begin_in(alloc, &setup, limit, start) {
+        Ok(begun) => begun,
+        Err((fault, device)) => {
+            drop(setup);
+            return Err(end_with(errors, fault, device));
+        }
+    };
+    drop(setup);
+    let Begun { hall, journal, cut } = begun;
+    let (limit, events) = (hall.core().limit(), hall.trail().len());
+    match Gate::new(hall) {
+        Ok(made) => Ok(BegunRun {
+            made,
+            journal,
+            limit,
+            events,
+            cut,
+        }),
+        Err(refused) => {
+            drop(refused);
+            Err(end_with(errors, ProgramFault::NoMemory, file_of(journal)))
+        }
+    }
 }
 
 /// Sessions of who comes in at an entrance, over a setup, whose trail is kept in a file before any of it is told: the
@@ -215,23 +290,17 @@ where
 {
     let (run_context, run) = (hosts.run_context, hosts.run);
     let resumes = start.resumes;
-    let begun = match begin_in(run_context.alloc, &setup, run.limit, start) {
+    let begun = match begin_run(run_context.alloc, setup, run.limit, start, errors) {
         Ok(begun) => begun,
-        Err((fault, device)) => {
-            drop(setup);
-            return end_with(errors, fault, device);
-        }
+        Err(ended) => return ended,
     };
-    drop(setup);
-    let Begun { hall, journal, cut } = begun;
-    let (limit, events) = (hall.core().limit(), hall.trail().len());
-    let made = match Gate::new(hall) {
-        Ok(made) => made,
-        Err(refused) => {
-            drop(refused);
-            return end_with(errors, ProgramFault::NoMemory, file_of(journal));
-        }
-    };
+    let BegunRun {
+        made,
+        journal,
+        limit,
+        events,
+        cut,
+    } = begun;
     tell_cut(errors, cut);
     if !put_out(writer, b"listening\n") {
         drop(made);
@@ -241,5 +310,7 @@ where
     if resumes {
         note_resumed(run_context, events, cut);
     }
-    host_on(hosts, made, journal, errors)
+    let HostedRun { recorded, hall } = host_on(hosts, made, journal, None, errors);
+    drop(hall);
+    recorded
 }

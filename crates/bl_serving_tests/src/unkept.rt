@@ -132,6 +132,7 @@ where
         keep,
         log,
         clock: None,
+        followed: None,
     };
     let mut errors = Watched::new(Vec::new(rt.alloc()));
     let options = Options {

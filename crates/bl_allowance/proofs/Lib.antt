@@ -1,0 +1,5 @@
+mod Counting
+mod Giving
+mod Holding
+mod Offering
+mod Taking

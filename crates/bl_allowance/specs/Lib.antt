@@ -1,0 +1,4 @@
+pub mod Buffers
+pub mod Intakes
+pub mod Lines
+pub mod Streams
