@@ -5,7 +5,8 @@
 
 What it does: it talks to the server that answers first at a WHERE, which is a port of 127.0.0.1, a Unix socket, or the
 folder of a door. At a terminal it sends each line as it is whole, and says what a refusal means (`help` says more).
-From a pipe it sends what it reads as it comes, and prints each reply as it comes.
+From a pipe it sends what it reads as it comes, and prints each reply as it comes. Where the server's run ends, and
+another one follows, it goes on there by itself: all is answered as in one session.
 What it needs: Python 3.8 or later, and its standard library alone.
 What it prints: the replies, byte by byte, on standard output; all other words on standard error. Status: 0, the session
 ended with `bye`, and with --stop all was done; 1, the greeting or, with --stop, a line was not done; 2, bad arguments;
@@ -13,7 +14,11 @@ ended with `bye`, and with --stop all was done; 1, the greeting or, with --stop,
 
 `Session` is for programs. A block is the lines up to a `wait`, and nothing of it is answered before that. The server
 does not read while it writes, so whoever sends block after block and reads nothing may wait for ever. A `Session` sends
-a block and reads its replies; from a pipe, one thread sends and another reads."""
+a block and reads its replies; from a pipe, one thread sends and another reads.
+
+A server of a chain ends each connection by `bye` where its run ends. At the end of a connection all that was admitted
+is answered before the `bye`. So a line without its reply was not admitted, and may be sent again; that is done here.
+A connection that ends without `bye` says nothing of the kind, and then nothing is sent again."""
 import argparse
 import atexit
 import difflib
@@ -21,11 +26,13 @@ import io
 import itertools
 import json
 import os
+import random
 import re
 import socket
 import sys
 import threading
-from collections import namedtuple
+import time
+from collections import deque, namedtuple
 from contextlib import suppress
 
 Reply = namedtuple("Reply", "label verdict words texts")
@@ -36,12 +43,17 @@ WORD = re.compile(r"[a-z][a-z0-9_]*")
 TEXT = re.compile(r'"[^"]*("|$)')
 GREETING = re.compile(r"[ \t]*hello[ \t]+([a-z][a-z0-9_]{0,31})[ \t]*\r?")
 LABEL = r"[1-9][0-9]*(?:\.[1-9][0-9]*)*"
+LABELLED = re.compile(rb"([1-9][0-9]*)([. ])")
 REPLY = re.compile(rf'({LABEL}) (?:(done)((?: "[ !#-\[\]-~]*")*)|(lost)|(denied|refused)((?: [a-z0-9_]+)+))')
 
 STATUSES = """Status: 0, the session ended with `bye`, and with --stop all was done; 1, the greeting or, with --stop, a
 line was not done; 2, bad arguments; 3, nobody answered, or a session ended early. docs/FORMATS.md has the language."""
 HISTORY, HISTORY_LINES = "~/.bl_client_history", 1000
 COLUMNS = 72  # of a line in which a place is shown
+OK, BYE = b"ok\n", b"bye\n"
+TRIES, PAUSE = 100, 0.1  # connections in a row without an answer, at a changeover, and the longest pause between two
+AHEAD = 16  # so many pieces of the input are read that were not sent
+LONG = 65536  # the bytes that a connection surely takes before any are read
 
 # The words of the grammar, which are completed.
 WORDS = """hello give rescind current classify when read append write do end show say add set copy pour to if is has
@@ -82,17 +94,22 @@ HELP = """A line is a request. It may go on over several lines, until each `when
 class Ended(ConnectionError):
     """The session ended early, or its greeting was refused. `told` has the lines told before that and not yet given.
     `open` has the numbers of the lines that may have run or not: their replies, or those of what they spawned, did not
-    come whole."""
+    come whole. A line that was not answered and is not in it did not run."""
 
     def __init__(self, why, told=(), unanswered=()):
         self.why, self.told, self.open = why, list(told), list(unanswered)
         super().__init__(f"{why}: {said_open(self.open)}" if self.open else why)
 
 
+def said_lines(numbers):
+    """Names these lines, which follow each other."""
+    first, last = numbers[0], numbers[-1]
+    return f"line {first}" if first == last else f"lines {first} to {last}"
+
+
 def said_open(numbers):
     """A sentence about these lines, of which nobody knows whether they ran."""
-    first, last = numbers[0], numbers[-1]
-    return f"line {first} may have run or not" if first == last else f"lines {first} to {last} may have run or not"
+    return f"{said_lines(numbers)} may have run or not"
 
 
 def read_reply(line):
@@ -160,7 +177,7 @@ def entered(where, subject, asks):
             return one, reader, None
         one.sendall(f"hello {subject}\n".encode() if subject else b"wait\n")
         told = reader.readline()
-        return one, reader, reader.readline() if told == b"ok\n" and not subject else told
+        return one, reader, reader.readline() if told == OK and not subject else told
     except BaseException:
         one.close()
         raise
@@ -172,14 +189,59 @@ def first_entered(places, subject, asks=True):
     for where in places:
         try:
             one, reader, told = entered(where, subject, asks)
+            if told == BYE:  # a run ended before the greeting was heard
+                leave(one, reader)
+                return (where, *entered_again(where, subject, asks, pauses()))
             if told != b"":
                 return where, one, reader, told
-            reader.close()
-            one.close()
+            leave(one, reader)
             failed.append(f"{where} (the connection ended)")
         except OSError as error:
             failed.append(f"{where} ({error.strerror or error})")
     raise ConnectionError("nobody answers at " + ", nor at ".join(failed))
+
+
+def pauses():
+    """For how many seconds a client waits before each further connection, where the one before brought no answer.
+    The first ones follow at once, and then chance keeps clients apart."""
+    for number in range(TRIES):
+        yield random.uniform(0, min(PAUSE, 0.001 * 2 ** (number - 3))) if number > 2 else 0
+
+
+def entered_again(where, subject, asks, waits):
+    """A connection to the place of a server whose run has ended, as `entered` gives it. It waits until the next run
+    takes it. ConnectionError says why there is none after all these pauses."""
+    soon = why = "its runs end too soon"
+    for seconds in waits:
+        time.sleep(seconds)
+        try:
+            one, reader, told = entered(where, subject, asks)
+            if told not in (b"", BYE):
+                return one, reader, told
+            leave(one, reader)
+            why = soon if told else "the connection ended"
+        except OSError as error:
+            why = error.strerror or str(error)
+    raise ConnectionError(why)
+
+
+def leave(one, reader, sender=None):
+    """Closes a connection and its reader. A thread that still sends ends before that."""
+    if sender:
+        with suppress(OSError):
+            one.shutdown(socket.SHUT_RDWR)
+        sender.join()
+    with suppress(OSError):
+        reader.close()
+    one.close()
+
+
+def send_whole(one, data, ends):
+    """Sends these bytes, and ends the output if that is asked. A server that has ended may have told something."""
+    with suppress(OSError):
+        one.sendall(data)
+        if ends:
+            one.shutdown(socket.SHUT_WR)
 
 
 def lines_told(reader):
@@ -188,13 +250,19 @@ def lines_told(reader):
         yield from iter(reader.readline, b"")
 
 
+def bare(line):
+    """A line without a CR at its end, and without blanks round it."""
+    return (line[:-1] if line.endswith("\r") else line).strip(" \t")
+
+
 def is_work(line):
     """Whether the server gives a number to this line."""
-    return (line[:-1] if line.endswith("\r") else line).strip(" \t") not in ("", "wait")
+    return bare(line) not in ("", "wait")
 
 
 class Session:
-    """A session, at the first of these places that answers. `subject` is who speaks; a door says that itself."""
+    """A session, at the first of these places that answers. `subject` is who speaks; a door says that itself. Where a
+    run ends it goes on in the next one, and its lines are numbered on."""
 
     def __init__(self, *places, subject=None):
         fault = fault_of(places, subject)
@@ -203,10 +271,8 @@ class Session:
         self.where, self.socket, self.reader, told = first_entered(places, subject)
         self.subject = door_of(self.where) or subject
         self.last = self.answered = 0
-        self._block = []
-        if told != b"ok\n":
-            lines = [line.decode("latin-1").rstrip("\n") for line in [told, *lines_told(self.reader)]]
-            self._end(lines[0] if lines[0].startswith("refused ") else f"this is no greeting: {lines[0][:60]!r}", lines)
+        self._block, self._before, self._is_over, self._sender = [], 0, False, None
+        self._begin(told, [])
 
     def __enter__(self):
         return self
@@ -251,14 +317,24 @@ class Session:
 
     def drop(self):
         """Cuts the connection, without hearing it out."""
-        with suppress(OSError):
-            self.reader.close()
-        self.socket.close()
+        leave(self.socket, self.reader, self._sender)
+        self._sender = None
 
-    def _end(self, why, told=()):
-        """Ends the session early. It tells what was told before that, and which lines may have run or not."""
+    def _begin(self, greeting, told):
+        """A connection was told this first. Before that, these lines were told which are not given yet."""
+        if greeting == OK:
+            self._before, self._is_over = self.answered, False
+            return
+        lines = [line.decode("latin-1").rstrip("\n") for line in [greeting, *lines_told(self.reader)]]
         self.drop()
-        raise Ended(why, told, range(self._first_open(told), self.last + 1))
+        why = lines[0] if lines[0].startswith("refused ") else f"this is no greeting: {lines[0][:60]!r}"
+        raise Ended(why, told + lines)
+
+    def _end(self, why, told, count):
+        """Ends the session early. It tells what was told, of which this connection told so many lines, and which lines
+        may have run or not."""
+        self.drop()
+        raise Ended(why, told, range(self._first_open(told[len(told) - count:]), self.last + 1))
 
     def _first_open(self, told):
         """The number of the first line whose replies, and those of what it spawned, have not come whole."""
@@ -270,26 +346,61 @@ class Session:
         return label[0] + (not spawns or (len(label) == 1 and verdict != "done"))
 
     def _replies(self, ask, end):
-        """Sends the block and this question, and gives the replies up to this end."""
-        block = "".join([line + "\n" for line in self._block] + [ask])
-        with suppress(OSError):  # the server may have told something before it ended
-            self.socket.sendall(block.encode(errors="surrogateescape"))
-            if end == "bye\n":
-                self.socket.shutdown(socket.SHUT_WR)
-        told, number = [], self.answered
+        """Sends the block and this question, and gives the replies up to this end. Where a run ends before that, the
+        lines without a reply were not admitted, and are sent again in the next one."""
+        if self.socket.fileno() < 0:
+            raise Ended("the session is over")
+        told, waits = [], pauses()
+        while not self._is_over or self._block:
+            if self._is_over:
+                self._enter_again(told, waits)
+            self._ask(ask, end)
+            answered = self.answered
+            if self._hear(end, told):
+                break
+            waits = pauses() if self.answered > answered else waits
+        return told
+
+    def _enter_again(self, told, waits):
+        """Opens another connection, since the run has ended in which the one before was served."""
+        self.drop()
+        try:
+            self.socket, self.reader, greeting = entered_again(self.where, self.subject, True, waits)
+        except OSError as error:
+            lines = said_lines([self.answered + 1, self.last])
+            raise Ended(f"nobody answers at {self.where} ({error}): {lines} did not run", told) from None
+        self._begin(greeting, told)
+
+    def _ask(self, ask, end):
+        """Sends the block and this question. Of a long block the front may be answered while the rest is still sent,
+        since a run ends."""
+        block = "".join([line + "\n" for line in self._block] + [ask]).encode(errors="surrogateescape")
+        what = self.socket, block, end == "bye\n"
+        if len(block) <= LONG:
+            return send_whole(*what)
+        self._sender = threading.Thread(target=send_whole, args=what, daemon=True)
+        return self._sender.start()
+
+    def _hear(self, end, told):
+        """Adds to `told` what is told up to this end, or up to the `bye` of a run that ends. It says whether all was
+        answered."""
+        number, before = self.answered, len(told)
         for line in lines_told(self.reader):
             line = line.decode("latin-1")
-            if line == end and number == self.last:
-                self._block, self.answered = [], self.last
-                return told
+            if line == "bye\n" or (line == end and number == self.last):
+                self._block, self.answered = self._block[number - self.answered:], number
+                self._is_over = line == "bye\n"
+                return line == end and not self._block
             if not line.endswith("\n"):
                 break
             found = REPLY.fullmatch(line, 0, len(line) - 1)
             number += bool(found) and "." not in found[1]
-            if not (found and self.answered < number <= self.last and int(found[1].split(".")[0]) == number):
-                self._end(f"this is no reply to line {max(number, self.answered + 1)}: {line.strip()[:60]!r}", told)
-            told.append(line[:-1])
-        return self._end("the session ended", told)
+            label = found[1].split(".")[0] if found else ""
+            if not (found and self.answered < number <= self.last and int(label) + self._before == number):
+                why = f"this is no reply to line {max(number, self.answered + 1)}: {line.strip()[:60]!r}"
+                self._end(why, told, len(told) - before)
+            told.append(str(number) + line[len(label):-1] if self._before else line[:-1])
+        return self._end("the session ended", told, len(told) - before)
 
 
 def is_whole(text):
@@ -550,21 +661,6 @@ def is_done(session, line):
     return all(read_reply(told).verdict == "done" for told in replies)
 
 
-def send_all(one, lines):
-    """Sends what is read as it comes. Where the server takes no more, what it says is still read."""
-    with suppress(OSError):
-        while True:
-            try:
-                data = lines.read(65536)
-            except OSError as error:
-                note(f"the input cannot be read: {error.strerror}")
-                return one.shutdown(socket.SHUT_RDWR)
-            if not data:
-                return one.shutdown(socket.SHUT_WR)
-            one.sendall(data)
-    return None
-
-
 def as_json(line):
     """A line that was told, as an object on a line. A torn one is no reply."""
     text = line.decode("latin-1")
@@ -574,18 +670,210 @@ def as_json(line):
     return json.dumps({**parts, "label": ".".join(map(str, parts["label"]))}).encode() + b"\n"
 
 
+class Unanswered:
+    """What was read of the input of a session, and is not answered yet: whole lines, and what has come of one.
+    `answered` counts the lines that are, in all connections, and `steps` what else was answered with them."""
+
+    def __init__(self, may_greet):
+        self.greeting, self.may_greet, self.is_greeted = None, may_greet, False
+        self.lines, self.rest, self.drops = deque(), bytearray(), False
+        self.answered = self.before = self.steps = 0
+        self.is_first = True  # the next line that is told is the first one of its connection
+
+    def read(self, data):
+        """Takes what was read, and gives what of it is to be sent: not the rest of a line that is refused already."""
+        if self.drops:
+            _, end, data = data.partition(b"\n")
+            self.drops = not end
+        *ends, rest = data.split(b"\n")
+        for end in ends:
+            self._add(bytes(self.rest + end))
+            self.rest.clear()
+        self.rest += rest
+        return data
+
+    def end(self):
+        """The input is at its end: what stands there is a line."""
+        self._add(bytes(self.rest))
+        self.rest.clear()
+
+    def _add(self, line):
+        text = line.decode("latin-1")
+        if self.may_greet and is_work(text):
+            self.may_greet = False
+            if GREETING.fullmatch(text):
+                self.greeting = line
+                return
+        if bare(text):
+            self.lines.append((line, is_work(text)))
+
+    def is_due(self):
+        """Whether there is something to be answered by another connection. A part of a line may wait for its end."""
+        return bool(self.lines) or (self.greeting is not None and not self.is_greeted)
+
+    def hear(self, line):
+        """A line is told. What is shown of it: its label goes on from the connections before; b"" is nothing."""
+        is_first, self.is_first = self.is_first, False
+        if is_first:
+            is_told, self.is_greeted = self.is_greeted, self.is_greeted or line == OK
+            return b"" if is_told and line == OK else line
+        found = LABELLED.match(line)
+        if not found:
+            if line == OK:
+                self._pass_wait()
+            return line
+        number = self.before + int(found[1])
+        while found[2] == b" " and self.answered < number:
+            self._answer()
+        return b"%d" % number + line[found.end(1):] if self.before else line
+
+    def _answer(self):
+        """The next line is answered. One that is too long may be so before its end has come."""
+        self.answered += 1
+        self.steps += 1
+        while self.lines:
+            if self.lines.popleft()[1]:
+                return
+        self.drops = bool(self.rest)
+        self.rest.clear()
+
+    def _pass_wait(self):
+        """All lines up to the next `wait` are answered, and so is that."""
+        self.steps += 1
+        while self.lines and self.lines.popleft()[1]:
+            pass
+
+    def again(self):
+        """Another connection begins. What is sent there first."""
+        self.before, self.is_first = self.answered, True
+        lines = [self.greeting] if self.greeting is not None else []
+        return b"".join(line + b"\n" for line in [*lines, *(line for line, _ in self.lines)]) + self.rest
+
+
+class Passage:
+    """A session from a pipe. One thread reads the input, another sends it, and what is told is printed meanwhile."""
+
+    def __init__(self, places, subject, told_as):
+        self.where, self.socket, self.reader, self.first = first_entered(places, subject, asks=False)
+        self.subject, self.told_as = subject, told_as
+        self.left = Unanswered(self.first is None)
+        self.changed, self.due = threading.Condition(), deque()
+        self.has_ended = self.has_failed = False
+
+    def run(self, lines):
+        """Sends what is read as it comes, and prints what is told as it comes. The status."""
+        threading.Thread(target=self.read, args=(lines,), daemon=True).start()
+        begun, waits = b"", pauses()
+        while True:
+            sender = threading.Thread(target=self.send, args=(self.socket,), daemon=True)
+            sender.start()
+            steps = self.left.steps
+            first, last = self.hear()
+            begun = begun or (first if first != BYE else b"")
+            if last != BYE or begun.startswith(b"refused "):
+                break
+            self.leave(sender)
+            if not self.goes_on():
+                break
+            waits = pauses() if self.left.steps > steps else waits
+            self.enter_again(waits)
+        if last == BYE and not self.has_failed:
+            tell(self.told_as(last))
+            return 1 if begun.startswith(b"refused ") else 0
+        note("the session ended: a line without its reply may have run or not")
+        return 3
+
+    def read(self, lines):
+        """Reads the input, and has it sent as it comes."""
+        data = b"?"
+        while data:
+            try:
+                data = lines.read(65536)
+            except OSError as error:
+                note(f"the input cannot be read: {error.strerror}")
+                self.fail()
+                return
+            with self.changed:
+                if data:
+                    self.put(self.left.read(data))
+                else:
+                    self.left.end()
+                    self.has_ended = True
+                self.changed.notify_all()
+                self.changed.wait_for(lambda: len(self.due) < AHEAD)
+
+    def put(self, data):
+        """Has this sent, where there is a connection; else it is sent with all that is not answered."""
+        if self.socket and data:
+            self.due.append(data)
+
+    def fail(self):
+        """Cuts the connection."""
+        with self.changed:
+            self.has_failed = True
+            if self.socket:
+                with suppress(OSError):
+                    self.socket.shutdown(socket.SHUT_RDWR)
+            self.changed.notify_all()
+
+    def send(self, one):
+        """Sends what is due by this connection, and ends its output at the end of the input. Where the server takes no
+        more, what it says is still read."""
+        with suppress(OSError):
+            while True:
+                with self.changed:
+                    self.changed.wait_for(lambda: self.socket is not one or self.due or self.has_ended)
+                    if self.socket is not one:
+                        return None
+                    data = self.due.popleft() if self.due else b""
+                    self.changed.notify_all()
+                if not data:
+                    return one.shutdown(socket.SHUT_WR)
+                one.sendall(data)
+        return None
+
+    def hear(self):
+        """Prints what is told by this connection, up to its `bye`. Its first and its last line."""
+        first = last = b""
+        for line in itertools.chain([self.first] if self.first else [], lines_told(self.reader)):
+            first, last = first or line, line
+            if line == BYE:
+                break
+            with self.changed:
+                shown = self.left.hear(line)
+            if shown:
+                tell(self.told_as(shown))
+        return first, last
+
+    def goes_on(self):
+        """Waits until something is to be answered in the next run. It is false where the input has ended before."""
+        with self.changed:
+            self.changed.wait_for(lambda: self.left.is_due() or self.has_ended or self.has_failed)
+            return self.left.is_due() and not self.has_failed
+
+    def leave(self, sender):
+        """Closes the connection, once its thread has ended."""
+        with self.changed:
+            one, self.socket = self.socket, None
+            self.changed.notify_all()
+        leave(one, self.reader, sender)
+
+    def enter_again(self, waits):
+        """Opens another connection, by which all is sent that is not answered."""
+        try:
+            one, self.reader, self.first = entered_again(self.where, self.subject, False, waits)
+        except OSError as error:
+            words = f"nobody answers at {self.where} ({error}): a line without its reply did not run"
+            raise ConnectionError(words) from None
+        with self.changed:
+            self.socket = one
+            self.due = deque([self.left.again()])
+            self.changed.notify_all()
+
+
 def pass_on(places, subject, lines, told_as):
     """Sends what is read as it comes, and prints what is told as it comes. The status."""
-    _, one, reader, first = first_entered(places, subject, asks=False)
-    threading.Thread(target=send_all, args=(one, lines), daemon=True).start()
-    last = b""
-    for line in itertools.chain([first] if first else [], lines_told(reader)):
-        tell(told_as(line))
-        first, last = first or line, line
-    if last == b"bye\n":
-        return 1 if first.startswith(b"refused ") else 0
-    note("the session ended: a line without its reply may have run or not")
-    return 3
+    return Passage(places, subject, told_as).run(lines)
 
 
 def arguments():

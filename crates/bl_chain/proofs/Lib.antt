@@ -1,0 +1,4 @@
+pub mod Exits
+pub mod Spans
+pub mod Reasons
+pub mod Looking

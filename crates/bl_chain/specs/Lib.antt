@@ -1,0 +1,7 @@
+pub mod Faults
+pub mod Setups
+pub mod Faulty
+pub mod Unread
+pub mod Refused
+pub mod AtHand
+pub mod Telling

@@ -1,0 +1,3 @@
+pub mod Apart
+pub mod Taking
+pub mod Starting

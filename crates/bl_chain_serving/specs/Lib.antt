@@ -1,0 +1,4 @@
+pub mod Following
+pub mod Closing
+pub mod Going
+pub mod Telling
