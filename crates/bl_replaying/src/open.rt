@@ -26,7 +26,7 @@ use std::io::Write;
 
 /// What a trail is that may be open.
 #[derive(Clone, Copy, Debug, PartialEq, Eq)]
-enum Finding {
+pub enum Finding {
     /// It has so many events, and lacks its closing `stop`; behind its last line so many bytes of a torn one stand.
     Open { events: u64, torn: usize },
     /// It is closed, or wrong.
@@ -74,8 +74,9 @@ fn find_rejected(
     }
 }
 
-/// What the trail of these bytes is over a setup.
-fn find(alloc: Global, setup: &Setup, trail: &[u8]) -> Result<Finding, AllocError>
+/// What the trail of these bytes is over a setup: open, where its whole lines lack the closing `stop` and nothing else; else
+/// closed, or wrong at its first line that is not right. An error comes only where a growth is refused.
+pub fn find(alloc: Global, setup: &Setup, trail: &[u8]) -> Result<Finding, AllocError>
     ensures { IfOk result (IsFound setup.now trail.now) }
 {
     match replay(alloc, setup, trail)? {

@@ -1,0 +1,5 @@
+pub mod Ends
+pub mod Steps
+pub mod Reasons
+pub mod Journals
+pub mod Passing

@@ -1,0 +1,4 @@
+pub mod Noted
+pub mod Journal
+pub mod Closed
+pub mod Untrue
