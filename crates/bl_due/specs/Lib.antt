@@ -1,0 +1,4 @@
+pub mod Due
+pub mod Items
+pub mod Points
+pub mod Misfits

@@ -1,0 +1,9 @@
+pub mod Parting
+pub mod Leading
+pub mod Failing
+pub mod Places
+pub mod Tokens
+pub mod Lengths
+pub mod Spots
+pub mod Lines
+pub mod Locating

@@ -1,0 +1,6 @@
+use Rattle.std.proofs.Common.{◌≡◌, take}
+use Rattle.bl_spot.proofs.before.subjects.Given as goal
+
+-- the names so far
+abbrev pub invariant-loop-place : goal.invariant-loop-place
+invariant-loop-place l = l.listed.items ≡ take l.place l.names.subjects

@@ -1,0 +1,4 @@
+pub mod Parts
+pub mod Asking
+pub mod Tokens
+pub mod Located
