@@ -1,0 +1,4 @@
+pub mod Held
+pub mod Unasked
+pub mod Nones
+pub mod Nexts

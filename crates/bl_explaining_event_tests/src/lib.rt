@@ -1,0 +1,16 @@
+//! Tests of the command `explain` of an event, over the ends that it is given.
+//!
+//!     base      runs, and what is asserted of how they end
+//!     starts    what is told of the starts of a day
+//!     faults    what is said where nothing is explained
+//!     memory    what comes of a run where a growth is refused
+#![tactic(auto)]
+
+#[cfg(test)]
+mod base;
+#[cfg(test)]
+mod faults;
+#[cfg(test)]
+mod memory;
+#[cfg(test)]
+mod starts;

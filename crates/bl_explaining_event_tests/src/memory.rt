@@ -1,0 +1,66 @@
+//! What comes of a run where a growth is refused. With ample memory the test here passes by what is written alone. It
+//! passes whatever single growth is refused too: `bench/growths` refuses each in turn, and tells so by a file.
+use crate::base::asks;
+use bl_explaining_event::explain::explain_event_on;
+use bl_wire::watched::Watched;
+use std::io::{Print, Write};
+use std::rt::Files;
+use std::{fs, io};
+
+/// A setup with a document that is not there yet.
+const SETUP: &[u8] = b"ranks u s\ncategories\nsubject ann greatest s current s trusted admin\n\
+    reserve memo s\n";
+
+/// A trail that creates it, gives a right to it, and has a child that uses it.
+const TRAIL: &[u8] = b"trail 2\nlimit 9\nopen ann\nline 0 1 create memo\nline 0 2 give ann memo a\n\
+    start 0 rule\nstart 1 rule\n\
+    line 0 3 when append memo do spawn when append memo do add memo\"x\";end;end\n\
+    start 2 run\nend 2 done\nstart 3 run\n";
+
+/// How many bytes are told of the child.
+const WRITTEN: u64 = 398;
+
+/// Whether a growth was refused so far: who refuses one writes this file then, in the folder where the test runs.
+fn was_refused(rt: &impl Files) -> bool {
+    !matches!(fs::exists(rt, "refused"), Ok(false))
+}
+
+/// Says what came of a run.
+fn say(rt: &impl Print, came: &str) {
+    let _ = println!(rt; "{came}");
+}
+
+/// A writer that takes no memory: it counts the bytes that it takes.
+#[derive(Drop)]
+struct Counting {
+    bytes: u64,
+}
+
+impl Write for Counting {
+    fn write(&mut self, buf: &[u8]) -> io::Result<usize> {
+        self.bytes = self.bytes.wrapping_add(buf.len() as u64);
+        Ok(buf.len())
+    }
+
+    fn flush(&mut self) -> io::Result<()> {
+        Ok(())
+    }
+}
+
+#[test]
+fn a_child(rt: HostRuntime) {
+    let mut writer = Watched::new(Counting { bytes: 0 });
+    let mut errors = Watched::new(Counting { bytes: 0 });
+    let before = was_refused(&rt);
+    let status = explain_event_on(rt.alloc(), SETUP, TRAIL, &asks(9), &mut writer, &mut errors);
+    let said = errors.into_inner().bytes;
+    if status == 0 {
+        assert_eq!(rt; writer.into_inner().bytes, WRITTEN);
+        assert_eq!(rt; said, 0);
+        return say(&rt, "own");
+    }
+    assert_eq!(rt; status, 4);
+    assert_eq!(rt; said, 10);
+    assert!(rt; !before && was_refused(&rt), "no growth was refused");
+    say(&rt, "out of memory");
+}
