@@ -1,0 +1,30 @@
+use Rattle.std.proofs.Common.{◌≡◌, ◌<◌, ◌≤◌, ℕ, Bool, true, false, ap, sym, ◌∙◌, arith, length, Some}
+use Rattle.bl_level.specs.Level.{SecurityLevel}
+use Rattle.bl_policy.specs.Policy.{level_of}
+use Rattle.bl_rights.specs.Remarks.{alters_below}
+use Rattle.bl_rights.proofs.Numbers.{find-here, find-next, find-none}
+use Rattle.bl_rights.proofs.remarks.way_end.Goals as goal
+
+pub returns-then-alters_below-clause-value : goal.returns-then-alters_below-clause-value
+returns-then-alters_below-clause-value c =
+    let p = c.args.policy.now in
+    let place = c.loop-place.place in
+    let test : ℕ → Bool = λ o. alters_below p c.args.subject (level_of p c.args.from) o in
+    let within : place < length p.documents = omega (arith, c.loop-place-test.true, c.documents-many.ensures.value) in
+    let holds : test place ≡ true = sym (ap test c.new-doc.ensures) ∙ sym (c.alters_below.ensures ∙ ap (λ (x : SecurityLevel). alters_below p c.args.subject x c.new-doc.result) c.level-level.ensures) ∙ c.if-alters_below.true in
+    ap (λ x. Some x) c.new-doc.ensures ∙ sym (c.loop-place.invariant ∙ find-here test place (length p.documents) within holds)
+
+pub loop-place-preserved : goal.loop-place-preserved
+loop-place-preserved c =
+    let p = c.args.policy.now in
+    let place = c.loop-place.place in
+    let test : ℕ → Bool = λ o. alters_below p c.args.subject (level_of p c.args.from) o in
+    let within : place < length p.documents = omega (arith, c.loop-place-test.true, c.documents-many.ensures.value) in
+    let fails : test place ≡ false = sym (ap test c.new-doc.ensures) ∙ sym (c.alters_below.ensures ∙ ap (λ (x : SecurityLevel). alters_below p c.args.subject x c.new-doc.result) c.level-level.ensures) ∙ c.if-alters_below.false in
+    c.loop-place.invariant ∙ find-next test place (length p.documents) within fails
+
+pub returns-clause-value : goal.returns-clause-value
+returns-clause-value c =
+    let p = c.args.policy.now in
+    let over : length p.documents ≤ c.loop-place.place = omega (arith, c.loop-place-test.false, c.documents-many.ensures.value) in
+    sym (c.loop-place.invariant ∙ find-none (λ o. alters_below p c.args.subject (level_of p c.args.from) o) c.loop-place.place (length p.documents) over)

@@ -1,0 +1,28 @@
+use Rattle.std.proofs.Common.{◌≡◌, ◌+◌, ◌∙◌, ap, ap₂, arith, length, sym}
+use Rattle.std.specs.Prelude.{sum_by}
+use Rattle.std.specs.List.{range_with_len}
+use Rattle.std.proofs.lemmas.List.Sums.{sum_by_push}
+use Rattle.bl_rights.specs.Rows.{right_count}
+use Rattle.bl_rights.proofs.Numbers.{one-more}
+use Rattle.bl_rights.proofs.rows.rights_of.Goals as goal
+
+pub loop-place-preserved : goal.loop-place-preserved
+loop-place-preserved c =
+    let p = c.args.policy.now in
+    let s = c.args.subject in
+    let place = c.loop-place.place in
+    let more : c.right_count-count.result ≡ right_count p s place = c.right_count-count.ensures.value ∙ ap (λ o. right_count p s o) c.new-doc.ensures in
+    record {
+      counted = ap₂ (λ a b. a + b) c.loop-place.invariant.counted more
+          ∙ sym (ap (sum_by (λ o. right_count p s o)) (one-more place) ∙ sum_by_push (λ o. right_count p s o) (range_with_len 0 place) place);
+      within = omega (arith, c.loop-place.invariant.within, c.right_count-count.ensures.within);
+    }
+
+pub returns-clause-value : goal.returns-clause-value
+returns-clause-value c =
+    let p = c.args.policy.now in
+    let all : c.loop-place.place ≡ length p.documents = omega (arith, c.loop-place-test.false, c.loop-place.auto.place-end, c.documents-many.ensures.value) in
+    c.loop-place.invariant.counted ∙ ap (λ n. sum_by (λ o. right_count p c.args.subject o) (range_with_len 0 n)) all
+
+pub returns-clause-within : goal.returns-clause-within
+returns-clause-within c = omega (arith, c.loop-place.invariant.within, c.loop-place.auto.place-end, c.documents-many.ensures.within)

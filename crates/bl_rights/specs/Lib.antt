@@ -1,0 +1,3 @@
+pub mod Permissions
+pub mod Rows
+pub mod Remarks

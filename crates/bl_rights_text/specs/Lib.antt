@@ -1,0 +1,4 @@
+pub mod Remarks
+pub mod Table
+pub mod Fronts
+pub mod Stretches
