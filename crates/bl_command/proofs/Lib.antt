@@ -1,3 +1,4 @@
+pub mod Crossing
 pub mod Statuses
 pub mod Reading
 pub mod Sessions

@@ -5,8 +5,8 @@ use Rattle.bl_asked.specs.declared.trail.TrailFile.{TrailFile}
 use Rattle.bl_file.specs.declared.kept.Keeping.{Keeping}
 use Rattle.bl_setup.specs.Setup.{Setup}
 use Rattle.bl_status.specs.Runs.{Run}
-use Rattle.bl_words.specs.declared.command.TrailKeeping.{TrailKeeping}
-use Rattle.bl_words.specs.declared.command.TrailKeeping.TheVariants.{AtEnd, Written, Synced}
+use Rattle.bl_options.specs.declared.trail.TrailKeeping.{TrailKeeping}
+use Rattle.bl_options.specs.declared.trail.TrailKeeping.TheVariants.{AtEnd, Written, Synced}
 use Rattle.bl_command.specs.Asked.{keeping_asked}
 use Rattle.bl_command.specs.Runs.{EndsAlone}
 

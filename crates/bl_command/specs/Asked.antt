@@ -6,8 +6,8 @@ use Rattle.bl_status.specs.Failure.{IsNoSetup}
 use Rattle.bl_status.specs.declared.fault.ProgramFault.{ProgramFault}
 use Rattle.bl_file.specs.declared.kept.Keeping.{Keeping}
 use Rattle.bl_file.specs.declared.kept.Keeping.TheVariants as lines
-use Rattle.bl_words.specs.declared.command.TrailKeeping.{TrailKeeping}
-use Rattle.bl_words.specs.declared.command.TrailKeeping.TheVariants as words
+use Rattle.bl_options.specs.declared.trail.TrailKeeping.{TrailKeeping}
+use Rattle.bl_options.specs.declared.trail.TrailKeeping.TheVariants as words
 
 -- what was read of these bytes of a setup file: the setup that they are, or why they are none
 abbrev pub IsReadAs : List ℕ → Result Setup ProgramFault → Type 0

@@ -1,5 +1,5 @@
 -- How a run of a command ends.
-use Rattle.std.specs.Prelude.{◌≡◌, ◌⊎◌, ℕ, List, Bool, true, false, Option, Some, None}
+use Rattle.std.specs.Prelude.{◌≡◌, ◌⊎◌, ℕ, List, Bool, true, Option, Some, None}
 use Rattle.std.specs.Io.KnownBytes.{Keeps}
 use Rattle.bl_alone.specs.AloneKept.{IsAloneKeptOver}
 use Rattle.bl_alone.specs.Runs.{IsRunOver}
@@ -8,8 +8,8 @@ use Rattle.bl_serving.specs.Serving.{IsServeOver}
 use Rattle.bl_setup.specs.Grammar.{IsSetup}
 use Rattle.bl_setup.specs.Setup.{Setup}
 use Rattle.bl_status.specs.Failure.{IsNotBegun}
-use Rattle.bl_words.specs.declared.command.TrailKeeping.{TrailKeeping}
-use Rattle.bl_words.specs.declared.command.TrailKeeping.TheVariants.{AtEnd, Written, Synced}
+use Rattle.bl_options.specs.declared.trail.TrailKeeping.{TrailKeeping}
+use Rattle.bl_options.specs.declared.trail.TrailKeeping.TheVariants.{AtEnd, Written, Synced}
 use Rattle.bl_status.specs.declared.fault.ProgramFault.{ProgramFault}
 use Rattle.bl_status.specs.declared.fault.ProgramFault.TheVariants.{NoMemory}
 use Rattle.clap.specs.declared.error.kind.ErrorKind.{ErrorKind}
@@ -17,12 +17,6 @@ use Rattle.clap.specs.declared.error.kind.ErrorKind.TheVariants.{DisplayHelp, Di
 use Rattle.bl_wire.specs.Watch.{Use}
 use Rattle.bl_words.specs.Status.{status_for}
 use Rattle.bl_status.specs.Runs.{HasTold, Run}
-use Rattle.bl_replaying.specs.Runs.{IsOpenReplayOn, IsReplayOn}
-
--- how a replay ends, of a trail that may be open or not
-abbrev pub EndsReplay : Bool → List ℕ → List ℕ → ℕ → Use → Use → Type 0
-EndsReplay false setup trail status output errors = IsReplayOn setup trail status output errors
-EndsReplay true setup trail status output errors = IsOpenReplayOn setup trail status output errors
 
 -- the fault was told, and nothing was read or written
 abbrev pub HasOnlyTold : ProgramFault → Run → Type 0

@@ -3,18 +3,13 @@ ghost use Rattle.std.specs.Prelude.{◌≡◌, ◌≢◌, ◌≤◌, false, IfOk
 ghost use Rattle.std.specs.IoError.{error_kind};
 ghost use Rattle.clap.specs.Words.{kind_of};
 ghost use Rattle.bl_wire.specs.Watch.{used};
-ghost use Rattle.bl_status.specs.Runs.{HasToldAt};
 ghost use Rattle.bl_status.specs.Status.{IsEnd, IsStatus};
 ghost use Rattle.bl_alone.specs.Runs.{IsRun};
-ghost use Rattle.bl_standing.specs.States.{IsStateRun};
-ghost use Rattle.bl_command.specs.Runs.{EndsReplay, HasOnlyTold, IsRefused};
+ghost use Rattle.bl_command.specs.Runs.{HasOnlyTold, IsRefused};
 
 use bl_alone::alone::alone_on;
-use bl_replaying::open::replay_open_on;
-use bl_replaying::replay::replay_on;
-use bl_standing::state::state_on;
 use bl_status::fault::ProgramFault;
-use bl_status::told::{tell, tell_at};
+use bl_status::told::tell;
 use bl_wire::put::put_out;
 use bl_wire::watched::Watched;
 use bl_words::command::status_of;
@@ -53,82 +48,6 @@ pub fn run_alone<R: BufRead, W: Write, E: Write>(
     match setup {
         Ok(setup) => alone_on(alloc, setup.as_slice(), limit, reader, writer, errors),
         Err(fault) => tell(errors, &fault),
-    }
-}
-
-/// The files of a replay or of `state`, as bytes.
-#[derive(Drop)]
-pub struct Files {
-    /// The setup that the run began with.
-    pub setup: Vec<u8>,
-    /// Its trail.
-    pub trail: Vec<u8>,
-}
-
-/// What a replay is asked for.
-#[derive(Clone, Copy, Debug)]
-pub struct AskedReplay<'a> {
-    /// The name of the trail file.
-    pub trail: &'a str,
-    /// Whether the trail may be open.
-    pub opens: bool,
-}
-
-/// A replay, once its files were read, or a fault was found, which is told, and of a trail that cannot be read which file
-/// that is.
-pub fn run_replay<W: Write, E: Write>(
-    alloc: Global,
-    files: Result<Files, ProgramFault>,
-    asked: AskedReplay<'_>,
-    writer: &mut Watched<W>,
-    errors: &mut Watched<E>,
-) -> u8
-    requires writer { writer.old.failed ≡ false }
-    requires errors { errors.old.failed ≡ false }
-    ensures run { IfOk files (λ files. EndsReplay asked.entry.opens files.setup.items files.trail.items result
-        (used W.contents writer.old writer.new) (used E.contents errors.old errors.new)) }
-    ensures unread { IfErr files
-        (λ fault. HasToldAt asked.entry.trail.now fault result (used E.contents errors.old errors.new)) }
-    ensures unwritten { IfErr files (λ _. writer.new ≡ writer.old) }
-    ensures status { IsStatus result }
-{
-    let files = match files {
-        Ok(files) => files,
-        Err(fault) => return tell_at(errors, &fault, asked.trail),
-    };
-    let (setup, trail) = (files.setup.as_slice(), files.trail.as_slice());
-    if asked.opens {
-        replay_open_on(alloc, setup, trail, writer, errors)
-    } else {
-        replay_on(alloc, setup, trail, writer, errors)
-    }
-}
-
-/// A run of `state`, once its files were read, or a fault was found, which is told, and of a trail that cannot be read which
-/// file that is.
-pub fn run_state<W: Write, E: Write>(
-    alloc: Global,
-    files: Result<Files, ProgramFault>,
-    trail: &str,
-    writer: &mut Watched<W>,
-    errors: &mut Watched<E>,
-) -> u8
-    requires writer { writer.old.failed ≡ false }
-    ensures run { IfOk files (λ files. IsStateRun files.setup.items files.trail.items result
-        (used W.contents writer.old writer.new) (used E.contents errors.old errors.new)) }
-    ensures unread { IfErr files (λ fault. HasToldAt trail.now fault result (used E.contents errors.old errors.new)) }
-    ensures unwritten { IfErr files (λ _. writer.new ≡ writer.old) }
-    ensures status { IsStatus result }
-{
-    match files {
-        Ok(files) => state_on(
-            alloc,
-            files.setup.as_slice(),
-            files.trail.as_slice(),
-            writer,
-            errors,
-        ),
-        Err(fault) => tell_at(errors, &fault, trail),
     }
 }
 

@@ -7,7 +7,7 @@ ghost use Rattle.bl_status.specs.Runs.{HasTold};
 ghost use Rattle.bl_status.specs.Status.{IsEnd};
 ghost use Rattle.bl_system.specs.Entering.{HasToldEntrance};
 ghost use Rattle.bl_wire.specs.Watch.{used};
-ghost use Rattle.bl_words.specs.Words.{IsHostingInRange};
+ghost use Rattle.bl_options.specs.Ranges.{IsHostingInRange};
 
 use crate::hints::tell_signals;
 use crate::recorded::{Given, Recording, let_go, outlives, serve_recorded};
@@ -15,6 +15,8 @@ use bl_clock::clock::SharedTimes;
 use bl_clock::timed::Timed;
 use bl_file::device::SystemFile;
 use bl_file::lock::Lock;
+use bl_options::hosting::Hosting;
+use bl_options::trail::TrailKeeping;
 use bl_serving::serve::{Hosts, RunContext, ServingRun, serve};
 use bl_setup::setup::Setup;
 use bl_status::fault::ProgramFault;
@@ -23,7 +25,6 @@ use bl_status::told::tell;
 use bl_system::enter::{Entered, EntranceFault, enter, tell_entrance};
 use bl_trail_run::plan::{AtEnd, RunEnd, TrailPlan};
 use bl_wire::watched::Watched;
-use bl_words::command::{Hosting, TrailKeeping};
 use bl_worker::pause::NoPause;
 use std::io::{IsTerminal, Write};
 use std::net::Net;
@@ -265,7 +266,7 @@ where
     ensures { IsEnd result }
 {
     let setup = given_setup(rt.alloc(), bytes);
-    let found = enter(rt, &setup, hosting);
+    let found = enter(rt, &setup, hosting.entrance, hosting.log);
     if found.is_ok() && hosting.keeping == TrailKeeping::AtEnd && rt.reader().is_terminal() {
         tell_signals(errors);
     }

@@ -4,22 +4,35 @@ ghost use Rattle.bl_recover.specs.Recoveries.{IsRecoverRun};
 ghost use Rattle.bl_wire.specs.Watch.{end_state, used};
 ghost use Rattle.bl_status.specs.Runs.{HasTold};
 ghost use Rattle.bl_status.specs.Status.{IsEnd, IsStatus};
-ghost use Rattle.bl_words.specs.Words.{IsHostingInRange, IsInRange};
+ghost use Rattle.bl_options.specs.Ranges.{IsChainHostingInRange, IsHostingInRange};
+ghost use Rattle.bl_words.specs.Words.{IsInRange};
 
 use crate::alone::{AskedAlone, sit};
-use crate::files::read_files;
+use crate::chain::run_chain;
 use crate::hints::tell_hint;
-use crate::run::{AskedReplay, refuse, run_replay, run_state, run_unread};
+use crate::run::{refuse, run_unread};
 use crate::serve::serve_read;
 use bl_alone::alone_run::AloneRun;
+use bl_chain_audit::noted::NotedRun;
+use bl_explaining_event::question::EventQuestion;
+use bl_explaining_trail::question::TrailQuestion;
 use bl_file::lock::Lock;
 use bl_keep::rest::hand_on_rest;
+use bl_options::hosting::{ChainHosting, Hosting};
+use bl_options::start::AuditStart;
+use bl_question::question::Question;
+use bl_readonly::chain::run_audit;
+use bl_readonly::files::read_files;
+use bl_readonly::run::{
+    AskedReplay, run_check, run_explain, run_explain_event, run_explain_trail, run_replay,
+    run_state,
+};
 use bl_recover::recover::recover_on;
 use bl_status::fault::ProgramFault;
 use bl_status::told::tell;
 use bl_system::files::read_setup_file;
 use bl_wire::watched::Watched;
-use bl_words::command::{Command, Hosting, read_words};
+use bl_words::command::{Asking, Command, read_words};
 use clap::Error;
 use std::io::{BufReader, BufWriter, IsTerminal, Write};
 use std::net::Net;
@@ -76,6 +89,51 @@ where
         Ok(bytes) => serve_read(rt, bytes.as_slice(), hosting, &mut writer, errors),
         Err(fault) => tell(errors, &fault),
     };
+    let _ = hand_on_rest(writer);
+    status
+}
+
+/// A run of the command `serve --chain`. The result is the status of the run.
+fn chain_asked<R: AllocGlobal + OpensFiles + Clock + Print + Threads + Wait + Net + Sync, E: Write>(
+    rt: &R,
+    folder: &str,
+    hosting: &ChainHosting<'_>,
+    errors: &mut Watched<E>,
+) -> u8
+where
+    R::File: Lock + Send,
+    requires { IsChainHostingInRange hosting.now }
+    ensures { IsStatus result }
+{
+    let Ok(writer) = BufWriter::new(rt.alloc(), io::writer(rt)) else {
+        return tell(errors, &ProgramFault::NoMemory);
+    };
+    let mut writer = Watched::new(writer);
+    let status = run_chain(rt, folder, hosting, &mut writer, errors);
+    let _ = hand_on_rest(writer);
+    status
+}
+
+/// A run of the command `audit`. The result is the status of the run.
+fn audit_asked<R: AllocGlobal + OpensFiles + Print, E: Write>(
+    rt: &R,
+    folder: &str,
+    start: Option<AuditStart<'_>>,
+    errors: &mut Watched<E>,
+) -> u8
+where
+    R::File: Lock,
+    ensures { IsStatus result }
+{
+    let Ok(writer) = BufWriter::new(rt.alloc(), io::writer(rt)) else {
+        return tell(errors, &ProgramFault::NoMemory);
+    };
+    let mut writer = Watched::new(writer);
+    let from = start.map(|start| NotedRun {
+        run: start.run,
+        digest: start.checksum,
+    });
+    let status = run_audit(rt, folder, from, &mut writer, errors);
     let _ = hand_on_rest(writer);
     status
 }
@@ -174,6 +232,78 @@ fn state_asked<R: AllocGlobal + OpensFiles + Print, E: Write>(
     status
 }
 
+/// A run of the command `check`. The result is the status of the run.
+fn check_asked<R: AllocGlobal + OpensFiles + Print, E: Write>(
+    rt: &R,
+    name: &str,
+    errors: &mut Watched<E>,
+) -> u8
+    ensures { IsStatus result }
+{
+    let Ok(writer) = BufWriter::new(rt.alloc(), io::writer(rt)) else {
+        return tell(errors, &ProgramFault::NoMemory);
+    };
+    let mut writer = Watched::new(writer);
+    let setup = read_setup_file(rt, name);
+    let status = run_check(rt.alloc(), setup, name, &mut writer, errors);
+    let _ = hand_on_rest(writer);
+    status
+}
+
+/// A run of the command `explain`. The result is the status of the run.
+fn explain_asked<'a, R: AllocGlobal + OpensFiles + Print, E: Write>(
+    rt: &R,
+    setup: &'a str,
+    asking: &'a Asking<'a>,
+    errors: &mut Watched<E>,
+) -> u8
+    ensures { IsStatus result }
+{
+    let Ok(writer) = BufWriter::new(rt.alloc(), io::writer(rt)) else {
+        return tell(errors, &ProgramFault::NoMemory);
+    };
+    let mut writer = Watched::new(writer);
+    let question = Question {
+        path: setup,
+        carried: asking.carried,
+        subject: asking.subject,
+        wish: asking.wish.as_slice(),
+    };
+    let status = match asking.trail {
+        None => {
+            let setup = read_setup_file(rt, setup);
+            run_explain(rt.alloc(), setup, &question, &mut writer, errors)
+        }
+        Some(trail) => {
+            let files = read_files(rt, setup, trail);
+            let at = asking.at.map(u64::from);
+            let asked = TrailQuestion { question, at };
+            run_explain_trail(rt.alloc(), files, trail, &asked, &mut writer, errors)
+        }
+    };
+    let _ = hand_on_rest(writer);
+    status
+}
+
+/// A run of the command `explain` of an event. The result is the status of the run.
+fn explain_event_asked<R: AllocGlobal + OpensFiles + Print, E: Write>(
+    rt: &R,
+    trail: &str,
+    asked: &EventQuestion<'_>,
+    errors: &mut Watched<E>,
+) -> u8
+    ensures { IsStatus result }
+{
+    let Ok(writer) = BufWriter::new(rt.alloc(), io::writer(rt)) else {
+        return tell(errors, &ProgramFault::NoMemory);
+    };
+    let mut writer = Watched::new(writer);
+    let files = read_files(rt, asked.path, trail);
+    let status = run_explain_event(rt.alloc(), files, trail, asked, &mut writer, errors);
+    let _ = hand_on_rest(writer);
+    status
+}
+
 /// A run of the command `recover`. The result is the status of the run.
 fn recover_asked<R: AllocGlobal + OpensFiles + Print, E: Write>(
     rt: &R,
@@ -245,6 +375,8 @@ where
             alone_asked(rt, setup, &asked, errors)
         }
         Command::Serve { setup, hosting } => run_serve(rt, setup, &hosting, errors),
+        Command::Chain { folder, hosting } => chain_asked(rt, folder, &hosting, errors),
+        Command::Audit { folder, start } => audit_asked(rt, folder, start, errors),
         Command::Replay {
             setup,
             trail,
@@ -252,12 +384,25 @@ where
         } => replay_asked(rt, setup, AskedReplay { trail, opens }, errors),
         Command::Recover { setup, trail } => recover_asked(rt, setup, trail, errors),
         Command::State { setup, trail } => state_asked(rt, setup, trail, errors),
+        Command::Check { setup } => check_asked(rt, setup, errors),
+        Command::ExplainEvent {
+            setup,
+            trail,
+            event,
+        } => {
+            let asked = EventQuestion {
+                path: setup,
+                event: u64::from(event),
+            };
+            explain_event_asked(rt, trail, &asked, errors)
+        }
+        Command::Explain { setup, asking } => explain_asked(rt, setup, &asking, errors),
     }
 }
 
 /// A run of the program. The result is its status: 0 where all was done, or help or the version was asked for, 1 for a
-/// trail that was rejected, 2 for bad arguments, 3 for a fault of the setup, of a file, of the port or of the session,
-/// and 4 when out of memory.
+/// trail that was rejected and for what is explained as denied, 2 for bad arguments, 3 for a fault of the setup, of a file,
+/// of the port or of the session, and 4 when out of memory.
 pub fn run<
     R: AllocGlobal
         + Env

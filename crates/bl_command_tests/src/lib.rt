@@ -1,8 +1,7 @@
 //! The tests of `bl_command`.
 //!
 //!     runs       what the program says, and the status that it ends with
-//!     words      the words of a command line
-//!     system     files and the port
+//!     system     the setup file and the port
 //!     doors      what is said of doors
 #![tactic(auto)]
 
@@ -12,5 +11,3 @@ mod doors;
 mod runs;
 #[cfg(test)]
 mod system;
-#[cfg(test)]
-mod words;

@@ -1,11 +1,12 @@
 //! What the program says, and the status that it ends with.
+ghost use Rattle.std.specs.Prelude.{◌≡◌, false};
+
 use bl_alone::alone::alone_on;
 use bl_command::command::{Command, read_words};
-use bl_command::run::{AskedReplay, Files, refuse, run_alone, run_replay, run_state, run_unread};
-use bl_replaying::replay::replay_on;
+use bl_command::run::{refuse, run_alone, run_unread};
 use bl_setup::fault::{SetupFault, SetupFaultKind};
 use bl_status::fault::{ProgramFault, of_file, of_setup};
-use bl_system::files::{read_most, read_within};
+use bl_system::files::read_most;
 use bl_wire::watched::Watched;
 use std::alloc::Global;
 use std::io;
@@ -152,27 +153,12 @@ fn tells_each_fault_of_a_setup(rt: HostRuntime) -> Result<(), Fail> {
     Ok(())
 }
 
-/// Files of these bytes.
-fn files(alloc: Global, setup: &[u8], trail: &[u8]) -> Result<Files, Fail> {
-    Ok(Files {
-        setup: Vec::from_slice(alloc, setup)?,
-        trail: Vec::from_slice(alloc, trail)?,
-    })
-}
-
-/// The setup among these files.
-fn setup_in(files: Result<Files, ProgramFault>) -> Result<Vec<u8>, ProgramFault> {
-    match files {
-        Ok(Files { setup, .. }) => Ok(setup),
-        Err(fault) => Err(fault),
-    }
-}
-
-/// A run of what these words ask, after this setup and a trail were read, or could not be read.
+/// A run of what these words ask, after this setup was read, or could not be read. Another command than `alone` fails the
+/// test.
 fn run_words(
     alloc: Global,
     text: &str,
-    files: Result<Files, ProgramFault>,
+    setup: Result<Vec<u8>, ProgramFault>,
     input: &'static [u8],
 ) -> Result<Ended, Fail> {
     let mut words = Vec::new(alloc);
@@ -184,17 +170,9 @@ fn run_words(
     let mut errors = Watched::new(Vec::new(alloc));
     let status = match read_words(alloc, words.as_slice()) {
         Ok(Command::Alone { limit, .. }) => {
-            let setup = setup_in(files);
             run_alone(alloc, setup, limit, &mut reader, &mut writer, &mut errors)
         }
-        Ok(Command::Replay { trail, opens, .. }) => {
-            let asked = AskedReplay { trail, opens };
-            run_replay(alloc, files, asked, &mut writer, &mut errors)
-        }
-        Ok(Command::State { trail, .. }) => {
-            run_state(alloc, files, trail, &mut writer, &mut errors)
-        }
-        Ok(_) => return Err(Fail::new("another command")),
+        Ok(_command) => return Err(Fail::new("another command")),
         Err(error) => refuse(alloc, &error, &mut writer, &mut errors),
     };
     Ok(Ended {
@@ -219,8 +197,8 @@ fn serves_under_its_limit(rt: HostRuntime) -> Result<(), Fail> {
         ),
     ];
     for (words, output) in given {
-        let files = files(rt.alloc(), ONE_MEMO, b"")?;
-        let ended = run_words(rt.alloc(), words, Ok(files), TWO_READS)?;
+        let setup = Vec::from_slice(rt.alloc(), ONE_MEMO)?;
+        let ended = run_words(rt.alloc(), words, Ok(setup), TWO_READS)?;
         assert_eq!(rt; ended.status, 0);
         assert!(rt; ended.written.as_slice() == output.as_bytes());
         assert!(rt; ended.said.is_empty());
@@ -249,10 +227,15 @@ fn tells_bad_words(rt: HostRuntime) -> Result<(), Fail> {
         "bl_server replay --setup memo.txt --trail trail.txt --limit 7",
         "bl_server state --setup memo.txt",
         "bl_server state --setup memo.txt --trail trail.txt --open",
+        "bl_server check",
+        "bl_server audit --chain day --from 7",
+        "bl_server explain ann read memo",
+        "bl_server explain --setup memo.txt ann",
+        "bl_server explain --setup memo.txt --at 7 ann read memo",
     ];
     for words in given {
-        let files = files(rt.alloc(), ONE_MEMO, b"")?;
-        let ended = run_words(rt.alloc(), words, Ok(files), INPUT)?;
+        let setup = Vec::from_slice(rt.alloc(), ONE_MEMO)?;
+        let ended = run_words(rt.alloc(), words, Ok(setup), INPUT)?;
         assert_eq!(rt; ended.status, 2, "at {words}");
         assert!(rt; ended.unread == INPUT);
         assert!(rt; ended.written.is_empty());
@@ -268,10 +251,11 @@ fn shows_what_is_asked_for(rt: HostRuntime) -> Result<(), Fail> {
         "bl_server --help",
         "bl_server alone --help",
         "bl_server replay --help",
+        "bl_server check --help",
         "bl_server --version",
     ] {
-        let files = files(rt.alloc(), b"", b"")?;
-        let ended = run_words(rt.alloc(), words, Ok(files), INPUT)?;
+        let setup = Vec::new(rt.alloc());
+        let ended = run_words(rt.alloc(), words, Ok(setup), INPUT)?;
         assert_eq!(rt; ended.status, 0, "at {words}");
         assert!(rt; ended.unread == INPUT);
         assert!(rt; !ended.written.is_empty());
@@ -322,117 +306,4 @@ fn ends_where_words_cannot_be_read(rt: HostRuntime) {
         assert_eq!(rt; run_unread(&io::Error::from(kind), &mut errors), status);
         assert!(rt; errors.into_inner().as_slice() == said.as_bytes());
     }
-}
-
-/// The trail of one read of the memo.
-const ONE_READ: &str = "trail 1\nlimit 10000\nopen ann\nline 0 1 when read memo do show memo;end\n\
-    start 0 run\nend 0 done \"m1\"\nstop\n";
-
-/// A replay reads nothing, and tells its verdict alone.
-#[test]
-fn tells_verdicts(rt: HostRuntime) -> Result<(), Fail> {
-    let changed = "trail 1\nlimit 10000\nopen ann\nline 0 1 when read memo do show memo;end\n\
-    start 0 run\nend 0 done \"m2\"\nstop\n";
-    let given = [
-        (ONE_READ, 0, "accepted 4\n"),
-        ("trail 1\nlimit 10000\nstop\n", 0, "accepted 0\n"),
-        (changed, 1, "rejected 6\n"),
-        ("", 1, "rejected 1\n"),
-    ];
-    for (trail, status, told) in given {
-        let files = files(rt.alloc(), ONE_MEMO, trail.as_bytes())?;
-        let words = "bl_server replay --setup memo.txt --trail trail.txt";
-        let ended = run_words(rt.alloc(), words, Ok(files), INPUT)?;
-        assert_eq!(rt; ended.status, status, "at {trail}");
-        assert!(rt; ended.unread == INPUT);
-        assert!(rt; ended.written.as_slice() == told.as_bytes(), "at {trail}");
-        assert!(rt; ended.said.is_empty());
-    }
-    Ok(())
-}
-
-/// What a trail left is written alone, and nothing is read.
-#[test]
-fn writes_what_stands(rt: HostRuntime) -> Result<(), Fail> {
-    let given = [
-        (
-            "trail 2\nlimit 9\nstop\n",
-            0,
-            "ranks u\ncategories\nsubject ann greatest u current u\n\
-            document memo u\"m1\"\nallow ann memo r\n",
-            "",
-        ),
-        (ONE_READ, 3, "", "trail of version 1\n"),
-        ("", 1, "", "rejected 1\n"),
-    ];
-    for (trail, status, written, said) in given {
-        let files = files(rt.alloc(), ONE_MEMO, trail.as_bytes())?;
-        let words = "bl_server state --setup memo.txt --trail trail.txt";
-        let ended = run_words(rt.alloc(), words, Ok(files), INPUT)?;
-        assert_eq!(rt; ended.status, status, "at {trail}");
-        assert!(rt; ended.unread == INPUT);
-        assert!(rt;
-            ended.written.as_slice() == written.as_bytes(),
-            "at {trail}"
-        );
-        assert!(rt; ended.said.as_slice() == said.as_bytes(), "at {trail}");
-    }
-    Ok(())
-}
-
-/// A fault of the setup comes before the verdict, and is told on standard error alone.
-#[test]
-fn tells_the_setups_fault_and_no_verdict(rt: HostRuntime) -> Result<(), Fail> {
-    let files = files(rt.alloc(), b"rank u\n", b"")?;
-    let words = "bl_server replay --setup memo.txt --trail trail.txt";
-    let ended = run_words(rt.alloc(), words, Ok(files), INPUT)?;
-    assert_eq!(rt; ended.status, 3);
-    assert!(rt; ended.written.is_empty());
-    assert!(rt; ended.said.as_slice() == b"setup 1: syntax\n".as_slice());
-    Ok(())
-}
-
-#[test]
-fn tells_a_trail_that_cannot_be_read(rt: HostRuntime) -> Result<(), Fail> {
-    let given = [
-        (
-            io::ErrorKind::NotFound,
-            3,
-            "cannot read trail\nfile: trail.txt\n",
-        ),
-        (io::ErrorKind::OutOfMemory, 4, "no memory\n"),
-    ];
-    for (kind, status, said) in given {
-        let Err(fault) = read_within(Err(io::Error::from(kind)), 7) else {
-            return Err(Fail::new("read"));
-        };
-        let words = "bl_server replay --setup memo.txt --trail trail.txt";
-        let ended = run_words(rt.alloc(), words, Err(fault), INPUT)?;
-        assert_eq!(rt; ended.status, status);
-        assert!(rt; ended.written.is_empty());
-        assert!(rt; ended.said.as_slice() == said.as_bytes());
-    }
-    Ok(())
-}
-
-/// A trail of one byte too many is not read.
-#[test]
-fn reads_a_trail_up_to_its_limit(rt: HostRuntime) -> Result<(), Fail> {
-    let alloc = rt.alloc();
-    let whole = read_most(alloc, b"trail 1\n".as_slice(), 8);
-    assert!(rt; read_within(whole, 8).is_ok());
-    let longer = read_most(alloc, b"trail 1\n".as_slice(), 7);
-    assert_eq!(rt; read_within(longer, 7), Err(ProgramFault::CannotReadTrail));
-    Ok(())
-}
-
-#[test]
-fn tells_a_fault_of_the_output_of_a_replay(rt: HostRuntime) {
-    let alloc = rt.alloc();
-    let mut writer = Watched::new(TakesNothing {});
-    let mut errors = Watched::new(Vec::new(alloc));
-    let trail = ONE_READ.as_bytes();
-    let status = replay_on(alloc, ONE_MEMO, trail, &mut writer, &mut errors);
-    assert_eq!(rt; status, 3);
-    assert!(rt; errors.into_inner().as_slice() == b"write fault\n".as_slice());
 }

@@ -7,8 +7,8 @@ use Rattle.bl_log.specs.Telling as logs
 use Rattle.bl_entrance.specs.declared.entrance.Entrance.{Entrance}
 use Rattle.bl_entrance.specs.declared.entrance.Entrance.TheVariants as opened
 use Rattle.bl_setup.specs.Setup.{Setup}
-use Rattle.bl_words.specs.declared.command.NamedEntrance.{NamedEntrance}
-use Rattle.bl_words.specs.declared.command.NamedEntrance.TheVariants as asked
+use Rattle.bl_options.specs.declared.hosting.NamedEntrance.{NamedEntrance}
+use Rattle.bl_options.specs.declared.hosting.NamedEntrance.TheVariants as asked
 use Rattle.bl_status.specs.Named.{unnamed}
 use Rattle.bl_status.specs.Runs.{HasToldNamed}
 use Rattle.bl_status.specs.declared.fault.ProgramFault.{ProgramFault}

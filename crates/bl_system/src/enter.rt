@@ -3,7 +3,7 @@
 ghost use Rattle.std.specs.Prelude.{◌⊎◌, ◌≡◌, Err, IfErr, IfOk, IsOk, IsSome, Ok, is_some};
 ghost use Rattle.bl_wire.specs.Watch.{used};
 ghost use Rattle.bl_system.specs.Entering.{HasToldEntrance, IsEntranceOf, IsOfNone, about_at_port, end_words, fault_at_port};
-ghost use Rattle.bl_words.specs.Words.{IsEntranceInRange, IsHostingInRange};
+ghost use Rattle.bl_options.specs.Ranges.{IsEntranceInRange};
 
 use crate::doors::{tell_doors, tell_wide};
 use crate::listen::listen;
@@ -15,12 +15,12 @@ use bl_log::fault::LogFault;
 use bl_log::note::ServerEvent;
 use bl_log::open::open;
 use bl_log::told::{tell_cut, tell_fault as tell_log};
+use bl_options::hosting::NamedEntrance;
 use bl_setup::setup::Setup;
 use bl_status::fault::ProgramFault;
 use bl_status::named::{About, NamedFault};
 use bl_status::told::tell_named;
 use bl_wire::watched::Watched;
-use bl_words::command::{Hosting, NamedEntrance};
 use std::io::Write;
 use std::net::Net;
 use std::rt::Files as OpensFiles;
@@ -170,15 +170,16 @@ fn open_log<R: AllocGlobal + OpensFiles>(
 pub fn enter<R: AllocGlobal + OpensFiles + Net>(
     rt: &R,
     read: &Result<Setup, ProgramFault>,
-    hosting: &Hosting<'_>,
+    named: NamedEntrance<'_>,
+    log: Option<&str>,
 ) -> Result<Entered<R::File>, EntranceFault>
-    requires { IsHostingInRange hosting.now }
-    ensures log { IfOk result (λ entered. is_some entered.log ≡ is_some hosting.now.log) }
+    requires { IsEntranceInRange named }
+    ensures log { IfOk result (λ entered. is_some entered.log ≡ is_some log.entry) }
     ensures asked { IfOk result (λ entered. IsSome entered.log → IsOk read.now) }
-    ensures entrance { IfOk result (λ entered. IsEntranceOf hosting.now.entrance read.now entered.entrance) }
+    ensures entrance { IfOk result (λ entered. IsEntranceOf named.entry read.now entered.entrance) }
 {
-    let entrance = open_entrance(rt, read, hosting.entrance)?;
-    match open_log(rt, read, hosting.log) {
+    let entrance = open_entrance(rt, read, named)?;
+    match open_log(rt, read, log) {
         Ok(log) => Ok(Entered { entrance, log }),
         Err(fault) => {
             entrance.close(rt);

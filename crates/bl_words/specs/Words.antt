@@ -1,162 +1,95 @@
 -- What the words of a command line name.
-use Rattle.std.specs.Prelude.{◌≡◌, ◌≢◌, ◌≤◌, ◌↔◌, ℕ, Bool, true, false, List, Option, Some, None, codes, option_copied}
+use Rattle.std.specs.Prelude.{◌≡◌, ◌≤◌, ℕ, List, map, Option, Some, None, Vec, codes, option_copied, option_map}
 use Rattle.std.specs.Option.{is_some}
-use Rattle.std.specs.Str.Parse.{IsNumeral, digits_value, without_leading_plus}
-use Rattle.clap.specs.Matches.{found_of, first_value, one_text}
-use Rattle.clap.specs.Facts.{is_present}
+use Rattle.std.specs.Borrow.{Bor}
+use Rattle.std.specs.Global.{Global}
+use Rattle.clap.specs.Matches.{found_of, first_value, matched_of, raw_values}
 use Rattle.clap.specs.Faults.{fault_of}
 use Rattle.clap.specs.Kinds.{Kinds}
 use Rattle.clap.specs.Simple.{subcommand_of, subcommand_rows_of}
 use Rattle.clap.specs.Walk.{Row, rows_of}
 use Rattle.clap.specs.declared.parser.matches.ArgMatches.{ArgMatches}
-use Rattle.bl_asked.specs.declared.trail.TrailFile.{TrailFile}
-use Rattle.bl_words.specs.CommandLine.{server_app}
+use Rattle.clap.specs.declared.parser.matches.Found.{Found}
+use Rattle.bl_command_line.specs.CommandLine.{server_app}
+use Rattle.bl_options.specs.Ranges.{IsAtInRange, IsChainHostingInRange, IsHostingInRange, IsStartInRange, MayKeep}
+use Rattle.bl_options.specs.Said.{HasChainHosting, HasCount, HasFlag, HasHosting, HasKeeping, HasNumber, HasResume, HasStart, HasTrail, IsSaid}
+use Rattle.bl_words.specs.declared.command.Asking.{Asking}
 use Rattle.bl_words.specs.declared.command.Command.{Command}
-use Rattle.bl_words.specs.declared.command.NamedEntrance.{NamedEntrance}
-use Rattle.bl_words.specs.declared.command.NamedEntrance.TheVariants.{Port, Doors}
-use Rattle.bl_words.specs.declared.command.Hosting.{Hosting}
-use Rattle.bl_words.specs.declared.command.TrailKeeping.{TrailKeeping}
-use Rattle.bl_words.specs.declared.command.TrailKeeping.TheVariants.{AtEnd, Written, Synced}
-use Rattle.bl_words.specs.declared.command.Command.TheVariants.{Alone, Serve, Replay, Recover, State}
-
--- a port is in its range
-abbrev pub IsEntranceInRange : NamedEntrance → Type 0
-IsEntranceInRange (Port port) = (1 ≤ port) × (port ≤ 65535)
-IsEntranceInRange (Doors folder) = Unit {0}
-
--- the seconds that a client may be idle, where it may not for ever, are at most a day
-abbrev pub IsIdleInRange : Option ℕ → Type 0
-IsIdleInRange None = Unit {0}
-IsIdleInRange (Some seconds) = (1 ≤ seconds) × (seconds ≤ 86400)
-
--- the most bytes of a trail are at least 65,536, and at most what `replay` reads
-abbrev pub IsTrailLimit : ℕ → Type 0
-IsTrailLimit bytes = (65536 ≤ bytes) × (bytes ≤ 1073741824)
-
--- each number of what is hosted is in its range, and a run is resumed only with a trail that is written while it goes
--- on
-pub record IsHostingInRange (hosting : Hosting) : Type 0 where
-  pub limit : (1 ≤ hosting.limit) × (hosting.limit ≤ 100000)
-  pub entrance : IsEntranceInRange hosting.entrance
-  pub trail_limit : IsTrailLimit hosting.options.trail_limit
-  pub workers : (1 ≤ hosting.options.workers) × (hosting.options.workers ≤ 16)
-  pub threads : (1 ≤ hosting.options.session_threads) × (hosting.options.session_threads ≤ 16)
-  pub sessions : (1 ≤ hosting.options.sessions) × (hosting.options.sessions ≤ 1000)
-  pub clients : (1 ≤ hosting.options.clients) × (hosting.options.clients ≤ 1000)
-  pub idle : IsIdleInRange hosting.options.idle
-  pub resumes : hosting.resumes ≡ true → hosting.keeping ≢ AtEnd
-
--- only a trail that is asked for is written while the run goes on, and only such a run goes on from another
-abbrev pub MayKeep : Bool → TrailKeeping → Bool → Type 0
-MayKeep there AtEnd resumes = resumes ≡ false
-MayKeep there Written resumes = there ≡ true
-MayKeep there Synced resumes = there ≡ true
+use Rattle.bl_words.specs.declared.command.Command.TheVariants.{Alone, Serve, Chain, Replay, Recover, State, Check, Explain, ExplainEvent, Audit}
 
 -- each number is in its range, and a trail is kept so as it may be
 abbrev pub IsInRange : Command → Type 0
 IsInRange (Alone setup limit says_limit trail keeping resumes) = ((1 ≤ limit) × (limit ≤ 100000))
     × MayKeep (is_some trail) keeping resumes
 IsInRange (Serve setup hosting) = IsHostingInRange hosting
+IsInRange (Chain folder hosting) = IsChainHostingInRange hosting
 IsInRange (Replay setup trail opens) = Unit {0}
 IsInRange (Recover setup trail) = Unit {0}
 IsInRange (State setup trail) = Unit {0}
+IsInRange (Check setup) = Unit {0}
+IsInRange (Explain setup asking) = IsAtInRange (is_some asking.trail) asking.at
+IsInRange (ExplainEvent setup trail event) = (1 ≤ event) × (event ≤ 4294967295)
+IsInRange (Audit folder start) = IsStartInRange start
 
--- the text is a decimal numeral, before which a plus may stand, and this is the number that it writes
-abbrev pub Writes : List ℕ → ℕ → Type 0
-Writes text n = IsNumeral 10 (without_leading_plus text) × (n ≡ digits_value 10 (without_leading_plus text))
-
--- the option of this name has a text, the user's or the default, and it writes this number
-abbrev pub HasNumber : ArgMatches → List ℕ → ℕ → Type 0
-HasNumber options name n = (text : List ℕ) × (one_text (found_of options) name ≡ Some text) × Writes text n
-
--- the option of this name has no text, or a number that its text writes
-abbrev pub HasCount : ArgMatches → List ℕ → Option ℕ → Type 0
-HasCount options name None = first_value (found_of options) name ≡ None
-HasCount options name (Some n) = HasNumber options name n
-
--- the name of a command's setup file
-abbrev pub setup_of : Command → List ℕ
-setup_of (Alone setup limit says_limit trail keeping resumes) = setup.now
-setup_of (Serve setup hosting) = setup.now
-setup_of (Replay setup trail opens) = setup.now
-setup_of (Recover setup trail) = setup.now
-setup_of (State setup trail) = setup.now
+-- the name of a command's setup file; a chain's folder has its own
+abbrev pub setup_of : Command → Option (List ℕ)
+setup_of (Alone setup limit says_limit trail keeping resumes) = Some setup.now
+setup_of (Serve setup hosting) = Some setup.now
+setup_of (Chain folder hosting) = None
+setup_of (Replay setup trail opens) = Some setup.now
+setup_of (Recover setup trail) = Some setup.now
+setup_of (State setup trail) = Some setup.now
+setup_of (Check setup) = Some setup.now
+setup_of (Explain setup asking) = Some setup.now
+setup_of (ExplainEvent setup trail event) = Some setup.now
+setup_of (Audit folder start) = None
 
 -- the name of the trail file that a command reads
 abbrev pub read_trail_of : Command → Option (List ℕ)
 read_trail_of (Alone setup limit says_limit trail keeping resumes) = None
 read_trail_of (Serve setup hosting) = None
+read_trail_of (Chain folder hosting) = None
 read_trail_of (Replay setup trail opens) = Some trail.now
 read_trail_of (Recover setup trail) = None
 read_trail_of (State setup trail) = Some trail.now
+read_trail_of (Check setup) = None
+read_trail_of (Explain setup asking) = option_copied asking.trail
+read_trail_of (ExplainEvent setup trail event) = Some trail.now
+read_trail_of (Audit folder start) = None
 
 -- the word for a command
 abbrev pub word_of : Command → List ℕ
 word_of (Alone setup limit says_limit trail keeping resumes) = codes "alone"
 word_of (Serve setup hosting) = codes "serve"
+word_of (Chain folder hosting) = codes "serve"
 word_of (Replay setup trail opens) = codes "replay"
 word_of (Recover setup trail) = codes "recover"
 word_of (State setup trail) = codes "state"
+word_of (Check setup) = codes "check"
+word_of (Explain setup asking) = codes "explain"
+word_of (ExplainEvent setup trail event) = codes "explain"
+word_of (Audit folder start) = codes "audit"
 
--- the flag of this name was given, or was not
-pub record HasFlag (options : ArgMatches) (name : List ℕ) (given : Bool) : Type 0 where
-  pub yes : one_text (found_of options) name ≡ Some (codes "true") → given ≡ true
-  pub no : one_text (found_of options) name ≡ Some (codes "false") → given ≡ false
-  pub none : one_text (found_of options) name ≡ None → given ≡ false
+-- all texts of the option or word of this name, where it was given
+abbrev pub all_values : Found → List ℕ → Option (List (List ℕ))
+all_values found name = option_map raw_values (matched_of found name)
 
--- the trail file has this name, and what the options say of it
-pub record HasTrailFile (options : ArgMatches) (name : List ℕ) (file : TrailFile) : Type 0 where
-  pub name_is : file.name.now ≡ name
-  pub replaces : HasFlag options (codes "replace") file.replaces
-  pub claims : HasFlag options (codes "claim-trail") file.claims
+-- the texts of these words
+abbrev pub words_in : Vec (Bor (List ℕ)) Global → List (List ℕ)
+words_in words = map (λ word. word.now) words.items
 
--- the options name this trail file, or none
-abbrev pub HasTrail : ArgMatches → Option TrailFile → Type 0
-HasTrail options None = first_value (found_of options) (codes "trail") ≡ None
-HasTrail options (Some file) = (name : List ℕ) × (first_value (found_of options) (codes "trail") ≡ Some name)
-    × HasTrailFile options name file
+-- the options and words of `explain` say this of what is asked
+pub record HasAsking (options : ArgMatches) (asking : Asking) : Type 0 where
+  pub carried : option_copied asking.carried ≡ first_value (found_of options) (codes "carried")
+  pub trail : option_copied asking.trail ≡ first_value (found_of options) (codes "trail")
+  pub at : HasCount options (codes "at") asking.at
+  pub subject : first_value (found_of options) (codes "subject") ≡ Some asking.subject.now
+  pub wish : all_values (found_of options) (codes "wish") ≡ Some (words_in asking.wish)
 
--- own choice: the word for how a trail is kept
-abbrev pub keeping_word : TrailKeeping → List ℕ
-keeping_word AtEnd = codes "end"
-keeping_word Written = codes "written"
-keeping_word Synced = codes "synced"
-
--- the options say that a trail is kept so
-abbrev pub HasKeeping : ArgMatches → TrailKeeping → Type 0
-HasKeeping options keeping = first_value (found_of options) (codes "keep") ≡ Some (keeping_word keeping)
-
--- the options say whether the run goes on from one that was cut off
-abbrev pub HasResume : ArgMatches → Bool → Type 0
-HasResume options resumes = (resumes ≡ true) ↔ (first_value (found_of options) (codes "resume") ≡ Some (codes "true"))
-
--- the option of this name was said, and has not its default
-abbrev pub IsSaid : ArgMatches → List ℕ → Bool → Type 0
-IsSaid options name said = said ≡ is_present (found_of options) name
-
--- the options name a port, or the folder of doors, and not both
-abbrev pub HasEntrance : ArgMatches → NamedEntrance → Type 0
-HasEntrance options (Port port) = HasNumber options (codes "port") port
-    × (first_value (found_of options) (codes "doors") ≡ None)
-HasEntrance options (Doors folder) =
-    (first_value (found_of options) (codes "port") ≡ None)
-    × (first_value (found_of options) (codes "doors") ≡ Some folder.now)
-
--- the options of `serve` say this of its sessions and its trail
-pub record HasHosting (options : ArgMatches) (hosting : Hosting) : Type 0 where
-  pub limit : HasNumber options (codes "limit") hosting.limit
-  pub entrance : HasEntrance options hosting.entrance
-  pub trail : HasTrail options (Some hosting.trail)
-  pub trail_limit : HasNumber options (codes "trail-limit") hosting.options.trail_limit
-  pub workers : HasNumber options (codes "workers") hosting.options.workers
-  pub threads : HasNumber options (codes "session-threads") hosting.options.session_threads
-  pub sessions : HasNumber options (codes "sessions") hosting.options.sessions
-  pub clients : HasNumber options (codes "clients") hosting.options.clients
-  pub idle : HasCount options (codes "idle") hosting.options.idle
-  pub log : option_copied hosting.log ≡ first_value (found_of options) (codes "log")
-  pub keeping : HasKeeping options hosting.keeping
-  pub resumes : HasResume options hosting.resumes
-  pub says_limit : IsSaid options (codes "limit") hosting.says_limit
+-- own choice: beside an event nothing else is asked, of no subject, no carried level and no moment
+abbrev pub AsksNothingElse : ArgMatches → Type 0
+AsksNothingElse options = (first_value (found_of options) (codes "carried") ≡ None)
+    × (first_value (found_of options) (codes "at") ≡ None) × (first_value (found_of options) (codes "subject") ≡ None)
 
 -- the options of a command are these
 abbrev pub HasOptions : ArgMatches → Command → Type 0
@@ -165,7 +98,10 @@ HasOptions options (Alone setup limit says_limit trail keeping resumes) =
     × HasTrail options trail × HasKeeping options keeping × HasResume options resumes
     × IsSaid options (codes "limit") says_limit
 HasOptions options (Serve setup hosting) =
-    (first_value (found_of options) (codes "setup") ≡ Some setup.now) × HasHosting options hosting
+    (first_value (found_of options) (codes "setup") ≡ Some setup.now)
+    × (first_value (found_of options) (codes "chain") ≡ None) × HasHosting options hosting
+HasOptions options (Chain folder hosting) =
+    (first_value (found_of options) (codes "chain") ≡ Some folder.now) × HasChainHosting options hosting
 HasOptions options (Replay setup trail opens) =
     (first_value (found_of options) (codes "setup") ≡ Some setup.now)
     × (first_value (found_of options) (codes "trail") ≡ Some trail.now) × HasFlag options (codes "open") opens
@@ -175,6 +111,16 @@ HasOptions options (Recover setup trail) =
 HasOptions options (State setup trail) =
     (first_value (found_of options) (codes "setup") ≡ Some setup.now)
     × (first_value (found_of options) (codes "trail") ≡ Some trail.now)
+HasOptions options (Check setup) = first_value (found_of options) (codes "setup") ≡ Some setup.now
+HasOptions options (Explain setup asking) =
+    (first_value (found_of options) (codes "setup") ≡ Some setup.now)
+    × (first_value (found_of options) (codes "event") ≡ None) × HasAsking options asking
+HasOptions options (ExplainEvent setup trail event) =
+    (first_value (found_of options) (codes "setup") ≡ Some setup.now)
+    × (first_value (found_of options) (codes "trail") ≡ Some trail.now) × HasNumber options (codes "event") event
+    × AsksNothingElse options
+HasOptions options (Audit folder start) =
+    (first_value (found_of options) (codes "chain") ≡ Some folder.now) × HasStart options start
 
 -- the command has this word and these options
 pub record IsOfOptions (word : List ℕ) (options : ArgMatches) (command : Command) : Type 0 where
@@ -184,6 +130,11 @@ pub record IsOfOptions (word : List ℕ) (options : ArgMatches) (command : Comma
 -- no command with this word has these options, and its numbers in their ranges
 abbrev pub HasNoCommand : List ℕ → ArgMatches → Type 0
 HasNoCommand word options = (command : Command) → IsOfOptions word options command → IsInRange command → ⊥
+
+-- no event is asked of with these options, whose number is in its range
+abbrev pub HasNoEvent : ArgMatches → Type 0
+HasNoEvent options = (setup trail : Bor (List ℕ)) (event : ℕ) → HasOptions options (ExplainEvent setup trail event)
+    → IsInRange (ExplainEvent setup trail event) → ⊥
 
 -- a subcommand's word and what was found of its options are those of the command
 abbrev pub IsEntered : Option (List ℕ × List Row) → Command → Type 0

@@ -1,4 +1,5 @@
-use Rattle.bl_words.proofs.CommandLine.{alone_none, at_none, unkept_none}
+use Rattle.bl_options.proofs.Given.{at_none}
+use Rattle.bl_words.proofs.CommandLine.{alone_none, unkept_none}
 use Rattle.bl_words.proofs.command.alone_of.Goals as goal
 
 pub returns-in_err-limit-clause-none : goal.returns-in_err-limit-clause-none

@@ -1,5 +1,8 @@
-use Rattle.std.proofs.Common.{inl, inr, sym, ◌∙◌}
+use Rattle.std.proofs.Common.{inl, inr, subst, sym, ◌∙◌, Option}
+use Rattle.std.specs.Prelude.{IfNone, IfSome}
 use Rattle.std.proofs.lemmas.Result.{err_from_is_err_and}
+use Rattle.bl_words.specs.Words.{IsInRange, IsOf}
+use Rattle.bl_words.specs.declared.command.Command.{Command}
 use Rattle.bl_words.proofs.CommandLine.{matches_are_entered, faultless, has_fault}
 use Rattle.bl_words.proofs.command.read_words.Goals as goal
 
@@ -7,8 +10,11 @@ use Rattle.bl_words.proofs.command.read_words.Goals as goal
 pub returns-in-Some-clause-written : goal.returns-in-Some-clause-written
 returns-in-Some-clause-written c =
     let matches = c.in_ok-matches in
-    let of = c.in-Some.ensures.written in
+    let of = subst (λ (o : Option Command). IfSome o (IsOf matches.matches)) c.in-Some.is c.in_ok-command.ensures.written in
     (of.0, sym (matches_are_entered _ _ matches.matches c.in_ok-parser.ensures matches.ensures.matches) ∙ of.1, of.2)
+
+pub returns-in-Some-clause-range : goal.returns-in-Some-clause-range
+returns-in-Some-clause-range c = subst (λ (o : Option Command). IfSome o IsInRange) c.in-Some.is c.in_ok-command.ensures.range
 
 pub returns-in-Some-clause-faultless : goal.returns-in-Some-clause-faultless
 returns-in-Some-clause-faultless c = faultless _ _ c.in_ok-parser.ensures c.in_ok-matches.ensures.kinds
@@ -23,4 +29,6 @@ pub returns-in_ok-refusal-in-None-clause-faults : goal.returns-in_ok-refusal-in-
 returns-in_ok-refusal-in-None-clause-faults c =
     let matches = c.in_ok-matches in
     let same = matches_are_entered _ _ matches.matches c.in_ok-parser.ensures matches.ensures.matches in
-    inr (c.in_ok-refusal-in-None.ensures, λ command named range. c.in-None.ensures.none command (named.0, same ∙ named.1, named.2) range)
+    let none' = subst (λ (o : Option Command). IfNone o ((command : Command) → IsOf matches.matches command → IsInRange command → ⊥)) c.in-None.is
+    c.in_ok-command.ensures.none in
+    inr (c.in_ok-refusal-in-None.ensures, λ command named range. none' command (named.0, same ∙ named.1, named.2) range)

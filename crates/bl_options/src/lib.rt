@@ -1,0 +1,19 @@
+//! What the options of a command say, by the matches of a command line.
+//!
+//!     number     numbers
+//!     trail      where a trail is kept, and how
+//!     hosting    what a run of `serve` hosts, and what a chain does
+//!     start      where an audit begins
+//!     moment     at which moment of a trail `explain` is asked
+//!
+//! The definitions stand in specs/:
+//!
+//!     Said      what options say
+//!     Ranges    which of it is in its range
+#![tactic(auto)]
+
+pub mod hosting;
+pub mod moment;
+pub mod number;
+pub mod start;
+pub mod trail;
