@@ -4,7 +4,6 @@ For the scripts of this folder that have calls of the program refused or noted (
 gcc or clang as `cc`, and the C library of GNU. Prints nothing.
 """
 import collections
-import io
 import itertools
 import os
 import shutil
@@ -18,7 +17,7 @@ TOP = os.path.dirname(os.path.dirname(os.path.abspath(__file__)))
 SERVER = os.path.join(TOP, "crates/bl_server/out/bl_server")
 SETUP = os.path.join(TOP, "examples/setups/base.txt")
 sys.path.insert(0, os.path.join(TOP, "client"))
-from bl_client import connect, send_all  # noqa: E402
+from bl_client import connect, send_whole  # noqa: E402
 
 SECONDS = 30
 # Another schedule may make some calls more, so a kind is done when so many runs in a row have met no call of the number.
@@ -108,7 +107,7 @@ def hear(port, name, told, ports, waits):
             one.sendall(text.encode())
             while told[name].count("\n") < count and (data := one.recv(65536)):
                 told[name] += data.decode()
-        send_all(one, io.BytesIO(last.encode()))
+        send_whole(one, last.encode(), True)
         while data := one.recv(65536):
             told[name] += data.decode()
 
