@@ -1,5 +1,5 @@
 //! What a read does where a growth is refused. With ample memory each test here gives all lines. Where a single growth
-//! is refused, whichever it is, one read has failed and what was given before begins the lines: `bench/growths` refuses
+//! is refused, whichever it is, one read has failed and what was given before begins the lines: `bench/checks/growths` refuses
 //! each in turn, and tells so by a file.
 use super::base::{AMPLE, lines_of};
 use bl_allowance::allowance::Allowance;

@@ -1,5 +1,5 @@
 //! What comes of a run where a growth is refused. With ample memory a test here passes by what is told alone. It passes
-//! whatever single growth is refused too: `bench/growths` refuses each in turn, and tells so by a file.
+//! whatever single growth is refused too: `bench/checks/growths` refuses each in turn, and tells so by a file.
 use crate::tables::{TABLE, WHOLE};
 use bl_checking::check::check_on;
 use bl_wire::watched::Watched;

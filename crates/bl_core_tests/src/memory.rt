@@ -1,6 +1,6 @@
 //! What is left in a core where a growth is refused. With ample memory each test here passes by what is done alone. It
 //! passes whatever single growth is refused too, and `starved_and_lost` where its second entry's start is refused one
-//! after its first is lost: `bench/growths` refuses them, and tells so by a file.
+//! after its first is lost: `bench/checks/growths` refuses them, and tells so by a file.
 use super::base::{ANN, MEMO, SHOW_MEMO, base_or_none, finish, has, is_done, is_lost, run};
 use bl_core::machine::{Core, Started};
 use bl_core::refusal::{NotReady, StartFault, Starved};

@@ -1,5 +1,5 @@
 //! What comes of a run where a growth is refused. With ample memory the test here passes by what is written alone. It
-//! passes whatever single growth is refused too: `bench/growths` refuses each in turn, and tells so by a file.
+//! passes whatever single growth is refused too: `bench/checks/growths` refuses each in turn, and tells so by a file.
 use crate::base::asks;
 use bl_explaining_trail::explain::explain_trail_on;
 use bl_wire::watched::Watched;

@@ -1,5 +1,5 @@
 //! What comes of it where a growth is refused. With ample memory the test here passes by the verdict alone. It passes
-//! whatever single growth is refused too: `bench/growths` refuses each in turn, and tells so by a file.
+//! whatever single growth is refused too: `bench/checks/growths` refuses each in turn, and tells so by a file.
 use crate::base::base_or_none;
 use bl_left::left::left_by;
 use bl_trail::verdict::Verdict;

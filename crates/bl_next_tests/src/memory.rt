@@ -1,5 +1,5 @@
 //! What comes of a next setup where a growth is refused. With ample memory the test here passes by the setup alone. It
-//! passes whatever single growth is refused too: `bench/growths` refuses each in turn, and tells so by a file.
+//! passes whatever single growth is refused too: `bench/checks/growths` refuses each in turn, and tells so by a file.
 ghost use Rattle.std.specs.Prelude.{IfSome};
 ghost use Rattle.bl_state.specs.Whole.{IsWhole};
 

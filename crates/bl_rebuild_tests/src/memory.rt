@@ -1,5 +1,5 @@
 //! What is rebuilt where a growth is refused. With ample memory each test here passes by the halls alone. It passes
-//! whatever single growth is refused too: `bench/growths` refuses each in turn, and tells so by a file.
+//! whatever single growth is refused too: `bench/checks/growths` refuses each in turn, and tells so by a file.
 use crate::base::base_or_none;
 use bl_rebuild::fault::RebuildFault;
 use bl_rebuild::rebuild::rebuild;

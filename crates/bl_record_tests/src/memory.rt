@@ -1,5 +1,5 @@
 //! What is recovered where a growth is refused. With ample memory each test here passes by the files alone. It passes
-//! whatever single growth is refused too: `bench/growths` refuses each in turn, and tells so by a file.
+//! whatever single growth is refused too: `bench/checks/growths` refuses each in turn, and tells so by a file.
 use crate::base::{base_or_none, file_of, right};
 use bl_disk::device::DeviceError;
 use bl_disk_tests::memory::Memory;

@@ -1,5 +1,5 @@
 //! What a replay answers where a growth is refused. With ample memory each test here passes by the verdicts alone. It
-//! passes whatever single growth is refused too: `bench/growths` refuses each in turn, and tells so by a file.
+//! passes whatever single growth is refused too: `bench/checks/growths` refuses each in turn, and tells so by a file.
 use crate::base::base_or_none;
 use bl_replay::replay::replay;
 use bl_setup::setup::Setup;

@@ -1,5 +1,5 @@
 //! What comes of it where a growth is refused. With ample memory each test here passes by its rules alone. It passes
-//! whatever single growth is refused too: `bench/growths` refuses each in turn, and tells so by a file.
+//! whatever single growth is refused too: `bench/checks/growths` refuses each in turn, and tells so by a file.
 use bl_ruled::ruled::{Front, rules_before, rules_by};
 use bl_setup::reader::read_setup;
 use bl_trail::verdict::Verdict;

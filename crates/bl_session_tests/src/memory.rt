@@ -1,5 +1,5 @@
 //! What a session answers where a growth is refused. With ample memory each test here passes by the session's own
-//! output alone. It passes whatever single growth is refused too: `bench/growths` refuses each in turn, and tells so by
+//! output alone. It passes whatever single growth is refused too: `bench/checks/growths` refuses each in turn, and tells so by
 //! a file.
 use crate::base;
 use crate::base::{RESERVED, setup_or_none};

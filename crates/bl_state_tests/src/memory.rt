@@ -1,5 +1,5 @@
 //! What is written where a growth is refused. With ample memory each test here passes by the texts alone. It passes
-//! whatever single growth is refused too: `bench/growths` refuses each in turn, and tells so by a file.
+//! whatever single growth is refused too: `bench/checks/growths` refuses each in turn, and tells so by a file.
 use crate::base::{BASE_WRITTEN, base_or_none};
 use bl_state::put::put_setup;
 use bl_state::text::write_setup;
