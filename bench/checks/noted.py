@@ -216,7 +216,12 @@ def environment(folder, notes, how=None, at=0):
     """What a program has to be run with so that its calls are noted in the file `notes`, where the call of this number goes so; 0 for none."""
     kind = HOWS.get(how)
     numbers = {"AT": at, "HOW": [None, *HOWS].index(how), "ONLY": CALLS.index(kind) if kind else -1}
-    return {"LD_PRELOAD": os.path.join(folder, "noter.so"), "NOTES": notes, "MET": f"{notes}.met", **{name: str(it) for name, it in numbers.items()}}
+    return {
+        "LD_PRELOAD": os.path.join(folder, "noter.so"),
+        "NOTES": notes,
+        "MET": f"{notes}.met",
+        **{name: str(it) for name, it in numbers.items()},
+    }
 
 
 def met(notes):

@@ -438,7 +438,9 @@ def rule_effect(setup, policy, subject, rule):
 
 def rule_makes(policy, subject, rule):
     """The policy after a rule that its speaker may ask for."""
-    current, levels, present, matrix = list(policy.current), list(policy.levels), set(policy.present), set(policy.matrix)
+    current, levels, present, matrix = list(policy.current), list(policy.levels), set(policy.present), set(
+        policy.matrix
+    )
     if rule.kind == "current":
         current[subject] = rule.level
     elif rule.kind == "classify":
@@ -591,7 +593,9 @@ def admitted(setup, state, session, ordinal, work):
     if not last < ordinal <= 4294967295 or state.weight + weight(work) > state.limit:
         raise Wrong
     sessions = state.sessions[:session] + ((subject, ordinal),) + state.sessions[session + 1 :]
-    return state._replace(sessions=sessions, order=state.order + (Entry(subject, work, None),), weight=state.weight + weight(work))
+    return state._replace(
+        sessions=sessions, order=state.order + (Entry(subject, work, None),), weight=state.weight + weight(work)
+    )
 
 
 def started(setup, state, n):
@@ -610,7 +614,9 @@ def ended(setup, state, n):
         raise Wrong
     past = pasts(setup, state, n + 1)[n]
     children = tuple(Entry(state.order[n].subject, e[1], n) for e in past.effects if e[0] == "child")
-    return past.answer, state._replace(running=state.running - {n}, ended=state.ended | {n}, order=state.order + children)
+    return past.answer, state._replace(
+        running=state.running - {n}, ended=state.ended | {n}, order=state.order + children
+    )
 
 
 def lost(setup, state, n):
@@ -755,7 +761,16 @@ def random_body(rng, modes, depth, size):
         elif word == "pour" and seen and changed:
             body.append((word, rng.choice(seen), rng.choice(changed)))
         elif word == "if" and seen and depth < 3:
-            body.append((word, rng.choice(seen), rng.choice(["is", "has"]), text(), random_body(rng, modes, depth + 1, 1), random_body(rng, modes, depth + 1, rng.randint(0, 1))))
+            body.append(
+                (
+                    word,
+                    rng.choice(seen),
+                    rng.choice(["is", "has"]),
+                    text(),
+                    random_body(rng, modes, depth + 1, 1),
+                    random_body(rng, modes, depth + 1, rng.randint(0, 1)),
+                )
+            )
         elif word == "spawn" and depth < 3:
             body.append((word, random_when_in(rng, modes, depth + 1)))
     return tuple(body)

@@ -29,7 +29,10 @@ LONG = 6000 * "x"
 VISITS = {
     "ann": [
         ("hello ann", ["ok"]),
-        ('when read memo do show memo; spawn when read note do say "c"; end; spawn when read memo do show memo; end; end', ['1 done "m1"', '1.1 done "c"', '1.2 done "m1"']),
+        (
+            'when read memo do show memo; spawn when read note do say "c"; end; spawn when read memo do show memo; end; end',
+            ['1 done "m1"', '1.1 done "c"', '1.2 done "m1"'],
+        ),
         ('when append log do add log "x"; end', ["2 done"]),
         ("wait", ["ok"]),
         ("when read log do show log; end", ["3 denied simple ann log"]),
@@ -116,7 +119,9 @@ def served(words, env, told, ports, waits=False):
     """Runs a server with these clients, each of which notes what it is told, and its own port: whether it listened, its status, standard output behind
     that, and standard error. Where it does not end it is killed."""
     port, pipe = free_port(), subprocess.PIPE
-    with subprocess.Popen([*words, "--port", str(port)], env=env, stdin=subprocess.DEVNULL, stdout=pipe, stderr=pipe, text=True) as server:
+    with subprocess.Popen(
+        [*words, "--port", str(port)], env=env, stdin=subprocess.DEVNULL, stdout=pipe, stderr=pipe, text=True
+    ) as server:
         late = threading.Timer(SECONDS, server.kill)
         late.start()
         listened = server.stdout.readline() == "listening\n"

@@ -49,7 +49,14 @@ ALONE = [
     Work("short reads", "base", READS, 100, 90_000, 2_000),
     Work("writes of 1 KB", "base", [f'when write memo do set memo "{"x" * 1000}"; end'], 100, 15_000, 1_000),
     Work("scripts with `if` and `spawn`", "base", [SCRIPT], 100, 20_000, 400),
-    Work("rules between reads, 1,004 documents", "many", ["current u", "when read note do show note; end", "current s{nato}", READS[0]], 100, 60_000, 1_000),
+    Work(
+        "rules between reads, 1,004 documents",
+        "many",
+        ["current u", "when read note do show note; end", "current s{nato}", READS[0]],
+        100,
+        60_000,
+        1_000,
+    ),
     Work("refused lines", "base", list(REFUSED.values()), 100, 90_000, 2_000),
     Work("a `wait` after each line", "base", READS, 1, 90_000, 2_000),
     Work("one block of 100,000", "base", READS, 0, 100_000, 2_000),
@@ -60,8 +67,22 @@ ALONE = [
 LINES = [
     Work("short read", "base", READS[:1], 100, 0, 2_000),
     Work("`add` to one document", "base", ['when append plan do add plan "x"; end'], 100, 0, 1_000),
-    Work("two accesses, two statements", "base", ["when read memo, read note do show memo; show note; end"], 100, 0, 1_000),
-    Work("`show`, `add`, two of 1,004 documents", "many", [f'when read d{n * 7}, append plan do show d{n * 7}; add plan "x"; end' for n in range(100)], 100, 0, 1_000),
+    Work(
+        "two accesses, two statements",
+        "base",
+        ["when read memo, read note do show memo; show note; end"],
+        100,
+        0,
+        1_000,
+    ),
+    Work(
+        "`show`, `add`, two of 1,004 documents",
+        "many",
+        [f'when read d{n * 7}, append plan do show d{n * 7}; add plan "x"; end' for n in range(100)],
+        100,
+        0,
+        1_000,
+    ),
     Work("rules", "base", ["current u", "current s{nato}"], 100, 0, 1_000),
 ] + [Work(f"refused `{fault}`", "base", [line], 100, 0, 2_000) for fault, line in REFUSED.items()]
 
@@ -76,19 +97,47 @@ SERVED = [
     Load("100 lines at once, 4 clients", 2, 4, 225, 100, READ),
     Load("100 at once, 4 clients, own documents", 2, 4, 225, 100, 'when write own{} do set own{} "x"; end'),
     Load("100 at once, 4 clients, one document", 2, 4, 225, 100, 'when write memo do set memo "x"; end'),
-    Load("100 at once, 4 clients, three documents", 2, 4, 225, 100, 'when read note, write memo, append plan do set memo "x"; show note; end'),
+    Load(
+        "100 at once, 4 clients, three documents",
+        2,
+        4,
+        225,
+        100,
+        'when read note, write memo, append plan do set memo "x"; show note; end',
+    ),
 ]
-HEAVY = Load("heavy scripts (20 searches of 64 KB)", 2, 4, 5, 5, "when read wide do " + 'if wide has "wwwwwwwwwwwwwwwwwwwwx" then say "y"; end; ' * 20 + "end")
+HEAVY = Load(
+    "heavy scripts (20 searches of 64 KB)",
+    2,
+    4,
+    5,
+    5,
+    "when read wide do " + 'if wide has "wwwwwwwwwwwwwwwwwwwwx" then say "y"; end; ' * 20 + "end",
+)
 
 # trails of 100,000 entries, made by a session over the setup `base`
 REPLAYED = [
     Work("reads", "base", READS, 100, 100_000, 1_000),
     Work("one document", "base", ['when write memo do set memo "x"; show memo; end'], 100, 100_000, 1_000),
-    Work("three documents", "base", ['when read note, write memo, append plan do set memo "x"; show note; end'], 100, 100_000, 1_000),
+    Work(
+        "three documents",
+        "base",
+        ['when read note, write memo, append plan do set memo "x"; show note; end'],
+        100,
+        100_000,
+        1_000,
+    ),
 ]
 
 # each line asks so often whether a text of 64 KB has a short one
-SEARCHES = Work("300 searches of 64 KB in a line", "wide", ["when read wide do " + 'if wide has "wx" then end; ' * 300 + "end"], 10, 100, 0)
+SEARCHES = Work(
+    "300 searches of 64 KB in a line",
+    "wide",
+    ["when read wide do " + 'if wide has "wx" then end; ' * 300 + "end"],
+    10,
+    100,
+    0,
+)
 
 
 def session(work, count):
