@@ -8,12 +8,13 @@ import struct
 
 from visits import build_library
 
-# Stands before the calls of the C library that the program makes: on plain files and folders, and writes to standard output and sockets. Of each it notes
-# in the file NOTES that it begins, before the system is called, and what it answered, before the program goes on. So where one call is noted to begin behind
-# the end of another, it did. The call of the number AT, from 1, among those of the kind ONLY, or among all, goes as HOW says: the program is killed before,
-# behind or, where bytes are written, within it; it is refused; or half of its bytes are taken. A sync is answered well, and not made: what a disk has is told
-# by the notes, in a fraction of the time. SKIPPED does not note it either. The number of the call that goes otherwise is written to the file MET. FILE.clock,
-# on which no promise rests, is left out.
+# Stands before the calls of the C library that the program makes: on plain files and folders, and writes to standard
+# output and sockets. Of each it notes in the file NOTES that it begins, before the system is called, and what it
+# answered, before the program goes on. So where one call is noted to begin behind the end of another, it did. The call
+# of the number AT, from 1, among those of the kind ONLY, or among all, goes as HOW says: the program is killed before,
+# behind or, where bytes are written, within it; it is refused; or half of its bytes are taken. A sync is answered well,
+# and not made: what a disk has is told by the notes, in a fraction of the time. SKIPPED does not note it either. The
+# number of the call that goes otherwise is written to the file MET. FILE.clock, on which no promise rests, is left out.
 NOTER = r"""
 #define _GNU_SOURCE
 #include <dlfcn.h>
@@ -202,8 +203,9 @@ CALLS = ["open", "write", "reply", "sync", "cut", "link", "rename", "unlink"]
 HOWS = {"before": None, "behind": None, "within": "write", "refused": None, "half": "write", "skipped": "sync"}
 NOTE = struct.Struct("@iiqqqq")
 
-# A call that begins, where `answer` is None, or ends: its kind, its number, the number of its file, its value, its bytes or names, and what it answered. The
-# value is, of an open, whether it may make the file; of a cut, the length; of a reply, the port of the client, or 0 for standard output.
+# A call that begins, where `answer` is None, or ends: its kind, its number, the number of its file, its value, its
+# bytes or names, and what it answered. The value is, of an open, whether it may make the file; of a cut, the length; of
+# a reply, the port of the client, or 0 for standard output.
 Note = collections.namedtuple("Note", "call number file value text answer")
 
 
@@ -213,7 +215,8 @@ def build_noter(folder):
 
 
 def environment(folder, notes, how=None, at=0):
-    """What a program has to be run with so that its calls are noted in the file `notes`, where the call of this number goes so; 0 for none."""
+    """What a program has to be run with so that its calls are noted in the file `notes`, where the call of this number
+    goes so; 0 for none."""
     kind = HOWS.get(how)
     numbers = {"AT": at, "HOW": [None, *HOWS].index(how), "ONLY": CALLS.index(kind) if kind else -1}
     return {
@@ -249,15 +252,16 @@ class File:
         self.text, self.kept, self.is_doubtful = text, b"", False
 
     def left(self, is_torn):
-        """What the end of the machine may leave of it: what is on the disk, and where it is torn, half of what was added since."""
+        """What the end of the machine may leave of it: what is on the disk, and where it is torn, half of what was
+        added since."""
         added = self.text[len(self.kept):] if is_torn and self.text.startswith(self.kept) else b""
         return self.kept + added[:len(added) // 2]
 
 
 class Disk:
-    """A folder as the calls of a run leave it, what they sent to whom, and what is left of it whatever happens: the bytes of a file, and the names in the
-    folder, as they were when the last sync of it began that answered well. After one that did not, no sync of it is believed. Of what was there before the
-    run, nothing is on the disk."""
+    """A folder as the calls of a run leave it, what they sent to whom, and what is left of it whatever happens: the
+    bytes of a file, and the names in the folder, as they were when the last sync of it began that answered well. After
+    one that did not, no sync of it is believed. Of what was there before the run, nothing is on the disk."""
 
     def __init__(self, folder):
         self.folder, self.number = folder, os.stat(folder).st_ino
@@ -332,7 +336,8 @@ class Disk:
         return None if file is None else file.kept
 
     def ends(self):
-        """What the end of the machine may leave: the names that are on the disk, or all names, and the bytes of their files, which may be torn."""
+        """What the end of the machine may leave: the names that are on the disk, or all names, and the bytes of their
+        files, which may be torn."""
         for names in self.kept_names, self.names:
             for is_torn in False, True:
                 yield names, is_torn

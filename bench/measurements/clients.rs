@@ -7,8 +7,9 @@
 //!     clients load PORT CLIENTS ROUNDS LINES LINE      as serve, with this line, in which {} is the number of the client; tells behind
 //!                                                      the seconds a number that is the same where all clients heard the same
 //!
-//! Clients wait for each other once they are connected, and then the seconds until the last has ended its rounds are told.
-//! Of those that serve, each has a thread of its own where they are 16 at most; else 16 threads have as many each, and wait for all of them at once.
+//! Clients wait for each other once they are connected, and then the seconds until the last has ended its rounds are
+//! told. Of those that serve, each has a thread of its own where they are 16 at most; else 16 threads have as many
+//! each, and wait for all of them at once.
 use std::env::args;
 use std::hash::{DefaultHasher, Hasher};
 use std::io::{BufRead, BufReader, Read, Result, Write};
@@ -154,7 +155,8 @@ mod ready {
     }
 }
 
-/// A client that shares its thread: its stream, what it has heard of its round, the rounds that it has still to send, and when it sent the last.
+/// A client that shares its thread: its stream, what it has heard of its round, the rounds that it has still to send,
+/// and when it sent the last.
 struct Client {
     stream: TcpStream,
     heard: Vec<u8>,

@@ -4,8 +4,8 @@ import os
 
 from visits import build_library
 
-# Stands before the calls of the C library that the program makes. It refuses the one of this kind and number, counted from 1 behind the start of the program,
-# and then writes the file REFUSED.
+# Stands before the calls of the C library that the program makes. It refuses the one of this kind and number, counted
+# from 1 behind the start of the program, and then writes the file REFUSED.
 REFUSER = r"""
 #define _GNU_SOURCE
 #include <dlfcn.h>

@@ -666,7 +666,8 @@ VERSIONS = {b"trail 1": 1, b"trail 2": 2}
 
 
 def head(setup, known, line):
-    """What is known after a head line, before which None is known, or the version: the version, or then a state. Version 1 knows no absent document."""
+    """What is known after a head line, before which None is known, or the version: the version, or then a state.
+    Version 1 knows no absent document."""
     if known is None:
         if line in VERSIONS and (line == b"trail 2" or all(d.present for d in setup.documents)):
             return VERSIONS[line]
@@ -802,7 +803,8 @@ def random_rule(rng, setup, version):
 
 
 def random_work(rng, setup, state, subject):
-    """What a line asks. In version 2 many lines spawn, and their subject often comes down behind them, so that children carry levels."""
+    """What a line asks. In version 2 many lines spawn, and their subject often comes down behind them, so that children
+    carry levels."""
     if rng.random() < 0.15 * state.version:
         return random_rule(rng, setup, state.version)
     when = random_when(rng, setup, 1)
@@ -816,7 +818,8 @@ def random_work(rng, setup, state, subject):
 
 
 def random_trail(rng, setup, events, version=2, limit=10000):
-    """A true trail of so many events, as its lines. One of version 1 wants a setup in which each document is present."""
+    """A true trail of so many events, as its lines. One of version 1 wants a setup in which each document is
+    present."""
     state = first_state(version, limit)
     lines = [f"trail {version}", f"limit {limit}"]
     while len(lines) < events + 2:

@@ -20,12 +20,13 @@ sys.path.insert(0, os.path.join(TOP, "client"))
 from bl_client import connect, send_whole  # noqa: E402
 
 SECONDS = 30
-# Another schedule may make some calls more, so a kind is done when so many runs in a row have met no call of the number.
+# Another schedule may make some calls more, so a kind is done when so many runs in a row have met no call of the
+# number.
 RUNS_WITHOUT = 5
 
 LONG = 6000 * "x"
-# What each client sends, line by line, with the replies that are due, at the end of its input at last. No reply hangs on what another line or the other client
-# does, so an entry that is lost changes no other, but for its children.
+# What each client sends, line by line, with the replies that are due, at the end of its input at last. No reply hangs
+# on what another line or the other client does, so an entry that is lost changes no other, but for its children.
 VISITS = {
     "ann": [
         ("hello ann", ["ok"]),
@@ -88,7 +89,8 @@ def due_to(name):
 
 
 def parts_of(name):
-    """What a client sends that waits for its replies: the parts up to each of its `ok`, and the rest, each with the number of replies by then."""
+    """What a client sends that waits for its replies: the parts up to each of its `ok`, and the rest, each with the
+    number of replies by then."""
     text, count, parts = [], 0, []
     for line, replies in VISITS[name]:
         text.append(line)
@@ -100,8 +102,8 @@ def parts_of(name):
 
 
 def hear(port, name, told, ports, waits):
-    """One client: it sends all its lines, and is told what is due, or less. Where it waits it has the replies to each part before it sends more. It notes its
-    own port."""
+    """One client: it sends all its lines, and is told what is due, or less. Where it waits it has the replies to each
+    part before it sends more. It notes its own port."""
     *parts, (last, _) = parts_of(name) if waits else [(lines_of(name), 0)]
     with suppress(OSError), connect(port) as one:
         one.settimeout(SECONDS)
@@ -116,8 +118,8 @@ def hear(port, name, told, ports, waits):
 
 
 def served(words, env, told, ports, waits=False):
-    """Runs a server with these clients, each of which notes what it is told, and its own port: whether it listened, its status, standard output behind
-    that, and standard error. Where it does not end it is killed."""
+    """Runs a server with these clients, each of which notes what it is told, and its own port: whether it listened, its
+    status, standard output behind that, and standard error. Where it does not end it is killed."""
     port, pipe = free_port(), subprocess.PIPE
     with subprocess.Popen(
         [*words, "--port", str(port)], env=env, stdin=subprocess.DEVNULL, stdout=pipe, stderr=pipe, text=True
@@ -163,7 +165,8 @@ def lost(reply):
 
 
 def said_in(trail):
-    """What a trail says of each subject's entries, by their labels. No behaviour here has children but those whose text it has."""
+    """What a trail says of each subject's entries, by their labels. No behaviour here has children but those whose text
+    it has."""
     subjects, entries, said = [], [], collections.defaultdict(dict)
     for line in trail.splitlines():
         kind, _, words = line.partition(" ")
@@ -182,7 +185,8 @@ def said_in(trail):
 
 
 def wrong_of_trail(program, name, told):
-    """What is wrong with a trail that is kept: `replay` does not accept it, or it does not have what the clients were told."""
+    """What is wrong with a trail that is kept: `replay` does not accept it, or it does not have what the clients were
+    told."""
     with open(name) as text:
         trail = text.read()
     ran = subprocess.run([program, "replay", "--setup", SETUP, "--trail", name], capture_output=True, text=True)

@@ -5,10 +5,11 @@ from collections import namedtuple
 
 TOP = os.path.abspath(os.path.join(__file__, "../../.."))
 
-# The lines come again and again, `wait` after each so many of them (0: after none). `count` lines are measured, and instructions are told
-# by the difference of two shorter sessions; a work of which no run is timed has no count.
+# The lines come again and again, `wait` after each so many of them (0: after none). `count` lines are measured, and
+# instructions are told by the difference of two shorter sessions; a work of which no run is timed has no count.
 Work = namedtuple("Work", "title setup lines wait count few")
-# Each client sends so many rounds of so many lines and a `wait`, and reads their replies. In a line {} is the number of the client.
+# Each client sends so many rounds of so many lines and a `wait`, and reads their replies. In a line {} is the number of
+# the client.
 Load = namedtuple("Load", "title workers clients rounds at_once line")
 
 HEAD = """ranks u c s t

@@ -40,7 +40,8 @@ def copy_sources(program, place):
 
 
 def lay(folder, program, names, parts):
-    """Lays the program, which stands on these crates, into a folder with a copy of these parts of them. Where it lies."""
+    """Lays the program, which stands on these crates, into a folder with a copy of these parts of them. Where it
+    lies."""
     crates = listed()
     needed = all_below(names, crates)
     for name in needed:
@@ -60,7 +61,8 @@ def lay(folder, program, names, parts):
 
 
 def run_unproved(folder, program, names, text):
-    """What the program writes to this input, and what is said of the run. It is built without a proof, with checks in it."""
+    """What the program writes to this input, and what is said of the run. It is built without a proof, with checks in
+    it."""
     place = lay(folder, program, names, ("src", "specs", "proofs"))
     command = ["rt", "try", "--steps", "1", "--seconds", "1800"]
     ran = subprocess.run(command, cwd=place, input=text, capture_output=True, text=True)

@@ -1,4 +1,5 @@
-//! What is done with each token of a line, beside reading it: nothing, its canonical text is written, or it is asked whether the line is that text.
+//! What is done with each token of a line, beside reading it: nothing, its canonical text is written, or it is asked
+//! whether the line is that text.
 use crate::names::Names;
 
 pub trait Ink {

@@ -4,9 +4,9 @@
 //!     plain serve --setup FILE --port N --trail FILE [--session-threads N] [--sessions N] [--limit N] [--workers N]
 //!     plain replay --setup FILE --trail FILE
 //!
-//! Written as one would who has only speed and the right answers in mind: a line is read in one walk into lists that all lines of a block
-//! share, and runs under one lock. A setup has to be right, nobody is told of faults of input and output, and there are no workers: each
-//! session's thread runs what it read.
+//! Written as one would who has only speed and the right answers in mind: a line is read in one walk into lists that
+//! all lines of a block share, and runs under one lock. A setup has to be right, nobody is told of faults of input and
+//! output, and there are no workers: each session's thread runs what it read.
 mod ink;
 mod names;
 mod policy;

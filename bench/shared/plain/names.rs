@@ -5,7 +5,8 @@ pub struct Names {
     list: Vec<Vec<u8>>,
     /// The front of each, and its length.
     fronts: Vec<(u64, usize)>,
-    /// One more than the place of a name; 0 where no name is. Its length is a power of two, and at least twice that of the list.
+    /// One more than the place of a name; 0 where no name is. Its length is a power of two, and at least twice that of
+    /// the list.
     table: Vec<u16>,
 }
 

@@ -27,7 +27,8 @@ struct Place {
     carried: Level,
 }
 
-/// Who waits for one document, or for the policy: groups of claims, each of one that changes it, or of some that do not.
+/// Who waits for one document, or for the policy: groups of claims, each of one that changes it, or of some that do
+/// not.
 #[derive(Default)]
 struct Queue {
     /// How many of each group have not ended, and whether it is shared.

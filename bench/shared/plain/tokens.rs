@@ -100,7 +100,8 @@ impl<'a> Cursor<'a> {
         }
     }
 
-    /// The fault where the next token is another than the one that is asked for: its own, or that it cannot stand there.
+    /// The fault where the next token is another than the one that is asked for: its own, or that it cannot stand
+    /// there.
     #[cold]
     #[inline(never)]
     pub fn fault(&self) -> At {

@@ -1,6 +1,6 @@
 //! What a read does where a growth is refused. With ample memory each test here gives all lines. Where a single growth
-//! is refused, whichever it is, one read has failed and what was given before begins the lines: `bench/checks/growths` refuses
-//! each in turn, and tells so by a file.
+//! is refused, whichever it is, one read has failed and what was given before begins the lines: `bench/checks/growths`
+//! refuses each in turn, and tells so by a file.
 use super::base::{AMPLE, lines_of};
 use bl_allowance::allowance::Allowance;
 use bl_connection::stream::{Answer, Stream};

@@ -1,5 +1,5 @@
-//! What comes of an audit where a growth is refused. With ample memory the test here passes by what is told alone. It passes
-//! whatever single growth is refused too: `bench/checks/growths` refuses each in turn, and tells so by a file.
+//! What comes of an audit where a growth is refused. With ample memory the test here passes by what is told alone. It
+//! passes whatever single growth is refused too: `bench/checks/growths` refuses each in turn, and tells so by a file.
 use crate::base::{FIRST, FIRST_SUM, FIRST_TRAIL, JOURNAL, SECOND, SECOND_SUM, folder_of};
 use crate::memory::MemoryFolder;
 use bl_auditing::audit::audit_on;

@@ -1,6 +1,6 @@
 //! What a connection does where a growth is refused. With ample memory each test here passes by the session's own
-//! output alone. It passes whatever single growth is refused too: `bench/checks/growths` refuses each in turn, and tells so by
-//! a file.
+//! output alone. It passes whatever single growth is refused too: `bench/checks/growths` refuses each in turn, and
+//! tells so by a file.
 use super::base::{Ended, Session, serve_or_none};
 use super::streams::Manner;
 use bl_engine::conversation::Opening;

@@ -1,6 +1,6 @@
 //! What a turn does where a growth is refused. With ample memory the test here passes by the example's own answers
-//! alone. It passes whatever single growth is refused too: `bench/checks/growths` refuses each in turn, and tells so by a
-//! file.
+//! alone. It passes whatever single growth is refused too: `bench/checks/growths` refuses each in turn, and tells so by
+//! a file.
 ghost use Rattle.std.specs.Prelude.{◌≡◌, IfSome};
 ghost use Rattle.bl_gate.specs.Gates.{Follows};
 

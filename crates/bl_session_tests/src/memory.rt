@@ -1,6 +1,6 @@
 //! What a session answers where a growth is refused. With ample memory each test here passes by the session's own
-//! output alone. It passes whatever single growth is refused too: `bench/checks/growths` refuses each in turn, and tells so by
-//! a file.
+//! output alone. It passes whatever single growth is refused too: `bench/checks/growths` refuses each in turn, and
+//! tells so by a file.
 use crate::base;
 use crate::base::{RESERVED, setup_or_none};
 use bl_wire::fault::SessionFault;

@@ -1,5 +1,6 @@
-//! What is read of a setup file where a growth is refused. With ample memory the test here passes by the faults alone. It passes whatever
-//! single growth is refused too: `bench/checks/growths` refuses each in turn, and tells so by a file.
+//! What is read of a setup file where a growth is refused. With ample memory the test here passes by the faults alone.
+//! It passes whatever single growth is refused too: `bench/checks/growths` refuses each in turn, and tells so by a
+//! file.
 use super::files::{BACK, BOB, FRONT, add_parts};
 use bl_setup::fault::{SetupFault, SetupFaultKind};
 use bl_setup::reader::read_setup;
