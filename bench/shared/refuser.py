@@ -64,7 +64,8 @@ BEFORE(int, ftruncate, (int fd, off_t size), (fd, size), CUT, EIO, -1)
 BEFORE(int, link, (const char *from, const char *to), (from, to), NAME, EIO, -1)
 BEFORE(int, rename, (const char *from, const char *to), (from, to), NAME, EIO, -1)
 BEFORE(int, unlink, (const char *name), (name), NAME, EIO, -1)
-BEFORE(int, pthread_create, (pthread_t *to, const pthread_attr_t *how, void *(*run)(void *), void *with), (to, how, run, with), THREAD, EAGAIN, EAGAIN)
+BEFORE(int, pthread_create, (pthread_t *to, const pthread_attr_t *how, void *(*run)(void *), void *with),
+       (to, how, run, with), THREAD, EAGAIN, EAGAIN)
 
 int open(const char *name, int how, ...) {
     static int (*behind)(const char *, int, ...);

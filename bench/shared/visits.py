@@ -31,7 +31,8 @@ VISITS = {
     "ann": [
         ("hello ann", ["ok"]),
         (
-            'when read memo do show memo; spawn when read note do say "c"; end; spawn when read memo do show memo; end; end',
+            'when read memo do show memo; spawn when read note do say "c"; end; spawn when read memo do show memo; '
+            'end; end',
             ['1 done "m1"', '1.1 done "c"', '1.2 done "m1"'],
         ),
         ('when append log do add log "x"; end', ["2 done"]),

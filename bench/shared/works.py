@@ -34,7 +34,8 @@ SETUPS = {"base": HEAD + OWN, "many": HEAD + MANY, "wide": HEAD + WIDE}
 
 READS = [f"when read {name} do show {name}; end" for name in ("memo", "note", "memo")]
 SCRIPT = (
-    'when write memo, read note do if memo has "m" then set memo "m2"; show memo; else say "no"; end; spawn when read note do show note; end; '
+    'when write memo, read note do if memo has "m" then set memo "m2"; show memo; else say "no"; end; spawn when read '
+    'note do show note; end; '
     'spawn when read memo do show memo; spawn when read note do say "c"; end; end; end'
 )
 REFUSED = {

@@ -51,7 +51,8 @@ fn serve_all(setup: &Setup, state: &Mutex<State>) -> io::Result<()> {
         while taken.fetch_add(1, Ordering::Relaxed) < sessions {
             let Ok((stream, _)) = listener.accept() else { continue };
             // a client that goes early is its own affair
-            let _ = stream.set_nodelay(true).and_then(|()| serve(Session::new(setup, state, true), &stream, &stream, true));
+            let served = |()| serve(Session::new(setup, state, true), &stream, &stream, true);
+            let _ = stream.set_nodelay(true).and_then(served);
         }
     };
     thread::scope(|scope| {

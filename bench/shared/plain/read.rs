@@ -247,7 +247,9 @@ impl<'a, I: Ink> Reader<'a, '_, I> {
     #[inline(always)]
     fn declared(&mut self, when: u32, or: Option<Mode>) -> Read<u16> {
         let document = self.document()?;
-        let serves = |access: &Access| access.document == document && (access.mode == Mode::Write || Some(access.mode) == or);
+        let serves = |access: &Access| {
+            access.document == document && (access.mode == Mode::Write || Some(access.mode) == or)
+        };
         if !self.scripts.accesses_of(when).iter().any(serves) && self.mode.is_none() {
             self.mode = Some(document);
         }
@@ -359,7 +361,8 @@ pub fn read_line<I: Ink>(setup: &Setup, line: &[u8], scripts: &mut Scripts, ink:
         return Err(Fault::Long);
     }
     let (cursor, twice, mode) = (Cursor::new(line), None, None);
-    let mut reader = Reader { setup, cursor, scripts, ink, whens: 0, deep: false, many: false, unknown: None, twice, mode };
+    let (deep, many, unknown) = (false, false, None);
+    let mut reader = Reader { setup, cursor, scripts, ink, whens: 0, deep, many, unknown, twice, mode };
     let line = reader.whole().map_err(|at| Fault::Syntax(at.0))?;
     reader.fault().map_or(Ok(line), Err)
 }

@@ -91,7 +91,8 @@ fn number(line: &[u8]) -> Option<(u32, &[u8])> {
         return None;
     }
     let digits = line[..len].iter();
-    let number = digits.copied().try_fold(0_u32, |number, digit| number.checked_mul(10)?.checked_add((digit - b'0').into()))?;
+    let more = |number: u32, digit: u8| number.checked_mul(10)?.checked_add((digit - b'0').into());
+    let number = digits.copied().try_fold(0_u32, more)?;
     Some((number, &line[len..]))
 }
 
@@ -106,7 +107,10 @@ impl<'a> Replay<'a> {
         let (scripts, sessions, places, claims, spawned) = Default::default();
         let queues = (0..=setup.documents.len()).map(|_| Queue::default()).collect();
         let policy = Policy::new(setup);
-        Replay { setup, trail, version, limit, weight: 0, policy, contents, scripts, sessions, places, claims, queues, spawned }
+        let weight = 0;
+        Replay {
+            setup, trail, version, limit, weight, policy, contents, scripts, sessions, places, claims, queues, spawned,
+        }
     }
 
     fn enter(&mut self, work: Work, subject: u16, carried: Level) {
@@ -199,14 +203,17 @@ impl<'a> Replay<'a> {
                     self.contents[document as usize].clear();
                 }
             }
-            Work::When(when) => match self.policy.first_fault(self.setup, subject, carried, self.scripts.accesses_of(when)) {
-                Some(denial) => {
-                    self.leave(n);
-                    return self.is_denied(subject, denial, rest);
+            Work::When(when) => {
+                let accesses = self.scripts.accesses_of(when);
+                match self.policy.first_fault(self.setup, subject, carried, accesses) {
+                    Some(denial) => {
+                        self.leave(n);
+                        return self.is_denied(subject, denial, rest);
+                    }
+                    None if rest != b" run" => return None,
+                    None => self.places[n as usize].stand = Stand::Running,
                 }
-                None if rest != b" run" => return None,
-                None => self.places[n as usize].stand = Stand::Running,
-            },
+            }
         }
         Some(())
     }
@@ -288,7 +295,8 @@ fn head(setup: &Setup, trail: &[u8]) -> Result<(u8, u32, usize), usize> {
 
 /// The verdict, as the program says it.
 pub fn verdict(setup: &Setup, trail: &[u8]) -> String {
-    let found = head(setup, trail).and_then(|(version, limit, at)| Replay::new(setup, trail, version, limit).follow(at));
+    let follow = |(version, limit, at)| Replay::new(setup, trail, version, limit).follow(at);
+    let found = head(setup, trail).and_then(follow);
     match found {
         Ok(count) => format!("accepted {count}"),
         Err(number) => format!("rejected {number}"),

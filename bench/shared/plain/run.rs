@@ -73,7 +73,14 @@ fn pour(contents: &mut [Vec<u8>], from: u16, to: u16) {
 }
 
 /// Runs a behaviour, whose texts stand in these bytes, and lists what it spawns.
-pub fn run(contents: &mut [Vec<u8>], scripts: &Scripts, bytes: &[u8], when: u32, out: &mut impl Out, spawned: &mut Vec<u32>) {
+pub fn run(
+    contents: &mut [Vec<u8>],
+    scripts: &Scripts,
+    bytes: &[u8],
+    when: u32,
+    out: &mut impl Out,
+    spawned: &mut Vec<u32>,
+) {
     let text = |span: Span| &bytes[span.start as usize..(span.start + span.len) as usize];
     let mut at = scripts.whens[when as usize].code;
     loop {

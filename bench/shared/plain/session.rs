@@ -311,7 +311,10 @@ impl Session<'_> {
                 out.number(at);
                 return out.put(b"\n");
             }
-            Fault::Unknown(name) => ("unknown ", Some(&self.scripts.bytes[name.start as usize..(name.start + name.len) as usize])),
+            Fault::Unknown(name) => {
+                let (start, end) = (name.start as usize, (name.start + name.len) as usize);
+                ("unknown ", Some(&self.scripts.bytes[start..end]))
+            }
             Fault::Twice(document) => ("twice ", Some(self.setup.documents.name(document))),
             Fault::TwiceCategory(category) => ("twice ", Some(self.setup.categories.name(category))),
             Fault::Mode(document) => ("mode ", Some(self.setup.documents.name(document))),

@@ -20,7 +20,8 @@ impl Out for Trail {
 impl Trail {
     pub fn new(name: &str, limit: u32) -> io::Result<Trail> {
         let part = format!("{name}.part");
-        let mut trail = Trail { file: BufWriter::with_capacity(1 << 16, File::create(&part)?), part, name: name.to_string() };
+        let file = BufWriter::with_capacity(1 << 16, File::create(&part)?);
+        let mut trail = Trail { file, part, name: name.to_string() };
         trail.put(format!("trail 2\nlimit {limit}\n").as_bytes());
         Ok(trail)
     }

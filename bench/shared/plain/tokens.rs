@@ -70,7 +70,9 @@ fn text_end(line: &[u8], start: usize) -> usize {
     let mut at = start;
     // a whole block at a time, so that the compiler makes vectors of it
     while let Some(block) = line[at..].first_chunk::<BLOCK>()
-        && block.iter().fold(true, |all, byte| all & (*byte >= b' ') & (*byte <= b'~') & (*byte != b'"') & (*byte != b'\\'))
+        && block.iter().fold(true, |all, byte| {
+            all & (*byte >= b' ') & (*byte <= b'~') & (*byte != b'"') & (*byte != b'\\')
+        })
     {
         at += BLOCK;
     }
