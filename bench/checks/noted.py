@@ -1,6 +1,10 @@
-"""A library that notes the calls which a run of the program makes on its files and to its clients, in order, and what a disk has of them.
+"""A library that notes the calls which a run of the program makes on its files and to its clients, in order.
 
-For bench/checks/synced. Building the library needs gcc or clang as `cc`, and the C library of GNU; nothing is printed.
+For bench/checks/synced. It tells, too, what a disk has of these calls.
+
+Needs: Python 3.8 or later. To build the library it needs gcc or clang as `cc`, and the C library of GNU.
+
+Prints: nothing.
 """
 import collections
 import os

@@ -1,11 +1,16 @@
 //! Clients of a server, and a plain echo server that is sent the same bytes.
 //!
-//!     clients echo CONNECTIONS                         listens at a free port, tells it, and sends back what comes
-//!     clients serve PORT CLIENTS ROUNDS LINES          sends so many lines and `wait` in each round, and reads their replies; tells behind the
-//!                                                      seconds how many milliseconds half of the rounds and 99 of 100 took at most
-//!     clients same PORT CLIENTS ROUNDS LINES           sends the same bytes in each round, and reads as many
-//!     clients load PORT CLIENTS ROUNDS LINES LINE      as serve, with this line, in which {} is the number of the client; tells behind
-//!                                                      the seconds a number that is the same where all clients heard the same
+//!     clients echo CONNECTIONS
+//!     clients serve PORT CLIENTS ROUNDS LINES
+//!     clients same PORT CLIENTS ROUNDS LINES
+//!     clients load PORT CLIENTS ROUNDS LINES LINE
+//!
+//! - `echo` listens at a free port, tells it, and sends back what comes.
+//! - `serve` sends so many lines and `wait` in each round, and reads their replies. It tells behind the seconds how many
+//!   milliseconds half of the rounds and 99 of 100 took at most.
+//! - `same` sends the same bytes in each round, and reads as many.
+//! - `load` does as `serve`, with this line, in which {} is the number of the client. It tells behind the seconds a
+//!   number that is the same where all clients heard the same.
 //!
 //! Clients wait for each other once they are connected, and then the seconds until the last has ended its rounds are
 //! told. Of those that serve, each has a thread of its own where they are 16 at most; else 16 threads have as many

@@ -1,7 +1,11 @@
 """A server of a chain, clients whose lines say marks, random lines, and what is wrong with the files of the chain then.
 
-For examples/chain/run and bench/checks/changeovers. Needs Python 3.8 or later, bench/shared/running.py and client/bl_client.py.
-Prints nothing. Each server runs at most as long as the `with` block that it is used in.
+For examples/chain/run and bench/checks/changeovers. Each server runs at most as long as the `with` block that it is
+used in.
+
+Needs: Python 3.8 or later, bench/shared/running.py and client/bl_client.py.
+
+Prints: nothing.
 """
 import os
 import re

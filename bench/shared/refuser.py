@@ -1,5 +1,11 @@
-"""A library that refuses one call of the program, for bench/trials/failing and bench/checks/refused. Building it needs gcc or clang as `cc`, and the C library of GNU; it
-prints nothing."""
+"""A library that refuses one call of the program.
+
+For bench/trials/failing and bench/checks/refused.
+
+Needs: Python 3.8 or later. To build the library it needs gcc or clang as `cc`, and the C library of GNU.
+
+Prints: nothing.
+"""
 import os
 
 from visits import build_library

@@ -1,6 +1,10 @@
 """A command that takes long: its lines as they come, a sign while it writes none, and its end.
 
-For the scripts of this repository that say what goes on. Needs Python 3.8 or later alone, and prints nothing.
+For the scripts of this repository that say what goes on.
+
+Needs: Python 3.8 or later.
+
+Prints: nothing.
 """
 import queue
 import signal

@@ -1,6 +1,10 @@
 """The sources that a crate is built from: which crates those are, and a checksum of what the compiler reads.
 
-For the scripts of this repository. Needs Python 3.8 or later alone, and prints nothing.
+For the scripts of this repository.
+
+Needs: Python 3.8 or later.
+
+Prints: nothing.
 """
 import hashlib
 import os

@@ -1,17 +1,25 @@
-"""Trails by their definition (docs/MODEL.md, docs/FORMATS.md): an independent checker of their text, and random true ones.
+"""Trails by their definition (docs/MODEL.md, docs/FORMATS.md): a checker of their text, and random true ones.
 
     python3 bench/shared/trails.py
 
-compares the verdicts that are stored in examples/trails with those of this checker. Nothing here runs or reads the server's
-code. The state that a line finds is all events before it; who may start is asked of each pair of entries, and what is answered
-is worked out from the setup on, for the losses so far.
+Does:
+- As a module it says what is right and what follows of a trail. It runs and reads nothing of the server's code.
+- The state that a line finds is all events before it. Who may start is asked of each pair of entries. What is answered
+  is worked out from the setup on, for the losses so far.
+- As a script it compares the verdicts that are stored in examples/trails with its own.
+
+Needs: Python 3.8 or later.
+
+Prints: as a script what differs, and a line that counts, with status 1 where something differs, and else 0. As a module
+it prints nothing.
 """
 import os
 import sys
 from collections import namedtuple
 
 RESERVED = set(
-    "hello wait give rescind current classify when read append write do end show say add set copy pour to if is has then else "
+    "hello wait give rescind current classify when read append write do end show say add set copy pour to if is has "
+    "then else "
     "spawn ranks categories subject greatest document allow trusted admin create delete reserve".split()
 )
 MOST_CONTENT = 65536

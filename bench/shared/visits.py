@@ -1,7 +1,11 @@
 """Two clients of a server, what each sends and has to be told, and what the trail of such a run has to say.
 
-For the scripts of this folder that have calls of the program refused or noted (bench/trials/failing, bench/checks/refused, bench/checks/synced). What is built here needs
-gcc or clang as `cc`, and the C library of GNU. Prints nothing.
+For the scripts that have calls of the program refused or noted: bench/trials/failing, bench/checks/refused and
+bench/checks/synced.
+
+Needs: Python 3.8 or later. To build a library it needs gcc or clang as `cc`, and the C library of GNU.
+
+Prints: nothing.
 """
 import collections
 import itertools

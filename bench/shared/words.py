@@ -1,4 +1,11 @@
-"""Words of the program on standard error, as the table of docs/FORMATS.md has them."""
+"""Words of the program on standard error, as the table of docs/FORMATS.md has them.
+
+For the scripts of bench/ and examples/ that compare those words.
+
+Needs: Python 3.8 or later.
+
+Prints: nothing.
+"""
 import os
 import re
 

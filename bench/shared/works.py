@@ -1,4 +1,11 @@
-"""The works by which programs are compared: setups, sessions, and what clients of a server send. And the plain server that they are compared with."""
+"""The works by which programs are compared: setups, sessions, what clients of a server send, and the plain server.
+
+For bench/measurements/ratios and bench/trials/random_lines.
+
+Needs: Python 3.8 or later. To build the plain server (bench/shared/plain) it needs rustc.
+
+Prints: nothing.
+"""
 import os
 import subprocess
 from collections import namedtuple

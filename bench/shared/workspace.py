@@ -1,6 +1,11 @@
-"""Builds a program of this folder, a crate that stands in no list, in a copy of the crates that it stands on.
+"""Builds a program of bench/, a crate that stands in no list, in a copy of the crates that it stands on.
 
-The names of its sources end in .bench here, since the gate takes each .rt and .antt file of the repository for a crate's.
+For bench/trials/schedules and for bench/measurements/core, queues and reading. The names of a program's sources end in
+.bench, since the gate takes each .rt and .antt file of the repository for a crate's.
+
+Needs: Python 3.8 or later, rt and git.
+
+Prints: nothing, but for why a program is not built.
 """
 import os
 import shutil
