@@ -6,8 +6,8 @@
 //!     clients load PORT CLIENTS ROUNDS LINES LINE
 //!
 //! - `echo` listens at a free port, tells it, and sends back what comes.
-//! - `serve` sends so many lines and `wait` in each round, and reads their replies. It tells behind the seconds how many
-//!   milliseconds half of the rounds and 99 of 100 took at most.
+//! - `serve` sends so many lines and `wait` in each round, and reads their replies. It tells behind the seconds how
+//!   many milliseconds half of the rounds and 99 of 100 took at most.
 //! - `same` sends the same bytes in each round, and reads as many.
 //! - `load` does as `serve`, with this line, in which {} is the number of the client. It tells behind the seconds a
 //!   number that is the same where all clients heard the same.
