@@ -3,6 +3,8 @@
 For bench/trials/schedules and for bench/measurements/core, queues and reading. The names of a program's sources end in
 .bench, since the gate takes each .rt and .antt file of the repository for a crate's.
 
+A program is named by its folder, such as bench/measurements/core_lines.
+
 Needs: Python 3.8 or later, rt and git.
 
 Prints: nothing, but for why a program is not built.
@@ -36,7 +38,7 @@ def all_below(names, crates):
 
 def copy_sources(program, place):
     """Copies the program's sources, under the names that they have in a crate."""
-    top = os.path.join(TOP, "bench", program)
+    top = os.path.join(TOP, program)
     for folder, _, files in os.walk(top):
         into = os.path.join(place, os.path.relpath(folder, top))
         os.makedirs(into, exist_ok=True)
