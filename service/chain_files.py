@@ -11,6 +11,7 @@ import hashlib
 import os
 import re
 import shutil
+import signal
 import subprocess
 import sys
 import tempfile
@@ -31,7 +32,10 @@ class Refused(Exception):
 
 
 def told(main, name):
-    """The status of a script: that of its main function, or that with which it was refused, after the words."""
+    """The status of a script: that of its main function, or that with which it was refused, after the words. SIGTERM
+    and SIGHUP end it as Ctrl-C does, so that no file stays half written."""
+    for one in signal.SIGTERM, signal.SIGHUP:
+        signal.signal(one, lambda number, _: sys.exit(128 + number))
     try:
         return main() or 0
     except Refused as why:
@@ -82,9 +86,11 @@ def write_whole(path, content, like=None):
                 os.utime(file.fileno(), ns=(like.st_atime_ns, like.st_mtime_ns))
             os.fsync(file.fileno())
         os.replace(beside, path)
-    except BaseException:
+    except BaseException as why:
         with suppress(FileNotFoundError):
             os.remove(beside)
+        if isinstance(why, OSError):
+            raise OSError(why.errno, why.strerror, path) from why
         raise
     sync(os.path.dirname(path))
 
