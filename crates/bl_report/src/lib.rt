@@ -2,7 +2,9 @@
 //!
 //!     item     what is told of each event
 //!     report   the report of a trail
+//!     laws     that what is told is so, and that nothing is left out
 #![tactic(auto)]
 
 pub mod item;
+pub mod laws;
 pub mod report;

@@ -1,0 +1,324 @@
+//! What an event did: by what was kept before it, and by the hall behind it.
+use crate::register::{Register, alters, content_length};
+use crate::rights::has;
+use bl_core::machine::Core;
+use bl_core::session::SessionNo;
+use bl_explain::grounds::Grounds;
+use bl_explain::rules::RuleGrounds;
+use bl_explain::several::first_refused;
+use bl_hall::event::Event;
+use bl_level::level::Level;
+use bl_policy::access::{Access, Mode};
+use bl_policy::denial::Clause;
+use bl_policy::id::{DocId, SubjectId};
+use bl_policy::policy::Policy;
+use bl_policy::rule::Rule;
+use bl_report::item::{Blame, Former, Happening, JudgedAccess, ReportItem};
+use bl_work::answer::Answer;
+use bl_work::work::Work;
+use std::alloc::AllocError;
+
+/// An event, by its number, what was kept before it, and the core behind it.
+#[derive(Clone, Copy)]
+pub(crate) struct Scene<'a> {
+    pub(crate) register: &'a Register,
+    pub(crate) core: &'a Core,
+    pub(crate) number: u32,
+}
+
+/// What an entry weighs: a child nothing.
+fn weight(core: &Core, n: u32) -> u32 {
+    match core.work(n) {
+        Some(Work::Behaviour(script)) => script.weight() as u32,
+        Some(Work::Rule(_)) => 1,
+        None => 0,
+    }
+}
+
+/// How many modes the matrix has for a subject and a document.
+fn modes_of(policy: &Policy, subject: SubjectId, doc: DocId) -> usize {
+    let read = has(
+        policy,
+        subject,
+        &Access {
+            mode: Mode::Read,
+            doc,
+        },
+    );
+    let append = has(
+        policy,
+        subject,
+        &Access {
+            mode: Mode::Append,
+            doc,
+        },
+    );
+    let write = has(
+        policy,
+        subject,
+        &Access {
+            mode: Mode::Write,
+            doc,
+        },
+    );
+    usize::from(read) + usize::from(append) + usize::from(write)
+}
+
+/// How many rights there are at a document.
+fn rights_of(policy: &Policy, doc: DocId) -> usize {
+    let mut count = 0;
+    for subject in 0..policy.subjects() as u16 {
+        count += modes_of(policy, SubjectId::new(subject), doc);
+    }
+    count
+}
+
+impl<'a> Scene<'a> {
+    /// An item of the event.
+    fn item(&self, subject: SubjectId, happening: Happening) -> ReportItem {
+        ReportItem {
+            event: self.number,
+            subject,
+            happening,
+        }
+    }
+
+    /// An access, and by what it is judged.
+    fn judged(&self, subject: SubjectId, carried: &Level, access: &Access) -> JudgedAccess {
+        JudgedAccess {
+            access: *access,
+            grounds: Grounds::of(&self.register.policy, subject, carried, access),
+            right_since: self.register.rights.since(subject, access),
+        }
+    }
+
+    /// What is told of the places that entered the order, for one subject.
+    fn tell_entering(
+        &self,
+        subject: SubjectId,
+        items: &mut Vec<ReportItem>,
+    ) -> Result<(), AllocError> {
+        for place in self.register.tenures.len() as u32..self.core.entries() {
+            let Some(origin) = self.core.origin(place) else {
+                unreachable!()
+            };
+            let weight = weight(self.core, place);
+            items.push(self.item(
+                subject,
+                Happening::Admitted {
+                    place,
+                    origin,
+                    weight,
+                },
+            ))?;
+        }
+        Ok(())
+    }
+
+    /// What is told of a line.
+    fn tell_line(&self, items: &mut Vec<ReportItem>) -> Result<(), AllocError> {
+        let place = self.register.tenures.len() as u32;
+        match self.core.subject(place) {
+            Some(subject) => self.tell_entering(subject, items),
+            None => Ok(()),
+        }
+    }
+
+    /// What is told of a start that is done.
+    fn tell_held(
+        &self,
+        place: u32,
+        subject: SubjectId,
+        carried: &Level,
+        items: &mut Vec<ReportItem>,
+    ) -> Result<(), AllocError> {
+        let Some((script, index)) = self.core.behaviour(place) else {
+            return Ok(());
+        };
+        for access in script.accesses(index) {
+            let judged = self.judged(subject, carried, access);
+            let until = None;
+            items.push(self.item(
+                subject,
+                Happening::Held {
+                    place,
+                    judged,
+                    until,
+                },
+            ))?;
+        }
+        Ok(())
+    }
+
+    /// What is to blame for the denial of a place.
+    fn blame(&self, place: u32, subject: SubjectId, carried: &Level) -> Option<Blame> {
+        let policy = &self.register.policy;
+        match self.core.behaviour(place) {
+            Some((script, index)) => {
+                let accesses = script.accesses(index);
+                let refused = first_refused(policy, subject, carried, accesses)?;
+                Some(Blame::OfAccess(self.judged(subject, carried, &accesses[refused.place])))
+            }
+            None => match self.core.work(place) {
+                Some(Work::Rule(rule)) => Some(Blame::OfRule {
+                    rule: *rule,
+                    grounds: RuleGrounds::of(policy, subject, rule),
+                }),
+                Some(Work::Behaviour(_)) | None => None,
+            },
+        }
+    }
+
+    /// What is told of a denied start.
+    fn tell_denied(
+        &self,
+        place: u32,
+        subject: SubjectId,
+        carried: &Level,
+        clause: Clause,
+        items: &mut Vec<ReportItem>,
+    ) -> Result<(), AllocError> {
+        match self.blame(place, subject, carried) {
+            Some(blame) => {
+                items.push(self.item(
+                    subject,
+                    Happening::Denied {
+                        place,
+                        clause,
+                        blame,
+                    },
+                ))?;
+                Ok(())
+            }
+            None => Ok(()),
+        }
+    }
+
+    /// What stands where a rule makes its change.
+    fn former(&self, speaker: SubjectId, rule: &Rule) -> Former {
+        let policy = &self.register.policy;
+        match *rule {
+            Rule::Give { subject, doc, mode } | Rule::Rescind { subject, doc, mode } => {
+                Former::Right(has(policy, subject, &Access { mode, doc }))
+            }
+            Rule::Current { .. } => Former::Level(policy.current(speaker)),
+            Rule::Classify { doc, .. } => Former::Level(policy.level(doc)),
+            Rule::Create { .. } => Former::Absent,
+            Rule::Delete { doc } => Former::Present {
+                bytes: self.register.lengths[usize::from(doc.position())],
+                rights: rights_of(policy, doc),
+            },
+        }
+    }
+
+    /// What is told of a rule that is done.
+    fn tell_changed(
+        &self,
+        place: u32,
+        subject: SubjectId,
+        items: &mut Vec<ReportItem>,
+    ) -> Result<(), AllocError> {
+        match self.core.work(place) {
+            Some(Work::Rule(rule)) => {
+                let before = self.former(subject, rule);
+                let rule = *rule;
+                items.push(self.item(
+                    subject,
+                    Happening::Changed {
+                        place,
+                        rule,
+                        before,
+                    },
+                ))?;
+                Ok(())
+            }
+            Some(Work::Behaviour(_)) | None => Ok(()),
+        }
+    }
+
+    /// What is told of a start.
+    fn tell_start(&self, n: u32, items: &mut Vec<ReportItem>) -> Result<(), AllocError> {
+        let Some(subject) = self.core.subject(n) else {
+            return Ok(());
+        };
+        let Some(carried) = self.core.carried(n) else {
+            return Ok(());
+        };
+        match self.core.answer(n) {
+            None | Some(Answer::Done(_)) => self.tell_held(n, subject, &carried, items),
+            Some(Answer::RuleDone) => self.tell_changed(n, subject, items),
+            Some(Answer::Denied(denial)) => self.tell_denied(
+                n,
+                subject,
+                &carried,
+                denial.clause,
+                items,
+            ),
+            Some(Answer::Lost) => Ok(()),
+        }
+    }
+
+    /// What is told of the documents that a place altered.
+    fn tell_altered(
+        &self,
+        place: u32,
+        subject: SubjectId,
+        accesses: &[Access],
+        items: &mut Vec<ReportItem>,
+    ) -> Result<(), AllocError> {
+        for access in accesses {
+            if alters(access) {
+                let before = self.register.lengths[usize::from(access.doc.position())];
+                let after = content_length(self.core, access.doc);
+                let access = *access;
+                items.push(self.item(
+                    subject,
+                    Happening::Altered {
+                        place,
+                        access,
+                        before,
+                        after,
+                    },
+                ))?;
+            }
+        }
+        Ok(())
+    }
+
+    /// What is told of an end.
+    fn tell_end(&self, place: u32, items: &mut Vec<ReportItem>) -> Result<(), AllocError> {
+        let Some(subject) = self.core.subject(place) else {
+            return Ok(());
+        };
+        if let Some((script, index)) = self.core.behaviour(place) {
+            self.tell_altered(place, subject, script.accesses(index), items)?;
+        }
+        items.push(self.item(subject, Happening::Done { place }))?;
+        self.tell_entering(subject, items)
+    }
+
+    /// What is told of a loss.
+    fn tell_loss(&self, place: u32, items: &mut Vec<ReportItem>) -> Result<(), AllocError> {
+        let Some(subject) = self.core.subject(place) else {
+            return Ok(());
+        };
+        let ran = self.register.tenures[place as usize].runs;
+        items.push(self.item(subject, Happening::Lost { place, ran }))?;
+        Ok(())
+    }
+
+    /// What is told of this event. An error comes only where a growth is refused.
+    pub(crate) fn tell(&self, event: Event, items: &mut Vec<ReportItem>) -> Result<(), AllocError> {
+        match event {
+            Event::Open(subject) => {
+                let session = SessionNo::new(self.register.sessions);
+                items.push(self.item(subject, Happening::Opened { session }))?;
+                Ok(())
+            }
+            Event::Line { .. } => self.tell_line(items),
+            Event::Start(n) => self.tell_start(n, items),
+            Event::End(n) => self.tell_end(n, items),
+            Event::Lost(n) => self.tell_loss(n, items),
+        }
+    }
+}
