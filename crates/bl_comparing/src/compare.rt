@@ -76,7 +76,9 @@ fn compare_with<W: Write, E: Write>(
                 old: &before,
                 new: setup,
             };
-            match show(alloc, name, old.name, &pair, output) {
+            let shown = show(alloc, name, old.name, &pair, output);
+            drop(before);
+            match shown {
                 Shown::Whole => 0,
                 Shown::Cut => tell(errors, &ProgramFault::Write),
                 Shown::Starved => tell(errors, &ProgramFault::NoMemory),

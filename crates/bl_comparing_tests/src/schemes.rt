@@ -19,7 +19,7 @@ fn ranks_in_another_order(rt: HostRuntime) {
         "new.txt against old.txt: 2 differences\n\
         -  ranks u c s\n\
         +  ranks u s c\n   \
-        subject  document  level  read           append  write\n\
+        subject  document  level  read           append   write\n\
         -  ann      memo      c      yes            up to c  -\n\
         +  ann      memo      c      never, simple  yes      -\n",
     );

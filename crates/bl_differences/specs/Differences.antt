@@ -16,9 +16,9 @@ use Rattle.bl_differences.specs.declared.difference.RowPlace.{RowPlace}
 -- whether names are the same, in the same order
 abbrev pub are_same_names : List (List ℕ) → List (List ℕ) → Bool
 are_same_names [] [] = true
-are_same_names [] (b ∷ bs) = false
-are_same_names (a ∷ as) [] = false
-are_same_names (a ∷ as) (b ∷ bs) = bytes_eq a b && are_same_names as bs
+are_same_names [] (b ∷ others) = false
+are_same_names (a ∷ names) [] = false
+are_same_names (a ∷ names) (b ∷ others) = bytes_eq a b && are_same_names names others
 
 -- something, where it has no counterpart
 abbrev pub unless_there : {D : Type 0} → Option ℕ → D → Option D

@@ -1,9 +1,9 @@
 //! When levels, permissions and clearances of two setups are the same: by the names of ranks and categories.
 ghost use Rattle.std.specs.Prelude.{◌≡◌, ◌==◌, ◌<◌, IfSome, IsTrue, find, length};
 ghost use Rattle.std.specs.List.{range_with_len};
-ghost use Rattle.std.specs.Str.{bytes_eq};
-ghost use Rattle.bl_differences.specs.Alike.{counterpart, has_at, has_category, is_same_flag, is_same_level, is_same_permission, is_within, lacks, rank_name};
+ghost use Rattle.bl_differences.specs.Alike.{has_at, has_category, is_same_flag, is_same_level, is_same_permission, is_within, lacks, rank_name};
 
+use crate::names::{counterpart, is_same_name};
 use bl_level::level::Level;
 use bl_level::scheme::Scheme;
 use bl_rights::permission::Permission;
@@ -27,22 +27,16 @@ fn has_at(level: &Level, place: Option<usize>) -> bool
     }
 }
 
-/// The place in another scheme of the category that has this place here.
-fn counterpart(here: &Scheme, there: &Scheme, place: usize) -> Option<usize>
-    requires { place < length here.now.categories }
-    ensures value { result ≡ counterpart here.now.categories there.now.categories place }
-    ensures within { IfSome result (λ k. k < length there.now.categories) }
-{
-    let name = here.categories().get(place).unwrap();
-    there.categories().position(name)
-}
-
 /// Whether a level has a category, of whose name a level of another scheme has none.
 fn lacks(here: &Scheme, there: &Scheme, one: &Level, other: &Level, place: usize) -> bool
     requires { place < length here.now.categories }
     ensures { result ≡ lacks here.now there.now one.now other.now place }
 {
-    has_category(one, place) && !has_at(other, counterpart(here, there, place))
+    has_category(one, place)
+        && !has_at(
+            other,
+            counterpart(here.categories(), there.categories(), place),
+        )
 }
 
 /// The first category of a level, of whose name a level of another scheme has none.
@@ -75,13 +69,6 @@ fn rank_name<'a>(scheme: &'a Scheme, level: &Level) -> &'a [u8]
     }
 }
 
-/// Whether two names are of the same bytes.
-pub(crate) fn is_same_name(one: &[u8], other: &[u8]) -> bool
-    ensures { result ≡ bytes_eq one.now other.now }
-{
-    one == other
-}
-
 /// Whether a level of the old scheme and one of the new scheme are the same: their ranks have one name, and their
 /// categories have the same names, in whatever order.
 pub fn is_same_level(old: &Scheme, new: &Scheme, one: &Level, other: &Level) -> bool
@@ -99,12 +86,7 @@ pub(crate) fn is_same_flag(one: bool, other: bool) -> bool
 }
 
 /// Whether a permission in the old scheme and one in the new scheme are the same: they say the same, of the same levels.
-pub fn is_same_permission(
-    old: &Scheme,
-    new: &Scheme,
-    one: Permission,
-    other: Permission,
-) -> bool
+pub fn is_same_permission(old: &Scheme, new: &Scheme, one: Permission, other: Permission) -> bool
     ensures { result ≡ is_same_permission old.now new.now one other }
 {
     match one {

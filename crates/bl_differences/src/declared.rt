@@ -1,16 +1,17 @@
 //! What two setups declare otherwise.
-ghost use Rattle.std.specs.Prelude.{◌≡◌, ◌++◌, ◌<◌, ◌≤◌, All, IfOk, OnOk, is_some, length};
+ghost use Rattle.std.specs.Prelude.{◌≡◌, ◌++◌, ◌<◌, ◌≤◌, [], All, IfOk, OnOk, is_some, length};
+ghost use Rattle.std.specs.List.{cons_option};
 ghost use Rattle.bl_policy.specs.Policy.{clearance_of};
 ghost use Rattle.bl_differences.specs.Alike.{counterpart, is_same_clearance};
-ghost use Rattle.bl_differences.specs.Differences.{are_same_names, category_came, category_went, declared_differences, document_change, document_went, is_same_document, ranks_change, subject_change, subject_went};
+ghost use Rattle.bl_differences.specs.Differences.{category_came, category_went, declared_differences, document_change, document_went, is_same_document, ranks_change, subject_change, subject_went};
 ghost use Rattle.bl_differences.specs.Fitting.{IsDifferenceOf};
 ghost use Rattle.bl_differences.specs.Stretches.{count_of, part_of, piece_of};
 
-use crate::alike::{is_same_flag, is_same_level, is_same_name};
+use crate::alike::{is_same_flag, is_same_level};
 use crate::difference::Difference;
+use crate::names::{are_same_names, counterpart};
 use crate::pair::{SetupPair, document_there, subject_there};
 use bl_level::scheme::Scheme;
-use bl_level::table::NameTable;
 use bl_policy::id::{DocId, SubjectId};
 use std::alloc::{AllocError, Global};
 
@@ -29,23 +30,6 @@ pub(crate) enum Part {
     Documents,
     /// The documents that went.
     DocumentsWent,
-}
-
-/// Whether names are the same, in the same order.
-fn are_same_names(one: &NameTable, other: &NameTable) -> bool
-    ensures { result ≡ are_same_names one.now other.now }
-{
-    if one.len() != other.len() {
-        return false;
-    }
-    for place in 0..one.len() {
-        let name = one.get(place).unwrap();
-        let other_name = other.get(place).unwrap();
-        if !is_same_name(name.bytes(), other_name.bytes()) {
-            return false;
-        }
-    }
-    true
 }
 
 /// Whether a subject of the old setup and one of the new setup have the same levels and flags.
@@ -84,8 +68,7 @@ fn has_category_of(here: &Scheme, there: &Scheme, place: usize) -> bool
     requires { place < length here.now.categories }
     ensures { result ≡ is_some (counterpart here.now.categories there.now.categories place) }
 {
-    let name = here.categories().get(place).unwrap();
-    there.categories().position(name).is_some()
+    counterpart(here.categories(), there.categories(), place).is_some()
 }
 
 /// A category that came.
@@ -197,19 +180,23 @@ fn piece(pair: &SetupPair<'_>, part: Part, place: usize) -> Option<Difference>
     }
 }
 
+/// Adds a difference behind the others, where one was found.
+fn add_found(list: &mut Vec<Difference>, found: Option<Difference>) -> Result<(), AllocError>
+    ensures { OnOk result (list.new.items ≡ list.old.items ++ cons_option found []) }
+{
+    if let Some(difference) = found {
+        list.push(difference)?;
+    }
+    Ok(())
+}
+
 /// Adds a part behind the others.
-fn add_part(
-    list: &mut Vec<Difference>,
-    pair: &SetupPair<'_>,
-    part: Part,
-) -> Result<(), AllocError>
+fn add_part(list: &mut Vec<Difference>, pair: &SetupPair<'_>, part: Part) -> Result<(), AllocError>
     ensures { OnOk result (list.new.items ≡ list.old.items ++ part_of pair.now.old.now pair.now.new.now part) }
 {
     let many = count(pair, part);
     for place in 0..many {
-        if let Some(difference) = piece(pair, part, place) {
-            list.push(difference)?;
-        }
+        add_found(list, piece(pair, part, place))?;
     }
     Ok(())
 }
@@ -226,15 +213,9 @@ fn add_ranks(list: &mut Vec<Difference>, pair: &SetupPair<'_>) -> Result<(), All
     Ok(())
 }
 
-/// What the setups declare otherwise: the ranks, the categories, the subjects and the documents. Of each kind comes first
-/// what is new or differs, in the order of the new setup, and then what went, in that of the old one. An error comes only
-/// where a growth is refused.
-pub fn declared_differences(
-    alloc: Global,
-    pair: &SetupPair<'_>,
-) -> Result<Vec<Difference>, AllocError>
-    ensures value { IfOk result (λ list. list.items ≡ declared_differences pair.now.old.now pair.now.new.now) }
-    ensures fit { IfOk result (λ list. All (IsDifferenceOf pair.now.old.now pair.now.new.now) list.items) }
+/// The list of what is declared otherwise.
+fn listed(alloc: Global, pair: &SetupPair<'_>) -> Result<Vec<Difference>, AllocError>
+    ensures { IfOk result (λ list. list.items ≡ declared_differences pair.now.old.now pair.now.new.now) }
 {
     let mut list = Vec::new(alloc);
     add_ranks(&mut list, pair)?;
@@ -244,5 +225,20 @@ pub fn declared_differences(
     add_part(&mut list, pair, Part::SubjectsWent)?;
     add_part(&mut list, pair, Part::Documents)?;
     add_part(&mut list, pair, Part::DocumentsWent)?;
+    Ok(list)
+}
+
+/// What the setups declare otherwise: the ranks, the categories, the subjects and the documents. Of each kind comes first
+/// what is new or differs, in the order of the new setup, and then what went, in that of the old one. An error comes only
+/// where a growth is refused.
+pub fn declared_differences(
+    alloc: Global,
+    pair: &SetupPair<'_>,
+) -> Result<Vec<Difference>, AllocError>
+    ensures value { IfOk result (λ list. list.items ≡ declared_differences pair.now.old.now pair.now.new.now) }
+    // What they name is there.
+    ensures fit { IfOk result (λ list. All (IsDifferenceOf pair.now.old.now pair.now.new.now) list.items) }
+{
+    let list = listed(alloc, pair)?;
     Ok(list)
 }

@@ -12,6 +12,5 @@ pub fn no_setup_differs_from_itself()
 
 /// Where there is no difference, who may do what is the same, by the names of subjects and documents.
 pub fn without_difference_the_same_is_permitted()
-    ensures { (old new : Setup) → AreNames old.names → AreNames new.names → HaveNoDifference old new →
-        PermitTheSame old new }
+    ensures { (old new : Setup) → HaveNoDifference old new → PermitTheSame old new }
 {}

@@ -2,6 +2,7 @@
 //!
 //!     difference  the differences, as values
 //!     alike       when levels, permissions and clearances of two setups are the same
+//!     names       names in tables
 //!     pair        two setups, and what one has by the name of a thing of the other
 //!     declared    what is declared otherwise
 //!     rows        who may do what otherwise
@@ -19,5 +20,6 @@ pub mod alike;
 pub mod declared;
 pub mod difference;
 pub mod laws;
+pub mod names;
 pub mod pair;
 pub mod rows;

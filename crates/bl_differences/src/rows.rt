@@ -1,5 +1,6 @@
 //! Who may do what otherwise.
-ghost use Rattle.std.specs.Prelude.{◌≡◌, ◌++◌, ◌<◌, All, IfOk, IfSome, OnOk, length};
+ghost use Rattle.std.specs.Prelude.{◌≡◌, ◌++◌, ◌<◌, [], All, IfOk, IfSome, OnOk, length};
+ghost use Rattle.std.specs.List.{cons_option};
 ghost use Rattle.bl_policy.specs.Policy.{level_of};
 ghost use Rattle.bl_rights.specs.Rows.{has_right, row_at};
 ghost use Rattle.bl_differences.specs.Alike.{is_same_level, is_same_row};
@@ -146,6 +147,16 @@ fn row_piece(pair: &SetupPair<'_>, side: Side, place: RowPlace) -> Option<RowDif
     }
 }
 
+/// Adds a difference behind the others, where one was found.
+fn add_found(list: &mut Vec<RowDifference>, found: Option<RowDifference>) -> Result<(), AllocError>
+    ensures { OnOk result (list.new.items ≡ list.old.items ++ cons_option found []) }
+{
+    if let Some(difference) = found {
+        list.push(difference)?;
+    }
+    Ok(())
+}
+
 /// Adds the differences of the rows of a subject.
 fn add_rows_of(
     list: &mut Vec<RowDifference>,
@@ -159,9 +170,7 @@ fn add_rows_of(
     let many = setup_of(pair, side).names().documents();
     for place in 0..many {
         let doc = DocId::new(place as u16);
-        if let Some(difference) = row_piece(pair, side, RowPlace { subject, doc }) {
-            list.push(difference)?;
-        }
+        add_found(list, row_piece(pair, side, RowPlace { subject, doc }))?;
     }
     Ok(())
 }
@@ -182,6 +191,16 @@ fn add_rows(
     Ok(())
 }
 
+/// The list of the rows that differ.
+fn listed(alloc: Global, pair: &SetupPair<'_>) -> Result<Vec<RowDifference>, AllocError>
+    ensures { IfOk result (λ list. list.items ≡ row_differences pair.now.old.now pair.now.new.now) }
+{
+    let mut list = Vec::new(alloc);
+    add_rows(&mut list, pair, Side::Here)?;
+    add_rows(&mut list, pair, Side::Gone)?;
+    Ok(list)
+}
+
 /// The rows that differ: by subject and document of the new setup, and then those rows of the old one whose subject or
 /// document went. An error comes only where a growth is refused.
 pub fn row_differences(
@@ -189,10 +208,9 @@ pub fn row_differences(
     pair: &SetupPair<'_>,
 ) -> Result<Vec<RowDifference>, AllocError>
     ensures value { IfOk result (λ list. list.items ≡ row_differences pair.now.old.now pair.now.new.now) }
+    // What they name is there.
     ensures fit { IfOk result (λ list. All (IsRowDifferenceOf pair.now.old.now pair.now.new.now) list.items) }
 {
-    let mut list = Vec::new(alloc);
-    add_rows(&mut list, pair, Side::Here)?;
-    add_rows(&mut list, pair, Side::Gone)?;
+    let list = listed(alloc, pair)?;
     Ok(list)
 }

@@ -143,7 +143,8 @@ fn put_rows<W: Write>(
     let widths = widths(alloc, pair)?;
     let heads = heads_line(alloc, &widths)?;
     put(writer, &heads);
-    put_row_lines(alloc, pair, &widths, writer, list)
+    put_row_lines(alloc, pair, &widths, writer, list)?;
+    Ok(())
 }
 
 /// Puts what differs between two setups, whose files have these names: how many differences there are, what is declared
@@ -169,5 +170,6 @@ pub fn put_comparison<W: Write>(
     let first = first_line(alloc, new_name, old_name, declared.len() + rows.len())?;
     put(writer, &first);
     put_declared(alloc, pair, writer, &declared)?;
-    put_rows(alloc, pair, writer, &rows)
+    put_rows(alloc, pair, writer, &rows)?;
+    Ok(())
 }

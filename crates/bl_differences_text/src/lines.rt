@@ -105,10 +105,16 @@ pub(crate) fn difference_lines(
     match difference {
         Difference::Ranks => both_ranks(alloc, pair),
         Difference::CategoryCame(place) => {
-            plus(alloc, &category_line(alloc, pair.new.names().scheme(), place)?)
+            plus(
+                alloc,
+                &category_line(alloc, pair.new.names().scheme(), place)?,
+            )
         }
         Difference::CategoryWent(place) => {
-            minus(alloc, &category_line(alloc, pair.old.names().scheme(), place)?)
+            minus(
+                alloc,
+                &category_line(alloc, pair.old.names().scheme(), place)?,
+            )
         }
         Difference::SubjectCame(subject) => plus(alloc, &subject_line(alloc, pair.new, subject)?),
         Difference::SubjectWent(subject) => minus(alloc, &subject_line(alloc, pair.old, subject)?),
