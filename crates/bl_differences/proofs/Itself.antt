@@ -15,7 +15,7 @@ use Rattle.bl_rights.specs.declared.permission.Permission.TheVariants.{NoRight, 
 use Rattle.bl_rights.specs.declared.rows.Row.{Row}
 use Rattle.bl_setup.specs.Setup.{Setup}
 use Rattle.bl_work.specs.Names.{AreNames}
-use Rattle.bl_differences.specs.Alike.{counterpart, has_at, has_category, is_same_clearance, is_same_flag, is_same_level, is_same_permission, is_same_row, is_within, lacks}
+use Rattle.bl_differences.specs.Alike.{counterpart, has_at, has_category, is_same_clearance, is_same_flag, is_same_level, is_same_permission, is_same_row, is_within, lacks, rank_name}
 use Rattle.bl_differences.specs.Differences.{are_same_names, category_came, category_went, declared_differences, document_change, document_went, document_where, place_by, places, ranks_change, row_change, row_differences, row_gone, row_unless, row_where, rows_between, subject_change, subject_went, subject_where, unless_same, unless_there}
 use Rattle.bl_differences.specs.Permitting.{HaveNoDifference}
 use Rattle.bl_differences.specs.declared.difference.Difference.{Difference}
@@ -89,7 +89,9 @@ module _ (scheme : SchemeNames) (is : IsScheme scheme) where
       (find-nothing (λ k. lacks scheme scheme a a k) (length scheme.categories) 0 (λ k low high. lacks-itself a k (omega arith)))
 
   level-itself : (a : SecurityLevel) → is_same_level scheme scheme a a ≡ true
-  level-itself a = both-true _ _ (bytes-itself _) (both-true _ _ (within-itself a) (within-itself a))
+  level-itself a =
+      both-true (bytes_eq (rank_name scheme a) (rank_name scheme a)) (is_within scheme scheme a a && is_within scheme scheme a a)
+      (bytes-itself (rank_name scheme a)) (both-true (is_within scheme scheme a a) (is_within scheme scheme a a) (within-itself a) (within-itself a))
 
   permission-itself : (p : Permission) → is_same_permission scheme scheme p p ≡ true
   permission-itself NoRight = refl

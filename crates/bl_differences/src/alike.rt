@@ -32,11 +32,8 @@ fn lacks(here: &Scheme, there: &Scheme, one: &Level, other: &Level, place: usize
     requires { place < length here.now.categories }
     ensures { result ≡ lacks here.now there.now one.now other.now place }
 {
-    has_category(one, place)
-        && !has_at(
-            other,
-            counterpart(here.categories(), there.categories(), place),
-        )
+    let categories = here.categories();
+    has_category(one, place) && !has_at(other, counterpart(categories, there.categories(), place))
 }
 
 /// The first category of a level, of whose name a level of another scheme has none.

@@ -1,5 +1,7 @@
 //! The differences between two setups, as values. What they name is by its place in its own setup: a category among the
 //! categories of its scheme, a subject or a document among those of its policy.
+ghost use Rattle.std.specs.Prelude.{◌≡◌};
+
 use bl_policy::id::{DocId, SubjectId};
 
 /// A difference between what two setups declare.
@@ -32,6 +34,18 @@ pub struct RowPlace {
     pub subject: SubjectId,
     /// The document.
     pub doc: DocId,
+}
+
+impl RowPlace {
+    /// The same place again.
+    pub fn copy(&self) -> RowPlace
+        ensures { result ≡ self.now }
+    {
+        RowPlace {
+            subject: self.subject,
+            doc: self.doc,
+        }
+    }
 }
 
 /// A difference between the rows of two setups.

@@ -36,11 +36,11 @@ pub(crate) fn document_there(here: &Names, there: &Names, doc: DocId) -> Option<
 }
 
 /// The place of a row among other names, where both its subject and its document are there.
-pub(crate) fn place_there(here: &Names, there: &Names, place: RowPlace) -> Option<RowPlace>
-    requires known { place.subject < length here.now.subjects }
-    requires there { place.doc < length here.now.documents }
-    ensures value { result ≡ place_by (counterpart here.now.subjects there.now.subjects place.subject)
-        (counterpart here.now.documents there.now.documents place.doc) }
+pub(crate) fn place_there(here: &Names, there: &Names, place: &RowPlace) -> Option<RowPlace>
+    requires known { place.now.subject < length here.now.subjects }
+    requires there { place.now.doc < length here.now.documents }
+    ensures value { result ≡ place_by (counterpart here.now.subjects there.now.subjects place.now.subject)
+        (counterpart here.now.documents there.now.documents place.now.doc) }
     ensures within { IfSome result (λ p. (p.subject < length there.now.subjects) × (p.doc < length there.now.documents)) }
 {
     let subject = subject_there(here, there, place.subject)?;

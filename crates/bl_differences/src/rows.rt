@@ -53,55 +53,57 @@ fn is_same_row(pair: &SetupPair<'_>, before: &Row, now: &Row) -> bool
 }
 
 /// The row of a place.
-fn row_of(setup: &Setup, place: RowPlace) -> Option<Row>
-    requires { IsPlaceOf setup.now place }
-    ensures value { result ≡ row_at setup.now.policy place.subject place.doc }
-    ensures there { IfSome result (λ row. row.doc ≡ place.doc) }
+fn row_of(setup: &Setup, place: &RowPlace) -> Option<Row>
+    requires { IsPlaceOf setup.now place.now }
+    ensures value { result ≡ row_at setup.now.policy place.now.subject place.now.doc }
+    ensures there { IfSome result (λ row. row.doc ≡ place.now.doc) }
 {
     row_at(setup.policy(), place.subject, place.doc)
 }
 
 /// Whether a place has a row.
-fn has_row(setup: &Setup, place: RowPlace) -> bool
-    requires { IsPlaceOf setup.now place }
-    ensures { result ≡ has_right setup.now.policy place.subject place.doc }
+fn has_row(setup: &Setup, place: &RowPlace) -> bool
+    requires { IsPlaceOf setup.now place.now }
+    ensures { result ≡ has_right setup.now.policy place.now.subject place.now.doc }
 {
     has_right(setup.policy(), place.subject, place.doc)
 }
 
 /// What differs between the rows of a place of the old setup and one of the new setup.
-fn rows_between(pair: &SetupPair<'_>, was: RowPlace, here: RowPlace) -> Option<RowDifference>
-    requires before { IsPlaceOf pair.now.old.now was }
-    requires now { IsPlaceOf pair.now.new.now here }
-    ensures { result ≡ rows_between pair.now.old.now pair.now.new.now was here
-        (row_at pair.now.old.now.policy was.subject was.doc) (row_at pair.now.new.now.policy here.subject here.doc) }
+fn rows_between(pair: &SetupPair<'_>, was: &RowPlace, here: &RowPlace) -> Option<RowDifference>
+    requires before { IsPlaceOf pair.now.old.now was.now }
+    requires now { IsPlaceOf pair.now.new.now here.now }
+    ensures { result ≡ rows_between pair.now.old.now pair.now.new.now was.now here.now
+        (row_at pair.now.old.now.policy was.now.subject was.now.doc) (row_at pair.now.new.now.policy here.now.subject here.now.doc) }
 {
-    let before = row_of(pair.old, was);
-    let now = row_of(pair.new, here);
-    match (before, now) {
-        (None, None) => None,
-        (None, Some(_)) => Some(RowDifference::Came(here)),
-        (Some(_), None) => Some(RowDifference::Went(was)),
-        (Some(before), Some(now)) => {
-            if is_same_row(pair, &before, &now) {
-                None
-            } else {
-                Some(RowDifference::Differs(was, here))
+    match row_of(pair.old, was) {
+        None => match row_of(pair.new, here) {
+            None => None,
+            Some(_) => Some(RowDifference::Came(here.copy())),
+        },
+        Some(before) => match row_of(pair.new, here) {
+            None => Some(RowDifference::Went(was.copy())),
+            Some(now) => {
+                if is_same_row(pair, &before, &now) {
+                    None
+                } else {
+                    Some(RowDifference::Differs(was.copy(), here.copy()))
+                }
             }
-        }
+        },
     }
 }
 
 /// What differs of a row, by its place in the new setup.
-fn row_change(pair: &SetupPair<'_>, here: RowPlace) -> Option<RowDifference>
-    requires { IsPlaceOf pair.now.new.now here }
-    ensures { result ≡ row_change pair.now.old.now pair.now.new.now here.subject here.doc }
+fn row_change(pair: &SetupPair<'_>, here: &RowPlace) -> Option<RowDifference>
+    requires { IsPlaceOf pair.now.new.now here.now }
+    ensures { result ≡ row_change pair.now.old.now pair.now.new.now here.now.subject here.now.doc }
 {
     match place_there(pair.new.names(), pair.old.names(), here) {
-        Some(was) => rows_between(pair, was, here),
+        Some(was) => rows_between(pair, &was, here),
         None => {
             if has_row(pair.new, here) {
-                Some(RowDifference::Came(here))
+                Some(RowDifference::Came(here.copy()))
             } else {
                 None
             }
@@ -110,15 +112,15 @@ fn row_change(pair: &SetupPair<'_>, here: RowPlace) -> Option<RowDifference>
 }
 
 /// A row of the old setup, by its place there, whose subject or document went.
-fn row_gone(pair: &SetupPair<'_>, was: RowPlace) -> Option<RowDifference>
-    requires { IsPlaceOf pair.now.old.now was }
-    ensures { result ≡ row_gone pair.now.old.now pair.now.new.now was.subject was.doc }
+fn row_gone(pair: &SetupPair<'_>, was: &RowPlace) -> Option<RowDifference>
+    requires { IsPlaceOf pair.now.old.now was.now }
+    ensures { result ≡ row_gone pair.now.old.now pair.now.new.now was.now.subject was.now.doc }
 {
     match place_there(pair.old.names(), pair.new.names(), was) {
         Some(_) => None,
         None => {
             if has_row(pair.old, was) {
-                Some(RowDifference::Went(was))
+                Some(RowDifference::Went(was.copy()))
             } else {
                 None
             }
@@ -137,9 +139,9 @@ fn setup_of<'a>(pair: &SetupPair<'a>, side: Side) -> &'a Setup
 }
 
 /// What is told of a row by its place.
-fn row_piece(pair: &SetupPair<'_>, side: Side, place: RowPlace) -> Option<RowDifference>
-    requires { IsPlaceOf (setup_of pair.now.old.now pair.now.new.now side) place }
-    ensures { result ≡ row_piece_of pair.now.old.now pair.now.new.now side place.subject place.doc }
+fn row_piece(pair: &SetupPair<'_>, side: Side, place: &RowPlace) -> Option<RowDifference>
+    requires { IsPlaceOf (setup_of pair.now.old.now pair.now.new.now side) place.now }
+    ensures { result ≡ row_piece_of pair.now.old.now pair.now.new.now side place.now.subject place.now.doc }
 {
     match side {
         Side::Here => row_change(pair, place),
@@ -170,7 +172,7 @@ fn add_rows_of(
     let many = setup_of(pair, side).names().documents();
     for place in 0..many {
         let doc = DocId::new(place as u16);
-        add_found(list, row_piece(pair, side, RowPlace { subject, doc }))?;
+        add_found(list, row_piece(pair, side, &RowPlace { subject, doc }))?;
     }
     Ok(())
 }

@@ -1,4 +1,6 @@
 use Rattle.std.proofs.Common.{◌≡◌, ◌++◌, ◌<◌, ◌≤◌, ℕ, List, ◌∙◌, ap, arith, length, flat_map}
+use Rattle.bl_setup.specs.Setup.{Setup}
+use Rattle.bl_work.specs.Names.{KnownNames}
 use Rattle.bl_differences.specs.Differences.{places}
 use Rattle.bl_differences.specs.Stretches.{rows_by, setup_of}
 use Rattle.bl_differences.specs.declared.difference.RowDifference.{RowDifference}
@@ -21,5 +23,7 @@ returns c =
     let old = c.args.pair.now.old.now in
     let new = c.args.pair.now.new.now in
     let many = length (setup_of old new c.args.side).names.subjects in
-    let all : c.loop-place.place ≡ many = ? in
+    let count : c.subjects-many.result ≡ many =
+    c.subjects-many.ensures.value ∙ ap (λ (n : KnownNames). length n.subjects) c.names.ensures.value ∙ ap (λ (t : Setup). length t.names.subjects) c.setup_of.ensures in
+    let all : c.loop-place.place ≡ many = omega (arith, c.loop-place-test.false, c.loop-place.auto.place-end, count) in
     c.loop-place.invariant ∙ ap (λ n. c.args.list.now.items ++ flat_map (rows_by old new c.args.side) (places n)) all

@@ -1,5 +1,7 @@
 use Rattle.std.proofs.Common.{◌≡◌, ◌++◌, ◌<◌, ◌≤◌, ℕ, List, ◌∙◌, ap, arith, length}
 use Rattle.std.specs.Prelude.{filter_map, Option}
+use Rattle.bl_setup.specs.Setup.{Setup}
+use Rattle.bl_work.specs.Names.{KnownNames}
 use Rattle.bl_differences.specs.Differences.{places}
 use Rattle.bl_differences.specs.Stretches.{row_piece_of, setup_of}
 use Rattle.bl_differences.specs.declared.difference.RowDifference.{RowDifference}
@@ -22,5 +24,7 @@ returns c =
     let old = c.args.pair.now.old.now in
     let new = c.args.pair.now.new.now in
     let many = length (setup_of old new c.args.side).names.documents in
-    let all : c.loop-place.place ≡ many = ? in
+    let count : c.documents-many.result ≡ many =
+    c.documents-many.ensures.value ∙ ap (λ (n : KnownNames). length n.documents) c.names.ensures.value ∙ ap (λ (t : Setup). length t.names.documents) c.setup_of.ensures in
+    let all : c.loop-place.place ≡ many = omega (arith, c.loop-place-test.false, c.loop-place.auto.place-end, count) in
     c.loop-place.invariant ∙ ap (λ n. c.args.list.now.items ++ filter_map (row_piece_of old new c.args.side c.args.subject) (places n)) all
