@@ -1,14 +1,12 @@
 -- What the differences of two setups name is there.
-use Rattle.std.proofs.Common.{◌≡◌, ◌<◌, ◌≤◌, ◌+◌, ℕ, zero, suc, Bool, true, false, List, [], ◌∷◌, ◌++◌, length, refl, subst, arith, flat_map}
+use Rattle.std.proofs.Common.{◌≡◌, ◌<◌, ◌≤◌, ◌+◌, ℕ, zero, suc, Bool, true, false, List, [], ◌∷◌, length, refl, arith, flat_map}
 use Rattle.std.specs.Prelude.{All, filter_map, IfSome, Option, Some, None, if◌then◌else◌}
 use Rattle.std.specs.List.{cons_option, range_with_len}
 use Rattle.std.proofs.lemmas.List.Elements.{All-append, All-cons, All-nil}
-use Rattle.bl_rights.specs.Rows.{has_right, row_at}
 use Rattle.bl_rights.specs.declared.rows.Row.{Row}
 use Rattle.bl_setup.specs.Setup.{Setup}
 use Rattle.bl_work.proofs.Widths.{place_within}
-use Rattle.bl_differences.specs.Alike.{counterpart, is_same_clearance, is_same_row}
-use Rattle.bl_differences.specs.Differences.{are_same_names, category_came, category_went, declared_differences, document_change, document_went, document_where, is_same_document, place_by, places, ranks_change, row_came, row_change, row_differences, row_gone, row_unless, row_went, row_where, rows_between, subject_change, subject_went, subject_where, unless_same, unless_there}
+use Rattle.bl_differences.specs.Differences.{are_same_names, category_came, category_went, declared_differences, document_change, document_went, document_where, place_by, places, row_change, row_differences, row_gone, row_unless, row_where, rows_between, subject_change, subject_went, subject_where, unless_same, unless_there}
 use Rattle.bl_differences.specs.Fitting.{IsDifferenceOf, IsPlaceOf, IsRowDifferenceOf}
 use Rattle.bl_differences.specs.declared.difference.Difference.{Difference}
 use Rattle.bl_differences.specs.declared.difference.Difference.TheVariants.{Ranks, CategoryCame, CategoryWent, SubjectWent, SubjectDiffers, DocumentWent, DocumentDiffers}

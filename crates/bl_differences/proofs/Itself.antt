@@ -18,7 +18,6 @@ use Rattle.bl_work.specs.Names.{AreNames}
 use Rattle.bl_differences.specs.Alike.{counterpart, has_at, has_category, is_same_clearance, is_same_flag, is_same_level, is_same_permission, is_same_row, is_within, lacks, rank_name}
 use Rattle.bl_differences.specs.Differences.{are_same_names, category_came, category_went, declared_differences, document_change, document_went, document_where, place_by, places, ranks_change, row_change, row_differences, row_gone, row_unless, row_where, rows_between, subject_change, subject_went, subject_where, unless_same, unless_there}
 use Rattle.bl_differences.specs.Permitting.{HaveNoDifference}
-use Rattle.bl_differences.specs.declared.difference.Difference.{Difference}
 use Rattle.bl_differences.specs.declared.difference.Difference.TheVariants.{Ranks, CategoryCame, CategoryWent, SubjectWent, SubjectDiffers, DocumentWent, DocumentDiffers}
 use Rattle.bl_differences.specs.declared.difference.RowDifference.TheVariants.{Differs}
 use Rattle.bl_differences.specs.declared.difference.RowPlace.{RowPlace}

@@ -1,7 +1,7 @@
 -- Lists that are made place by place.
 use Rattle.std.proofs.Common.{◌≡◌, ◌+◌, ℕ, List, [], ◌∷◌, ◌++◌, sym, ◌∙◌, ap, append_assoc, append-nil, flat_map}
 use Rattle.std.specs.Prelude.{filter_map, Option}
-use Rattle.std.specs.List.{cons_option, range_with_len}
+use Rattle.std.specs.List.{cons_option}
 use Rattle.std.proofs.lemmas.Grind.{flat_map-append}
 use Rattle.std.proofs.lemmas.List.Elements.{filter_map-append}
 use Rattle.bl_rights.proofs.Numbers.{one-more}

@@ -13,11 +13,9 @@ use Rattle.bl_setup.specs.Setup.{Setup}
 use Rattle.bl_work.proofs.MeantLevels.{place_some}
 use Rattle.bl_work.proofs.Widths.{name_is, place_within}
 use Rattle.bl_differences.specs.Alike.{counterpart, is_same_clearance, is_same_row}
-use Rattle.bl_differences.specs.Differences.{category_came, category_went, declared_differences, document_change, document_went, document_where, is_same_document, place_by, places, ranks_change, row_change, row_differences, row_gone, row_where, rows_between, subject_change, subject_went, subject_where, unless_same, unless_there}
+use Rattle.bl_differences.specs.Differences.{document_change, document_went, document_where, place_by, places, row_change, row_where, rows_between, subject_change, subject_went, subject_where, unless_same, unless_there}
 use Rattle.bl_differences.specs.Permitting.{AreSameRows, HaveNoDifference, IsDocument, IsSubject, PermitTheSame}
-use Rattle.bl_differences.specs.declared.difference.Difference.{Difference}
-use Rattle.bl_differences.specs.declared.difference.Difference.TheVariants.{SubjectWent, SubjectDiffers, DocumentWent, DocumentDiffers}
-use Rattle.bl_differences.specs.declared.difference.RowDifference.{RowDifference}
+use Rattle.bl_differences.specs.declared.difference.Difference.TheVariants.{SubjectWent, SubjectDiffers, DocumentWent}
 use Rattle.bl_differences.specs.declared.difference.RowDifference.TheVariants.{Differs}
 use Rattle.bl_differences.specs.declared.difference.RowPlace.{RowPlace}
 

@@ -1,4 +1,4 @@
-use Rattle.std.proofs.Common.{◌≡◌, ◌++◌, ◌<◌, ◌≤◌, ℕ, List, ◌∙◌, ap, arith}
+use Rattle.std.proofs.Common.{◌≡◌, ◌++◌, ℕ, ◌∙◌, ap, arith}
 use Rattle.std.specs.Prelude.{filter_map, Option}
 use Rattle.bl_differences.specs.Differences.{places}
 use Rattle.bl_differences.specs.Stretches.{count_of, piece_of}

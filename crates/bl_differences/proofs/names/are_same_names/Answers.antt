@@ -1,4 +1,4 @@
-use Rattle.std.proofs.Common.{◌≡◌, ◌<◌, ◌≤◌, sym, ◌∙◌, arith, length, refl}
+use Rattle.std.proofs.Common.{◌<◌, ◌≤◌, sym, ◌∙◌, arith, length, refl}
 use Rattle.bl_differences.proofs.Naming.{names-end, names-here, names-next, names-other}
 use Rattle.bl_differences.proofs.names.are_same_names.Goals as goal
 

@@ -1,4 +1,4 @@
-use Rattle.std.proofs.Common.{◌≡◌, ◌++◌, ◌<◌, ◌≤◌, ℕ, List, ◌∙◌, ap, arith, length, flat_map}
+use Rattle.std.proofs.Common.{◌≡◌, ◌++◌, ℕ, List, ◌∙◌, ap, arith, length, flat_map}
 use Rattle.bl_setup.specs.Setup.{Setup}
 use Rattle.bl_work.specs.Names.{KnownNames}
 use Rattle.bl_differences.specs.Differences.{places}

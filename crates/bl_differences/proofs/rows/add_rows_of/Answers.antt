@@ -1,4 +1,4 @@
-use Rattle.std.proofs.Common.{◌≡◌, ◌++◌, ◌<◌, ◌≤◌, ℕ, List, ◌∙◌, ap, arith, length}
+use Rattle.std.proofs.Common.{◌≡◌, ◌++◌, ℕ, ◌∙◌, ap, arith, length}
 use Rattle.std.specs.Prelude.{filter_map, Option}
 use Rattle.bl_setup.specs.Setup.{Setup}
 use Rattle.bl_work.specs.Names.{KnownNames}

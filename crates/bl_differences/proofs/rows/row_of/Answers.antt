@@ -1,4 +1,4 @@
-use Rattle.std.proofs.Common.{◌≡◌, ℕ, Bool, true, false, ap, refl, subst, sym, ◌∙◌}
+use Rattle.std.proofs.Common.{◌≡◌, Bool, true, false, ap, refl, subst, sym, ◌∙◌}
 use Rattle.std.specs.Prelude.{IfSome, Option, Some, None, if◌then◌else◌}
 use Rattle.bl_policy.specs.Policy.{SecurityPolicy}
 use Rattle.bl_rights.specs.Rows.{has_right, row_at, row_of}

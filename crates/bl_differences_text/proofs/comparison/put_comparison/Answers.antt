@@ -1,7 +1,6 @@
 use Rattle.std.proofs.Common.{rules, arith, ◌≡◌, ◌+◌, ◌++◌, List, ℕ, length, refl, sym, subst, ◌∙◌, ap, ap₂, append_assoc, flat_map}
 use Rattle.std.specs.Prelude.{All}
 use Rattle.bl_wire.specs.Watch.{EndState, Puts, end_state}
-use Rattle.bl_wire.proofs.PutLaws.{puts-is}
 use Rattle.bl_state.proofs.Putting.{on-err}
 use Rattle.bl_rights_text.specs.Fronts.{IsFrontPut}
 use Rattle.bl_setup.specs.Setup.{Setup}
@@ -9,7 +8,7 @@ use Rattle.bl_differences.specs.Differences.{declared_differences, row_differenc
 use Rattle.bl_differences.specs.Fitting.{IsDifferenceOf, IsRowDifferenceOf}
 use Rattle.bl_differences.specs.declared.difference.Difference.{Difference}
 use Rattle.bl_differences.specs.declared.difference.RowDifference.{RowDifference}
-use Rattle.bl_differences_text.specs.Comparison.{comparison_text, difference_count, differences_text, first_line, rows_text}
+use Rattle.bl_differences_text.specs.Comparison.{comparison_text, difference_count, first_line, rows_text}
 use Rattle.bl_differences_text.specs.Lines.{difference_lines}
 use Rattle.bl_differences_text.proofs.Lining.{both-put, none-put, second-begun}
 use Rattle.bl_differences_text.proofs.comparison.put_comparison.Goals as goal

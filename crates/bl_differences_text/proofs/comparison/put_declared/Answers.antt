@@ -1,4 +1,4 @@
-use Rattle.std.proofs.Common.{rules, ◌≡◌, ◌<◌, ◌≤◌, ◌+◌, ℕ, List, arith, drop, get_or, length, subst, sym, ◌∙◌, ap, flat_map}
+use Rattle.std.proofs.Common.{rules, ◌≡◌, ◌≤◌, ◌+◌, ℕ, List, arith, drop, get_or, length, subst, sym, ◌∙◌, ap, flat_map}
 use Rattle.bl_wire.specs.Watch.{EndState, end_state}
 use Rattle.bl_wire.proofs.PutLaws.{puts-is}
 use Rattle.bl_state.proofs.Putting.{on-err}

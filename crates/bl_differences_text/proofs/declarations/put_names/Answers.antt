@@ -1,4 +1,4 @@
-use Rattle.std.proofs.Common.{◌≡◌, ◌<◌, ◌≤◌, List, [], ◌++◌, length, take, sym, ◌∙◌, ap, append-nil, arith, flat_map}
+use Rattle.std.proofs.Common.{◌<◌, ◌≤◌, ◌++◌, length, sym, ◌∙◌, ap, append-nil, arith, flat_map}
 use Rattle.std.proofs.lemmas.List.{take_all}
 use Rattle.bl_differences_text.proofs.Naming.{more-names, with_blank}
 use Rattle.bl_differences_text.proofs.declarations.put_names.Goals as goal
