@@ -75,11 +75,7 @@ fn put_blanks(text: &mut Vec<u8>, count: usize) -> Result<(), AllocError>
 
 /// Puts a cell in its column behind a text: filled with blanks, in front of it or behind it.
 #[tactic(auto, using(std::proofs::Common::append_assoc))]
-pub(crate) fn put_aligned(
-    text: &mut Vec<u8>,
-    column: Column,
-    cell: &Cell,
-) -> Result<(), AllocError>
+pub(crate) fn put_aligned(text: &mut Vec<u8>, column: Column, cell: &Cell) -> Result<(), AllocError>
     ensures { OnOk result (text.new.items ≡ text.old.items ++ aligned column cell.now) }
 {
     let missing = column.width.saturating_sub(cell.bytes().len());
