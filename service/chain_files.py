@@ -17,7 +17,7 @@ import sys
 import tempfile
 from contextlib import suppress
 
-NAME = re.compile(r"([0-9]{6,9})\.(amend|setup|trail|trail\.part)")
+NAME = re.compile(r"([0-9]{6,9})\.(setup|trail|trail\.part)")
 ACCEPTED = re.compile(r"accepted ([0-9]+) runs, next ([0-9a-f]{64})\n(.*)", re.S)
 NOTED = "noted"
 BLOCK = 1 << 20
@@ -119,8 +119,8 @@ class Chain:
         return os.path.isfile(self.path(number, kind))
 
     def files(self):
-        """The files of the chain, as numbers and kinds: first setups and closed trails, by their numbers, what was
-        amended before a setup, and a setup before its trail; then the journals."""
+        """The files of the chain, as numbers and kinds: those of closed runs and setups first, by their numbers, each
+        setup before its trail; then the journals."""
         found = [NAME.fullmatch(name) for name in os.listdir(self.folder)]
         files = {(int(it[1]), it[2]) for it in found if it and it[0] == name_of(int(it[1]), it[2])}
         return sorted(files, key=lambda file: (file[1] == "trail.part", *file))
