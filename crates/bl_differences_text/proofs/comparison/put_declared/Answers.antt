@@ -14,8 +14,8 @@ loop-difference-init g c =
     let lines : Difference → List ℕ = λ d. difference_lines c.args.pair.now.old.now c.args.pair.now.new.now d in
     put-none (flat_map lines c.args.list.now) (end_state g.W.Write.contents c.args.writer.now)
 
-pub difference_lines-text-requires-clause-fits : goal.difference_lines-text-requires-clause-fits
-difference_lines-text-requires-clause-fits g c =
+pub difference_lines-requires-clause-fits : goal.difference_lines-requires-clause-fits
+difference_lines-requires-clause-fits g c =
     let i = c.loop-difference.difference-index in
     let item = c.difference-item.result in
     subst (λ d. IsDifferenceOf c.args.pair.now.old.now c.args.pair.now.new.now d) (sym c.difference-item.is) (c.requires.fit i item c.loop-difference-test.true)

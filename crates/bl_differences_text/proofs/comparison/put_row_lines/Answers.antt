@@ -14,8 +14,8 @@ loop-difference-init g c =
     let lines : RowDifference → List ℕ = λ d. row_lines c.args.pair.now.old.now c.args.pair.now.new.now c.args.widths.now d in
     put-none (flat_map lines c.args.list.now) (end_state g.W.Write.contents c.args.writer.now)
 
-pub row_lines-text-requires-clause-fits : goal.row_lines-text-requires-clause-fits
-row_lines-text-requires-clause-fits g c =
+pub row_lines-requires-clause-fits : goal.row_lines-requires-clause-fits
+row_lines-requires-clause-fits g c =
     let i = c.loop-difference.difference-index in
     let item = c.difference-item.result in
     subst (λ d. IsRowDifferenceOf c.args.pair.now.old.now c.args.pair.now.new.now d) (sym c.difference-item.is) (c.requires.fit i item c.loop-difference-test.true)

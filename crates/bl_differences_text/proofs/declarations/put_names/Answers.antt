@@ -10,7 +10,7 @@ pub loop-place-preserved : goal.loop-place-preserved
 loop-place-preserved c =
     let place = c.loop-place.place in
     let within : place < length c.args.names.now = omega (arith, c.loop-place-test.true, c.len-many.ensures.value) in
-    more-names c.args.names.now c.args.text.now.items c.loop-place.text.items c.extend_from_slice.new.self.items c.extend_from_slice-2.new.self.items
+    more-names c.args.names.now c.args.text.now.items c.loop-place.text.items c.extend_from_slice.new.self.items c.extend_from_slice-in-loop-place.new.self.items
     c.bytes.result.now place within c.loop-place.invariant c.in_ok-extend_from_slice.ensures.items c.in_ok-extend_from_slice-2.ensures.items
     (c.bytes.ensures.value ∙ c.name_at.ensures)
 
