@@ -84,12 +84,12 @@ pub fn files_path_in(alloc: Global, files: NamedFiles<'_>) -> Result<String, All
 fn setup_in<D: Device, F: Folder<D>>(
     alloc: Global,
     folder: &mut F,
-    run: ChainRun<'_>,
+    run: u32,
 ) -> Result<Vec<u8>, FilesFault>
     ensures setup { IfOk result (λ setup. (before : Standing) → F.stands folder.old before
-        → before.seen (setup_of run.entry.run) ≡ Some setup.items) }
+        → before.seen (setup_of run) ≡ Some setup.items) }
 {
-    match setup_bytes::<D, F>(alloc, folder, run.run) {
+    match setup_bytes::<D, F>(alloc, folder, run) {
         Ok(setup) => Ok(setup),
         Err(fault) => Err(FilesFault::Run(fault)),
     }
@@ -99,27 +99,57 @@ fn setup_in<D: Device, F: Folder<D>>(
 fn files_in<D: Device, F: Folder<D>>(
     alloc: Global,
     folder: &mut F,
-    run: ChainRun<'_>,
+    run: u32,
     wanted: WantedTrail,
 ) -> Result<Files, FilesFault>
     ensures setup { IfOk result (λ files. (before : Standing) → F.stands folder.old before
-        → before.seen (setup_of run.entry.run) ≡ Some files.setup.items) }
+        → before.seen (setup_of run) ≡ Some files.setup.items) }
     ensures trail { IfOk result (λ files. (before : Standing) → F.stands folder.old before
-        → IsTrailOf before.seen wanted run.entry.run files.trail.items) }
+        → IsTrailOf before.seen wanted run files.trail.items) }
 {
-    match run_texts::<D, F>(alloc, folder, run.run, wanted) {
+    match run_texts::<D, F>(alloc, folder, run, wanted) {
         Ok(RunTexts { setup, trail }) => Ok(Files { setup, trail }),
         Err(fault) => Err(FilesFault::Run(fault)),
     }
 }
 
-/// The folder of a run of a chain, to be read. Nothing is written there, and its lock is not taken.
-fn folder_of<'a, R: AllocGlobal + OpensFiles>(
-    rt: &'a R,
-    run: ChainRun<'_>,
-) -> Result<SystemFolder<'a, R>, FilesFault> {
-    let folder = SystemFolder::at(rt, rt.alloc(), run.folder, Keeping::Written)?;
-    Ok(folder)
+/// The bytes of the setup of a run of the chain in the folder of this name. Nothing is written there, and its lock is not
+/// taken.
+fn read_run_setup<R: AllocGlobal + OpensFiles>(
+    rt: &R,
+    name: &str,
+    run: u32,
+) -> Result<Vec<u8>, FilesFault>
+where
+    R::File: Lock,
+{
+    let alloc = rt.alloc();
+    match SystemFolder::at(rt, alloc, name, Keeping::Written) {
+        Ok(mut folder) => {
+            setup_in::<SystemFile<R::File>, SystemFolder<'_, R>>(alloc, &mut folder, run)
+        }
+        Err(fault) => Err(FilesFault::from(fault)),
+    }
+}
+
+/// The bytes of the files of a run of the chain in the folder of this name. Nothing is written there, and its lock is not
+/// taken.
+fn read_run_files<R: AllocGlobal + OpensFiles>(
+    rt: &R,
+    name: &str,
+    run: u32,
+    wanted: WantedTrail,
+) -> Result<Files, FilesFault>
+where
+    R::File: Lock,
+{
+    let alloc = rt.alloc();
+    match SystemFolder::at(rt, alloc, name, Keeping::Written) {
+        Ok(mut folder) => {
+            files_in::<SystemFile<R::File>, SystemFolder<'_, R>>(alloc, &mut folder, run, wanted)
+        }
+        Err(fault) => Err(FilesFault::from(fault)),
+    }
 }
 
 /// The bytes of the setup that is named.
@@ -132,10 +162,7 @@ where
 {
     match setup {
         NamedSetup::File(name) => Ok(read_setup_file(rt, name)?),
-        NamedSetup::OfRun(run) => {
-            let mut folder = folder_of(rt, run)?;
-            setup_in::<SystemFile<R::File>, SystemFolder<'_, R>>(rt.alloc(), &mut folder, run)
-        }
+        NamedSetup::OfRun(ChainRun { folder, run }) => read_run_setup(rt, folder, run),
     }
 }
 
@@ -154,15 +181,7 @@ where
             let trail = read_trail_file(rt, trail)?;
             Ok(Files { setup, trail })
         }
-        NamedFiles::OfRun(run) => {
-            let mut folder = folder_of(rt, run)?;
-            files_in::<SystemFile<R::File>, SystemFolder<'_, R>>(
-                rt.alloc(),
-                &mut folder,
-                run,
-                wanted,
-            )
-        }
+        NamedFiles::OfRun(ChainRun { folder, run }) => read_run_files(rt, folder, run, wanted),
     }
 }
 
