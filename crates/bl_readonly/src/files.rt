@@ -1,19 +1,15 @@
 //! The files that a command reads, by what names them: files of their own names, or those of a run of a chain.
-ghost use Rattle.std.specs.Prelude.{◌≡◌, IfOk, Some, string_bytes};
-ghost use Rattle.bl_folder.specs.Names.{setup_of};
-ghost use Rattle.bl_folder.specs.Standing.{Standing};
+ghost use Rattle.std.specs.Prelude.{◌≡◌, IfOk, string_bytes};
 ghost use Rattle.bl_readonly.specs.Files.{files_path_of, files_place_of, setup_path_of, setup_place_of, wanted_by};
-ghost use Rattle.bl_run_files.specs.Reading.{IsTrailOf};
 
 use crate::fault::FilesFault;
 use crate::run::ComparedFiles;
-use bl_disk::device::Device;
 use bl_file::device::SystemFile;
 use bl_file::kept::Keeping;
 use bl_file::lock::Lock;
-use bl_folder::folder::Folder;
 use bl_folder::system::SystemFolder;
 use bl_options::reading::{ChainRun, NamedFiles, NamedSetup};
+use bl_run_files::fault::RunFault;
 use bl_run_files::path::setup_path;
 use bl_run_files::read::{RunTexts, WantedTrail, run_texts, setup_bytes};
 use bl_system::files::{read_setup_file, read_trail_file};
@@ -80,75 +76,42 @@ pub fn files_path_in(alloc: Global, files: NamedFiles<'_>) -> Result<String, All
     }
 }
 
-/// The bytes of the setup of a run in its folder, which stays as it is.
-fn setup_in<D: Device, F: Folder<D>>(
-    alloc: Global,
-    folder: &mut F,
-    run: u32,
-) -> Result<Vec<u8>, FilesFault>
-    ensures setup { IfOk result (λ setup. (before : Standing) → F.stands folder.old before
-        → before.seen (setup_of run) ≡ Some setup.items) }
-{
-    match setup_bytes::<D, F>(alloc, folder, run) {
-        Ok(setup) => Ok(setup),
-        Err(fault) => Err(FilesFault::Run(fault)),
-    }
-}
-
-/// The files of a run in its folder, which stays as it is: its setup, and its trail, or its journal, as is wanted.
-fn files_in<D: Device, F: Folder<D>>(
-    alloc: Global,
-    folder: &mut F,
-    run: u32,
-    wanted: WantedTrail,
-) -> Result<Files, FilesFault>
-    ensures setup { IfOk result (λ files. (before : Standing) → F.stands folder.old before
-        → before.seen (setup_of run) ≡ Some files.setup.items) }
-    ensures trail { IfOk result (λ files. (before : Standing) → F.stands folder.old before
-        → IsTrailOf before.seen wanted run files.trail.items) }
-{
-    match run_texts::<D, F>(alloc, folder, run, wanted) {
-        Ok(RunTexts { setup, trail }) => Ok(Files { setup, trail }),
-        Err(fault) => Err(FilesFault::Run(fault)),
-    }
-}
-
 /// The bytes of the setup of a run of the chain in the folder of this name. Nothing is written there, and its lock is not
 /// taken.
 fn read_run_setup<R: AllocGlobal + OpensFiles>(
     rt: &R,
     name: &str,
     run: u32,
-) -> Result<Vec<u8>, FilesFault>
+) -> Result<Vec<u8>, RunFault>
 where
     R::File: Lock,
 {
     let alloc = rt.alloc();
     match SystemFolder::at(rt, alloc, name, Keeping::Written) {
         Ok(mut folder) => {
-            setup_in::<SystemFile<R::File>, SystemFolder<'_, R>>(alloc, &mut folder, run)
+            setup_bytes::<SystemFile<R::File>, SystemFolder<'_, R>>(alloc, &mut folder, run)
         }
-        Err(fault) => Err(FilesFault::from(fault)),
+        Err(fault) => Err(RunFault::Folder(fault)),
     }
 }
 
-/// The bytes of the files of a run of the chain in the folder of this name. Nothing is written there, and its lock is not
-/// taken.
-fn read_run_files<R: AllocGlobal + OpensFiles>(
+/// The bytes of the files of a run of the chain in the folder of this name: of its setup, and of its trail, or its journal,
+/// as is wanted. Nothing is written there, and its lock is not taken.
+fn read_run_texts<R: AllocGlobal + OpensFiles>(
     rt: &R,
     name: &str,
     run: u32,
     wanted: WantedTrail,
-) -> Result<Files, FilesFault>
+) -> Result<RunTexts, RunFault>
 where
     R::File: Lock,
 {
     let alloc = rt.alloc();
     match SystemFolder::at(rt, alloc, name, Keeping::Written) {
         Ok(mut folder) => {
-            files_in::<SystemFile<R::File>, SystemFolder<'_, R>>(alloc, &mut folder, run, wanted)
+            run_texts::<SystemFile<R::File>, SystemFolder<'_, R>>(alloc, &mut folder, run, wanted)
         }
-        Err(fault) => Err(FilesFault::from(fault)),
+        Err(fault) => Err(RunFault::Folder(fault)),
     }
 }
 
@@ -162,7 +125,7 @@ where
 {
     match setup {
         NamedSetup::File(name) => Ok(read_setup_file(rt, name)?),
-        NamedSetup::OfRun(ChainRun { folder, run }) => read_run_setup(rt, folder, run),
+        NamedSetup::OfRun(ChainRun { folder, run }) => Ok(read_run_setup(rt, folder, run)?),
     }
 }
 
@@ -181,7 +144,10 @@ where
             let trail = read_trail_file(rt, trail)?;
             Ok(Files { setup, trail })
         }
-        NamedFiles::OfRun(ChainRun { folder, run }) => read_run_files(rt, folder, run, wanted),
+        NamedFiles::OfRun(ChainRun { folder, run }) => {
+            let RunTexts { setup, trail } = read_run_texts(rt, folder, run, wanted)?;
+            Ok(Files { setup, trail })
+        }
     }
 }
 
