@@ -1,0 +1,78 @@
+//! What may be asked of a server, and how that is said.
+ghost use Rattle.std.specs.Prelude.{◌≡◌, ◌≢◌, ℕ, ◌≤◌, ◌×◌, MatchOption, decimal};
+ghost use Rattle.bl_control.specs.Wishes.{IsAskable, IsWithin, wish_line, wish_text};
+ghost use Rattle.bl_wire.specs.Watch.{Puts, end_state};
+
+use bl_trail::ask::number;
+use bl_wire::put::{put, put_number, put_out};
+use bl_wire::watched::Watched;
+use itoa::Buffer;
+use std::io::Write;
+
+/// For how many seconds a connection may take nothing at most, where that is said.
+pub const MOST_WITHIN: u32 = 86_400;
+
+/// For how many it may where that is not said.
+pub const WITHIN: u32 = 10;
+
+/// What may be asked of a server.
+#[derive(Clone, Copy, Debug, PartialEq, Eq)]
+pub enum Wish {
+    /// That it ends once the run at hand is closed.
+    Stop {
+        /// After so many seconds, 1 to 86,400, who has not taken its last is cut off.
+        within: u32,
+    },
+    /// That the next run begins now.
+    Change,
+    /// What it tells of itself.
+    Figures,
+}
+
+/// The number of seconds that a text spells, where that may be said; `None` where it spells none.
+fn within_of(text: &[u8]) -> Option<u32>
+    ensures { MatchOption result ((within : ℕ) → IsWithin within → text.now ≢ decimal within)
+        (λ within. IsWithin within × (text.now ≡ decimal within)) }
+{
+    let within = number(text)?;
+    let mut digits = Buffer::new();
+    if within < 1 || within > MOST_WITHIN || digits.format(within).as_bytes() != text {
+        return None;
+    }
+    Some(within)
+}
+
+/// What a line asks, without its LF; `None` where it asks nothing that may be asked.
+pub fn wish_of(line: &[u8]) -> Option<Wish>
+    ensures { MatchOption result ((wish : Wish) → IsAskable wish → line.now ≢ wish_text wish)
+        (λ wish. IsAskable wish × (line.now ≡ wish_text wish)) }
+{
+    match line {
+        b"change" => Some(Wish::Change),
+        b"figures" => Some(Wish::Figures),
+        [b's', b't', b'o', b'p', b' ', rest @ ..] => {
+            let within = within_of(rest)?;
+            Some(Wish::Stop { within })
+        }
+        _ => None,
+    }
+}
+
+/// Asks it, on a line of its own.
+pub fn put_wish<W: Write>(writer: &mut Watched<W>, wish: Wish)
+    ensures { Puts (wish_line wish) (end_state W.contents writer.old) (end_state W.contents writer.new) }
+{
+    match wish {
+        Wish::Stop { within } => {
+            put(writer, b"stop ");
+            put_number(writer, within);
+        }
+        Wish::Change => {
+            put(writer, b"change");
+        }
+        Wish::Figures => {
+            put(writer, b"figures");
+        }
+    }
+    put_out(writer, b"\n");
+}

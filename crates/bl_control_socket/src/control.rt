@@ -1,0 +1,267 @@
+//! All of it, as the runs of a chain look at it.
+ghost use Rattle.std.specs.Prelude.{◌≡◌, IfSome, is_some};
+
+use crate::caller::Caller;
+use crate::listen::{ControlFault, listen, of_system};
+use crate::sizes::{folder_bytes, run_file_bytes};
+use crate::tellers::{answer_all, answer_one};
+use bl_control::answer::Answer;
+use bl_control::asked::{Asked, StopAsked};
+use bl_control::figures::Figures;
+use bl_control::question::Heard;
+use bl_control::wish::Wish;
+use bl_folder::name::RunFile;
+use mio::net::{UnixListener, UnixStream};
+use std::alloc::{AllocError, Global};
+use std::net::Net;
+use std::rt::Files;
+use std::sync::Mutex;
+use std::{fs, mem};
+
+/// How many callers may be there at once that have not asked yet.
+const MOST_CALLERS: usize = 16;
+
+/// A control, which the runs of a chain look at one after the other.
+pub type SharedControl = Mutex<Control>;
+
+/// What a run knows of itself, for its figures.
+#[derive(Clone, Copy, Debug, PartialEq, Eq)]
+pub struct Counts {
+    /// How many connections are open.
+    pub connections: u32,
+    /// How many connections it has taken.
+    pub sessions: u32,
+    /// How much its admitted lines weigh.
+    pub weight: u64,
+    /// How many events it has.
+    pub events: u64,
+}
+
+/// Those who wait for an answer.
+#[derive(Drop)]
+struct Waiting {
+    stops: Vec<UnixStream>,
+    changes: Vec<UnixStream>,
+    figures: Vec<UnixStream>,
+}
+
+/// The changeovers of this server: how many there were, for how many microseconds nobody was served at the last one, and
+/// since when nobody is, in microseconds since any moment.
+#[derive(Clone, Copy, Debug)]
+struct Changeovers {
+    count: u64,
+    last: u64,
+    since: Option<u64>,
+}
+
+/// The socket in a chain's folder by which its owner speaks to the server, and what was asked there.
+///
+/// One thread at a time looks there, the one that waits for the others. It never waits itself. What is said and who
+/// hears the answer no contract says.
+#[derive(Drop)]
+pub struct Control {
+    folder: String,
+    path: String,
+    listener: UnixListener,
+    callers: Vec<Caller>,
+    waiting: Waiting,
+    asked: Asked,
+    cut_at: Option<u64>,
+    run: u32,
+    changeovers: Changeovers,
+}
+
+impl From<AllocError> for ControlFault {
+    ghost use Rattle.std.specs.Prelude.{◌≡◌};
+    ghost use Rattle.bl_control_socket.specs.declared.listen.ControlFault.TheVariants.{Memory};
+
+    ghost from_gives = { λ _ fault. fault ≡ Memory };
+
+    fn from(_error: AllocError) -> ControlFault {
+        ControlFault::Memory
+    }
+}
+
+impl Control {
+    /// Listens at the socket `control` in this folder, in which no other server works. `Refused` comes where the system
+    /// refuses the socket or something else has its name, and `Memory` where memory was refused.
+    pub fn open<R: Files + Net>(
+        rt: &R,
+        alloc: Global,
+        folder: &str,
+    ) -> Result<Control, ControlFault> {
+        let path = format!(in alloc; "{folder}/control")?;
+        let folder = String::from_str(alloc, folder)?;
+        let listener = match listen(rt, path.as_str()) {
+            Ok(listener) => listener,
+            Err(error) => return Err(of_system(&error)),
+        };
+        Ok(Control {
+            folder,
+            path,
+            listener,
+            callers: Vec::new(alloc),
+            waiting: Waiting {
+                stops: Vec::new(alloc),
+                changes: Vec::new(alloc),
+                figures: Vec::new(alloc),
+            },
+            asked: Asked::nothing(),
+            cut_at: None,
+            run: 0,
+            changeovers: Changeovers {
+                count: 0,
+                last: 0,
+                since: None,
+            },
+        })
+    }
+
+    /// Takes the socket away. Who still waits for an answer is let go.
+    pub fn close<R: Files>(self, rt: &R) {
+        let _ = fs::remove_file(rt, self.path.as_str());
+    }
+
+    /// The run with this number is at hand.
+    pub fn set_run(&mut self, run: u32) {
+        self.run = run;
+    }
+
+    /// The session threads of the run at hand serve from this time on, in microseconds.
+    pub fn begin_serving(&mut self, micros: u64) {
+        if let Some(since) = self.changeovers.since {
+            self.changeovers = Changeovers {
+                count: self.changeovers.count.saturating_add(1),
+                last: micros.saturating_sub(since),
+                since: None,
+            };
+        }
+    }
+
+    /// They serve nobody any more, from this time on, in microseconds.
+    pub fn end_serving(&mut self, micros: u64) {
+        self.changeovers.since = Some(micros);
+    }
+
+    /// Takes in who has come by this time, in milliseconds.
+    fn welcome(&mut self, time: u64) {
+        for _ in 0..MOST_CALLERS {
+            if self.callers.len() >= MOST_CALLERS {
+                return;
+            }
+            let Ok((stream, _)) = self.listener.accept() else {
+                return;
+            };
+            if self.callers.push(Caller::new(stream, time)).is_err() {
+                return;
+            }
+        }
+    }
+
+    /// Notes what is asked over this stream at this time, in milliseconds: who asks waits for the answer.
+    fn take(&mut self, wish: Wish, stream: UnixStream, time: u64) {
+        self.asked.note(wish);
+        let pushed = match wish {
+            Wish::Stop { within } => {
+                let until = time.saturating_add(u64::from(within) * 1_000);
+                self.cut_at = Some(self.cut_at.map_or(until, |earlier| earlier.min(until)));
+                self.waiting.stops.push(stream)
+            }
+            Wish::Change => self.waiting.changes.push(stream),
+            Wish::Figures => self.waiting.figures.push(stream),
+        };
+        // who is not there for want of memory is let go without an answer
+        let _ = pushed;
+    }
+
+    /// Hears those who have come, at this time, in milliseconds.
+    fn hear(&mut self, time: u64) {
+        let mut i = 0;
+        for _ in 0..self.callers.len() {
+            if i >= self.callers.len() {
+                return;
+            }
+            match self.callers[i].hear(time) {
+                Heard::More => i += 1,
+                Heard::Asks(wish) => {
+                    let stream = self.callers.swap_remove(i).into_stream();
+                    self.take(wish, stream, time);
+                }
+                Heard::Wrong => {
+                    let stream = self.callers.swap_remove(i).into_stream();
+                    answer_one(stream, &Answer::Unknown);
+                }
+            }
+        }
+    }
+
+    /// Takes in who has come, and notes what is asked, at this time, in milliseconds.
+    pub fn look(&mut self, time: u64) {
+        self.welcome(time);
+        self.hear(time);
+    }
+
+    /// Whether somebody waits for figures.
+    pub fn wants_figures(&self) -> bool {
+        !self.waiting.figures.is_empty()
+    }
+
+    /// Answers who waits for figures, for a run at hand of these counts.
+    pub fn answer_figures<R: Files>(&mut self, rt: &R, alloc: Global, counts: Counts) {
+        let folder = self.folder.as_str();
+        let figures = Figures {
+            run: self.run,
+            connections: counts.connections,
+            sessions: counts.sessions,
+            weight: counts.weight,
+            events: counts.events,
+            trail_bytes: run_file_bytes(rt, alloc, folder, RunFile::trail_part(self.run)),
+            setup_bytes: run_file_bytes(rt, alloc, folder, RunFile::setup(self.run)),
+            folder_bytes: folder_bytes(rt, alloc, folder).unwrap_or(0),
+            changes: self.changeovers.count,
+            last_change_us: self.changeovers.last,
+        };
+        let askers = mem::replace(&mut self.waiting.figures, Vec::new(alloc));
+        answer_all(askers, &Answer::Figures(figures));
+    }
+
+    /// Whether the run at hand is to end.
+    pub fn ends_run(&self) -> bool {
+        self.asked.ends_run()
+    }
+
+    /// Whether who has not taken its last by this time, in milliseconds, is cut off, since the server is to stop.
+    pub fn is_cut_due(&self, time: u64) -> bool {
+        match self.cut_at {
+            Some(until) => until <= time,
+            None => false,
+        }
+    }
+
+    /// That the server is to stop, where that was asked.
+    pub fn stop(&self) -> Option<StopAsked>
+        ensures { is_some result ≡ is_some self.now.asked.stop }
+    {
+        self.asked.stop()
+    }
+
+    /// Whether the next run was to begin, which is done now.
+    pub fn take_change(&mut self) -> bool {
+        self.asked.take_change()
+    }
+
+    /// Answers this to who asked for the next run.
+    pub fn answer_change(&mut self, alloc: Global, answer: &Answer) {
+        let askers = mem::replace(&mut self.waiting.changes, Vec::new(alloc));
+        answer_all(askers, answer);
+    }
+
+    /// The run with this number is closed, and the server stops, as was asked: answers that to who asked so, and to who
+    /// asked for the next run that the server stops.
+    pub fn answer_stop(&mut self, alloc: Global, asked: StopAsked, run: u32) {
+        let _ = asked;
+        let askers = mem::replace(&mut self.waiting.stops, Vec::new(alloc));
+        answer_all(askers, &Answer::Stopped(run));
+        self.answer_change(alloc, &Answer::Stops);
+    }
+}
