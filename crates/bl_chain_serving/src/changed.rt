@@ -19,6 +19,7 @@ use bl_wire::watched::Watched;
 use std::io::Write;
 use std::rt::Files;
 use std::sync::Wait;
+use std::time::Clock;
 
 /// Opens the log anew under this name, so that the file that it had may be moved away. Where that cannot be done the log
 /// stays as it is.
@@ -61,7 +62,7 @@ pub(crate) fn answer_change<P, T: Wait + Files, E: Write>(
 }
 
 /// Answers who asked the server to stop, once the run at hand is closed and this one would be the next. The status is 0.
-pub(crate) fn answer_stop<D: Device + Drop, F: Folder<D>, P, T: Wait + Files>(
+pub(crate) fn answer_stop<D: Device + Drop, F: Folder<D>, P, T: Wait + Files + Clock>(
     hosts: &Hosts<'_, P, T>,
     chain: &Chain<'_, F>,
     control: &SharedControl,
@@ -76,6 +77,6 @@ pub(crate) fn answer_stop<D: Device + Drop, F: Folder<D>, P, T: Wait + Files>(
     let run = next.run.saturating_sub(1);
     control
         .lock(run_context.rt)
-        .answer_stop(run_context.alloc, asked, run);
+        .answer_stop(run_context.rt, run_context.alloc, asked, run);
     0
 }

@@ -1,5 +1,5 @@
 //! What may be asked of a server, and how that is said.
-ghost use Rattle.std.specs.Prelude.{◌≡◌, ◌≢◌, ℕ, ◌≤◌, ◌×◌, MatchOption, decimal};
+ghost use Rattle.std.specs.Prelude.{◌≡◌, ◌≢◌, ℕ, ◌≤◌, MatchOption, decimal};
 ghost use Rattle.bl_control.specs.Wishes.{IsAskable, IsWithin, wish_line, wish_text};
 ghost use Rattle.bl_wire.specs.Watch.{Puts, end_state};
 

@@ -16,10 +16,16 @@ use std::alloc::{AllocError, Global};
 use std::net::Net;
 use std::rt::Files;
 use std::sync::Mutex;
+use std::thread::sleep;
+use std::time::{Clock, Duration};
 use std::{fs, mem};
 
 /// How many callers may be there at once that have not asked yet.
 const MOST_CALLERS: usize = 16;
+
+/// How often those who have come are heard once nobody comes any more, and how many milliseconds lie between.
+const MOST_LAST_LOOKS: u32 = 10;
+const LAST_LOOKS_APART: u64 = 20;
 
 /// A control, which the runs of a chain look at one after the other.
 pub type SharedControl = Mutex<Control>;
@@ -256,12 +262,34 @@ impl Control {
         answer_all(askers, answer);
     }
 
-    /// The run with this number is closed, and the server stops, as was asked: answers that to who asked so, and to who
-    /// asked for the next run that the server stops.
-    pub fn answer_stop(&mut self, alloc: Global, asked: StopAsked, run: u32) {
+    /// Takes the socket away, so that nobody comes any more, and hears those who have come, for a fifth of a second at
+    /// most.
+    fn hear_last<R: Files + Clock>(&mut self, rt: &R) {
+        let _ = fs::remove_file(rt, self.path.as_str());
+        for _ in 0..MOST_LAST_LOOKS {
+            self.look(0);
+            if self.callers.is_empty() {
+                return;
+            }
+            sleep(rt, Duration::from_millis(LAST_LOOKS_APART));
+        }
+    }
+
+    /// The run with this number is closed, and the server stops, as was asked: nobody comes any more. Answers that to who
+    /// asked so, by now too, and that the server stops to who asked anything else.
+    pub fn answer_stop<R: Files + Clock>(
+        &mut self,
+        rt: &R,
+        alloc: Global,
+        asked: StopAsked,
+        run: u32,
+    ) {
         let _ = asked;
+        self.hear_last(rt);
         let askers = mem::replace(&mut self.waiting.stops, Vec::new(alloc));
         answer_all(askers, &Answer::Stopped(run));
         self.answer_change(alloc, &Answer::Stops);
+        let askers = mem::replace(&mut self.waiting.figures, Vec::new(alloc));
+        answer_all(askers, &Answer::Stops);
     }
 }
