@@ -1,8 +1,8 @@
 -- What was asked of the run at hand.
 use Rattle.std.specs.Prelude.{◌≡◌, ◌⊎◌, ℕ, true, false, Option, Some, None, IsSome, IsTrue, min}
 use Rattle.bl_control.specs.declared.asked.Asked.{Asked}
-use Rattle.bl_control.specs.declared.wish.Wish.{Wish}
-use Rattle.bl_control.specs.declared.wish.Wish.TheVariants.{Stop, Change, Figures}
+use Rattle.bl_control.specs.declared.demand.Demand.{Demand}
+use Rattle.bl_control.specs.declared.demand.Demand.TheVariants.{Stop, Change, Figures}
 
 abbrev pub asked_nothing : Asked
 asked_nothing = record { change = false; stop = None }
@@ -13,10 +13,10 @@ least_of None within = within
 least_of (Some earlier) within = min earlier within
 
 -- this was asked too
-abbrev pub with_wish : Wish → Asked → Asked
-with_wish (Stop within) asked = record asked { stop = Some (least_of asked.stop within) }
-with_wish Change asked = record asked { change = true }
-with_wish Figures asked = asked
+abbrev pub with_demand : Demand → Asked → Asked
+with_demand (Stop within) asked = record asked { stop = Some (least_of asked.stop within) }
+with_demand Change asked = record asked { change = true }
+with_demand Figures asked = asked
 
 -- the change is done
 abbrev pub without_change : Asked → Asked

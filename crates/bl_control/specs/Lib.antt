@@ -1,4 +1,4 @@
-pub mod Wishes
+pub mod Demands
 pub mod Asking
 pub mod Figures
 pub mod Answers

@@ -1,8 +1,8 @@
 //! What was asked of the run at hand.
 ghost use Rattle.std.specs.Prelude.{◌≡◌, ◌↔◌, IsSome, IsTrue, is_some};
-ghost use Rattle.bl_control.specs.Asking.{EndsRun, asked_nothing, with_wish, without_change};
+ghost use Rattle.bl_control.specs.Asking.{EndsRun, asked_nothing, with_demand, without_change};
 
-use crate::wish::Wish;
+use crate::demand::Demand;
 
 /// What was asked of the run at hand: whether the next one is to begin, and within how many seconds all are to be gone,
 /// where the server is to stop.
@@ -30,16 +30,16 @@ impl Asked {
     }
 
     /// This is asked too. Of several stops the one holds that gives the fewest seconds.
-    pub fn note(&mut self, wish: Wish)
-        ensures { self.new ≡ with_wish wish self.old }
+    pub fn note(&mut self, demand: Demand)
+        ensures { self.new ≡ with_demand demand self.old }
     {
-        match wish {
-            Wish::Stop { within } => {
+        match demand {
+            Demand::Stop { within } => {
                 let least = self.stop.map_or(within, |earlier| earlier.min(within));
                 self.stop = Some(least);
             }
-            Wish::Change => self.change = true,
-            Wish::Figures => {}
+            Demand::Change => self.change = true,
+            Demand::Figures => {}
         }
     }
 

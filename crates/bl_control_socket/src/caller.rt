@@ -1,7 +1,7 @@
 //! Who has come, and what was heard of them.
 ghost use Rattle.std.specs.Prelude.{◌≡◌};
 
-use bl_control::question::{Heard, Question};
+use bl_control::spoken::{Heard, Spoken};
 use mio::net::UnixStream;
 use std::io::{ErrorKind, Read};
 
@@ -18,7 +18,7 @@ const MOST_READS: u32 = 4;
 #[derive(Drop)]
 pub(crate) struct Caller {
     stream: UnixStream,
-    question: Question,
+    spoken: Spoken,
     until: u64,
 }
 
@@ -29,7 +29,7 @@ impl Caller {
     {
         Caller {
             stream,
-            question: Question::new(),
+            spoken: Spoken::new(),
             until: time.saturating_add(MOST_SILENT),
         }
     }
@@ -41,7 +41,7 @@ impl Caller {
         for _ in 0..MOST_READS {
             let heard = match self.stream.read(&mut room) {
                 Ok(0) => return Heard::Wrong,
-                Ok(count) => self.question.hear(&room[..count.min(MOST_ROOM)]),
+                Ok(count) => self.spoken.hear(&room[..count.min(MOST_ROOM)]),
                 Err(error) if error.kind() == ErrorKind::WouldBlock => break,
                 Err(_) => return Heard::Wrong,
             };

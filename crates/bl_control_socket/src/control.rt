@@ -8,8 +8,8 @@ use crate::tellers::{answer_all, answer_one};
 use bl_control::answer::Answer;
 use bl_control::asked::{Asked, StopAsked};
 use bl_control::figures::Figures;
-use bl_control::question::Heard;
-use bl_control::wish::Wish;
+use bl_control::spoken::Heard;
+use bl_control::demand::Demand;
 use bl_folder::name::RunFile;
 use mio::net::{UnixListener, UnixStream};
 use std::alloc::{AllocError, Global};
@@ -165,16 +165,16 @@ impl Control {
     }
 
     /// Notes what is asked over this stream at this time, in milliseconds: who asks waits for the answer.
-    fn take(&mut self, wish: Wish, stream: UnixStream, time: u64) {
-        self.asked.note(wish);
-        let pushed = match wish {
-            Wish::Stop { within } => {
+    fn take(&mut self, demand: Demand, stream: UnixStream, time: u64) {
+        self.asked.note(demand);
+        let pushed = match demand {
+            Demand::Stop { within } => {
                 let until = time.saturating_add(u64::from(within) * 1_000);
                 self.cut_at = Some(self.cut_at.map_or(until, |earlier| earlier.min(until)));
                 self.waiting.stops.push(stream)
             }
-            Wish::Change => self.waiting.changes.push(stream),
-            Wish::Figures => self.waiting.figures.push(stream),
+            Demand::Change => self.waiting.changes.push(stream),
+            Demand::Figures => self.waiting.figures.push(stream),
         };
         // who is not there for want of memory is let go without an answer
         let _ = pushed;
@@ -189,9 +189,9 @@ impl Control {
             }
             match self.callers[i].hear(time) {
                 Heard::More => i += 1,
-                Heard::Asks(wish) => {
+                Heard::Asks(demand) => {
                     let stream = self.callers.swap_remove(i).into_stream();
-                    self.take(wish, stream, time);
+                    self.take(demand, stream, time);
                 }
                 Heard::Wrong => {
                     let stream = self.callers.swap_remove(i).into_stream();

@@ -1,14 +1,14 @@
 //! Asks the server, and tells what it answers.
 ghost use Rattle.std.specs.Prelude.{◌≡◌, Result, Ok, Err, true};
 ghost use Rattle.bl_control.specs.Answers.{framed};
-ghost use Rattle.bl_control.specs.Wishes.{IsAskable};
+ghost use Rattle.bl_control.specs.Demands.{IsAskable};
 ghost use Rattle.bl_status.specs.Status.{IsEnd};
 ghost use Rattle.bl_telling.specs.Telling.{HasTold, HasToldAnswer};
 ghost use Rattle.bl_wire.specs.Watch.{end_state};
 
 use crate::fault::{TellFault, of_system, status_of, tell_fault};
 use bl_control::answer::{Told, told_in};
-use bl_control::wish::{Wish, put_wish};
+use bl_control::demand::{Demand, put_demand};
 use bl_status::fault::ProgramFault;
 use bl_status::told::tell as tell_program;
 use bl_wire::put::put_out;
@@ -36,14 +36,14 @@ fn ask<R: Net>(
     rt: &R,
     alloc: Global,
     path: &str,
-    wish: Wish,
+    demand: Demand,
 ) -> Result<Vec<u8>, TellFault> {
     let stream = match UnixStream::connect(rt, path) {
         Ok(stream) => stream,
         Err(error) => return Err(of_system(&error)),
     };
     let mut writer = Watched::new(stream);
-    put_wish(&mut writer, wish);
+    put_demand(&mut writer, demand);
     read_answer(alloc, writer.into_inner())
 }
 
@@ -52,10 +52,10 @@ fn ask_in<R: Net>(
     rt: &R,
     alloc: Global,
     folder: &str,
-    wish: Wish,
+    demand: Demand,
 ) -> Result<Vec<u8>, TellFault> {
     match format!(in alloc; "{folder}/control") {
-        Ok(path) => ask(rt, alloc, path.as_str(), wish),
+        Ok(path) => ask(rt, alloc, path.as_str(), demand),
         Err(_) => Err(TellFault::Memory),
     }
 }
@@ -93,14 +93,14 @@ pub fn tell<R: Net, W: Write, E: Write>(
     rt: &R,
     alloc: Global,
     folder: &str,
-    wish: Wish,
+    demand: Demand,
     writer: &mut Watched<W>,
     errors: &mut Watched<E>,
 ) -> u8
-    requires { IsAskable wish }
+    requires { IsAskable demand }
     ensures status { IsEnd result }
 {
-    let answer = match ask_in(rt, alloc, folder, wish) {
+    let answer = match ask_in(rt, alloc, folder, demand) {
         Ok(answer) => answer,
         Err(fault) => return tell_none(errors, folder, fault),
     };

@@ -1,6 +1,6 @@
 //! What may be asked of a server, and how that is said.
 ghost use Rattle.std.specs.Prelude.{◌≡◌, ◌≢◌, ℕ, ◌≤◌, MatchOption, decimal};
-ghost use Rattle.bl_control.specs.Wishes.{IsAskable, IsWithin, wish_line, wish_text};
+ghost use Rattle.bl_control.specs.Demands.{IsAskable, IsWithin, demand_line, demand_text};
 ghost use Rattle.bl_wire.specs.Watch.{Puts, end_state};
 
 use bl_trail::ask::number;
@@ -17,7 +17,7 @@ pub const WITHIN: u32 = 10;
 
 /// What may be asked of a server.
 #[derive(Clone, Copy, Debug, PartialEq, Eq)]
-pub enum Wish {
+pub enum Demand {
     /// That it ends once the run at hand is closed.
     Stop {
         /// After so many seconds, 1 to 86,400, who has not taken its last is cut off.
@@ -43,34 +43,34 @@ fn within_of(text: &[u8]) -> Option<u32>
 }
 
 /// What a line asks, without its LF; `None` where it asks nothing that may be asked.
-pub fn wish_of(line: &[u8]) -> Option<Wish>
-    ensures { MatchOption result ((wish : Wish) → IsAskable wish → line.now ≢ wish_text wish)
-        (λ wish. IsAskable wish × (line.now ≡ wish_text wish)) }
+pub fn demand_of(line: &[u8]) -> Option<Demand>
+    ensures { MatchOption result ((demand : Demand) → IsAskable demand → line.now ≢ demand_text demand)
+        (λ demand. IsAskable demand × (line.now ≡ demand_text demand)) }
 {
     match line {
-        b"change" => Some(Wish::Change),
-        b"figures" => Some(Wish::Figures),
+        b"change" => Some(Demand::Change),
+        b"figures" => Some(Demand::Figures),
         [b's', b't', b'o', b'p', b' ', rest @ ..] => {
             let within = within_of(rest)?;
-            Some(Wish::Stop { within })
+            Some(Demand::Stop { within })
         }
         _ => None,
     }
 }
 
 /// Asks it, on a line of its own.
-pub fn put_wish<W: Write>(writer: &mut Watched<W>, wish: Wish)
-    ensures { Puts (wish_line wish) (end_state W.contents writer.old) (end_state W.contents writer.new) }
+pub fn put_demand<W: Write>(writer: &mut Watched<W>, demand: Demand)
+    ensures { Puts (demand_line demand) (end_state W.contents writer.old) (end_state W.contents writer.new) }
 {
-    match wish {
-        Wish::Stop { within } => {
+    match demand {
+        Demand::Stop { within } => {
             put(writer, b"stop ");
             put_number(writer, within);
         }
-        Wish::Change => {
+        Demand::Change => {
             put(writer, b"change");
         }
-        Wish::Figures => {
+        Demand::Figures => {
             put(writer, b"figures");
         }
     }

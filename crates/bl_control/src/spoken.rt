@@ -1,17 +1,17 @@
 //! What a caller has said so far.
 ghost use Rattle.std.specs.Prelude.{◌≡◌, ◌++◌, []};
-ghost use Rattle.bl_control.specs.Wishes.{IsHeard, heard_of};
-ghost use Rattle.bl_control.specs.declared.question.Heard.TheVariants.{More};
+ghost use Rattle.bl_control.specs.Demands.{IsHeard, heard_of};
+ghost use Rattle.bl_control.specs.declared.spoken.Heard.TheVariants.{More};
 
-use crate::wish::{Wish, wish_of};
+use crate::demand::{Demand, demand_of};
 use arrayvec::ArrayVec;
 
-/// So many bytes are heard of a caller at most: a wish has fewer.
+/// So many bytes are heard of a caller at most: a demand has fewer.
 const MOST: usize = 32;
 
 /// What a caller has said so far.
 #[derive(Drop)]
-pub struct Question {
+pub struct Spoken {
     bytes: ArrayVec<u8, MOST>,
 }
 
@@ -21,7 +21,7 @@ pub enum Heard {
     /// Its line has no end yet.
     More,
     /// It asks this.
-    Asks(Wish),
+    Asks(Demand),
     /// It asks nothing that may be asked, or says too much.
     Wrong,
 }
@@ -31,25 +31,25 @@ fn heard_in(text: &[u8]) -> Heard
     ensures { IsHeard text.now result }
 {
     match text {
-        [line @ .., b'\n'] => match wish_of(line) {
-            Some(wish) => Heard::Asks(wish),
+        [line @ .., b'\n'] => match demand_of(line) {
+            Some(demand) => Heard::Asks(demand),
             None => Heard::Wrong,
         },
         _ => Heard::More,
     }
 }
 
-impl Question {
+impl Spoken {
     /// Nothing was said yet.
-    pub fn new() -> Question
+    pub fn new() -> Spoken
         ensures { heard_of result ≡ [] }
     {
-        Question {
+        Spoken {
             bytes: ArrayVec::new(),
         }
     }
 
-    /// The caller says these bytes too. A wish is a line and nothing behind it; who has said none with 32 bytes will say
+    /// The caller says these bytes too. A demand is a line and nothing behind it; who has said none with 32 bytes will say
     /// none.
     pub fn hear(&mut self, bytes: &[u8]) -> Heard
         ensures heard { IsHeard (heard_of self.old ++ bytes.now) result }
