@@ -35,6 +35,24 @@ fn open_log_anew<P, T: Wait + Files>(
     Ok(())
 }
 
+/// Opens the log anew, or tells that it cannot be, and says what is answered to who asked for the run with this number.
+fn begun<P, T: Wait + Files, E: Write>(
+    run_context: &RunContext<'_, P, T>,
+    log_name: Option<&str>,
+    run: u32,
+    errors: &mut Watched<E>,
+) -> Answer
+    ensures { HasSaid (end_state E.contents errors.old) (end_state E.contents errors.new) }
+{
+    match open_log_anew(run_context, log_name) {
+        Ok(()) => Answer::Began(run),
+        Err(fault) => {
+            tell_fault(errors, fault);
+            Answer::SameLog
+        }
+    }
+}
+
 /// The run with this number has begun. Where that was asked for, the log is opened anew, or it is told that it cannot be,
 /// and who asked is answered.
 pub(crate) fn answer_change<P, T: Wait + Files, E: Write>(
@@ -51,13 +69,7 @@ pub(crate) fn answer_change<P, T: Wait + Files, E: Write>(
     if !control.take_change() {
         return;
     }
-    let answer = match open_log_anew(run_context, log_name) {
-        Ok(()) => Answer::Began(run),
-        Err(fault) => {
-            tell_fault(errors, fault);
-            Answer::SameLog
-        }
-    };
+    let answer = begun(run_context, log_name, run, errors);
     control.answer_change(run_context.alloc, &answer);
 }
 

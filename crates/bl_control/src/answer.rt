@@ -90,8 +90,10 @@ fn words_between<'a>(text: &'a [u8], first: &[u8]) -> Option<&'a [u8]>
     ensures { MatchOption result ((words : List ℕ) → text.now ≢ first.now ++ (words ++ codes "end\n"))
         (λ words. text.now ≡ first.now ++ (words.now ++ codes "end\n")) }
 {
-    let rest = text.strip_prefix(first)?;
-    rest.strip_suffix(b"end\n".as_slice())
+    match text.strip_prefix(first) {
+        Some(rest) => rest.strip_suffix(b"end\n".as_slice()),
+        None => None,
+    }
 }
 
 /// The answer that a text is; `None` where it is none, as where it lacks its end.
@@ -99,9 +101,11 @@ pub fn told_in(text: &[u8]) -> Option<Told<'_>>
     ensures { MatchOption result ((done : Bool) (words : List ℕ) → text.now ≢ framed done words)
         (λ told. text.now ≡ framed told.done told.words.now) }
 {
-    if let Some(words) = words_between(text, b"ok\n") {
-        return Some(Told { done: true, words });
+    match words_between(text, b"ok\n") {
+        Some(words) => Some(Told { done: true, words }),
+        None => match words_between(text, b"no\n") {
+            Some(words) => Some(Told { done: false, words }),
+            None => None,
+        },
     }
-    let words = words_between(text, b"no\n")?;
-    Some(Told { done: false, words })
 }

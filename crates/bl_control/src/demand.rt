@@ -1,5 +1,5 @@
 //! What may be asked of a server, and how that is said.
-ghost use Rattle.std.specs.Prelude.{◌≡◌, ◌≢◌, ℕ, ◌≤◌, MatchOption, decimal};
+ghost use Rattle.std.specs.Prelude.{◌≡◌, ◌≢◌, ◌↔◌, ℕ, IsTrue, MatchOption, decimal};
 ghost use Rattle.bl_control.specs.Demands.{IsAskable, IsWithin, demand_line, demand_text};
 ghost use Rattle.bl_wire.specs.Watch.{Puts, end_state};
 
@@ -29,17 +29,43 @@ pub enum Demand {
     Figures,
 }
 
+/// Whether a text is the numeral of a number.
+fn is_numeral(text: &[u8], number: u32) -> bool
+    ensures { IsTrue result ↔ (text.now ≡ decimal number) }
+{
+    let mut digits = Buffer::new();
+    digits.format(number).as_bytes() == text
+}
+
 /// The number of seconds that a text spells, where that may be said; `None` where it spells none.
 fn within_of(text: &[u8]) -> Option<u32>
     ensures { MatchOption result ((within : ℕ) → IsWithin within → text.now ≢ decimal within)
         (λ within. IsWithin within × (text.now ≡ decimal within)) }
 {
-    let within = number(text)?;
-    let mut digits = Buffer::new();
-    if within < 1 || within > MOST_WITHIN || digits.format(within).as_bytes() != text {
+    let Some(within) = number(text) else {
+        return None;
+    };
+    if within == 0 {
+        return None;
+    }
+    if within > MOST_WITHIN {
+        return None;
+    }
+    if !is_numeral(text, within) {
         return None;
     }
     Some(within)
+}
+
+/// The seconds of a line that asks to stop; `None` where it does not.
+fn stop_of(line: &[u8]) -> Option<u32>
+    ensures { MatchOption result ((within : ℕ) → IsWithin within → line.now ≢ demand_text (Demand.Stop within))
+        (λ within. IsWithin within × (line.now ≡ demand_text (Demand.Stop within))) }
+{
+    match line.strip_prefix(b"stop ".as_slice()) {
+        Some(rest) => within_of(rest),
+        None => None,
+    }
 }
 
 /// What a line asks, without its LF; `None` where it asks nothing that may be asked.
@@ -50,11 +76,10 @@ pub fn demand_of(line: &[u8]) -> Option<Demand>
     match line {
         b"change" => Some(Demand::Change),
         b"figures" => Some(Demand::Figures),
-        [b's', b't', b'o', b'p', b' ', rest @ ..] => {
-            let within = within_of(rest)?;
-            Some(Demand::Stop { within })
-        }
-        _ => None,
+        _ => match stop_of(line) {
+            Some(within) => Some(Demand::Stop { within }),
+            None => None,
+        },
     }
 }
 

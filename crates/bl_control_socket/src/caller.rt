@@ -35,8 +35,7 @@ impl Caller {
     }
 
     /// What comes of what it says by this time, in milliseconds.
-    pub(crate) fn hear(&mut self, time: u64) -> Heard
-    {
+    pub(crate) fn hear(&mut self, time: u64) -> Heard {
         let mut room = [0u8; MOST_ROOM];
         for _ in 0..MOST_READS {
             let heard = match self.stream.read(&mut room) {

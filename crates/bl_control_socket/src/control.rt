@@ -1,5 +1,7 @@
 //! All of it, as the runs of a chain look at it.
-ghost use Rattle.std.specs.Prelude.{◌≡◌, IfSome, is_some};
+ghost use Rattle.std.specs.Prelude.{◌≡◌, ◌↔◌, IsTrue, Some, is_some};
+ghost use Rattle.bl_control.specs.Asking.{EndsRun, with_demand, without_change};
+ghost use Rattle.bl_control_socket.specs.Controls.{begun_at, ended_at, figures_with, until_of};
 
 use crate::caller::Caller;
 use crate::listen::{ControlFault, listen, of_system};
@@ -7,9 +9,9 @@ use crate::sizes::{folder_bytes, run_file_bytes};
 use crate::tellers::{answer_all, answer_one};
 use bl_control::answer::Answer;
 use bl_control::asked::{Asked, StopAsked};
+use bl_control::demand::Demand;
 use bl_control::figures::Figures;
 use bl_control::spoken::Heard;
-use bl_control::demand::Demand;
 use bl_folder::name::RunFile;
 use mio::net::{UnixListener, UnixStream};
 use std::alloc::{AllocError, Global};
@@ -25,6 +27,7 @@ const MOST_CALLERS: usize = 16;
 
 /// How often those who have come are heard once nobody comes any more, and how many milliseconds lie between.
 const MOST_LAST_LOOKS: u32 = 10;
+
 const LAST_LOOKS_APART: u64 = 20;
 
 /// A control, which the runs of a chain look at one after the other.
@@ -58,6 +61,60 @@ struct Changeovers {
     count: u64,
     last: u64,
     since: Option<u64>,
+}
+
+/// Until when who has not taken its last is waited for, in milliseconds, where a stop within so many seconds is asked at this
+/// time, and maybe one was before.
+fn until_by(within: u32, time: u64, earlier: Option<u64>) -> u64
+    ensures { until_of (Demand.Stop within) time earlier ≡ Some result }
+{
+    let until = time.saturating_add(u64::from(within) * 1_000);
+    match earlier {
+        Some(earlier) => earlier.min(until),
+        None => until,
+    }
+}
+
+/// How many bytes files have.
+#[derive(Clone, Copy, Debug)]
+struct Sizes {
+    trail: u64,
+    setup: u64,
+    folder: u64,
+}
+
+impl Changeovers {
+    /// Somebody is served from this time on, in microseconds.
+    fn begun(self, micros: u64) -> Changeovers
+        ensures { result ≡ begun_at micros self }
+    {
+        match self.since {
+            Some(since) => Changeovers {
+                count: self.count.saturating_add(1),
+                last: micros.saturating_sub(since),
+                since: None,
+            },
+            None => self,
+        }
+    }
+}
+
+/// The figures of the run with this number, by its counts, how many bytes its files have, and the changeovers.
+fn figures_of(run: u32, counts: Counts, sizes: Sizes, changeovers: Changeovers) -> Figures
+    ensures { result ≡ figures_with run counts sizes changeovers }
+{
+    Figures {
+        run,
+        connections: counts.connections,
+        sessions: counts.sessions,
+        weight: counts.weight,
+        events: counts.events,
+        trail_bytes: sizes.trail,
+        setup_bytes: sizes.setup,
+        folder_bytes: sizes.folder,
+        changes: changeovers.count,
+        last_change_us: changeovers.last,
+    }
 }
 
 /// The socket in a chain's folder by which its owner speaks to the server, and what was asked there.
@@ -129,23 +186,23 @@ impl Control {
     }
 
     /// The run with this number is at hand.
-    pub fn set_run(&mut self, run: u32) {
+    pub fn set_run(&mut self, run: u32)
+        ensures { self.new ≡ record self.old { run = run } }
+    {
         self.run = run;
     }
 
     /// The session threads of the run at hand serve from this time on, in microseconds.
-    pub fn begin_serving(&mut self, micros: u64) {
-        if let Some(since) = self.changeovers.since {
-            self.changeovers = Changeovers {
-                count: self.changeovers.count.saturating_add(1),
-                last: micros.saturating_sub(since),
-                since: None,
-            };
-        }
+    pub fn begin_serving(&mut self, micros: u64)
+        ensures { self.new ≡ record self.old { changeovers = begun_at micros self.old.changeovers } }
+    {
+        self.changeovers = self.changeovers.begun(micros);
     }
 
     /// They serve nobody any more, from this time on, in microseconds.
-    pub fn end_serving(&mut self, micros: u64) {
+    pub fn end_serving(&mut self, micros: u64)
+        ensures { self.new ≡ record self.old { changeovers = ended_at micros self.old.changeovers } }
+    {
         self.changeovers.since = Some(micros);
     }
 
@@ -165,12 +222,14 @@ impl Control {
     }
 
     /// Notes what is asked over this stream at this time, in milliseconds: who asks waits for the answer.
-    fn take(&mut self, demand: Demand, stream: UnixStream, time: u64) {
+    fn take(&mut self, demand: Demand, stream: UnixStream, time: u64)
+        ensures asked { self.new.asked ≡ with_demand demand self.old.asked }
+        ensures until { self.new.cut_at ≡ until_of demand time self.old.cut_at }
+    {
         self.asked.note(demand);
         let pushed = match demand {
             Demand::Stop { within } => {
-                let until = time.saturating_add(u64::from(within) * 1_000);
-                self.cut_at = Some(self.cut_at.map_or(until, |earlier| earlier.min(until)));
+                self.cut_at = Some(until_by(within, time, self.cut_at));
                 self.waiting.stops.push(stream)
             }
             Demand::Change => self.waiting.changes.push(stream),
@@ -215,24 +274,20 @@ impl Control {
     /// Answers who waits for figures, for a run at hand of these counts.
     pub fn answer_figures<R: Files>(&mut self, rt: &R, alloc: Global, counts: Counts) {
         let folder = self.folder.as_str();
-        let figures = Figures {
-            run: self.run,
-            connections: counts.connections,
-            sessions: counts.sessions,
-            weight: counts.weight,
-            events: counts.events,
-            trail_bytes: run_file_bytes(rt, alloc, folder, RunFile::trail_part(self.run)),
-            setup_bytes: run_file_bytes(rt, alloc, folder, RunFile::setup(self.run)),
-            folder_bytes: folder_bytes(rt, alloc, folder).unwrap_or(0),
-            changes: self.changeovers.count,
-            last_change_us: self.changeovers.last,
+        let sizes = Sizes {
+            trail: run_file_bytes(rt, alloc, folder, RunFile::trail_part(self.run)),
+            setup: run_file_bytes(rt, alloc, folder, RunFile::setup(self.run)),
+            folder: folder_bytes(rt, alloc, folder).unwrap_or(0),
         };
+        let figures = figures_of(self.run, counts, sizes, self.changeovers);
         let askers = mem::replace(&mut self.waiting.figures, Vec::new(alloc));
         answer_all(askers, &Answer::Figures(figures));
     }
 
     /// Whether the run at hand is to end.
-    pub fn ends_run(&self) -> bool {
+    pub fn ends_run(&self) -> bool
+        ensures { IsTrue result ↔ EndsRun self.now.asked }
+    {
         self.asked.ends_run()
     }
 
@@ -252,7 +307,10 @@ impl Control {
     }
 
     /// Whether the next run was to begin, which is done now.
-    pub fn take_change(&mut self) -> bool {
+    pub fn take_change(&mut self) -> bool
+        ensures is { result ≡ self.old.asked.change }
+        ensures taken { self.new ≡ record self.old { asked = without_change self.old.asked } }
+    {
         self.asked.take_change()
     }
 

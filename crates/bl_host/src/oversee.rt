@@ -134,11 +134,12 @@ impl<F: Write + Drop> Overseer<'_, F> {
             }
             context.alarms.wake_all();
         }
-        if control.wants_figures() {
-            let events = count_events(rt, context.gate, pass);
-            let counts = counts_of(acceptor.counts(rt), context.quota.weight(), events);
-            control.answer_figures(rt, context.alloc, counts);
+        if !control.wants_figures() {
+            return;
         }
+        let events = count_events(rt, context.gate, pass);
+        let counts = counts_of(acceptor.counts(rt), context.quota.weight(), events);
+        control.answer_figures(rt, context.alloc, counts);
     }
 
     /// Notes since when the session threads serve.

@@ -1,7 +1,7 @@
 //! Why nothing was answered.
-ghost use Rattle.std.specs.Prelude.{◌≡◌, ◌⊎◌, ◌++◌, codes};
+ghost use Rattle.std.specs.Prelude.{◌≡◌, ◌≢◌};
 ghost use Rattle.std.specs.IoError.{error_kind};
-ghost use Rattle.bl_telling.specs.Telling.{fault_text, of_kind, status_of as status_for};
+ghost use Rattle.bl_telling.specs.Telling.{fault_text, status_of as status_for};
 ghost use Rattle.bl_wire.specs.Watch.{Puts, end_state};
 
 use bl_wire::put::{put, put_out};
@@ -24,7 +24,10 @@ pub enum TellFault {
 
 /// What a failure of the system is to who goes to the socket.
 pub(crate) fn of_system(error: &io::Error) -> TellFault
-    ensures { result ≡ of_kind (error_kind error.now) }
+    ensures memory { error_kind error.now ≡ ErrorKind.OutOfMemory → result ≡ TellFault.Memory }
+    ensures missing { error_kind error.now ≡ ErrorKind.NotFound → result ≡ TellFault.NoServer }
+    ensures refused { error_kind error.now ≡ ErrorKind.ConnectionRefused → result ≡ TellFault.NoServer }
+    ensures denied { error_kind error.now ≡ ErrorKind.PermissionDenied → result ≡ TellFault.Refused }
 {
     match error.kind() {
         ErrorKind::NotFound | ErrorKind::ConnectionRefused => TellFault::NoServer,

@@ -1,10 +1,9 @@
 //! Asks the server, and tells what it answers.
-ghost use Rattle.std.specs.Prelude.{◌≡◌, Result, Ok, Err, true};
-ghost use Rattle.bl_control.specs.Answers.{framed};
+ghost use Rattle.std.specs.Prelude.{◌≡◌};
 ghost use Rattle.bl_control.specs.Demands.{IsAskable};
 ghost use Rattle.bl_status.specs.Status.{IsEnd};
-ghost use Rattle.bl_telling.specs.Telling.{HasTold, HasToldAnswer};
-ghost use Rattle.bl_wire.specs.Watch.{end_state};
+ghost use Rattle.bl_telling.specs.Telling.{HasTold, HasToldAnswer, IsUnanswered};
+ghost use Rattle.bl_wire.specs.Watch.{end_state, used};
 
 use crate::fault::{TellFault, of_system, status_of, tell_fault};
 use bl_control::answer::{Told, told_in};
@@ -32,12 +31,7 @@ fn read_answer<S: Read + Drop>(alloc: Global, stream: S) -> Result<Vec<u8>, Tell
 }
 
 /// Asks the server at the socket of this name, and gives what it answers.
-fn ask<R: Net>(
-    rt: &R,
-    alloc: Global,
-    path: &str,
-    demand: Demand,
-) -> Result<Vec<u8>, TellFault> {
+fn ask<R: Net>(rt: &R, alloc: Global, path: &str, demand: Demand) -> Result<Vec<u8>, TellFault> {
     let stream = match UnixStream::connect(rt, path) {
         Ok(stream) => stream,
         Err(error) => return Err(of_system(&error)),
@@ -67,6 +61,9 @@ fn tell_answer<W: Write, E: Write>(
     errors: &mut Watched<E>,
     told: Told<'_>,
 ) -> u8
+    ensures told { HasToldAnswer told.entry.done told.entry.words.now result (used W.contents writer.old writer.new)
+        (end_state E.contents errors.old) (end_state E.contents errors.new) }
+    ensures status { IsEnd result }
 {
     if !told.done {
         put_out(errors, told.words);
@@ -80,7 +77,10 @@ fn tell_answer<W: Write, E: Write>(
 }
 
 /// Tells why nothing was answered, and gives the status.
-fn tell_none<E: Write>(errors: &mut Watched<E>, folder: &str, fault: TellFault) -> u8 {
+fn tell_none<E: Write>(errors: &mut Watched<E>, folder: &str, fault: TellFault) -> u8
+    ensures told { IsUnanswered folder.now result (end_state E.contents errors.old) (end_state E.contents errors.new) }
+    ensures status { IsEnd result }
+{
     tell_fault(errors, folder, fault);
     status_of(fault)
 }
@@ -98,6 +98,8 @@ pub fn tell<R: Net, W: Write, E: Write>(
     errors: &mut Watched<E>,
 ) -> u8
     requires { IsAskable demand }
+    ensures told { HasTold folder.now result (used W.contents writer.old writer.new)
+        (end_state E.contents errors.old) (end_state E.contents errors.new) }
     ensures status { IsEnd result }
 {
     let answer = match ask_in(rt, alloc, folder, demand) {
