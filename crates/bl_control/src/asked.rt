@@ -1,6 +1,6 @@
 //! What was asked of the run at hand.
 ghost use Rattle.std.specs.Prelude.{◌≡◌, ◌↔◌, IsSome, IsTrue, is_some};
-ghost use Rattle.bl_control.specs.Asking.{EndsRun, asked_nothing, with_demand, without_change};
+ghost use Rattle.bl_control.specs.Asking.{EndsRun, asked_nothing, least_of as least_said, with_demand, without_change};
 
 use crate::demand::Demand;
 
@@ -16,6 +16,16 @@ pub struct Asked {
 #[derive(Clone, Copy, Debug)]
 pub struct StopAsked {
     _asked: (),
+}
+
+/// The fewest of so many seconds, and of those that were said before, if any were.
+fn least_of(earlier: Option<u32>, within: u32) -> u32
+    ensures { result ≡ least_said earlier within }
+{
+    match earlier {
+        Some(earlier) => earlier.min(within),
+        None => within,
+    }
 }
 
 impl Asked {
@@ -35,8 +45,7 @@ impl Asked {
     {
         match demand {
             Demand::Stop { within } => {
-                let least = self.stop.map_or(within, |earlier| earlier.min(within));
-                self.stop = Some(least);
+                self.stop = Some(least_of(self.stop, within));
             }
             Demand::Change => self.change = true,
             Demand::Figures => {}

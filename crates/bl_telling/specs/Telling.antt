@@ -25,10 +25,10 @@ status_of Memory = 4
 -- an answer of these words was told: where what was asked was done, as output, or else as errors; or the output failed, which
 -- was told
 abbrev pub HasToldAnswer : (done : Bool) → (words : List ℕ) → ℕ → Use → EndState → EndState → Type 0
-HasToldAnswer false words status output before after = (status ≡ 3) × Puts words before after
-HasToldAnswer true words status output before after =
-    ((status ≡ 0) × Appends output.before output.after words × (after ≡ before))
-    ⊎ ((status ≡ 3) × (output.failed ≡ true) × Puts (fault_line Write) before after)
+HasToldAnswer done words status output before after =
+    ((done ≡ false) × (status ≡ 3) × Puts words before after)
+    ⊎ (((done ≡ true) × (status ≡ 0) × Appends output.before output.after words × (after ≡ before))
+    ⊎ ((done ≡ true) × (status ≡ 3) × (output.failed ≡ true) × Puts (fault_line Write) before after))
 
 -- nothing was answered, and why was told
 abbrev pub IsUnanswered : (folder : List ℕ) → ℕ → EndState → EndState → Type 0
