@@ -54,7 +54,7 @@ where
     T::File: Send,
     D::Synced: Send,
     requires ready { IsReady D.now D.has_failed at }
-    ensures end { IsChainEnd D.now D.has_failed F.stands chain.new.folder chain.old.name.now result
+    ensures { IsChainEnd D.now D.has_failed F.stands chain.new.folder chain.old.name.now result
         (end_state E.contents errors.old) (end_state E.contents errors.new) }
 {
     let rt = hosts.run_context.rt;

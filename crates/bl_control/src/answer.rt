@@ -1,6 +1,6 @@
 //! What a caller is answered.
-ghost use Rattle.std.specs.Prelude.{◌≡◌, ◌≢◌, ℕ, List, Bool, MatchOption, codes};
-ghost use Rattle.bl_control.specs.Answers.{answer_text, framed, is_done, words_of};
+ghost use Rattle.std.specs.Prelude.{◌≡◌, ◌≢◌, ◌++◌, ℕ, List, Bool, MatchOption, codes, decimal};
+ghost use Rattle.bl_control.specs.Answers.{answer_text, framed, is_done as done_of, words_of};
 ghost use Rattle.bl_wire.specs.Watch.{Puts, end_state};
 
 use crate::figures::{Figures, put_figures};
@@ -58,7 +58,7 @@ fn put_words<W: Write>(writer: &mut Watched<W>, answer: &Answer)
 impl Answer {
     /// Whether what was asked was done.
     pub fn is_done(&self) -> bool
-        ensures { result ≡ is_done self.now }
+        ensures { result ≡ done_of self.now }
     {
         match self {
             Answer::Stopped(_) | Answer::Began(_) | Answer::Figures(_) => true,

@@ -17,8 +17,8 @@ answer_stop-requires g c = record {
   followed = c.in-Stop.ensures.follows;
 }
 
-pub returns-in-Stop-clause-end : goal.returns-in-Stop-clause-end
-returns-in-Stop-clause-end g c = inl (
+pub returns-in-Stop : goal.returns-in-Stop
+returns-in-Stop g c = inl (
   c.answer_stop.ensures,
   (
     c.in-Stop.next,
@@ -33,8 +33,8 @@ returns-in-Stop-clause-end g c = inl (
       (end_state g.E.Write.contents c.run_once.new.errors) c.loop.invariant.2 c.in-Stop.ensures.told,
 )
 
-pub returns-in-End-clause-end : goal.returns-in-End-clause-end
-returns-in-End-clause-end g c = inr (
+pub returns-in-End : goal.returns-in-End
+returns-in-End g c = inr (
   c.in-End.ensures.status,
   why-behind (end_state g.E.Write.contents c.args.errors.now) (end_state g.E.Write.contents c.loop.errors)
       (end_state g.E.Write.contents c.run_once.new.errors) c.args.chain.now.name.now c.in-End.status c.loop.invariant.2
