@@ -91,7 +91,7 @@ fn words_between<'a>(text: &'a [u8], first: &[u8]) -> Option<&'a [u8]>
         (λ words. text.now ≡ first.now ++ (words.now ++ codes "end\n")) }
 {
     match text.strip_prefix(first) {
-        Some(rest) => rest.strip_suffix(b"end\n".as_slice()),
+        Some(rest) => rest.strip_suffix(b"end\n"),
         None => None,
     }
 }

@@ -62,7 +62,7 @@ fn stop_of(line: &[u8]) -> Option<u32>
     ensures { MatchOption result ((within : ℕ) → IsWithin within → line.now ≢ demand_text (Demand.Stop within))
         (λ within. IsWithin within × (line.now ≡ demand_text (Demand.Stop within))) }
 {
-    match line.strip_prefix(b"stop ".as_slice()) {
+    match line.strip_prefix(b"stop ") {
         Some(rest) => within_of(rest),
         None => None,
     }
