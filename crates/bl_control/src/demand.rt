@@ -83,9 +83,9 @@ pub fn demand_of(line: &[u8]) -> Option<Demand>
     }
 }
 
-/// Asks it, on a line of its own.
-pub fn put_demand<W: Write>(writer: &mut Watched<W>, demand: Demand)
-    ensures { Puts (demand_line demand) (end_state W.contents writer.old) (end_state W.contents writer.new) }
+/// Writes the text of a demand.
+fn put_text<W: Write>(writer: &mut Watched<W>, demand: Demand)
+    ensures { Puts (demand_text demand) (end_state W.contents writer.old) (end_state W.contents writer.new) }
 {
     match demand {
         Demand::Stop { within } => {
@@ -99,5 +99,12 @@ pub fn put_demand<W: Write>(writer: &mut Watched<W>, demand: Demand)
             put(writer, b"figures");
         }
     }
+}
+
+/// Asks it, on a line of its own.
+pub fn put_demand<W: Write>(writer: &mut Watched<W>, demand: Demand)
+    ensures { Puts (demand_line demand) (end_state W.contents writer.old) (end_state W.contents writer.new) }
+{
+    put_text(writer, demand);
     put_out(writer, b"\n");
 }

@@ -77,7 +77,11 @@ setup_bytes 0\nfolder_bytes 0\nchanges 0\nlast_change_us 0\nend\n"
     let Some(asked) = control.stop() else {
         panic!(rt; "no stop was asked")
     };
+    // nobody has looked since this one came
+    let mut late = caller(&rt, "asked/control", b"stop 9\n");
     control.answer_stop(&rt, rt.alloc(), asked, 3);
+    assert!(rt; hears(&rt, &mut late, b"ok\nstopped run 3\nend\n"));
+    assert!(rt; UnixStream::connect(&rt, "asked/control").is_err());
     assert!(rt; hears(&rt, &mut stopper, b"ok\nstopped run 3\nend\n"));
     assert!(rt; hears(&rt, &mut changer, b"no\nserver stops\nend\n"));
     control.close(&rt);
