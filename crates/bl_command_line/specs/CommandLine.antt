@@ -23,13 +23,17 @@ flag_rule name = record (new_rule name) { long = Some name; action = Some SetTru
 abbrev pub setup_rule : Rule
 setup_rule = record (text_rule (codes "setup")) { required = true }
 
--- own choice: `--setup` of `serve` may be left out, since a chain has its own, and takes any text
+-- own choice: `--setup` of a command that may take a chain in its place may be left out, and takes any text
 abbrev pub optional_setup_rule : Rule
 optional_setup_rule = text_rule (codes "setup")
 
--- own choice: `--chain` of `serve` may be left out, and takes any text
+-- own choice: `--chain` of such a command may be left out, and takes any text
 abbrev pub chain_rule : Rule
 chain_rule = text_rule (codes "chain")
+
+-- own choice: `--run` may be left out, and takes the number of a run, from 1 to 999,999,999
+abbrev pub run_rule : Rule
+run_rule = number_rule (codes "run") 1 999999999
 
 -- own choice: `--chain` of `audit` has to be given, and takes any text
 abbrev pub audited_chain_rule : Rule
@@ -43,9 +47,9 @@ limit_rule = record (number_rule (codes "limit") 1 100000) { defaults = codes "1
 abbrev pub trail_rule : Rule
 trail_rule = record (text_rule (codes "trail")) { required = true }
 
--- `--trail` of `alone`, of `serve` and of `explain` may be left out, and takes any text
-abbrev pub kept_trail_rule : Rule
-kept_trail_rule = text_rule (codes "trail")
+-- `--trail` of a command that may go without one, or take a chain in its place, may be left out, and takes any text
+abbrev pub optional_trail_rule : Rule
+optional_trail_rule = text_rule (codes "trail")
 
 -- own choice: `--trail-limit` takes a number from 65,536 to 1,073,741,824, and without it the number is the last
 abbrev pub trail_limit_rule : Rule
@@ -141,38 +145,39 @@ app_with name rules = record { top = record (new_shape name) { rules = rules }; 
 -- the command `alone` has a setup and a limit, and it may have a trail, with what is said of it and how it is kept
 abbrev pub alone_app : App
 alone_app = app_with (codes "alone")
-    (setup_rule ∷ limit_rule ∷ kept_trail_rule ∷ replace_rule ∷ claim_rule ∷ keep_rule ∷ resume_rule ∷ [])
+    (setup_rule ∷ limit_rule ∷ optional_trail_rule ∷ replace_rule ∷ claim_rule ∷ keep_rule ∷ resume_rule ∷ [])
 
 -- the command `serve` has a setup and a trail, or a chain, and a port or doors; and it may have the numbers of workers,
 -- of session threads and of sessions, a limit, the number of clients at once, how long one may be idle, a log of them,
 -- and what is said of its trail
 abbrev pub serve_app : App
 serve_app = app_with (codes "serve")
-    (optional_setup_rule ∷ chain_rule ∷ port_rule ∷ doors_rule ∷ kept_trail_rule ∷ workers_rule ∷ threads_rule
+    (optional_setup_rule ∷ chain_rule ∷ port_rule ∷ doors_rule ∷ optional_trail_rule ∷ workers_rule ∷ threads_rule
     ∷ sessions_rule ∷ limit_rule ∷ clients_rule ∷ idle_rule ∷ log_rule ∷ trail_limit_rule ∷ replace_rule ∷ claim_rule
     ∷ keep_rule ∷ resume_rule ∷ [])
 
--- the command `replay` has a setup and a trail, and whether that may be open
+-- the command `replay` has a setup and a trail, or a run of a chain, and whether the trail may be open
 abbrev pub replay_app : App
-replay_app = app_with (codes "replay") (setup_rule ∷ trail_rule ∷ open_rule ∷ [])
+replay_app = app_with (codes "replay") (optional_setup_rule ∷ optional_trail_rule ∷ chain_rule ∷ run_rule ∷ open_rule ∷ [])
 
--- the command `recover` has the first two
+-- the command `recover` has a setup and a trail
 abbrev pub recover_app : App
 recover_app = app_with (codes "recover") (setup_rule ∷ trail_rule ∷ [])
 
--- the command `state` has the same
+-- the command `state` has a setup and a trail, or a run of a chain
 abbrev pub state_app : App
-state_app = app_with (codes "state") (setup_rule ∷ trail_rule ∷ [])
+state_app = app_with (codes "state") (optional_setup_rule ∷ optional_trail_rule ∷ chain_rule ∷ run_rule ∷ [])
 
--- own choice: the command `check` has a setup
+-- own choice: the command `check` has a setup, or a run of a chain
 abbrev pub check_app : App
-check_app = app_with (codes "check") (setup_rule ∷ [])
+check_app = app_with (codes "check") (optional_setup_rule ∷ chain_rule ∷ run_rule ∷ [])
 
--- own choice: the command `explain` has a setup, and it may have a trail, an event of that, or how many of its events have
--- happened, a level that is carried, a subject and what it asks for
+-- own choice: the command `explain` has a setup, and it may have a trail; or it has a run of a chain. It may have an event of
+-- the trail, or how many of its events have happened, a level that is carried, a subject and what it asks for
 abbrev pub explain_app : App
 explain_app = app_with (codes "explain")
-    (setup_rule ∷ carried_rule ∷ kept_trail_rule ∷ at_rule ∷ event_rule ∷ subject_rule ∷ wish_rule ∷ [])
+    (optional_setup_rule ∷ optional_trail_rule ∷ chain_rule ∷ run_rule ∷ carried_rule ∷ at_rule ∷ event_rule ∷ subject_rule
+    ∷ wish_rule ∷ [])
 
 -- own choice: the command `audit` has a chain, and it may have the run that it begins with, and the checksum of its setup
 abbrev pub audit_app : App

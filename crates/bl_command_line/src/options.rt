@@ -3,9 +3,9 @@ ghost use Rattle.std.specs.Prelude.{◌≡◌};
 ghost use Rattle.clap.specs.Words.{rule_of};
 ghost use Rattle.bl_command_line.specs.CommandLine.{at_rule, audited_chain_rule, carried_rule, chain_rule};
 ghost use Rattle.bl_command_line.specs.CommandLine.{claim_rule, clients_rule, digest_rule, doors_rule, event_rule};
-ghost use Rattle.bl_command_line.specs.CommandLine.{flag_rule, from_rule, idle_rule, keep_rule, kept_trail_rule};
+ghost use Rattle.bl_command_line.specs.CommandLine.{flag_rule, from_rule, idle_rule, keep_rule};
 ghost use Rattle.bl_command_line.specs.CommandLine.{limit_rule, log_rule, number_rule, open_rule};
-ghost use Rattle.bl_command_line.specs.CommandLine.{optional_setup_rule, port_rule, replace_rule, resume_rule};
+ghost use Rattle.bl_command_line.specs.CommandLine.{optional_setup_rule, optional_trail_rule, port_rule, replace_rule, resume_rule, run_rule};
 ghost use Rattle.bl_command_line.specs.CommandLine.{sessions_rule, setup_rule, subject_rule, text_rule, threads_rule};
 ghost use Rattle.bl_command_line.specs.CommandLine.{trail_limit_rule, trail_rule, wish_rule, word_rule, workers_rule};
 
@@ -65,7 +65,7 @@ pub(crate) fn optional_setup_option<'a>(alloc: Global) -> Arg<'a>
     text_option(alloc, "setup", "FILE", "The setup file")
 }
 
-/// `--chain` of a command that may take a setup and a trail in its place.
+/// `--chain` of a command that may take a setup in its place, or a setup and a trail.
 pub(crate) fn chain_option<'a>(alloc: Global) -> Arg<'a>
     ensures { rule_of result ≡ chain_rule }
 {
@@ -74,6 +74,20 @@ pub(crate) fn chain_option<'a>(alloc: Global) -> Arg<'a>
         "chain",
         "FOLDER",
         "In place of a setup and a trail: the folder of a chain of runs",
+    )
+}
+
+/// `--run` of a command that is over one run of a chain.
+pub(crate) fn run_option<'a>(alloc: Global) -> Arg<'a>
+    ensures { rule_of result ≡ run_rule }
+{
+    number_option(
+        alloc,
+        "run",
+        "RUN",
+        1,
+        MOST_RUN,
+        "With --chain: the number of the run, 1 to 999999999",
     )
 }
 
@@ -109,9 +123,9 @@ pub(crate) fn trail_limit_option<'a>(alloc: Global) -> Arg<'a>
     .default_value("1073741824")
 }
 
-/// `--trail` of a command that keeps a trail where it is asked to.
-pub(crate) fn kept_trail_option<'a>(alloc: Global, help: &'a str) -> Arg<'a>
-    ensures { rule_of result ≡ kept_trail_rule }
+/// `--trail` of a command that may go without one, or take a chain in its place.
+pub(crate) fn optional_trail_option<'a>(alloc: Global, help: &'a str) -> Arg<'a>
+    ensures { rule_of result ≡ optional_trail_rule }
 {
     text_option(alloc, "trail", "FILE", help)
 }

@@ -6,10 +6,10 @@ ghost use Rattle.bl_command_line.specs.CommandLine.{replay_app, serve_app, serve
 
 use crate::options::{
     at_option, audited_chain_option, carried_option, chain_option, claim_option, clients_option,
-    digest_option, doors_option, event_option, from_option, idle_option, keep_option,
-    kept_trail_option, limit_option, log_option, open_option, optional_setup_option, port_option,
-    replace_option, resume_option, sessions_option, setup_option, subject_word, threads_option,
-    trail_limit_option, trail_option, wish_words, workers_option,
+    digest_option, doors_option, event_option, from_option, idle_option, keep_option, limit_option,
+    log_option, open_option, optional_setup_option, optional_trail_option, port_option,
+    replace_option, resume_option, run_option, sessions_option, setup_option, subject_word,
+    threads_option, trail_limit_option, trail_option, wish_words, workers_option,
 };
 use bl_asked::version::VERSION;
 use clap::Command as Parser;
@@ -34,6 +34,9 @@ const SERVE_KEEP: &str =
     "When the trail is written: end, written or synced; with --chain written or synced, and synced if \
     not said";
 
+/// What help says of the trail that a command reads.
+const READ_TRAIL: &str = "The trail file";
+
 /// The command `alone`.
 fn alone_parser<'a>(alloc: Global) -> Result<Parser<'a>, AllocError>
     ensures { IfOk result (IsLocal alone_app) }
@@ -44,7 +47,7 @@ fn alone_parser<'a>(alloc: Global) -> Result<Parser<'a>, AllocError>
             alloc,
             "The weight of the lines that are admitted, 1 to 100000",
         ),
-        kept_trail_option(alloc, "The trail file; without it no trail is kept"),
+        optional_trail_option(alloc, "The trail file; without it no trail is kept"),
         replace_option(alloc),
         claim_option(alloc),
         keep_option(alloc, "When the trail is written: end, written or synced"),
@@ -65,7 +68,7 @@ fn serve_parser<'a>(alloc: Global) -> Result<Parser<'a>, AllocError>
         chain_option(alloc),
         port_option(alloc),
         doors_option(alloc),
-        kept_trail_option(alloc, "The trail file"),
+        optional_trail_option(alloc, "The trail file"),
         workers_option(alloc),
         threads_option(alloc),
         sessions_option(alloc),
@@ -89,8 +92,10 @@ fn replay_parser<'a>(alloc: Global) -> Result<Parser<'a>, AllocError>
     ensures { IfOk result (IsLocal replay_app) }
 {
     let options = vec![in alloc;
-        setup_option(alloc),
-        trail_option(alloc),
+        optional_setup_option(alloc),
+        optional_trail_option(alloc, READ_TRAIL),
+        chain_option(alloc),
+        run_option(alloc),
         open_option(alloc),
     ]?;
     Parser::new(alloc, "replay")
@@ -112,7 +117,12 @@ fn recover_parser<'a>(alloc: Global) -> Result<Parser<'a>, AllocError>
 fn state_parser<'a>(alloc: Global) -> Result<Parser<'a>, AllocError>
     ensures { IfOk result (IsLocal state_app) }
 {
-    let options = vec![in alloc; setup_option(alloc), trail_option(alloc)]?;
+    let options = vec![in alloc;
+        optional_setup_option(alloc),
+        optional_trail_option(alloc, READ_TRAIL),
+        chain_option(alloc),
+        run_option(alloc),
+    ]?;
     Parser::new(alloc, "state")
         .about("The setup that a run left, for another one to begin with")
         .after_help(MORE)
@@ -123,12 +133,14 @@ fn explain_parser<'a>(alloc: Global) -> Result<Parser<'a>, AllocError>
     ensures { IfOk result (IsLocal explain_app) }
 {
     let options = vec![in alloc;
-        setup_option(alloc),
-        carried_option(alloc),
-        kept_trail_option(
+        optional_setup_option(alloc),
+        optional_trail_option(
             alloc,
             "The trail of a run over the setup, at whose end it is asked",
         ),
+        chain_option(alloc),
+        run_option(alloc),
+        carried_option(alloc),
         at_option(alloc),
         event_option(alloc),
         subject_word(alloc),
@@ -143,7 +155,11 @@ fn explain_parser<'a>(alloc: Global) -> Result<Parser<'a>, AllocError>
 fn check_parser<'a>(alloc: Global) -> Result<Parser<'a>, AllocError>
     ensures { IfOk result (IsLocal check_app) }
 {
-    let options = vec![in alloc; setup_option(alloc)]?;
+    let options = vec![in alloc;
+        optional_setup_option(alloc),
+        chain_option(alloc),
+        run_option(alloc),
+    ]?;
     Parser::new(alloc, "check")
         .about("Where a setup file is at fault, or else who may do what")
         .after_help(MORE)

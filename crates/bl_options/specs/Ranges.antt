@@ -5,6 +5,13 @@ use Rattle.bl_options.specs.declared.hosting.ChainHosting.{ChainHosting}
 use Rattle.bl_options.specs.declared.hosting.Hosting.{Hosting}
 use Rattle.bl_options.specs.declared.hosting.NamedEntrance.{NamedEntrance}
 use Rattle.bl_options.specs.declared.hosting.NamedEntrance.TheVariants.{Port, Doors}
+use Rattle.bl_options.specs.declared.reading.ChainRun.{ChainRun}
+use Rattle.bl_options.specs.declared.reading.NamedFiles.{NamedFiles}
+use Rattle.bl_options.specs.declared.reading.NamedFiles.TheVariants as trails
+use Rattle.bl_options.specs.declared.reading.NamedFiles.TheVariants.{Files}
+use Rattle.bl_options.specs.declared.reading.NamedSetup.{NamedSetup}
+use Rattle.bl_options.specs.declared.reading.NamedSetup.TheVariants as setups
+use Rattle.bl_options.specs.declared.reading.NamedSetup.TheVariants.{File}
 use Rattle.bl_options.specs.declared.start.AuditStart.{AuditStart}
 use Rattle.bl_options.specs.declared.trail.TrailKeeping.{TrailKeeping}
 use Rattle.bl_options.specs.declared.trail.TrailKeeping.TheVariants.{AtEnd, Written, Synced}
@@ -54,10 +61,23 @@ MayKeep there AtEnd resumes = resumes ≡ false
 MayKeep there Written resumes = there ≡ true
 MayKeep there Synced resumes = there ≡ true
 
--- own choice: how many events of a trail have happened is said of a trail alone, in a number of 32 bits
-abbrev pub IsAtInRange : Bool → Option ℕ → Type 0
-IsAtInRange has_trail None = Unit {0}
-IsAtInRange has_trail (Some events) = (has_trail ≡ true) × (events ≤ 4294967295)
+-- own choice: how many events of a trail have happened is a number of 32 bits
+abbrev pub IsAtInRange : Option ℕ → Type 0
+IsAtInRange None = Unit {0}
+IsAtInRange (Some events) = events ≤ 4294967295
+
+-- own choice: runs are numbered from 1 to 999,999,999
+abbrev pub IsRunInRange : ChainRun → Type 0
+IsRunInRange run = (1 ≤ run.run) × (run.run ≤ 999999999)
+
+-- a run that is named has the number of a run
+abbrev pub IsSetupInRange : NamedSetup → Type 0
+IsSetupInRange (File name) = Unit {0}
+IsSetupInRange (setups.OfRun run) = IsRunInRange run
+
+abbrev pub AreFilesInRange : NamedFiles → Type 0
+AreFilesInRange (Files setup trail) = Unit {0}
+AreFilesInRange (trails.OfRun run) = IsRunInRange run
 
 -- own choice: a byte of a checksum is 0 to 9 or a to f
 abbrev pub is_checksum_digit : ℕ → Bool

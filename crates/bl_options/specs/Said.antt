@@ -9,6 +9,13 @@ use Rattle.bl_options.specs.declared.hosting.ChainHosting.{ChainHosting}
 use Rattle.bl_options.specs.declared.hosting.Hosting.{Hosting}
 use Rattle.bl_options.specs.declared.hosting.NamedEntrance.{NamedEntrance}
 use Rattle.bl_options.specs.declared.hosting.NamedEntrance.TheVariants.{Port, Doors}
+use Rattle.bl_options.specs.declared.reading.ChainRun.{ChainRun}
+use Rattle.bl_options.specs.declared.reading.NamedFiles.{NamedFiles}
+use Rattle.bl_options.specs.declared.reading.NamedFiles.TheVariants as trails
+use Rattle.bl_options.specs.declared.reading.NamedFiles.TheVariants.{Files}
+use Rattle.bl_options.specs.declared.reading.NamedSetup.{NamedSetup}
+use Rattle.bl_options.specs.declared.reading.NamedSetup.TheVariants as setups
+use Rattle.bl_options.specs.declared.reading.NamedSetup.TheVariants.{File}
 use Rattle.bl_options.specs.declared.start.AuditStart.{AuditStart}
 use Rattle.bl_options.specs.declared.trail.TrailKeeping.{TrailKeeping}
 use Rattle.bl_options.specs.declared.trail.TrailKeeping.TheVariants.{AtEnd, Written, Synced}
@@ -116,6 +123,28 @@ pub record HasChainHosting (options : ArgMatches) (hosting : ChainHosting) : Typ
   pub idle : HasCount options (codes "idle") hosting.options.idle
   pub log : option_copied hosting.log ≡ first_value (found_of options) (codes "log")
   pub syncs : HasSyncing options hosting.is_synced
+
+-- own choice: the options name a run of a chain, by its folder and its number
+abbrev pub HasRun : ArgMatches → ChainRun → Type 0
+HasRun options run = (first_value (found_of options) (codes "chain") ≡ Some run.folder.now)
+    × HasNumber options (codes "run") run.run
+
+-- own choice: they name none, and no part of one
+abbrev pub HasNoRun : ArgMatches → Type 0
+HasNoRun options = (first_value (found_of options) (codes "chain") ≡ None)
+    × (first_value (found_of options) (codes "run") ≡ None)
+
+-- own choice: the options name a setup file, or in its place a run of a chain
+abbrev pub HasSetup : ArgMatches → NamedSetup → Type 0
+HasSetup options (File name) = (first_value (found_of options) (codes "setup") ≡ Some name.now) × HasNoRun options
+HasSetup options (setups.OfRun run) = (first_value (found_of options) (codes "setup") ≡ None) × HasRun options run
+
+-- own choice: the options name a setup file and a trail file, or in their place a run of a chain
+abbrev pub HasFiles : ArgMatches → NamedFiles → Type 0
+HasFiles options (Files setup trail) = (first_value (found_of options) (codes "setup") ≡ Some setup.now)
+    × (first_value (found_of options) (codes "trail") ≡ Some trail.now) × HasNoRun options
+HasFiles options (trails.OfRun run) = (first_value (found_of options) (codes "setup") ≡ None)
+    × (first_value (found_of options) (codes "trail") ≡ None) × HasRun options run
 
 -- own choice: the options of `audit` say both the run that it begins with and its checksum, or neither
 abbrev pub HasStart : ArgMatches → Option AuditStart → Type 0

@@ -4,6 +4,7 @@
 //!     trail      where a trail is kept, and how
 //!     hosting    what a run of `serve` hosts, and what a chain does
 //!     start      where an audit begins
+//!     reading    which setup a command reads, and which trail
 //!     moment     at which moment of a trail `explain` is asked
 //!
 //! The definitions stand in specs/:
@@ -15,5 +16,6 @@
 pub mod hosting;
 pub mod moment;
 pub mod number;
+pub mod reading;
 pub mod start;
 pub mod trail;

@@ -24,9 +24,16 @@ use Rattle.clap.specs.Walk.{Row, all_of, first_of, one_of, rows_of}
 use Rattle.bl_asked.specs.declared.trail.TrailFile.{TrailFile}
 use Rattle.bl_command_line.specs.CommandLine.{server_app}
 use Rattle.bl_options.proofs.Given.{given_not_left_out, none_weaker, some_same, words_differ}
-use Rattle.bl_options.specs.Ranges.{IsChainHostingInRange, IsHostingInRange, MayKeep}
-use Rattle.bl_options.specs.Said.{HasChainHosting, HasCount, HasEntrance, HasFlag, HasHosting, HasKeeping, HasNumber, HasNumberOr, HasResume, HasStart, HasSyncing, HasTrail, IsSaid, LeavesAllToChain, keeping_word}
-use Rattle.bl_words.specs.Words.{HasNoCommand, HasNoEvent, HasOptions, IsInRange, IsOf, entered_by, faults_of, all_values, word_of}
+use Rattle.bl_options.specs.Ranges.{AreFilesInRange, IsAtInRange, IsChainHostingInRange, IsHostingInRange, MayKeep}
+use Rattle.bl_options.specs.Said.{HasChainHosting, HasCount, HasEntrance, HasFiles, HasFlag, HasHosting, HasKeeping, HasNoRun, HasNumber, HasNumberOr, HasResume, HasRun, HasSetup, HasStart, HasSyncing, HasTrail, IsSaid, LeavesAllToChain, keeping_word}
+use Rattle.bl_words.specs.Words.{HasAsking, HasNoCommand, HasNoEvent, HasOptions, IsInRange, IsOf, NamesNoTrail, entered_by, faults_of, all_values, word_of}
+use Rattle.bl_options.specs.declared.reading.ChainRun.{ChainRun}
+use Rattle.bl_options.specs.declared.reading.NamedFiles.{NamedFiles}
+use Rattle.bl_options.specs.declared.reading.NamedFiles.TheVariants as trails
+use Rattle.bl_options.specs.declared.reading.NamedFiles.TheVariants.{Files}
+use Rattle.bl_options.specs.declared.reading.NamedSetup.{NamedSetup}
+use Rattle.bl_options.specs.declared.reading.NamedSetup.TheVariants as setups
+use Rattle.bl_options.specs.declared.reading.NamedSetup.TheVariants.{File}
 use Rattle.bl_options.specs.declared.start.AuditStart.{AuditStart}
 use Rattle.bl_options.specs.declared.hosting.ChainHosting.{ChainHosting}
 use Rattle.bl_words.specs.declared.command.Asking.{Asking}
@@ -36,7 +43,7 @@ use Rattle.bl_options.specs.declared.hosting.NamedEntrance.TheVariants.{Port, Do
 use Rattle.bl_options.specs.declared.hosting.Hosting.{Hosting}
 use Rattle.bl_options.specs.declared.trail.TrailKeeping.{TrailKeeping}
 use Rattle.bl_options.specs.declared.trail.TrailKeeping.TheVariants.{AtEnd, Written, Synced}
-use Rattle.bl_words.specs.declared.command.Command.TheVariants.{Alone, Serve, Chain, Replay, Recover, State, Check, Explain, ExplainEvent, Audit}
+use Rattle.bl_words.specs.declared.command.Command.TheVariants.{Alone, Serve, Chain, Replay, Recover, State, Check, Explain, ExplainTrail, ExplainEvent, Audit}
 
 server_is_simple : is_simple server_app ≡ true
 unfolding clap_on_literals
@@ -144,6 +151,27 @@ module _ (a b : ArgMatches) (same : rows_of (found_of a) ≡ rows_of (found_of b
   start_same None has = (first_same (codes "from") ∙ has.0, first_same (codes "digest") ∙ has.1)
   start_same (Some start) has = (number_same (codes "from") start.run has.0, first_same (codes "digest") ∙ has.1)
 
+  no_run_same : HasNoRun a → HasNoRun b
+  no_run_same has = (first_same (codes "chain") ∙ has.0, first_same (codes "run") ∙ has.1)
+
+  run_same : (run : ChainRun) → HasRun a run → HasRun b run
+  run_same run has = (first_same (codes "chain") ∙ has.0, number_same (codes "run") run.run has.1)
+
+  setup_same : (setup : NamedSetup) → HasSetup a setup → HasSetup b setup
+  setup_same (File name) has = (first_same (codes "setup") ∙ has.0, no_run_same has.1)
+  setup_same (setups.OfRun run) has = (first_same (codes "setup") ∙ has.0, run_same run has.1)
+
+  files_same : (files : NamedFiles) → HasFiles a files → HasFiles b files
+  files_same (Files setup trail) has = (first_same (codes "setup") ∙ has.0, first_same (codes "trail") ∙ has.1, no_run_same has.2)
+  files_same (trails.OfRun run) has = (first_same (codes "setup") ∙ has.0, first_same (codes "trail") ∙ has.1, run_same run has.2)
+
+  asking_same : (asking : Asking) → HasAsking a asking → HasAsking b asking
+  asking_same asking has = record {
+    carried = has.carried ∙ sym (first_same (codes "carried"));
+    subject = first_same (codes "subject") ∙ has.subject;
+    wish = all_same (codes "wish") ∙ has.wish;
+  }
+
   -- and are those of the same commands
   pub options_same : (command : Command) → HasOptions a command → HasOptions b command
   options_same (Alone setup limit says_limit trail keeping resumes) has = (
@@ -188,27 +216,27 @@ module _ (a b : ArgMatches) (same : rows_of (found_of a) ≡ rows_of (found_of b
       syncs = syncing_same hosting.is_synced has.1.syncs;
     },
   )
-  options_same (Replay setup trail opens) has =
-      (first_same (codes "setup") ∙ has.0, first_same (codes "trail") ∙ has.1, flag_same (codes "open") opens has.2)
+  options_same (Replay files opens) has = (files_same files has.0, flag_same (codes "open") opens has.1)
   options_same (Recover setup trail) has = (first_same (codes "setup") ∙ has.0, first_same (codes "trail") ∙ has.1)
-  options_same (State setup trail) has = (first_same (codes "setup") ∙ has.0, first_same (codes "trail") ∙ has.1)
-  options_same (Check setup) has = first_same (codes "setup") ∙ has
+  options_same (State files) has = files_same files has
+  options_same (Check setup) has = setup_same setup has
   options_same (Explain setup asking) has = (
     first_same (codes "setup") ∙ has.0,
-    first_same (codes "event") ∙ has.1,
-    record {
-      carried = has.2.carried ∙ sym (first_same (codes "carried"));
-      trail = has.2.trail ∙ sym (first_same (codes "trail"));
-      at = count_same (codes "at") asking.at has.2.at;
-      subject = first_same (codes "subject") ∙ has.2.subject;
-      wish = all_same (codes "wish") ∙ has.2.wish;
-    },
+    (first_same (codes "trail") ∙ has.1.0, no_run_same has.1.1),
+    first_same (codes "event") ∙ has.2,
+    first_same (codes "at") ∙ has.3,
+    asking_same asking has.4,
   )
-  options_same (ExplainEvent setup trail event) has = (
-    first_same (codes "setup") ∙ has.0,
-    first_same (codes "trail") ∙ has.1,
-    number_same (codes "event") event has.2,
-    (first_same (codes "carried") ∙ has.3.0, first_same (codes "at") ∙ has.3.1, first_same (codes "subject") ∙ has.3.2),
+  options_same (ExplainTrail files at asking) has = (
+    files_same files has.0,
+    first_same (codes "event") ∙ has.1,
+    count_same (codes "at") at has.2,
+    asking_same asking has.3,
+  )
+  options_same (ExplainEvent files event) has = (
+    files_same files has.0,
+    number_same (codes "event") event has.1,
+    (first_same (codes "carried") ∙ has.2.0, first_same (codes "at") ∙ has.2.1, first_same (codes "subject") ∙ has.2.2),
   )
   options_same (Audit folder start) has = (first_same (codes "chain") ∙ has.0, start_same start has.1)
 
@@ -224,12 +252,13 @@ module _ (options : ArgMatches) where
   only_alone none' (Alone setup limit says_limit trail keeping resumes) is range = none' setup limit says_limit trail keeping resumes is.has range
   only_alone none' (Serve setup hosting) is range = words_differ 115 97 _ _ (λ e. omega arith) is.word_is
   only_alone none' (Chain folder hosting) is range = words_differ 115 97 _ _ (λ e. omega arith) is.word_is
-  only_alone none' (Replay setup trail opens) is range = words_differ 114 97 _ _ (λ e. omega arith) is.word_is
+  only_alone none' (Replay files opens) is range = words_differ 114 97 _ _ (λ e. omega arith) is.word_is
   only_alone none' (Recover setup trail) is range = words_differ 114 97 _ _ (λ e. omega arith) is.word_is
-  only_alone none' (State setup trail) is range = words_differ 115 97 _ _ (λ e. omega arith) is.word_is
+  only_alone none' (State files) is range = words_differ 115 97 _ _ (λ e. omega arith) is.word_is
   only_alone none' (Check setup) is range = words_differ 99 97 _ _ (λ e. omega arith) is.word_is
   only_alone none' (Explain setup asking) is range = words_differ 101 97 _ _ (λ e. omega arith) is.word_is
-  only_alone none' (ExplainEvent setup trail event) is range = words_differ 101 97 _ _ (λ e. omega arith) is.word_is
+  only_alone none' (ExplainTrail files at asking) is range = words_differ 101 97 _ _ (λ e. omega arith) is.word_is
+  only_alone none' (ExplainEvent files event) is range = words_differ 101 97 _ _ (λ e. omega arith) is.word_is
   only_alone none' (Audit folder start) is range = later_differ 97 97 117 108 _ _ (λ e. omega arith) is.word_is
 
   -- the word `serve` has two, of one run and of a chain
@@ -239,27 +268,31 @@ module _ (options : ArgMatches) where
   only_serve none' unchained (Alone setup limit says_limit trail keeping resumes) is range = words_differ 97 115 _ _ (λ e. omega arith) is.word_is
   only_serve none' unchained (Serve setup hosting) is range = none' setup hosting is.has range
   only_serve none' unchained (Chain folder hosting) is range = unchained folder hosting is.has range
-  only_serve none' unchained (Replay setup trail opens) is range = words_differ 114 115 _ _ (λ e. omega arith) is.word_is
+  only_serve none' unchained (Replay files opens) is range = words_differ 114 115 _ _ (λ e. omega arith) is.word_is
   only_serve none' unchained (Recover setup trail) is range = words_differ 114 115 _ _ (λ e. omega arith) is.word_is
-  only_serve none' unchained (State setup trail) is range = later_differ 115 115 116 101 _ _ (λ e. omega arith) is.word_is
+  only_serve none' unchained (State files) is range = later_differ 115 115 116 101 _ _ (λ e. omega arith) is.word_is
   only_serve none' unchained (Check setup) is range = words_differ 99 115 _ _ (λ e. omega arith) is.word_is
   only_serve none' unchained (Explain setup asking) is range = words_differ 101 115 _ _ (λ e. omega arith) is.word_is
-  only_serve none' unchained (ExplainEvent setup trail event) is range = words_differ 101 115 _ _ (λ e. omega arith) is.word_is
+  only_serve none' unchained (ExplainTrail files at asking) is range = words_differ 101 115 _ _ (λ e. omega arith) is.word_is
+  only_serve none' unchained (ExplainEvent files event) is range = words_differ 101 115 _ _ (λ e. omega arith) is.word_is
   only_serve none' unchained (Audit folder start) is range = words_differ 97 115 _ _ (λ e. omega arith) is.word_is
 
-  -- the word `explain` has two, of what is asked and of an event
-  pub only_explain : ((setup : Bor (List ℕ)) (asking : Asking) → HasOptions options (Explain setup asking) → IsInRange (Explain setup asking) → ⊥)
+  -- the word `explain` has three, over a setup, where a trail leads, and of an event
+  pub only_explain : ((setup : Bor (List ℕ)) (asking : Asking) → HasOptions options (Explain setup asking) → ⊥)
+      → ((files : NamedFiles) (at : Option ℕ) (asking : Asking) → HasOptions options (ExplainTrail files at asking)
+      → IsInRange (ExplainTrail files at asking) → ⊥)
       → HasNoEvent options → HasNoCommand (codes "explain") options
-  only_explain none' no_event (Alone setup limit says_limit trail keeping resumes) is range = words_differ 97 101 _ _ (λ e. omega arith) is.word_is
-  only_explain none' no_event (Serve setup hosting) is range = words_differ 115 101 _ _ (λ e. omega arith) is.word_is
-  only_explain none' no_event (Chain folder hosting) is range = words_differ 115 101 _ _ (λ e. omega arith) is.word_is
-  only_explain none' no_event (Replay setup trail opens) is range = words_differ 114 101 _ _ (λ e. omega arith) is.word_is
-  only_explain none' no_event (Recover setup trail) is range = words_differ 114 101 _ _ (λ e. omega arith) is.word_is
-  only_explain none' no_event (State setup trail) is range = words_differ 115 101 _ _ (λ e. omega arith) is.word_is
-  only_explain none' no_event (Check setup) is range = words_differ 99 101 _ _ (λ e. omega arith) is.word_is
-  only_explain none' no_event (Explain setup asking) is range = none' setup asking is.has range
-  only_explain none' no_event (ExplainEvent setup trail event) is range = no_event setup trail event is.has range
-  only_explain none' no_event (Audit folder start) is range = words_differ 97 101 _ _ (λ e. omega arith) is.word_is
+  only_explain none' no_trail no_event (Alone setup limit says_limit trail keeping resumes) is range = words_differ 97 101 _ _ (λ e. omega arith) is.word_is
+  only_explain none' no_trail no_event (Serve setup hosting) is range = words_differ 115 101 _ _ (λ e. omega arith) is.word_is
+  only_explain none' no_trail no_event (Chain folder hosting) is range = words_differ 115 101 _ _ (λ e. omega arith) is.word_is
+  only_explain none' no_trail no_event (Replay files opens) is range = words_differ 114 101 _ _ (λ e. omega arith) is.word_is
+  only_explain none' no_trail no_event (Recover setup trail) is range = words_differ 114 101 _ _ (λ e. omega arith) is.word_is
+  only_explain none' no_trail no_event (State files) is range = words_differ 115 101 _ _ (λ e. omega arith) is.word_is
+  only_explain none' no_trail no_event (Check setup) is range = words_differ 99 101 _ _ (λ e. omega arith) is.word_is
+  only_explain none' no_trail no_event (Explain setup asking) is range = none' setup asking is.has
+  only_explain none' no_trail no_event (ExplainTrail files at asking) is range = no_trail files at asking is.has range
+  only_explain none' no_trail no_event (ExplainEvent files event) is range = no_event files event is.has range
+  only_explain none' no_trail no_event (Audit folder start) is range = words_differ 97 101 _ _ (λ e. omega arith) is.word_is
 
   -- an option without a text has no number
   pub unnumbered : (id : List ℕ) (n : ℕ) → None ≡ first_value (found_of options) id → HasNumber options id n → ⊥
@@ -276,12 +309,40 @@ module _ (options : ArgMatches) where
 
   -- where no event is asked of there is no command `explain` of one
   pub no_event : None ≡ first_value (found_of options) (codes "event") → HasNoEvent options
-  no_event none' setup trail event has range = unnumbered (codes "event") event none' has.2
+  no_event none' files event has range = unnumbered (codes "event") event none' has.1
 
   -- where one is, there is no other
   pub event_none : (text : List ℕ) → Some text ≡ first_value (found_of options) (codes "event") → HasNoEvent options
       → HasNoCommand (codes "explain") options
-  event_none text given none' = only_explain (λ setup asking has range. given_not_left_out text _ given has.1) none'
+  event_none text given none' = only_explain (λ setup asking has. given_not_left_out text _ given has.2)
+      (λ files at asking has range. given_not_left_out text _ given has.1) none'
+
+  -- files are named by a trail file or a run
+  named : (files : NamedFiles) → HasFiles options files → NamesNoTrail options → ⊥
+  named (Files setup trail) has none' = given_not_left_out trail.now _ (sym has.1) none'.0
+  named (trails.OfRun run) has none' = given_not_left_out run.folder.now _ (sym has.2.0) none'.1.0
+
+  -- where no trail is named, there is a command `explain` over a setup file alone, and without a moment
+  pub begun_none : None ≡ first_value (found_of options) (codes "event") → NamesNoTrail options
+      → ((setup : Bor (List ℕ)) → Some setup.now ≡ first_value (found_of options) (codes "setup")
+      → first_value (found_of options) (codes "at") ≡ None → ⊥)
+      → HasNoCommand (codes "explain") options
+  begun_none none' untold unasked = only_explain (λ setup asking has. unasked setup (sym has.0) has.3)
+      (λ files at asking has range. named files has.0 untold) (no_event none')
+
+  -- where one is, there is only one where that leads
+  pub trail_none : None ≡ first_value (found_of options) (codes "event") → (NamesNoTrail options → ⊥)
+      → ((files : NamedFiles) (at : Option ℕ) → HasFiles options files → AreFilesInRange files → HasCount options (codes "at") at
+      → IsAtInRange at → ⊥)
+      → HasNoCommand (codes "explain") options
+  trail_none none' told unasked = only_explain (λ setup asking has. told has.1)
+      (λ files at asking has range. unasked files at has.0 range.0 has.2 range.1) (no_event none')
+
+  -- nor is there one without a subject
+  pub subject_none : None ≡ first_value (found_of options) (codes "event") → None ≡ first_value (found_of options) (codes "subject")
+      → HasNoCommand (codes "explain") options
+  subject_none none' nobody = only_explain (λ setup asking has. given_not_left_out asking.subject.now _ (sym has.4.subject) (sym nobody))
+      (λ files at asking has range. given_not_left_out asking.subject.now _ (sym has.3.subject) (sym nobody)) (no_event none')
 
   -- without a limit in its range there is no command `alone`
   pub alone_none : ((n : ℕ) → HasNumber options (codes "limit") n → 1 ≤ n → n ≤ 100000 → ⊥) → HasNoCommand (codes "alone") options

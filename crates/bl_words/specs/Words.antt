@@ -11,11 +11,18 @@ use Rattle.clap.specs.Walk.{Row, rows_of}
 use Rattle.clap.specs.declared.parser.matches.ArgMatches.{ArgMatches}
 use Rattle.clap.specs.declared.parser.matches.Found.{Found}
 use Rattle.bl_command_line.specs.CommandLine.{server_app}
-use Rattle.bl_options.specs.Ranges.{IsAtInRange, IsChainHostingInRange, IsHostingInRange, IsStartInRange, MayKeep}
-use Rattle.bl_options.specs.Said.{HasChainHosting, HasCount, HasFlag, HasHosting, HasKeeping, HasNumber, HasResume, HasStart, HasTrail, IsSaid}
+use Rattle.bl_options.specs.Ranges.{AreFilesInRange, IsAtInRange, IsChainHostingInRange, IsHostingInRange, IsSetupInRange, IsStartInRange, MayKeep}
+use Rattle.bl_options.specs.Said.{HasChainHosting, HasCount, HasFiles, HasFlag, HasHosting, HasKeeping, HasNoRun, HasNumber}
+use Rattle.bl_options.specs.Said.{HasResume, HasSetup, HasStart, HasTrail, IsSaid}
+use Rattle.bl_options.specs.declared.reading.NamedFiles.{NamedFiles}
+use Rattle.bl_options.specs.declared.reading.NamedFiles.TheVariants as trails
+use Rattle.bl_options.specs.declared.reading.NamedFiles.TheVariants.{Files}
+use Rattle.bl_options.specs.declared.reading.NamedSetup.{NamedSetup}
+use Rattle.bl_options.specs.declared.reading.NamedSetup.TheVariants as setups
+use Rattle.bl_options.specs.declared.reading.NamedSetup.TheVariants.{File}
 use Rattle.bl_words.specs.declared.command.Asking.{Asking}
 use Rattle.bl_words.specs.declared.command.Command.{Command}
-use Rattle.bl_words.specs.declared.command.Command.TheVariants.{Alone, Serve, Chain, Replay, Recover, State, Check, Explain, ExplainEvent, Audit}
+use Rattle.bl_words.specs.declared.command.Command.TheVariants.{Alone, Serve, Chain, Replay, Recover, State, Check, Explain, ExplainTrail, ExplainEvent, Audit}
 
 -- each number is in its range, and a trail is kept so as it may be
 abbrev pub IsInRange : Command → Type 0
@@ -23,38 +30,54 @@ IsInRange (Alone setup limit says_limit trail keeping resumes) = ((1 ≤ limit) 
     × MayKeep (is_some trail) keeping resumes
 IsInRange (Serve setup hosting) = IsHostingInRange hosting
 IsInRange (Chain folder hosting) = IsChainHostingInRange hosting
-IsInRange (Replay setup trail opens) = Unit {0}
+IsInRange (Replay files opens) = AreFilesInRange files
 IsInRange (Recover setup trail) = Unit {0}
-IsInRange (State setup trail) = Unit {0}
-IsInRange (Check setup) = Unit {0}
-IsInRange (Explain setup asking) = IsAtInRange (is_some asking.trail) asking.at
-IsInRange (ExplainEvent setup trail event) = (1 ≤ event) × (event ≤ 4294967295)
+IsInRange (State files) = AreFilesInRange files
+IsInRange (Check setup) = IsSetupInRange setup
+IsInRange (Explain setup asking) = Unit {0}
+IsInRange (ExplainTrail files at asking) = AreFilesInRange files × IsAtInRange at
+IsInRange (ExplainEvent files event) = AreFilesInRange files × ((1 ≤ event) × (event ≤ 4294967295))
 IsInRange (Audit folder start) = IsStartInRange start
+
+-- the names of the setup file and of the trail file; the files of a run of a chain are named by its folder
+abbrev pub setup_file_of : NamedFiles → Option (List ℕ)
+setup_file_of (Files setup trail) = Some setup.now
+setup_file_of (trails.OfRun run) = None
+
+abbrev pub trail_file_of : NamedFiles → Option (List ℕ)
+trail_file_of (Files setup trail) = Some trail.now
+trail_file_of (trails.OfRun run) = None
+
+abbrev pub checked_file_of : NamedSetup → Option (List ℕ)
+checked_file_of (File name) = Some name.now
+checked_file_of (setups.OfRun run) = None
 
 -- the name of a command's setup file; a chain's folder has its own
 abbrev pub setup_of : Command → Option (List ℕ)
 setup_of (Alone setup limit says_limit trail keeping resumes) = Some setup.now
 setup_of (Serve setup hosting) = Some setup.now
 setup_of (Chain folder hosting) = None
-setup_of (Replay setup trail opens) = Some setup.now
+setup_of (Replay files opens) = setup_file_of files
 setup_of (Recover setup trail) = Some setup.now
-setup_of (State setup trail) = Some setup.now
-setup_of (Check setup) = Some setup.now
+setup_of (State files) = setup_file_of files
+setup_of (Check setup) = checked_file_of setup
 setup_of (Explain setup asking) = Some setup.now
-setup_of (ExplainEvent setup trail event) = Some setup.now
+setup_of (ExplainTrail files at asking) = setup_file_of files
+setup_of (ExplainEvent files event) = setup_file_of files
 setup_of (Audit folder start) = None
 
--- the name of the trail file that a command reads
+-- the name of the trail file that a command reads; the trail of a run of a chain is named by its folder
 abbrev pub read_trail_of : Command → Option (List ℕ)
 read_trail_of (Alone setup limit says_limit trail keeping resumes) = None
 read_trail_of (Serve setup hosting) = None
 read_trail_of (Chain folder hosting) = None
-read_trail_of (Replay setup trail opens) = Some trail.now
+read_trail_of (Replay files opens) = trail_file_of files
 read_trail_of (Recover setup trail) = None
-read_trail_of (State setup trail) = Some trail.now
+read_trail_of (State files) = trail_file_of files
 read_trail_of (Check setup) = None
-read_trail_of (Explain setup asking) = option_copied asking.trail
-read_trail_of (ExplainEvent setup trail event) = Some trail.now
+read_trail_of (Explain setup asking) = None
+read_trail_of (ExplainTrail files at asking) = trail_file_of files
+read_trail_of (ExplainEvent files event) = trail_file_of files
 read_trail_of (Audit folder start) = None
 
 -- the word for a command
@@ -62,12 +85,13 @@ abbrev pub word_of : Command → List ℕ
 word_of (Alone setup limit says_limit trail keeping resumes) = codes "alone"
 word_of (Serve setup hosting) = codes "serve"
 word_of (Chain folder hosting) = codes "serve"
-word_of (Replay setup trail opens) = codes "replay"
+word_of (Replay files opens) = codes "replay"
 word_of (Recover setup trail) = codes "recover"
-word_of (State setup trail) = codes "state"
+word_of (State files) = codes "state"
 word_of (Check setup) = codes "check"
 word_of (Explain setup asking) = codes "explain"
-word_of (ExplainEvent setup trail event) = codes "explain"
+word_of (ExplainTrail files at asking) = codes "explain"
+word_of (ExplainEvent files event) = codes "explain"
 word_of (Audit folder start) = codes "audit"
 
 -- all texts of the option or word of this name, where it was given
@@ -81,10 +105,12 @@ words_in words = map (λ word. word.now) words.items
 -- the options and words of `explain` say this of what is asked
 pub record HasAsking (options : ArgMatches) (asking : Asking) : Type 0 where
   pub carried : option_copied asking.carried ≡ first_value (found_of options) (codes "carried")
-  pub trail : option_copied asking.trail ≡ first_value (found_of options) (codes "trail")
-  pub at : HasCount options (codes "at") asking.at
   pub subject : first_value (found_of options) (codes "subject") ≡ Some asking.subject.now
   pub wish : all_values (found_of options) (codes "wish") ≡ Some (words_in asking.wish)
+
+-- own choice: `explain` is asked over a setup alone where its options name no trail file and no run of a chain
+abbrev pub NamesNoTrail : ArgMatches → Type 0
+NamesNoTrail options = (first_value (found_of options) (codes "trail") ≡ None) × HasNoRun options
 
 -- own choice: beside an event nothing else is asked, of no subject, no carried level and no moment
 abbrev pub AsksNothingElse : ArgMatches → Type 0
@@ -102,23 +128,21 @@ HasOptions options (Serve setup hosting) =
     × (first_value (found_of options) (codes "chain") ≡ None) × HasHosting options hosting
 HasOptions options (Chain folder hosting) =
     (first_value (found_of options) (codes "chain") ≡ Some folder.now) × HasChainHosting options hosting
-HasOptions options (Replay setup trail opens) =
-    (first_value (found_of options) (codes "setup") ≡ Some setup.now)
-    × (first_value (found_of options) (codes "trail") ≡ Some trail.now) × HasFlag options (codes "open") opens
+HasOptions options (Replay files opens) = HasFiles options files × HasFlag options (codes "open") opens
 HasOptions options (Recover setup trail) =
     (first_value (found_of options) (codes "setup") ≡ Some setup.now)
     × (first_value (found_of options) (codes "trail") ≡ Some trail.now)
-HasOptions options (State setup trail) =
-    (first_value (found_of options) (codes "setup") ≡ Some setup.now)
-    × (first_value (found_of options) (codes "trail") ≡ Some trail.now)
-HasOptions options (Check setup) = first_value (found_of options) (codes "setup") ≡ Some setup.now
+HasOptions options (State files) = HasFiles options files
+HasOptions options (Check setup) = HasSetup options setup
 HasOptions options (Explain setup asking) =
-    (first_value (found_of options) (codes "setup") ≡ Some setup.now)
-    × (first_value (found_of options) (codes "event") ≡ None) × HasAsking options asking
-HasOptions options (ExplainEvent setup trail event) =
-    (first_value (found_of options) (codes "setup") ≡ Some setup.now)
-    × (first_value (found_of options) (codes "trail") ≡ Some trail.now) × HasNumber options (codes "event") event
-    × AsksNothingElse options
+    (first_value (found_of options) (codes "setup") ≡ Some setup.now) × NamesNoTrail options
+    × (first_value (found_of options) (codes "event") ≡ None)
+    × (first_value (found_of options) (codes "at") ≡ None) × HasAsking options asking
+HasOptions options (ExplainTrail files at asking) =
+    HasFiles options files × (first_value (found_of options) (codes "event") ≡ None)
+    × HasCount options (codes "at") at × HasAsking options asking
+HasOptions options (ExplainEvent files event) =
+    HasFiles options files × HasNumber options (codes "event") event × AsksNothingElse options
 HasOptions options (Audit folder start) =
     (first_value (found_of options) (codes "chain") ≡ Some folder.now) × HasStart options start
 
@@ -133,8 +157,8 @@ HasNoCommand word options = (command : Command) → IsOfOptions word options com
 
 -- no event is asked of with these options, whose number is in its range
 abbrev pub HasNoEvent : ArgMatches → Type 0
-HasNoEvent options = (setup trail : Bor (List ℕ)) (event : ℕ) → HasOptions options (ExplainEvent setup trail event)
-    → IsInRange (ExplainEvent setup trail event) → ⊥
+HasNoEvent options = (files : NamedFiles) (event : ℕ) → HasOptions options (ExplainEvent files event)
+    → IsInRange (ExplainEvent files event) → ⊥
 
 -- a subcommand's word and what was found of its options are those of the command
 abbrev pub IsEntered : Option (List ℕ × List Row) → Command → Type 0

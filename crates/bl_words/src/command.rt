@@ -5,9 +5,9 @@ ghost use Rattle.clap.specs.Kinds.{HasKind};
 ghost use Rattle.clap.specs.Matches.{first_value, found_of};
 ghost use Rattle.clap.specs.Words.{kind_of};
 ghost use Rattle.bl_words.specs.Status.{status_for};
-ghost use Rattle.bl_words.specs.Words.{AsksNothingElse, HasNoCommand, HasNoEvent};
-ghost use Rattle.bl_words.specs.Words.{IsInRange, IsOf, IsOfOptions, Name, NameNone, all_values};
-ghost use Rattle.bl_words.specs.Words.{faults_of, setup_of, read_trail_of, words_in};
+ghost use Rattle.bl_words.specs.Words.{AsksNothingElse, HasAsking, HasNoCommand, HasNoEvent};
+ghost use Rattle.bl_words.specs.Words.{IsInRange, IsOf, IsOfOptions, Name, NameNone, NamesNoTrail, all_values};
+ghost use Rattle.bl_words.specs.Words.{faults_of, read_trail_of, setup_file_of, setup_of, trail_file_of, words_in};
 ghost use Rattle.bl_words.specs.declared.command.Command.{Command as AnyCommand};
 
 use bl_asked::trail::TrailFile;
@@ -18,6 +18,7 @@ use bl_options::hosting::{
 };
 use bl_options::moment::at_of;
 use bl_options::number::{is_said, number};
+use bl_options::reading::{NamedFiles, NamedSetup, files_of, names_no_run, setup_of};
 use bl_options::start::{AuditStart, start_of};
 use bl_options::trail::{TrailKeeping, keeping_of, may_keep, resumes, trail_of};
 use clap::error::ErrorKind;
@@ -29,10 +30,6 @@ use std::alloc::{AllocError, Global};
 pub struct Asking<'a> {
     /// The text of the level that the behaviour carries; `None` for the lowest one.
     pub carried: Option<&'a str>,
-    /// The name of the trail file at whose moment it is asked; `None` for a run that begins.
-    pub trail: Option<&'a str>,
-    /// How many of its events have happened then; `None` for all of them.
-    pub at: Option<u32>,
     /// The name of the subject that asks.
     pub subject: &'a str,
     /// The words of what it asks for: accesses, or a rule.
@@ -47,17 +44,22 @@ impl<'a> Command<'a> {
         match self {
             Command::Alone { setup, .. }
             | Command::Serve { setup, .. }
-            | Command::Replay { setup, .. }
             | Command::Recover { setup, .. }
-            | Command::State { setup, .. }
-            | Command::Check { setup }
-            | Command::Explain { setup, .. }
-            | Command::ExplainEvent { setup, .. } => Some(setup),
+            | Command::Explain { setup, .. } => Some(setup),
+            Command::Replay { files, .. }
+            | Command::State { files }
+            | Command::ExplainTrail { files, .. }
+            | Command::ExplainEvent { files, .. } => setup_file(*files),
+            Command::Check { setup } => match setup {
+                NamedSetup::File(name) => Some(name),
+                NamedSetup::OfRun(_) => None,
+            },
             Command::Chain { .. } | Command::Audit { .. } => None,
         }
     }
 
-    /// The name of the trail file that the command reads; `None` for a command that reads none.
+    /// The name of the trail file that the command reads; `None` for a command that reads none, or that of a run of a
+    /// chain.
     pub fn read_trail(&self) -> Option<&'a str>
         ensures { option_copied result ≡ read_trail_of self.now }
     {
@@ -67,12 +69,33 @@ impl<'a> Command<'a> {
             | Command::Chain { .. }
             | Command::Recover { .. }
             | Command::Check { .. }
+            | Command::Explain { .. }
             | Command::Audit { .. } => None,
-            Command::Replay { trail, .. }
-            | Command::State { trail, .. }
-            | Command::ExplainEvent { trail, .. } => Some(trail),
-            Command::Explain { asking, .. } => asking.trail,
+            Command::Replay { files, .. }
+            | Command::State { files }
+            | Command::ExplainTrail { files, .. }
+            | Command::ExplainEvent { files, .. } => trail_file(*files),
         }
+    }
+}
+
+/// The name of the setup file; `None` where a run of a chain is named.
+fn setup_file(files: NamedFiles<'_>) -> Option<&str>
+    ensures { option_copied result ≡ setup_file_of files.entry }
+{
+    match files {
+        NamedFiles::Files { setup, .. } => Some(setup),
+        NamedFiles::OfRun(_) => None,
+    }
+}
+
+/// The name of the trail file; `None` where a run of a chain is named.
+fn trail_file(files: NamedFiles<'_>) -> Option<&str>
+    ensures { option_copied result ≡ trail_file_of files.entry }
+{
+    match files {
+        NamedFiles::Files { trail, .. } => Some(trail),
+        NamedFiles::OfRun(_) => None,
     }
 }
 
@@ -110,10 +133,8 @@ pub enum Command<'a> {
     },
     /// A replay of the trail of a run, over the setup that the run began with.
     Replay {
-        /// The name of the setup file.
-        setup: &'a str,
-        /// The name of the trail file.
-        trail: &'a str,
+        /// The setup and the trail.
+        files: NamedFiles<'a>,
         /// Whether the trail may be open: without its `stop`, and with a torn line behind the others.
         opens: bool,
     },
@@ -126,15 +147,13 @@ pub enum Command<'a> {
     },
     /// The setup that stands at the end of the trail of a run, over the setup that the run began with.
     State {
-        /// The name of the setup file.
-        setup: &'a str,
-        /// The name of the trail file.
-        trail: &'a str,
+        /// The setup and the trail.
+        files: NamedFiles<'a>,
     },
-    /// Where a setup file is at fault.
+    /// Where a setup is at fault, or else what it permits.
     Check {
-        /// The name of the setup file.
-        setup: &'a str,
+        /// The setup.
+        setup: NamedSetup<'a>,
     },
     /// Why an access or a rule is granted or denied, over a setup.
     Explain {
@@ -143,12 +162,19 @@ pub enum Command<'a> {
         /// Who asks, and for what.
         asking: Asking<'a>,
     },
+    /// The same where a trail leads, over the setup that the run began with.
+    ExplainTrail {
+        /// The setup and the trail.
+        files: NamedFiles<'a>,
+        /// How many of its events have happened then; `None` for all of them.
+        at: Option<u32>,
+        /// Who asks, and for what.
+        asking: Asking<'a>,
+    },
     /// Why what started at an event of a trail was granted or denied, over the setup that the run began with.
     ExplainEvent {
-        /// The name of the setup file.
-        setup: &'a str,
-        /// The name of the trail file.
-        trail: &'a str,
+        /// The setup and the trail.
+        files: NamedFiles<'a>,
         /// The number of the event, from 1.
         event: u32,
     },
@@ -210,11 +236,9 @@ fn replay_of<'a>(options: &ArgMatches<'a>) -> Option<Command<'a>>
     ensures written { IfSome result (IsOfOptions (codes "replay") options.now) }
     ensures none { IfNone result (HasNoCommand (codes "replay") options.now) }
 {
-    let setup = options.get_str("setup")?;
-    let trail = options.get_str("trail")?;
+    let files = files_of(options)?;
     Some(Command::Replay {
-        setup,
-        trail,
+        files,
         opens: options.get_flag("open"),
     })
 }
@@ -236,9 +260,9 @@ fn state_of<'a>(options: &ArgMatches<'a>) -> Option<Command<'a>>
     ensures written { IfSome result (IsOfOptions (codes "state") options.now) }
     ensures none { IfNone result (HasNoCommand (codes "state") options.now) }
 {
-    let setup = options.get_str("setup")?;
-    let trail = options.get_str("trail")?;
-    Some(Command::State { setup, trail })
+    Some(Command::State {
+        files: files_of(options)?,
+    })
 }
 
 /// The command `check` with these options.
@@ -247,8 +271,9 @@ fn check_of<'a>(options: &ArgMatches<'a>) -> Option<Command<'a>>
     ensures written { IfSome result (IsOfOptions (codes "check") options.now) }
     ensures none { IfNone result (HasNoCommand (codes "check") options.now) }
 {
-    let setup = options.get_str("setup")?;
-    Some(Command::Check { setup })
+    Some(Command::Check {
+        setup: setup_of(options)?,
+    })
 }
 
 /// The words of what is asked for; none where the options have none.
@@ -263,6 +288,45 @@ fn wish_of<'a>(alloc: Global, options: &ArgMatches<'a>) -> Result<Option<Vec<&'a
     Ok(Some(wish))
 }
 
+/// Whether the options name no trail: neither the file of one, nor a run of a chain.
+fn names_no_trail(options: &ArgMatches<'_>) -> bool
+    ensures { IsTrue result ↔ NamesNoTrail options.now }
+{
+    options.get_str("trail").is_none() && names_no_run(options)
+}
+
+/// The command `explain` over a setup file alone with these options, which asks for this.
+fn explain_begun<'a>(options: &ArgMatches<'a>, asking: Asking<'a>) -> Option<Command<'a>>
+    requires asked { HasAsking options.now asking }
+    requires no_event { None ≡ first_value (found_of options.now) (codes "event") }
+    requires no_trail { NamesNoTrail options.now }
+    ensures range { IfSome result IsInRange }
+    ensures written { IfSome result (IsOfOptions (codes "explain") options.now) }
+    ensures none { IfNone result (HasNoCommand (codes "explain") options.now) }
+{
+    let setup = options.get_str("setup")?;
+    if options.get_str("at").is_some() {
+        return None;
+    }
+    Some(Command::Explain { setup, asking })
+}
+
+/// The command `explain` over a trail with these options, which asks for this.
+fn explain_trail<'a>(options: &ArgMatches<'a>, asking: Asking<'a>) -> Option<Command<'a>>
+    requires asked { HasAsking options.now asking }
+    requires no_event { None ≡ first_value (found_of options.now) (codes "event") }
+    requires trail { NamesNoTrail options.now → ⊥ }
+    ensures range { IfSome result IsInRange }
+    ensures written { IfSome result (IsOfOptions (codes "explain") options.now) }
+    ensures none { IfNone result (HasNoCommand (codes "explain") options.now) }
+{
+    let files = files_of(options)?;
+    let Ok(at) = at_of(options) else {
+        return None;
+    };
+    Some(Command::ExplainTrail { files, at, asking })
+}
+
 /// The command `explain` with these options, which asks for what these words say.
 fn explain_with<'a>(options: &ArgMatches<'a>, wish: Vec<&'a str>) -> Option<Command<'a>>
     requires asked { all_values (found_of options.now) (codes "wish") ≡ Some (words_in wish) }
@@ -271,20 +335,17 @@ fn explain_with<'a>(options: &ArgMatches<'a>, wish: Vec<&'a str>) -> Option<Comm
     ensures written { IfSome result (IsOfOptions (codes "explain") options.now) }
     ensures none { IfNone result (HasNoCommand (codes "explain") options.now) }
 {
-    let setup = options.get_str("setup")?;
     let subject = options.get_str("subject")?;
-    let trail = options.get_str("trail");
-    let Ok(at) = at_of(options, trail.is_some()) else {
-        return None;
-    };
     let asking = Asking {
         carried: options.get_str("carried"),
-        trail,
-        at,
         subject,
         wish,
     };
-    Some(Command::Explain { setup, asking })
+    if names_no_trail(options) {
+        explain_begun(options, asking)
+    } else {
+        explain_trail(options, asking)
+    }
 }
 
 /// Whether the options and words ask something of `explain` beside an event.
@@ -303,17 +364,12 @@ fn explain_event_of<'a>(options: &ArgMatches<'a>) -> Option<Command<'a>>
     ensures written { IfSome result (IsOfOptions (codes "explain") options.now) }
     ensures none { IfNone result (HasNoEvent options.now) }
 {
-    let setup = options.get_str("setup")?;
-    let trail = options.get_str("trail")?;
+    let files = files_of(options)?;
     let event = number(options, "event", 1, MOST_EVENTS)?;
     if asks_else(options) {
         return None;
     }
-    Some(Command::ExplainEvent {
-        setup,
-        trail,
-        event,
-    })
+    Some(Command::ExplainEvent { files, event })
 }
 
 /// The command `explain` with these options. An error comes only where a growth is refused.
@@ -402,7 +458,14 @@ const AUDITED: &str =
 
 /// Why the options of `explain` name no command.
 const EXPLAINED: &str =
-    "explain takes SUBJECT and WHAT, and --at with --trail; or --trail with --event in place of them";
+    "explain takes --setup, with or without --trail, or --chain and --run in place of them; SUBJECT and WHAT, and --at \
+    with a trail; or --event with a trail in place of these";
+
+/// Why the options of `replay` or of `state` name no command.
+const OF_FILES: &str = "takes both --setup and --trail, or both --chain and --run in place of them";
+
+/// Why the options of `check` name no command.
+const CHECKED: &str = "check takes --setup, or both --chain and --run in place of it";
 
 /// Why the matches name no command, for whoever gave the words.
 fn why_none(found: &ArgMatches<'_>) -> &'static str {
@@ -414,8 +477,10 @@ fn why_none(found: &ArgMatches<'_>) -> &'static str {
                 why_no_run(options)
             }
         }
-        Some(("audit", _)) => AUDITED,
+        Some(("replay" | "state", _)) => OF_FILES,
+        Some(("check", _)) => CHECKED,
         Some(("explain", _)) => EXPLAINED,
+        Some(("audit", _)) => AUDITED,
         _ => KEEPING,
     }
 }
