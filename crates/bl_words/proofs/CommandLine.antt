@@ -317,33 +317,6 @@ module _ (options : ArgMatches) where
   event_none text given none' = only_explain (λ setup asking has. given_not_left_out text _ given has.2)
       (λ files at asking has range. given_not_left_out text _ given has.1) none'
 
-  -- files are named by a trail file or a run
-  named : (files : NamedFiles) → HasFiles options files → NamesNoTrail options → ⊥
-  named (Files setup trail) has none' = given_not_left_out trail.now _ (sym has.1) none'.0
-  named (trails.OfRun run) has none' = given_not_left_out run.folder.now _ (sym has.2.0) none'.1.0
-
-  -- where no trail is named, there is a command `explain` over a setup file alone, and without a moment
-  pub begun_none : None ≡ first_value (found_of options) (codes "event") → NamesNoTrail options
-      → ((setup : Bor (List ℕ)) → Some setup.now ≡ first_value (found_of options) (codes "setup")
-      → first_value (found_of options) (codes "at") ≡ None → ⊥)
-      → HasNoCommand (codes "explain") options
-  begun_none none' untold unasked = only_explain (λ setup asking has. unasked setup (sym has.0) has.3)
-      (λ files at asking has range. named files has.0 untold) (no_event none')
-
-  -- where one is, there is only one where that leads
-  pub trail_none : None ≡ first_value (found_of options) (codes "event") → (NamesNoTrail options → ⊥)
-      → ((files : NamedFiles) (at : Option ℕ) → HasFiles options files → AreFilesInRange files → HasCount options (codes "at") at
-      → IsAtInRange at → ⊥)
-      → HasNoCommand (codes "explain") options
-  trail_none none' told unasked = only_explain (λ setup asking has. told has.1)
-      (λ files at asking has range. unasked files at has.0 range.0 has.2 range.1) (no_event none')
-
-  -- nor is there one without a subject
-  pub subject_none : None ≡ first_value (found_of options) (codes "event") → None ≡ first_value (found_of options) (codes "subject")
-      → HasNoCommand (codes "explain") options
-  subject_none none' nobody = only_explain (λ setup asking has. given_not_left_out asking.subject.now _ (sym has.4.subject) (sym nobody))
-      (λ files at asking has range. given_not_left_out asking.subject.now _ (sym has.3.subject) (sym nobody)) (no_event none')
-
   -- without a limit in its range there is no command `alone`
   pub alone_none : ((n : ℕ) → HasNumber options (codes "limit") n → 1 ≤ n → n ≤ 100000 → ⊥) → HasNoCommand (codes "alone") options
   alone_none none' = only_alone (λ setup limit says_limit trail keeping resumes has range. none' limit has.1 range.0.0 range.0.1)

@@ -260,9 +260,8 @@ fn state_of<'a>(options: &ArgMatches<'a>) -> Option<Command<'a>>
     ensures written { IfSome result (IsOfOptions (codes "state") options.now) }
     ensures none { IfNone result (HasNoCommand (codes "state") options.now) }
 {
-    Some(Command::State {
-        files: files_of(options)?,
-    })
+    let files = files_of(options)?;
+    Some(Command::State { files })
 }
 
 /// The command `check` with these options.
@@ -271,9 +270,8 @@ fn check_of<'a>(options: &ArgMatches<'a>) -> Option<Command<'a>>
     ensures written { IfSome result (IsOfOptions (codes "check") options.now) }
     ensures none { IfNone result (HasNoCommand (codes "check") options.now) }
 {
-    Some(Command::Check {
-        setup: setup_of(options)?,
-    })
+    let setup = setup_of(options)?;
+    Some(Command::Check { setup })
 }
 
 /// The words of what is asked for; none where the options have none.
@@ -462,7 +460,7 @@ const EXPLAINED: &str =
     with a trail; or --event with a trail in place of these";
 
 /// Why the options of `replay` or of `state` name no command.
-const OF_FILES: &str = "takes both --setup and --trail, or both --chain and --run in place of them";
+const OF_FILES: &str = "the command takes both --setup and --trail, or both --chain and --run in place of them";
 
 /// Why the options of `check` name no command.
 const CHECKED: &str = "check takes --setup, or both --chain and --run in place of it";

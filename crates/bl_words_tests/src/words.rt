@@ -2,6 +2,7 @@
 use bl_asked::options::Options;
 use bl_asked::trail::TrailFile;
 use bl_options::hosting::{ChainHosting, Hosting, NamedEntrance};
+use bl_options::reading::{ChainRun, NamedFiles, NamedSetup};
 use bl_options::trail::TrailKeeping;
 use bl_words::command::{Command, read_words, status_of};
 use std::alloc::Global;
@@ -303,6 +304,12 @@ fn reads_how_a_trail_is_kept(rt: HostRuntime) -> Result<(), Fail> {
     Ok(())
 }
 
+/// The files that most words name.
+const PLAIN_FILES: NamedFiles<'static> = NamedFiles::Files {
+    setup: "base.txt",
+    trail: "run.trail",
+};
+
 /// A trail that is replayed may be open where `--open` says so.
 #[test]
 fn reads_replay_of_an_open_trail(rt: HostRuntime) -> Result<(), Fail> {
@@ -313,13 +320,7 @@ fn reads_replay_of_an_open_trail(rt: HostRuntime) -> Result<(), Fail> {
         )?;
         let given = words(rt.alloc(), text.as_str())?;
         let read = match read_words(rt.alloc(), given.as_slice()) {
-            Ok(
-                Command::Replay {
-                    setup,
-                    trail,
-                    opens,
-                },
-            ) => setup == "base.txt" && trail == "run.trail" && opens == wanted,
+            Ok(Command::Replay { files, opens }) => files == PLAIN_FILES && opens == wanted,
             Ok(_) | Err(_) => false,
         };
         assert!(rt; read, "at {text}");
@@ -449,7 +450,7 @@ fn name_explain(
     let Ok(Command::Explain { setup, asking }) = read_words(alloc, given.as_slice()) else {
         return Ok(false);
     };
-    let level_is = asking.carried == level && asking.trail.is_none() && asking.at.is_none();
+    let level_is = asking.carried == level;
     let mut wish = String::new(alloc);
     for word in &asking.wish {
         wish.push_str(word)?;
@@ -470,29 +471,29 @@ fn reads_explain(rt: HostRuntime) -> Result<(), Fail> {
 }
 
 /// Whether these words name the command `explain` where this trail leads, after so many of its events.
-fn name_explain_at(alloc: Global, text: &str, trail: &str, at: Option<u32>) -> Result<bool, Fail> {
+fn name_explain_at(
+    alloc: Global,
+    text: &str,
+    wanted: NamedFiles<'_>,
+    moment: Option<u32>,
+) -> Result<bool, Fail> {
     let given = words(alloc, text)?;
-    let Ok(command) = read_words(alloc, given.as_slice()) else {
+    let Ok(Command::ExplainTrail { files, at, asking }) = read_words(alloc, given.as_slice()) else {
         return Ok(false);
     };
-    let is_read = command.read_trail() == Some(trail);
-    let Command::Explain { asking, .. } = command else {
-        return Ok(false);
-    };
-    let trail_is = asking.trail == Some(trail);
-    Ok(is_read && trail_is && asking.at == at)
+    Ok(files == wanted && at == moment && asking.subject == "bob")
 }
 
 #[test]
 fn reads_explain_over_a_trail(rt: HostRuntime) -> Result<(), Fail> {
     let alloc = rt.alloc();
     let text = "bl_server explain --setup base.txt --trail run.trail bob read memo";
-    assert!(rt; name_explain_at(alloc, text, "run.trail", None)?);
+    assert!(rt; name_explain_at(alloc, text, PLAIN_FILES, None)?);
     for at in [0, 4_294_967_295] {
         let text = format!(in alloc;
             "bl_server explain --at {at} --setup base.txt --trail run.trail bob read memo"
         )?;
-        assert!(rt; name_explain_at(alloc, text.as_str(), "run.trail", Some(at))?);
+        assert!(rt; name_explain_at(alloc, text.as_str(), PLAIN_FILES, Some(at))?);
     }
     for more in [
         "--at 7",
@@ -561,8 +562,12 @@ fn reads_state(rt: HostRuntime) -> Result<(), Fail> {
         rt.alloc(),
         "bl_server state --trail day.trail --setup base.txt",
     )?;
+    let wanted = NamedFiles::Files {
+        setup: "base.txt",
+        trail: "day.trail",
+    };
     let read = match read_words(rt.alloc(), given.as_slice()) {
-        Ok(Command::State { setup, trail }) => setup == "base.txt" && trail == "day.trail",
+        Ok(Command::State { files }) => files == wanted,
         Ok(_) | Err(_) => false,
     };
     assert!(rt; read);
@@ -660,7 +665,7 @@ fn reads_check(rt: HostRuntime) -> Result<(), Fail> {
     let given = words(rt.alloc(), "bl_server check --setup base.txt")?;
     let read = match read_words(rt.alloc(), given.as_slice()) {
         Ok(command) => {
-            matches!(&command, Command::Check { setup } if *setup == "base.txt")
+            matches!(&command, Command::Check { setup } if *setup == NamedSetup::File("base.txt"))
                 && command.setup() == Some("base.txt")
                 && command.read_trail().is_none()
         }
@@ -737,6 +742,109 @@ fn refuses_half_a_start(rt: HostRuntime) -> Result<(), Fail> {
     assert!(rt;
         half.as_str()
             .contains("audit takes --from and --digest together")
+    );
+    Ok(())
+}
+
+/// Run 7 of the chain in `day`.
+const RUN: ChainRun<'static> = ChainRun {
+    folder: "day",
+    run: 7,
+};
+
+/// Whether these words name a command that reads the setup of run 7 of the chain in `day`, and its trail where it reads
+/// one.
+fn name_run(alloc: Global, text: &str) -> Result<bool, Fail> {
+    let given = words(alloc, text)?;
+    let Ok(command) = read_words(alloc, given.as_slice()) else {
+        return Ok(false);
+    };
+    let unnamed = command.setup().is_none() && command.read_trail().is_none();
+    let is_read = match command {
+        Command::Replay { files, .. }
+        | Command::State { files }
+        | Command::ExplainTrail { files, .. }
+        | Command::ExplainEvent { files, .. } => files == NamedFiles::OfRun(RUN),
+        Command::Check { setup } => setup == NamedSetup::OfRun(RUN),
+        _ => false,
+    };
+    Ok(unnamed && is_read)
+}
+
+/// A run of a chain stands in place of a setup file and a trail file.
+#[test]
+fn reads_a_run_of_a_chain(rt: HostRuntime) -> Result<(), Fail> {
+    for text in [
+        "bl_server replay --chain day --run 7",
+        "bl_server replay --open --run 7 --chain day",
+        "bl_server state --chain day --run 7",
+        "bl_server check --run +7 --chain day",
+        "bl_server explain --chain day --run 7 bob read memo",
+        "bl_server explain --chain day --run 7 --at 0 --carried u bob read memo",
+        "bl_server explain --chain day --run 7 --event 9",
+    ] {
+        assert!(rt; name_run(rt.alloc(), text)?, "at {text}");
+    }
+    for run in [1, 999_999_999] {
+        let text = format!(in rt.alloc(); "bl_server state --chain day --run {run}")?;
+        let given = words(rt.alloc(), text.as_str())?;
+        let wanted = NamedFiles::OfRun(ChainRun { folder: "day", run });
+        let read = match read_words(rt.alloc(), given.as_slice()) {
+            Ok(Command::State { files }) => files == wanted,
+            Ok(_) | Err(_) => false,
+        };
+        assert!(rt; read, "at {text}");
+    }
+    Ok(())
+}
+
+/// A run is named by a folder and a number, and not beside files.
+#[test]
+fn refuses_half_a_run(rt: HostRuntime) -> Result<(), Fail> {
+    let alloc = rt.alloc();
+    for command in [
+        "replay",
+        "state",
+        "check",
+        "explain bob read memo",
+        "explain --event 7",
+    ] {
+        for more in [
+            "",
+            "--chain day",
+            "--run 7",
+            "--chain day --run 0",
+            "--chain day --run 1000000000",
+            "--setup base.txt --chain day --run 7",
+            "--setup base.txt --chain day",
+            "--setup base.txt --run 7",
+        ] {
+            let text = format!(in alloc; "bl_server {command} {more}")?;
+            assert_eq!(rt;
+                status_without_a_command(alloc, text.as_str())?,
+                Some(2),
+                "at {text}"
+            );
+        }
+    }
+    for more in [
+        "replay --trail run.trail --chain day --run 7",
+        "state --setup base.txt --trail run.trail --run 7",
+        "explain --trail run.trail --chain day --run 7 bob read memo",
+        "explain --trail run.trail bob read memo",
+        "recover --chain day --run 7",
+    ] {
+        let text = format!(in alloc; "bl_server {more}")?;
+        assert_eq!(rt;
+            status_without_a_command(alloc, text.as_str())?,
+            Some(2),
+            "at {text}"
+        );
+    }
+    let half = said_without_a_command(alloc, "bl_server state --chain day")?;
+    assert!(rt;
+        half.as_str()
+            .contains("both --chain and --run in place of them")
     );
     Ok(())
 }
