@@ -119,6 +119,10 @@ at_rule = number_rule (codes "at") 0 4294967295
 abbrev pub event_rule : Rule
 event_rule = number_rule (codes "event") 1 4294967295
 
+-- own choice: `--against` may be left out, and takes any text
+abbrev pub against_rule : Rule
+against_rule = text_rule (codes "against")
+
 -- own choice: `--from` of `audit` may be left out, and takes the number of a run, from 1 to 999,999,999
 abbrev pub from_rule : Rule
 from_rule = number_rule (codes "from") 1 999999999
@@ -168,9 +172,9 @@ recover_app = app_with (codes "recover") (setup_rule ∷ trail_rule ∷ [])
 abbrev pub state_app : App
 state_app = app_with (codes "state") (optional_setup_rule ∷ optional_trail_rule ∷ chain_rule ∷ run_rule ∷ [])
 
--- own choice: the command `check` has a setup, or a run of a chain
+-- own choice: the command `check` has a setup, or a run of a chain, and it may have another setup to compare it with
 abbrev pub check_app : App
-check_app = app_with (codes "check") (optional_setup_rule ∷ chain_rule ∷ run_rule ∷ [])
+check_app = app_with (codes "check") (optional_setup_rule ∷ chain_rule ∷ run_rule ∷ against_rule ∷ [])
 
 -- own choice: the command `explain` has a setup, and it may have a trail; or it has a run of a chain. It may have an event of
 -- the trail, or how many of its events have happened, a level that is carried, a subject and what it asks for

@@ -1,7 +1,7 @@
 //! The options of commands, and the words that stand without one.
 ghost use Rattle.std.specs.Prelude.{◌≡◌};
 ghost use Rattle.clap.specs.Words.{rule_of};
-ghost use Rattle.bl_command_line.specs.CommandLine.{at_rule, audited_chain_rule, carried_rule, chain_rule};
+ghost use Rattle.bl_command_line.specs.CommandLine.{against_rule, at_rule, audited_chain_rule, carried_rule, chain_rule};
 ghost use Rattle.bl_command_line.specs.CommandLine.{claim_rule, clients_rule, digest_rule, doors_rule, event_rule};
 ghost use Rattle.bl_command_line.specs.CommandLine.{flag_rule, from_rule, idle_rule, keep_rule};
 ghost use Rattle.bl_command_line.specs.CommandLine.{limit_rule, log_rule, number_rule, open_rule};
@@ -314,6 +314,17 @@ pub(crate) fn event_option<'a>(alloc: Global) -> Arg<'a>
         1,
         MOST_EVENTS,
         "In place of SUBJECT and WHAT: the start that is event N of the trail",
+    )
+}
+
+pub(crate) fn against_option<'a>(alloc: Global) -> Arg<'a>
+    ensures { rule_of result ≡ against_rule }
+{
+    text_option(
+        alloc,
+        "against",
+        "OLD",
+        "Another setup file: what differs from it is told, in place of the table",
     )
 }
 

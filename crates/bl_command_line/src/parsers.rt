@@ -5,11 +5,12 @@ ghost use Rattle.bl_command_line.specs.CommandLine.{IsLocal, alone_app, audit_ap
 ghost use Rattle.bl_command_line.specs.CommandLine.{replay_app, serve_app, server_app, state_app};
 
 use crate::options::{
-    at_option, audited_chain_option, carried_option, chain_option, claim_option, clients_option,
-    digest_option, doors_option, event_option, from_option, idle_option, keep_option, limit_option,
-    log_option, open_option, optional_setup_option, optional_trail_option, port_option,
-    replace_option, resume_option, run_option, sessions_option, setup_option, subject_word,
-    threads_option, trail_limit_option, trail_option, wish_words, workers_option,
+    against_option, at_option, audited_chain_option, carried_option, chain_option, claim_option,
+    clients_option, digest_option, doors_option, event_option, from_option, idle_option,
+    keep_option, limit_option, log_option, open_option, optional_setup_option,
+    optional_trail_option, port_option, replace_option, resume_option, run_option, sessions_option,
+    setup_option, subject_word, threads_option, trail_limit_option, trail_option, wish_words,
+    workers_option,
 };
 use bl_asked::version::VERSION;
 use clap::Command as Parser;
@@ -159,9 +160,10 @@ fn check_parser<'a>(alloc: Global) -> Result<Parser<'a>, AllocError>
         optional_setup_option(alloc),
         chain_option(alloc),
         run_option(alloc),
+        against_option(alloc),
     ]?;
     Parser::new(alloc, "check")
-        .about("Where a setup file is at fault, or else who may do what")
+        .about("Where a setup file is at fault, or else who may do what, or what differs")
         .after_help(MORE)
         .args(options)
 }

@@ -219,7 +219,7 @@ module _ (a b : ArgMatches) (same : rows_of (found_of a) ≡ rows_of (found_of b
   options_same (Replay files opens) has = (files_same files has.0, flag_same (codes "open") opens has.1)
   options_same (Recover setup trail) has = (first_same (codes "setup") ∙ has.0, first_same (codes "trail") ∙ has.1)
   options_same (State files) has = files_same files has
-  options_same (Check setup) has = setup_same setup has
+  options_same (Check setup against) has = (setup_same setup has.0, has.1 ∙ sym (first_same (codes "against")))
   options_same (Explain setup asking) has = (
     first_same (codes "setup") ∙ has.0,
     (first_same (codes "trail") ∙ has.1.0, no_run_same has.1.1),
@@ -255,7 +255,7 @@ module _ (options : ArgMatches) where
   only_alone none' (Replay files opens) is range = words_differ 114 97 _ _ (λ e. omega arith) is.word_is
   only_alone none' (Recover setup trail) is range = words_differ 114 97 _ _ (λ e. omega arith) is.word_is
   only_alone none' (State files) is range = words_differ 115 97 _ _ (λ e. omega arith) is.word_is
-  only_alone none' (Check setup) is range = words_differ 99 97 _ _ (λ e. omega arith) is.word_is
+  only_alone none' (Check setup against) is range = words_differ 99 97 _ _ (λ e. omega arith) is.word_is
   only_alone none' (Explain setup asking) is range = words_differ 101 97 _ _ (λ e. omega arith) is.word_is
   only_alone none' (ExplainTrail files at asking) is range = words_differ 101 97 _ _ (λ e. omega arith) is.word_is
   only_alone none' (ExplainEvent files event) is range = words_differ 101 97 _ _ (λ e. omega arith) is.word_is
@@ -271,7 +271,7 @@ module _ (options : ArgMatches) where
   only_serve none' unchained (Replay files opens) is range = words_differ 114 115 _ _ (λ e. omega arith) is.word_is
   only_serve none' unchained (Recover setup trail) is range = words_differ 114 115 _ _ (λ e. omega arith) is.word_is
   only_serve none' unchained (State files) is range = later_differ 115 115 116 101 _ _ (λ e. omega arith) is.word_is
-  only_serve none' unchained (Check setup) is range = words_differ 99 115 _ _ (λ e. omega arith) is.word_is
+  only_serve none' unchained (Check setup against) is range = words_differ 99 115 _ _ (λ e. omega arith) is.word_is
   only_serve none' unchained (Explain setup asking) is range = words_differ 101 115 _ _ (λ e. omega arith) is.word_is
   only_serve none' unchained (ExplainTrail files at asking) is range = words_differ 101 115 _ _ (λ e. omega arith) is.word_is
   only_serve none' unchained (ExplainEvent files event) is range = words_differ 101 115 _ _ (λ e. omega arith) is.word_is
@@ -288,7 +288,7 @@ module _ (options : ArgMatches) where
   only_explain none' no_trail no_event (Replay files opens) is range = words_differ 114 101 _ _ (λ e. omega arith) is.word_is
   only_explain none' no_trail no_event (Recover setup trail) is range = words_differ 114 101 _ _ (λ e. omega arith) is.word_is
   only_explain none' no_trail no_event (State files) is range = words_differ 115 101 _ _ (λ e. omega arith) is.word_is
-  only_explain none' no_trail no_event (Check setup) is range = words_differ 99 101 _ _ (λ e. omega arith) is.word_is
+  only_explain none' no_trail no_event (Check setup against) is range = words_differ 99 101 _ _ (λ e. omega arith) is.word_is
   only_explain none' no_trail no_event (Explain setup asking) is range = none' setup asking is.has
   only_explain none' no_trail no_event (ExplainTrail files at asking) is range = no_trail files at asking is.has range
   only_explain none' no_trail no_event (ExplainEvent files event) is range = no_event files event is.has range

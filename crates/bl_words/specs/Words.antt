@@ -33,7 +33,7 @@ IsInRange (Chain folder hosting) = IsChainHostingInRange hosting
 IsInRange (Replay files opens) = AreFilesInRange files
 IsInRange (Recover setup trail) = Unit {0}
 IsInRange (State files) = AreFilesInRange files
-IsInRange (Check setup) = IsSetupInRange setup
+IsInRange (Check setup against) = IsSetupInRange setup
 IsInRange (Explain setup asking) = Unit {0}
 IsInRange (ExplainTrail files at asking) = AreFilesInRange files × IsAtInRange at
 IsInRange (ExplainEvent files event) = AreFilesInRange files × ((1 ≤ event) × (event ≤ 4294967295))
@@ -60,7 +60,7 @@ setup_of (Chain folder hosting) = None
 setup_of (Replay files opens) = setup_file_of files
 setup_of (Recover setup trail) = Some setup.now
 setup_of (State files) = setup_file_of files
-setup_of (Check setup) = checked_file_of setup
+setup_of (Check setup against) = checked_file_of setup
 setup_of (Explain setup asking) = Some setup.now
 setup_of (ExplainTrail files at asking) = setup_file_of files
 setup_of (ExplainEvent files event) = setup_file_of files
@@ -74,7 +74,7 @@ read_trail_of (Chain folder hosting) = None
 read_trail_of (Replay files opens) = trail_file_of files
 read_trail_of (Recover setup trail) = None
 read_trail_of (State files) = trail_file_of files
-read_trail_of (Check setup) = None
+read_trail_of (Check setup against) = None
 read_trail_of (Explain setup asking) = None
 read_trail_of (ExplainTrail files at asking) = trail_file_of files
 read_trail_of (ExplainEvent files event) = trail_file_of files
@@ -88,7 +88,7 @@ word_of (Chain folder hosting) = codes "serve"
 word_of (Replay files opens) = codes "replay"
 word_of (Recover setup trail) = codes "recover"
 word_of (State files) = codes "state"
-word_of (Check setup) = codes "check"
+word_of (Check setup against) = codes "check"
 word_of (Explain setup asking) = codes "explain"
 word_of (ExplainTrail files at asking) = codes "explain"
 word_of (ExplainEvent files event) = codes "explain"
@@ -133,7 +133,8 @@ HasOptions options (Recover setup trail) =
     (first_value (found_of options) (codes "setup") ≡ Some setup.now)
     × (first_value (found_of options) (codes "trail") ≡ Some trail.now)
 HasOptions options (State files) = HasFiles options files
-HasOptions options (Check setup) = HasSetup options setup
+HasOptions options (Check setup against) =
+    HasSetup options setup × (option_copied against ≡ first_value (found_of options) (codes "against"))
 HasOptions options (Explain setup asking) =
     (first_value (found_of options) (codes "setup") ≡ Some setup.now) × NamesNoTrail options
     × (first_value (found_of options) (codes "event") ≡ None)

@@ -50,7 +50,7 @@ impl<'a> Command<'a> {
             | Command::State { files }
             | Command::ExplainTrail { files, .. }
             | Command::ExplainEvent { files, .. } => setup_file(*files),
-            Command::Check { setup } => match setup {
+            Command::Check { setup, .. } => match setup {
                 NamedSetup::File(name) => Some(name),
                 NamedSetup::OfRun(_) => None,
             },
@@ -150,10 +150,12 @@ pub enum Command<'a> {
         /// The setup and the trail.
         files: NamedFiles<'a>,
     },
-    /// Where a setup is at fault, or else what it permits.
+    /// Where a setup is at fault, or else what it permits, or what differs from another one.
     Check {
         /// The setup.
         setup: NamedSetup<'a>,
+        /// The name of the setup file that it is compared with; `None` where it is compared with none.
+        against: Option<&'a str>,
     },
     /// Why an access or a rule is granted or denied, over a setup.
     Explain {
@@ -271,7 +273,8 @@ fn check_of<'a>(options: &ArgMatches<'a>) -> Option<Command<'a>>
     ensures none { IfNone result (HasNoCommand (codes "check") options.now) }
 {
     let setup = setup_of(options)?;
-    Some(Command::Check { setup })
+    let against = options.get_str("against");
+    Some(Command::Check { setup, against })
 }
 
 /// The words of what is asked for; none where the options have none.
@@ -460,7 +463,8 @@ const EXPLAINED: &str =
     with a trail; or --event with a trail in place of these";
 
 /// Why the options of `replay` or of `state` name no command.
-const OF_FILES: &str = "the command takes both --setup and --trail, or both --chain and --run in place of them";
+const OF_FILES: &str =
+    "the command takes both --setup and --trail, or both --chain and --run in place of them";
 
 /// Why the options of `check` name no command.
 const CHECKED: &str = "check takes --setup, or both --chain and --run in place of it";

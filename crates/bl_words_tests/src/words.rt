@@ -665,7 +665,7 @@ fn reads_check(rt: HostRuntime) -> Result<(), Fail> {
     let given = words(rt.alloc(), "bl_server check --setup base.txt")?;
     let read = match read_words(rt.alloc(), given.as_slice()) {
         Ok(command) => {
-            matches!(&command, Command::Check { setup } if *setup == NamedSetup::File("base.txt"))
+            matches!(&command, Command::Check { setup, against: None } if *setup == NamedSetup::File("base.txt"))
                 && command.setup() == Some("base.txt")
                 && command.read_trail().is_none()
         }
@@ -765,7 +765,7 @@ fn name_run(alloc: Global, text: &str) -> Result<bool, Fail> {
         | Command::State { files }
         | Command::ExplainTrail { files, .. }
         | Command::ExplainEvent { files, .. } => files == NamedFiles::OfRun(RUN),
-        Command::Check { setup } => setup == NamedSetup::OfRun(RUN),
+        Command::Check { setup, .. } => setup == NamedSetup::OfRun(RUN),
         _ => false,
     };
     Ok(unnamed && is_read)
@@ -846,5 +846,37 @@ fn refuses_half_a_run(rt: HostRuntime) -> Result<(), Fail> {
         half.as_str()
             .contains("both --chain and --run in place of them")
     );
+    Ok(())
+}
+
+/// A setup is compared with another file, and a run's setup too.
+#[test]
+fn reads_check_against_another_setup(rt: HostRuntime) -> Result<(), Fail> {
+    let alloc = rt.alloc();
+    for (more, wanted) in [
+        ("--setup base.txt", NamedSetup::File("base.txt")),
+        ("--chain day --run 7", NamedSetup::OfRun(RUN)),
+    ] {
+        let text = format!(in alloc; "bl_server check --against old.txt {more}")?;
+        let given = words(alloc, text.as_str())?;
+        let read = match read_words(alloc, given.as_slice()) {
+            Ok(
+                Command::Check {
+                    setup,
+                    against: Some(old),
+                },
+            ) => setup == wanted && old == "old.txt",
+            Ok(_) | Err(_) => false,
+        };
+        assert!(rt; read, "at {text}");
+    }
+    for more in ["", "--setup", "--against new.txt --setup base.txt"] {
+        let text = format!(in alloc; "bl_server check --against old.txt {more}")?;
+        assert_eq!(rt;
+            status_without_a_command(alloc, text.as_str())?,
+            Some(2),
+            "at {more}"
+        );
+    }
     Ok(())
 }
