@@ -5,17 +5,20 @@
 //!     hosting    what a run of `serve` hosts, and what a chain does
 //!     start      where an audit begins
 //!     reading    which setup a command reads, and which trail
+//!     report     what a report tells
 //!     moment     at which moment of a trail `explain` is asked
 //!
 //! The definitions stand in specs/:
 //!
 //!     Said      what options say
 //!     Ranges    which of it is in its range
+//!     Report    what options of `report` say
 #![tactic(auto)]
 
 pub mod hosting;
 pub mod moment;
 pub mod number;
 pub mod reading;
+pub mod report;
 pub mod start;
 pub mod trail;

@@ -19,6 +19,7 @@ use bl_options::hosting::{
 use bl_options::moment::at_of;
 use bl_options::number::{is_said, number};
 use bl_options::reading::{NamedFiles, NamedSetup, files_of, names_no_run, setup_of};
+use bl_options::report::{NamedReport, report_of};
 use bl_options::start::{AuditStart, start_of};
 use bl_options::trail::{TrailKeeping, keeping_of, may_keep, resumes, trail_of};
 use clap::error::ErrorKind;
@@ -48,6 +49,7 @@ impl<'a> Command<'a> {
             | Command::Explain { setup, .. } => Some(setup),
             Command::Replay { files, .. }
             | Command::State { files }
+            | Command::Report { files, .. }
             | Command::ExplainTrail { files, .. }
             | Command::ExplainEvent { files, .. } => setup_file(*files),
             Command::Check { setup, .. } => match setup {
@@ -73,6 +75,7 @@ impl<'a> Command<'a> {
             | Command::Audit { .. } => None,
             Command::Replay { files, .. }
             | Command::State { files }
+            | Command::Report { files, .. }
             | Command::ExplainTrail { files, .. }
             | Command::ExplainEvent { files, .. } => trail_file(*files),
         }
@@ -186,6 +189,13 @@ pub enum Command<'a> {
         folder: &'a str,
         /// Where it begins; `None` for the first run of the folder.
         start: Option<AuditStart<'a>>,
+    },
+    /// What a trail tells, over the setup that the run began with.
+    Report {
+        /// The setup and the trail.
+        files: NamedFiles<'a>,
+        /// What of it is told, and how.
+        report: NamedReport<'a>,
     },
 }
 
@@ -404,6 +414,17 @@ fn audit_of<'a>(options: &ArgMatches<'a>) -> Option<Command<'a>>
     Some(Command::Audit { folder, start })
 }
 
+/// The command `report` with these options.
+fn report_with<'a>(options: &ArgMatches<'a>) -> Option<Command<'a>>
+    ensures range { IfSome result IsInRange }
+    ensures written { IfSome result (IsOfOptions (codes "report") options.now) }
+    ensures none { IfNone result (HasNoCommand (codes "report") options.now) }
+{
+    let files = files_of(options)?;
+    let report = report_of(options)?;
+    Some(Command::Report { files, report })
+}
+
 /// The command that the matches name, where they are matches of `parser`. An error comes only where a growth is refused.
 fn command_of<'a>(alloc: Global, found: &ArgMatches<'a>) -> Result<Option<Command<'a>>, AllocError>
     ensures range { IfOk result (λ command. IfSome command IsInRange) }
@@ -423,6 +444,7 @@ fn command_of<'a>(alloc: Global, found: &ArgMatches<'a>) -> Result<Option<Comman
         "check" => Ok(check_of(options)),
         "explain" => explain_of(alloc, options),
         "audit" => Ok(audit_of(options)),
+        "report" => Ok(report_with(options)),
         _ => Ok(None),
     }
 }
@@ -462,12 +484,20 @@ const EXPLAINED: &str =
     "explain takes --setup, with or without --trail, or --chain and --run in place of them; SUBJECT and WHAT, and --at \
     with a trail; or --event with a trail in place of these";
 
-/// Why the options of `replay` or of `state` name no command.
+/// Why the options of `replay`, `state` or `report` name no command.
 const OF_FILES: &str =
     "the command takes both --setup and --trail, or both --chain and --run in place of them";
 
 /// Why the options of `check` name no command.
 const CHECKED: &str = "check takes --setup, or both --chain and --run in place of it";
+
+/// Why the options of `report` name no command.
+fn why_no_report(options: &ArgMatches<'_>) -> &'static str {
+    if files_of(options).is_none() {
+        return OF_FILES;
+    }
+    "--outcome takes held, refused, changed, exempt, down, lost or running"
+}
 
 /// Why the matches name no command, for whoever gave the words.
 fn why_none(found: &ArgMatches<'_>) -> &'static str {
@@ -481,6 +511,7 @@ fn why_none(found: &ArgMatches<'_>) -> &'static str {
         }
         Some(("replay" | "state", _)) => OF_FILES,
         Some(("check", _)) => CHECKED,
+        Some(("report", options)) => why_no_report(options),
         Some(("explain", _)) => EXPLAINED,
         Some(("audit", _)) => AUDITED,
         _ => KEEPING,
