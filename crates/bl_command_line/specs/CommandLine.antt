@@ -35,9 +35,9 @@ chain_rule = text_rule (codes "chain")
 abbrev pub run_rule : Rule
 run_rule = number_rule (codes "run") 1 999999999
 
--- own choice: `--chain` of `audit` has to be given, and takes any text
-abbrev pub audited_chain_rule : Rule
-audited_chain_rule = record (text_rule (codes "chain")) { required = true }
+-- own choice: `--chain` of a command that is over a chain alone has to be given, and takes any text
+abbrev pub whole_chain_rule : Rule
+whole_chain_rule = record (text_rule (codes "chain")) { required = true }
 
 -- `--limit` takes a number from 1 to 100,000, and without it the number is 10,000
 abbrev pub limit_rule : Rule
@@ -165,6 +165,14 @@ subject_rule = word_rule (codes "subject")
 abbrev pub wish_rule : Rule
 wish_rule = record (word_rule (codes "wish")) { action = Some Append }
 
+-- own choice: what a server is asked for is one word
+abbrev pub order_rule : Rule
+order_rule = word_rule (codes "order")
+
+-- own choice: `--within` of `tell` may be left out, and takes a number from 1 to 86,400, the seconds of a day
+abbrev pub within_rule : Rule
+within_rule = number_rule (codes "within") 1 86400
+
 -- a command of this name with these options
 abbrev pub app_with : List ℕ → List Rule → App
 app_with name rules = record { top = record (new_shape name) { rules = rules }; subs = [] }
@@ -208,7 +216,7 @@ explain_app = app_with (codes "explain")
 
 -- own choice: the command `audit` has a chain, and it may have the run that it begins with, and the checksum of its setup
 abbrev pub audit_app : App
-audit_app = app_with (codes "audit") (audited_chain_rule ∷ from_rule ∷ digest_rule ∷ [])
+audit_app = app_with (codes "audit") (whole_chain_rule ∷ from_rule ∷ digest_rule ∷ [])
 
 -- own choice: the command `report` has a setup and a trail, or a run of a chain, whether it is told as JSON, and what of it
 -- is told
@@ -216,6 +224,10 @@ abbrev pub report_app : App
 report_app = app_with (codes "report")
     (optional_setup_rule ∷ optional_trail_rule ∷ chain_rule ∷ run_rule ∷ json_rule ∷ picked_subject_rule
     ∷ picked_document_rule ∷ picked_level_rule ∷ outcome_rule ∷ told_from_rule ∷ told_until_rule ∷ [])
+
+-- own choice: the command `tell` has a chain and a word for what is asked for, and it may have a number of seconds
+abbrev pub tell_app : App
+tell_app = app_with (codes "tell") (whole_chain_rule ∷ within_rule ∷ order_rule ∷ [])
 
 -- a parser of this command, and with no option that holds for the commands below it
 pub record IsLocal (app : App) (parser : Command) : Type 0 where
@@ -226,8 +238,10 @@ pub record IsLocal (app : App) (parser : Command) : Type 0 where
 abbrev pub root_app : App
 root_app = on_top (λ s. record s { has_version = true; subcommand_required = true }) (new_app (codes "bl_server"))
 
--- own choice: the commands are `alone`, `serve`, `replay`, `recover`, `state`, `check`, `explain`, `audit` and `report`
+-- own choice: the commands are `alone`, `serve`, `replay`, `recover`, `state`, `check`, `explain`, `audit`, `report` and
+-- `tell`
 abbrev pub server_app : App
 server_app = with_subcommand (with_subcommand (with_subcommand (with_subcommand (with_subcommand (with_subcommand
-    (with_subcommand (with_subcommand (with_subcommand root_app alone_app.top) serve_app.top) replay_app.top)
-    recover_app.top) state_app.top) check_app.top) explain_app.top) audit_app.top) report_app.top
+    (with_subcommand (with_subcommand (with_subcommand (with_subcommand root_app alone_app.top) serve_app.top)
+    replay_app.top) recover_app.top) state_app.top) check_app.top) explain_app.top) audit_app.top) report_app.top)
+    tell_app.top

@@ -26,5 +26,8 @@ pub const MOST_RUN: u32 = 999_999_999;
 /// How many events of a trail may be asked for, at most.
 pub const MOST_EVENTS: u32 = 4_294_967_295;
 
+/// For how many seconds a server that stops waits at most for who takes nothing: a day.
+pub const MOST_WITHIN: u32 = 86_400;
+
 /// For how many seconds a client may be idle at most, where it may not for ever: a day.
 pub const MOST_IDLE: u32 = 86_400;

@@ -1,19 +1,20 @@
 //! The options of commands, and the words that stand without one.
 ghost use Rattle.std.specs.Prelude.{◌≡◌};
 ghost use Rattle.clap.specs.Words.{rule_of};
-ghost use Rattle.bl_command_line.specs.CommandLine.{against_rule, at_rule, audited_chain_rule, carried_rule, chain_rule};
+ghost use Rattle.bl_command_line.specs.CommandLine.{against_rule, at_rule, whole_chain_rule, carried_rule, chain_rule};
 ghost use Rattle.bl_command_line.specs.CommandLine.{claim_rule, clients_rule, digest_rule, doors_rule, event_rule};
 ghost use Rattle.bl_command_line.specs.CommandLine.{flag_rule, from_rule, idle_rule, keep_rule};
 ghost use Rattle.bl_command_line.specs.CommandLine.{limit_rule, log_rule, number_rule, open_rule};
 ghost use Rattle.bl_command_line.specs.CommandLine.{optional_setup_rule, optional_trail_rule, port_rule, replace_rule, resume_rule, run_rule};
 ghost use Rattle.bl_command_line.specs.CommandLine.{sessions_rule, setup_rule, subject_rule, text_rule, threads_rule};
 ghost use Rattle.bl_command_line.specs.CommandLine.{json_rule, outcome_rule, picked_document_rule, picked_level_rule};
+ghost use Rattle.bl_command_line.specs.CommandLine.{order_rule, within_rule};
 ghost use Rattle.bl_command_line.specs.CommandLine.{picked_subject_rule, told_from_rule, told_until_rule};
 ghost use Rattle.bl_command_line.specs.CommandLine.{trail_limit_rule, trail_rule, wish_rule, word_rule, workers_rule};
 
 use crate::bounds::{
     LEAST_TRAIL, MOST_CLIENTS, MOST_EVENTS, MOST_IDLE, MOST_LIMIT, MOST_PORT, MOST_RUN,
-    MOST_SESSIONS, MOST_THREADS, MOST_TRAIL,
+    MOST_SESSIONS, MOST_THREADS, MOST_TRAIL, MOST_WITHIN,
 };
 use clap::{Arg, ArgAction, value_parser};
 use std::alloc::Global;
@@ -93,8 +94,8 @@ pub(crate) fn run_option<'a>(alloc: Global) -> Arg<'a>
     )
 }
 
-pub(crate) fn audited_chain_option<'a>(alloc: Global) -> Arg<'a>
-    ensures { rule_of result ≡ audited_chain_rule }
+pub(crate) fn whole_chain_option<'a>(alloc: Global) -> Arg<'a>
+    ensures { rule_of result ≡ whole_chain_rule }
 {
     text_option(alloc, "chain", "FOLDER", "The folder of a chain of runs").required(true)
 }
@@ -330,6 +331,19 @@ pub(crate) fn against_option<'a>(alloc: Global) -> Arg<'a>
     )
 }
 
+pub(crate) fn within_option<'a>(alloc: Global) -> Arg<'a>
+    ensures { rule_of result ≡ within_rule }
+{
+    number_option(
+        alloc,
+        "within",
+        "SECONDS",
+        1,
+        MOST_WITHIN,
+        "With stop: after how long who still takes nothing is cut off, 1 to 86400, and 10 if not said",
+    )
+}
+
 pub(crate) fn from_option<'a>(alloc: Global) -> Arg<'a>
     ensures { rule_of result ≡ from_rule }
 {
@@ -451,4 +465,15 @@ pub(crate) fn wish_words<'a>(alloc: Global) -> Arg<'a>
         "What it asks for, as in a session: `read memo, append log`, or a rule",
     )
     .action(ArgAction::Append)
+}
+
+pub(crate) fn order_word<'a>(alloc: Global) -> Arg<'a>
+    ensures { rule_of result ≡ order_rule }
+{
+    word(
+        alloc,
+        "order",
+        "WORD",
+        "stop: it ends once the run is closed; change: the next run begins now; figures: what it tells of itself",
+    )
 }

@@ -2,16 +2,16 @@
 ghost use Rattle.std.specs.Prelude.{◌≡◌, IfOk};
 ghost use Rattle.clap.specs.Words.{App, app_of, with_subcommand};
 ghost use Rattle.bl_command_line.specs.CommandLine.{IsLocal, alone_app, audit_app, check_app, explain_app, recover_app};
-ghost use Rattle.bl_command_line.specs.CommandLine.{replay_app, report_app, serve_app, server_app, state_app};
+ghost use Rattle.bl_command_line.specs.CommandLine.{replay_app, report_app, serve_app, server_app, state_app, tell_app};
 
 use crate::options::{
-    against_option, at_option, audited_chain_option, carried_option, chain_option, claim_option,
-    clients_option, digest_option, doors_option, event_option, from_option, idle_option,
-    json_option, keep_option, limit_option, log_option, open_option, optional_setup_option,
-    optional_trail_option, outcome_option, picked_document_option, picked_level_option,
-    picked_subject_option, port_option, replace_option, resume_option, run_option, sessions_option,
-    setup_option, subject_word, threads_option, told_from_option, told_until_option,
-    trail_limit_option, trail_option, wish_words, workers_option,
+    against_option, at_option, carried_option, chain_option, claim_option, clients_option,
+    digest_option, doors_option, event_option, from_option, idle_option, json_option, keep_option,
+    limit_option, log_option, open_option, optional_setup_option, optional_trail_option,
+    order_word, outcome_option, picked_document_option, picked_level_option, picked_subject_option,
+    port_option, replace_option, resume_option, run_option, sessions_option, setup_option,
+    subject_word, threads_option, told_from_option, told_until_option, trail_limit_option,
+    trail_option, whole_chain_option, wish_words, within_option, workers_option,
 };
 use bl_asked::version::VERSION;
 use clap::Command as Parser;
@@ -173,7 +173,7 @@ fn audit_parser<'a>(alloc: Global) -> Result<Parser<'a>, AllocError>
     ensures { IfOk result (IsLocal audit_app) }
 {
     let options = vec![in alloc;
-        audited_chain_option(alloc),
+        whole_chain_option(alloc),
         from_option(alloc),
         digest_option(alloc),
     ]?;
@@ -207,6 +207,20 @@ fn report_parser<'a>(alloc: Global) -> Result<Parser<'a>, AllocError>
         .args(options)
 }
 
+fn tell_parser<'a>(alloc: Global) -> Result<Parser<'a>, AllocError>
+    ensures { IfOk result (IsLocal tell_app) }
+{
+    let options = vec![in alloc;
+        whole_chain_option(alloc),
+        within_option(alloc),
+        order_word(alloc),
+    ]?;
+    Parser::new(alloc, "tell")
+        .about("Speaks to the server that works in a chain's folder")
+        .after_help(MORE)
+        .args(options)
+}
+
 /// The program with one more command, which memory may have been too short for.
 fn with_command<'a>(
     parser: Parser<'a>,
@@ -235,5 +249,6 @@ pub fn parser<'a>(alloc: Global) -> Result<Parser<'a>, AllocError>
     let parser = with_command(parser, check_parser(alloc))?;
     let parser = with_command(parser, explain_parser(alloc))?;
     let parser = with_command(parser, audit_parser(alloc))?;
-    with_command(parser, report_parser(alloc))
+    let parser = with_command(parser, report_parser(alloc))?;
+    with_command(parser, tell_parser(alloc))
 }

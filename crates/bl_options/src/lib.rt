@@ -6,6 +6,7 @@
 //!     start      where an audit begins
 //!     reading    which setup a command reads, and which trail
 //!     report     what a report tells
+//!     telling    what a server is asked for
 //!     moment     at which moment of a trail `explain` is asked
 //!
 //! The definitions stand in specs/:
@@ -13,6 +14,7 @@
 //!     Said      what options say
 //!     Ranges    which of it is in its range
 //!     Report    what options of `report` say
+//!     Telling   what options of `tell` say
 #![tactic(auto)]
 
 pub mod hosting;
@@ -21,4 +23,5 @@ pub mod number;
 pub mod reading;
 pub mod report;
 pub mod start;
+pub mod telling;
 pub mod trail;

@@ -15,6 +15,7 @@ use Rattle.bl_options.specs.Ranges.{AreFilesInRange, IsAtInRange, IsChainHosting
 use Rattle.bl_options.specs.Report.{HasReport}
 use Rattle.bl_options.specs.Said.{HasChainHosting, HasCount, HasFiles, HasFlag, HasHosting, HasKeeping, HasNoRun, HasNumber}
 use Rattle.bl_options.specs.Said.{HasResume, HasSetup, HasStart, HasTrail, IsSaid}
+use Rattle.bl_options.specs.Telling.{HasWish, IsWishInRange}
 use Rattle.bl_options.specs.declared.reading.NamedFiles.{NamedFiles}
 use Rattle.bl_options.specs.declared.reading.NamedFiles.TheVariants as trails
 use Rattle.bl_options.specs.declared.reading.NamedFiles.TheVariants.{Files}
@@ -23,7 +24,7 @@ use Rattle.bl_options.specs.declared.reading.NamedSetup.TheVariants as setups
 use Rattle.bl_options.specs.declared.reading.NamedSetup.TheVariants.{File}
 use Rattle.bl_words.specs.declared.command.Asking.{Asking}
 use Rattle.bl_words.specs.declared.command.Command.{Command}
-use Rattle.bl_words.specs.declared.command.Command.TheVariants.{Alone, Serve, Chain, Replay, Recover, State, Check, Explain, ExplainTrail, ExplainEvent, Audit, Report}
+use Rattle.bl_words.specs.declared.command.Command.TheVariants.{Alone, Serve, Chain, Replay, Recover, State, Check, Explain, ExplainTrail, ExplainEvent, Audit, Report, Tell}
 
 -- each number is in its range, and a trail is kept so as it may be
 abbrev pub IsInRange : Command → Type 0
@@ -40,6 +41,7 @@ IsInRange (ExplainTrail files at asking) = AreFilesInRange files × IsAtInRange 
 IsInRange (ExplainEvent files event) = AreFilesInRange files × ((1 ≤ event) × (event ≤ 4294967295))
 IsInRange (Audit folder start) = IsStartInRange start
 IsInRange (Report files report) = AreFilesInRange files
+IsInRange (Tell folder wish) = IsWishInRange wish
 
 -- the names of the setup file and of the trail file; the files of a run of a chain are named by its folder
 abbrev pub setup_file_of : NamedFiles → Option (List ℕ)
@@ -68,6 +70,7 @@ setup_of (ExplainTrail files at asking) = setup_file_of files
 setup_of (ExplainEvent files event) = setup_file_of files
 setup_of (Audit folder start) = None
 setup_of (Report files report) = setup_file_of files
+setup_of (Tell folder wish) = None
 
 -- the name of the trail file that a command reads; the trail of a run of a chain is named by its folder
 abbrev pub read_trail_of : Command → Option (List ℕ)
@@ -83,6 +86,7 @@ read_trail_of (ExplainTrail files at asking) = trail_file_of files
 read_trail_of (ExplainEvent files event) = trail_file_of files
 read_trail_of (Audit folder start) = None
 read_trail_of (Report files report) = trail_file_of files
+read_trail_of (Tell folder wish) = None
 
 -- the word for a command
 abbrev pub word_of : Command → List ℕ
@@ -98,6 +102,7 @@ word_of (ExplainTrail files at asking) = codes "explain"
 word_of (ExplainEvent files event) = codes "explain"
 word_of (Audit folder start) = codes "audit"
 word_of (Report files report) = codes "report"
+word_of (Tell folder wish) = codes "tell"
 
 -- all texts of the option or word of this name, where it was given
 abbrev pub all_values : Found → List ℕ → Option (List (List ℕ))
@@ -152,6 +157,8 @@ HasOptions options (ExplainEvent files event) =
 HasOptions options (Audit folder start) =
     (first_value (found_of options) (codes "chain") ≡ Some folder.now) × HasStart options start
 HasOptions options (Report files report) = HasFiles options files × HasReport options report
+HasOptions options (Tell folder wish) =
+    (first_value (found_of options) (codes "chain") ≡ Some folder.now) × HasWish options wish
 
 -- the command has this word and these options
 pub record IsOfOptions (word : List ℕ) (options : ArgMatches) (command : Command) : Type 0 where

@@ -21,6 +21,7 @@ use bl_options::number::{is_said, number};
 use bl_options::reading::{NamedFiles, NamedSetup, files_of, names_no_run, setup_of};
 use bl_options::report::{NamedReport, report_of};
 use bl_options::start::{AuditStart, start_of};
+use bl_options::telling::{NamedWish, wish_of as wished_of};
 use bl_options::trail::{TrailKeeping, keeping_of, may_keep, resumes, trail_of};
 use clap::error::ErrorKind;
 use clap::{ArgMatches, Error};
@@ -56,7 +57,7 @@ impl<'a> Command<'a> {
                 NamedSetup::File(name) => Some(name),
                 NamedSetup::OfRun(_) => None,
             },
-            Command::Chain { .. } | Command::Audit { .. } => None,
+            Command::Chain { .. } | Command::Audit { .. } | Command::Tell { .. } => None,
         }
     }
 
@@ -72,7 +73,8 @@ impl<'a> Command<'a> {
             | Command::Recover { .. }
             | Command::Check { .. }
             | Command::Explain { .. }
-            | Command::Audit { .. } => None,
+            | Command::Audit { .. }
+            | Command::Tell { .. } => None,
             Command::Replay { files, .. }
             | Command::State { files }
             | Command::Report { files, .. }
@@ -196,6 +198,13 @@ pub enum Command<'a> {
         files: NamedFiles<'a>,
         /// What of it is told, and how.
         report: NamedReport<'a>,
+    },
+    /// What is asked of the server that works in the folder of a chain.
+    Tell {
+        /// The name of the chain's folder.
+        folder: &'a str,
+        /// What it is asked for.
+        wish: NamedWish,
     },
 }
 
@@ -425,6 +434,17 @@ fn report_with<'a>(options: &ArgMatches<'a>) -> Option<Command<'a>>
     Some(Command::Report { files, report })
 }
 
+/// The command `tell` with these options.
+fn tell_of<'a>(options: &ArgMatches<'a>) -> Option<Command<'a>>
+    ensures range { IfSome result IsInRange }
+    ensures written { IfSome result (IsOfOptions (codes "tell") options.now) }
+    ensures none { IfNone result (HasNoCommand (codes "tell") options.now) }
+{
+    let folder = options.get_str("chain")?;
+    let wish = wished_of(options)?;
+    Some(Command::Tell { folder, wish })
+}
+
 /// The command that the matches name, where they are matches of `parser`. An error comes only where a growth is refused.
 fn command_of<'a>(alloc: Global, found: &ArgMatches<'a>) -> Result<Option<Command<'a>>, AllocError>
     ensures range { IfOk result (λ command. IfSome command IsInRange) }
@@ -445,6 +465,7 @@ fn command_of<'a>(alloc: Global, found: &ArgMatches<'a>) -> Result<Option<Comman
         "explain" => explain_of(alloc, options),
         "audit" => Ok(audit_of(options)),
         "report" => Ok(report_with(options)),
+        "tell" => Ok(tell_of(options)),
         _ => Ok(None),
     }
 }
@@ -491,6 +512,10 @@ const OF_FILES: &str =
 /// Why the options of `check` name no command.
 const CHECKED: &str = "check takes --setup, or both --chain and --run in place of it";
 
+/// Why the options and the word of `tell` name no command.
+const TOLD: &str =
+    "tell takes stop, change or figures; and --within, 1 to 86400 seconds, with stop alone";
+
 /// Why the options of `report` name no command.
 fn why_no_report(options: &ArgMatches<'_>) -> &'static str {
     if files_of(options).is_none() {
@@ -512,6 +537,7 @@ fn why_none(found: &ArgMatches<'_>) -> &'static str {
         Some(("replay" | "state", _)) => OF_FILES,
         Some(("check", _)) => CHECKED,
         Some(("report", options)) => why_no_report(options),
+        Some(("tell", _)) => TOLD,
         Some(("explain", _)) => EXPLAINED,
         Some(("audit", _)) => AUDITED,
         _ => KEEPING,

@@ -4,6 +4,7 @@ use bl_asked::trail::TrailFile;
 use bl_options::hosting::{ChainHosting, Hosting, NamedEntrance};
 use bl_options::reading::{ChainRun, NamedFiles, NamedSetup};
 use bl_options::report::{NamedOutcome, NamedReport};
+use bl_options::telling::NamedWish;
 use bl_options::trail::TrailKeeping;
 use bl_words::command::{Command, read_words, status_of};
 use std::alloc::Global;
@@ -941,5 +942,49 @@ fn reads_how_it_came_out(rt: HostRuntime) -> Result<(), Fail> {
     assert_eq!(rt; status_without_a_command(alloc, text)?, Some(2));
     let said = said_without_a_command(alloc, text)?;
     assert!(rt; said.as_str().contains("--outcome takes held, refused,"));
+    Ok(())
+}
+
+/// What these words ask of the server of the chain in `day`.
+fn asked_by(alloc: Global, text: &str) -> Result<Option<NamedWish>, Fail> {
+    let given = words(alloc, text)?;
+    Ok(match read_words(alloc, given.as_slice()) {
+        Ok(Command::Tell { folder, wish }) if folder == "day" => Some(wish),
+        Ok(_) | Err(_) => None,
+    })
+}
+
+#[test]
+fn reads_tell(rt: HostRuntime) -> Result<(), Fail> {
+    let alloc = rt.alloc();
+    for (more, wanted) in [
+        ("stop", NamedWish::Stop { within: 10 }),
+        ("stop --within 1", NamedWish::Stop { within: 1 }),
+        ("--within 86400 stop", NamedWish::Stop { within: 86_400 }),
+        ("change", NamedWish::Change),
+        ("figures", NamedWish::Figures),
+    ] {
+        let text = format!(in alloc; "bl_server tell --chain day {more}")?;
+        assert_eq!(rt; asked_by(alloc, text.as_str())?, Some(wanted), "at {more}");
+    }
+    for more in [
+        "--chain day",
+        "stop",
+        "--chain day end",
+        "--chain day stop change",
+        "--chain day stop --within 0",
+        "--chain day stop --within 86401",
+        "--chain day change --within 10",
+        "--chain day figures --within 10",
+    ] {
+        let text = format!(in alloc; "bl_server tell {more}")?;
+        assert_eq!(rt;
+            status_without_a_command(alloc, text.as_str())?,
+            Some(2),
+            "at {more}"
+        );
+    }
+    let said = said_without_a_command(alloc, "bl_server tell --chain day end")?;
+    assert!(rt; said.as_str().contains("tell takes stop, change or figures"));
     Ok(())
 }
