@@ -1,14 +1,17 @@
 //! The commands that write no file: `replay`, `state`, `check`, `explain` and `audit`.
 //!
-//!     files    the files that `replay` and `state` read
+//!     fault    why files are not read
+//!     files    the files that a command reads, by what names them
 //!     run      runs over the ends that they are given, once files were read
 //!     chain    the audit of a chain in a folder of the system
 //!
-//! The definition stands in specs/:
+//! The definitions stand in specs/:
 //!
 //!     Runs    how a replay ends
+//!     Files   what names files, and what is told where they are not read
 #![tactic(auto)]
 
 pub mod chain;
+pub mod fault;
 pub mod files;
 pub mod run;

@@ -5,11 +5,14 @@ ghost use Rattle.bl_checking.specs.Checks.{IsCheckRun};
 ghost use Rattle.bl_explaining.specs.Explains.{IsExplainRun};
 ghost use Rattle.bl_explaining_event.specs.Explains.{IsEventRun};
 ghost use Rattle.bl_explaining_trail.specs.Explains.{IsTrailRun};
-ghost use Rattle.bl_status.specs.Runs.{HasTold, HasToldAt};
+ghost use Rattle.bl_readonly.specs.Files.{HasToldFiles};
+ghost use Rattle.bl_status.specs.Runs.{HasTold};
 ghost use Rattle.bl_status.specs.Status.{IsStatus};
 ghost use Rattle.bl_standing.specs.States.{IsStateRun};
 ghost use Rattle.bl_readonly.specs.Runs.{EndsReplay};
 
+use crate::fault::{FilesFault, tell_files};
+use crate::files::Files;
 use bl_checking::check::check_on;
 use bl_explaining::explain::explain_on;
 use bl_explaining_event::explain::explain_event_on;
@@ -21,34 +24,24 @@ use bl_replaying::open::replay_open_on;
 use bl_replaying::replay::replay_on;
 use bl_standing::state::state_on;
 use bl_status::fault::ProgramFault;
-use bl_status::told::{tell, tell_at};
+use bl_status::told::tell;
 use bl_wire::watched::Watched;
 use std::alloc::Global;
 use std::io::Write;
 
-/// The files of a replay, of `state` or of `explain` over a trail, as bytes.
-#[derive(Drop)]
-pub struct Files {
-    /// The setup that the run began with.
-    pub setup: Vec<u8>,
-    /// Its trail.
-    pub trail: Vec<u8>,
-}
-
 /// What a replay is asked for.
 #[derive(Clone, Copy, Debug)]
 pub struct AskedReplay<'a> {
-    /// The name of the trail file.
-    pub trail: &'a str,
+    /// The name of the trail file, or of the chain's folder.
+    pub place: &'a str,
     /// Whether the trail may be open.
     pub opens: bool,
 }
 
-/// A replay, once its files were read, or a fault was found, which is told, and of a trail that cannot be read which file
-/// that is.
+/// A replay, once its files were read, or a fault was found, which is told.
 pub fn run_replay<W: Write, E: Write>(
     alloc: Global,
-    files: Result<Files, ProgramFault>,
+    files: Result<Files, FilesFault>,
     asked: AskedReplay<'_>,
     writer: &mut Watched<W>,
     errors: &mut Watched<E>,
@@ -58,13 +51,13 @@ pub fn run_replay<W: Write, E: Write>(
     ensures run { IfOk files (λ files. EndsReplay asked.entry.opens files.setup.items files.trail.items result
         (used W.contents writer.old writer.new) (used E.contents errors.old errors.new)) }
     ensures unread { IfErr files
-        (λ fault. HasToldAt asked.entry.trail.now fault result (used E.contents errors.old errors.new)) }
+        (λ fault. HasToldFiles asked.entry.place.now fault result (used E.contents errors.old errors.new)) }
     ensures unwritten { IfErr files (λ _. writer.new ≡ writer.old) }
     ensures status { IsStatus result }
 {
     let files = match files {
         Ok(files) => files,
-        Err(fault) => return tell_at(errors, &fault, asked.trail),
+        Err(fault) => return tell_files(errors, &fault, asked.place),
     };
     let (setup, trail) = (files.setup.as_slice(), files.trail.as_slice());
     if asked.opens {
@@ -74,19 +67,19 @@ pub fn run_replay<W: Write, E: Write>(
     }
 }
 
-/// A run of `state`, once its files were read, or a fault was found, which is told, and of a trail that cannot be read which
-/// file that is.
+/// A run of `state`, once its files were read, or a fault was found, which is told. The place is the name of the trail file,
+/// or of the chain's folder.
 pub fn run_state<W: Write, E: Write>(
     alloc: Global,
-    files: Result<Files, ProgramFault>,
-    trail: &str,
+    files: Result<Files, FilesFault>,
+    place: &str,
     writer: &mut Watched<W>,
     errors: &mut Watched<E>,
 ) -> u8
     requires writer { writer.old.failed ≡ false }
     ensures run { IfOk files (λ files. IsStateRun files.setup.items files.trail.items result
         (used W.contents writer.old writer.new) (used E.contents errors.old errors.new)) }
-    ensures unread { IfErr files (λ fault. HasToldAt trail.now fault result (used E.contents errors.old errors.new)) }
+    ensures unread { IfErr files (λ fault. HasToldFiles place.now fault result (used E.contents errors.old errors.new)) }
     ensures unwritten { IfErr files (λ _. writer.new ≡ writer.old) }
     ensures status { IsStatus result }
 {
@@ -98,7 +91,7 @@ pub fn run_state<W: Write, E: Write>(
             writer,
             errors,
         ),
-        Err(fault) => tell_at(errors, &fault, trail),
+        Err(unread) => tell_files(errors, &unread, place),
     }
 }
 
@@ -123,12 +116,12 @@ pub fn run_explain<W: Write, E: Write>(
     }
 }
 
-/// A run of `explain` over a trail of this name, once its files were read, or a fault was found, which is told, and of a
-/// trail that cannot be read which file that is.
+/// A run of `explain` over a trail, once its files were read, or a fault was found, which is told. The place is the name of
+/// the trail file, or of the chain's folder.
 pub fn run_explain_trail<W: Write, E: Write>(
     alloc: Global,
-    files: Result<Files, ProgramFault>,
-    name: &str,
+    files: Result<Files, FilesFault>,
+    place: &str,
     asked: &TrailQuestion<'_>,
     writer: &mut Watched<W>,
     errors: &mut Watched<E>,
@@ -136,7 +129,7 @@ pub fn run_explain_trail<W: Write, E: Write>(
     requires writer { writer.old.failed ≡ false }
     ensures run { IfOk files (λ files. IsTrailRun files.setup.items files.trail.items asked.now result
         (used W.contents writer.old writer.new) (used E.contents errors.old errors.new)) }
-    ensures unread { IfErr files (λ fault. HasToldAt name.now fault result (used E.contents errors.old errors.new)) }
+    ensures unread { IfErr files (λ fault. HasToldFiles place.now fault result (used E.contents errors.old errors.new)) }
     ensures unwritten { IfErr files (λ _. writer.new ≡ writer.old) }
     ensures status { IsStatus result }
 {
@@ -149,16 +142,16 @@ pub fn run_explain_trail<W: Write, E: Write>(
             writer,
             errors,
         ),
-        Err(fault) => tell_at(errors, &fault, name),
+        Err(fault) => tell_files(errors, &fault, place),
     }
 }
 
-/// A run of `explain` of an event, once its files were read, or a fault was found, which is told, and of a trail that
-/// cannot be read that it is the file of this name.
+/// A run of `explain` of an event, once its files were read, or a fault was found, which is told. The place is the name of
+/// the trail file, or of the chain's folder.
 pub fn run_explain_event<W: Write, E: Write>(
     alloc: Global,
-    files: Result<Files, ProgramFault>,
-    name: &str,
+    files: Result<Files, FilesFault>,
+    place: &str,
     asked: &EventQuestion<'_>,
     writer: &mut Watched<W>,
     errors: &mut Watched<E>,
@@ -166,34 +159,36 @@ pub fn run_explain_event<W: Write, E: Write>(
     requires writer { writer.old.failed ≡ false }
     ensures run { IfOk files (λ files. IsEventRun files.setup.items files.trail.items asked.now result
         (used W.contents writer.old writer.new) (used E.contents errors.old errors.new)) }
-    ensures unread { IfErr files (λ fault. HasToldAt name.now fault result (used E.contents errors.old errors.new)) }
+    ensures unread { IfErr files (λ fault. HasToldFiles place.now fault result (used E.contents errors.old errors.new)) }
     ensures unwritten { IfErr files (λ _. writer.new ≡ writer.old) }
     ensures status { IsStatus result }
 {
     let Files { setup, trail } = match files {
         Ok(files) => files,
-        Err(fault) => return tell_at(errors, &fault, name),
+        Err(fault) => return tell_files(errors, &fault, place),
     };
     let (setup, trail) = (setup.as_slice(), trail.as_slice());
     explain_event_on(alloc, setup, trail, asked, writer, errors)
 }
 
-/// A run of `check`, once its setup file of this name was read, or a fault was found, which is told.
+/// A run of `check`, once its setup was read, whose file has this path, or a fault was found, which is told. The place is the
+/// path, or the name of the chain's folder.
 pub fn run_check<W: Write, E: Write>(
     alloc: Global,
-    setup: Result<Vec<u8>, ProgramFault>,
-    name: &str,
+    setup: Result<Vec<u8>, FilesFault>,
+    path: &str,
+    place: &str,
     writer: &mut Watched<W>,
     errors: &mut Watched<E>,
 ) -> u8
-    ensures run { IfOk setup (λ bytes. IsCheckRun name.now bytes.items result
+    ensures run { IfOk setup (λ bytes. IsCheckRun path.now bytes.items result
         (used W.contents writer.old writer.new) (used E.contents errors.old errors.new)) }
-    ensures unread { IfErr setup (λ fault. HasTold fault result (used E.contents errors.old errors.new)) }
+    ensures unread { IfErr setup (λ fault. HasToldFiles place.now fault result (used E.contents errors.old errors.new)) }
     ensures unwritten { IfErr setup (λ _. writer.new ≡ writer.old) }
     ensures status { IsStatus result }
 {
     match setup {
-        Ok(bytes) => check_on(alloc, name.as_bytes(), bytes.as_slice(), writer, errors),
-        Err(fault) => tell(errors, &fault),
+        Ok(bytes) => check_on(alloc, path.as_bytes(), bytes.as_slice(), writer, errors),
+        Err(fault) => tell_files(errors, &fault, place),
     }
 }
