@@ -4,15 +4,18 @@ ghost use Rattle.std.specs.Prelude.{◌≡◌, false};
 use bl_explaining_event::question::EventQuestion;
 use bl_explaining_trail::question::TrailQuestion;
 use bl_question::question::Question;
+use bl_readonly::fault::FilesFault;
+use bl_readonly::files::{Files, files_path_in, files_place, setup_path_in, setup_place};
 use bl_readonly::run::{
-    AskedReplay, Files, run_check, run_explain, run_explain_event, run_explain_trail, run_replay,
+    AskedReplay, run_check, run_explain, run_explain_event, run_explain_trail, run_replay,
     run_state,
 };
 use bl_replaying::replay::replay_on;
+use bl_run_files::fault::RunFault;
 use bl_status::fault::{ProgramFault, of_file};
 use bl_system::files::{read_most, read_within};
 use bl_wire::watched::Watched;
-use bl_words::command::{Command, read_words};
+use bl_words::command::{Asking, Command, read_words};
 use std::alloc::Global;
 use std::io;
 use std::io::Write;
@@ -53,10 +56,28 @@ fn files(alloc: Global, setup: &[u8], trail: &[u8]) -> Result<Files, Fail> {
 }
 
 /// The setup among these files.
-fn setup_in(files: Result<Files, ProgramFault>) -> Result<Vec<u8>, ProgramFault> {
+fn setup_in<E: Drop>(files: Result<Files, E>) -> Result<Vec<u8>, E> {
     match files {
         Ok(Files { setup, .. }) => Ok(setup),
         Err(fault) => Err(fault),
+    }
+}
+
+/// The same, as files that were named.
+fn of_named<T>(read: Result<T, ProgramFault>) -> Result<T, FilesFault> {
+    match read {
+        Ok(files) => Ok(files),
+        Err(fault) => Err(FilesFault::Program(fault)),
+    }
+}
+
+/// What `explain` is asked, over the setup of this path.
+fn question_of<'a>(path: &'a str, asking: &'a Asking<'a>) -> Question<'a> {
+    Question {
+        path,
+        carried: asking.carried,
+        subject: asking.subject,
+        wish: asking.wish.as_slice(),
     }
 }
 
@@ -70,22 +91,28 @@ fn run_question(
 ) -> Result<u8, Fail>
     requires { writer.old.failed ≡ false }
 {
-    let Command::Explain { setup, asking } = command else {
-        return Err(Fail::new("another command"));
-    };
-    let (trail, at) = (asking.trail, asking.at.map(u64::from));
-    let question = Question {
-        path: setup,
-        carried: asking.carried,
-        subject: asking.subject,
-        wish: asking.wish.as_slice(),
-    };
-    let Some(trail) = trail else {
-        let bytes = setup_in(files);
-        return Ok(run_explain(alloc, bytes, &question, writer, errors));
-    };
-    let asked = TrailQuestion { question, at };
-    Ok(run_explain_trail(alloc, files, trail, &asked, writer, errors))
+    match command {
+        Command::Explain { setup, asking } => {
+            let question = question_of(setup, &asking);
+            let bytes = setup_in(files);
+            Ok(run_explain(alloc, bytes, &question, writer, errors))
+        }
+        Command::ExplainTrail {
+            files: named,
+            at,
+            asking,
+        } => {
+            let path = files_path_in(alloc, named)?;
+            let asked = TrailQuestion {
+                question: question_of(path.as_str(), &asking),
+                at: at.map(u64::from),
+            };
+            let files = of_named(files);
+            let place = files_place(named);
+            Ok(run_explain_trail(alloc, files, place, &asked, writer, errors))
+        }
+        _ => Err(Fail::new("another command")),
+    }
 }
 
 /// A run of what these words ask, after this setup and a trail were read, or could not be read. A command that writes a
@@ -98,26 +125,46 @@ fn run_words(alloc: Global, text: &str, files: Result<Files, ProgramFault>) -> R
     let mut writer = Watched::new(Vec::new(alloc));
     let mut errors = Watched::new(Vec::new(alloc));
     let status = match read_words(alloc, words.as_slice()) {
-        Ok(Command::Replay { trail, opens, .. }) => {
-            let asked = AskedReplay { trail, opens };
-            run_replay(alloc, files, asked, &mut writer, &mut errors)
+        Ok(
+            Command::Replay {
+                files: named,
+                opens,
+            },
+        ) => {
+            let place = files_place(named);
+            let asked = AskedReplay { place, opens };
+            run_replay(alloc, of_named(files), asked, &mut writer, &mut errors)
         }
-        Ok(Command::State { trail, .. }) => {
-            run_state(alloc, files, trail, &mut writer, &mut errors)
+        Ok(Command::State { files: named }) => {
+            let place = files_place(named);
+            run_state(alloc, of_named(files), place, &mut writer, &mut errors)
         }
-        Ok(Command::Check { setup }) => {
-            run_check(alloc, setup_in(files), setup, &mut writer, &mut errors)
+        Ok(Command::Check { setup, .. }) => {
+            let path = setup_path_in(alloc, setup)?;
+            let (path, place) = (path.as_str(), setup_place(setup));
+            let setup = of_named(setup_in(files));
+            run_check(alloc, setup, path, place, &mut writer, &mut errors)
         }
         Ok(
             Command::ExplainEvent {
-                setup,
-                trail,
+                files: named,
                 event,
             },
         ) => {
-            let event = u64::from(event);
-            let asked = EventQuestion { path: setup, event };
-            run_explain_event(alloc, files, trail, &asked, &mut writer, &mut errors)
+            let path = files_path_in(alloc, named)?;
+            let asked = EventQuestion {
+                path: path.as_str(),
+                event: u64::from(event),
+            };
+            let place = files_place(named);
+            run_explain_event(
+                alloc,
+                of_named(files),
+                place,
+                &asked,
+                &mut writer,
+                &mut errors,
+            )
         }
         Ok(command) => run_question(alloc, command, files, &mut writer, &mut errors)?,
         Err(_) => return Err(Fail::new("no command")),
@@ -363,6 +410,28 @@ fn tells_a_trail_that_cannot_be_read(rt: HostRuntime) -> Result<(), Fail> {
         assert!(rt; ended.written.is_empty());
         assert!(rt; ended.said.as_slice() == said.as_bytes());
     }
+    Ok(())
+}
+
+/// Why the files of a run of a chain are not read is told with its folder.
+#[test]
+fn tells_a_run_that_is_not_there(rt: HostRuntime) -> Result<(), Fail> {
+    let alloc = rt.alloc();
+    let mut writer = Watched::new(Vec::new(alloc));
+    let mut errors = Watched::new(Vec::new(alloc));
+    let unread = Err(FilesFault::Run(RunFault::NoTrail(7)));
+    let asked = AskedReplay {
+        place: "day",
+        opens: false,
+    };
+    let status = run_replay(alloc, unread, asked, &mut writer, &mut errors);
+    assert_eq!(rt; status, 3);
+    let none = Err(FilesFault::Run(RunFault::NoChain));
+    let path = "day/000001.setup";
+    let status = run_check(alloc, none, path, "day", &mut writer, &mut errors);
+    assert_eq!(rt; status, 3);
+    assert!(rt; writer.into_inner().is_empty());
+    assert!(rt; errors.into_inner().as_slice() == b"run 7: no trail\nno chain in day\n".as_slice());
     Ok(())
 }
 
