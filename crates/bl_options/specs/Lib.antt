@@ -1,4 +1,3 @@
 pub mod Ranges
 pub mod Said
-pub mod Report
 pub mod Telling
